@@ -20,6 +20,7 @@ ghost use Rattle.dali_frame.specs.Priority.{LATER};
 ghost use Rattle.dali_script.specs.declared.block.Block.{Block};
 ghost use Rattle.dali_script.specs.declared.records.Record.TheVariants.{Reserve};
 ghost use Rattle.dali_script.specs.declared.stage.Stage.TheVariants.{Unnamed};
+ghost use Rattle.dali_script.specs.declared.orders.Input.{Input};
 ghost use Rattle.dali_script.specs.declared.orders.Order.{Order};
 ghost use Rattle.dali_script.specs.declared.orders.Order.TheVariants.{Put, Commit};
 ghost use Rattle.dali_script.specs.Records.{Has};
@@ -30,13 +31,12 @@ ghost use Rattle.dali_script.specs.declared.orders.End.{End};
 ghost use Rattle.dali_script.specs.declared.orders.End.TheVariants.{BlockFull};
 ghost use Rattle.dali_events.specs.declared.event.Event.{Event};
 ghost use Rattle.dali_events.specs.Plan.{Plan, IsPlan};
-ghost use Rattle.dali_events.specs.World.{start};
-ghost use Rattle.dali_events.specs.Runs.{AllAllowed, IsRun};
+ghost use Rattle.dali_events.specs.Runs.{IsRun};
 ghost use Rattle.dali_events.specs.Promise.{KeepsPromise};
 ghost use Rattle.dali_events.specs.Wanted.{is_bare};
 ghost use Rattle.dali_standing.specs.declared.refusal.Refusal.TheVariants as refusal;
 ghost use Rattle.dali_events.specs.declared.trouble.Trouble.TheVariants as trouble;
-ghost use Rattle.dali_world.specs.Site.{SiteState, opened_site, world, IsPumpRefused};
+ghost use Rattle.dali_world.specs.Site.{SiteState, opened_site, world, IsActRefused, IsPumpRefused};
 ghost use Rattle.dali_replay.specs.Installation.{Installation, installation_of};
 ghost use Rattle.dali_replay.specs.Installation as replayed;
 ghost use Rattle.dali_replay.specs.Rounds.{controllers, Ran};
@@ -44,7 +44,8 @@ ghost use Rattle.dali_progress.specs.Rounds.{StartsAlone, Rounds, site_after, fr
 ghost use Rattle.dali_progress.specs.Rounds.{IsTabled};
 ghost use Rattle.dali_progress.specs.Surveyed.{Step, IsCourse, ArePlain, WasHeard, IsAccounted, HasSurveyed};
 ghost use Rattle.dali_progress.specs.Surveyed.{stage_told};
-ghost use Rattle.dali_progress.specs.Spared.{ReservesBySurvey};
+ghost use Rattle.dali_progress.specs.Spared.{AreOfCalls, HasJustBegun, HearsUsed, HasAsked, StaysBegun};
+ghost use Rattle.dali_progress.specs.Spared.{HavePower, AllAskInPeace};
 ghost use Rattle.dali_progress.specs.Surveys.{SurveysAlone, SurveyRounds, SurveyGoesOn, IsSurveyDone, IsSurveyTabled};
 ghost use Rattle.dali_progress.specs.Surveys.{IsSettledAt, IsAllTaken, restarted, CommitsNothing, WasTabled};
 ghost use Rattle.dali_progress.specs.Swept.{BeginsBySurvey, AreWhole, AreSteady, frames_asked, frames_lost, WasSilent};
@@ -320,16 +321,44 @@ pub fn who_tells_its_number_is_enrolled()
         → ((r : ℕ) × IsNamed n a r) ⊎ WasSpelled steps a MASK24 }
 {}
 
-/// USED GEAR THAT WERE HEARD ARE LEFT ALONE. Of a site some of whose gear come with short addresses, all different:
-/// where each reservation was ordered by a machine that surveyed, and that heard somebody under each of these
-/// addresses, no order reserves one of them, and the promise holds. So such a machine is never refused its order
-/// because an address is in use.
+/// USED GEAR THAT WERE HEARD ARE LEFT ALONE. Of a controller that has just begun, and of all that calls of the site add
+/// to its log from then on: where it surveys each time that it begins, and of each short address that used gear have in
+/// its block hears silence at most twice before it begins anew, where it asks for the first byte of the random address,
+/// none of its acts is refused because an address is in use (`heard`). Once its questions are over, it is so whatever
+/// is heard, until it begins anew (`later`).
+///
+/// It hears no silence where each used gear of its block that it asks so has power then, and nothing disturbs the
+/// answer (`powered`).
+///
+/// All else may be disturbed: frames may be destroyed, the bus may lapse, other controllers may do what they want, and
+/// what is heard of other gear may be lost. So controllers need not survey one after the other. A survey of one
+/// controller alone that nothing disturbs, while all used gear have power, is such a one (`undisturbed`).
+///
+/// Where each controller of a new site hears them so, no order reserves an address that used gear have, whether or not
+/// a site would refuse it (`run`); and so it is where each asks in peace (`peaceful`). So the promise holds on a real
+/// bus too, where nobody refuses the order (`promise`). On a new site each controller has just begun (`start`).
 ///
 /// A gear without power is not heard, and one whose address nobody asks is not either: two short histories of
 /// `dali_events` show what then becomes of the promise.
 pub fn used_gear_that_were_heard_are_left_alone()
-    ensures run { (p : Plan) (capacity : ℕ) (log : List Event) → IsPlan p → AllAllowed (start p capacity) log
-        → AllByRecursion (ReservesBySurvey p.used) log → IsRun p capacity log }
-    ensures promise { (p : Plan) (capacity : ℕ) (log : List Event) → IsPlan p → AllAllowed (start p capacity) log
-        → AllByRecursion (ReservesBySurvey p.used) log → KeepsPromise p capacity log }
+    ensures heard { (s : SiteState) (c : ℕ) (es : List Event) (i : Input) → IsPlan s.plan → HasJustBegun s c
+        → AreOfCalls s es → HearsUsed s.plan c es
+        → IsActRefused (site_after s es) c i refusal.AddressInUse → ⊥ }
+    ensures later { (s : SiteState) (c : ℕ) (es more : List Event) (i : Input) → IsPlan s.plan → HasJustBegun s c
+        → AreOfCalls s es → HearsUsed s.plan c es → HasAsked (site_after s es) c
+        → AreOfCalls (site_after s es) more → AllByRecursion (StaysBegun c) more
+        → IsActRefused (site_after (site_after s es) more) c i refusal.AddressInUse → ⊥ }
+    ensures powered { (s : SiteState) (c : ℕ) (es : List Event) (i : Input) → HasJustBegun s c → AreOfCalls s es
+        → IsRun s.plan s.queue (site_after s es).log → AllAskInPeace s c es
+        → IsActRefused (site_after s es) c i refusal.AddressInUse → ⊥ }
+    ensures undisturbed { (s : SiteState) (c : ℕ) (es : List Event) → SurveysAlone s c → HavePower s
+        → SurveyRounds s c es → HasJustBegun s c × AreOfCalls s es × AllAskInPeace s c es }
+    ensures run { (p : Plan) (queue room : ℕ) (es : List Event) → IsPlan p → AreOfCalls (opened_site p queue room) es
+        → ((c : ℕ) → HearsUsed p c es) → IsRun p queue es }
+    ensures promise { (p : Plan) (queue room : ℕ) (es : List Event) → IsPlan p
+        → AreOfCalls (opened_site p queue room) es → ((c : ℕ) → HearsUsed p c es) → KeepsPromise p queue es }
+    ensures peaceful { (p : Plan) (queue room : ℕ) (es : List Event) → IsPlan p
+        → AreOfCalls (opened_site p queue room) es
+        → ((c : ℕ) → AllAskInPeace (opened_site p queue room) c es) → IsRun p queue es }
+    ensures start { (p : Plan) (queue room c : ℕ) → c < length p.blocks → HasJustBegun (opened_site p queue room) c }
 {}

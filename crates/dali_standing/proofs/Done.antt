@@ -28,7 +28,7 @@ use Rattle.dali_standing.specs.FittedGear.{FittedGear, taken_at}
 use Rattle.dali_script.specs.Records.{Kept}
 use Rattle.dali_standing.specs.Seats.{Seat, Agrees, IsRunning, IsTied, MayAnswer, LeavesWhole, acted_at, told_at, down_at, up_at, trace_of}
 use Rattle.dali_standing.specs.Standing.{Seated, seat_in, empty_seat, seated, running_told, running_at, running_by, Standing, flat, stand_of, controller_on}
-use Rattle.dali_standing.specs.Standing.{machine_in, machines_after, Moves, MayBeSent}
+use Rattle.dali_standing.specs.Standing.{machine_in, machines_after, Moves, MayBeSent, WasOrdered}
 use Rattle.dali_standing.proofs.Seats.{seat_at, world_of, with_seat, running_in, goes_on_in, has_acted, has_offered, has_sent, has_lost, has_collided}
 use Rattle.dali_standing.proofs.Seats.{has_lapsed, has_gone_down, has_come_up, IsMove}
 use Rattle.dali_standing.specs.Settled.{IsAccepted, IsHearing, IsOwning, IsPlacedBy, IsPlaced, IsPlacedOn, Settled}
@@ -590,6 +590,17 @@ first_may_be_sent s was (Some r) view settled is = may_be_sent s was r view sett
 -- direct arc power by its command
 pub arc_power : (f : Forward) → (is_arc (command_of f) ≡ true) ↔ IsArc f
 arc_power f = (λ e. let g = is_arc_of (command_of f) e in g.1 ∙ ap Arc (arc_of f g.0 g.1).0, λ arc. rw arc refl)
+
+-- and it is what its sender ordered last, or direct arc power
+was_ordered : (s : Seated) (was : Standing) (r : Request) → flat s ≡ was → Settled s → next was.bus ≡ Some r → WasOrdered was r
+was_ordered s was r view settled first = go (next_at s r settled (next_here s was r view first)).kind where
+  go : IsKind s r → WasOrdered was r
+  go (inl k) = inr (ap (λ (x : Controller). frame_put x.last) (on_place s was r.sender view) ∙ ap frame_put k.2)
+  go (inr k) = inl ((arc_power r.frame).0 k.0)
+
+pub first_was_ordered : (s : Seated) (was : Standing) (o : Option Request) → flat s ≡ was → Settled s → o ≡ next was.bus → IfSome o (WasOrdered was)
+first_was_ordered s was None view settled is = tt
+first_was_ordered s was (Some r) view settled is = was_ordered s was r view settled (sym is)
 
 -- ---------------------------------------------------------------- a controller that acted, before it did
 

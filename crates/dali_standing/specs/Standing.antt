@@ -1,4 +1,4 @@
-use Rattle.std.specs.Prelude.{◌≡◌, ℕ, ◌+◌, List, [], ◌∷◌, ◌++◌, map, slice_set, slice_index_or}
+use Rattle.std.specs.Prelude.{◌≡◌, ◌⊎◌, ℕ, ◌+◌, List, [], ◌∷◌, ◌++◌, map, slice_set, slice_index_or}
 use Rattle.std.specs.Prelude.{Option, Some, None}
 use Rattle.std.specs.Option.{option_map}
 use Rattle.dali_gear.specs.Gear.{Gear}
@@ -11,13 +11,14 @@ use Rattle.dali_script.specs.declared.orders.Input.{Input}
 use Rattle.dali_script.specs.declared.orders.Input.TheVariants as input
 use Rattle.dali_script.specs.declared.orders.Order.{Order}
 use Rattle.dali_script.specs.declared.orders.Order.TheVariants.{Put, Commit, Done, Halt}
+use Rattle.dali_script.specs.Due.{frame_put}
 use Rattle.dali_controller.specs.Machine.{Machine, at_first}
 use Rattle.dali_controller.specs.Orders.{machine_after}
 use Rattle.dali_events.specs.declared.event.Event.{Event}
 use Rattle.dali_events.specs.declared.event.Event.TheVariants as event
 use Rattle.dali_events.specs.World.{World, Controller, controller_at, nobody}
 use Rattle.dali_events.specs.Happens.{happens, come_up, entry}
-use Rattle.dali_events.specs.Allowed.{Allowed, IsUp, MaySend}
+use Rattle.dali_events.specs.Allowed.{Allowed, IsUp, IsArc, MaySend}
 use Rattle.dali_standing.specs.FittedGear.{FittedGear}
 use Rattle.dali_standing.specs.Seats.{Seat, begun_at, trace_of}
 
@@ -158,3 +159,7 @@ abbrev pub MayBeSent : Standing → Request → Type 0
 MayBeSent s r =
     (w : World) (ms : List (Option Machine)) → s ≡ stand_of w ms
     → IsUp w r.sender × MaySend w r.sender r.frame
+
+-- a request that is what its sender ordered last, or direct arc power
+abbrev pub WasOrdered : Standing → Request → Type 0
+WasOrdered s r = IsArc r.frame ⊎ (frame_put (controller_on s r.sender).last ≡ Some r.frame)

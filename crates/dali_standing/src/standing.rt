@@ -58,7 +58,7 @@ impl Model for Standing {
 
 impl Standing {
     ghost use Rattle.dali_standing.specs.Standing.{Standing, stand_of, machines_at, controller_on, machine_in, Moves};
-    ghost use Rattle.dali_standing.specs.Standing.{MayBeSent};
+    ghost use Rattle.dali_standing.specs.Standing.{MayBeSent, WasOrdered};
 
     /// What stands on a site of this plan at its start. It takes all the memory that it will need. `queue` requests may
     /// wait.
@@ -226,6 +226,7 @@ impl Standing {
     pub fn next_request(&self) -> Option<Request>
         ensures next { result ≡ next self.now.bus }
         ensures may { IfSome result (MayBeSent self.now) }
+        ensures ordered { IfSome result (WasOrdered self.now) }
     {
         self.arbiter.pick()
     }

@@ -4,7 +4,9 @@ use Rattle.std.specs.Prelude.{◌==◌, if◌then◌else◌, zero, suc}
 use Rattle.std.proofs.lemmas.Bool.Decides.{nat_tests}
 use Rattle.std.proofs.lemmas.List.{length-map, append-nil}
 use Rattle.dali_script.specs.declared.orders.Input.{Input}
+use Rattle.dali_script.specs.declared.orders.Input.TheVariants as input
 use Rattle.dali_script.specs.declared.orders.Order.{Order}
+use Rattle.dali_script.specs.Due.{due_after, accepts}
 use Rattle.dali_controller.specs.Machine.{Machine}
 use Rattle.dali_events.specs.declared.event.Event.{Event}
 use Rattle.dali_events.specs.declared.event.Event.TheVariants as event
@@ -33,8 +35,9 @@ use Rattle.dali_gear.specs.declared.row.Reach.TheVariants.{Everyone, Only}
 use Rattle.dali_gear.specs.Row.{draws_needed, stored_of}
 use Rattle.dali_arbiter.specs.declared.request.Request.{Request}
 use Rattle.dali_arbiter.specs.Arbiter.{owns, total, collision}
-use Rattle.dali_standing.specs.Seats.{MayAnswer, LeavesWhole, MayReserveUsed, IsRunning}
+use Rattle.dali_standing.specs.Seats.{MayAnswer, LeavesWhole, MayReserveUsed, IsRunning, IsTold, Waits}
 use Rattle.dali_standing.proofs.InUse.{leaves_acted}
+use Rattle.dali_standing.proofs.Acts.{told_accepted, start_first, committed_last}
 use Rattle.dali_standing.specs.Settled.{IsPlacedBy, IsPlacedOn}
 use Rattle.dali_world.proofs.Agreeing.{no_conflict}
 use Rattle.dali_script.specs.declared.orders.Order.TheVariants.{Halt}
@@ -246,6 +249,28 @@ act_site s was old new shares shares' room number c i o r log' view site quiet f
       input = refl;
       number = step_number s old shares room c number log' (event.Acted c i o) site there number_is log_is (self_same c);
     })
+
+-- what its machine waits for
+waits_by : (k : Controller) (i : Input) → IsDue k i → IsTold k.last k.told → accepts (due_after k.last) i ≡ true
+waits_by k (input.Heard h) due told = told_accepted k.last k.told (input.Heard h) due told
+waits_by k input.Destroyed due told = told_accepted k.last k.told input.Destroyed due told
+waits_by k input.Lapsed due told = told_accepted k.last k.told input.Lapsed due told
+waits_by k input.Start due told = told_accepted k.last k.told input.Start due told
+waits_by k input.Survey due told = rw (start_first k.last (told_accepted k.last k.told input.Start due told)) refl
+waits_by k input.Committed due told = rw (committed_last k.last due).1 refl
+waits_by k input.CommitFailed due told = rw (committed_last k.last due).1 refl
+
+pub act_waits : (s was : SiteState) (old : Standing) (shares : List ℕ) (room c : ℕ) (i : Input) (o : Order) → s ≡ was → IsSite s old shares room
+    → IsDue (controller_on old c) i → IsPlacedOn old c → MayAnswer (machine_in old.machines c) i o → Waits (machine_at was c) i
+act_waits s was old shares room c i o view site due placed answer =
+    subst (λ (w : SiteState). Waits (machine_at w c) i) view
+    (subst (λ (t : Standing). Waits (machine_in t.machines c) i) site.stands (go (machine_in old.machines c) refl answer)) where
+      go : (m : Option Machine) → machine_in old.machines c ≡ m → MayAnswer m i o → Waits (machine_in old.machines c) i
+      go None has answer = elim answer [ ]
+      go (Some m) has answer =
+          let known = (placed m has).0 in
+          subst (λ x. Waits x i) (sym has)
+          (subst (λ l. accepts (due_after l) i ≡ true) (sym known.last) (waits_by (controller_on old c) i due known.told))
 
 -- ---------------------------------------------------------------- gifts have room
 

@@ -12,6 +12,7 @@ use Rattle.dali_arbiter.specs.Arbiter.{total, next, collision}
 use Rattle.dali_script.specs.Records.{Kept}
 use Rattle.dali_script.specs.declared.orders.Input.{Input}
 use Rattle.dali_script.specs.declared.orders.Order.{Order}
+use Rattle.dali_script.specs.Due.{frame_put}
 use Rattle.dali_controller.specs.Machine.{Machine}
 use Rattle.dali_events.specs.declared.event.Event.{Event}
 use Rattle.dali_events.specs.declared.event.Event.TheVariants as event
@@ -223,6 +224,10 @@ IsSpent s r t =
 -- the request that is next, if one is
 abbrev pub next_request : SiteState → Option Request
 next_request s = next (world s).bus
+
+-- a frame that its sender ordered last, or direct arc power
+abbrev pub WasOrdered : SiteState → ℕ → Forward → Type 0
+WasOrdered s c f = IsArc f ⊎ (frame_put (controller_at (world s) c).last ≡ Some f)
 
 -- a frame is sent where nothing or its answers are disturbed
 abbrev pub IsSendable : Trouble → Type 0

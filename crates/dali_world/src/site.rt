@@ -63,11 +63,12 @@ impl Model for SiteState {
 }
 
 impl SiteState {
-    ghost use Rattle.dali_standing.specs.Seats.{due_of, MayReserveUsed};
+    ghost use Rattle.dali_arbiter.specs.declared.request.Request.{Request};
+    ghost use Rattle.dali_standing.specs.Seats.{due_of, MayReserveUsed, Waits};
     ghost use Rattle.dali_world.specs.Site.{SiteState, world, opened_site, site_logged, machine_at, share_of, IsSound};
     ghost use Rattle.dali_world.specs.Site.{Acts, IsArcRefused, IsDownRefused, IsUpRefused, IsGearRefused, IsBarred};
     ghost use Rattle.dali_world.specs.Site.{IsFull, IsCrowded, HasRoom, Pumps, IsPumpRefused, next_request, Logs};
-    ghost use Rattle.dali_world.specs.Site.{LogsRequest, IsUpWith, IsSpent, IsSendable, Becomes};
+    ghost use Rattle.dali_world.specs.Site.{LogsRequest, IsUpWith, IsSpent, IsSendable, Becomes, WasOrdered};
 
     /// A site of this plan, on which nothing happened yet. All controllers are up, and keep nothing.
     ///
@@ -119,6 +120,7 @@ impl SiteState {
         // So each cause of an end is told of the records that `kept` reads.
         ensures records { IfOk result (λ receipt. (m : Machine) → machine_at self.old c ≡ Some m
             → m.kept ≡ (controller_at (world self.old) c).records) }
+        ensures waits { IfOk result (λ receipt. Waits (machine_at self.old c) input) }
         ensures unchanged { OnErr result (self.new ≡ self.old) }
     {
         let _log = &self.log;
@@ -177,6 +179,8 @@ impl SiteState {
     /// 8 LogFull.
     pub fn pump(&mut self, trouble: Trouble) -> Result<Report, Refusal>
         ensures pumped { IfOk result (λ report. Pumps self.old trouble report self.new) }
+        // So what is sent or destroyed, but direct arc power, is what its sender ordered last.
+        ensures ordered { (r : Request) → next_request self.old ≡ Some r → WasOrdered self.old r.sender r.frame }
         ensures refused { IfErr result (λ e. IsPumpRefused self.old trouble e) }
         ensures unchanged { OnErr result (self.new ≡ self.old) }
     {

@@ -124,7 +124,7 @@ pub none_found : finding_of [] ≡ None
 none_found = refl
 
 -- where nothing is found, and no gear answered MASK, no record is ordered
-no_record : (t : Machine) (s : Stage) (x : Record) → stage_of t.trace ≡ s → ((n : _) → s ≡ stage.Unnamed n → ⊥) → finding_of t.trace ≡ None
+pub no_record : (t : Machine) (s : Stage) (x : Record) → stage_of t.trace ≡ s → ((n : _) → s ≡ stage.Unnamed n → ⊥) → finding_of t.trace ≡ None
     → ((b n : ℕ) → t.last ≡ Some (Commit (Enrol b n)) → ⊥) → MayCommit t x → ⊥
 no_record t s x at named none last may = unwarranted t x (λ n e. named n (sym at ∙ e)) none last may.warranted
 
@@ -315,7 +315,7 @@ commit_same : (o : Order) (x : Record) → Some o ≡ Some (Commit x) → o ≡ 
 commit_same o x e = cc
 
 -- while a short address is asked nothing is reserved
-unreserved_on : (m : Machine) (i : Input) (b c r : ℕ) → (m.last ≡ None → ⊥) → accepts (due_after m.last) i ≡ true → IsGiven m i (Commit (Reserve c r))
+pub unreserved_on : (m : Machine) (i : Input) (b c r : ℕ) → (m.last ≡ None → ⊥) → accepts (due_after m.last) i ≡ true → IsGiven m i (Commit (Reserve c r))
     → IsWhole m
     → IsAlone m → (machine_told m i).course.purpose ≡ Asking b → ⊥
 unreserved_on m input.Start b c r running due given whole alone purpose = running (started m.last input.Start refl due)
@@ -471,7 +471,7 @@ comes_next m input.Committed o a b small running purpose due given whole alone a
 comes_next m input.CommitFailed o a b small running purpose due given whole alone after unreserved which =
     inr (inl (inr (fault.Store, ap (λ q. Some q) given.answered)))
 
-over_ends : (last : Option Order) (i : Input) → ((e : End) × (last ≡ Some (Done e))) ⊎ ((w : Fault) × (last ≡ Some (Halt w)))
+pub over_ends : (last : Option Order) (i : Input) → ((e : End) × (last ≡ Some (Done e))) ⊎ ((w : Fault) × (last ≡ Some (Halt w)))
     → accepts (due_after last) i ≡ true → ⊥
 over_ends last i (inl ends) e = let never : false ≡ true = subst (λ l. accepts (due_after l) i ≡ true) ends.1 e in cc
 over_ends last i (inr ends) e = let never : false ≡ true = subst (λ l. accepts (due_after l) i ≡ true) ends.1 e in cc

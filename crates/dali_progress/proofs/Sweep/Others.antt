@@ -159,7 +159,7 @@ way_going k Surveying c = go (next_asked k c.from) where
 way_going k Drawing c = inl refl
 
 -- the way of the course that begins is that of before, or to draw
-abbrev KeepsWay : Course → Course → Type 0
+abbrev pub KeepsWay : Course → Course → Type 0
 KeepsWay c d = (d.way ≡ c.way) ⊎ (d.way ≡ Drawing)
 
 pub way_on : (y : Way) (c : Course) → (searching_on y c).way ≡ c.way
@@ -222,7 +222,7 @@ once_way : (t : Machine) (b : Bool) → KeepsWay t.course (asked_once t b)
 once_way t true = goes_way t
 once_way t false = inl refl
 
-begins_way : (t : Machine) (s : Stage) → KeepsWay t.course (begins_at t s)
+pub begins_way : (t : Machine) (s : Stage) → KeepsWay t.course (begins_at t s)
 begins_way t stage.Free = rest_way t t.last
 begins_way t stage.Opened = inl (way_first t.course.way t.course)
 begins_way t stage.Initialised = inl (way_first t.course.way t.course)
@@ -234,7 +234,7 @@ begins_way t (stage.Unanswered r) = unanswered_way t r t.opened (address_for t.k
 begins_way t (stage.Inconclusive r other) = silenced_way t
 begins_way t _ = goes_way t
 
-on_way : (t : Machine) (s : Stage) → KeepsWay t.course (course_on t s)
+pub on_way : (t : Machine) (s : Stage) → KeepsWay t.course (course_on t s)
 on_way t (stage.Hunted r (Some h) left) = begins_way t (stage.Hunted r (Some h) left)
 on_way t _ = inl refl
 

@@ -76,7 +76,7 @@ came_of m t h a b p f small purpose here last hears o may whole = go hears.at wh
 
 -- ---------------------------------------------------------------- a course
 
-abbrev IsLooked : List Step → Machine → ℕ → Type 0
+abbrev pub IsLooked : List Step → Machine → ℕ → Type 0
 IsLooked steps n a = WasSilent steps a ⊎ IsAccounted n a
 
 abbrev Anything : Step → Type 0
@@ -132,7 +132,7 @@ anything : (steps : List Step) → AllByRecursion Anything steps
 anything [] = tt
 anything (s ∷ steps) = (tt, anything steps)
 
-watched_looked : (steps : List Step) (n : Machine) (a : ℕ) → a < 64 → IsCourse steps n → BeginsBySurvey steps → ArePlain steps → AreWhole steps → IsWhole n
+pub watched_looked : (steps : List Step) (n : Machine) (a : ℕ) → a < 64 → IsCourse steps n → BeginsBySurvey steps → ArePlain steps → AreWhole steps → IsWhole n
     → Watched IsLooked steps n a
 watched_looked steps n a small course begins plain are whole =
     watched Anything IsLooked a small (looks a small) steps n course begins plain (anything steps) are whole

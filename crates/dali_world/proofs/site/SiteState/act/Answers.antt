@@ -6,7 +6,7 @@ use Rattle.dali_standing.specs.Seats.{MayAnswer}
 use Rattle.dali_standing.specs.Standing.{controller_on, machine_in}
 use Rattle.dali_world.specs.Site.{Receipt}
 use Rattle.dali_events.specs.declared.event.Event.TheVariants as event
-use Rattle.dali_world.proofs.Logs.{step_few, step_goes_on, act_leaves, act_site, never_conflicts, own_records}
+use Rattle.dali_world.proofs.Logs.{step_few, step_goes_on, act_leaves, act_site, never_conflicts, own_records, act_waits}
 use Rattle.dali_world.proofs.Fitting.{fits_acted}
 use Rattle.dali_world.proofs.site.SiteState.act.Goals as goal
 
@@ -69,3 +69,9 @@ returns-in-Some-clause-fits c =
 
 pub returns-in-Some-clause-records : goal.returns-in-Some-clause-records
 returns-in-Some-clause-records c = own_records _ _ _ _ _ c.args.c c.self.view_is c.self.invariant c.act.ensures.placed
+
+pub returns-in-Some-clause-waits : goal.returns-in-Some-clause-waits
+returns-in-Some-clause-waits c =
+    let answer = rw c.in-Some.is at c.act.ensures.answer in
+    let due : IsDue (controller_on c.self.inside.standing c.args.c) c.args.input = search rules in
+    act_waits _ _ _ _ _ c.args.c c.args.input c.in-Some.order c.self.view_is c.self.invariant due c.act.ensures.placed answer

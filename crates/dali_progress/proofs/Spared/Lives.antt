@@ -1,0 +1,510 @@
+use Rattle.std.proofs.Common.{◌≡◌, ℕ, ◌+◌, ◌<◌, ◌≤◌, ◌⊎◌, inl, inr, Bool, true, false, List, [], ◌∷◌, refl, sym, ap, subst, ◌∙◌, arith, Option, Some, None}
+use Rattle.std.specs.Prelude.{◌==◌, if◌then◌else◌}
+use Rattle.dali_frame.specs.declared.frames.Answer.{Answer}
+use Rattle.dali_frame.specs.declared.frames.Answer.TheVariants.{Silence}
+use Rattle.dali_frame.specs.declared.frames.Forward.{Forward}
+use Rattle.dali_frame.specs.Priority.{FIRST, LATER}
+use Rattle.dali_special.specs.declared.command.Command.TheVariants.{RandomByte}
+use Rattle.dali_special.specs.declared.command.Part.TheVariants.{High, Middle, Low}
+use Rattle.dali_special.specs.Command.{command_of}
+use Rattle.dali_special.proofs.Table.{read_spelled}
+use Rattle.dali_script.specs.declared.block.Block.{Block}
+use Rattle.dali_script.specs.declared.records.Record.{Record}
+use Rattle.dali_script.specs.declared.records.Record.TheVariants.{Reserve, Enrol, Release}
+use Rattle.dali_script.specs.declared.stage.Stage.{Stage}
+use Rattle.dali_script.specs.declared.stage.Stage.TheVariants as stage
+use Rattle.dali_script.specs.Records.{Kept, Has, InBlock}
+use Rattle.dali_script.specs.Stages.{stage_of, next_stage, bytes_heard, number_heard}
+use Rattle.dali_script.proofs.Lists.{block_stays}
+use Rattle.dali_script.proofs.Transactions.{stage_more, stage_none}
+use Rattle.dali_script.specs.declared.orders.Input.{Input}
+use Rattle.dali_script.specs.declared.orders.Input.TheVariants as input
+use Rattle.dali_script.specs.declared.orders.Order.{Order}
+use Rattle.dali_script.specs.declared.orders.Order.TheVariants.{Put, Commit, Done, Halt}
+use Rattle.dali_script.specs.declared.orders.Due.TheVariants as due
+use Rattle.dali_script.specs.Due.{due_after, accepts, frame_put, record_ordered}
+use Rattle.dali_controller.specs.declared.purpose.Purpose.TheVariants.{Asking, Waking}
+use Rattle.dali_controller.specs.declared.purpose.Purpose.{Purpose}
+use Rattle.dali_controller.specs.declared.way.Way.TheVariants.{Fresh, Surveying, Drawing}
+use Rattle.dali_controller.specs.Machine.{Machine, at_first, machine_told, machine_heard, machine_committed, opened_after, woken_after}
+use Rattle.dali_controller.specs.Next.{next_course, course_on, course_by}
+use Rattle.dali_controller.specs.Orders.{IsGiven, MayCommit, machine_after, machine_ordered}
+use Rattle.dali_controller.specs.Whole.{IsWhole, Pending, Sends}
+use Rattle.dali_events.specs.declared.used.Used.{Used}
+use Rattle.dali_events.specs.Used.{used_shorts}
+use Rattle.dali_events.specs.World.{Controller}
+use Rattle.dali_events.specs.Happens.{controller_acted, entry}
+use Rattle.dali_events.specs.Allowed.{IsDue, IsCommit}
+use Rattle.dali_standing.specs.Seats.{ReservesUsed}
+use Rattle.dali_progress.specs.Surveyed.{Step, IsTaken, IsCourse, ArePlain, stage_told}
+use Rattle.dali_progress.specs.Swept.{BeginsBySurvey, AreWhole, FallsSilent, WasSilent}
+use Rattle.dali_progress.proofs.Accounted.{accounted_stays, unreserved}
+use Rattle.dali_progress.proofs.Sweep.Asked.{Asks, asks_of, self, sending_of}
+use Rattle.dali_progress.proofs.Sweep.Others.{KeepsWay, begins_way, on_way}
+use Rattle.dali_progress.proofs.Sweep.Coming.{IsToCome, IsEnded, Watched, no_reservation, sweeping_ready, unreserved_on, over_ends}
+use Rattle.dali_progress.proofs.Sweep.Silent.{IsLooked, watched_looked}
+use Rattle.dali_progress.proofs.Spared.Counted.{IsCounted, counted_more, counted_on}
+use Rattle.dali_progress.proofs.Spared.Bytes.{IsByteOf, IsRead, read_plain, next_read}
+
+-- THE LIFE OF A CONTROLLER since it began, by what its machine was told and ordered.
+
+-- what is heard of a frame: no silence of a used gear that is asked, until gear were woken; and bytes of random addresses
+abbrev pub IsAnswered : (ℕ → Type 0) → (ℕ → ℕ) → Bool → ℕ → Forward → Answer → Type 0
+IsAnswered U n opened asked f h =
+    opened ≡ false → (a : ℕ) → U a → command_of f ≡ RandomByte a High → h ≡ Silence → asked + 1 ≤ n a
+
+abbrev pub IsWellHeard : (ℕ → Type 0) → (ℕ → ℕ) → Bool → ℕ → Forward → Answer → Type 0
+IsWellHeard U n opened asked f h = IsAnswered U n opened asked f h × IsByteOf (command_of f) h
+
+-- what it was told is of the frame that it put, and it is told to start where it has ordered nothing
+abbrev pub IsFair : (ℕ → Type 0) → (ℕ → ℕ) → Bool → ℕ → Option Order → Option Input → Type 0
+IsFair U n opened asked last (Some (input.Heard h)) = (f : Forward) × (frame_put last ≡ Some f) × IsWellHeard U n opened asked f h
+IsFair U n opened asked last (Some input.Start) = last ≡ None
+IsFair U n opened asked last _ = Unit {0}
+
+-- it began by a survey, if it has begun
+abbrev pub HasBegun : List Step → Machine → Type 0
+HasBegun [] m = (id : ℕ) × (k : Kept) × (m ≡ at_first id k)
+HasBegun (s ∷ earlier) m = BeginsBySurvey (s ∷ earlier) × (m.course.way ≡ Fresh → ⊥)
+
+pub record Lives (U : ℕ → Type 0) (z : Block) (n : ℕ → ℕ) (k : Controller) (m : Machine) : Type 0 where
+  pub steps : List Step
+  pub course : IsCourse steps m
+  pub plain : ArePlain steps
+  pub were : AreWhole steps
+  pub whole : IsWhole m
+  pub begun : HasBegun steps m
+  pub read : IsRead (stage_of m.trace)
+  pub unsilent : (a : ℕ) → U a → WasSilent steps a → ⊥
+  pub counted : IsCounted U n m
+  pub few : m.opened ≡ false → (a : ℕ) → U a → n a < 3
+  pub block : m.kept.block ≡ z
+  pub last : m.last ≡ k.last
+  pub told : IsFair U n m.opened m.asked k.last k.told
+
+-- ---------------------------------------------------------------- it begins, and it is told something
+
+free_read : IsRead (stage_of [])
+free_read = subst IsRead (sym stage_none) tt
+
+first_whole : (id : ℕ) (kept : Kept) → IsWhole (at_first id kept)
+first_whole id kept = record {
+  ready = record { tries = omega arith; calm = omega arith; knows = refl };
+  free = stage_none;
+  opening = refl;
+  fresh = refl;
+}
+
+pub lives_first : (U : ℕ → Type 0) (z : Block) (n : ℕ → ℕ) (k : Controller) (id : ℕ) (kept : Kept) → kept.block ≡ z
+    → ((a : ℕ) → U a → n a < 3) → k.told ≡ Some input.Start → k.last ≡ None
+    → Lives U z n k (at_first id kept)
+lives_first U z n k id kept block few told last = record {
+  steps = [];
+  course = tt;
+  plain = tt;
+  were = tt;
+  whole = first_whole id kept;
+  begun = (id, kept, refl);
+  read = free_read;
+  unsilent = λ a used silent. silent;
+  counted = inl refl;
+  few = λ early. few;
+  block = block;
+  last = sym last;
+  told = subst (λ t. IsFair U n false 0 k.last t) (sym told) last;
+}
+
+pub lives_told : (U : ℕ → Type 0) (z : Block) (n : ℕ → ℕ) (k k' : Controller) (m : Machine) → Lives U z n k m → k'.last ≡ k.last
+    → IsFair U n m.opened m.asked k.last k'.told
+    → Lives U z n k' m
+lives_told U z n k k' m l last told = record {
+  steps = l.steps;
+  course = l.course;
+  plain = l.plain;
+  were = l.were;
+  whole = l.whole;
+  begun = l.begun;
+  read = l.read;
+  unsilent = l.unsilent;
+  counted = l.counted;
+  few = l.few;
+  block = l.block;
+  last = l.last ∙ sym last;
+  told = subst (λ o. IsFair U n m.opened m.asked o k'.told) (sym last) told;
+}
+
+-- silences are counted on
+fair_more : (U : ℕ → Type 0) (n n' : ℕ → ℕ) (opened : Bool) (asked : ℕ) (last : Option Order) (told : Option Input) → ((a : ℕ) → U a → n a ≤ n' a)
+    → IsFair U n opened asked last told → IsFair U n' opened asked last told
+fair_more U n n' opened asked last (Some (input.Heard h)) more (f, put, well) = (
+  f,
+  put,
+  (
+    λ early a used asks silent. (let less : asked + 1 ≤ n a = well.0 early a used asks silent in let on : n a ≤ n' a = more a used in
+        omega (arith, less, on)),
+    well.1,
+  ),
+)
+fair_more U n n' opened asked last (Some input.Start) more fair = fair
+fair_more U n n' opened asked last _ more fair = tt
+
+pub lives_more : (U : ℕ → Type 0) (z : Block) (n n' : ℕ → ℕ) (k : Controller) (m : Machine) → ((a : ℕ) → U a → n a ≤ n' a)
+    → (m.opened ≡ false → (a : ℕ) → U a → n' a < 3) → Lives U z n k m → Lives U z n' k m
+lives_more U z n n' k m more few l = record {
+  steps = l.steps;
+  course = l.course;
+  plain = l.plain;
+  were = l.were;
+  whole = l.whole;
+  begun = l.begun;
+  read = l.read;
+  unsilent = l.unsilent;
+  counted = counted_more U n n' m more l.counted;
+  few = few;
+  block = l.block;
+  last = l.last;
+  told = fair_more U n n' m.opened m.asked k.last k.told more l.told;
+}
+
+-- ---------------------------------------------------------------- what was told and put
+
+-- what was heard, where that is due
+heard_of : (U : ℕ → Type 0) (z : Block) (n : ℕ → ℕ) (k : Controller) (m : Machine) (h : Answer) → Lives U z n k m → k.told ≡ Some (input.Heard h)
+    → (f : Forward) × (frame_put m.last ≡ Some f) × IsWellHeard U n m.opened m.asked f h
+heard_of U z n k m h l due =
+    let fair : IsFair U n m.opened m.asked k.last (Some (input.Heard h)) = subst (λ t. IsFair U n m.opened m.asked k.last t) due l.told in
+    (fair.0, ap frame_put l.last ∙ fair.1, fair.2)
+
+put_of_frame : (last : Option Order) (f : Forward) → frame_put last ≡ Some f → (p : ℕ) × (last ≡ Some (Put p f))
+put_of_frame None f e = absurd (cc)
+put_of_frame (Some (Put p g)) f e = (p, let same : g ≡ f = cc in ap (λ x. Some (Put p x)) same)
+put_of_frame (Some (Commit x)) f e = absurd (cc)
+put_of_frame (Some (Done x)) f e = absurd (cc)
+put_of_frame (Some (Halt x)) f e = absurd (cc)
+
+heard_is : (m : Machine) (h : Answer) (f : Forward) → frame_put m.last ≡ Some f → machine_told m (input.Heard h) ≡ machine_heard m (Some f) h
+heard_is m h f put = ap (λ o. machine_heard m o h) put
+
+stage_heard : (m : Machine) (h : Answer) (f : Forward) → frame_put m.last ≡ Some f
+    → stage_of (machine_told m (input.Heard h)).trace ≡ next_stage (stage_of m.trace) (command_of f) h
+stage_heard m h f put = ap (λ (t : Machine). stage_of t.trace) (heard_is m h f put) ∙ stage_more m.trace (entry f h)
+
+-- all that was read is bytes
+told_read : (U : ℕ → Type 0) (z : Block) (n : ℕ → ℕ) (k : Controller) (m : Machine) (i : Input) → Lives U z n k m → IsDue k i
+    → IsRead (stage_of (machine_told m i).trace)
+told_read U z n k m (input.Heard h) l due =
+    let heard = heard_of U z n k m h l due in
+    subst IsRead (sym (stage_heard m h heard.0 heard.1))
+    (next_read (stage_of m.trace) (command_of heard.0) h (read_spelled heard.0) heard.2.1 l.read)
+told_read U z n k m input.Start l due = l.read
+told_read U z n k m input.Survey l due = l.read
+told_read U z n k m input.Destroyed l due = free_read
+told_read U z n k m input.Lapsed l due = free_read
+told_read U z n k m input.Committed l due = go (record_ordered m.last) where
+  go : (x : Option Record) → IsRead (stage_of (machine_committed m x).trace)
+  go None = l.read
+  go (Some x) = l.read
+told_read U z n k m input.CommitFailed l due = l.read
+
+ordered_read : (t : Machine) (o : Order) → IsRead (stage_of t.trace) → IsRead (stage_of (machine_ordered t o).trace)
+ordered_read t (Put p f) read = go (p == LATER) where
+  go : (b : Bool) → IsRead (stage_of (if b then t.trace else []))
+  go true = read
+  go false = free_read
+ordered_read t (Commit x) read = free_read
+ordered_read t (Done e) read = free_read
+ordered_read t (Halt w) read = free_read
+
+-- ---------------------------------------------------------------- who surveyed has surveyed
+
+told_surveyed : (m : Machine) (i : Input) → (m.course.way ≡ Fresh → ⊥) → (machine_told m i).course.way ≡ Fresh → ⊥
+told_surveyed m input.Start other = other
+told_surveyed m input.Survey other = λ e. cc
+told_surveyed m (input.Heard h) other = go (frame_put m.last) where
+  go : (f : Option Forward) → (machine_heard m f h).course.way ≡ Fresh → ⊥
+  go None = other
+  go (Some f) = other
+told_surveyed m input.Destroyed other = other
+told_surveyed m input.Lapsed other = other
+told_surveyed m input.Committed other = go (record_ordered m.last) where
+  go : (x : Option Record) → (machine_committed m x).course.way ≡ Fresh → ⊥
+  go None = other
+  go (Some x) = other
+told_surveyed m input.CommitFailed other = other
+
+ordered_way : (t : Machine) (o : Order) → KeepsWay t.course (course_by t o)
+ordered_way t (Put p f) = go (p == FIRST) where
+  go : (b : Bool) → KeepsWay t.course (if b then next_course t else course_on t (stage_of t.trace))
+  go true = begins_way t (stage_of t.trace)
+  go false = on_way t (stage_of t.trace)
+ordered_way t (Commit x) = inl refl
+ordered_way t (Done e) = inl refl
+ordered_way t (Halt w) = inl refl
+
+ordered_surveyed : (t : Machine) (o : Order) → (t.course.way ≡ Fresh → ⊥) → (machine_ordered t o).course.way ≡ Fresh → ⊥
+ordered_surveyed t o other = go (ordered_way t o) where
+  go : KeepsWay t.course (course_by t o) → (course_by t o).way ≡ Fresh → ⊥
+  go (inl same) e = other (sym same ∙ e)
+  go (inr drawn) e = let never : Drawing ≡ Fresh = sym drawn ∙ e in cc
+
+-- what begins is a start or a survey
+surveys : (i : Input) → accepts due.Start i ≡ true → (i ≡ input.Start → ⊥) → i ≡ input.Survey
+surveys input.Start due unstarted = absurd (unstarted refl)
+surveys input.Survey due unstarted = refl
+surveys (input.Heard h) due unstarted = absurd (cc)
+surveys input.Destroyed due unstarted = absurd (cc)
+surveys input.Lapsed due unstarted = absurd (cc)
+surveys input.Committed due unstarted = absurd (cc)
+surveys input.CommitFailed due unstarted = absurd (cc)
+
+begun_on : (m : Machine) (i : Input) (o : Order) (steps : List Step) → HasBegun steps m → (i ≡ input.Start → ⊥) → accepts (due_after m.last) i ≡ true
+    → HasBegun ((record { before = m; told = i; order = o }) ∷ steps) (machine_after m i o)
+begun_on m i o [] b unstarted waits =
+    let none : m.last ≡ None = ap (λ (x : Machine). x.last) b.2 in
+    let survey : i ≡ input.Survey = surveys i (subst (λ l. accepts (due_after l) i ≡ true) none waits) unstarted in
+    let told : (machine_told m i).course.way ≡ Surveying = ap (λ j. (machine_told m j).course.way) survey in
+    ((survey, b), ordered_surveyed (machine_told m i) o (λ e. let never : Surveying ≡ Fresh = sym told ∙ e in cc))
+begun_on m i o (r ∷ earlier) b unstarted waits = (b.0, ordered_surveyed (machine_told m i) o (told_surveyed m i b.1))
+
+-- ---------------------------------------------------------------- once gear were woken
+
+woken_stays : (s : Stage) (p : Purpose) → woken_after s p true ≡ true
+woken_stays stage.Initialised Waking = refl
+woken_stays _ _ = refl
+
+opened_stays : (s : Stage) → opened_after s true ≡ true
+opened_stays stage.Opened = refl
+opened_stays _ = refl
+
+pub told_opened : (m : Machine) (i : Input) → m.opened ≡ true → (machine_told m i).opened ≡ true
+told_opened m (input.Heard h) opened = go (frame_put m.last) where
+  go : (f : Option Forward) → (machine_heard m f h).opened ≡ true
+  go None = opened
+  go (Some f) =
+      let s : Stage = stage_of (machine_heard m (Some f) h).trace in
+      ap (λ b. woken_after s m.course.purpose (opened_after s b)) opened ∙ ap (woken_after s m.course.purpose) (opened_stays s)
+      ∙ woken_stays s m.course.purpose
+told_opened m input.Start opened = opened
+told_opened m input.Survey opened = opened
+told_opened m input.Destroyed opened = opened
+told_opened m input.Lapsed opened = opened
+told_opened m input.Committed opened = go (record_ordered m.last) where
+  go : (x : Option Record) → (machine_committed m x).opened ≡ true
+  go None = opened
+  go (Some x) = opened
+told_opened m input.CommitFailed opened = opened
+
+-- ---------------------------------------------------------------- it acts
+
+-- the first query of a short address
+question_is : (m : Machine) (p : ℕ) (f : Forward) (h : Answer) (a : ℕ) → m.course.purpose ≡ Asking a → m.last ≡ Some (Put p f) → IsWhole m
+    → next_stage (stage_of m.trace) (command_of f) h ≡ stage.HighAsked a None → command_of f ≡ RandomByte a High
+question_is m p f h a purpose last whole at = asked (asks_of m.kept m.course.number a (stage_of m.trace) (command_of f) sends) where
+  sends : Sends m.kept m.course.number (Asking a) (stage_of m.trace) (command_of f)
+  sends = subst (λ q. Sends m.kept m.course.number q (stage_of m.trace) (command_of f)) purpose (sending_of m p f last whole).sends
+
+  asked : Asks a (stage_of m.trace) (command_of f) → command_of f ≡ RandomByte a High
+  asked (inl (free, high)) = high
+  asked (inr (inl (b, x, same, middle, here))) =
+      let next : next_stage (stage_of m.trace) (command_of f) h ≡ stage.MiddleAsked b (bytes_heard (Some x) h) = rw (same, middle, self b) refl in
+      absurd (let never : stage.MiddleAsked b (bytes_heard (Some x) h) ≡ stage.HighAsked a None = sym next ∙ at in cc)
+  asked (inr (inr (b, x, same, low, here))) =
+      let next : next_stage (stage_of m.trace) (command_of f) h ≡ stage.Spelled b (number_heard (Some x) h) = rw (same, low, self b) refl in
+      absurd (let never : stage.Spelled b (number_heard (Some x) h) ≡ stage.HighAsked a None = sym next ∙ at in cc)
+
+some_frame : (f g : Forward) → Some f ≡ Some g → f ≡ g
+some_frame f g e = cc
+
+-- a silence that it acts on was counted
+answered : (U : ℕ → Type 0) (z : Block) (n : ℕ → ℕ) (k : Controller) (m : Machine) (h : Answer) (f : Forward) → Lives U z n k m
+    → k.told ≡ Some (input.Heard h) → frame_put m.last ≡ Some f → (a : ℕ) → m.course.purpose ≡ Asking a
+    → stage_of (machine_heard m (Some f) h).trace ≡ stage.HighAsked a None → h ≡ Silence → U a → m.asked + 1 ≤ n a
+answered U z n k m h f l due put a purpose at silent used =
+    let heard = heard_of U z n k m h l due in
+    let same : f ≡ heard.0 = some_frame f heard.0 (sym put ∙ heard.1) in
+    let last = put_of_frame m.last heard.0 heard.1 in
+    let next : next_stage (stage_of m.trace) (command_of heard.0) h ≡ stage.HighAsked a None =
+    sym (stage_more m.trace (entry heard.0 h)) ∙ subst (λ g. stage_of (machine_heard m (Some g) h).trace ≡ stage.HighAsked a None) same at in
+    heard.2.0 (sweeping_ready m a purpose (sending_of m last.0 heard.0 last.1 l.whole).ready).opened a used
+    (question_is m last.0 heard.0 h a purpose last.1 l.whole next) silent
+
+-- how often the address that is asked was silent in a row, where it is asked now
+pub counted_asked : (U : ℕ → Type 0) (z : Block) (n : ℕ → ℕ) (k : Controller) (m : Machine) (f : Forward) (a : ℕ) → Lives U z n k m
+    → frame_put m.last ≡ Some f → command_of f ≡ RandomByte a High → U a → m.asked ≤ n a
+counted_asked U z n k m f a l put asks used = go l.counted where
+  last : (p : ℕ) × (m.last ≡ Some (Put p f))
+  last = put_of_frame m.last f put
+
+  go : IsCounted U n m → m.asked ≤ n a
+  go (inl zero) = omega (arith, zero)
+  go (inr (inl (inl ends))) = absurd (let never : Some (Done ends.0) ≡ Some (Put last.0 f) = sym ends.1 ∙ last.1 in cc)
+  go (inr (inl (inr ends))) = absurd (let never : Some (Halt ends.0) ≡ Some (Put last.0 f) = sym ends.1 ∙ last.1 in cc)
+  go (inr (inr (b, purpose, on, less))) =
+      by (asks_of m.kept m.course.number b (stage_of m.trace) (command_of f)
+      (subst (λ q. Sends m.kept m.course.number q (stage_of m.trace) (command_of f)) purpose (sending_of m last.0 f last.1 l.whole).sends))
+    where
+      by : Asks b (stage_of m.trace) (command_of f) → m.asked ≤ n a
+      by (inl (free, high)) =
+          let both : RandomByte b High ≡ RandomByte a High = sym high ∙ asks in
+          let same : b ≡ a = cc in
+          subst (λ x. U x → m.asked ≤ n x) same less used
+      by (inr (inl (d, x, same, middle, here))) = absurd (let never : RandomByte d Middle ≡ RandomByte a High = sym middle ∙ asks in cc)
+      by (inr (inr (d, x, same, low, here))) = absurd (let never : RandomByte d Low ≡ RandomByte a High = sym low ∙ asks in cc)
+
+-- no used gear falls silent
+asked_silent : (U : ℕ → Type 0) (z : Block) (n : ℕ → ℕ) (k : Controller) (m : Machine) (i : Input) (o : Order) (a : ℕ) → Lives U z n k m → IsDue k i → U a
+    → FallsSilent (record { before = m; told = i; order = o }) a → ⊥
+asked_silent U z n k m i o a l due used falls =
+    let now : k.told ≡ Some (input.Heard Silence) = subst (λ j. IsDue k j) falls.told due in
+    let heard = heard_of U z n k m Silence l now in
+    let last = put_of_frame m.last heard.0 heard.1 in
+    let at : stage_of (machine_heard m (Some heard.0) Silence).trace ≡ stage.HighAsked a None =
+    ap (λ (t : Machine). stage_of t.trace) (sym (heard_is m Silence heard.0 heard.1)) ∙ ap (λ j. stage_of (machine_told m j).trace) (sym falls.told)
+    ∙ falls.question in
+    let more : m.asked + 1 ≤ n a = answered U z n k m Silence heard.0 l now heard.1 a falls.asking at refl used in
+    let early : m.opened ≡ false = (sweeping_ready m a falls.asking (sending_of m last.0 heard.0 last.1 l.whole).ready).opened in
+    let few : n a < 3 = l.few early a used in
+    let two : m.asked ≡ 2 = falls.twice in
+    omega (arith, more, few, two)
+
+-- its records are of one block
+told_block : (m : Machine) (i : Input) → (machine_told m i).kept.block ≡ m.kept.block
+told_block m (input.Heard h) = go (frame_put m.last) where
+  go : (f : Option Forward) → (machine_heard m f h).kept.block ≡ m.kept.block
+  go None = refl
+  go (Some f) = refl
+told_block m input.Committed = go (record_ordered m.last) where
+  go : (x : Option Record) → (machine_committed m x).kept.block ≡ m.kept.block
+  go None = refl
+  go (Some x) = block_stays m.kept x
+told_block m input.Start = refl
+told_block m input.Survey = refl
+told_block m input.Destroyed = refl
+told_block m input.Lapsed = refl
+told_block m input.CommitFailed = refl
+
+pub lives_acted : (U : ℕ → Type 0) (z : Block) (n : ℕ → ℕ) (k : Controller) (m : Machine) (i : Input) (o : Order) → Lives U z n k m → IsDue k i
+    → (i ≡ input.Start → ⊥)
+    → accepts (due_after m.last) i ≡ true → IsGiven m i o → IsWhole (machine_after m i o) → Lives U z n (controller_acted k i o) (machine_after m i o)
+lives_acted U z n k m i o l due unstarted waits given whole = record {
+  steps = (record { before = m; told = i; order = o }) ∷ l.steps;
+  course = (l.course, record { due = waits; given = given; after = refl });
+  plain = (read_plain (stage_of (machine_told m i).trace) (told_read U z n k m i l due), l.plain);
+  were = (l.whole, l.were);
+  whole = whole;
+  begun = begun_on m i o l.steps l.begun unstarted waits;
+  read = ordered_read (machine_told m i) o (told_read U z n k m i l due);
+  unsilent = λ a used silent. go a used silent;
+  counted = counted_on U n m i o waits given l.whole
+      (λ h f is put b purpose at silent used. answered U z n k m h f l (subst (λ j. IsDue k j) is due) put b purpose at silent used) l.counted;
+  few = λ early. few_told m.opened refl early;
+  block = told_block m i ∙ l.block;
+  last = refl;
+  told = tt;
+} where
+  few_told : (b : Bool) → m.opened ≡ b → (machine_told m i).opened ≡ false → (a : ℕ) → U a → n a < 3
+  few_told true is early = absurd (let never : true ≡ false = sym (told_opened m i is) ∙ early in cc)
+  few_told false is early = l.few is
+
+  go : (a : ℕ) → U a → FallsSilent (record { before = m; told = i; order = o }) a ⊎ WasSilent l.steps a → ⊥
+  go a used (inl falls) = asked_silent U z n k m i o a l due used falls
+  go a used (inr before) = l.unsilent a used before
+
+-- ---------------------------------------------------------------- it would reserve none of their addresses
+
+start_free : (m : Machine) → m.last ≡ None → IsWhole m → stage_of m.trace ≡ stage.Free
+start_free m = go m.last where
+  go : (l : Option Order) → l ≡ None → Pending m l → stage_of m.trace ≡ stage.Free
+  go None e w = w.free
+  go (Some o) e w = absurd (cc)
+
+commit_free : (m : Machine) (last : Option Order) → m.last ≡ last → IsCommit last → IsWhole m → stage_of m.trace ≡ stage.Free
+commit_free m last is commit whole = go last commit (subst (Pending m) is whole) where
+  go : (l : Option Order) → IsCommit l → Pending m l → stage_of m.trace ≡ stage.Free
+  go (Some (Commit x)) c w = w.free
+  go None c w = absurd c
+  go (Some (Put p f)) c w = absurd c
+  go (Some (Done e)) c w = absurd c
+  go (Some (Halt why)) c w = absurd c
+
+free_reserves : (t : Machine) (a r : ℕ) → stage_of t.trace ≡ stage.Free → MayCommit t (Reserve a r) → ⊥
+free_reserves t a r free may = no_reservation t stage.Free a r free (λ n e. cc) may
+
+heard_reserves : (U : ℕ → Type 0) (z : Block) (n : ℕ → ℕ) (k : Controller) (m : Machine) (h : Answer) (a r : ℕ) → Lives U z n k m
+    → k.told ≡ Some (input.Heard h)
+    → ((b : ℕ) → U b → b < 64) → (InBlock z a → U a) → IsGiven m (input.Heard h) (Commit (Reserve a r)) → ⊥
+heard_reserves U z n k m h a r l due below its given = by l.steps l.course l.plain l.were l.begun l.unsilent where
+  heard : (f : Forward) × (frame_put m.last ≡ Some f) × IsWellHeard U n m.opened m.asked f h
+  heard = heard_of U z n k m h l due
+
+  put : (p : ℕ) × (m.last ≡ Some (Put p heard.0))
+  put = put_of_frame m.last heard.0 heard.1
+
+  used : U a
+  used = its (subst (λ b. InBlock b a) (told_block m (input.Heard h) ∙ l.block) given.answered.allowed.fits.0)
+
+  small : a < 64
+  small = below a used
+
+  waits : accepts (due_after m.last) (input.Heard h) ≡ true
+  waits = ap (λ o. accepts (due_after o) (input.Heard h)) put.1
+
+  step : Step
+  step = record { before = m; told = input.Heard h; order = Commit (Reserve a r) }
+
+  next : Machine
+  next = machine_after m (input.Heard h) (Commit (Reserve a r))
+
+  by : (steps : List Step) → IsCourse steps m → ArePlain steps → AreWhole steps → HasBegun steps m
+      → ((b : ℕ) → U b → WasSilent steps b → ⊥) → ⊥
+  by [] course plain were begun unsilent =
+      let none : m.last ≡ None = ap (λ (x : Machine). x.last) begun.2 in
+      let never : None ≡ Some (Put put.0 heard.0) = sym none ∙ put.1 in cc
+  by (s ∷ earlier) course plain were begun unsilent = go w.seen where
+    w : Watched IsLooked (s ∷ earlier) m a
+    w = watched_looked (s ∷ earlier) m a small course begun.0 plain were l.whole
+
+    taken : IsTaken step next
+    taken = record { due = waits; given = given; after = refl }
+
+    surveyed : next.course.way ≡ Fresh → ⊥
+    surveyed = ordered_surveyed (machine_told m (input.Heard h)) (Commit (Reserve a r)) (told_surveyed m (input.Heard h) begun.1)
+
+    purpose : (b : ℕ) → m.course.purpose ≡ Asking b → (machine_told m (input.Heard h)).course.purpose ≡ Asking b
+    purpose b asks = ap (λ (t : Machine). t.course.purpose) (heard_is m h heard.0 heard.1) ∙ asks
+
+    go : IsEnded m ⊎ (IsLooked (s ∷ earlier) m a ⊎ IsToCome m a) → ⊥
+    go (inl ends) = over_ends m.last (input.Heard h) ends waits
+    go (inr (inl (inl silent))) = unsilent a used silent
+    go (inr (inl (inr counts))) =
+        unreserved step next a r taken refl surveyed
+        (accounted_stays step next a small taken (read_plain (stage_told step) (told_read U z n k m (input.Heard h) l due)) counts)
+    go (inr (inr comes)) = unreserved_on m (input.Heard h) comes.0 a r w.running waits given l.whole w.alone (purpose comes.0 comes.1)
+
+reserves_none : (U : ℕ → Type 0) (z : Block) (n : ℕ → ℕ) (k : Controller) (m : Machine) (i : Input) (a r : ℕ) → Lives U z n k m → IsDue k i
+    → ((b : ℕ) → U b → b < 64) → (InBlock z a → U a) → IsGiven m i (Commit (Reserve a r)) → ⊥
+reserves_none U z n k m (input.Heard h) a r l due below its given = heard_reserves U z n k m h a r l due below its given
+reserves_none U z n k m input.Start a r l due below its given =
+    let none : k.last ≡ None = subst (λ t. IsFair U n m.opened m.asked k.last t) due l.told in
+    free_reserves m a r (start_free m (l.last ∙ none) l.whole) given.answered.allowed
+reserves_none U z n k m input.Survey a r l due below its given =
+    let none : k.last ≡ None = subst (λ t. IsFair U n m.opened m.asked k.last t) due l.told in
+    free_reserves (machine_told m input.Survey) a r (start_free m (l.last ∙ none) l.whole) given.answered.allowed
+reserves_none U z n k m input.Destroyed a r l due below its given = free_reserves (machine_told m input.Destroyed) a r stage_none given.answered.allowed
+reserves_none U z n k m input.Lapsed a r l due below its given = free_reserves (machine_told m input.Lapsed) a r stage_none given.answered.allowed
+reserves_none U z n k m input.Committed a r l due below its given =
+    free_reserves (machine_told m input.Committed) a r (go (record_ordered m.last)) given.answered.allowed
+  where
+    go : (x : Option Record) → stage_of (machine_committed m x).trace ≡ stage.Free
+    go None = commit_free m k.last l.last due l.whole
+    go (Some x) = commit_free m k.last l.last due l.whole
+reserves_none U z n k m input.CommitFailed a r l due below its given = let other = given.answered in cc
+
+pub leaves_used : (U : ℕ → Type 0) (z : Block) (n : ℕ → ℕ) (us : List Used) (k : Controller) (m : Machine) (i : Input) (o : Order) → ((a : ℕ) → U a → a < 64)
+    → ((a : ℕ) → InBlock z a → Has (used_shorts us) a → U a) → Lives U z n k m → IsDue k i → IsGiven m i o → ReservesUsed us o → ⊥
+leaves_used U z n us k m i (Commit (Reserve a r)) below its l due given used = reserves_none U z n k m i a r l due below (λ within. its a within used) given
+leaves_used U z n us k m i (Commit (Enrol a r)) below its l due given used = used
+leaves_used U z n us k m i (Commit (Release a r)) below its l due given used = used
+leaves_used U z n us k m i (Put p f) below its l due given used = used
+leaves_used U z n us k m i (Done e) below its l due given used = used
+leaves_used U z n us k m i (Halt w) below its l due given used = used
