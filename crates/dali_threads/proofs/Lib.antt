@@ -1,2 +1,2 @@
 mod Numbers
-mod Written
+mod Running

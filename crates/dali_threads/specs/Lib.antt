@@ -1,3 +1,4 @@
 pub mod Setup
 pub mod Drawn
+pub mod Ran
 pub mod Report

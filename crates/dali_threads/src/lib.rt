@@ -6,6 +6,7 @@ mod draws;
 mod report;
 mod run;
 mod setup;
+mod workers;
 
 pub use run::run_threads;
 pub use setup::{Setup, ThreadsFault};

@@ -1,11 +1,11 @@
-//! A run: a worker for each controller and a pumper, in threads of their own, over one line.
+//! A run: a worker for each controller and a pumper, in threads of their own, over one line; and what is written of it.
 
-ghost use Rattle.std.specs.Prelude.{◌≡◌, ◌*◌, ◌<◌, ◌≤◌, [], None, Some, IfOk, OnOk, OnErr, IfErr};
-ghost use Rattle.std.specs.Prelude.{IfSome, IsErrOf, IsTrue, false, length};
+ghost use Rattle.std.specs.Prelude.{◌≡◌, ◌*◌, ◌<◌, ◌≤◌, [], None, Some, IfOk, OnOk, IfErr};
+ghost use Rattle.std.specs.Prelude.{IfSome, IsErrOf, false, length, map, vec_len};
 ghost use Rattle.dali_events.specs.declared.plan.PlanError.{PlanError};
 ghost use Rattle.dali_events.specs.Plan.{plan_of, refusal_of};
-ghost use Rattle.dali_line.specs.Ends.{stops};
 ghost use Rattle.dali_threads.specs.Drawn.{numbers_of};
+ghost use Rattle.dali_threads.specs.Ran.{HaveRun};
 ghost use Rattle.dali_threads.specs.Report.{Reports};
 ghost use Rattle.dali_threads.specs.declared.setup.ThreadsFault.TheVariants.{BadPlan, Write};
 ghost use Rattle.std.specs.Io.KnownBytes.{Appends};
@@ -13,18 +13,15 @@ ghost use Rattle.std.specs.Io.KnownBytes.{Appends};
 use crate::draws::drawn;
 use crate::report::{json_report, report};
 use crate::setup::{Setup, ThreadsFault};
+use crate::workers::{Left, all_run};
 use arrayvec::ArrayVec;
-use dali_enrol::Directory;
-use dali_line::{Bus, Driver, Line, OpenGate, Outcome, Port, Pumper, Worker};
-use dali_script::Block;
-use dali_sqlite::SqliteKeep;
+use dali_line::{Line, Outcome, Port};
 use dali_world::{Plan, PlanError, SiteState};
 use std::alloc::{AllocError, Global};
 use std::io::Write;
 use std::marker::Brand;
 use std::sync::Wait;
 use std::sync::ledger::{Blank, Ledger};
-use std::thread;
 use std::thread::Threads;
 
 /// How many events a site's log holds.
@@ -33,136 +30,32 @@ const LOG_ROOM: usize = 65_536;
 /// How many requests may wait on a site.
 const QUEUE_ROOM: usize = 64;
 
-/// A worker runs over a database in memory of its own, which is made here, in its thread, and with a pass of its own of
-/// the directory. Where one of the two is refused, the line is stopped.
-fn works<B: Bus, R: Wait>(
-    rt: &R,
-    alloc: Global,
-    bus: &B,
-    port: B::Port,
-    block: Block,
-    directory: &Directory,
-    turns: u32,
-    surveys: bool,
-) -> (Outcome, B::Port)
-    ensures stopped { IsTrue (stops result.0) → B.is_told_to_stop bus.now }
-{
-    match (SqliteKeep::in_memory(alloc, block), directory.pass(alloc)) {
-        (Ok(keep), Ok(pass)) => {
-            let worker = Worker {
-                port,
-                keep,
-                gate: OpenGate,
-                surveys,
-            };
-            let (outcome, port, _keep, _pass) = worker.run(rt, alloc, bus, directory, pass, turns);
-            (outcome, port)
-        }
-        _ => {
-            bus.stop(rt);
-            (Outcome::NoMemory, port)
-        }
-    }
-}
-
-/// What the threads of a run leave: how each worker ended and its port, in order of the controllers' numbers, and the
-/// driver.
-#[derive(Drop)]
-struct Left<P, D> {
-    outcomes: Vec<Outcome>,
-    ports: Vec<P>,
-    driver: D,
-}
-
-/// A worker runs for each port, and a pumper, until all have ended. The workers share a directory. Where a thread
-/// cannot be made, or there is no memory for what it leaves, the bus is stopped, so that nobody waits for it.
-fn all_run<B, R>(
-    rt: &R,
-    alloc: Global,
-    bus: &B,
-    ports: Vec<B::Port>,
-    driver: B::Driver,
-    blocks: &[Block],
-    turns: u32,
-    surveys: bool,
-) -> Result<Left<B::Port, B::Driver>, AllocError>
-where
-    B: Bus + Sync,
-    B::Port: Send + Drop,
-    B::Driver: Send + Drop,
-    R: Threads + Wait + Sync,
-    ensures stopped { OnErr result (B.is_told_to_stop bus.now) }
-{
-    let Ok(directory) = Directory::new(alloc) else {
-        bus.stop(rt);
-        return Err(AllocError);
-    };
-    let shared = &directory;
-    thread::scope(
-        thread::scope_env(),
-        rt,
-        move |scope| -> Result<Left<B::Port, B::Driver>, AllocError>
-            ensures { OnErr result (B.is_told_to_stop bus.entry.now) }
-        {
-            let mut workers = Vec::new(alloc);
-            let mut refused = false;
-            for (port, block) in ports.into_iter().zip(blocks) {
-                let block = *block;
-                match scope.spawn(move || works(
-                    rt, alloc, bus, port, block, shared, turns, surveys,
-                )) {
-                    Ok(worker) => {
-                        if workers.push(worker).is_err() {
-                            refused = true;
-                        }
-                    }
-                    Err(_) => refused = true,
-                }
-            }
-            if refused {
-                bus.stop(rt);
-            }
-            let (driver, _) = Pumper::new(driver, OpenGate).run(rt, bus, turns);
-            let mut outcomes = Vec::new(alloc);
-            let mut ports = Vec::new(alloc);
-            for worker in workers {
-                let (outcome, port) = worker.join(rt);
-                if outcomes.push(outcome).is_err() || ports.push(port).is_err() {
-                    refused = true;
-                }
-            }
-            if refused {
-                bus.stop(rt);
-                return Err(AllocError);
-            }
-            Ok(Left {
-                outcomes,
-                ports,
-                driver,
-            })
-        },
-    )
-}
-
 /// The ports of a line as a list.
 fn listed<P0: Ledger, P1: Ledger, P2: Ledger, P3: Ledger, D: Ledger>(
     alloc: Global,
     ports: ArrayVec<Port<P0, P1, P2, P3, D>, 4>,
-) -> Result<Vec<Port<P0, P1, P2, P3, D>>, AllocError> {
-    let mut list = Vec::with_capacity(alloc, 4)?;
-    for port in ports {
-        list.push(port)?;
-    }
-    Ok(list)
+) -> Result<Vec<Port<P0, P1, P2, P3, D>>, AllocError>
+    ensures { IfOk result (λ list. list.items ≡ ports.items) }
+{
+    ports.into_iter().collect(alloc)
 }
 
-/// A list of ports, four at most, as a line takes them back.
-fn gathered<P: Default + Drop>(list: Vec<P>) -> ArrayVec<P, 4> {
+/// How each worker ended, and the ports as a line takes them back.
+fn parted<P: Default + Drop>(
+    alloc: Global,
+    ended: Vec<(Outcome, P)>,
+) -> Result<(Vec<Outcome>, ArrayVec<P, 4>), AllocError>
+    requires { vec_len ended ≤ 4 }
+    ensures outcomes { IfOk result (λ r. r.0.items ≡ map (λ e. e.0) ended.items) }
+    ensures ports { IfOk result (λ r. r.1.items ≡ map (λ e. e.1) ended.items) }
+{
+    let mut outcomes = Vec::new(alloc);
     let mut ports = ArrayVec::new();
-    for port in list {
-        let _ = ports.try_push(port);
+    for (outcome, port) in ended {
+        outcomes.push(outcome)?;
+        ports.push(port);
     }
-    ports
+    Ok((outcomes, ports))
 }
 
 /// The right to make the five ledgers of a line.
@@ -205,6 +98,9 @@ where
     requires third { (blanks.2.name ≡ P2.name) × (blanks.2.parts ≡ P2.parts) × (0 < P2.parts) }
     requires fourth { (blanks.3.name ≡ P3.name) × (blanks.3.parts ≡ P3.parts) × (0 < P3.parts) }
     requires driver { (blanks.4.name ≡ D.name) × (blanks.4.parts ≡ D.parts) × (0 < D.parts) }
+    requires log { site.log ≡ [] }
+    ensures count { IfOk result (λ r. vec_len r.0 ≡ length site.plan.blocks) }
+    ensures run { IfOk result (λ r. HaveRun turns surveys r.0.items r.1) }
 {
     let blocks = Vec::from_slice(alloc, site.plan().blocks())?;
     let (first, second, third, fourth, driver) = blanks;
@@ -212,13 +108,9 @@ where
         site, first, second, third, fourth, driver,
     );
     let ports = listed(alloc, ports)?;
-    let left = all_run(rt, alloc, &line, ports, driver, &blocks, turns, surveys)?;
-    let Left {
-        outcomes,
-        ports,
-        driver,
-    } = left;
-    match line.close(gathered(ports), driver) {
+    let Left { ended, driver } = all_run(rt, alloc, &line, ports, driver, &blocks, turns, surveys)?;
+    let (outcomes, ports) = parted(alloc, ended)?;
+    match line.close(ports, driver) {
         Ok(site) => Ok((outcomes, site)),
         // `all_run` has handed back each port, or has answered that a thread could not be made.
         Err(_) => Err(AllocError),
@@ -262,7 +154,8 @@ pub fn run_threads<R: Threads + Wait + Sync, W: Write>(
         (λ e. IsErrOf result (BadPlan e) × (writer.new ≡ writer.old)) }
     ensures cause { IfErr result (λ fault. (e : PlanError) → fault ≡ BadPlan e
         → refusal_of setup.gear setup.blocks.items [] ≡ Some e) }
-    ensures told { setup.as_json ≡ false → OnOk result (Reports (W.contents writer.old) (W.contents writer.new)) }
+    ensures told { setup.as_json ≡ false → OnOk result (Reports setup.turns setup.surveys (length setup.blocks.items)
+        (W.contents writer.old) (W.contents writer.new)) }
 {
     match planned(alloc, setup.gear, setup.blocks.as_slice(), &[]) {
         Ok(plan) => run_on(rt, alloc, &plan, &setup, writer),
@@ -312,7 +205,8 @@ fn run_on<R: Threads + Wait + Sync, W: Write>(
 ) -> Result<(), ThreadsFault>
     requires { refusal_of setup.now.gear setup.now.blocks.items [] ≡ None }
     ensures cause { IfErr result (λ fault. (e : PlanError) → fault ≡ BadPlan e → ⊥) }
-    ensures told { setup.now.as_json ≡ false → OnOk result (Reports (W.contents writer.old) (W.contents writer.new)) }
+    ensures told { setup.now.as_json ≡ false → OnOk result (Reports setup.now.turns setup.now.surveys
+        (length setup.now.blocks.items) (W.contents writer.old) (W.contents writer.new)) }
 {
     let plan = drawn_plan(alloc, setup, undrawn)?;
     let Ok(site) = SiteState::new(alloc, plan, LOG_ROOM, QUEUE_ROOM) else {
