@@ -12,7 +12,7 @@ ghost use Rattle.dali_controller.specs.Orders.{IsAnswered, IsFollowedAt, IsGiven
 use crate::error::StepError;
 use crate::shorts::Shorts;
 use crate::state::State;
-use dali_script::{Due, Input, Kept, Order, Record, Table, Trace};
+use dali_script::{Due, Finding, Input, Kept, Order, Record, Table, Trace};
 use std::marker::Model;
 
 /// The machine of one application controller, which gives the short addresses of its block to the gear on a bus.
@@ -31,9 +31,9 @@ use std::marker::Model;
 ///
 /// How to drive it: make one with `new`, give `step` the input `Start` or `Survey`, do what it orders, give it what
 /// came of that, and so on until the order is `Done` or `Halt`. `step` alone changes it; `due`, `table`, `kept`,
-/// `heard`, `last`, `id` and `would_order` read it, and `into_kept` gives its records back. No end is promised: a bus
-/// that loses every frame is given up after eight tries, but a bus on which gear come and go may keep it busy for good,
-/// so the caller bounds its loop.
+/// `heard`, `finding`, `tries`, `last`, `id` and `would_order` read it, and `into_kept` gives its records back. No end
+/// is promised: a bus that loses every frame is given up after eight tries, but a bus on which gear come and go may
+/// keep it busy for good, so the caller bounds its loop.
 ///
 /// | last order | what to do | inputs that are taken then |
 /// |---|---|---|
@@ -167,6 +167,20 @@ impl Machine {
         ensures { result.now ≡ self.now.trace }
     {
         &self.state.trace
+    }
+
+    /// The gear that it found last. After `Halt(Conflict)` it is the one that contradicts the table.
+    pub fn finding(&self) -> Option<Finding>
+        ensures { result ≡ self.now.finding }
+    {
+        self.state.finding
+    }
+
+    /// How often in a row its transaction was lost: 8 after a `Done(GaveUp)` that is due to that.
+    pub fn tries(&self) -> u8
+        ensures { result ≡ self.now.tries }
+    {
+        self.state.tries
     }
 
     /// The short addresses under which its survey heard somebody whose random address it does not know. It gives none
