@@ -5,6 +5,7 @@ use Rattle.dali_script.specs.declared.block.Block.{Block}
 use Rattle.dali_script.specs.Records.{Kept}
 use Rattle.dali_commissioning.specs.declared.census.Reply.{Reply}
 use Rattle.dali_commissioning.specs.declared.census.Reply.TheVariants as reply
+use Rattle.dali_commissioning.specs.declared.lines.Half.TheVariants.{Whole}
 use Rattle.dali_commissioning.specs.Drivers.{Talk}
 use Rattle.dali_commissioning.specs.Census.{query_at, answer_told, IsPut, IsAsked, reply_of, reply_heard, reply_told, joined_if, one_if, AreAsked, reply_after}
 use Rattle.dali_commissioning.specs.Census.{whole_of, IsAnswered, AreLost, lost_after, IsGivenUp, IsCounted, AreCounted}
@@ -15,16 +16,16 @@ pub is_heard : (heard : Option Answer) (told : Input) (h : Answer) → heard ≡
 is_heard heard told h told_so is = ap is_some (sym told_so ∙ is)
 
 -- the three frames of a question, one after the other
-pub first : (a : ℕ) (i : Input) (x y : Talk) → IsPut 3 (query_at a 0) i x y → IsAsked a (i ∷ []) x y
+pub first : (a : ℕ) (i : Input) (x y : Talk) → IsPut 3 (query_at a 0) Whole i x y → IsAsked a (i ∷ []) x y
 first a i x y put = (x, refl, tt, omega arith, put)
 
-pub second : (a : ℕ) (h i : Input) (x y z : Talk) → IsPut 3 (query_at a 0) h x y → is_some (answer_told h) ≡ true
-    → IsPut 1 (query_at a 1) i y z → IsAsked a (i ∷ h ∷ []) x z
+pub second : (a : ℕ) (h i : Input) (x y z : Talk) → IsPut 3 (query_at a 0) Whole h x y → is_some (answer_told h) ≡ true
+    → IsPut 1 (query_at a 1) Whole i y z → IsAsked a (i ∷ h ∷ []) x z
 second a h i x y z put heard more = (y, first a h x y put, (heard, tt), omega arith, more)
 
-pub third : (a : ℕ) (h m i : Input) (w x y z : Talk) → IsPut 3 (query_at a 0) h w x → is_some (answer_told h) ≡ true
-    → IsPut 1 (query_at a 1) m x y → is_some (answer_told m) ≡ true
-    → IsPut 1 (query_at a 2) i y z → IsAsked a (i ∷ m ∷ h ∷ []) w z
+pub third : (a : ℕ) (h m i : Input) (w x y z : Talk) → IsPut 3 (query_at a 0) Whole h w x → is_some (answer_told h) ≡ true
+    → IsPut 1 (query_at a 1) Whole m x y → is_some (answer_told m) ≡ true
+    → IsPut 1 (query_at a 2) Whole i y z → IsAsked a (i ∷ m ∷ h ∷ []) w z
 third a h m i w x y z put heard more heard_too last = (y, second a h m w x y put heard more, (heard_too, (heard, tt)), omega arith, last)
 
 -- what is spelled where all three are heard, or the last one is not

@@ -1,13 +1,17 @@
-use Rattle.std.proofs.Common.{◌≡◌, ◌<◌, arith, ℕ, List, [], ◌∷◌, length}
+use Rattle.std.proofs.Common.{◌≡◌, ◌<◌, ◌≤◌, arith, ℕ, List, [], ◌∷◌, length, refl}
 use Rattle.std.proofs.lemmas.Bool.{false≢true}
-use Rattle.dali_special.specs.declared.command.Command.TheVariants.{RandomByte}
+use Rattle.dali_special.specs.declared.command.Command.{Command}
+use Rattle.dali_special.specs.declared.command.Command.TheVariants.{RandomByte, Compare}
 use Rattle.dali_special.specs.Command.{command_of}
 use Rattle.dali_special.proofs.Table.{read_written}
 use Rattle.dali_script.specs.declared.block.Block.{Block}
 use Rattle.dali_script.specs.declared.orders.Input.{Input}
 use Rattle.dali_script.specs.declared.orders.Input.TheVariants.{Start, Survey, Heard, Destroyed, Lapsed, Committed, CommitFailed}
 use Rattle.dali_script.specs.Records.{Assignment}
-use Rattle.dali_script.specs.Scripts.{Lawful, Resolve}
+use Rattle.dali_frame.specs.declared.frames.Answer.{Answer}
+use Rattle.dali_frame.specs.declared.numbers.SearchAddress.{SearchAddress}
+use Rattle.dali_script.specs.Scripts.{Lawful, Resolve, Open, Hunt, Close, AreAsking, ASKING}
+use Rattle.dali_commissioning.specs.Unaddressed.{waking, comparing, ending, AreLawful}
 use Rattle.dali_commissioning.specs.Census.{AreHeard, entries_of, query_at, part_at}
 
 queried : (a n : ℕ) → a < 64 → command_of (query_at a n) ≡ RandomByte a (part_at n)
@@ -32,3 +36,87 @@ lawful b reserved a (Heard m ∷ Destroyed ∷ more) short heard few = absurd (f
 lawful b reserved a (Heard m ∷ Lapsed ∷ more) short heard few = absurd (false≢true heard.1.0)
 lawful b reserved a (Heard m ∷ Committed ∷ more) short heard few = absurd (false≢true heard.1.0)
 lawful b reserved a (Heard m ∷ CommitFailed ∷ more) short heard few = absurd (false≢true heard.1.0)
+
+-- ---------------------------------------------------------------- gear without short address
+
+pub woken : (b : Block) (reserved : List Assignment) (heard : List Answer) → AreLawful b reserved [] waking heard
+unfolding command_of
+woken b reserved [] = (Open, tt, refl)
+woken b reserved (h ∷ []) = ((Open, tt, refl), (Open, tt, (refl, tt, refl)))
+woken b reserved (h ∷ i ∷ []) =
+    ((Open, tt, refl), ((Open, tt, (refl, tt, refl)), (Open, tt, (refl, tt, (refl, tt, refl)))))
+woken b reserved (h ∷ i ∷ j ∷ more) =
+    ((Open, tt, refl), ((Open, tt, (refl, tt, refl)), ((Open, tt, (refl, tt, (refl, tt, refl))), tt)))
+
+pub ended : (b : Block) (reserved : List Assignment) (heard : List Answer) → AreLawful b reserved [] ending heard
+unfolding command_of
+ended b reserved [] = (Close, tt, refl)
+ended b reserved (h ∷ more) = ((Close, tt, refl), tt)
+
+abbrev all_ones : SearchAddress
+all_ones = record { high = 255; middle = 255; low = 255 }
+
+abbrev asked : List Command
+asked = Compare ∷ Compare ∷ Compare ∷ []
+
+may : AreAsking asked × (length asked ≤ ASKING)
+may = ((refl, (refl, (refl, tt))), omega arith)
+
+pub compared : (b : Block) (reserved : List Assignment) (heard : List Answer) → AreLawful b reserved [] comparing heard
+unfolding command_of
+compared b reserved [] = (Hunt all_ones asked, may, refl)
+compared b reserved (h ∷ []) = ((Hunt all_ones asked, may, refl), (Hunt all_ones asked, may, (refl, tt, refl)))
+compared b reserved (h ∷ i ∷ []) =
+    ((Hunt all_ones asked, may, refl), ((Hunt all_ones asked, may, (refl, tt, refl)), (Hunt all_ones asked, may, (refl, tt, (refl, tt, refl)))))
+compared b reserved (h ∷ i ∷ j ∷ []) = (
+  (Hunt all_ones asked, may, refl),
+  (
+    (Hunt all_ones asked, may, (refl, tt, refl)),
+    ((Hunt all_ones asked, may, (refl, tt, (refl, tt, refl))), (Hunt all_ones asked, may, (refl, tt, (refl, tt, (refl, tt, refl))))),
+  ),
+)
+compared b reserved (h ∷ i ∷ j ∷ k ∷ []) = (
+  (Hunt all_ones asked, may, refl),
+  (
+    (Hunt all_ones asked, may, (refl, tt, refl)),
+    (
+      (Hunt all_ones asked, may, (refl, tt, (refl, tt, refl))),
+      (
+        (Hunt all_ones asked, may, (refl, tt, (refl, tt, (refl, tt, refl)))),
+        (Hunt all_ones asked, may, (refl, tt, (refl, tt, (refl, tt, (refl, tt, refl))))),
+      ),
+    ),
+  ),
+)
+compared b reserved (h ∷ i ∷ j ∷ k ∷ l ∷ []) = (
+  (Hunt all_ones asked, may, refl),
+  (
+    (Hunt all_ones asked, may, (refl, tt, refl)),
+    (
+      (Hunt all_ones asked, may, (refl, tt, (refl, tt, refl))),
+      (
+        (Hunt all_ones asked, may, (refl, tt, (refl, tt, (refl, tt, refl)))),
+        (
+          (Hunt all_ones asked, may, (refl, tt, (refl, tt, (refl, tt, (refl, tt, refl))))),
+          (Hunt all_ones asked, may, (refl, tt, (refl, tt, (refl, tt, (refl, tt, (refl, tt, refl)))))),
+        ),
+      ),
+    ),
+  ),
+)
+compared b reserved (h ∷ i ∷ j ∷ k ∷ l ∷ m ∷ more) = (
+  (Hunt all_ones asked, may, refl),
+  (
+    (Hunt all_ones asked, may, (refl, tt, refl)),
+    (
+      (Hunt all_ones asked, may, (refl, tt, (refl, tt, refl))),
+      (
+        (Hunt all_ones asked, may, (refl, tt, (refl, tt, (refl, tt, refl)))),
+        (
+          (Hunt all_ones asked, may, (refl, tt, (refl, tt, (refl, tt, (refl, tt, refl))))),
+          ((Hunt all_ones asked, may, (refl, tt, (refl, tt, (refl, tt, (refl, tt, (refl, tt, refl)))))), tt),
+        ),
+      ),
+    ),
+  ),
+)

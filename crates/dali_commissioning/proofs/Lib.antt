@@ -1,6 +1,8 @@
 pub mod Steps
 pub mod Written
 pub mod Asked
+pub mod Standings
+pub mod Tried
 pub mod Lawfully
 pub mod Larger
 pub mod Ran

@@ -58,7 +58,8 @@ abbrev pub OneRun : {S : Type 0} (is_up is_sound : S → Type 0) (holds : S → 
     → Input → S → S → Talk → Talk → Outcome → Type 0
 OneRun is_up is_sound holds block first was keep x y outcome =
     (run : Run) × IsRun is_up is_sound holds block first was keep x y run × (run.ended ≡ outcome.ended)
-    × (run.heard ≡ outcome.heard) × (outcome.committed ≡ has_committed run.steps)
+    × (run.heard ≡ outcome.heard) × (run.found ≡ outcome.found) × (run.tries ≡ outcome.tries)
+    × (outcome.committed ≡ has_committed run.steps)
 
 pub of_block : {S : Type 0} (is_up is_sound : S → Type 0) (holds : S → List Record → Type 0) (a b : Block)
     (first : Input) (was keep : S) (x y : Talk) (outcome : Outcome) → a ≡ b
@@ -104,16 +105,17 @@ pub ran_more : {S : Type 0} (is_up is_sound : S → Type 0) (holds : S → List 
     → OneRun is_up is_sound holds block first mid keep y z outcome
     → outcome.ended ≡ Done AllFound → more ≡ quiet_after quiet outcome.committed
     → HasRun is_up is_sound holds block first was keep x z more (count + 1)
-ran_more is_up is_sound holds block first was mid keep x y z quiet more count outcome so_far (run, is, ends, marks, has) all_found added = record {
-  runs = run ∷ so_far.runs;
-  counted = omega (arith, so_far.counted);
-  are = (mid, y, so_far.are, is);
-  found = (ends ∙ all_found, so_far.found);
-  quiet_runs = subst (λ n. AreQuiet n (run ∷ so_far.runs)) (sym added) (quiet_more quiet outcome.committed run so_far.runs has so_far.quiet_runs);
-  grows = grows_further is_up is_sound holds was mid keep so_far.stays is.stays so_far.grows
-      (commits_grow is_up is_sound holds mid keep (committed_by run.steps) is.commits);
-  stays = stays_further is_up is_sound was mid keep so_far.stays is.stays;
-}
+ran_more is_up is_sound holds block first was mid keep x y z quiet more count outcome so_far (run, is, ends, marks, finds, tried, has) all_found added =
+    record {
+      runs = run ∷ so_far.runs;
+      counted = omega (arith, so_far.counted);
+      are = (mid, y, so_far.are, is);
+      found = (ends ∙ all_found, so_far.found);
+      quiet_runs = subst (λ n. AreQuiet n (run ∷ so_far.runs)) (sym added) (quiet_more quiet outcome.committed run so_far.runs has so_far.quiet_runs);
+      grows = grows_further is_up is_sound holds was mid keep so_far.stays is.stays so_far.grows
+          (commits_grow is_up is_sound holds mid keep (committed_by run.steps) is.commits);
+      stays = stays_further is_up is_sound was mid keep so_far.stays is.stays;
+    }
 
 -- the last run, which ended otherwise
 pub ended_otherwise : {S : Type 0} (is_up is_sound : S → Type 0) (holds : S → List Record → Type 0) (block : Block)
@@ -123,8 +125,8 @@ pub ended_otherwise : {S : Type 0} (is_up is_sound : S → Type 0) (holds : S �
     → (outcome.ended ≡ Done AllFound → ⊥)
     → (runs : List Run) × AreRuns is_up is_sound holds block first was keep x z runs × EndWith outcome.ended runs
     × ComeTo outcome runs × (outcome.ended ≡ Done AllFound → AreQuiet wanted runs)
-ended_otherwise is_up is_sound holds block first was mid keep x y z quiet wanted count outcome so_far (run, is, ends, marks, has) otherwise =
-    (run ∷ so_far.runs, (mid, y, so_far.are, is), (ends, so_far.found), (marks, has), λ found. absurd (otherwise found))
+ended_otherwise is_up is_sound holds block first was mid keep x y z quiet wanted count outcome so_far (run, is, ends, marks, finds, tried, has) otherwise =
+    (run ∷ so_far.runs, (mid, y, so_far.are, is), (ends, so_far.found), (marks, finds, tried, has), λ found. absurd (otherwise found))
 
 -- the last run, after which as many as are wanted were quiet
 pub ended_quiet : {S : Type 0} (is_up is_sound : S → Type 0) (holds : S → List Record → Type 0) (block : Block)
@@ -134,11 +136,11 @@ pub ended_quiet : {S : Type 0} (is_up is_sound : S → Type 0) (holds : S → Li
     → quiet_after quiet outcome.committed ≡ wanted
     → (runs : List Run) × AreRuns is_up is_sound holds block first was keep x z runs × EndWith outcome.ended runs
     × ComeTo outcome runs × (outcome.ended ≡ Done AllFound → AreQuiet wanted runs)
-ended_quiet is_up is_sound holds block first was mid keep x y z quiet wanted count outcome so_far (run, is, ends, marks, has) enough = (
+ended_quiet is_up is_sound holds block first was mid keep x y z quiet wanted count outcome so_far (run, is, ends, marks, finds, tried, has) enough = (
   run ∷ so_far.runs,
   (mid, y, so_far.are, is),
   (ends, so_far.found),
-  (marks, has),
+  (marks, finds, tried, has),
   λ found.
       subst (λ n. AreQuiet n (run ∷ so_far.runs)) enough (quiet_more quiet outcome.committed run so_far.runs has so_far.quiet_runs),
 )
@@ -159,14 +161,24 @@ pub run_of : {S : Type 0} (is_up is_sound : S → Type 0) (holds : S → List Re
     → k ≡ kept_of mid → must_read mid ≡ false → block_of mid ≡ block_of was → Stays is_up is_sound was mid
     → (is_sound was → is_up mid → (xs : List Record) → holds was xs → holds mid xs)
     → m ≡ at_first 0 k → IsAt is_up is_sound holds mid keep m n x y first waiting (order_of outcome.ended) outcome.committed count
-    → outcome.heard ≡ n.heard → OneRun is_up is_sound holds (block_of was) first was keep x y outcome
+    → outcome.heard ≡ n.heard → outcome.found ≡ n.finding → outcome.tries ≡ n.tries
+    → OneRun is_up is_sound holds (block_of was) first was keep x y outcome
 run_of is_up is_sound holds kept_of must_read block_of replay was mid keep m n x y first k waiting outcome count answer is_read block stays same begins at
-    heard = (
-      record { start = k; steps = at.steps; ended = outcome.ended; heard = outcome.heard },
+    heard finds tried = (
+      record {
+        start = k;
+        steps = at.steps;
+        ended = outcome.ended;
+        heard = outcome.heard;
+        found = outcome.found;
+        tries = outcome.tries;
+      },
       record {
         machine = n;
         begun = at.begun;
         marks = heard;
+        finds = finds;
+        tried = tried;
         conducted = subst (λ b. Conducted b n at.steps x y) begins at.conducted;
         last = at.last;
         read = λ sound up xs held.
@@ -175,6 +187,8 @@ run_of is_up is_sound holds kept_of must_read block_of replay was mid keep m n x
         commits = λ sound up xs held. at.commits (stays.sound sound (at.stays.up up)) up xs (same sound (at.stays.up up) xs held);
         stays = stays_further is_up is_sound was mid keep stays at.stays;
       },
+      refl,
+      refl,
       refl,
       refl,
       at.has,

@@ -19,11 +19,10 @@ use Rattle.dali_script.specs.declared.trace.Entry.{Entry}
 use Rattle.dali_script.specs.declared.block.Block.{Block}
 use Rattle.dali_script.specs.Records.{Kept}
 use Rattle.dali_script.specs.Stages.{in_block}
+use Rattle.dali_commissioning.specs.declared.lines.Half.{Half}
 use Rattle.dali_commissioning.specs.declared.lines.Half.TheVariants.{Whole}
 use Rattle.dali_commissioning.specs.declared.census.Reply.{Reply}
 use Rattle.dali_commissioning.specs.declared.census.Reply.TheVariants as reply
-use Rattle.dali_commissioning.specs.declared.census.Standing.{Standing}
-use Rattle.dali_commissioning.specs.declared.census.Standing.TheVariants as standing
 use Rattle.dali_commissioning.specs.Drivers.{Talk}
 use Rattle.dali_commissioning.specs.Lines.{put_text}
 use Rattle.dali_commissioning.specs.Conducted.{Hears}
@@ -62,8 +61,9 @@ AreHeard [] = Unit {0}
 AreHeard (told ∷ before) = (is_some (answer_told told) ≡ true) × AreHeard before
 
 -- a frame is put, and this is told of it
-pub record IsPut (priority : ℕ) (f : Forward) (told : Input) (x y : Talk) : Type 0 where
-  pub wrote : Appends x.written y.written (put_text priority f Whole)
+pub record IsPut (priority : ℕ) (f : Forward) (half : Half) (told : Input)
+    (x y : Talk) : Type 0 where
+  pub wrote : Appends x.written y.written (put_text priority f half)
   pub hears : Hears x y told
 
 -- the frames of a question are put one after the other, as long as each was heard
@@ -74,7 +74,7 @@ IsAsked a (told ∷ before) x y =
     × IsAsked a before x mid
     × AreHeard before
     × (length before < 3)
-    × IsPut (priority_at (length before)) (query_at a (length before)) told mid y
+    × IsPut (priority_at (length before)) (query_at a (length before)) Whole told mid y
 
 -- the frames of a question that were heard, each with what was heard, oldest first
 abbrev pub entries_of : ℕ → List Input → List Entry
@@ -218,13 +218,3 @@ is_silent _ = false
 
 abbrev pub is_addressed : List Reply → Bool
 is_addressed replies = list_any (λ r. not (is_silent r)) replies
-
--- WHERE A GEAR STANDS that records name with this random address, by what was heard of its short
--- address
-abbrev pub standing_of : ℕ → Reply → Standing
-standing_of random reply.Silence = standing.Missing
-standing_of random reply.Noise = standing.Unclear
-standing_of random reply.Unclear = standing.Unclear
-standing_of random (reply.Random heard) =
-    if heard == random then standing.There else standing.Another heard
-standing_of random reply.Several = standing.Several

@@ -1,11 +1,12 @@
-use Rattle.std.specs.Prelude.{◌≡◌, ℕ, zero, suc, ◌+◌, Bool, true, false, List, [], ◌∷◌}
+use Rattle.std.specs.Prelude.{◌≡◌, ◌⊎◌, ℕ, zero, suc, ◌+◌, Bool, true, false, List, [], ◌∷◌}
 use Rattle.std.specs.Prelude.{◌++◌, length, Option, Some, None, if◌then◌else◌}
 use Rattle.dali_script.specs.declared.block.Block.{Block}
 use Rattle.dali_script.specs.declared.records.Record.{Record}
+use Rattle.dali_script.specs.declared.finding.Finding.{Finding}
 use Rattle.dali_script.specs.declared.orders.End.TheVariants.{AllFound}
 use Rattle.dali_script.specs.declared.orders.Input.{Input}
 use Rattle.dali_script.specs.declared.orders.Input.TheVariants.{Start}
-use Rattle.dali_script.specs.Records.{Kept, Assignment}
+use Rattle.dali_script.specs.Records.{Kept, Assignment, without_records}
 use Rattle.dali_script.specs.Stages.{in_block}
 use Rattle.dali_reserve.specs.Store.{IsReplay}
 use Rattle.dali_controller.specs.declared.shorts.Shorts.{Shorts}
@@ -17,18 +18,23 @@ use Rattle.dali_commissioning.specs.declared.census.Reply.{Reply}
 use Rattle.dali_commissioning.specs.declared.beginning.Begun.{Begun}
 use Rattle.dali_commissioning.specs.declared.beginning.Begun.TheVariants as begun
 use Rattle.dali_commissioning.specs.Drivers.{Talk}
-use Rattle.dali_commissioning.specs.Census.{AreCounted, is_addressed}
+use Rattle.dali_commissioning.specs.declared.beginning.Checked.{Checked}
+use Rattle.dali_commissioning.specs.Census.{AreCounted, IsLost, is_addressed}
+use Rattle.dali_commissioning.specs.Unaddressed.{AreLeftOver, AreLostSo}
 use Rattle.dali_commissioning.specs.Steps.{Step, first_told, last_order, committed_by}
 use Rattle.dali_commissioning.specs.Steps.{has_committed}
 use Rattle.dali_commissioning.specs.Conducted.{Conducted, Commits, Stays, order_of}
 
--- A RUN of a machine: the records that its store gave it, its steps, how it ended, and under which
--- short addresses its survey heard somebody whom it does not know.
+-- A RUN of a machine: the records that its store gave it, its steps, how it ended, under which
+-- short addresses its survey heard somebody whom it does not know, the gear that it found last, and
+-- how often in a row its transaction was lost.
 pub record Run : Type 0 where
   pub start : Kept
   pub steps : List Step
   pub ended : Ended
   pub heard : Shorts
+  pub found : Option Finding
+  pub tries : ℕ
 
 -- a run that begins so, from one moment of its store and of the talk with its driver to another
 pub record IsRun {S : Type 0} (is_up is_sound : S → Type 0) (holds : S → List Record → Type 0)
@@ -38,6 +44,8 @@ pub record IsRun {S : Type 0} (is_up is_sound : S → Type 0) (holds : S → Lis
   pub begun : first_told run.steps ≡ Some first
   pub last : last_order run.steps ≡ Some (order_of run.ended)
   pub marks : run.heard ≡ machine.heard
+  pub finds : run.found ≡ machine.finding
+  pub tried : run.tries ≡ machine.tries
   pub read : is_sound was → is_up keep → (xs : List Record) → holds was xs
       → IsReplay block xs run.start
   pub commits : Commits is_up is_sound holds was keep (committed_by run.steps)
@@ -67,7 +75,10 @@ EndWith ended (run ∷ before) = (run.ended ≡ ended) × AreAllFound before
 abbrev pub ComeTo : Outcome → List Run → Type 0
 ComeTo outcome [] = ⊥
 ComeTo outcome (run ∷ before) =
-    (run.heard ≡ outcome.heard) × (outcome.committed ≡ has_committed run.steps)
+    (run.heard ≡ outcome.heard)
+    × (run.found ≡ outcome.found)
+    × (run.tries ≡ outcome.tries)
+    × (outcome.committed ≡ has_committed run.steps)
 
 -- SO MANY RUNS, one after the other, and none of them found any gear more
 abbrev pub HaveRun : {S : Type 0} (is_up is_sound : S → Type 0)
@@ -129,6 +140,27 @@ IsBegun {S = S} is_up is_sound holds block others wanted was keep x y
     × EndWith outcome.ended runs
     × ComeTo outcome runs
     × (outcome.ended ≡ Done AllFound → AreQuiet wanted runs)
+
+-- WHAT A CHECK FOUND: all short addresses were asked, but those in the blocks of other controllers,
+-- and then gear that have none. The store has what it had.
+pub record IsChecked {S : Type 0} (is_up is_sound : S → Type 0) (holds : S → List Record → Type 0)
+    (block : Block) (others : List Block) (was keep : S) (x y : Talk) (found : Checked)
+    : Type 0 where
+  pub read : IsRead is_up is_sound holds block was keep found.kept
+  pub at : Talk
+  pub counted : AreCounted (without_records block) others 0 found.replies.items x at
+  pub all : length found.replies.items ≡ 64
+  pub unaddressed : AreLeftOver found.has_unaddressed at y
+
+-- a question of a check was given up
+abbrev pub IsCheckLost : Block → List Block → Talk → Talk → Type 0
+IsCheckLost block others x y =
+    IsLost (without_records block) others x y
+    ⊎ ((replies : List Reply)
+    × (at : Talk)
+    × AreCounted (without_records block) others 0 replies x at
+    × (length replies ≡ 64)
+    × AreLostSo at y)
 
 -- the first reserved short address outside of a block
 abbrev pub outside : Block → List Assignment → Option ℕ

@@ -1,17 +1,18 @@
 //! What comes first: the records are read, and the gear are asked that no record names.
 
-ghost use Rattle.std.specs.Prelude.{◌≡◌, ◌≢◌, ◌<◌, length, Err, IfOk, IfErr};
-ghost use Rattle.dali_script.specs.Records.{Kept, without_records};
+ghost use Rattle.std.specs.Prelude.{◌≡◌, ◌≢◌, ◌<◌, Err, IfOk, IfErr};
+ghost use Rattle.dali_script.specs.Records.{Kept};
 ghost use Rattle.dali_commissioning.specs.Drivers.{talk_of};
-ghost use Rattle.dali_commissioning.specs.Census.{AreCounted, IsLost};
+ghost use Rattle.dali_commissioning.specs.Census.{IsLost};
 ghost use Rattle.dali_commissioning.specs.Conducted.{Stays};
-ghost use Rattle.dali_commissioning.specs.Runs.{IsRead, IsBegun, Grows, outside};
+ghost use Rattle.dali_commissioning.specs.Runs.{IsRead, IsBegun, IsChecked, IsCheckLost, Grows, outside};
 
 use crate::census::{Reply, is_addressed, take_census};
 use crate::conducting::Outcome;
 use crate::driver::Driver;
 use crate::fault::CommissionFault;
 use crate::runs::commission;
+use crate::unaddressed::has_unaddressed;
 use crate::watch::Watch;
 use arrayvec::ArrayVec;
 use dali_frame::Short;
@@ -78,25 +79,36 @@ pub fn begin<K: Keep, R: Read, W: Write, P: Watch>(
     }
 }
 
-/// The records, and what is heard of each short address outside of the blocks of other controllers, from 0 on. Nothing
-/// is committed, and no address given.
+/// What a check found: the records, what is heard of each short address, from 0 on, and whether gear are there that
+/// have none.
+#[derive(Drop)]
+pub struct Checked {
+    pub kept: Kept,
+    pub replies: ArrayVec<Reply, 64>,
+    pub has_unaddressed: bool,
+}
+
+/// The records, what is heard of each short address outside of the blocks of other controllers, and whether gear
+/// without short address are there. Nothing is committed, and no address given.
 pub fn check<K: Keep, R: Read, W: Write>(
     keep: &mut K,
     driver: &mut Driver<R, W>,
     others: &[Block],
-) -> Result<(Kept, ArrayVec<Reply, 64>), CommissionFault>
-    ensures read { IfOk result (λ found. IsRead K.is_up K.is_sound K.holds (K.block keep.old) keep.old keep.new
-        found.0) }
-    ensures counted { IfOk result (λ found. AreCounted (without_records (K.block keep.old)) others.now 0 found.1.items
+) -> Result<Checked, CommissionFault>
+    ensures checked { IfOk result (IsChecked K.is_up K.is_sound K.holds (K.block keep.old) others.now keep.old keep.new
         (talk_of R.remaining W.contents driver.old) (talk_of R.remaining W.contents driver.new)) }
-    ensures all { IfOk result (λ found. length found.1.items ≡ 64) }
-    ensures lost { result ≡ Err CommissionFault.QuestionLost → IsLost (without_records (K.block keep.old)) others.now
+    ensures lost { result ≡ Err CommissionFault.QuestionLost → IsCheckLost (K.block keep.old) others.now
         (talk_of R.remaining W.contents driver.old) (talk_of R.remaining W.contents driver.new) }
     ensures left { IfErr result (λ _. Grows K.is_up K.is_sound K.holds keep.old keep.new) }
 {
     let kept = records(keep)?;
     let replies = take_census(driver, &Kept::new(kept.block()), others)?;
-    Ok((kept, replies))
+    let has_unaddressed = has_unaddressed(driver)?;
+    Ok(Checked {
+        kept,
+        replies,
+        has_unaddressed,
+    })
 }
 
 /// The first short address that is reserved and lies outside of a block.

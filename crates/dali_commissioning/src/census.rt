@@ -5,12 +5,13 @@ ghost use Rattle.std.specs.List.{list_any};
 ghost use Rattle.dali_script.specs.declared.orders.Input.{Input};
 ghost use Rattle.dali_special.specs.declared.command.Command.TheVariants.{RandomByte};
 ghost use Rattle.dali_special.specs.Command.{frame_of};
+ghost use Rattle.dali_commissioning.specs.declared.lines.Half.TheVariants as half;
 ghost use Rattle.dali_commissioning.specs.Drivers.{talk_of};
 ghost use Rattle.dali_commissioning.specs.Census.{IsPut, answer_told, IsAsked, reply_of, reply_told};
 ghost use Rattle.dali_commissioning.specs.Census.{is_byte, is_silence, without_number};
 ghost use Rattle.dali_commissioning.specs.Census.{joined, joined_if, one_if, lost_after};
 ghost use Rattle.dali_commissioning.specs.Census.{IsAnswered, IsGivenUp, is_named, IsCounted, AreCounted, IsLost};
-ghost use Rattle.dali_commissioning.specs.Census.{is_known, is_silent, is_addressed, standing_of};
+ghost use Rattle.dali_commissioning.specs.Census.{is_known, is_silent, is_addressed};
 ghost use Rattle.dali_script.specs.Stages.{in_block};
 
 use crate::driver::{Driver, DriverFault};
@@ -41,21 +42,6 @@ pub enum Reply {
     /// This random address was heard, and no other.
     Random(Random24),
     /// Two different random addresses were heard: several gear have the short address.
-    Several,
-}
-
-/// Where a gear stands that records name.
-#[derive(Clone, Copy, PartialEq, Eq)]
-pub enum Standing {
-    /// It answers.
-    There,
-    /// Nobody answers to its short address.
-    Missing,
-    /// A gear with this random address answers to its short address.
-    Another(Random24),
-    /// Something answers that spells no random address: several gear together, or the bus is disturbed.
-    Unclear,
-    /// Several gear answer.
     Several,
 }
 
@@ -167,7 +153,7 @@ fn byte<R: Read, W: Write>(
     short: Short,
     part: Part,
 ) -> Result<Option<Answer>, DriverFault>
-    ensures { IfOk result (λ heard. (told : Input) × IsPut priority (frame_of (RandomByte short part)) told
+    ensures { IfOk result (λ heard. (told : Input) × IsPut priority (frame_of (RandomByte short part)) half.Whole told
         (talk_of R.remaining W.contents driver.old) (talk_of R.remaining W.contents driver.new)
         × (heard ≡ answer_told told)) }
 {
@@ -255,7 +241,8 @@ fn is_in(block: Block, short: Short) -> bool
     block.first <= short && short <= block.last
 }
 
-fn has_block(blocks: &[Block], short: Short) -> bool
+/// Whether a short address lies in one of some blocks.
+pub(crate) fn has_block(blocks: &[Block], short: Short) -> bool
     ensures { result ≡ list_any (λ b. in_block b short) blocks.now }
 {
     blocks.iter().any(|block| is_in(*block, short))
@@ -313,7 +300,7 @@ pub fn take_census<R: Read, W: Write>(
     Ok(replies)
 }
 
-fn is_silent(reply: Reply) -> bool
+pub(crate) fn is_silent(reply: Reply) -> bool
     ensures { result ≡ is_silent reply }
 {
     match reply {
@@ -327,22 +314,4 @@ pub fn is_addressed(replies: &[Reply]) -> bool
     ensures { result ≡ is_addressed replies.now }
 {
     replies.iter().any(|reply| !is_silent(*reply))
-}
-
-/// Where a gear stands that records name with this random address, by what was heard of its short address.
-pub fn stands(random: Random24, reply: Reply) -> Standing
-    ensures { result ≡ standing_of random reply }
-{
-    match reply {
-        Reply::Silence => Standing::Missing,
-        Reply::Noise | Reply::Unclear => Standing::Unclear,
-        Reply::Random(heard) => {
-            if heard == random {
-                Standing::There
-            } else {
-                Standing::Another(heard)
-            }
-        }
-        Reply::Several => Standing::Several,
-    }
 }

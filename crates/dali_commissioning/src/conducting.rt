@@ -21,7 +21,7 @@ use crate::watch::Watch;
 use dali_controller::{Machine, Shorts};
 use dali_frame::{Forward, Priority};
 use dali_reserve::{Keep, KeepError};
-use dali_script::{End, Fault, Input, Order, Record};
+use dali_script::{End, Fault, Finding, Input, Order, Record};
 use dali_special::Command;
 use std::io::{Read, Write};
 
@@ -40,6 +40,10 @@ pub struct Outcome {
     pub committed: bool,
     /// The short addresses under which its survey heard somebody whose random address it does not know.
     pub heard: Shorts,
+    /// The gear that it found last: where it halted by a conflict, the one that contradicts its table.
+    pub found: Option<Finding>,
+    /// How often in a row its transaction was lost: 8 where it gave up for that.
+    pub tries: u8,
 }
 
 /// Which frame of a pair a frame is, where this first one of a pair was heard right before it.
@@ -226,6 +230,8 @@ pub fn conduct<K: Keep, R: Read, W: Write, P: Watch>(
         (talk_of R.remaining W.contents driver.old) (talk_of R.remaining W.contents driver.new)
         start waiting (order_of outcome.ended) outcome.committed count) }
     ensures heard { IfOk result (λ outcome. outcome.heard ≡ machine.new.heard) }
+    ensures found { IfOk result (λ outcome. outcome.found ≡ machine.new.finding) }
+    ensures tries { IfOk result (λ outcome. outcome.tries ≡ machine.new.tries) }
     ensures spent { result ≡ Err CommissionFault.StepsSpent → HasTaken machine.old machine.new (steps + 1) }
     ensures fault { IfErr result (λ _. IsLeft K.is_up K.is_sound K.holds keep.old keep.new machine.old machine.new) }
     ensures one_run { result ≢ Err CommissionFault.RunsSpent }
@@ -243,10 +249,13 @@ pub fn conduct<K: Keep, R: Read, W: Write, P: Watch>(
                 ended,
                 committed,
                 heard: machine.heard(),
+                found: machine.finding(),
+                tries: machine.tries(),
             });
         }
         match answer(keep, driver, &mut waiting, &order) {
             Ok(told) => {
+                watch.told(told);
                 committed |= is_kept(told);
                 order = step(machine, told);
             }

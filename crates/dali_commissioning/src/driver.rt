@@ -1,11 +1,12 @@
 //! A driver that stands beside the program: one line is written to it for each frame, and one is read from it that
 //! tells what came of the frame.
 
-ghost use Rattle.std.specs.Prelude.{◌≡◌};
+ghost use Rattle.std.specs.Prelude.{◌≡◌, ◌≢◌};
+ghost use Rattle.dali_commissioning.specs.Drivers.{is_answer};
 
 use crate::lines::{Half, push_put, told_of};
 use arrayvec::ArrayVec;
-use dali_frame::{Forward, Priority};
+use dali_frame::{Answer, Forward, Priority};
 use dali_script::Input;
 use std::alloc::{AllocError, Global};
 use std::error::Error;
@@ -63,15 +64,34 @@ impl From<AllocError> for DriverFault {
     }
 }
 
+/// Whether this tells that a gear was heard, clean or damaged.
+fn is_answer(told: Input) -> bool
+    ensures { result ≡ is_answer told }
+{
+    match told {
+        Input::Heard(Answer::Byte(_) | Answer::Damaged) => true,
+        Input::Heard(Answer::Silence)
+        | Input::Start
+        | Input::Survey
+        | Input::Destroyed
+        | Input::Lapsed
+        | Input::Committed
+        | Input::CommitFailed => false,
+    }
+}
+
 /// A driver, by what is read from it and written to it.
 ///
-/// Contracts see both, and how many lines were begun to be read from it.
+/// Contracts see both, how many lines were begun to be read from it, the one that was read last, and whether any gear
+/// was heard.
 pub struct Driver<R, W> {
     reader: R,
     writer: W,
     /// Where a line is made.
     text: String,
     lines: u64,
+    line: ArrayVec<u8, 16>,
+    has_heard: bool,
 }
 
 impl<R: Drop, W: Drop> Drop for Driver<R, W> {
@@ -81,29 +101,36 @@ impl<R: Drop, W: Drop> Drop for Driver<R, W> {
             writer: _,
             text: _,
             lines: _,
+            line: _,
+            has_heard: _,
         } = self;
     }
 }
 
 impl<R: Read, W: Write> Driver<R, W> {
-    ghost use Rattle.std.specs.Prelude.{◌++◌, [], ◌∷◌, true, OnOk, IfOk};
+    ghost use Rattle.std.specs.Prelude.{◌++◌, [], ◌∷◌, ◌||◌, true, false, None, Err, OnOk, IfOk};
     ghost use Rattle.std.specs.Io.KnownBytes.{Appends, Consumes};
     ghost use Rattle.dali_script.specs.Due.{accepts};
     ghost use Rattle.dali_script.specs.declared.orders.Due.TheVariants as due;
     ghost use Rattle.dali_commissioning.specs.Lines.{told_of, Tells, put_text};
-    ghost use Rattle.dali_commissioning.specs.Drivers.{reader_of, writer_of, lines_of, next_line};
+    ghost use Rattle.dali_commissioning.specs.Drivers.{reader_of, writer_of, lines_of, next_line, line_of};
+    ghost use Rattle.dali_commissioning.specs.Drivers.{has_heard, is_answer};
+    ghost use Rattle.dali_commissioning.specs.declared.driver.DriverFault.TheVariants.{BadLine};
 
     /// A driver of which no line was read. What it writes is read by `reader`, and it reads what `writer` writes.
     pub fn new(alloc: Global, reader: R, writer: W) -> Driver<R, W>
         ensures reader { reader_of result ≡ reader }
         ensures writer { writer_of result ≡ writer }
         ensures lines { lines_of result ≡ 0 }
+        ensures unheard { has_heard result ≡ false }
     {
         Driver {
             reader,
             writer,
             text: String::new(alloc),
             lines: 0,
+            line: ArrayVec::new(),
+            has_heard: false,
         }
     }
 
@@ -115,27 +142,43 @@ impl<R: Read, W: Write> Driver<R, W> {
         self.lines
     }
 
+    /// The line that was read last, without its line feed: where one is refused, that one, as far as it was read.
+    pub fn line(&self) -> &[u8]
+        ensures { result.now ≡ line_of self.now }
+    {
+        self.line.as_slice()
+    }
+
+    /// Whether any gear was heard: an answer was told, clean or damaged.
+    pub fn has_heard(&self) -> bool
+        ensures { result ≡ has_heard self.now }
+    {
+        self.has_heard
+    }
+
     /// A line of the driver, without its line feed. It is read a byte at a time, so that nothing behind it is taken.
-    fn read_line(&mut self) -> Result<ArrayVec<u8, 16>, DriverFault>
-        ensures line { IfOk result (λ line. Consumes (R.remaining (reader_of self.old))
-            (R.remaining (reader_of self.new)) (line.items ++ 10 ∷ [])) }
+    fn read_line(&mut self) -> Result<(), DriverFault>
+        ensures line { OnOk result (Consumes (R.remaining (reader_of self.old))
+            (R.remaining (reader_of self.new)) (line_of self.new ++ 10 ∷ [])) }
         ensures writer { writer_of self.new ≡ writer_of self.old }
         ensures lines { lines_of self.new ≡ next_line (lines_of self.old) }
+        ensures heard { has_heard self.new ≡ has_heard self.old }
+        ensures not_bad { result ≢ Err BadLine }
     {
         self.lines = self.lines.saturating_add(1);
-        let mut line = ArrayVec::new();
+        self.line.clear();
         for _ in 0..17u8 {
             let mut byte = [0u8; 1];
             match self.reader.read(&mut byte) {
-                Ok(0) if line.is_empty() => return Err(DriverFault::Ended),
+                Ok(0) if self.line.is_empty() => return Err(DriverFault::Ended),
                 Ok(0) => return Err(DriverFault::TornLine),
                 Ok(_) => {}
                 Err(_) => return Err(DriverFault::Read),
             }
             if byte[0] == b'\n' {
-                return Ok(line);
+                return Ok(());
             }
-            if line.try_push(byte[0]).is_err() {
+            if self.line.try_push(byte[0]).is_err() {
                 return Err(DriverFault::LongLine);
             }
         }
@@ -148,17 +191,22 @@ impl<R: Read, W: Write> Driver<R, W> {
         ensures of_bus { IfOk result (λ told. accepts due.Bus told ≡ true) }
         ensures writer { writer_of self.new ≡ writer_of self.old }
         ensures lines { lines_of self.new ≡ next_line (lines_of self.old) }
+        ensures heard { IfOk result (λ told. has_heard self.new ≡ has_heard self.old || is_answer told) }
+        ensures bad { result ≡ Err BadLine → told_of (line_of self.new) ≡ None }
     {
-        let line = self.read_line()?;
-        match told_of(line.as_slice()) {
-            Some(told) => Ok(told),
+        self.read_line()?;
+        match told_of(self.line.as_slice()) {
+            Some(told) => {
+                self.has_heard = self.has_heard || is_answer(told);
+                Ok(told)
+            }
             None => Err(DriverFault::BadLine),
         }
     }
 
-    /// Writes the line of a frame.
+    /// Writes the line of a frame, and reads nothing: what comes of it is learned by nobody.
     #[tactic(auto, using(crate::proofs::Written::appends_kept))]
-    fn write_put(
+    pub fn announce(
         &mut self,
         priority: Priority,
         frame: Forward,
@@ -168,6 +216,8 @@ impl<R: Read, W: Write> Driver<R, W> {
             (put_text priority frame half)) }
         ensures reader { reader_of self.new ≡ reader_of self.old }
         ensures lines { lines_of self.new ≡ lines_of self.old }
+        ensures heard { has_heard self.new ≡ has_heard self.old }
+        ensures not_bad { result ≢ Err BadLine }
     {
         self.text.clear();
         push_put(&mut self.text, priority, frame, half)?;
@@ -191,8 +241,10 @@ impl<R: Read, W: Write> Driver<R, W> {
         ensures told { IfOk result (Tells (R.remaining (reader_of self.old)) (R.remaining (reader_of self.new))) }
         ensures of_bus { IfOk result (λ told. accepts due.Bus told ≡ true) }
         ensures lines { IfOk result (λ _. lines_of self.new ≡ next_line (lines_of self.old)) }
+        ensures heard { IfOk result (λ told. has_heard self.new ≡ has_heard self.old || is_answer told) }
+        ensures bad { result ≡ Err BadLine → told_of (line_of self.new) ≡ None }
     {
-        self.write_put(priority, frame, half)?;
+        self.announce(priority, frame, half)?;
         self.read_told()
     }
 }

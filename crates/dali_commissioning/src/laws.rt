@@ -1,6 +1,6 @@
 //! What follows from the contracts of this crate, in its words. Programs don't call these.
 
-ghost use Rattle.std.specs.Prelude.{◌≡◌, ℕ, ◌<◌, ◌≤◌, true, Some, List, length};
+ghost use Rattle.std.specs.Prelude.{◌≡◌, ℕ, ◌<◌, ◌≤◌, true, Some, List, [], length};
 ghost use Rattle.dali_frame.specs.declared.frames.Forward.{Forward};
 ghost use Rattle.dali_script.specs.Due.{accepts};
 ghost use Rattle.dali_script.specs.declared.orders.Due.TheVariants as due;
@@ -13,6 +13,8 @@ ghost use Rattle.dali_reserve.specs.Store.{IsReplay};
 ghost use Rattle.dali_commissioning.specs.declared.lines.Half.{Half};
 ghost use Rattle.dali_commissioning.specs.Lines.{put_text, Says, told_text, told_of, IsByte};
 ghost use Rattle.dali_commissioning.specs.Census.{AreHeard, entries_of, query_at};
+ghost use Rattle.dali_commissioning.specs.Unaddressed.{waking, comparing, ending, AreLawful};
+ghost use Rattle.dali_frame.specs.declared.frames.Answer.{Answer};
 
 use dali_frame::laws::frames_are_spelled;
 
@@ -22,6 +24,18 @@ use dali_frame::laws::frames_are_spelled;
 pub fn questions_are_lawful()
     ensures { (b : Block) (reserved : List Assignment) (a : ℕ) (told : List Input) → a < 64 → AreHeard told
         → length told < 3 → Lawful b reserved (entries_of a told) (query_at a (length told)) }
+{}
+
+/// The frames by which gear without short address are asked are three transactions that every controller may send,
+/// whatever was heard: none of them gives an address, draws a number or withdraws a gear.
+#[tactic(auto, using(crate::proofs::Lawfully::ended))]
+pub fn asking_for_the_unaddressed_is_lawful()
+    ensures woken { (b : Block) (reserved : List Assignment) (heard : List Answer)
+        → AreLawful b reserved [] waking heard }
+    ensures compared { (b : Block) (reserved : List Assignment) (heard : List Answer)
+        → AreLawful b reserved [] comparing heard }
+    ensures ended { (b : Block) (reserved : List Assignment) (heard : List Answer)
+        → AreLawful b reserved [] ending heard }
 {}
 
 /// The records of a controller are records of every larger block: whatever it committed with the smaller one, it might

@@ -1,7 +1,10 @@
-ghost use Rattle.std.specs.Prelude.{◌≡◌, ◌*◌, IfOk};
+ghost use Rattle.std.specs.Prelude.{◌≡◌, ◌*◌, IfOk, OnOk};
+ghost use Rattle.std.specs.Io.KnownBytes.{Appends};
 ghost use Rattle.dali_script.specs.declared.orders.Input.{Input};
 ghost use Rattle.dali_special.specs.Command.{frame};
-ghost use Rattle.dali_commissioning.specs.Drivers.{talk_of};
+ghost use Rattle.dali_commissioning.specs.declared.lines.Half.TheVariants as half;
+ghost use Rattle.dali_commissioning.specs.Drivers.{talk_of, writer_of};
+ghost use Rattle.dali_commissioning.specs.Lines.{put_text};
 ghost use Rattle.dali_commissioning.specs.Census.{IsPut, is_sent};
 
 use crate::driver::{Driver, DriverFault};
@@ -25,6 +28,17 @@ fn is_sent(told: Input) -> bool
     }
 }
 
+/// The frame of direct arc power.
+fn arc_power(short: Short, level: u8) -> Forward
+    ensures { result ≡ frame (2 * short) level }
+{
+    let address_byte = 2 * short.number();
+    Forward {
+        address_byte,
+        opcode_byte: level,
+    }
+}
+
 /// Sets the light of the gear with a short address, by a frame of direct arc power: 0 is off, 254 the most, 255 (MASK)
 /// leaves it as it is. Answers whether the frame was sent whole.
 ///
@@ -34,15 +48,22 @@ pub fn light<R: Read, W: Write>(
     short: Short,
     level: u8,
 ) -> Result<bool, DriverFault>
-    ensures { IfOk result (λ sent. (told : Input) × IsPut 2 (frame (2 * short) level) told
+    ensures { IfOk result (λ sent. (told : Input) × IsPut 2 (frame (2 * short) level) half.Whole told
         (talk_of R.remaining W.contents driver.old) (talk_of R.remaining W.contents driver.new)
         × (sent ≡ is_sent told)) }
 {
-    let address_byte = 2 * short.number();
-    let arc = Forward {
-        address_byte,
-        opcode_byte: level,
-    };
-    let told = driver.exchange(Priority::ARC, arc, Half::Whole)?;
+    let told = driver.exchange(Priority::ARC, arc_power(short, level), Half::Whole)?;
     Ok(is_sent(told))
+}
+
+/// Writes the line of the same frame, and reads nothing: for the end, where the driver tells no more.
+pub fn light_at_last<R: Read, W: Write>(
+    driver: &mut Driver<R, W>,
+    short: Short,
+    level: u8,
+) -> Result<(), DriverFault>
+    ensures { OnOk result (Appends (W.contents (writer_of driver.old)) (W.contents (writer_of driver.new))
+        (put_text 2 (frame (2 * short) level) half.Whole)) }
+{
+    driver.announce(Priority::ARC, arc_power(short, level), Half::Whole)
 }

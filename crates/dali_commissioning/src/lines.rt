@@ -26,7 +26,7 @@ pub enum Half {
 }
 
 /// Whether a backward frame is awaited after a frame of this command.
-fn is_question(command: Command) -> bool
+pub(crate) fn is_question(command: Command) -> bool
     ensures { result ≡ is_question command }
 {
     match command {

@@ -49,7 +49,8 @@ fn run<K: Keep, R: Read, W: Write, P: Watch>(
     requires begins { accepts due.Start start ≡ true }
     ensures ran { IfOk result (λ outcome. (run : Run) × IsRun K.is_up K.is_sound K.holds (K.block keep.old) start
         keep.old keep.new (talk_of R.remaining W.contents driver.old) (talk_of R.remaining W.contents driver.new) run
-        × (run.ended ≡ outcome.ended) × (run.heard ≡ outcome.heard) × (outcome.committed ≡ has_committed run.steps)) }
+        × (run.ended ≡ outcome.ended) × (run.heard ≡ outcome.heard) × (run.found ≡ outcome.found)
+        × (run.tries ≡ outcome.tries) × (outcome.committed ≡ has_committed run.steps)) }
     ensures left { IfErr result (λ _. Grows K.is_up K.is_sound K.holds keep.old keep.new) }
     ensures stays { Stays K.is_up K.is_sound keep.old keep.new }
     ensures block { K.block keep.new ≡ K.block keep.old }

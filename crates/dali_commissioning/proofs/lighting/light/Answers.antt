@@ -1,6 +1,5 @@
 use Rattle.std.proofs.Common.{◌*◌, subst}
 use Rattle.std.specs.Io.KnownBytes.{Appends}
-use Rattle.dali_special.specs.Command.{frame}
 use Rattle.dali_commissioning.specs.declared.lines.Half.TheVariants.{Whole}
 use Rattle.dali_commissioning.specs.Drivers.{writer_of}
 use Rattle.dali_commissioning.specs.Lines.{put_text}
@@ -11,9 +10,9 @@ pub returns : goal.returns
 returns g c = (
   c.in_ok-told.told,
   record {
-    wrote = subst (λ n. Appends (g.W.Write.contents (writer_of c.args.driver.now))
-        (g.W.Write.contents (writer_of c.exchange.new.self)) (put_text 2 (frame (2 * n) c.args.level) Whole))
-        c.number-address_byte.ensures.value c.in_ok-told.ensures.wrote;
+    wrote = subst (λ f. Appends (g.W.Write.contents (writer_of c.args.driver.now))
+        (g.W.Write.contents (writer_of c.exchange.new.self)) (put_text 2 f Whole))
+        c.arc_power.ensures c.in_ok-told.ensures.wrote;
     hears = line_told _ _ c.in_ok-told.told c.in_ok-told.ensures.of_bus c.in_ok-told.ensures.told;
   },
   c.is_sent.ensures,

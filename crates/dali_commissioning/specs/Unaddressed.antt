@@ -1,0 +1,116 @@
+use Rattle.std.specs.Prelude.{◌≡◌, ◌⊎◌, ℕ, Bool, true, false, ◌||◌, List, [], ◌∷◌, ◌++◌}
+use Rattle.std.specs.Prelude.{Option, Some, None, length}
+use Rattle.dali_frame.specs.declared.frames.Answer.{Answer}
+use Rattle.dali_frame.specs.declared.frames.Answer.TheVariants.{Silence, Byte, Damaged}
+use Rattle.dali_special.specs.declared.command.Target.TheVariants.{Unaddressed}
+use Rattle.dali_special.specs.declared.command.Command.{Command}
+use Rattle.dali_special.specs.declared.command.Command.TheVariants.{Terminate, Initialise}
+use Rattle.dali_special.specs.declared.command.Command.TheVariants.{Compare}
+use Rattle.dali_special.specs.declared.command.Command.TheVariants.{SearchHigh, SearchMiddle}
+use Rattle.dali_special.specs.declared.command.Command.TheVariants.{SearchLow}
+use Rattle.dali_special.specs.Command.{frame_of}
+use Rattle.dali_script.specs.declared.block.Block.{Block}
+use Rattle.dali_script.specs.declared.trace.Entry.{Entry}
+use Rattle.dali_script.specs.declared.orders.Input.{Input}
+use Rattle.dali_script.specs.Records.{Assignment}
+use Rattle.dali_script.specs.Scripts.{Lawful}
+use Rattle.dali_commissioning.specs.declared.lines.Half.{Half}
+use Rattle.dali_commissioning.specs.declared.lines.Half.TheVariants.{Whole, First, Second}
+use Rattle.dali_commissioning.specs.declared.unaddressed.Putting.{Putting}
+use Rattle.dali_commissioning.specs.Drivers.{Talk}
+use Rattle.dali_commissioning.specs.Census.{IsPut, is_sent, answer_told}
+
+-- GEAR WITHOUT SHORT ADDRESS ARE ASKED by three transactions: they are woken, as a survey wakes
+-- them; they are asked three times under FFFFFF, which no number is above; and the initialisation
+-- is ended (IEC 62386-102:2014, TERMINATE, INITIALISE, SEARCHADDRH, SEARCHADDRM, SEARCHADDRL,
+-- COMPARE).
+abbrev pub waking : List Command
+waking = Terminate ∷ Initialise Unaddressed ∷ Initialise Unaddressed ∷ []
+
+abbrev pub comparing : List Command
+comparing =
+    SearchHigh 255 ∷ SearchLow 255 ∷ SearchMiddle 255 ∷ Compare ∷ Compare ∷ Compare ∷ []
+
+abbrev pub ending : List Command
+ending = Terminate ∷ []
+
+-- how each is put: its priority, its half of a pair, and whether it asks
+abbrev pub put_so : ℕ → Command → Half → Bool → Putting
+put_so p c half asks = record { priority = p; frame = frame_of c; half = half; asks = asks }
+
+abbrev pub asking : List Putting
+asking =
+    put_so 3 Terminate Whole false
+    ∷ put_so 1 (Initialise Unaddressed) First false
+    ∷ put_so 1 (Initialise Unaddressed) Second false
+    ∷ put_so 3 (SearchHigh 255) Whole false
+    ∷ put_so 1 (SearchLow 255) Whole false
+    ∷ put_so 1 (SearchMiddle 255) Whole false
+    ∷ put_so 1 Compare Whole true
+    ∷ put_so 1 Compare Whole true
+    ∷ put_so 1 Compare Whole true
+    ∷ put_so 3 Terminate Whole false ∷ []
+
+abbrev pub IsPutSo : Putting → Input → Talk → Talk → Type 0
+IsPutSo p told x y = IsPut p.priority p.frame p.half told x y
+
+-- these frames are put one after the other, as long as each was heard
+abbrev pub ArePut : List Putting → List Input → Talk → Talk → Type 0
+ArePut puttings [] x y = y ≡ x
+ArePut [] (told ∷ more) x y = ⊥
+ArePut (p ∷ puttings) (told ∷ more) x y =
+    (mid : Talk)
+    × IsPutSo p told x mid
+    × ((is_sent told ≡ true) ⊎ (more ≡ []))
+    × ArePut puttings more mid y
+
+-- whether somebody was heard; none where a frame was lost
+abbrev pub is_yes : Bool → Answer → Bool
+is_yes asks Silence = false
+is_yes asks (Byte byte) = asks
+is_yes asks Damaged = asks
+
+abbrev pub joined_yes : Bool → Option Bool → Option Bool
+joined_yes here (Some found) = Some (here || found)
+joined_yes here None = None
+
+abbrev pub found_at : Bool → Option Answer → Option Bool → Option Bool
+found_at asks (Some h) later = joined_yes (is_yes asks h) later
+found_at asks None later = None
+
+abbrev pub found_by : List Putting → List Input → Option Bool
+found_by [] told = Some false
+found_by (p ∷ puttings) [] = None
+found_by (p ∷ puttings) (told ∷ more) =
+    found_at p.asks (answer_told told) (found_by puttings more)
+
+-- all of it was tried so often, last first, and each time a frame was lost
+abbrev pub AreTried : List (List Input) → Talk → Talk → Type 0
+AreTried [] x y = y ≡ x
+AreTried (told ∷ before) x y =
+    (mid : Talk)
+    × AreTried before x mid
+    × ArePut asking told mid y
+    × (found_by asking told ≡ None)
+
+-- ASKED TO THE END: whether somebody was heard.
+abbrev pub AreLeftOver : Bool → Talk → Talk → Type 0
+AreLeftOver found x y =
+    (before : List (List Input))
+    × (told : List Input)
+    × (mid : Talk)
+    × AreTried before x mid
+    × ArePut asking told mid y
+    × (found_by asking told ≡ Some found)
+
+-- GIVEN UP after eight times.
+abbrev pub AreLostSo : Talk → Talk → Type 0
+AreLostSo x y = (tried : List (List Input)) × AreTried tried x y × (length tried ≡ 8)
+
+-- each of these frames may follow those before it, whatever was heard after them, for every sender
+abbrev pub AreLawful : Block → List Assignment → List Entry → List Command → List Answer → Type 0
+AreLawful b reserved before [] heard = Unit {0}
+AreLawful b reserved before (c ∷ cs) [] = Lawful b reserved before (frame_of c)
+AreLawful b reserved before (c ∷ cs) (h ∷ hs) =
+    Lawful b reserved before (frame_of c)
+    × AreLawful b reserved (before ++ (record { frame = frame_of c; heard = h }) ∷ []) cs hs

@@ -1,0 +1,153 @@
+//! Gear without short address: whether there is any.
+
+ghost use Rattle.std.specs.Prelude.{◌≡◌, ◌||◌, List, Some, Err, IfOk};
+ghost use Rattle.dali_frame.specs.declared.frames.Answer.{Answer};
+ghost use Rattle.dali_script.specs.declared.orders.Input.{Input};
+ghost use Rattle.dali_commissioning.specs.Census.{answer_told};
+ghost use Rattle.dali_commissioning.specs.Drivers.{talk_of};
+ghost use Rattle.dali_commissioning.specs.Unaddressed.{put_so, is_yes, joined_yes, IsPutSo, ArePut, found_by, asking};
+ghost use Rattle.dali_commissioning.specs.Unaddressed.{AreLeftOver, AreLostSo};
+
+use crate::driver::{Driver, DriverFault};
+use crate::fault::CommissionFault;
+use crate::lines::Half;
+use dali_frame::{Answer, Forward, Priority};
+use dali_script::Input;
+use dali_special::{Command, Target};
+use std::io::{Read, Write};
+
+/// How often in a row the frames may be lost.
+const LOST: u8 = 8;
+
+/// A frame that is put, and how.
+#[derive(Clone, Copy)]
+pub struct Putting {
+    pub priority: Priority,
+    pub frame: Forward,
+    pub half: Half,
+    /// Whether it asks if anybody is there.
+    pub asks: bool,
+}
+
+fn put_so(priority: Priority, command: Command, half: Half, asks: bool) -> Putting
+    ensures { result ≡ put_so priority command half asks }
+{
+    Putting {
+        priority,
+        frame: command.write(),
+        half,
+        asks,
+    }
+}
+
+/// The frames that ask: gear without short address are woken, as a survey wakes them; they are asked three times under
+/// `FFFFFF`, which no number of a gear is above; and the initialisation is ended.
+fn asking() -> [Putting; 10]
+    ensures { result ≡ asking }
+{
+    let (first, later) = (Priority::FIRST, Priority::LATER);
+    [
+        put_so(first, Command::Terminate, Half::Whole, false),
+        put_so(
+            later,
+            Command::Initialise(Target::Unaddressed),
+            Half::First,
+            false,
+        ),
+        put_so(
+            later,
+            Command::Initialise(Target::Unaddressed),
+            Half::Second,
+            false,
+        ),
+        put_so(first, Command::SearchHigh(0xFF), Half::Whole, false),
+        put_so(later, Command::SearchLow(0xFF), Half::Whole, false),
+        put_so(later, Command::SearchMiddle(0xFF), Half::Whole, false),
+        put_so(later, Command::Compare, Half::Whole, true),
+        put_so(later, Command::Compare, Half::Whole, true),
+        put_so(later, Command::Compare, Half::Whole, true),
+        put_so(first, Command::Terminate, Half::Whole, false),
+    ]
+}
+
+/// Whether an answer to a frame says that somebody is there.
+fn is_yes(asks: bool, heard: Answer) -> bool
+    ensures { result ≡ is_yes asks heard }
+{
+    match heard {
+        Answer::Silence => false,
+        Answer::Byte(_) | Answer::Damaged => asks,
+    }
+}
+
+/// Puts a frame. What was heard; None where it was lost.
+fn heard<R: Read, W: Write>(
+    driver: &mut Driver<R, W>,
+    putting: Putting,
+) -> Result<Option<Answer>, DriverFault>
+    ensures { IfOk result (λ heard. (told : Input) × IsPutSo putting told
+        (talk_of R.remaining W.contents driver.old) (talk_of R.remaining W.contents driver.new)
+        × (heard ≡ answer_told told)) }
+{
+    match driver.exchange(putting.priority, putting.frame, putting.half)? {
+        Input::Heard(heard) => Ok(Some(heard)),
+        Input::Start
+        | Input::Survey
+        | Input::Destroyed
+        | Input::Lapsed
+        | Input::Committed
+        | Input::CommitFailed => Ok(None),
+    }
+}
+
+fn joined_yes(here: bool, later: Option<bool>) -> Option<bool>
+    ensures { result ≡ joined_yes here later }
+{
+    match later {
+        Some(found) => Some(here || found),
+        None => None,
+    }
+}
+
+/// Puts frames one after the other. Whether one of them was heard to find somebody; None where one was lost.
+fn put_all<R: Read, W: Write>(
+    driver: &mut Driver<R, W>,
+    puttings: &[Putting],
+) -> Result<Option<bool>, DriverFault>
+    ensures { IfOk result (λ found. (told : List Input) × ArePut puttings.now told
+        (talk_of R.remaining W.contents driver.old) (talk_of R.remaining W.contents driver.new)
+        × (found ≡ found_by puttings.now told)) }
+{
+    match puttings {
+        [] => Ok(Some(false)),
+        [putting, more @ ..] => match heard(driver, *putting)? {
+            Some(heard) => {
+                let later = put_all(driver, more)?;
+                Ok(joined_yes(is_yes(putting.asks, heard), later))
+            }
+            None => Ok(None),
+        },
+    }
+}
+
+/// Whether gear are there that have no short address: they are woken and asked three times, and put to sleep again.
+/// Where one of these frames is lost all begins again, eight times in a row at most. No gear draws a random address, is
+/// given a short one, or is withdrawn.
+pub fn has_unaddressed<R: Read, W: Write>(
+    driver: &mut Driver<R, W>,
+) -> Result<bool, CommissionFault>
+    ensures answered { IfOk result (λ found. AreLeftOver found
+        (talk_of R.remaining W.contents driver.old) (talk_of R.remaining W.contents driver.new)) }
+    ensures lost { result ≡ Err CommissionFault.QuestionLost → AreLostSo
+        (talk_of R.remaining W.contents driver.old) (talk_of R.remaining W.contents driver.new) }
+{
+    let puttings = asking();
+    for _ in 0..LOST {
+        match put_all(driver, &puttings) {
+            Ok(Some(found)) => return Ok(found),
+            Ok(None) => {}
+            Err(fault) => return Err(CommissionFault::Driver(fault)),
+        }
+    }
+    Err(CommissionFault::QuestionLost)
+}
