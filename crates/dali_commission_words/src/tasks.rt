@@ -45,10 +45,12 @@ pub struct Setup {
     /// The blocks of other controllers.
     pub others: Vec<Block>,
     pub start: Start,
-    /// How many machines in a row are to have committed nothing, at least 1.
-    pub quiet_runs: u8,
+    /// How many passes in a row, each of one machine, are to have committed nothing, at least 1.
+    pub idle_passes: u8,
     /// Whether nothing is said of how far it is.
     pub is_quiet: bool,
+    /// Whether what it came to is written as an object of JSON, too.
+    pub as_json: bool,
 }
 
 /// What is to be checked.
@@ -58,4 +60,6 @@ pub struct Bounds {
     pub records: Option<String>,
     /// The blocks of other controllers.
     pub others: Vec<Block>,
+    /// Whether what was found is written as an object of JSON, too.
+    pub as_json: bool,
 }

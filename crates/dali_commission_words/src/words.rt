@@ -19,7 +19,7 @@ const LONG_ABOUT: &str = "\
 Gives short addresses to the DALI control gear on a bus, and keeps its records in a file.
 
 It talks to a driver of the bus by lines, on standard input and output: `put P HHHH ask|tell [pair 1|2]` is answered by
-`silence`, `byte HH`, `damaged`, `destroyed` or `lapsed`. With --driver the launcher starts one and joins the two.";
+`silence`, `byte HH`, `damaged`, `destroyed` or `lapsed`. With --driver the launcher starts one and passes lines on.";
 
 const AFTER_HELP: &str = "\
 Examples:
@@ -33,14 +33,16 @@ docs/INSTALLER.md of the repository says how to use it, docs/FORMAT.md has each 
 const RUN: &str = "\
 Gives each gear without short address one of the block, and keeps which gear has which in the file of the records.
 
-Each run begins with a survey: it asks each short address that its table does not name who is there, and enrols each
-gear that tells its random address. Where somebody answers who does not, it gives that address to nobody, and says so.
-With --start fresh, for new gear alone, it asks before it begins, begins nothing where a gear answers, and says what can
-be done. It may be stopped at any moment, also by a power cut: the next run goes on from the file.";
+It makes passes over the bus until three in a row have found nothing. Each pass begins with a survey: it asks each short
+address that its table does not name who is there, and enrols each gear that tells its random address. Where somebody
+answers who does not, it gives that address to nobody, and says so. With --start fresh, for new gear alone, it asks
+before it begins, begins nothing where a gear answers, and says what can be done. It may be stopped at any moment, also
+by a power cut: the next run goes on from the file.";
 
 const CHECK: &str = "\
 Asks each short address three times for the random address of its gear, and says beside the records: who answers, who is
-missing, which gear are strangers, and where several have one address. It gives no address and writes no record.";
+missing, which gear are strangers, and where several have one address. Then it asks whether gear without short address
+are there. It gives no address and writes no record.";
 
 /// What a word of the command line is.
 #[derive(Clone, Copy)]
@@ -88,6 +90,20 @@ const DRIVER: Word = Word {
     kind: Kind::Option,
 };
 
+const DRIVER_TIMEOUT: Word = Word {
+    name: "driver-timeout",
+    value: "SECONDS",
+    help: "How long the driver may say nothing before the launcher ends the run, 10 seconds if nothing is said",
+    kind: Kind::Option,
+};
+
+const JSON: Word = Word {
+    name: "json",
+    value: "",
+    help: "Write what it came to as an object of JSON, too, on standard output",
+    kind: Kind::Flag,
+};
+
 const OTHERS: Word = Word {
     name: "others",
     value: "BLOCK",
@@ -107,17 +123,18 @@ const NEEDED_RECORDS: Word = Word {
 const RUN_WORDS: &[Word] = &[
     NEEDED_RECORDS,
     DRIVER,
+    DRIVER_TIMEOUT,
     OTHERS,
     Word {
         name: "start",
         value: "WAY",
-        help: "How each run begins: with a survey of who is there, or as beside new gear alone",
+        help: "How each pass begins: with a survey of who is there, or as beside new gear alone",
         kind: Kind::Start,
     },
     Word {
-        name: "quiet-runs",
+        name: "idle-passes",
         value: "N",
-        help: "How many runs in a row must have found nothing",
+        help: "How many passes over the bus in a row must have found nothing",
         kind: Kind::Number,
     },
     Word {
@@ -126,6 +143,7 @@ const RUN_WORDS: &[Word] = &[
         help: "Say nothing of how far it is",
         kind: Kind::Flag,
     },
+    JSON,
     Word {
         name: "block",
         value: "BLOCK",
@@ -145,11 +163,14 @@ const CHECK_WORDS: &[Word] = &[
         kind: Kind::Option,
     },
     DRIVER,
+    DRIVER_TIMEOUT,
     OTHERS,
+    JSON,
 ];
 
 const IDENTIFY_WORDS: &[Word] = &[
     DRIVER,
+    DRIVER_TIMEOUT,
     Word {
         name: "address",
         value: "ADDRESS",
@@ -345,7 +366,7 @@ fn other_blocks(alloc: Global, found: &ArgMatches<'_>, own: Block) -> Result<Vec
 
 /// A driver that was not started.
 fn no_driver(alloc: Global, found: &ArgMatches<'_>) -> Result<(), Error> {
-    if found.contains_id("driver") {
+    if found.contains_id("driver") || found.contains_id("driver-timeout") {
         let message = "a driver is started by the launcher, ./dali_commission";
         return Err(fault(alloc, ErrorKind::ArgumentConflict, message)?);
     }
@@ -377,8 +398,9 @@ fn setup(alloc: Global, found: &ArgMatches<'_>) -> Result<Setup, Error> {
         block,
         others,
         start: start(alloc, found)?,
-        quiet_runs: found.get_one("quiet-runs").unwrap_or(3),
+        idle_passes: found.get_one("idle-passes").unwrap_or(3),
         is_quiet: found.get_flag("quiet"),
+        as_json: found.get_flag("json"),
     })
 }
 
@@ -389,7 +411,11 @@ fn bounds(alloc: Global, found: &ArgMatches<'_>) -> Result<Bounds, Error> {
         Some(name) => Some(String::from_str(alloc, name)?),
         None => None,
     };
-    Ok(Bounds { records, others })
+    Ok(Bounds {
+        records,
+        others,
+        as_json: found.get_flag("json"),
+    })
 }
 
 /// The short address that is asked for by `identify`.
