@@ -1,6 +1,7 @@
 use Rattle.std.proofs.Common.{◌≡◌, ◌≤◌, arith, ℕ, ◌+◌, suc, List, [], ◌++◌, length, length-append, Option, None, Some, refl, subst, ◌∙◌, ap, sym}
 use Rattle.dali_script.specs.Records.{Assignment}
-use Rattle.dali_commission_program.specs.Tables.{random_at, at_if, rows_below}
+use Rattle.dali_commissioning.specs.Places.{random_at}
+use Rattle.dali_commission_program.specs.Tables.{at_if, rows_below}
 
 -- no short address, and one more
 pub none : (xs : List Assignment) → rows_below 0 xs ≡ []

@@ -1,15 +1,12 @@
-use Rattle.std.specs.Prelude.{ℕ, zero, suc, ◌==◌, if◌then◌else◌, Bool, true, false, List, []}
+use Rattle.std.specs.Prelude.{ℕ, zero, suc, Bool, true, false, List, []}
 use Rattle.std.specs.Prelude.{◌∷◌, ◌++◌, Option, Some, None, codes, decimal}
 use Rattle.dali_frame.specs.Hex.{random_text}
 use Rattle.dali_script.specs.Records.{Assignment}
+use Rattle.dali_commissioning.specs.Places.{random_at}
 use Rattle.dali_commission_words.specs.declared.tasks.Form.{Form}
 use Rattle.dali_commission_words.specs.declared.tasks.Form.TheVariants.{Text, Csv, Json}
 
 -- THE ROWS of a table: what is enrolled, by short address from 0 on.
-abbrev pub random_at : List Assignment → ℕ → Option ℕ
-random_at [] a = None
-random_at (p ∷ more) a = if p.0 == a then Some p.1 else random_at more a
-
 abbrev pub at_if : ℕ → Option ℕ → List Assignment
 at_if a None = []
 at_if a (Some r) = (a, r) ∷ []

@@ -2,11 +2,12 @@
 
 ghost use Rattle.std.specs.Prelude.{◌≡◌};
 ghost use Rattle.std.specs.Process.{exit_status};
-ghost use Rattle.dali_commission_program.specs.Failures.{status_of, status_after, ended_as, failure_of, words_failure};
+ghost use Rattle.dali_commission_program.specs.Failures.{status_of, status_after, ended_as, checked, failure_of};
+ghost use Rattle.dali_commission_program.specs.Failures.{words_failure};
 
 use crate::stores::StoreFault;
 use dali_commission_words::WordsFault;
-use dali_commissioning::{CommissionFault, DriverFault, Ended};
+use dali_commissioning::{CommissionFault, DriverFault, Ended, Place, are_as_recorded};
 use dali_frame::Short;
 use dali_reserve::KeepError;
 use dali_script::{End, Fault};
@@ -40,6 +41,10 @@ pub enum Failure {
     Conflict,
     /// Status 9: the machines took as many steps, or were as many, as they may.
     Spent,
+    /// Status 10: no answer was heard, from any gear.
+    NobodyAnswered,
+    /// Status 10: nobody answers to this short address.
+    NobodyThere(Short),
 }
 
 /// What is said of it on standard error.
@@ -56,13 +61,20 @@ impl fmt::Display for Failure {
             Failure::Driver(line, fault) => {
                 return write!(f, "error: line {line} of the driver: {fault}");
             }
-            Failure::Store(fault) => return write!(f, "error: {fault}"),
+            Failure::Store(fault) => return write!(f, "error: the records: {fault}"),
             Failure::Outside(short) => {
                 let number = short.number();
                 return write!(
                     f,
                     "error: short address {number} is reserved, and lies outside of the block"
                 );
+            }
+            Failure::NobodyThere(short) => {
+                let number = short.number();
+                return write!(f, "nobody answers to short address {number}");
+            }
+            Failure::NobodyAnswered => {
+                "nobody answered: is the interface connected, is the bus powered?"
             }
             Failure::BlockFull => "ended: block-full",
             Failure::GaveUp => "ended: gave-up",
@@ -74,6 +86,23 @@ impl fmt::Display for Failure {
 }
 
 impl Failure {
+    /// What it is called in an object of JSON.
+    pub(crate) fn name(&self) -> &'static str {
+        match self {
+            Failure::AddressedBefore => "not-begun",
+            Failure::NotAsRecorded => "not-as-recorded",
+            Failure::BadCommandLine | Failure::NotText => "bad-command-line",
+            Failure::Refused => "refused",
+            Failure::Driver(..) => "driver",
+            Failure::Store(_) | Failure::Outside(_) => "records",
+            Failure::BlockFull => "block-full",
+            Failure::GaveUp => "gave-up",
+            Failure::Conflict => "conflict",
+            Failure::Spent => "too-many-steps",
+            Failure::NobodyAnswered | Failure::NobodyThere(_) => "nobody-answered",
+        }
+    }
+
     /// The exit status of the program.
     pub fn status(self) -> u8
         ensures { result ≡ status_of self }
@@ -88,6 +117,7 @@ impl Failure {
             Failure::GaveUp => 7,
             Failure::Conflict => 8,
             Failure::Spent => 9,
+            Failure::NobodyAnswered | Failure::NobodyThere(_) => 10,
         }
     }
 }
@@ -102,12 +132,18 @@ pub fn words_failure(fault: WordsFault) -> Failure
     }
 }
 
-/// What the end of the last machine is to the program.
-pub fn ended_as(ended: Ended) -> Result<(), Failure>
-    ensures { result ≡ ended_as ended }
+/// What the end of the last machine is to the program, where a gear was heard, or none was.
+pub fn ended_as(ended: Ended, has_heard: bool) -> Result<(), Failure>
+    ensures { result ≡ ended_as ended has_heard }
 {
     match ended {
-        Ended::Done(End::AllFound) => Ok(()),
+        Ended::Done(End::AllFound) => {
+            if has_heard {
+                Ok(())
+            } else {
+                Err(Failure::NobodyAnswered)
+            }
+        }
         Ended::Done(End::BlockFull) => Err(Failure::BlockFull),
         Ended::Done(End::GaveUp) => Err(Failure::GaveUp),
         Ended::Halted(Fault::Conflict) => Err(Failure::Conflict),
@@ -115,6 +151,20 @@ pub fn ended_as(ended: Ended) -> Result<(), Failure>
         Ended::Halted(Fault::Store) => {
             Err(Failure::Store(StoreFault::Store(KeepError::StoreFailed)))
         }
+    }
+}
+
+/// What a check ends with, by what stands under each short address, whether gear are there that have none, and whether
+/// any gear was heard.
+pub fn checked(places: &[Place], has_unaddressed: bool, has_heard: bool) -> Result<(), Failure>
+    ensures { result ≡ checked places.now has_unaddressed has_heard }
+{
+    if !has_heard {
+        Err(Failure::NobodyAnswered)
+    } else if has_unaddressed || !are_as_recorded(places) {
+        Err(Failure::NotAsRecorded)
+    } else {
+        Ok(())
     }
 }
 

@@ -1,10 +1,16 @@
 //! The program `dali_commission`: what it does and says.
 #![tactic(auto)]
 
+mod checking;
 mod failure;
+mod identifying;
+mod json;
 mod program;
 mod progress;
+mod records;
+mod report;
 mod reports;
+mod running;
 mod stores;
 mod table;
 

@@ -1,7 +1,10 @@
 //! How far the machines are, as it is said on standard error.
 
 use dali_commissioning::Watch;
-use dali_script::{Order, Record};
+use dali_frame::{Forward, Random24, Short};
+use dali_script::{Input, Order, Record};
+use dali_special::Command;
+use std::fmt;
 use std::io::Eprint;
 
 /// How it is said how far the machines are.
@@ -15,6 +18,83 @@ pub enum Manner {
     Rewritten,
 }
 
+/// Whom a frame is about.
+#[derive(Clone, Copy)]
+enum Whom {
+    /// All gear.
+    All,
+    /// The gear with a short address.
+    Address(Short),
+    /// The gear up to the search address.
+    Search,
+}
+
+/// Whom the frames were about that were put last, with the search address.
+#[derive(Clone, Copy)]
+pub struct Aim {
+    whom: Whom,
+    high: u8,
+    middle: u8,
+    low: u8,
+}
+
+impl Aim {
+    /// Before the first frame.
+    fn new() -> Aim {
+        Aim {
+            whom: Whom::All,
+            high: 0xFF,
+            middle: 0xFF,
+            low: 0xFF,
+        }
+    }
+
+    /// One more frame was put.
+    fn follow(&mut self, frame: Forward) {
+        match Command::read(frame) {
+            Command::SearchHigh(byte) => {
+                self.high = byte;
+                self.whom = Whom::Search;
+            }
+            Command::SearchMiddle(byte) => {
+                self.middle = byte;
+                self.whom = Whom::Search;
+            }
+            Command::SearchLow(byte) => {
+                self.low = byte;
+                self.whom = Whom::Search;
+            }
+            Command::RandomByte(short, _) => self.whom = Whom::Address(short),
+            Command::Terminate
+            | Command::Initialise(_)
+            | Command::Randomise
+            | Command::Compare
+            | Command::Withdraw
+            | Command::Program(_)
+            | Command::Verify(_)
+            | Command::QueryShort
+            | Command::Arc(_)
+            | Command::Other(_) => {}
+        }
+    }
+}
+
+impl fmt::Display for Aim {
+    fn fmt<W: fmt::Write>(&self, f: &mut fmt::Formatter<W>) -> fmt::Result {
+        match self.whom {
+            Whom::All => f.write_str("of all gear"),
+            Whom::Address(short) => {
+                let number = short.number();
+                write!(f, "to short address {number}")
+            }
+            Whom::Search => {
+                let number = Random24::from_bytes(self.high, self.middle, self.low);
+                write!(f, "under the search address {number}")
+            }
+        }
+    }
+}
+
 /// How many frames are put between two lines on a terminal.
 const FRAMES: u64 = 32;
 
@@ -26,6 +106,7 @@ pub struct Progress<'a, S> {
     frames: u64,
     found: u32,
     left: u32,
+    aim: Aim,
 }
 
 impl<'a, S: Eprint> Progress<'a, S> {
@@ -37,6 +118,7 @@ impl<'a, S: Eprint> Progress<'a, S> {
             frames: 0,
             found: 0,
             left,
+            aim: Aim::new(),
         }
     }
 
@@ -67,16 +149,17 @@ impl<'a, S: Eprint> Progress<'a, S> {
         }
     }
 
-    /// How many frames were put.
-    pub fn frames(&self) -> u64 {
-        self.frames
+    /// Whom the frames were about that were put last, but for the close.
+    pub fn aim(&self) -> Aim {
+        self.aim
     }
 }
 
 impl<S: Eprint> Watch for Progress<'_, S> {
     fn ordered(&mut self, order: &Order) {
         match *order {
-            Order::Put(..) => {
+            Order::Put(_, frame) => {
+                self.aim.follow(frame);
                 self.frames = self.frames.saturating_add(1);
                 if self.manner == Manner::Rewritten && self.frames % FRAMES == 0 {
                     self.say();
@@ -91,4 +174,6 @@ impl<S: Eprint> Watch for Progress<'_, S> {
             Order::Done(_) | Order::Halt(_) => {}
         }
     }
+
+    fn told(&mut self, _told: Input) {}
 }

@@ -1,10 +1,12 @@
 //! What is said on standard error of what came of a task.
 
 use crate::failure::Failure;
-use crate::table::random_at;
-use dali_commissioning::{Outcome, Reply, Standing, is_known, stands};
+use crate::progress::Aim;
+use arrayvec::ArrayVec;
+use dali_commissioning::{DriverFault, Ended, Outcome, Place, Reply, places};
 use dali_frame::{Random24, Short};
-use dali_script::{Block, Kept};
+use dali_script::{Block, End, Fault, Kept};
+use std::fmt;
 use std::io::Eprint;
 
 const ADVICE: &str = "\
@@ -14,51 +16,98 @@ What can be done:
   docs/INSTALLER.md says, and run again
 - they are this controller's: take the file of its records";
 
-/// What is heard of a short address that is not accounted for.
-fn say_stranger<S: Eprint>(system: &S, number: usize, reply: Reply) {
-    let what = match reply {
-        Reply::Silence => return,
-        Reply::Random(random) => {
-            let _ = eprintln!(system; "{number} {random} stranger");
-            return;
+const CONFLICT: &str = "\
+What can be done: see whether the file is an old copy, or a luminaire was replaced or was given an address by another
+tool; docs/INSTALLER.md says how to go on, under 'A luminaire that is replaced'";
+
+/// A line of the driver, which may be any bytes.
+#[derive(Drop)]
+struct Shown<'a>(&'a [u8]);
+
+fn write_byte<W: fmt::Write>(f: &mut fmt::Formatter<W>, byte: u8) -> fmt::Result {
+    if byte.is_ascii_graphic() || byte == b' ' {
+        f.write_char(char::from(byte))
+    } else {
+        write!(f, "\\x{byte:02X}")
+    }
+}
+
+impl fmt::Display for Shown<'_> {
+    fn fmt<W: fmt::Write>(&self, f: &mut fmt::Formatter<W>) -> fmt::Result {
+        for byte in self.0 {
+            write_byte(f, *byte)?;
         }
-        Reply::Noise => "several strangers, or a disturbed bus",
-        Reply::Unclear => "strangers that were not understood",
-        Reply::Several => "several strangers",
-    };
+        Ok(())
+    }
+}
+
+/// Where a task ended by a line of the driver: the line itself, as far as it was read.
+pub fn say_line<S: Eprint>(system: &S, ended: &Result<(), Failure>, line: &[u8]) {
+    if let Err(
+        Failure::Driver(_, DriverFault::BadLine | DriverFault::LongLine | DriverFault::TornLine),
+    ) = *ended
+    {
+        let shown = Shown(line);
+        let _ = eprintln!(system; "the driver wrote '{shown}'");
+    }
+}
+
+/// Says of a gear with this random address under a short address what it is.
+fn say_gear<S: Eprint>(system: &S, number: usize, random: Random24, what: &str) {
+    let _ = eprintln!(system; "{number} {random} {what}");
+}
+
+/// Says what is heard under a short address that no record names, where it is no random address.
+fn say_strange<S: Eprint>(system: &S, number: usize, what: &str) {
     let _ = eprintln!(system; "{number} - {what}");
 }
 
-/// Each short address that is not accounted for, and that a gear answers to. How many there are.
-fn say_strangers<S: Eprint>(system: &S, kept: &Kept, others: &[Block], replies: &[Reply]) -> usize {
-    let mut strangers = 0usize;
-    for (number, reply) in replies.iter().enumerate() {
-        if is_stranger(kept, others, number, *reply) {
-            strangers = strangers.saturating_add(1);
-            say_stranger(system, number, *reply);
+/// What stands under a short address, where there is something.
+fn say_place<S: Eprint>(system: &S, number: usize, place: Place) {
+    match place {
+        Place::NotAsked | Place::Nobody => {}
+        Place::There(random) => say_gear(system, number, random, "there"),
+        Place::Missing(random) => say_gear(system, number, random, "missing"),
+        Place::Another(random, heard) => {
+            let _ = eprintln!(system; "{number} {random} another gear answers: {heard}");
+        }
+        Place::Several(random) => say_gear(system, number, random, "several gear answer"),
+        Place::Unclear(random) => {
+            let what = "several gear answer, or the bus is disturbed";
+            say_gear(system, number, random, what);
+        }
+        Place::Unfinished(random) => {
+            let what = "is reserved, and not in the table; a gear answers";
+            say_gear(system, number, random, what);
+        }
+        Place::Stranger(heard) => say_gear(system, number, heard, "stranger"),
+        Place::Strangers => say_strange(system, number, "several strangers"),
+        Place::Garbled => say_strange(system, number, "strangers that were not understood"),
+        Place::Noise => say_strange(system, number, "several strangers, or a disturbed bus"),
+    }
+}
+
+fn say_places<S: Eprint>(system: &S, places: &[Place]) {
+    for (number, place) in places.iter().enumerate() {
+        say_place(system, number, *place);
+    }
+}
+
+/// Which gear answer that no record names, and what can be done. What stands under each short address.
+pub fn say_addressed<S: Eprint>(
+    system: &S,
+    kept: &Kept,
+    others: &[Block],
+    replies: &[Reply],
+) -> ArrayVec<Place, 64> {
+    let places = places(kept, others, replies);
+    for (number, place) in places.iter().enumerate() {
+        if is_stranger(*place) {
+            say_place(system, number, *place);
         }
     }
-    strangers
-}
-
-fn is_stranger(kept: &Kept, others: &[Block], number: usize, reply: Reply) -> bool {
-    if reply == Reply::Silence {
-        return false;
-    }
-    match short_of(number) {
-        Some(short) => !is_known(kept, others, short),
-        None => false,
-    }
-}
-
-fn short_of(number: usize) -> Option<Short> {
-    Short::of(u8::try_from(number).ok()?)
-}
-
-/// Which gear answer that no record names, and what can be done.
-pub fn say_addressed<S: Eprint>(system: &S, kept: &Kept, others: &[Block], replies: &[Reply]) {
-    say_strangers(system, kept, others, replies);
     let _ = eprintln!(system; "{ADVICE}");
+    places
 }
 
 /// The short addresses under which somebody was heard whose random address was not: to whom they belong is not known,
@@ -77,6 +126,52 @@ pub fn say_left_alone<S: Eprint>(system: &S, outcome: &Outcome) {
     }
 }
 
+/// How the gear that was found last contradicts the table.
+fn say_conflict<S: Eprint>(system: &S, outcome: &Outcome, kept: &Kept) {
+    let Some(found) = outcome.found else {
+        return;
+    };
+    let (short, random) = found.assigned();
+    let number = short.number();
+    let _ = match (kept.enrolled_at(short), kept.enrolled_for(random)) {
+        (Some(other), _) if other != random => {
+            eprintln!(system;
+                "short address {number}: the gear with random address {random} answers, and the table has {other} there"
+            )
+        }
+        (_, Some(other)) => {
+            let place = other.number();
+            eprintln!(system;
+                "random address {random}: it answers to short address {number}, and the table has it under {place}"
+            )
+        }
+        (_, None) => Ok(()),
+    };
+    let _ = eprintln!(system; "{CONFLICT}");
+}
+
+/// Why the last machine gave up.
+fn say_gave_up<S: Eprint>(system: &S, outcome: &Outcome, aim: Aim) {
+    let _ = if outcome.tries >= 8 {
+        eprintln!(system;
+            "a frame of one transaction was destroyed or not sent, eight times in a row: the frames {aim}"
+        )
+    } else {
+        eprintln!(system;
+            "sixteen searches in a row led to a gear that did not answer; the last frames were {aim}"
+        )
+    };
+}
+
+/// Why the last machine ended so, where that wants to be said.
+pub fn say_why_ended<S: Eprint>(system: &S, outcome: &Outcome, kept: &Kept, aim: Aim) {
+    match outcome.ended {
+        Ended::Done(End::GaveUp) => say_gave_up(system, outcome, aim),
+        Ended::Halted(Fault::Conflict) => say_conflict(system, outcome, kept),
+        Ended::Done(End::AllFound | End::BlockFull) | Ended::Halted(Fault::Store) => {}
+    }
+}
+
 /// What came of a run: how many gear were enrolled, and how many stand in the table.
 pub fn say_commissioned<S: Eprint>(system: &S, more: usize, enrolled: usize, frames: u64) {
     let _ = eprintln!(system;
@@ -84,86 +179,45 @@ pub fn say_commissioned<S: Eprint>(system: &S, more: usize, enrolled: usize, fra
     );
 }
 
-fn say_standing<S: Eprint>(system: &S, short: Short, random: Random24, standing: Standing) {
-    let number = short.number();
-    let what = match standing {
-        Standing::There => "there",
-        Standing::Missing => "missing",
-        Standing::Another(heard) => {
-            let _ = eprintln!(system; "{number} {random} another gear answers: {heard}");
-            return;
-        }
-        Standing::Unclear => "several gear answer, or the bus is disturbed",
-        Standing::Several => "several gear answer",
-    };
-    let _ = eprintln!(system; "{number} {random} {what}");
-}
-
-fn reply_of(replies: &[Reply], short: Short) -> Reply {
-    match replies.get(short.number() as usize) {
-        Some(reply) => *reply,
-        None => Reply::Silence,
+fn is_wrong(place: Place) -> bool {
+    match place {
+        Place::Missing(_) | Place::Another(..) | Place::Several(_) | Place::Unclear(_) => true,
+        Place::NotAsked
+        | Place::Nobody
+        | Place::There(_)
+        | Place::Unfinished(_)
+        | Place::Stranger(_)
+        | Place::Strangers
+        | Place::Garbled
+        | Place::Noise => false,
     }
 }
 
-/// Each gear that is enrolled, and where it stands, but for those in the blocks of other controllers, which were not
-/// asked. How many are not there.
-fn say_enrolled<S: Eprint>(system: &S, kept: &Kept, others: &[Block], replies: &[Reply]) -> usize {
-    let none = Kept::new(kept.block());
-    let mut wrong = 0usize;
-    for pair in kept.enrolled() {
-        let Some(short) = Short::of(pair.address()) else {
-            continue;
-        };
-        if is_known(&none, others, short) {
-            continue;
-        }
-        let standing = stands(pair.random(), reply_of(replies, short));
-        if standing != Standing::There {
-            wrong = wrong.saturating_add(1);
-        }
-        say_standing(system, short, pair.random(), standing);
+fn is_stranger(place: Place) -> bool {
+    match place {
+        Place::Stranger(_) | Place::Strangers | Place::Garbled | Place::Noise => true,
+        Place::NotAsked
+        | Place::Nobody
+        | Place::There(_)
+        | Place::Missing(_)
+        | Place::Another(..)
+        | Place::Several(_)
+        | Place::Unclear(_)
+        | Place::Unfinished(_) => false,
     }
-    wrong
 }
 
-/// Each gear that answers to an address that is reserved, and that is not enrolled. How many there are.
-fn say_reserved<S: Eprint>(system: &S, kept: &Kept, replies: &[Reply]) -> usize {
-    let mut unfinished = 0usize;
-    for pair in kept.reserved() {
-        let Some(short) = Short::of(pair.address()) else {
-            continue;
-        };
-        let reply = reply_of(replies, short);
-        if reply != Reply::Silence && random_at(kept.enrolled(), short).is_none() {
-            unfinished = unfinished.saturating_add(1);
-            let (number, random) = (pair.address(), pair.random());
-            let _ = eprintln!(system;
-                "{number} {random} is reserved, and not in the table; a gear answers"
-            );
-        }
+/// Where all gear stand, beside the records: what stands under each short address, and whether gear are there that have
+/// none.
+pub fn say_checked<S: Eprint>(system: &S, kept: &Kept, places: &[Place], has_unaddressed: bool) {
+    say_places(system, places);
+    if has_unaddressed {
+        let _ = eprintln!(system; "gear without short address are there: run");
     }
-    unfinished
-}
-
-/// Where all gear stand, beside the records: each that is enrolled, and each stranger. `NotAsRecorded` where they are
-/// not as recorded.
-pub fn say_checked<S: Eprint>(
-    system: &S,
-    kept: &Kept,
-    others: &[Block],
-    replies: &[Reply],
-) -> Result<(), Failure> {
-    let wrong = say_enrolled(system, kept, others, replies);
-    let unfinished = say_reserved(system, kept, replies);
-    let strangers = say_strangers(system, kept, others, replies);
     let (enrolled, reserved) = (kept.enrolled().len(), kept.reserved().len());
+    let wrong = places.iter().filter(|place| is_wrong(**place)).count();
+    let strangers = places.iter().filter(|place| is_stranger(**place)).count();
     let _ = eprintln!(system;
         "{enrolled} in the table, {wrong} of them not there; {strangers} strangers; {reserved} addresses reserved"
     );
-    if wrong == 0 && unfinished == 0 && strangers == 0 {
-        Ok(())
-    } else {
-        Err(Failure::NotAsRecorded)
-    }
 }

@@ -8,17 +8,35 @@ use thiserror::Error;
 /// Why records cannot be had.
 #[derive(Clone, Copy, Debug, PartialEq, Eq, Error)]
 pub enum StoreFault {
-    /// Another program has them open.
-    #[error("the records are locked: another program has the file open")]
+    /// Another program has the file open.
+    #[error("another program has the file open")]
     Locked,
-    /// The file cannot be opened, or is none of SQLite.
-    #[error("the file of the records cannot be opened")]
-    CannotOpen,
     /// There is no such file.
     #[error("there is no such file of records")]
     Missing,
-    /// They cannot be read, or one cannot be committed.
-    #[error("the records: {0}")]
+    /// The folder in which it is to be made is not there.
+    #[error("its folder is not there")]
+    NoFolder,
+    /// It may not be read, or not be written.
+    #[error("the system refuses to read or write it")]
+    Forbidden,
+    /// It lies on a disk that cannot be written.
+    #[error("its disk cannot be written")]
+    ReadOnly,
+    /// Its disk has no room.
+    #[error("its disk is full")]
+    Full,
+    /// It is no database, or one of something else. Not one byte of it is changed.
+    #[error("it is no file of records, and is left as it is")]
+    Foreign,
+    /// It is a database that is damaged.
+    #[error("it is a damaged database")]
+    Damaged,
+    /// It cannot be opened for another reason.
+    #[error("it cannot be opened")]
+    CannotOpen,
+    /// The records cannot be read, or one cannot be committed.
+    #[error("{0}")]
     Store(KeepError),
 }
 
@@ -38,4 +56,8 @@ pub trait Stores {
     /// Opens the records of this name for a controller with this block, lends them, and closes them. They are made
     /// where there are none. What the borrower ends with goes before why they could not be closed.
     fn lend<B: Borrower>(&self, name: &str, block: Block, borrower: &B) -> Result<(), Failure>;
+
+    /// Lends a copy of the records of this name, which are there, as to a controller with all addresses. They are only
+    /// read: nothing that the borrower does to the copy changes them.
+    fn lend_copy<B: Borrower>(&self, name: &str, borrower: &B) -> Result<(), Failure>;
 }

@@ -1,26 +1,15 @@
 //! The table of the gear that are enrolled, as text, CSV or JSON.
 
-ghost use Rattle.std.specs.Prelude.{◌≡◌, ◌++◌, ◌==◌, ◌<◌, length, OnOk, string_bytes};
-ghost use Rattle.dali_commission_program.specs.Tables.{random_at, at_if, rows, head, separator, tail, row_text};
+ghost use Rattle.std.specs.Prelude.{◌≡◌, ◌++◌, ◌<◌, length, OnOk, string_bytes};
+ghost use Rattle.dali_commission_program.specs.Tables.{at_if, rows, head, separator, tail, row_text};
 ghost use Rattle.dali_commission_program.specs.Tables.{rows_text, table_text};
 
 use arrayvec::ArrayVec;
 use dali_commission_words::Form;
+use dali_commissioning::random_at;
 use dali_frame::{Random24, Short};
-use dali_script::{Kept, Pair};
+use dali_script::Kept;
 use std::alloc::AllocError;
-
-/// The random address of the first pair with a short address.
-pub(crate) fn random_at(pairs: &[Pair], short: Short) -> Option<Random24>
-    ensures { result ≡ random_at pairs.now short }
-{
-    for pair in pairs {
-        if pair.address() == short.number() {
-            return Some(pair.random());
-        }
-    }
-    None
-}
 
 fn add_if(rows: &mut ArrayVec<(Short, Random24), 64>, short: Short, random: Option<Random24>)
     requires { length rows.old.items < 64 }
@@ -33,7 +22,7 @@ fn add_if(rows: &mut ArrayVec<(Short, Random24), 64>, short: Short, random: Opti
 
 /// The gear that are enrolled, by their short addresses.
 #[tactic(auto, using(crate::proofs::Rows::none, crate::proofs::Rows::one_more))]
-fn rows(kept: &Kept) -> ArrayVec<(Short, Random24), 64>
+pub(crate) fn rows(kept: &Kept) -> ArrayVec<(Short, Random24), 64>
     ensures { result.items ≡ rows kept.now.enrolled }
 {
     let mut rows = ArrayVec::new();

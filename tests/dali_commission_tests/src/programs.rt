@@ -41,7 +41,7 @@ const RUN: &[u8] = b"dali_commission run --records site.db 0-63";
 
 const FRESH: &[u8] = b"dali_commission run --records site.db --start fresh 0-63";
 
-const ONCE: &[u8] = b"dali_commission run --records site.db --quiet-runs 1 0-63";
+const ONCE: &[u8] = b"dali_commission run --records site.db --idle-passes 1 0-63";
 
 const CHECK: &[u8] = b"dali_commission check --records site.db";
 
@@ -78,7 +78,7 @@ fn words_that_ask_for_nothing_are_refused(rt: HostRuntime) {
             "'9-3'",
         ),
         (
-            b"dali_commission run --records site.db --quiet-runs 0 0-63".as_slice(),
+            b"dali_commission run --records site.db --idle-passes 0 0-63".as_slice(),
             "'0'",
         ),
         (
@@ -111,23 +111,46 @@ fn words_that_ask_for_nothing_are_refused(rt: HostRuntime) {
     }
 }
 
+/// What is said last where no gear was heard.
+const NOBODY: &str = "nobody answered: is the interface connected, is the bus powered?\n";
+
 #[test]
-fn an_empty_bus_is_done_after_three_runs(rt: HostRuntime) {
+fn a_bus_on_which_nobody_answers_is_told(rt: HostRuntime) {
     let silent = answers(&rt, "", 633);
     let said = "0 gear were enrolled, 0 are in the table; 633 frames\n";
-    ends(&rt, RUN, &Shelf::of(&[]), &silent, (0, 633, said));
+    ends(&rt, RUN, &Shelf::of(&[]), &silent, (10, 633, said));
+    ends(&rt, RUN, &Shelf::of(&[]), &silent, (10, 633, NOBODY));
     let said = "0 gear were enrolled, 0 are in the table; 211 frames\n";
-    ends(&rt, ONCE, &Shelf::of(&[]), &silent, (0, 211, said));
+    ends(&rt, ONCE, &Shelf::of(&[]), &silent, (10, 211, said));
+    // The two gear of the table are asked too, three times each, and neither answers.
+    let silent = answers(&rt, "", 229);
+    ends(&rt, ONCE, &Shelf::of(&FIVE), &silent, (10, 229, NOBODY));
+}
+
+/// Nobody is heard in the only pass; then the second gear of the table answers.
+#[test]
+fn a_bus_whose_gear_are_all_in_the_table_is_done(rt: HostRuntime) {
+    let silent = answers(&rt, "", 220);
+    let mut heard = answers(&rt, &silent, 0);
+    assert!(rt;
+        heard
+            .push_str(
+                "byte AB\nbyte CD\nbyte EF\nsilence\nsilence\nsilence\nsilence\nsilence\nsilence\n"
+            )
+            .is_ok()
+    );
+    let said = "0 gear were enrolled, 2 are in the table; 229 frames\n";
+    ends(&rt, ONCE, &Shelf::of(&FIVE), &heard, (0, 229, said));
 }
 
 #[test]
-fn an_empty_bus_with_new_gear_alone_is_done_after_three_runs(rt: HostRuntime) {
+fn an_empty_bus_with_new_gear_alone_is_left_after_three_passes(rt: HostRuntime) {
     let silent = answers(&rt, "", 606);
-    let said = "0 gear were enrolled, 0 are in the table; 30 frames\n";
-    ends(&rt, FRESH, &Shelf::of(&[]), &silent, (0, 606, said));
+    let said = "0 gear were enrolled, 0 are in the table; 606 frames\n";
+    ends(&rt, FRESH, &Shelf::of(&[]), &silent, (10, 606, said));
     let words =
-        b"dali_commission run --records site.db --start fresh --quiet-runs 1 --others 16-63 --quiet 0-15";
-    ends(&rt, words, &Shelf::of(&[]), &silent, (0, 154, said_once()));
+        b"dali_commission run --records site.db --start fresh --idle-passes 1 --others 16-63 --quiet 0-15";
+    ends(&rt, words, &Shelf::of(&[]), &silent, (10, 154, said_once()));
 }
 
 /// A gear that has short address 0 is asked in the first run, and named by the table in the second one.
@@ -161,7 +184,7 @@ const LEFT_ALONE: &str = "\
 
 /// What is said of one run that found no gear.
 fn said_once() -> &'static str {
-    "0 gear were enrolled, 0 are in the table; 10 frames\n"
+    "0 gear were enrolled, 0 are in the table; 154 frames\n"
 }
 
 #[test]
@@ -226,8 +249,12 @@ fn a_driver_that_fails_is_said_with_its_line(rt: HostRuntime) {
         &rt,
         RUN,
         &Shelf::of(&[]),
-        "silence\nhello\n",
-        (4, 2, "error: line 2 of the driver: bad line\n"),
+        "silence\nhe\x07llo\n",
+        (
+            4,
+            2,
+            "the driver wrote 'he\\x07llo'\nerror: line 2 of the driver: bad line\n",
+        ),
     );
     ends(
         &rt,
@@ -241,10 +268,34 @@ fn a_driver_that_fails_is_said_with_its_line(rt: HostRuntime) {
 #[test]
 fn records_that_cannot_be_had_are_said(rt: HostRuntime) {
     for (fault, said) in [
-        (StoreFault::Locked, "error: the records are locked"),
+        (
+            StoreFault::Locked,
+            "error: site.db: another program has the file open\n",
+        ),
+        (
+            StoreFault::Foreign,
+            "error: site.db: it is no file of records, and is left as it is\n",
+        ),
+        (
+            StoreFault::NoFolder,
+            "error: site.db: its folder is not there\n",
+        ),
+        (
+            StoreFault::ReadOnly,
+            "error: site.db: its disk cannot be written\n",
+        ),
+        (
+            StoreFault::Forbidden,
+            "error: site.db: the system refuses to read or write it\n",
+        ),
+        (StoreFault::Full, "error: site.db: its disk is full\n"),
+        (
+            StoreFault::Damaged,
+            "error: site.db: it is a damaged database\n",
+        ),
         (
             StoreFault::CannotOpen,
-            "error: the file of the records cannot be opened\n",
+            "error: site.db: it cannot be opened\n",
         ),
     ] {
         ends(&rt, RUN, &Shelf::refused(fault), "", (5, 0, said));
@@ -258,7 +309,7 @@ fn records_that_cannot_be_had_are_said(rt: HostRuntime) {
         missing,
         &Shelf::of(&FIVE),
         "",
-        (5, 0, "error: there is no such file of records\n"),
+        (5, 0, "error: other.db: there is no such file of records\n"),
     );
     let twice = Shelf::of(&[(1, 5, 1), (1, 5, 2)]);
     ends(
@@ -266,46 +317,117 @@ fn records_that_cannot_be_had_are_said(rt: HostRuntime) {
         RUN,
         &twice,
         "",
-        (
-            5,
-            0,
-            "error: the records: the store holds no list of records\n",
-        ),
+        (5, 0, "error: site.db: the store holds no list of records\n"),
     );
 }
 
 #[test]
 fn a_check_says_where_each_gear_stands(rt: HostRuntime) {
-    let silent = answers(&rt, "", 576);
+    let silent = answers(&rt, "", 586);
     let said =
         "5 123456 missing\n7 ABCDEF missing\n2 in the table, 2 of them not there; 0 strangers";
-    ends(&rt, CHECK, &Shelf::of(&FIVE), &silent, (1, 576, said));
+    ends(&rt, CHECK, &Shelf::of(&FIVE), &silent, (10, 586, said));
     let alone = b"dali_commission check";
-    ends(
-        &rt,
-        alone,
-        &Shelf::of(&FIVE),
-        &silent,
-        (0, 576, "0 in the table"),
-    );
+    ends(&rt, alone, &Shelf::of(&FIVE), &silent, (10, 586, NOBODY));
+    let first = answers(&rt, "byte 12\nbyte 34\nbyte 57\n", 583);
     let beside = b"dali_commission check --records site.db --others 4-9";
-    let said = "2 in the table, 0 of them not there; 0 strangers; 2 addresses";
-    ends(&rt, beside, &Shelf::of(&FIVE), &silent, (0, 522, said));
-    let first = answers(&rt, "byte 12\nbyte 34\nbyte 57\n", 573);
+    let said = "0 123457 stranger\n2 in the table, 0 of them not there; 1 strangers; 2 addresses";
+    ends(&rt, beside, &Shelf::of(&FIVE), &first, (1, 532, said));
     let five = [(1, 0, 0x123456), (2, 0, 0x123456)];
     let said = "0 123456 another gear answers: 123457\n";
-    ends(&rt, CHECK, &Shelf::of(&five), &first, (1, 576, said));
+    ends(&rt, CHECK, &Shelf::of(&five), &first, (1, 586, said));
+    let there = answers(&rt, "byte 12\nbyte 34\nbyte 56\n", 583);
+    let said = "0 123456 there\n1 in the table, 0 of them";
+    ends(&rt, CHECK, &Shelf::of(&five), &there, (0, 586, said));
+    let said = "0 123456 is reserved, and not in the table; a gear answers\n0 in the table";
+    let unfinished = [(1, 0, 0x123456)];
+    ends(&rt, CHECK, &Shelf::of(&unfinished), &there, (1, 586, said));
+}
+
+/// They are woken once all short addresses were asked, and asked under `FFFFFF`. A lost frame begins all that again.
+#[test]
+fn a_check_tells_of_gear_without_short_address(rt: HostRuntime) {
+    let five = [(1, 0, 0x123456), (2, 0, 0x123456)];
     let there = answers(&rt, "byte 12\nbyte 34\nbyte 56\n", 573);
+    let said = "0 123456 there\ngear without short address are there: run\n";
+    let words = b"dali_commission check --records site.db --json";
+    for (asked, frames) in [
+        (
+            "silence\nsilence\nsilence\nsilence\nsilence\nsilence\nsilence\ndamaged\nsilence\nsilence\n",
+            586,
+        ),
+        (
+            "silence\nlapsed\nsilence\nsilence\nsilence\nsilence\nsilence\nsilence\n\
+            byte FF\nsilence\nsilence\nsilence\n",
+            588,
+        ),
+    ] {
+        let mut heard = answers(&rt, &there, 0);
+        assert!(rt; heard.push_str(asked).is_ok());
+        ends(&rt, CHECK, &Shelf::of(&five), &heard, (1, frames, said));
+        let desk = Desk::new(rt.alloc(), words, &heard);
+        assert!(rt; run_and_say(&desk, &Shelf::of(&five), false).is_err());
+        let put =
+            "put 3 A100 tell\nput 1 A5FF tell pair 1\nput 1 A5FF tell pair 2\nput 3 B1FF tell\nput 1 B5FF tell\n\
+            put 1 B3FF tell\nput 1 A900 ask\nput 1 A900 ask\nput 1 A900 ask\nput 3 A100 tell\n\
+            {\"end\":\"not-as-recorded\",\"status\":1,";
+        assert!(rt; desk.has_written(put));
+        assert!(rt; desk.has_written("\"strangers\":[],\"unaddressed\":true}\n"));
+    }
+    let lost = answers(&rt, &there, 0);
+    let mut lost = lost;
+    for _ in 0..8u8 {
+        assert!(rt; lost.push_str("lapsed\n").is_ok());
+    }
     ends(
         &rt,
         CHECK,
         &Shelf::of(&five),
-        &there,
-        (0, 576, "0 123456 there\n1 in the table, 0 of them"),
+        &lost,
+        (7, 584, "ended: gave-up\n"),
     );
-    let said = "0 123456 is reserved, and not in the table; a gear answers\n0 in the table";
-    let unfinished = [(1, 0, 0x123456)];
-    ends(&rt, CHECK, &Shelf::of(&unfinished), &there, (1, 576, said));
+}
+
+#[test]
+fn what_a_check_found_is_an_object_of_json(rt: HostRuntime) {
+    let words = b"dali_commission check --records site.db --json";
+    let first =
+        "byte 12\nbyte 34\nbyte 57\nsilence\nsilence\nsilence\nsilence\nsilence\nsilence\nbyte 01\n";
+    let heard = answers(&rt, first, 576);
+    let records = [(1, 0, 0x123456), (2, 0, 0x123456), (2, 5, 0xABCDEF)];
+    let desk = Desk::new(rt.alloc(), words, &heard);
+    assert!(rt; run_and_say(&desk, &Shelf::of(&records), false).is_err());
+    assert!(rt;
+        desk.has_written(
+            "{\"end\":\"not-as-recorded\",\"status\":1,\"frames\":586,\"enrolled\":0,\"table\":[\
+        {\"address\":0,\"random\":\"123456\",\"given\":true},{\"address\":5,\"random\":\"ABCDEF\",\"given\":false}],\
+        \"left_alone\":[],\"missing\":[5],\"strangers\":[{\"address\":0,\"is\":\"another\",\"random\":\"123457\"},\
+        {\"address\":1,\"is\":\"unclear-strangers\",\"random\":null}],\"unaddressed\":false}\n"
+        )
+    );
+}
+
+#[test]
+fn what_a_run_came_to_is_an_object_of_json(rt: HostRuntime) {
+    let words = b"dali_commission run --records site.db --idle-passes 1 --json 0-63";
+    let heard = answers(&rt, "byte 12\nbyte 34\nbyte 56\ndamaged\n", 415);
+    let desk = Desk::new(rt.alloc(), words, &heard);
+    assert!(rt; run_and_say(&desk, &Shelf::of(&[]), false).is_ok());
+    assert!(rt;
+        desk.has_written(
+            "\"enrolled\":1,\"table\":[{\"address\":0,\"random\":\"123456\",\"given\":false}],\
+        \"left_alone\":[],\"missing\":[],\"strangers\":[],\"unaddressed\":null}\n"
+        )
+    );
+    assert!(rt; desk.has_written("{\"end\":\"all-found\",\"status\":0,\"frames\":"));
+    let refused = Desk::new(rt.alloc(), words, "");
+    let shelf = Shelf::refused(StoreFault::Locked);
+    assert!(rt; run_and_say(&refused, &shelf, false).is_err());
+    assert!(rt;
+        refused.has_written(
+            "{\"end\":\"records\",\"status\":5,\"frames\":0,\"enrolled\":0,\"table\":[],"
+        )
+    );
 }
 
 #[test]
@@ -334,21 +456,37 @@ fn a_table_has_what_is_enrolled(rt: HostRuntime) {
 
 #[test]
 fn a_gear_shows_itself(rt: HostRuntime) {
-    let desk = Desk::new(
-        rt.alloc(),
-        b"dali_commission identify 5",
-        "silence\nlapsed\nsilence\n",
-    );
+    let words = b"dali_commission identify 5";
+    let there = answers(&rt, "byte 12\n", 8);
+    let mut heard = answers(&rt, &there, 0);
+    assert!(rt; heard.push_str("silence\nlapsed\nsilence\n").is_ok());
+    // The driver ends while the gear is dark: the line that makes it bright is written all the same.
+    let desk = Desk::new(rt.alloc(), words, &heard);
     assert!(rt; run_and_say(&desk, &Shelf::of(&[]), false).is_err());
     assert!(rt;
-        desk.has_written("put 2 0AFE tell\nput 2 0A00 tell\nput 2 0A00 tell\nput 2 0AFE tell\n")
+        desk.has_written(
+            "put 2 0AFE tell\nput 2 0A00 tell\nput 2 0A00 tell\nput 2 0AFE tell\nput 2 0AFE tell\n"
+        )
     );
-    let words = b"dali_commission identify 5";
-    ends(
+    let whole = answers(&rt, "byte 12\n", 19);
+    ends(&rt, words, &Shelf::of(&[]), &whole, (0, 20, ""));
+    let nobody = answers(&rt, "", 9);
+    let said = "nobody answers to short address 5\n";
+    ends(&rt, words, &Shelf::of(&[]), &nobody, (10, 9, said));
+}
+
+#[test]
+fn a_machine_says_why_it_gave_up_or_found_a_conflict(rt: HostRuntime) {
+    let lost = answers(
         &rt,
-        words,
-        &Shelf::of(&[]),
-        &answers(&rt, "", 11),
-        (0, 11, ""),
+        "lapsed\nlapsed\nlapsed\nlapsed\nlapsed\nlapsed\nlapsed\nlapsed\n",
+        0,
     );
+    let said = "eight times in a row: the frames to short address 0\n0 gear were enrolled";
+    ends(&rt, RUN, &Shelf::of(&[]), &lost, (7, 8, said));
+    // The gear under short address 0 tells the random address that the table has under 5.
+    let told = answers(&rt, "byte 12\nbyte 34\nbyte 56\n", 0);
+    let said =
+        "random address 123456: it answers to short address 0, and the table has it under 5\n";
+    ends(&rt, RUN, &Shelf::of(&FIVE), &told, (8, 3, said));
 }
