@@ -4,3 +4,4 @@ pub mod Stored
 pub mod Refused
 pub mod Keep
 pub mod Files
+pub mod Header

@@ -2,6 +2,7 @@
 //! ([`SqliteKeep`]).
 #![tactic(auto)]
 
+mod copy;
 mod files;
 mod keep;
 mod memory;
@@ -12,4 +13,5 @@ mod statements;
 mod table;
 mod write;
 
+pub use copy::{CopyError, may_be_records, open_copy};
 pub use keep::SqliteKeep;

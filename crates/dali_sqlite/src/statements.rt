@@ -11,6 +11,7 @@ ghost use Rattle.dali_sqlite.specs.Rows.{row_of, rows_after, four_of};
 ghost use Rattle.dali_sqlite.specs.Stored.{IsTableOf, HasTable, Holds, IsUp};
 ghost use Rattle.dali_sqlite.specs.Refused.{HasFailed};
 
+use crate::copy::TABLE;
 use crate::refused::refusal;
 use dali_reserve::KeepError;
 use sqlite::{Alter, Connection, Row, params};
@@ -39,14 +40,7 @@ pub fn create<S: Alter>(conn: &mut Connection<S>) -> Result<(), KeepError>
     ensures up { IsUp (state S.Store conn.new) → IsUp (state S.Store conn.old) }
     ensures refusal { IfErr result HasFailed }
 {
-    let made = conn.execute(
-        "CREATE TABLE record(
-  seq INTEGER PRIMARY KEY,
-  kind INTEGER NOT NULL,
-  address INTEGER NOT NULL CHECK(address BETWEEN 0 AND 63),
-  random INTEGER NOT NULL CHECK(random BETWEEN 0 AND 16777214))",
-        &[],
-    );
+    let made = conn.execute(TABLE, &[]);
     match made {
         Ok(_) => Ok(()),
         Err(error) => Err(refusal(error)),

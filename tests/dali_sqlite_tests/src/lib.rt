@@ -6,6 +6,8 @@
 #[cfg(test)]
 mod command_lines;
 #[cfg(test)]
+mod copies;
+#[cfg(test)]
 mod files;
 #[cfg(test)]
 mod runs;

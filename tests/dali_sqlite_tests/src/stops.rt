@@ -12,7 +12,7 @@ use super::tables::TABLE;
 use super::values::{InNumbers, block, run};
 use dali_reserve::Keep;
 use dali_script::{Block, Kept, Record};
-use dali_sqlite::SqliteKeep;
+use dali_sqlite::{SqliteKeep, open_copy};
 use sqlite::{Alter, Connection, FileStore, Files, Options};
 use sqlite_disk::{Crash, Disk, Fuse, Memory};
 use std::alloc::Global;
@@ -26,6 +26,9 @@ const OPTIONS: Options = Options {
     checkpoint_frames: 1,
     seed: 1,
 };
+
+/// How many bytes a database with the table has: a shorter one is what a making left that was stopped.
+const WHOLE: usize = 8192;
 
 /// How many calls are enough for a run that is not stopped.
 const ENOUGH: u64 = 10_000;
@@ -228,14 +231,29 @@ fn copies_of(alloc: Global, log: &[u8], db: &[u8]) -> Result<Files<Memory>, Fail
     Ok(Files { log, db })
 }
 
-/// A store over copies of these files goes on.
+/// A copy of these files in memory is one of records too, and has those from before, with the new one or without it.
+fn is_read_as_a_copy(alloc: Global, log: &[u8], db: &[u8], stop: &Stop<'_>) -> bool {
+    match open_copy(alloc, db, log, stop.before.block()) {
+        Ok(copy) => {
+            let mut copy = copy;
+            has_added(&mut copy, stop).is_some()
+        }
+        Err(_) => false,
+    }
+}
+
+/// A store over copies of these files goes on. What the making of a file left is looked at as a copy, too.
 fn goes_on_in(
     rt: &impl Abort,
     alloc: Global,
     left: &Files<Fuse<Memory>>,
     stop: &Stop<'_>,
 ) -> Result<(), Fail> {
-    let copies = copies_of(alloc, left.log.inner().bytes(), left.db.inner().bytes())?;
+    let (log, db) = (left.log.inner().bytes(), left.db.inner().bytes());
+    if db.len() < WHOLE {
+        assert!(rt; is_read_as_a_copy(alloc, log, db, stop));
+    }
+    let copies = copies_of(alloc, log, db)?;
     match done_in(alloc, copies, stop.before.block(), Deed::GoOn(stop)) {
         Some((_, is_done)) => assert!(rt; is_done),
         None => assert!(rt; false),

@@ -1,0 +1,202 @@
+//! A copy of a file of records, in memory: whether it is one, and what it holds.
+
+ghost use Rattle.std.specs.Prelude.{◌≡◌, ◌==◌, ◌&&◌, true, IfOk, OnOk};
+ghost use Rattle.dali_sqlite.specs.Header.{byte_at, has_log, has_no_version, is_database, is_header_of_records};
+ghost use Rattle.dali_sqlite.specs.Header.{is_empty, may_be_records};
+ghost use Rattle.dali_sqlite.specs.Keep.{block_of};
+
+use crate::keep::SqliteKeep;
+use dali_reserve::KeepError;
+use dali_script::Block;
+use sqlite::{Alter, Connection, Error, ErrorCode, FileStore, Files, Options, Row};
+use sqlite_disk::{Disk, Memory};
+use std::alloc::Global;
+
+/// How a copy is kept: it is small, and nobody else writes its log.
+const OPTIONS: Options = Options {
+    cache_pages: 64,
+    spill_pages: 64,
+    checkpoint_frames: 1000,
+    seed: 1,
+};
+
+/// The string that every database begins with (SQLite's file format, section 1.3).
+const HEADER_STRING: &[u8; 16] = b"SQLite format 3\0";
+
+/// The text by which the table of a store is made.
+pub(crate) const TABLE: &str = "CREATE TABLE record(
+  seq INTEGER PRIMARY KEY,
+  kind INTEGER NOT NULL,
+  address INTEGER NOT NULL CHECK(address BETWEEN 0 AND 63),
+  random INTEGER NOT NULL CHECK(random BETWEEN 0 AND 16777214))";
+
+/// Why a file is not read as one of records.
+#[derive(Clone, Copy, Debug, PartialEq, Eq)]
+pub enum CopyError {
+    /// It is no database, or one of something else.
+    Foreign,
+    /// It is a database that is damaged.
+    Damaged,
+    /// There is too little memory.
+    NoMemory,
+    /// Its rows are no list of records of the block, or it cannot be read.
+    Store(KeepError),
+}
+
+fn is_database(db: &[u8]) -> bool
+    ensures { result ≡ is_database db.now }
+{
+    match db.get(..16) {
+        Some(first) => first == HEADER_STRING.as_slice(),
+        None => false,
+    }
+}
+
+fn byte_at(db: &[u8], number: usize) -> u8
+    ensures { result ≡ byte_at db.now number }
+{
+    match db.get(number) {
+        Some(byte) => *byte,
+        None => 0,
+    }
+}
+
+fn has_log(db: &[u8]) -> bool
+    ensures { result ≡ has_log db.now }
+{
+    byte_at(db, 18) == 2 && byte_at(db, 19) == 2
+}
+
+fn has_no_version(db: &[u8]) -> bool
+    ensures { result ≡ has_no_version db.now }
+{
+    byte_at(db, 60) == 0 && byte_at(db, 61) == 0 && byte_at(db, 62) == 0 && byte_at(db, 63) == 0
+}
+
+/// Whether a file begins as one of records: a database that is written by a log, whose user version nobody has set.
+fn is_header_of_records(db: &[u8]) -> bool
+    ensures { result ≡ is_header_of_records db.now }
+{
+    is_database(db) && has_log(db) && has_no_version(db)
+}
+
+/// Whether two files, the database's and its log, may be those of records, by the first bytes of the database's: there
+/// are none, or they are those of a file of records, or there is a log beside what the making of a file left.
+pub fn may_be_records(db: &[u8], log: &[u8]) -> bool
+    ensures { result ≡ may_be_records db.now log.now }
+{
+    if db.is_empty() {
+        true
+    } else if is_database(db) {
+        is_header_of_records(db)
+    } else {
+        !log.is_empty()
+    }
+}
+
+/// Why a copy cannot be opened.
+fn copy_error(error: Error) -> CopyError {
+    match error {
+        Error::SqliteFailure(ErrorCode::OutOfMemory) => CopyError::NoMemory,
+        Error::SqliteFailure(ErrorCode::DatabaseCorrupt) => CopyError::Damaged,
+        _ => CopyError::Foreign,
+    }
+}
+
+/// A file in memory that holds these bytes.
+fn file(alloc: Global, bytes: &[u8]) -> Result<Memory, CopyError> {
+    let mut file = Memory::new(alloc);
+    if bytes.is_empty()
+        || Disk::write_at(&mut file, 0, bytes).is_ok() && Disk::sync(&mut file).is_ok()
+    {
+        Ok(file)
+    } else {
+        Err(CopyError::NoMemory)
+    }
+}
+
+/// Whether a row of the schema says that the table of a store was made by its text.
+fn is_table(row: &Row) -> bool {
+    let (kind, name, text): (
+        Result<String, Error>,
+        Result<String, Error>,
+        Result<String, Error>,
+    ) = (row.get(0), row.get(1), row.get(2));
+    match (kind, name, text) {
+        (Ok(kind), Ok(name), Ok(text)) => {
+            kind.as_str() == "table" && name.as_str() == "record" && text.as_str() == TABLE
+        }
+        _ => false,
+    }
+}
+
+/// Whether a database has nothing, or the table of a store in its very form, and nothing else.
+fn is_of_records<S: Alter>(conn: &mut Connection<S>) -> Result<bool, CopyError> {
+    match conn.query_all("SELECT type, name, sql FROM sqlite_schema", &[]) {
+        Ok(rows) => match rows.as_slice() {
+            [] => Ok(true),
+            [row] => Ok(is_table(row)),
+            _ => Ok(false),
+        },
+        Err(error) => Err(copy_error(error)),
+    }
+}
+
+/// The two files of a copy, where it is one of records: what was in the log is in the database's file, and the log is
+/// empty.
+fn judged(conn: Connection<FileStore<Memory>>) -> Result<Files<Memory>, CopyError> {
+    let mut conn = conn;
+    if !is_of_records(&mut conn)? {
+        return Err(CopyError::Foreign);
+    }
+    match conn.close_files() {
+        Ok(files) => {
+            // The log may have set a version.
+            if is_header_of_records(files.db.bytes()) {
+                Ok(files)
+            } else {
+                Err(CopyError::Foreign)
+            }
+        }
+        Err((error, _)) => Err(copy_error(error)),
+    }
+}
+
+/// A store over a copy of two files, the database's and its log, in memory, for a controller with this block. The
+/// bytes themselves stay as they are, whatever becomes of the copy.
+///
+/// `Foreign` is answered of all that is no file of records: other bytes, a database that is not written by a log, whose
+/// user version was set, that has another table, index, view or trigger, or a table of this name in another form. Files
+/// that hold nothing, and what a making of a file left that was cut off, are files of records that have none.
+pub fn open_copy(
+    alloc: Global,
+    db: &[u8],
+    log: &[u8],
+    block: Block,
+) -> Result<SqliteKeep<FileStore<Memory>>, CopyError>
+    ensures ours { OnOk result (may_be_records db.now log.now ≡ true) }
+    ensures block { IfOk result (λ k. block_of k ≡ block) }
+{
+    if !may_be_records(db, log) {
+        return Err(CopyError::Foreign);
+    }
+    let files = Files {
+        log: file(alloc, log)?,
+        db: file(alloc, db)?,
+    };
+    if !files.may_be_used() {
+        return Err(CopyError::NoMemory);
+    }
+    let files = match Connection::open_files(alloc, files, OPTIONS) {
+        Ok(conn) => judged(conn)?,
+        Err((error, _)) => return Err(copy_error(error)),
+    };
+    if !files.may_be_used() {
+        return Err(CopyError::NoMemory);
+    }
+    match SqliteKeep::open_files(alloc, files, OPTIONS, block) {
+        Ok(store) => Ok(store),
+        Err(KeepError::NoMemory) => Err(CopyError::NoMemory),
+        Err(error) => Err(CopyError::Store(error)),
+    }
+}
