@@ -1,11 +1,19 @@
 //! Records in files, each a SQLite database.
 
 use dali_commission_program::{Borrower, Failure, StoreFault, Stores};
+use dali_frame::Short;
 use dali_reserve::KeepError;
 use dali_script::Block;
-use dali_sqlite::SqliteKeep;
+use dali_sqlite::{CopyError, SqliteKeep, open_copy};
 use sqlite::{Alter, Connection, Error, ErrorCode, File, FileStore};
-use std::fs;
+use std::io::ErrorKind;
+use std::{fs, io};
+
+/// How many bytes a file of records may have: some 3 million records.
+const MOST_BYTES: u64 = 64 * 1024 * 1024;
+
+/// How often a file is read until two readings agree.
+const READINGS: u8 = 10;
 
 /// Files, each a SQLite database.
 #[derive(Drop)]
@@ -20,19 +28,160 @@ impl<'a> Files<'a> {
     }
 }
 
-fn opened(rt: &HostRuntime, name: &str) -> Result<Connection<FileStore<File>>, Failure> {
-    match Connection::open(rt, name) {
-        Ok(conn) => Ok(conn),
-        Err(error) => Err(Failure::Store(fault_of(error))),
+/// What a refusal of the system is to a file of records.
+fn system_fault(kind: ErrorKind) -> StoreFault {
+    match kind {
+        ErrorKind::NotFound => StoreFault::Missing,
+        ErrorKind::PermissionDenied => StoreFault::Forbidden,
+        ErrorKind::ReadOnlyFilesystem => StoreFault::ReadOnly,
+        ErrorKind::StorageFull | ErrorKind::QuotaExceeded => StoreFault::Full,
+        ErrorKind::NotADirectory => StoreFault::NoFolder,
+        ErrorKind::IsADirectory => StoreFault::Foreign,
+        ErrorKind::OutOfMemory => StoreFault::Store(KeepError::NoMemory),
+        _ => StoreFault::CannotOpen,
     }
 }
 
-/// Why a file cannot be opened.
-fn fault_of(error: Error) -> StoreFault {
+fn copy_fault(error: CopyError) -> StoreFault {
+    match error {
+        CopyError::Foreign => StoreFault::Foreign,
+        CopyError::Damaged => StoreFault::Damaged,
+        CopyError::NoMemory => StoreFault::Store(KeepError::NoMemory),
+        CopyError::Store(error) => StoreFault::Store(error),
+    }
+}
+
+/// The bytes of a file, none where it is not there.
+fn bytes(rt: &HostRuntime, name: &str) -> Result<Vec<u8>, StoreFault> {
+    match fs::metadata(rt, name) {
+        Ok(about) if !about.is_file() || about.len() > MOST_BYTES => {
+            return Err(StoreFault::Foreign);
+        }
+        Ok(_) => {}
+        Err(error) if error.kind() == ErrorKind::NotFound => return Ok(Vec::new(rt.alloc())),
+        Err(error) => return Err(system_fault(error.kind())),
+    }
+    match fs::read(rt, name) {
+        Ok(bytes) => Ok(bytes),
+        Err(error) => Err(system_fault(error.kind())),
+    }
+}
+
+/// What lies in the two files of a database.
+#[derive(Drop)]
+struct Lying {
+    db: Vec<u8>,
+    log: Vec<u8>,
+}
+
+/// The name of the log of a database: it lies beside the file itself, where a link leads to that.
+fn log_of(rt: &HostRuntime, name: &str) -> Result<String, StoreFault> {
+    let made = match fs::canonicalize(rt, name) {
+        Ok(path) => {
+            let path = path.as_str();
+            format!(in rt.alloc(); "{path}-wal")
+        }
+        Err(error) if error.kind() == ErrorKind::NotFound => format!(in rt.alloc(); "{name}-wal"),
+        Err(error) => return Err(system_fault(error.kind())),
+    };
+    match made {
+        Ok(log) => Ok(log),
+        Err(_) => Err(StoreFault::Store(KeepError::NoMemory)),
+    }
+}
+
+impl Lying {
+    fn read(rt: &HostRuntime, name: &str) -> Result<Lying, StoreFault> {
+        let log = log_of(rt, name)?;
+        Ok(Lying {
+            db: bytes(rt, name)?,
+            log: bytes(rt, &log)?,
+        })
+    }
+
+    fn is(&self, other: &Lying) -> bool {
+        self.db.as_slice() == other.db.as_slice() && self.log.as_slice() == other.log.as_slice()
+    }
+}
+
+/// What lies in two files at one moment: they are read until two readings agree, since another program may write them.
+fn at_one_moment(rt: &HostRuntime, name: &str) -> Result<Lying, StoreFault> {
+    let mut before = Lying::read(rt, name)?;
+    for _ in 0..READINGS {
+        let now = Lying::read(rt, name)?;
+        if now.is(&before) {
+            return Ok(now);
+        }
+        before = now;
+    }
+    Err(StoreFault::Locked)
+}
+
+/// A store over a copy of the files, in memory.
+fn copied(
+    rt: &HostRuntime,
+    name: &str,
+    block: Block,
+) -> Result<SqliteKeep<FileStore<sqlite_disk::Memory>>, StoreFault> {
+    let lying = at_one_moment(rt, name)?;
+    match open_copy(rt.alloc(), &lying.db, &lying.log, block) {
+        Ok(store) => Ok(store),
+        Err(error) => Err(copy_fault(error)),
+    }
+}
+
+/// Whether the files may be opened to be written: those of records alone may, and what is not there yet.
+fn may_be_opened(rt: &HostRuntime, name: &str) -> Result<(), StoreFault> {
+    match copied(rt, name, all_addresses()) {
+        Ok(_) => Ok(()),
+        // Of which block its records are, the store says.
+        Err(StoreFault::Store(KeepError::BadStore)) => Ok(()),
+        Err(fault) => Err(fault),
+    }
+}
+
+/// The block of all short addresses.
+fn all_addresses() -> Block {
+    match (Short::of(0), Short::of(63)) {
+        (Some(first), Some(last)) => Block { first, last },
+        _ => unreachable!(),
+    }
+}
+
+/// Why a file cannot be opened that may be one of records.
+fn why_closed(rt: &HostRuntime, name: &str, error: Error) -> StoreFault {
     match error {
         Error::SqliteFailure(ErrorCode::DatabaseBusy) => StoreFault::Locked,
         Error::SqliteFailure(ErrorCode::OutOfMemory) => StoreFault::Store(KeepError::NoMemory),
-        _ => StoreFault::CannotOpen,
+        Error::SqliteFailure(ErrorCode::DiskFull) => StoreFault::Full,
+        Error::SqliteFailure(ErrorCode::DatabaseCorrupt) => StoreFault::Damaged,
+        Error::SqliteFailure(ErrorCode::NotADatabase) => StoreFault::Foreign,
+        _ => written_fault(rt, name),
+    }
+}
+
+/// Why the system does not let a file be written, which is made where it is missing.
+fn written_fault(rt: &HostRuntime, name: &str) -> StoreFault {
+    match opened_to_write(rt, name) {
+        Ok(_) => StoreFault::CannotOpen,
+        Err(error) if error.kind() == ErrorKind::NotFound => StoreFault::NoFolder,
+        Err(error) => system_fault(error.kind()),
+    }
+}
+
+fn opened_to_write(rt: &HostRuntime, name: &str) -> io::Result<fs::File> {
+    fs::File::options()
+        .read(true)
+        .write(true)
+        .create(true)
+        .open(rt, name)
+}
+
+fn opened(rt: &HostRuntime, name: &str) -> Result<Connection<FileStore<File>>, StoreFault> {
+    may_be_opened(rt, name)?;
+    match Connection::open(rt, name) {
+        Ok(conn) => Ok(conn),
+        Err(error) => Err(why_closed(rt, name, error)),
     }
 }
 
@@ -52,6 +201,25 @@ fn lent<S: Alter + Drop, B: Borrower>(
     Ok((store.into_connection(), done))
 }
 
+fn failure(fault: StoreFault) -> Failure {
+    Failure::Store(fault)
+}
+
+/// Closes a database, and leaves its file alone: what is in the log is copied into it, and the log is removed while the
+/// file is still locked. Whether all was copied.
+fn closed(rt: &HostRuntime, name: &str, conn: Connection<FileStore<File>>) -> bool {
+    match conn.close_files() {
+        Ok(files) => {
+            if let Ok(log) = log_of(rt, name) {
+                let _ = fs::remove_file(rt, &log);
+            }
+            drop(files);
+            true
+        }
+        Err(_) => false,
+    }
+}
+
 impl Stores for Files<'_> {
     fn has(&self, name: &str) -> bool {
         match fs::exists(self.rt, name) {
@@ -62,13 +230,19 @@ impl Stores for Files<'_> {
     }
 
     fn lend<B: Borrower>(&self, name: &str, block: Block, borrower: &B) -> Result<(), Failure> {
-        let (conn, done) = lent(opened(self.rt, name)?, block, borrower)?;
-        let is_closed = conn.close().is_ok();
+        let conn = opened(self.rt, name).map_err(failure)?;
+        let (conn, done) = lent(conn, block, borrower)?;
+        let is_closed = closed(self.rt, name, conn);
         done?;
         if is_closed {
             Ok(())
         } else {
             Err(Failure::Store(StoreFault::Store(KeepError::StoreFailed)))
         }
+    }
+
+    fn lend_copy<B: Borrower>(&self, name: &str, borrower: &B) -> Result<(), Failure> {
+        let mut store = copied(self.rt, name, all_addresses()).map_err(failure)?;
+        borrower.take(&mut store)
     }
 }
