@@ -6,17 +6,20 @@ import os
 import pathlib
 import re
 import resource
+import shutil
 import signal
 import sqlite3
 import subprocess
+import sys
 import time
 
-from commission_site import DONE, DRIVER, ENROL, GAVE_UP, RESERVE, STORE
+from commission_site import DONE, DRIVER, ENROL, GAVE_UP, NOBODY, RESERVE, STORE
 
 ALL = (0, 63)
 # Six gear: a run that finds them all in its table has at least so many lines.
 GEAR, LEAST = 6, 3 * (3 * (64 - 6) + 17)
-LOCKED = "locked: another program has the file open"
+LOCKED = "another program has the file open"
+FOREIGN = "it is no file of records, and is left as it is\n"
 # What a driver may tell that is none of its answers, each with what the program says of it.
 BAD = {
     "bad line": [
@@ -75,9 +78,9 @@ def locked(place, chance):
         time.sleep(0.01)
     time.sleep(0.5)
     raw = place.records.read_bytes()
-    tasks = {"run": words, "check": ["check", "--records", place.records], "table": ["table", "--records", place.records]}
-    for name, task in tasks.items():
-        check_store(place, f"{name} of records that another run has", place.alone(*task), LOCKED)
+    check_store(place, "run of records that another run has", place.alone(*words), LOCKED)
+    ran = place.alone("table", "--records", place.records)
+    place.check("table reads records that another run has", ran.status == DONE, ran)
     place.check("records that are locked stay as they are", place.records.read_bytes() == raw)
     place.check("the run that has them waits", program.poll() is None)
     program.kill()
@@ -88,8 +91,9 @@ def locked(place, chance):
     check_goes_on(place, "a driver that never answers")
     with contextlib.closing(sqlite3.connect(place.records, isolation_level=None)) as other:
         other.execute("begin exclusive")
-        for name, task in tasks.items():
-            check_store(place, f"{name} of records that SQLite has locked", place.alone(*task), LOCKED)
+        check_store(place, "run of records that SQLite has locked", place.alone(*words), LOCKED)
+        ran = place.alone("table", "--records", place.records)
+        place.check("table reads records that SQLite has locked", ran.status == DONE, ran)
 
 
 def missing(place, _chance):
@@ -100,9 +104,99 @@ def missing(place, _chance):
             check_store(place, f"{words[0]} of records that are missing", ran, "there is no such file of records\n")
     place.check("none are made then", not list(place.folder.glob("missing*")), list(place.folder.iterdir()))
     ran = place.alone("run", "--records", nowhere, "0-63")
-    check_store(place, "a run whose records are in no folder", ran, "cannot be opened")
+    check_store(place, "a run whose records are in no folder", ran, "its folder is not there\n")
     ran = place.alone("run", "--records", place.folder, "0-63")
-    check_store(place, "a run whose records are a folder", ran, "cannot be opened")
+    check_store(place, "a run whose records are a folder", ran, FOREIGN)
+
+
+# What makes a database of each kind that is none of records, or no file of SQLite at all.
+TABLE = """CREATE TABLE record(
+  seq INTEGER PRIMARY KEY,
+  kind INTEGER NOT NULL,
+  address INTEGER NOT NULL CHECK(address BETWEEN 0 AND 63),
+  random INTEGER NOT NULL CHECK(random BETWEEN 0 AND 16777214))"""
+STRANGERS = {
+    "a text": b"5 123456\n" * 20,
+    "a database without a log": ("create table note(id integer primary key)",),
+    "a database without a log that has a table of records": (TABLE,),
+    "a database with a log": ("pragma journal_mode = wal", "create table note(id integer primary key)"),
+    "records beside another table": ("pragma journal_mode = wal", TABLE, "create table note(id integer primary key)"),
+    "records with an index": ("pragma journal_mode = wal", TABLE, "create index i on record(kind)"),
+    "records with a trigger": (
+        "pragma journal_mode = wal", TABLE, "create trigger t after insert on record begin select 1; end",
+    ),
+    "records of another form": ("pragma journal_mode = wal", "create table record(seq integer primary key, kind, address, random)"),
+    "records of another version": ("pragma journal_mode = wal", TABLE, "pragma user_version = 99"),
+}
+
+
+def made(path, what):
+    """A file of somebody else's: bytes, or a database by its statements. A program that is killed leaves its log."""
+    if isinstance(what, bytes):
+        path.write_bytes(what)
+        return
+    text = f"import os, sqlite3\nc = sqlite3.connect({str(path)!r}, isolation_level=None)\n"
+    text += "".join(f"c.execute({it!r})\n" for it in what) + "os._exit(0)\n"
+    subprocess.run([sys.executable, "-c", text], check=True)
+
+
+def foreign(place, _chance):
+    """Files of somebody else are refused by name, and not one byte of them is changed."""
+    for name, what in STRANGERS.items():
+        folder = place.folder / "foreign"
+        folder.mkdir()
+        made(folder / "site.db", what)
+        before = {it.name: it.read_bytes() for it in folder.iterdir()}
+        for words in (["run", "0-63"], ["check"], ["table"]):
+            ran = place.alone(words[0], "--records", folder / "site.db", *words[1:])
+            check_store(place, f"{words[0]} over {name}", ran, f"site.db: {FOREIGN}")
+            now = {it.name: it.read_bytes() for it in folder.iterdir()}
+            place.check(f"{name} stays as it is after {words[0]}", now == before, [*now])
+        shutil.rmtree(folder)
+
+
+def read_only(place, _chance):
+    """Records on a disk that cannot be written are read, and no run begins over them."""
+    folder = place.folder / "disk"
+    folder.mkdir()
+    mount = ["mount", "-t", "tmpfs", "-o", "size=4m", "none", folder]
+    if os.geteuid() or subprocess.run(mount, capture_output=True).returncode:
+        print("not checked: a disk that cannot be written; it needs root, and leave to mount", flush=True)
+        return
+    try:
+        place.records = folder / "records.db"
+        check_goes_on(place, "nothing", "--gear", 3)
+        subprocess.run(["mount", "-o", "remount,ro", folder], check=True)
+        rows = place.rows(in_place=False)
+        ran = place.alone("table", "--records", place.records)
+        place.check("a table is read on a disk that cannot be written", ran.status == DONE and len(ran.wrote.split()) == 6, ran)
+        ran = place.run(["check", "--records", place.records], place.simulated())
+        place.check("records on a disk that cannot be written are checked", ran.status == DONE, ran)
+        check_store(place, "a run on a disk that cannot be written", place.alone(*run_words(place)), "its disk cannot be written\n")
+        place.check("records on such a disk stay as they are", place.rows(in_place=False) == rows, rows)
+    finally:
+        place.records = place.folder / "records.db"
+        subprocess.run(["umount", folder])
+
+
+def dead_bus(place, _chance):
+    """A bus on which nobody answers is told, whatever is asked of it, and also where the table has gear."""
+    records, said = place.folder / "dead.db", "nobody answered: is the interface connected, is the bus powered?\n"
+    place.write_gear([])
+    for words in (["run", "--records", records, "0-63"], ["check", "--records", records], ["check"]):
+        ran = place.run(words, place.simulated())
+        place.check(f"a bus without gear is told by {words[0]}", ran.status == NOBODY and ran.said.endswith(said), ran)
+    ran = place.run(["identify", 5], place.simulated())
+    is_told = ran.status == NOBODY and ran.said == "nobody answers to short address 5\n"
+    place.check("an address without gear is told by identify", is_told, ran)
+    place.gear_file.unlink()
+    check_goes_on(place, "a dead bus", "--gear", 3)
+    gear = place.gear()
+    place.write_gear([])
+    ran = place.run(run_words(place), place.simulated())
+    place.check("a dead bus is told where the table has gear", ran.status == NOBODY and ran.said.endswith(said), ran)
+    place.write_gear(gear)
+    check_goes_on(place, "the bus is powered again")
 
 
 def spoilt(place, chance):
@@ -137,10 +231,6 @@ def spoilt(place, chance):
                 other.execute(form, values)
         raw, gear = place.records.read_bytes(), place.gear_file.read_bytes()
         ran = place.run(run_words(place), place.simulated())
-        if name in ("another table", "a column more"):
-            # A file without a table of records has none yet: then gear answer that it does not name. A column more is open.
-            count_end(place, f"over records with {name}", ran)
-            continue
         place.check(f"records with {name} are refused by run", ran.status == STORE and not ran.lines, ran)
         ran = place.alone("table", "--records", place.records)
         place.check(f"records with {name} are refused by table", ran.status == STORE and not ran.wrote, ran)
@@ -289,7 +379,7 @@ def closes(place, chance):
 
 
 def slow(place, _chance):
-    words = run_words(place, "--others", "4-63", "--quiet-runs", "1", block="0-3")
+    words = run_words(place, "--others", "4-63", "--idle-passes", "1", block="0-3")
     ran = place.run(words, place.simulated("--gear", 1, "--slow", 0.005))
     place.check("a slow driver is waited for", ran.status == DONE, ran)
     check_sound(place)
@@ -299,7 +389,7 @@ def slow(place, _chance):
 
 
 # A run of few frames over one gear.
-SHORT = {"words": ("--others", "4-63", "--quiet-runs", "1"), "block": "0-3"}
+SHORT = {"words": ("--others", "4-63", "--idle-passes", "1"), "block": "0-3"}
 
 
 def short_run(place, **more):
@@ -372,7 +462,7 @@ def gives_up(place, _chance):
         ran = place.run(run_words(place), place.simulated("--gear", 3, trouble, 1))
         place.check("a bus on which no frame comes through is given up", ran.status == GAVE_UP and not place.rows(), ran)
     ran = place.run(run_words(place), place.simulated("--lose", 1))
-    place.check("a bus on which no answer is heard ends all-found, without rows", ran.status == DONE and not place.rows(), ran)
+    place.check("a bus on which no answer is heard is told as dead", ran.status == NOBODY and not place.rows(), ran)
     check_goes_on(place, "a bus is mended")
 
 
@@ -405,5 +495,5 @@ def no_output(place, _chance):
 
 FAULTS = (
     full_disk, lines_beside, silence_ahead, byte_ahead, bad_lines, longest_file, opening, signals, dies, spoilt, closes, locked,
-    shows, stalls, missing, blocks, slow, gives_up, no_output,
+    shows, stalls, missing, foreign, read_only, dead_bus, blocks, slow, gives_up, no_output,
 )

@@ -23,7 +23,7 @@ BETWEEN = ROOT / "tools/commission_between.py"
 JOIN = "import json, sys; import joining; sys.exit(joining.join(*json.loads(sys.argv[1])))"
 MASK24 = 0xFFFFFF
 # The exit statuses of the program.
-DONE, NOT_SO, DRIVER, STORE, BLOCK_FULL, GAVE_UP, KILLED = 0, 1, 4, 5, 6, 7, -signal.SIGKILL
+DONE, NOT_SO, DRIVER, STORE, BLOCK_FULL, GAVE_UP, NOBODY, KILLED = 0, 1, 4, 5, 6, 7, 10, -signal.SIGKILL
 ENDS = {KILLED: "killed", DONE: "all-found", NOT_SO: "not begun", BLOCK_FULL: "block-full", GAVE_UP: "gave-up"}
 TABLE = """CREATE TABLE record(seq INTEGER PRIMARY KEY, kind INTEGER NOT NULL,
 address INTEGER NOT NULL CHECK(address BETWEEN 0 AND 63), random INTEGER NOT NULL CHECK(random BETWEEN 0 AND 16777214))"""
