@@ -49,6 +49,8 @@ def check_goes_on(place, name, *words):
     """The next run goes on to the end, and its records begin with those that were there."""
     rows = place.rows()
     ran = place.run(run_words(place), place.simulated(*words))
+    files = [it.name for it in place.records.parent.glob(f"{place.records.name}*")]
+    place.check("a run that ended leaves one file", files == [place.records.name], files)
     is_so = ran.status == DONE and place.rows()[: len(rows)] == rows
     place.check(f"after {name} the next run goes on to the end", is_so, ran)
     kept = check_sound(place)
