@@ -18,6 +18,8 @@ static unsigned long calls;
 static unsigned long threads;
 static void *blocks[PLACES];
 static char busy;
+/* What is asked for to tell the numbers is not the program's. */
+static char is_over;
 
 static void enter(void) {
     while (__atomic_test_and_set(&busy, __ATOMIC_ACQUIRE)) sched_yield();
@@ -59,7 +61,7 @@ static void freed(void *block) {
 static int refused(void) {
     const char *nth = getenv("REFUSE_NTH");
     unsigned long call = __atomic_add_fetch(&calls, 1, __ATOMIC_SEQ_CST);
-    if (!nth) return 0;
+    if (!nth || is_over) return 0;
     unsigned long n = strtoul(nth, 0, 10);
     return call == n || (getenv("REFUSE_REST") && call > n);
 }
@@ -123,6 +125,7 @@ static void tell(const char *name, unsigned long number) {
 
 __attribute__((destructor)) static void told(void) {
     unsigned long live = 0, made = calls;
+    is_over = 1;
     for (unsigned long place = 0; place < PLACES; place++) live += blocks[place] != 0;
     tell("REFUSE_COUNT", made);
     tell("REFUSE_LIVE", live);
