@@ -489,4 +489,34 @@ fn a_machine_says_why_it_gave_up_or_found_a_conflict(rt: HostRuntime) {
     let said =
         "random address 123456: it answers to short address 0, and the table has it under 5\n";
     ends(&rt, RUN, &Shelf::of(&FIVE), &told, (8, 3, said));
+    // Addresses 0 to 4 are silent, and the gear under 5 tells another random address than the table has there.
+    let mut other = answers(&rt, "", 15);
+    assert!(rt; other.push_str("byte AA\nbyte BB\nbyte CC\n").is_ok());
+    let said =
+        "short address 5: the gear with random address AABBCC answers, and the table has 123456 there\n";
+    ends(&rt, RUN, &Shelf::of(&FIVE), &other, (8, 18, said));
+}
+
+/// Nobody is heard in the census. Then each search ends at the random address 000000, and nobody tells a short address.
+#[test]
+fn searches_that_lead_to_nobody_are_given_up(rt: HostRuntime) {
+    let mut heard = answers(&rt, "", 581);
+    for _ in 0..16u8 {
+        for _ in 0..25u8 {
+            assert!(rt;
+                heard
+                    .push_str("silence\nsilence\nsilence\nbyte FF\n")
+                    .is_ok()
+            );
+        }
+        assert!(rt;
+            heard
+                .push_str("silence\nsilence\nsilence\nsilence\n")
+                .is_ok()
+        );
+    }
+    assert!(rt; heard.push_str("silence\n").is_ok());
+    let said = "sixteen searches in a row led to a gear that did not answer; \
+        the last frames were under the search address 000000\n";
+    ends(&rt, FRESH, &Shelf::of(&[]), &heard, (7, 2246, said));
 }
