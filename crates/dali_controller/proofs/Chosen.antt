@@ -3,10 +3,9 @@ use Rattle.dali_frame.specs.declared.frames.Answer.{Answer}
 use Rattle.dali_frame.specs.declared.numbers.SearchAddress.{SearchAddress}
 use Rattle.dali_special.specs.declared.command.Command.{Command}
 use Rattle.dali_script.specs.declared.stage.Stage.{Stage}
-use Rattle.dali_script.specs.declared.stage.Stage.TheVariants.{Free, Terminated, InitialisedOnce, Initialised, RandomisedOnce, Opened, HighSent, MiddleSent}
-use Rattle.dali_script.specs.declared.stage.Stage.TheVariants.{NumberSent, LowSent, Hunted}
-use Rattle.dali_script.specs.declared.stage.Stage.TheVariants.{Probed, Found, Unnamed, Unanswered, Inconclusive, Programmed, Confirmed, Withdrawn, HighAsked}
-use Rattle.dali_script.specs.declared.stage.Stage.TheVariants.{MiddleAsked, Spelled, Over}
+use Rattle.dali_script.specs.declared.stage.Stage.TheVariants.{Free}
+use Rattle.dali_script.specs.declared.stage.Stage.TheVariants.{Hunted}
+use Rattle.dali_script.specs.declared.stage.Stage.TheVariants.{Unnamed}
 use Rattle.dali_controller.specs.declared.purpose.Purpose.{Purpose}
 use Rattle.dali_controller.specs.Course.{turn_of}
 use Rattle.dali_controller.specs.Whole.{IsMet, IsChosen}
@@ -17,24 +16,5 @@ pub chosen : (n : SearchAddress) (p : Purpose) (s : Stage) (c : Command) (b : Bo
     → IsTrue b ↔ ((turn_of p n s ≡ Some c) × IsMet s p n) → IsTrue b ↔ IsChosen n p s c
 chosen n p Free c b free unnamed hunted is = absurd (free refl)
 chosen n p (Unnamed r) c b free unnamed hunted is = absurd (unnamed r refl)
-chosen n p Terminated c b free unnamed hunted is = is
-chosen n p InitialisedOnce c b free unnamed hunted is = is
-chosen n p Initialised c b free unnamed hunted is = is
-chosen n p RandomisedOnce c b free unnamed hunted is = is
-chosen n p Opened c b free unnamed hunted is = is
-chosen n p (HighSent high) c b free unnamed hunted is = is
-chosen n p (MiddleSent high middle) c b free unnamed hunted is = is
-chosen n p (NumberSent r) c b free unnamed hunted is = is
-chosen n p (LowSent high low) c b free unnamed hunted is = is
 chosen n p (Hunted r last left) c b free unnamed hunted is = absurd (hunted r last left refl)
-chosen n p (Probed r h) c b free unnamed hunted is = is
-chosen n p (Found r a) c b free unnamed hunted is = is
-chosen n p (Unanswered r) c b free unnamed hunted is = is
-chosen n p (Inconclusive r o) c b free unnamed hunted is = is
-chosen n p (Programmed r a) c b free unnamed hunted is = is
-chosen n p (Confirmed r a) c b free unnamed hunted is = is
-chosen n p (Withdrawn r a) c b free unnamed hunted is = is
-chosen n p (HighAsked a h) c b free unnamed hunted is = is
-chosen n p (MiddleAsked a h) c b free unnamed hunted is = is
-chosen n p (Spelled a h) c b free unnamed hunted is = is
-chosen n p Over c b free unnamed hunted is = is
+chosen n p _ c b free unnamed hunted is = is

@@ -32,27 +32,47 @@ use Rattle.dali_search.specs.Least.{Search, step_after, probe_after, next_probe,
 use Rattle.dali_controller.specs.declared.purpose.Purpose.{Purpose}
 use Rattle.dali_controller.specs.declared.purpose.Purpose.TheVariants.{Opening, Probing, Visiting, Resolving, Closing, Asking, Waking, Hunting}
 use Rattle.dali_controller.specs.Parts.{Parts}
-use Rattle.dali_controller.specs.Course.{Course, turn_of, is_yes, after_step, probed, number_at, address_for, unless_enrolled, unfinished_at, unfinished_among}
-use Rattle.dali_controller.specs.Course.{taking, missed, hunted, searching_on, searching_first, here_or_later, closing, going_on, going_on_early}
-use Rattle.dali_controller.specs.Course.{visit_or_opening, next_unfinished}
+use Rattle.dali_controller.specs.Course.{Course, first_of, turn_of, is_yes, after_step, probed, number_at, address_for, unless_enrolled, unfinished_at}
+use Rattle.dali_controller.specs.Course.{unfinished_among, taking, missed, hunted, searching_on, searching_first, here_or_later, closing, going_on}
+use Rattle.dali_controller.specs.Course.{going_on_early, visit_or_opening, next_unfinished}
 use Rattle.dali_controller.specs.Machine.{Machine, machine_lost, machine_committed, machine_told, woken_after}
 use Rattle.dali_controller.specs.Next.{begins_at, course_by, course_on, next_course, beginning, probed_to, probed_in, draw_or_close, draws, draws_by}
-use Rattle.dali_controller.specs.Next.{silenced, goes_on_to, goes_on_anew, hunted_to, question, unanswered, at_rest, asked_once}
+use Rattle.dali_controller.specs.Next.{BeginsWith, silenced, goes_on_to, goes_on_anew, hunted_to, question, unanswered, at_rest, asked_once}
 use Rattle.dali_controller.specs.declared.way.Way.{Way}
 use Rattle.dali_controller.specs.declared.way.Way.TheVariants.{Fresh, Surveying, Drawing}
 use Rattle.dali_script.specs.declared.orders.End.{End}
 use Rattle.dali_script.specs.declared.orders.End.TheVariants.{AllFound, BlockFull, GaveUp}
-use Rattle.dali_controller.specs.Orders.{AfterFinding, AfterEnrolled, IsFollowed, IsSought}
+use Rattle.dali_controller.specs.Orders.{machine_ordered, AfterFinding, AfterEnrolled, IsFollowed, IsSought}
 use Rattle.dali_controller.specs.Parts.{machine_of, parts_course}
-use Rattle.dali_controller.specs.Moments.{Starts}
+use Rattle.dali_controller.specs.Moments.{Begun, IsMoment, IsNext}
 use Rattle.dali_controller.specs.Whole.{IsWhole, Pending}
 
 -- THE COURSE OF A MACHINE is the one of the table of moments.
 
 -- a transaction that begins where the trace has this stage
-pub started : (w : Parts) (s : Stage) (o : Order) (new : Parts) (c : Course) → stage_of w.trace ≡ s → c ≡ begins_at (machine_of w) s → Starts c o new
-    → parts_course new ≡ course_by (machine_of w) o
-started w s o new c stage is starts = rw starts.order (starts.course ∙ is ∙ ap (λ x. begins_at (machine_of w) x) (sym stage))
+pub started : (w : Parts) (s : Stage) (t : Machine) (o : Order) (new : Machine) (c : Course) → stage_of w.trace ≡ s → c ≡ begins_at (machine_of w) s
+    → Begun t c o new → new.course ≡ course_by (machine_of w) o
+started w s t o new c stage is begun = rw begun.order (begun.course ∙ is ∙ ap (λ x. begins_at (machine_of w) x) (sym stage))
+
+-- a transaction that begins is a moment
+pub begins_moment : (t u : Machine) (c : Course) (o : Order) (new : Machine) → Begun u c o new → new.course ≡ course_by t o → IsNext t o new
+    → IsMoment t o new
+begins_moment t u c o new begun course next =
+    let first : frame_of (first_of c.purpose c.number) ≡ frame_of (first_of new.course.purpose new.course.number) =
+    ap (λ (x : Course). frame_of (first_of x.purpose x.number)) (sym begun.course) in
+    record { begins = rw begun.order (λ e. first); course = course; next = next; whole = begun.whole }
+
+-- where the trace has this stage
+pub begun_at : (w : Parts) (s : Stage) (o : Order) (new : Machine) (c : Course) → stage_of w.trace ≡ s → c ≡ begins_at (machine_of w) s
+    → Begun (machine_of w) c o new → IsMoment (machine_of w) o new
+begun_at w s o new c stage is begun =
+    begins_moment (machine_of w) (machine_of w) c o new begun (started w s (machine_of w) o new c stage is begun) begun.next
+
+-- and so is an order that leaves the course
+pub stays_moment : (t : Machine) (o : Order) (new : Machine) → BeginsWith new.course o → new ≡ machine_ordered t o → IsNext t o new → IsWhole new
+    → IsMoment t o new
+stays_moment t o new begins state next whole =
+    record { begins = begins; course = ap (λ (m : Machine). m.course) state; next = next; whole = whole }
 
 -- a search that led to no gear goes on, where it was not the sixteenth in a row
 pub on_anew : (w : Parts) (new : Ascent) → new ≡ begun_anew w.ascent → (w.silent ≡ 16 → ⊥) → next_course (machine_of w) ≡ silenced (machine_of w)
@@ -79,17 +99,23 @@ course_stays t (Hunted r (Some h) left) c e = absurd (go t.course.purpose e) whe
   go Waking e = cc
 course_stays t _ c e = refl
 
-pub put_course : (w : Parts) (s : Stage) (c : Command) (o : Order) (new : Course) → stage_of w.trace ≡ s → turn_of w.purpose w.number s ≡ Some c
+put_course : (w : Parts) (s : Stage) (c : Command) (o : Order) (new : Course) → stage_of w.trace ≡ s → turn_of w.purpose w.number s ≡ Some c
     → o ≡ Put LATER (frame_of c) → new ≡ parts_course w → new ≡ course_by (machine_of w) o
 put_course w s c o new stage turn is same =
     same ∙ sym (ap (course_by (machine_of w)) is ∙ ap (course_on (machine_of w)) stage ∙ course_stays (machine_of w) s c turn)
 
+pub put_moment : (w : Parts) (s : Stage) (c : Command) (o : Order) (new : Machine) → stage_of w.trace ≡ s → turn_of w.purpose w.number s ≡ Some c
+    → o ≡ Put LATER (frame_of c) → new.course ≡ parts_course w → IsNext (machine_of w) o new → IsWhole new → IsMoment (machine_of w) o new
+put_moment w s c o new stage turn is same next whole =
+    record { begins = rw is (λ e. absurd (cc)); course = put_course w s c o new.course stage turn is same; next = next; whole = whole }
+
 -- the same transaction once more, after it was lost
-pub lost_course : (w : Parts) (t : List Entry) (o : Order) (new : Parts) → due_after w.last ≡ due.Bus → t ≡ []
-    → Starts (taking (parts_course w) w.purpose w.number) o new → parts_course new ≡ course_by (machine_lost (machine_of w)) o
-lost_course w t o new bus empty starts =
-    started (record w { trace = []; tries = w.tries + 1 }) Free o new (taking (parts_course w) w.purpose w.number) stage_none
-    (sym (rests w.last bus)) starts where
+pub lost_course : (w : Parts) (t : List Entry) (o : Order) (new : Machine) → due_after w.last ≡ due.Bus → t ≡ []
+    → Begun (machine_of (record w { trace = t; tries = w.tries + 1 })) (taking (parts_course w) w.purpose w.number) o new
+    → new.course ≡ course_by (machine_lost (machine_of w)) o
+lost_course w t o new bus empty begun =
+    started (record w { trace = []; tries = w.tries + 1 }) Free _ o new (taking (parts_course w) w.purpose w.number) stage_none
+    (sym (rests w.last bus)) begun where
       rests : (l : Option Order) → due_after l ≡ due.Bus → at_rest (machine_of (record w { trace = []; tries = w.tries + 1 })) l ≡ parts_course w
       rests (Some (Put p f)) bus = refl
       rests _ bus = absurd (cc)

@@ -7,7 +7,6 @@ use Rattle.dali_script.specs.declared.records.Record.TheVariants.{Enrol, Release
 use Rattle.dali_script.specs.Records.{Kept}
 use Rattle.dali_script.specs.Stages.{stage_of}
 use Rattle.dali_script.specs.declared.orders.Input.{Input}
-use Rattle.dali_script.specs.declared.orders.Input.TheVariants as input
 use Rattle.dali_script.specs.declared.orders.Order.TheVariants.{Put, Commit, Done}
 use Rattle.dali_script.specs.declared.orders.End.{End}
 use Rattle.dali_script.specs.declared.orders.End.TheVariants.{AllFound}
@@ -57,13 +56,7 @@ a_lost_frame_is_a_try k = refl
 
 -- after an end nothing is due
 nothing_after_an_end : (e : End) (i : Input) → accepts (due_after (Some (Done e))) i ≡ false
-nothing_after_an_end e input.Start = refl
-nothing_after_an_end e input.Survey = refl
-nothing_after_an_end e (input.Heard h) = refl
-nothing_after_an_end e input.Destroyed = refl
-nothing_after_an_end e input.Lapsed = refl
-nothing_after_an_end e input.Committed = refl
-nothing_after_an_end e input.CommitFailed = refl
+nothing_after_an_end e _ = refl
 
 -- a reservation is not released before its gear is enrolled, nor twice, nor where the gear has that address
 no_release_before_an_enrolment : (t : Machine) (p a n : ℕ) (f : Forward) → t.last ≡ Some (Put p f) → IsWarranted t (Release a n) → ⊥

@@ -47,13 +47,8 @@ pub record IsGivenBy (t : Machine) (o : Order) : Type 0 where
 
 -- each input but a commit that failed is followed so
 pub given_by : (m : Machine) (i : Input) (o : Order) → (i ≡ input.CommitFailed → ⊥) → IsGiven m i o → IsGivenBy (machine_told m i) o
-given_by m input.Start o other given = record { ordered = given.answered; begins = given.begins; followed = given.followed }
-given_by m input.Survey o other given = record { ordered = given.answered; begins = given.begins; followed = given.followed }
-given_by m (input.Heard h) o other given = record { ordered = given.answered; begins = given.begins; followed = given.followed }
-given_by m input.Destroyed o other given = record { ordered = given.answered; begins = given.begins; followed = given.followed }
-given_by m input.Lapsed o other given = record { ordered = given.answered; begins = given.begins; followed = given.followed }
-given_by m input.Committed o other given = record { ordered = given.answered; begins = given.begins; followed = given.followed }
 given_by m input.CommitFailed o other given = absurd (other refl)
+given_by m _ o other given = record { ordered = given.answered; begins = given.begins; followed = given.followed }
 
 -- what is enrolled is the pair of a finding
 found_assigned : (reserved : List Assignment) (x : Finding) (p : Assignment) → MayEnrol reserved x p → p ≡ assigned x

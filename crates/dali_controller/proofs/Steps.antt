@@ -1,4 +1,4 @@
-use Rattle.std.proofs.Common.{lit<, ◌≡◌, ◌⊎◌, inl, inr, ℕ, ◌+◌, ◌<◌, ◌≤◌, Bool, true, false, List, [], ◌∷◌, ◌++◌, refl, sym, ap}
+use Rattle.std.proofs.Common.{lit<, ◌≡◌, ◌⊎◌, inl, inr, ℕ, ◌+◌, ◌<◌, ◌≤◌, Bool, true, false, List, [], ◌∷◌, ◌++◌, refl, sym, ap, ap₂}
 use Rattle.std.proofs.Common.{subst, ◌∙◌, arith, Option, Some, None}
 use Rattle.std.specs.Prelude.{◌-◌, ◌==◌, is_some, unwrap_or, if◌then◌else◌}
 use Rattle.std.proofs.lemmas.Bool.Decides.{nat_tests}
@@ -36,7 +36,7 @@ use Rattle.dali_script.proofs.Lists.{has_map, has_last}
 use Rattle.dali_search.specs.Least.{Search}
 use Rattle.dali_search.specs.Ascending.{Ascent, asked_next, leads_to}
 use Rattle.dali_script.specs.declared.orders.Order.{Order}
-use Rattle.dali_script.specs.declared.orders.Order.TheVariants.{Put, Commit, Done, Halt}
+use Rattle.dali_script.specs.declared.orders.Order.TheVariants.{Put, Commit, Done}
 use Rattle.dali_script.specs.declared.orders.End.{End}
 use Rattle.dali_script.specs.declared.orders.End.TheVariants.{BlockFull, GaveUp}
 use Rattle.dali_script.specs.declared.orders.Due.TheVariants as due
@@ -47,7 +47,7 @@ use Rattle.dali_controller.specs.declared.way.Way.{Way}
 use Rattle.dali_controller.specs.declared.way.Way.TheVariants.{Fresh, Surveying, Drawing}
 use Rattle.dali_controller.specs.Parts.{Parts}
 use Rattle.dali_script.specs.Due.{due_after, frame_put}
-use Rattle.dali_controller.specs.Course.{Course, first_of, turn_of, closing_of, drawing, address_for, least_open, byte_to_send, bytes_to_send}
+use Rattle.dali_controller.specs.Course.{Course, taking, first_of, turn_of, closing_of, drawing, address_for, least_open, byte_to_send, bytes_to_send}
 use Rattle.dali_controller.specs.Machine.{machine_lost, Machine, opened_after, woken_after, silent_after, tries_after}
 use Rattle.dali_controller.specs.Next.{begins_at, course_by, beginning, next_course, draw_or_close}
 use Rattle.dali_controller.specs.Orders.{IsBegun, AfterMaskBy, AfterMaskOn, IsOrderedTo}
@@ -55,7 +55,7 @@ use Rattle.dali_controller.specs.Orders.{is_left, is_left_by, machine_ordered}
 use Rattle.dali_controller.specs.Orders.{running_close}
 use Rattle.dali_controller.specs.Parts.{parts_course, machine_of}
 use Rattle.dali_controller.specs.Whole.{IsWhole, IsSurvey, Sends, Knows, IsEarly, IsWithinSilence, IsReady, IsSending, Pending}
-use Rattle.dali_controller.specs.Moments.{FoundAt, IsBetween, Closes, Arrived, KnowsAt, KnowsWoken, CalmAt, IsHeard, Turns, Begins, IsNext}
+use Rattle.dali_controller.specs.Moments.{FoundAt, IsBetween, Closes, Arrived, KnowsAt, KnowsWoken, CalmAt, IsHeard, Turns, Begins, Begun, IsNext}
 use Rattle.dali_controller.specs.Moments.{Draws, IsUngiven, IsNextTo}
 
 -- THE COMMANDS OF A TRANSACTION. A command that is sent at a stage may follow there and is read from its frame; it is no
@@ -295,19 +295,13 @@ calm_less _ i e calm = calm
 
 -- A FRAME THAT IS OUTSTANDING
 pub sending : (w : Parts) (l : Option Order) (f : Forward) → frame_put l ≡ Some f → Pending (machine_of w) l → IsSending (machine_of w) f
-sending w None f is e = absurd (cc)
 sending w (Some (Put p g)) f is e = subst (λ d. IsSending (machine_of w) d) (let same : g ≡ f = cc in same) e
-sending w (Some (Commit x)) f is e = absurd (cc)
-sending w (Some (Done end)) f is e = absurd (cc)
-sending w (Some (Halt why)) f is e = absurd (cc)
+sending w _ f is e = absurd (cc)
 
 -- also where only the bus is waited for
 pub waiting : (w : Parts) (l : Option Order) → due_after l ≡ due.Bus → Pending (machine_of w) l → IsReady (machine_of w)
-waiting w None is e = absurd (cc)
 waiting w (Some (Put p f)) is e = e.ready
-waiting w (Some (Commit x)) is e = absurd (cc)
-waiting w (Some (Done end)) is e = absurd (cc)
-waiting w (Some (Halt why)) is e = absurd (cc)
+waiting w _ is e = absurd (cc)
 
 pub sending_lawful : (w : Parts) (f : Forward) → IsSending (machine_of w) f → Lawful w.kept.block w.kept.reserved w.trace f
 sending_lawful w f e = lawful_follows w.kept.block w.kept.reserved w.trace f (goes w.kept w.number w.purpose (stage_of w.trace) (command_of f) e.sends).follows
@@ -455,6 +449,16 @@ pub begin_whole : (w : Parts) (p : Purpose) (n : SearchAddress) (t : List Entry)
 begin_whole w p n t q f b empty is = record {
   ready = record { tries = b.tries; calm = b.calm; knows = b.knows };
   sends = subst (λ s. Sends w.kept n p s (command_of f)) (sym (free_of t empty)) (first_sends w p n f b.knows is);
+}
+
+pub begin_begun : (w : Parts) (p : Purpose) (n : SearchAddress) (t : List Entry) (q : ℕ) (f : Forward) → Begins w p n → t ≡ [] → q ≡ FIRST
+    → f ≡ frame_of (first_of p n)
+    → Begun (machine_of w) (taking (parts_course w) p n) (Put q f) (machine_of (record w { trace = t; last = Some (Put q f); purpose = p; number = n }))
+begin_begun w p n t q f b empty first is = record {
+  course = refl;
+  order = ap₂ Put first is;
+  next = begin_next w p n t q f b empty first is;
+  whole = begin_whole w p n t q f b empty is;
 }
 
 -- TO STORE

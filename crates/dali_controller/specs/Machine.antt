@@ -12,11 +12,7 @@ use Rattle.dali_script.specs.declared.stage.Stage.{Stage}
 use Rattle.dali_script.specs.declared.stage.Stage.TheVariants.{Opened, Unanswered, Inconclusive}
 use Rattle.dali_script.specs.declared.stage.Stage.TheVariants.{Withdrawn, Initialised}
 use Rattle.dali_script.specs.declared.stage.Stage.TheVariants.{HighAsked, MiddleAsked, Spelled}
-use Rattle.dali_script.specs.declared.stage.Stage.TheVariants.{Free, Terminated, InitialisedOnce}
-use Rattle.dali_script.specs.declared.stage.Stage.TheVariants.{RandomisedOnce, HighSent, MiddleSent}
-use Rattle.dali_script.specs.declared.stage.Stage.TheVariants.{NumberSent, Probed, Found, Unnamed}
-use Rattle.dali_script.specs.declared.stage.Stage.TheVariants.{LowSent, Hunted, Programmed}
-use Rattle.dali_script.specs.declared.stage.Stage.TheVariants.{Confirmed, Over}
+use Rattle.dali_script.specs.declared.stage.Stage.TheVariants.{Unnamed}
 use Rattle.dali_script.specs.Records.{Kept, with_record}
 use Rattle.dali_script.specs.Findings.{later, finding_of}
 use Rattle.dali_script.specs.Stages.{stage_of, may_follow}
@@ -136,26 +132,8 @@ marked_at (MiddleAsked a bytes) h heard = with_short heard a
 marked_at (Spelled a None) h heard = with_short heard a
 marked_at (Spelled a (Some n)) h heard =
     if n == MASK24 then with_short heard a else without_short heard a
-marked_at Free h heard = heard
-marked_at Terminated h heard = heard
-marked_at InitialisedOnce h heard = heard
-marked_at Initialised h heard = heard
-marked_at RandomisedOnce h heard = heard
-marked_at Opened h heard = heard
-marked_at (HighSent high) h heard = heard
-marked_at (MiddleSent high middle) h heard = heard
-marked_at (NumberSent r) h heard = heard
-marked_at (LowSent high low) h heard = heard
-marked_at (Hunted r last left) h heard = heard
-marked_at (Probed r answer) h heard = heard
-marked_at (Found r b) h heard = heard
-marked_at (Unnamed r) h heard = heard
-marked_at (Unanswered r) h heard = heard
-marked_at (Inconclusive r other) h heard = heard
-marked_at (Programmed r a) h heard = heard
-marked_at (Confirmed r a) h heard = heard
-marked_at (Withdrawn r b) h heard = heard
-marked_at Over h heard = heard
+-- any other frame tells nothing of it
+marked_at _ h heard = heard
 
 abbrev pub heard_after : Purpose → Stage → Answer → Shorts → Shorts
 heard_after (Asking a) s h heard = marked_at s h heard
@@ -167,29 +145,8 @@ asked_after_silence n = if nat_lt n 2 then n + 1 else 0
 
 abbrev pub asked_at : Stage → Answer → ℕ → ℕ
 asked_at (HighAsked a None) Silence n = asked_after_silence n
-asked_at (HighAsked a high) h n = 0
-asked_at (MiddleAsked a bytes) h n = 0
-asked_at (Spelled a number) h n = 0
-asked_at Free h n = 0
-asked_at Terminated h n = 0
-asked_at InitialisedOnce h n = 0
-asked_at Initialised h n = 0
-asked_at RandomisedOnce h n = 0
-asked_at Opened h n = 0
-asked_at (HighSent high) h n = 0
-asked_at (MiddleSent high middle) h n = 0
-asked_at (NumberSent r) h n = 0
-asked_at (LowSent high low) h n = 0
-asked_at (Hunted r last left) h n = 0
-asked_at (Probed r answer) h n = 0
-asked_at (Found r b) h n = 0
-asked_at (Unnamed r) h n = 0
-asked_at (Unanswered r) h n = 0
-asked_at (Inconclusive r other) h n = 0
-asked_at (Programmed r a) h n = 0
-asked_at (Confirmed r a) h n = 0
-asked_at (Withdrawn r b) h n = 0
-asked_at Over h n = 0
+-- the row of silences ends with whatever else was sent or heard
+asked_at _ h n = 0
 
 abbrev pub asked_after : Purpose → Stage → Answer → ℕ → ℕ
 asked_after (Asking a) s h n = asked_at s h n

@@ -36,13 +36,14 @@ use Rattle.dali_controller.specs.declared.way.Way.TheVariants.{Fresh, Surveying,
 use Rattle.dali_controller.specs.Parts.{Parts}
 use Rattle.dali_controller.specs.Course.{Course, closing_of, first_of, least_open, bytes_to_send}
 use Rattle.dali_controller.specs.Machine.{Machine}
-use Rattle.dali_controller.specs.Parts.{parts_course, machine_of}
+use Rattle.dali_controller.specs.Parts.{machine_of}
 use Rattle.dali_controller.specs.declared.shorts.Shorts.{Shorts}
-use Rattle.dali_controller.specs.Next.{beginning, next_course, goes_on_to, draws}
+use Rattle.dali_controller.specs.Next.{beginning, course_by, next_course, goes_on_to, draws}
+use Rattle.dali_controller.specs.Next.{BeginsWith}
 use Rattle.dali_controller.specs.Orders.{Cause, IsOrderedTo, machine_ordered, IsAnswered}
 use Rattle.dali_controller.specs.Orders.{MayEnrolOn, is_left}
 use Rattle.dali_controller.specs.Orders.{machine_after}
-use Rattle.dali_controller.specs.Whole.{IsReady, IsWithinSilence, IsSurvey, Knows, Sends}
+use Rattle.dali_controller.specs.Whole.{IsWhole, IsReady, IsWithinSilence, IsSurvey, Knows, Sends}
 
 -- What holds of a machine's parts between its moments. Its public contract cites none of this.
 
@@ -181,10 +182,20 @@ pub record IsNext (t : Machine) (o : Order) (new : Machine) : Type 0 where
   pub order : IsOrderedTo t new.course o
   pub state : new ≡ record (machine_ordered t o) { course = new.course }
 
+-- A MOMENT: what a machine that was told t orders, and the machine that has ordered it. A first
+-- frame is that of the transaction that begins.
+pub record IsMoment (t : Machine) (o : Order) (new : Machine) : Type 0 where
+  pub begins : BeginsWith new.course o
+  pub course : new.course ≡ course_by t o
+  pub next : IsNext t o new
+  pub whole : IsWhole new
+
 -- a transaction begins, and takes this course
-pub record Starts (c : Course) (o : Order) (new : Parts) : Type 0 where
-  pub course : parts_course new ≡ c
+pub record Begun (t : Machine) (c : Course) (o : Order) (new : Machine) : Type 0 where
+  pub course : new.course ≡ c
   pub order : o ≡ beginning c
+  pub next : IsNext t o new
+  pub whole : IsWhole new
 
 pub record IsStep (m : Machine) (i : Input) (o : Order) (new : Machine) : Type 0 where
   pub order : IsAnswered m i o

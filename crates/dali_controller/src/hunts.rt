@@ -1,6 +1,13 @@
-ghost use Rattle.std.specs.Prelude.{◌≡◌, true, Some, None};
+//! The moments of a hunt: question after question in one transaction, as long as it has room.
+
+ghost use Rattle.std.specs.Prelude.{◌≡◌, ◌<◌, true, Option, Some, None};
+ghost use Rattle.dali_frame.specs.declared.numbers.SearchAddress.{SearchAddress};
+ghost use Rattle.dali_frame.specs.declared.frames.Answer.{Answer};
 ghost use Rattle.dali_script.specs.declared.stage.Stage.TheVariants as stage;
+ghost use Rattle.dali_controller.specs.declared.purpose.Purpose.TheVariants as purpose;
+ghost use Rattle.dali_controller.specs.declared.way.Way.TheVariants as way;
 ghost use Rattle.dali_search.specs.declared.step.Step.TheVariants as search;
+ghost use Rattle.dali_controller.specs.Course.{is_yes};
 
 use crate::moments::is_yes;
 use crate::purpose::{Purpose, bytes_to_send};
@@ -9,13 +16,12 @@ use dali_frame::{Answer, SearchAddress};
 use dali_script::{Order, Records};
 use dali_search::Step;
 
-/// The moments of a hunt: question after question in one transaction, as long as it has room.
 impl State {
     ghost use Rattle.dali_controller.specs.Parts.{with_kept, machine_with, course_of};
     ghost use Rattle.dali_controller.specs.Whole.{IsWhole, IsSurvey};
-    ghost use Rattle.dali_controller.specs.Moments.{IsHeard, IsBetween, IsNext, Starts, AsksNext};
-    ghost use Rattle.dali_controller.specs.Course.{hunting, turn_of};
-    ghost use Rattle.dali_controller.specs.Next.{course_by, next_course, question, BeginsWith};
+    ghost use Rattle.dali_controller.specs.Moments.{IsHeard, IsBetween, IsMoment, Begun, IsNext, AsksNext};
+    ghost use Rattle.dali_controller.specs.Course.{turn_of, hunting};
+    ghost use Rattle.dali_controller.specs.Next.{next_course, question};
     ghost use Rattle.dali_search.specs.Ascending.{leads_to};
 
     /// The transaction that asks under the number of the search that goes up.
@@ -26,9 +32,8 @@ impl State {
         requires survey { IsSurvey self.old.way }
         requires running { leads_to self.old.ascent ≡ search.Again }
 
-        ensures starts { Starts (hunting (course_of self.old)) result (with_kept self.new kept.now) }
-        ensures next { IsNext (machine_with self.old kept.now) result (machine_with self.new kept.now) }
-        ensures whole { IsWhole (machine_with self.new kept.now) }
+        ensures { Begun (machine_with self.old kept.now) (hunting (course_of self.old))
+            result (machine_with self.new kept.now) }
     {
         let number = SearchAddress::of(self.ascent.probe());
         self.begin(kept, Purpose::Hunting, number)
@@ -46,10 +51,7 @@ impl State {
         requires over { turn_of self.old.purpose self.old.number (stage.Hunted sent last left) ≡ None }
 
         ensures asked { result ≡ question (next_course (machine_with self.old kept.now)) sent left }
-        ensures begins { BeginsWith (course_of self.new) result }
-        ensures course { course_of self.new ≡ course_by (machine_with self.old kept.now) result }
-        ensures next { IsNext (machine_with self.old kept.now) result (machine_with self.new kept.now) }
-        ensures whole { IsWhole (machine_with self.new kept.now) }
+        ensures moment { IsMoment (machine_with self.old kept.now) result (machine_with self.new kept.now) }
     {
         match last {
             Some(heard) => self.answered(kept, sent, heard, left),
@@ -68,10 +70,7 @@ impl State {
         requires { IsHeard (with_kept self.old kept.now) (stage.Hunted sent (Some heard) left) }
 
         ensures asked { result ≡ question (next_course (machine_with self.old kept.now)) sent left }
-        ensures begins { BeginsWith (course_of self.new) result }
-        ensures course { course_of self.new ≡ course_by (machine_with self.old kept.now) result }
-        ensures next { IsNext (machine_with self.old kept.now) result (machine_with self.new kept.now) }
-        ensures whole { IsWhole (machine_with self.new kept.now) }
+        ensures moment { IsMoment (machine_with self.old kept.now) result (machine_with self.new kept.now) }
     {
         match self.ascent.answer(is_yes(heard)) {
             Step::Again => self.ask_next(kept, sent, left),

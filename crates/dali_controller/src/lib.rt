@@ -9,11 +9,14 @@ mod hunts;
 mod machine;
 mod moments;
 mod purpose;
+mod queries;
+mod searches;
 mod shorts;
 mod state;
 mod stepping;
 mod surveying;
 mod unfinished;
+mod visits;
 mod way;
 mod whole;
 

@@ -69,7 +69,7 @@ impl State {
     ghost use Rattle.dali_controller.specs.Parts.{with_kept, machine_with, course_of};
     ghost use Rattle.dali_controller.specs.Moments.{IsHeard, Begins};
     ghost use Rattle.dali_controller.specs.Whole.{IsWhole, Sends, IsReady};
-    ghost use Rattle.dali_controller.specs.Moments.{IsNext, Starts, AsksOn};
+    ghost use Rattle.dali_controller.specs.Moments.{IsNext, Begun, AsksOn};
     ghost use Rattle.dali_controller.specs.Course.{closing_of, taking, byte_to_send};
 
     /// The same state once more.
@@ -173,13 +173,8 @@ impl State {
     {
         match self.purpose {
             Purpose::Asking(_) => marked_at(&self.trace.stage(), heard, self.heard),
-            Purpose::Opening
-            | Purpose::Probing
-            | Purpose::Hunting
-            | Purpose::Visiting
-            | Purpose::Resolving(_)
-            | Purpose::Closing(_)
-            | Purpose::Waking => self.heard,
+            // No other transaction asks a short address.
+            _ => self.heard,
         }
     }
 
@@ -189,13 +184,8 @@ impl State {
     {
         match self.purpose {
             Purpose::Asking(_) => asked_at(&self.trace.stage(), heard, self.asked),
-            Purpose::Opening
-            | Purpose::Probing
-            | Purpose::Hunting
-            | Purpose::Visiting
-            | Purpose::Resolving(_)
-            | Purpose::Closing(_)
-            | Purpose::Waking => self.asked,
+            // No other transaction asks a short address.
+            _ => self.asked,
         }
     }
 
@@ -278,9 +268,8 @@ impl State {
     ) -> Order
         requires { Begins (with_kept self.old kept.now) purpose number }
 
-        ensures starts { Starts (taking (course_of self.old) purpose number) result (with_kept self.new kept.now) }
-        ensures next { IsNext (machine_with self.old kept.now) result (machine_with self.new kept.now) }
-        ensures whole { IsWhole (machine_with self.new kept.now) }
+        ensures { Begun (machine_with self.old kept.now) (taking (course_of self.old) purpose number)
+            result (machine_with self.new kept.now) }
     {
         let priority = Priority::FIRST;
         let frame = purpose.first(number).write();
@@ -354,26 +343,8 @@ fn marked_at(stage: &Stage, answer: Answer, heard: Shorts) -> Shorts
                 heard.without(short)
             }
         }
-        Stage::Free
-        | Stage::Terminated
-        | Stage::InitialisedOnce
-        | Stage::Initialised
-        | Stage::RandomisedOnce
-        | Stage::Opened
-        | Stage::HighSent(_)
-        | Stage::MiddleSent(..)
-        | Stage::NumberSent(_)
-        | Stage::LowSent(..)
-        | Stage::Hunted(..)
-        | Stage::Probed(..)
-        | Stage::Found(..)
-        | Stage::Unnamed(_)
-        | Stage::Unanswered(_)
-        | Stage::Inconclusive(..)
-        | Stage::Programmed(..)
-        | Stage::Confirmed(..)
-        | Stage::Withdrawn(..)
-        | Stage::Over => heard,
+        // Any other frame tells nothing of it.
+        _ => heard,
     }
 }
 
@@ -386,28 +357,7 @@ fn asked_at(stage: &Stage, heard: Answer, asked: u8) -> u8
             Answer::Silence if asked < ASKED - 1 => asked + 1,
             Answer::Silence | Answer::Byte(_) | Answer::Damaged => 0,
         },
-        Stage::HighAsked(_, Some(_))
-        | Stage::MiddleAsked(..)
-        | Stage::Spelled(..)
-        | Stage::Free
-        | Stage::Terminated
-        | Stage::InitialisedOnce
-        | Stage::Initialised
-        | Stage::RandomisedOnce
-        | Stage::Opened
-        | Stage::HighSent(_)
-        | Stage::MiddleSent(..)
-        | Stage::NumberSent(_)
-        | Stage::LowSent(..)
-        | Stage::Hunted(..)
-        | Stage::Probed(..)
-        | Stage::Found(..)
-        | Stage::Unnamed(_)
-        | Stage::Unanswered(_)
-        | Stage::Inconclusive(..)
-        | Stage::Programmed(..)
-        | Stage::Confirmed(..)
-        | Stage::Withdrawn(..)
-        | Stage::Over => 0,
+        // The row of silences ends with whatever else was sent or heard.
+        _ => 0,
     }
 }

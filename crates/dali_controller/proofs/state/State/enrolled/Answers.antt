@@ -13,7 +13,7 @@ pub returns-in_default-clause-enrolled : goal.returns-in_default-clause-enrolled
 returns-in_default-clause-enrolled c =
     let reserved = c.args.kept.now.reserved in
     let once = c.reserved_for.ensures.kept.reserved.random_once in
-    rw c.go_on.ensures.starts.order (elim c.in_default.branch [
+    rw c.go_on.ensures.order (elim c.in_default.branch [
       | in_default-via-in-Some+else-ne w ↦ λ a has.
           let same : w.in-Some.other ≡ c.args.short = grind (arith, nat_tests, w.if-ne.false) in
           one_address reserved a w.in-Some.other c.args.random once has w.in-Some.ensures.value ∙ same

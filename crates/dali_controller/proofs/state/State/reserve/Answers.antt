@@ -1,5 +1,6 @@
 use Rattle.dali_controller.specs.Parts.{with_kept}
 use Rattle.dali_controller.proofs.Leaving.{free_searching, reservable, reserves, unfree_left}
+use Rattle.dali_controller.proofs.Courses.{stays_moment}
 use Rattle.dali_controller.proofs.state.State.reserve.Goals as goal
 
 pub commit-requires-clause-fits : goal.commit-requires-clause-fits
@@ -19,9 +20,8 @@ pub leave-requires-clause-ungiven : goal.leave-requires-clause-ungiven
 leave-requires-clause-ungiven c =
     unfree_left c.args.self.now.way (with_kept c.args.self.now c.args.kept.now) c.args.number c.requires.kept.reserved c.requires.free c.in-None.ensures
 
-pub returns-in-Some-clause-next : goal.returns-in-Some-clause-next
-returns-in-Some-clause-next c =
-    reserves (with_kept c.args.self.now c.args.kept.now) c.args.number c.in-Some.short c.value.result _ _ c.requires.kept.reserved c.requires.heard
-    c.requires.free
-    c.in-Some.ensures c.value.ensures
-    c.commit.ensures.order c.commit.ensures.state
+pub returns-in-Some : goal.returns-in-Some
+returns-in-Some c =
+    stays_moment _ _ _ (rw c.commit.ensures.order tt) c.commit.ensures.state
+    (reserves (with_kept c.args.self.now c.args.kept.now) c.args.number c.in-Some.short c.value.result _ _ c.requires.kept.reserved c.requires.heard
+    c.requires.free c.in-Some.ensures c.value.ensures c.commit.ensures.order c.commit.ensures.state) c.commit.ensures.whole

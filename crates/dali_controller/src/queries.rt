@@ -1,0 +1,155 @@
+//! The moments of queries: whoever has a short address is asked for its random address.
+
+ghost use Rattle.std.specs.Prelude.{◌≡◌, ◌↔◌, ℕ, ◌<◌, false, Option, Some, None, IsTrue};
+ghost use Rattle.dali_frame.specs.Random.{value_of};
+ghost use Rattle.dali_frame.specs.declared.numbers.SearchAddress.{SearchAddress};
+ghost use Rattle.dali_script.specs.declared.stage.Stage.TheVariants as stage;
+ghost use Rattle.dali_script.specs.Records.{Has};
+ghost use Rattle.dali_controller.specs.declared.purpose.Purpose.TheVariants as purpose;
+ghost use Rattle.dali_controller.specs.declared.way.Way.TheVariants as way;
+
+use crate::purpose::Purpose;
+use crate::state::State;
+use crate::surveying::next_asked;
+use dali_frame::{Random24, SearchAddress, Short};
+use dali_script::{Order, Records};
+
+impl State {
+    ghost use Rattle.dali_controller.specs.Parts.{with_kept, machine_with, course_of};
+    ghost use Rattle.dali_controller.specs.Moments.{IsHeard, IsBetween, IsMoment, Begun};
+    ghost use Rattle.dali_controller.specs.Course.{resolving, turn_of, taking, ask_or_wake, next_asked, waking};
+    ghost use Rattle.dali_controller.specs.Next.{next_course, beginning};
+    ghost use Rattle.dali_controller.specs.Orders.{AfterFinding, IsSought};
+    ghost use Rattle.dali_script.specs.Stages.{stage_of};
+
+    /// In a survey: the next short address is asked, or gear are woken.
+    pub(crate) fn ask_or_wake(&mut self, kept: &Records<'_>) -> Order
+        requires between { IsBetween (with_kept self.old kept.now) }
+        requires opened { self.old.opened ≡ false }
+        requires surveying { self.old.way ≡ way.Surveying }
+
+        ensures { Begun (machine_with self.old kept.now)
+            (ask_or_wake (course_of self.old) (next_asked kept.now self.old.from))
+            result (machine_with self.new kept.now) }
+    {
+        match next_asked(kept, self.from) {
+            Some(short) => {
+                self.from = short.number() + 1;
+                self.ask(kept, short)
+            }
+            None => self.wake(kept),
+        }
+    }
+
+    /// The transaction that asks whoever has a short address for its random address.
+    #[tactic(auto, using(crate::proofs::Steps::asks))]
+    fn ask(&mut self, kept: &Records<'_>, short: Short) -> Order
+        requires between { IsBetween (with_kept self.old kept.now) }
+        requires opened { self.old.opened ≡ false }
+        requires surveying { self.old.way ≡ way.Surveying }
+        requires range { short < 64 }
+
+        ensures { Begun (machine_with self.old kept.now)
+            (taking (course_of self.old) (purpose.Asking short) self.old.number)
+            result (machine_with self.new kept.now) }
+    {
+        let number = self.number;
+        self.begin(kept, Purpose::Asking(short), number)
+    }
+
+    /// A short address was asked for the first byte of a random address, and no byte was heard. Where it was silent, it
+    /// is asked again, three times in all.
+    pub(crate) fn asked_once(&mut self, kept: &Records<'_>) -> Order
+        requires heard { (b : ℕ) × (high : Option ℕ) × IsHeard (with_kept self.old kept.now) (stage.HighAsked b high) }
+        requires over { turn_of self.old.purpose self.old.number (stage_of self.old.trace) ≡ None }
+
+        ensures { IsMoment (machine_with self.old kept.now) result (machine_with self.new kept.now) }
+    {
+        if self.asked == 0 {
+            return self.go_on(kept);
+        }
+        let same = self.purpose;
+        let number = self.number;
+        self.begin(kept, same, number)
+    }
+
+    /// The transaction that initialises all gear without short address, which keep their random addresses.
+    #[tactic(auto, using(crate::proofs::Steps::wakes))]
+    fn wake(&mut self, kept: &Records<'_>) -> Order
+        requires between { IsBetween (with_kept self.old kept.now) }
+        requires opened { self.old.opened ≡ false }
+        requires surveying { self.old.way ≡ way.Surveying }
+
+        ensures { Begun (machine_with self.old kept.now) (waking (course_of self.old))
+            result (machine_with self.new kept.now) }
+    {
+        let number = self.number;
+        self.begin(kept, Purpose::Waking, number)
+    }
+
+    /// Gear were woken.
+    pub(crate) fn woken(&mut self, kept: &Records<'_>) -> Order
+        requires heard { IsHeard (with_kept self.old kept.now) stage.Initialised }
+        requires over { turn_of self.old.purpose self.old.number stage.Initialised ≡ None }
+
+        ensures { IsMoment (machine_with self.old kept.now) result (machine_with self.new kept.now) }
+    {
+        self.search_first(kept)
+    }
+
+    /// The transaction that asks the gear with a short address for its random address.
+    #[tactic(auto, using(crate::proofs::Steps::resolves))]
+    pub(crate) fn resolve(
+        &mut self,
+        kept: &Records<'_>,
+        short: Short,
+        number: SearchAddress,
+    ) -> Order
+        requires heard { IsHeard (with_kept self.old kept.now) (stage.Unanswered number) }
+        requires early { self.old.opened ≡ false }
+        requires reserved { Has kept.now.reserved (short, value_of number) }
+
+        ensures { Begun (machine_with self.old kept.now) (resolving (course_of self.old) short number)
+            result (machine_with self.new kept.now) }
+    {
+        self.begin(kept, Purpose::Resolving(short), number)
+    }
+
+    /// The gear with this short address told its random address, or one of the three bytes was not heard.
+    #[tactic(auto, using(crate::proofs::Settling::settles_resolved))]
+    pub(crate) fn resolved(
+        &mut self,
+        kept: &Records<'_>,
+        short: Short,
+        number: Option<Random24>,
+    ) -> Order
+        requires { IsHeard (with_kept self.old kept.now) (stage.Spelled short number) }
+
+        ensures told { (n : ℕ) → number ≡ Some n → IsSought self.old.purpose self.old.number n
+            → AfterFinding (machine_with self.old kept.now) short n result }
+        ensures another { (n : ℕ) → number ≡ Some n → (IsSought self.old.purpose self.old.number n → ⊥)
+            → result ≡ beginning (next_course (machine_with self.old kept.now)) }
+        ensures moment { IsMoment (machine_with self.old kept.now) result (machine_with self.new kept.now) }
+    {
+        match number {
+            Some(random) if self.seeks(random) => self.settle(kept, short, random),
+            _ => self.go_on(kept),
+        }
+    }
+
+    /// Whether gear that told this random address is what its queries were for: in a survey any that gear draw.
+    fn seeks(&self, random: Random24) -> bool
+        ensures { IsTrue result ↔ IsSought self.now.purpose self.now.number random }
+    {
+        match self.purpose {
+            Purpose::Asking(_) => random < Random24::MASK,
+            Purpose::Opening
+            | Purpose::Probing
+            | Purpose::Hunting
+            | Purpose::Visiting
+            | Purpose::Resolving(_)
+            | Purpose::Closing(_)
+            | Purpose::Waking => random == self.number.value(),
+        }
+    }
+}

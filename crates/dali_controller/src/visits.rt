@@ -1,0 +1,175 @@
+//! The moments of a visit: gear at a number is asked for its short address, and gets the one that is reserved for it.
+
+ghost use Rattle.std.specs.Prelude.{◌≡◌, ◌<◌, true, false, Option, Some, None};
+ghost use Rattle.dali_frame.specs.Random.{value_of, MASK24};
+ghost use Rattle.dali_frame.specs.declared.numbers.SearchAddress.{SearchAddress};
+ghost use Rattle.dali_special.specs.declared.command.Command.{Command};
+ghost use Rattle.dali_script.specs.declared.stage.Stage.TheVariants as stage;
+ghost use Rattle.dali_script.specs.Records.{Has, HasRandom, IsKept};
+ghost use Rattle.dali_controller.specs.declared.way.Way.TheVariants as way;
+
+use crate::purpose::Purpose;
+use crate::state::State;
+use crate::surveying::{is_anothers, least_open};
+use crate::unfinished::next_unfinished;
+use crate::way::Way;
+use dali_frame::{Random24, SearchAddress, Short};
+use dali_script::{End, Order, Record, Records};
+use dali_special::Command;
+
+impl State {
+    ghost use Rattle.dali_controller.specs.Parts.{with_kept, machine_with, course_of};
+    ghost use Rattle.dali_controller.specs.Moments.{IsHeard, IsBetween, IsMoment, Begun, IsFirstFree, IsUngiven};
+    ghost use Rattle.dali_controller.specs.Course.{visiting, visit_or_opening, next_unfinished, address_for};
+    ghost use Rattle.dali_controller.specs.Next.{draws};
+    ghost use Rattle.dali_controller.specs.Machine.{is_withheld, withholds};
+    ghost use Rattle.dali_script.specs.declared.records.Record.TheVariants.{Reserve};
+
+    /// Before the opening was complete: a visit to the next unfinished reservation, or the opening.
+    pub(crate) fn visit_or_open(&mut self, kept: &Records<'_>) -> Order
+        requires between { IsBetween (with_kept self.old kept.now) }
+        requires opened { self.old.opened ≡ false }
+
+        ensures { Begun (machine_with self.old kept.now)
+            (visit_or_opening (course_of self.old) (next_unfinished kept.now self.old.from))
+            result (machine_with self.new kept.now) }
+    {
+        match next_unfinished(kept, self.from) {
+            Some((from, number)) => {
+                self.from = from;
+                self.visit(kept, number)
+            }
+            None => self.open(kept),
+        }
+    }
+
+    /// The transaction that asks the gear at a number for its short address.
+    #[tactic(auto, using(crate::proofs::Steps::visits))]
+    pub(crate) fn visit(&mut self, kept: &Records<'_>, number: Random24) -> Order
+        requires between { IsBetween (with_kept self.old kept.now) }
+        requires drawn { number < MASK24 }
+        requires reserved { self.old.opened ≡ false → HasRandom kept.now.reserved number }
+
+        ensures { Begun (machine_with self.old kept.now) (visiting (course_of self.old) number)
+            result (machine_with self.new kept.now) }
+    {
+        self.begin(kept, Purpose::Visiting, SearchAddress::of(number))
+    }
+
+    /// The gear at this number has no short address: it is programmed with the one that is reserved for it.
+    pub(crate) fn unnamed(&mut self, kept: &Records<'_>, number: SearchAddress) -> Order
+        requires { IsHeard (with_kept self.old kept.now) (stage.Unnamed number) }
+
+        ensures { IsMoment (machine_with self.old kept.now) result (machine_with self.new kept.now) }
+    {
+        match kept.reserved_for(number.value()) {
+            Some(short) => self.give(kept, number, short),
+            None => self.reserve(kept, number),
+        }
+    }
+
+    /// The gear at this number has no short address, and this one is reserved for it.
+    fn give(&mut self, kept: &Records<'_>, number: SearchAddress, short: Short) -> Order
+        requires heard { IsHeard (with_kept self.old kept.now) (stage.Unnamed number) }
+        requires reserved { Has kept.now.reserved (short, value_of number) }
+        requires kept { IsKept kept.now }
+
+        ensures { IsMoment (machine_with self.old kept.now) result (machine_with self.new kept.now) }
+    {
+        if self.is_withheld(kept, short, number.value()) {
+            self.leave(kept, number)
+        } else {
+            self.put(kept, Command::Program(Some(short)))
+        }
+    }
+
+    /// Whether what is reserved for a random address, if anything is, is another gear's, by what a survey heard.
+    pub(crate) fn withholds(&self, kept: &Records<'_>, random: Random24) -> bool
+        ensures { result ≡ withholds (machine_with self.now kept.now) random (address_for kept.now.reserved random) }
+    {
+        match kept.reserved_for(random) {
+            Some(address) => self.is_withheld(kept, address, random),
+            None => false,
+        }
+    }
+
+    /// Whether this address, which is reserved for a random address, is another gear's.
+    fn is_withheld(&self, kept: &Records<'_>, address: Short, random: Random24) -> bool
+        ensures { result ≡ is_withheld (machine_with self.now kept.now) address random }
+    {
+        match self.way {
+            Way::Fresh => false,
+            Way::Surveying | Way::Drawing => {
+                self.opened && is_anothers(kept, self.heard, address, random)
+            }
+        }
+    }
+
+    /// The gear at this number has no short address, and none is reserved for it.
+    fn reserve(&mut self, kept: &Records<'_>, number: SearchAddress) -> Order
+        requires heard { IsHeard (with_kept self.old kept.now) (stage.Unnamed number) }
+        requires free { HasRandom kept.now.reserved (value_of number) → ⊥ }
+        requires kept { IsKept kept.now }
+
+        ensures { IsMoment (machine_with self.old kept.now) result (machine_with self.new kept.now) }
+    {
+        match self.first_free(kept) {
+            Some(short) => self.commit(kept, Record::Reserve(short, number.value())),
+            None => self.leave(kept, number),
+        }
+    }
+
+    /// The address that is reserved next.
+    fn first_free(&self, kept: &Records<'_>) -> Option<Short>
+        ensures { IsFirstFree self.now.way kept.now self.now.heard result }
+    {
+        match self.way {
+            Way::Fresh => kept.first_free(),
+            Way::Surveying | Way::Drawing => least_open(kept, self.heard),
+        }
+    }
+
+    /// The gear at this number has no short address, and none can be given to it: it draws a new random address, or is
+    /// left.
+    fn leave(&mut self, kept: &Records<'_>, number: SearchAddress) -> Order
+        requires heard { IsHeard (with_kept self.old kept.now) (stage.Unnamed number) }
+        requires opened { self.old.opened ≡ true }
+        requires ungiven { IsUngiven self.old.way (with_kept self.old kept.now) number }
+
+        ensures { IsMoment (machine_with self.old kept.now) result (machine_with self.new kept.now) }
+    {
+        if self.draws(kept) {
+            self.draw(kept)
+        } else {
+            self.close(kept, End::BlockFull)
+        }
+    }
+
+    /// The gear at this number did not answer. In the visits before the opening it may be disabled, and have the short
+    /// address that is reserved for it already: that is asked for its random address.
+    pub(crate) fn unanswered(&mut self, kept: &Records<'_>, number: SearchAddress) -> Order
+        requires { IsHeard (with_kept self.old kept.now) (stage.Unanswered number) }
+
+        ensures { IsMoment (machine_with self.old kept.now) result (machine_with self.new kept.now) }
+    {
+        match kept.reserved_for(number.value()) {
+            Some(short) if !self.opened => self.resolve(kept, short, number),
+            _ => self.silenced(kept),
+        }
+    }
+
+    /// The gear at this number has this short address, and was withdrawn.
+    #[tactic(auto, using(crate::proofs::Settling::settles_withdrawn))]
+    pub(crate) fn withdrawn(
+        &mut self,
+        kept: &Records<'_>,
+        number: SearchAddress,
+        short: Short,
+    ) -> Order
+        requires { IsHeard (with_kept self.old kept.now) (stage.Withdrawn number short) }
+
+        ensures { IsMoment (machine_with self.old kept.now) result (machine_with self.new kept.now) }
+    {
+        self.settle(kept, short, number.value())
+    }
+}
