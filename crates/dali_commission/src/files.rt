@@ -47,6 +47,7 @@ fn copy_fault(error: CopyError) -> StoreFault {
         CopyError::Foreign => StoreFault::Foreign,
         CopyError::Damaged => StoreFault::Damaged,
         CopyError::NoMemory => StoreFault::Store(KeepError::NoMemory),
+        CopyError::CannotOpen => StoreFault::CannotOpen,
         CopyError::Store(error) => StoreFault::Store(error),
     }
 }

@@ -1,5 +1,6 @@
 -- What the three texts make of a connection.
-use Rattle.std.proofs.Common.{◌≡◌, inl, inr, ℕ, ◌+◌, ℤ, List, [], ◌∷◌, ◌++◌, map, flat_map, length, false, None, Ok, IsTrue, IsPermutation, refl, sym, ap}
+use Rattle.std.proofs.Common.{◌≡◌, inl, inr, ℕ, ◌+◌, ℤ, List, [], ◌∷◌, ◌++◌, map, flat_map, length}
+use Rattle.std.proofs.Common.{false, None, Ok, Err, Result, IfOk, IfErr, IsTrue, IsPermutation, refl, sym, ap}
 use Rattle.std.proofs.Common.{subst, ◌∙◌, arith, append-nil}
 use Rattle.std.specs.Prelude.{if◌then◌else◌}
 use Rattle.std.proofs.lemmas.List.Sorted.{IsPermutation-refl, IsPermutation-sym, IsPermutation-map, IsPermutation-trans, IsPermutation-append_left}
@@ -19,7 +20,8 @@ use Rattle.sqlite.specs.Change.{created, next_tree}
 use Rattle.sqlite.specs.Does.{Tally, Does, lacks_sequence}
 use Rattle.sqlite.specs.Effect.{Database, IsDatabase}
 use Rattle.sqlite.specs.Listing.{understood}
-use Rattle.sqlite.specs.State.{State, IsUnchanged, Shows, Executes, Shown, CommitsBy, CommitsShowing, text_of, mode_of}
+use Rattle.sqlite.specs.State.{State, IsUnchanged, Shows, Executes, Shown, FailsToQuery, CommitsBy, CommitsShowing, text_of, mode_of}
+use Rattle.sqlite.specs.declared.error.Error.{Error}
 use Rattle.sqlite.proofs.Callers.{IsPlain, command_of, statement_of, runs_as, reads_as, never_commits}
 use Rattle.sqlite_keyed.proofs.ListLemmas.{map-map}
 use Rattle.dali_script.specs.declared.records.Record.{Record}
@@ -27,8 +29,8 @@ use Rattle.dali_sqlite.specs.Table.{record_table, record_schema, no_schema}
 use Rattle.dali_sqlite.specs.Rows.{row_of, rows_after, shown_of, four_of}
 use Rattle.dali_sqlite.specs.Stored.{IsTableOf, HasTable, Holds, Lists}
 use Rattle.dali_sqlite.proofs.Texts.{create_text, create_is, create_plain, insert_text, insert_is, insert_plain, select_text, select_is, select_plain, terms}
-use Rattle.dali_sqlite.proofs.Texts.{query}
-use Rattle.dali_sqlite.proofs.Open.{same_has}
+use Rattle.dali_sqlite.proofs.Texts.{query, objects_text, objects_plain}
+use Rattle.dali_sqlite.proofs.Open.{same_has, shown_open, query_stays, stays_open, stays_holds}
 use Rattle.dali_sqlite.proofs.Ordered.{keyed, in_order, rows_more}
 use Rattle.dali_sqlite.proofs.Inserted.{gave, the_same, given, put_in, inserts}
 
@@ -136,11 +138,12 @@ each_alone : {A B : Type 0} (f : A → B) (xs : List A) → flat_map (λ x. f x 
 each_alone f [] = refl
 each_alone f (x ∷ xs) = ap (λ more. f x ∷ more) (each_alone f xs)
 
-shows_unchanged : (old new : State) (rows : List Row) → old.now.schema ≡ record_schema → Shown select_text [] old new rows → IsUnchanged old new
+shows_unchanged : (sql : List ℕ) → IsPlain (understood record_schema sql) → (old new : State) (rows : List Row) → old.now.schema ≡ record_schema
+    → Shown sql [] old new rows → IsUnchanged old new
 unfolding Shown
-shows_unchanged old new rows has shown =
-    let known = sym shown.1.is ∙ ap (λ s. understood s select_text) has in
-    let plain = subst IsPlain (sym known) select_plain in
+shows_unchanged sql asks old new rows has shown =
+    let known = sym shown.1.is ∙ ap (λ s. understood s sql) has in
+    let plain = subst IsPlain (sym known) asks in
     (rw plain.0 at shown.2).3
 
 pub selects_quietly : (old : State) (trees : Trees) → old.now.schema ≡ record_schema → CommitsShowing select_text [] old trees → ⊥
@@ -149,7 +152,7 @@ selects_quietly old trees has = never_commits select_text [] old trees (subst (�
 pub selects_same : (old new : State) (rows : List Row) → Shown select_text [] old new rows → HasTable old
     → (new.now ≡ old.now) × HasTable new × IsTrue new.is_open
 selects_same old new rows shown has =
-    let same = shows_unchanged old new rows has.table shown in
+    let same = shows_unchanged select_text select_plain old new rows has.table shown in
     (same.0.now_is, same_has old new same.0.now_is (same.0.committed_is ∙ sym has.committed) (same.0.mode ∙ has.autocommit) has, same.0.is_open)
 
 answer_of : (old new : State) (rows : List Row) → old.now.schema ≡ record_schema → Shown select_text [] old new rows
@@ -198,3 +201,19 @@ selects_found old new rows shown has xs is =
     subst (IsPermutation (map shown_of (old.now.trees 0))) is
     (subst (λ some. IsPermutation some (map four_of rows)) (map-map four_of shown_of (old.now.trees 0)) all) in
     record { has = same.1; rows = subst (λ (d : Database). Lists d.trees xs) (sym same.0) listed }
+
+-- ---- What stands in the database
+
+module _ {V : Type 0} (rows_of : V → List Row) (old new : State) where
+  -- who asks leaves the list that is held
+  pub asks_held : (r : Result V Error) → IfOk r (λ v. Shown objects_text [] old new (rows_of v)) → IfErr r (FailsToQuery objects_text [] old new)
+      → IsTrue new.is_open → (xs : List Record) → Holds old xs → Holds new xs
+  asks_held (Ok v) ok err up xs held =
+      stays_holds old new (inl (shows_unchanged objects_text objects_plain old new (rows_of v) held.has.table ok)) up xs held
+  asks_held (Err e) ok err up xs held = stays_holds old new (query_stays objects_text [] old new e err) up xs held
+
+  -- and found the database open, where it leaves it so
+  pub asks_open : (r : Result V Error) → IfOk r (λ v. Shown objects_text [] old new (rows_of v)) → IfErr r (FailsToQuery objects_text [] old new)
+      → IsTrue new.is_open → IsTrue old.is_open
+  asks_open (Ok v) ok err up = shown_open objects_text [] old new (rows_of v) ok
+  asks_open (Err e) ok err up = stays_open old new (query_stays objects_text [] old new e err) up

@@ -1,8 +1,10 @@
 -- What two files hold, and what a stop leaves of them.
-use Rattle.std.proofs.Common.{◌≡◌, ◌⊎◌, inl, inr, ⊎_elim, IsTrue, List, subst}
+use Rattle.std.proofs.Common.{◌≡◌, ◌⊎◌, inl, inr, ⊎_elim, ℕ, zero, suc, ◌+◌, ◌<◌, ◌≤◌, IsTrue, List, [], length, slice_index, ap, ◌∙◌, subst, arith}
+use Rattle.std.proofs.lemmas.List.{ext_get_or}
 use Rattle.std.proofs.Math.Logic.{∥∥₁_elim, ∥∥₁_map}
 use Rattle.sqlite_disk.specs.declared.Disk.{Ghosts}
 use Rattle.sqlite_disk.specs.declared.Files.{Files}
+use Rattle.sqlite_disk.specs.Disk.{Holds, Torn}
 use Rattle.sqlite.specs.Recovery.{Image}
 use Rattle.sqlite.specs.WalReads.{AreClean}
 use Rattle.sqlite.specs.WalFiles.{outcomes}
@@ -22,6 +24,19 @@ use Rattle.sqlite.proofs.Theorems.{opens_again}
 use Rattle.dali_script.specs.declared.records.Record.{Record}
 use Rattle.dali_sqlite.specs.Stored.{IsTableOf}
 use Rattle.dali_sqlite.specs.Files.{HoldRecords, HoldRecordsAlone}
+
+at_least : (n m : ℕ) → (0 < n → n ≤ m) → n ≤ m
+at_least zero m more = omega arith
+at_least (suc n) m more = more (omega arith)
+
+-- a file that held nothing, and into which these bytes were written
+pub written_whole : (file bytes : List ℕ) → Torn 0 (length bytes) [] file → (0 < length bytes → Holds file 0 bytes) → file ≡ bytes
+written_whole file bytes torn written =
+    let most : length bytes ≤ length file = at_least (length bytes) (length file) (λ some. omega (arith, (written some).within)) in
+    let long : length file ≡ length bytes = omega (arith, torn.no_longer, most) in
+    ext_get_or 0 file bytes long (λ i low.
+    let here : i ≡ 0 + i = omega arith in
+    ap (slice_index file) here ∙ (written (omega arith)).each i (omega arith))
 
 pub alone_of : (image : Image) (trees : Trees) (xs : List Record) → HoldsAlone image trees → IsTableOf trees xs → HoldRecordsAlone image xs
 alone_of image trees xs holds table = record {

@@ -9,7 +9,7 @@ use Rattle.sqlite_schema.specs.Names.{table_named, same_name}
 use Rattle.sqlite_value.specs.Keys.{ascending}
 use Rattle.sqlite.specs.Collation.TheVariants.{Binary}
 use Rattle.sqlite_tied.specs.Compute.{everything}
-use Rattle.sqlite.specs.Listing.{understood, reads_listing}
+use Rattle.sqlite.specs.Listing.{understood, reads_listing, listing_schema}
 use Rattle.sqlite.proofs.Callers.{IsPlain, command_of, statement_of}
 use Rattle.dali_sqlite.specs.Table.{record_table, record_schema, no_schema}
 
@@ -25,6 +25,9 @@ insert_text = codes "INSERT INTO record VALUES (?1, ?2, ?3, ?4)"
 
 abbrev pub select_text : List ℕ
 select_text = codes "SELECT seq, kind, address, random FROM record ORDER BY seq"
+
+abbrev pub objects_text : List ℕ
+objects_text = codes "SELECT type, name, sql FROM sqlite_schema"
 
 -- the values of a new row, by the parameters
 abbrev pub terms : List Term
@@ -69,6 +72,10 @@ select_is = (refl, refl)
 pub select_plain : IsPlain (understood record_schema select_text)
 unfolding understood everything
 select_plain = (refl, refl)
+
+pub objects_plain : IsPlain (understood record_schema objects_text)
+unfolding understood everything listing_schema
+objects_plain = (refl, refl)
 
 pub named : (table_named record_schema (codes "record") ≡ Some 0) × (table_named no_schema (codes "record") ≡ None)
 unfolding same_name

@@ -1,11 +1,19 @@
 //! A copy of a file of records, in memory: whether it is one, and what it holds.
 
-ghost use Rattle.std.specs.Prelude.{◌≡◌, ◌==◌, ◌&&◌, true, IfOk, OnOk};
+ghost use Rattle.std.specs.Prelude.{◌≡◌, ◌==◌, ◌&&◌, List, true, IsTrue, IfOk, OnOk};
+ghost use Rattle.sqlite.specs.Files.{over_files, image_of};
+ghost use Rattle.sqlite.specs.Held.{state};
+ghost use Rattle.sqlite.specs.WalReads.{AreClean};
+ghost use Rattle.sqlite_disk.specs.Memory.{memory_bytes, memory_is_usable};
+ghost use Rattle.dali_script.specs.declared.records.Record.{Record};
+ghost use Rattle.dali_sqlite.specs.Files.{HoldRecords};
 ghost use Rattle.dali_sqlite.specs.Header.{byte_at, has_log, has_no_version, is_database, is_header_of_records};
 ghost use Rattle.dali_sqlite.specs.Header.{is_empty, may_be_records};
-ghost use Rattle.dali_sqlite.specs.Keep.{block_of};
+ghost use Rattle.dali_sqlite.specs.Keep.{shown_by, block_of, IsSound};
+ghost use Rattle.dali_sqlite.specs.Stored.{Holds, IsUp};
 
 use crate::keep::SqliteKeep;
+use crate::statements::objects;
 use dali_reserve::KeepError;
 use dali_script::Block;
 use sqlite::{Alter, Connection, Error, ErrorCode, FileStore, Files, Options, Row};
@@ -39,6 +47,8 @@ pub enum CopyError {
     Damaged,
     /// There is too little memory.
     NoMemory,
+    /// SQLite refuses it for another reason.
+    CannotOpen,
     /// Its rows are no list of records of the block, or it cannot be read.
     Store(KeepError),
 }
@@ -99,19 +109,20 @@ fn copy_error(error: Error) -> CopyError {
     match error {
         Error::SqliteFailure(ErrorCode::OutOfMemory) => CopyError::NoMemory,
         Error::SqliteFailure(ErrorCode::DatabaseCorrupt) => CopyError::Damaged,
-        _ => CopyError::Foreign,
+        Error::SqliteFailure(ErrorCode::NotADatabase) => CopyError::Foreign,
+        _ => CopyError::CannotOpen,
     }
 }
 
 /// A file in memory that holds these bytes.
-fn file(alloc: Global, bytes: &[u8]) -> Result<Memory, CopyError> {
+fn file(alloc: Global, bytes: &[u8]) -> Result<Memory, CopyError>
+    ensures usable { IfOk result (λ file. IsTrue (memory_is_usable file)) }
+    ensures holds { IfOk result (λ file. memory_bytes file ≡ bytes.now) }
+{
     let mut file = Memory::new(alloc);
-    if bytes.is_empty()
-        || Disk::write_at(&mut file, 0, bytes).is_ok() && Disk::sync(&mut file).is_ok()
-    {
-        Ok(file)
-    } else {
-        Err(CopyError::NoMemory)
+    match Disk::write_at(&mut file, 0, bytes) {
+        Ok(()) => Ok(file),
+        Err(_) => Err(CopyError::NoMemory),
     }
 }
 
@@ -131,8 +142,12 @@ fn is_table(row: &Row) -> bool {
 }
 
 /// Whether a database has nothing, or the table of a store in its very form, and nothing else.
-fn is_of_records<S: Alter>(conn: &mut Connection<S>) -> Result<bool, CopyError> {
-    match conn.query_all("SELECT type, name, sql FROM sqlite_schema", &[]) {
+fn is_of_records<S: Alter>(conn: &mut Connection<S>) -> Result<bool, CopyError>
+    ensures same { IsUp (state S.Store conn.new) → (xs : List Record) → Holds (state S.Store conn.old) xs
+        → Holds (state S.Store conn.new) xs }
+    ensures up { IsUp (state S.Store conn.new) → IsUp (state S.Store conn.old) }
+{
+    match objects(conn) {
         Ok(rows) => match rows.as_slice() {
             [] => Ok(true),
             [row] => Ok(is_table(row)),
@@ -142,22 +157,35 @@ fn is_of_records<S: Alter>(conn: &mut Connection<S>) -> Result<bool, CopyError> 
     }
 }
 
-/// The two files of a copy, where it is one of records: what was in the log is in the database's file, and the log is
+/// The files of a database that is one of records. What was in the log is in the database's file now, and the log is
 /// empty.
-fn judged(conn: Connection<FileStore<Memory>>) -> Result<Files<Memory>, CopyError> {
-    let mut conn = conn;
+fn closed<D: Disk + Drop>(mut conn: Connection<FileStore<D>>) -> Result<Files<D>, CopyError>
+    ensures usable { IfOk result (λ files. IsTrue (D.Disk.is_usable files.log) × IsTrue (D.Disk.is_usable files.db)) }
+    ensures up { IfOk result (λ files. AreClean D.Disk files.log files.db → IsUp (state over_files conn)) }
+    ensures same { IfOk result (λ files. AreClean D.Disk files.log files.db → (xs : List Record)
+        → Holds (state over_files conn) xs → HoldRecords (image_of D.Disk files) xs) }
+{
     if !is_of_records(&mut conn)? {
         return Err(CopyError::Foreign);
     }
+    // For what it says of the rows.
+    let _ = conn.schema();
     match conn.close_files() {
-        Ok(files) => {
-            // The log may have set a version.
-            if is_header_of_records(files.db.bytes()) {
-                Ok(files)
-            } else {
-                Err(CopyError::Foreign)
-            }
-        }
+        Ok(files) => Ok(files),
+        Err((error, _)) => Err(copy_error(error)),
+    }
+}
+
+/// The same of two files, which hold then what they held.
+fn recovered<D: Disk + Drop>(alloc: Global, files: Files<D>) -> Result<Files<D>, CopyError>
+    requires log { IsTrue (D.Disk.is_usable files.log) }
+    requires db { IsTrue (D.Disk.is_usable files.db) }
+    ensures usable { IfOk result (λ left. IsTrue (D.Disk.is_usable left.log) × IsTrue (D.Disk.is_usable left.db)) }
+    ensures same { IfOk result (λ left. AreClean D.Disk left.log left.db → (xs : List Record)
+        → HoldRecords (image_of D.Disk files) xs → HoldRecords (image_of D.Disk left) xs) }
+{
+    match Connection::open_files(alloc, files, OPTIONS) {
+        Ok(conn) => closed(conn),
         Err((error, _)) => Err(copy_error(error)),
     }
 }
@@ -176,6 +204,9 @@ pub fn open_copy(
 ) -> Result<SqliteKeep<FileStore<Memory>>, CopyError>
     ensures ours { OnOk result (may_be_records db.now log.now ≡ true) }
     ensures block { IfOk result (λ k. block_of k ≡ block) }
+    ensures found { IfOk result (λ k. IsUp (shown_by over_files k) → (xs : List Record)
+        → HoldRecords (record { log = log.now; db = db.now }) xs
+        → IsSound over_files k × Holds (shown_by over_files k) xs) }
 {
     if !may_be_records(db, log) {
         return Err(CopyError::Foreign);
@@ -184,15 +215,10 @@ pub fn open_copy(
         log: file(alloc, log)?,
         db: file(alloc, db)?,
     };
-    if !files.may_be_used() {
-        return Err(CopyError::NoMemory);
-    }
-    let files = match Connection::open_files(alloc, files, OPTIONS) {
-        Ok(conn) => judged(conn)?,
-        Err((error, _)) => return Err(copy_error(error)),
-    };
-    if !files.may_be_used() {
-        return Err(CopyError::NoMemory);
+    let files = recovered(alloc, files)?;
+    // The log may have set a version.
+    if !is_header_of_records(files.db.bytes()) {
+        return Err(CopyError::Foreign);
     }
     match SqliteKeep::open_files(alloc, files, OPTIONS, block) {
         Ok(store) => Ok(store),

@@ -14,7 +14,7 @@ ghost use Rattle.dali_sqlite.specs.Refused.{HasFailed};
 use crate::copy::TABLE;
 use crate::refused::refusal;
 use dali_reserve::KeepError;
-use sqlite::{Alter, Connection, Row, params};
+use sqlite::{Alter, Connection, Error, Row, params};
 
 /// Whether the database has a table of this name.
 pub fn has_table<S: Alter>(conn: &Connection<S>) -> bool
@@ -102,4 +102,13 @@ pub fn select<S: Alter>(conn: &mut Connection<S>) -> Result<Vec<Row>, KeepError>
         Ok(rows) => Ok(rows),
         Err(error) => Err(refusal(error)),
     }
+}
+
+/// Of each table, index, view and trigger: its type, its name and the text that made it.
+pub fn objects<S: Alter>(conn: &mut Connection<S>) -> Result<Vec<Row>, Error>
+    ensures same { IsUp (state S.Store conn.new) → (xs : List Record) → Holds (state S.Store conn.old) xs
+        → Holds (state S.Store conn.new) xs }
+    ensures up { IsUp (state S.Store conn.new) → IsUp (state S.Store conn.old) }
+{
+    conn.query_all("SELECT type, name, sql FROM sqlite_schema", &[])
 }
