@@ -1,7 +1,6 @@
 //! Records in files, each a SQLite database.
 
 use dali_commission_program::{Borrower, Failure, StoreFault, Stores};
-use dali_frame::Short;
 use dali_reserve::KeepError;
 use dali_script::Block;
 use dali_sqlite::{CopyError, SqliteKeep, open_copy};
@@ -133,19 +132,11 @@ fn copied(
 
 /// Whether the files may be opened to be written: those of records alone may, and what is not there yet.
 fn may_be_opened(rt: &HostRuntime, name: &str) -> Result<(), StoreFault> {
-    match copied(rt, name, all_addresses()) {
+    match copied(rt, name, Block::ALL) {
         Ok(_) => Ok(()),
         // Of which block its records are, the store says.
         Err(StoreFault::Store(KeepError::BadStore)) => Ok(()),
         Err(fault) => Err(fault),
-    }
-}
-
-/// The block of all short addresses.
-fn all_addresses() -> Block {
-    match (Short::of(0), Short::of(63)) {
-        (Some(first), Some(last)) => Block { first, last },
-        _ => unreachable!(),
     }
 }
 
@@ -243,7 +234,7 @@ impl Stores for Files<'_> {
     }
 
     fn lend_copy<B: Borrower>(&self, name: &str, borrower: &B) -> Result<(), Failure> {
-        let mut store = copied(self.rt, name, all_addresses()).map_err(failure)?;
+        let mut store = copied(self.rt, name, Block::ALL).map_err(failure)?;
         borrower.take(&mut store)
     }
 }

@@ -1,7 +1,7 @@
 //! `check`: it is said who answers, beside the records.
 
 use crate::failure::{Failure, checked, failure_of};
-use crate::records::{all_addresses, lend_copy};
+use crate::records::lend_copy;
 use crate::report::Report;
 use crate::reports::{say_checked, say_line};
 use crate::stores::{Borrower, Stores};
@@ -74,6 +74,6 @@ where
     };
     match &bounds.records {
         Some(name) => lend_copy(stores, name, &checking),
-        None => checking.check(&mut MemoryKeep::new(all_addresses())),
+        None => checking.check(&mut MemoryKeep::new(Block::ALL)),
     }
 }

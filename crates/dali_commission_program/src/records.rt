@@ -3,17 +3,8 @@
 use crate::failure::Failure;
 use crate::stores::{Borrower, StoreFault, Stores};
 use dali_commissioning::outside;
-use dali_frame::Short;
 use dali_reserve::{Keep, KeepError};
 use dali_script::{Block, Kept};
-
-/// The block of all short addresses.
-pub(crate) fn all_addresses() -> Block {
-    match (Short::of(0), Short::of(63)) {
-        (Some(first), Some(last)) => Block { first, last },
-        _ => unreachable!(),
-    }
-}
 
 /// Who says why records are none of a block, if one of all addresses takes them.
 #[derive(Drop)]

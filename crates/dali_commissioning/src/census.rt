@@ -158,15 +158,7 @@ fn byte<R: Read, W: Write>(
         × (heard ≡ answer_told told)) }
 {
     let frame = Command::RandomByte(short, part).write();
-    match driver.exchange(priority, frame, Half::Whole)? {
-        Input::Heard(heard) => Ok(Some(heard)),
-        Input::Start
-        | Input::Survey
-        | Input::Destroyed
-        | Input::Lapsed
-        | Input::Committed
-        | Input::CommitFailed => Ok(None),
-    }
+    driver.ask(priority, frame, Half::Whole)
 }
 
 /// Asks the gear with a short address for its random address. None where one of the three frames was lost.

@@ -114,7 +114,8 @@ impl<R: Read, W: Write> Driver<R, W> {
     ghost use Rattle.dali_script.specs.declared.orders.Due.TheVariants as due;
     ghost use Rattle.dali_commissioning.specs.Lines.{told_of, Tells, put_text};
     ghost use Rattle.dali_commissioning.specs.Drivers.{reader_of, writer_of, lines_of, next_line, line_of};
-    ghost use Rattle.dali_commissioning.specs.Drivers.{has_heard, is_answer};
+    ghost use Rattle.dali_commissioning.specs.Census.{IsPut, answer_told};
+    ghost use Rattle.dali_commissioning.specs.Drivers.{has_heard, is_answer, talk_of};
     ghost use Rattle.dali_commissioning.specs.declared.driver.DriverFault.TheVariants.{BadLine};
 
     /// A driver of which no line was read. What it writes is read by `reader`, and it reads what `writer` writes.
@@ -246,5 +247,27 @@ impl<R: Read, W: Write> Driver<R, W> {
     {
         self.announce(priority, frame, half)?;
         self.read_told()
+    }
+
+    /// The same: what was heard after the frame; None where it was lost.
+    pub(crate) fn ask(
+        &mut self,
+        priority: Priority,
+        frame: Forward,
+        half: Half,
+    ) -> Result<Option<Answer>, DriverFault>
+        ensures { IfOk result (λ heard. (told : Input) × IsPut priority frame half told
+            (talk_of R.remaining W.contents self.old) (talk_of R.remaining W.contents self.new)
+            × (heard ≡ answer_told told)) }
+    {
+        match self.exchange(priority, frame, half)? {
+            Input::Heard(heard) => Ok(Some(heard)),
+            Input::Start
+            | Input::Survey
+            | Input::Destroyed
+            | Input::Lapsed
+            | Input::Committed
+            | Input::CommitFailed => Ok(None),
+        }
     }
 }

@@ -3,9 +3,8 @@
 ghost use Rattle.std.specs.Prelude.{◌≡◌, ◌||◌, List, Some, Err, IfOk};
 ghost use Rattle.dali_frame.specs.declared.frames.Answer.{Answer};
 ghost use Rattle.dali_script.specs.declared.orders.Input.{Input};
-ghost use Rattle.dali_commissioning.specs.Census.{answer_told};
 ghost use Rattle.dali_commissioning.specs.Drivers.{talk_of};
-ghost use Rattle.dali_commissioning.specs.Unaddressed.{put_so, is_yes, joined_yes, IsPutSo, ArePut, found_by, asking};
+ghost use Rattle.dali_commissioning.specs.Unaddressed.{put_so, is_yes, joined_yes, ArePut, found_by, asking};
 ghost use Rattle.dali_commissioning.specs.Unaddressed.{AreLeftOver, AreLostSo};
 
 use crate::driver::{Driver, DriverFault};
@@ -80,26 +79,6 @@ fn is_yes(asks: bool, heard: Answer) -> bool
     }
 }
 
-/// Puts a frame. What was heard; None where it was lost.
-fn heard<R: Read, W: Write>(
-    driver: &mut Driver<R, W>,
-    putting: Putting,
-) -> Result<Option<Answer>, DriverFault>
-    ensures { IfOk result (λ heard. (told : Input) × IsPutSo putting told
-        (talk_of R.remaining W.contents driver.old) (talk_of R.remaining W.contents driver.new)
-        × (heard ≡ answer_told told)) }
-{
-    match driver.exchange(putting.priority, putting.frame, putting.half)? {
-        Input::Heard(heard) => Ok(Some(heard)),
-        Input::Start
-        | Input::Survey
-        | Input::Destroyed
-        | Input::Lapsed
-        | Input::Committed
-        | Input::CommitFailed => Ok(None),
-    }
-}
-
 fn joined_yes(here: bool, later: Option<bool>) -> Option<bool>
     ensures { result ≡ joined_yes here later }
 {
@@ -120,7 +99,7 @@ fn put_all<R: Read, W: Write>(
 {
     match puttings {
         [] => Ok(Some(false)),
-        [putting, more @ ..] => match heard(driver, *putting)? {
+        [putting, more @ ..] => match driver.ask(putting.priority, putting.frame, putting.half)? {
             Some(heard) => {
                 let later = put_all(driver, more)?;
                 Ok(joined_yes(is_yes(putting.asks, heard), later))

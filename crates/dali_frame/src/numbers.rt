@@ -36,6 +36,12 @@ impl Default for Short {
 impl Short {
     ghost use Rattle.dali_frame.specs.Short.{code_of, short_of};
 
+    /// 0, the least short address.
+    pub const FIRST: Short = Short { number: 0 };
+
+    /// 63, the greatest short address.
+    pub const LAST: Short = Short { number: 63 };
+
     /// The short address of this number; `None` from 64 on.
     #[inline(always)]
     pub fn of(number: u8) -> Option<Short>

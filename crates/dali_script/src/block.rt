@@ -6,3 +6,11 @@ pub struct Block {
     pub first: Short,
     pub last: Short,
 }
+
+impl Block {
+    /// All 64 short addresses.
+    pub const ALL: Block = Block {
+        first: Short::FIRST,
+        last: Short::LAST,
+    };
+}

@@ -46,21 +46,14 @@ fn fills<K: Keep>(keep: &mut K) -> u32 {
 
 /// A database in memory, filled.
 fn database_filled(alloc: Global) -> Option<u32> {
-    let mut keep = SqliteKeep::in_memory(alloc, all_addresses()?).ok()?;
+    let mut keep = SqliteKeep::in_memory(alloc, Block::ALL).ok()?;
     Some(fills(&mut keep))
 }
 
 /// A store in memory, filled.
-fn memory_filled() -> Option<u32> {
-    let mut keep = MemoryKeep::new(all_addresses()?);
-    Some(fills(&mut keep))
-}
-
-/// The block of all short addresses.
-fn all_addresses() -> Option<Block> {
-    let first = Short::of(0)?;
-    let last = Short::of(63)?;
-    Some(Block { first, last })
+fn memory_filled() -> u32 {
+    let mut keep = MemoryKeep::new(Block::ALL);
+    fills(&mut keep)
 }
 
 fn is_database(rt: &HostRuntime) -> bool {
@@ -78,7 +71,7 @@ fn run(rt: &HostRuntime, database: bool) -> Option<()> {
         let more = if database {
             database_filled(rt.alloc())
         } else {
-            memory_filled()
+            Some(memory_filled())
         };
         made = made.wrapping_add(more?);
     }

@@ -4,18 +4,11 @@ use super::broken::Broken;
 use dali_commissioning::{
     CommissionFault, Driver, DriverFault, Ended, Unwatched, commission, told_of,
 };
-use dali_frame::{Answer, Short};
+use dali_frame::Answer;
 use dali_reserve::{Keep, KeepError, MemoryKeep};
 use dali_script::{Block, End, Input, Kept};
 use std::io::Write;
 use std::process::Abort;
-
-/// The block of all short addresses.
-pub fn all_addresses() -> Option<Block> {
-    let first = Short::of(0)?;
-    let last = Short::of(63)?;
-    Some(Block { first, last })
-}
 
 /// How machines end that begin with Start.
 fn ended<K: Keep, W: Write>(
@@ -45,11 +38,8 @@ fn ends_as<R: Abort + AllocGlobal, K: Keep + Drop, W: Write + Drop>(
 }
 
 /// A store in memory with no records.
-fn none_kept<R: Abort>(rt: &R) -> MemoryKeep {
-    match all_addresses() {
-        Some(block) => MemoryKeep::new(block),
-        None => panic!(rt; "no block"),
-    }
+fn none_kept() -> MemoryKeep {
+    MemoryKeep::new(Block::ALL)
 }
 
 /// A writer that takes nothing.
@@ -97,7 +87,7 @@ silence\nsilence\nsilence\nsilence\nsilence\nsilence\nsilence\nsilence\nsilence\
 fn a_gear_is_given_an_address(rt: HostRuntime) {
     let mut answers = found(&rt);
     assert!(rt; answers.push_str(GIVEN).is_ok());
-    let mut keep = none_kept(&rt);
+    let mut keep = none_kept();
     let mut driver = Driver::new(rt.alloc(), answers.as_bytes(), std::io::sink());
     let found = ended(&mut keep, &mut driver);
     assert!(rt; found == Ok(Ended::Done(End::AllFound)));
@@ -112,13 +102,8 @@ fn a_gear_is_given_an_address(rt: HostRuntime) {
 fn a_store_that_fails_ends_the_run(rt: HostRuntime) {
     let answers = found(&rt);
     let ended = Err(CommissionFault::Store(KeepError::StoreFailed));
-    match all_addresses() {
-        Some(block) => {
-            let broken = Broken::of(Kept::new(block));
-            ends_as(&rt, broken, answers.as_bytes(), std::io::sink(), ended, 109);
-        }
-        None => panic!(rt; "no block"),
-    }
+    let broken = Broken::of(Kept::new(Block::ALL));
+    ends_as(&rt, broken, answers.as_bytes(), std::io::sink(), ended, 109);
 }
 
 #[test]
@@ -155,12 +140,12 @@ fn a_driver_that_fails_ends_the_run_by_name_and_line(rt: HostRuntime) {
         (b"silence silence s\n".as_slice(), DriverFault::LongLine, 1),
     ] {
         let ended = Err(CommissionFault::Driver(fault));
-        ends_as(&rt, none_kept(&rt), answers, std::io::sink(), ended, line);
+        ends_as(&rt, none_kept(), answers, std::io::sink(), ended, line);
     }
 }
 
 #[test]
 fn a_driver_that_takes_no_line_ends_the_run(rt: HostRuntime) {
     let ended = Err(CommissionFault::Driver(DriverFault::Write));
-    ends_as(&rt, none_kept(&rt), b"silence\n", Full, ended, 0);
+    ends_as(&rt, none_kept(), b"silence\n", Full, ended, 0);
 }

@@ -1,6 +1,5 @@
 //! Records in memory under a name, for the program.
 
-use super::conversations::all_addresses;
 use dali_commission_program::{Borrower, Failure, StoreFault, Stores};
 use dali_frame::{Random24, Short};
 use dali_reserve::{Keep, KeepError, MemoryKeep};
@@ -95,9 +94,6 @@ impl Stores for Shelf<'_> {
     }
 
     fn lend_copy<B: Borrower>(&self, name: &str, borrower: &B) -> Result<(), Failure> {
-        match all_addresses() {
-            Some(block) => self.lend(name, block, borrower),
-            None => Err(Failure::Refused),
-        }
+        self.lend(name, Block::ALL, borrower)
     }
 }
