@@ -25,7 +25,7 @@ use Rattle.dali_script.specs.declared.orders.Fault.{Fault}
 use Rattle.dali_script.specs.declared.orders.Fault.TheVariants as fault
 use Rattle.dali_script.specs.Due.{due_after, accepts, frame_put, record_ordered}
 use Rattle.dali_controller.specs.declared.purpose.Purpose.{Purpose}
-use Rattle.dali_controller.specs.declared.purpose.Purpose.TheVariants.{Opening, Probing, Visiting, Resolving, Closing, Asking, Waking, Hunting}
+use Rattle.dali_controller.specs.declared.purpose.Purpose.TheVariants.{Asking}
 use Rattle.dali_controller.specs.declared.shorts.Shorts.{Shorts}
 use Rattle.dali_controller.specs.Shorts.{has_short, with_short, without_short}
 use Rattle.dali_controller.specs.Machine.{Machine, machine_told, machine_heard, machine_committed, heard_after, marked_at, is_withheld, is_withheld_by}
@@ -126,11 +126,8 @@ settled t a n (Done e) is = elim is [ ]
 settled t a n (Halt w) is = inr (inr (inr (w, refl)))
 
 pub put_of : (last : Option Order) (h : Answer) → accepts (due_after last) (input.Heard h) ≡ true → (f : Forward) × (frame_put last ≡ Some f)
-put_of None h e = absurd (cc)
 put_of (Some (Put p f)) h e = (f, refl)
-put_of (Some (Commit x)) h e = absurd (cc)
-put_of (Some (Done x)) h e = absurd (cc)
-put_of (Some (Halt w)) h e = absurd (cc)
+put_of _ h e = absurd (cc)
 
 told_heard : (m : Machine) (f : Forward) (h : Answer) → frame_put m.last ≡ Some f
     → (machine_told m (input.Heard h)).heard ≡ heard_after m.course.purpose (stage_of (machine_told m (input.Heard h)).trace) h m.heard
@@ -177,13 +174,9 @@ enrolling_step : (m : Machine) (i : Input) (o : Order) (a r : ℕ) → m.last �
     → IsAccounted (machine_after m i o) a
 enrolling_step m i o a r last waits given = go i (subst (λ l. accepts (due_after l) i ≡ true) last waits) given where
   go : (i : Input) → accepts due.Store i ≡ true → IsGiven m i o → IsAccounted (machine_after m i o) a
-  go input.Start e given = absurd (cc)
-  go input.Survey e given = absurd (cc)
-  go (input.Heard h) e given = absurd (cc)
-  go input.Destroyed e given = absurd (cc)
-  go input.Lapsed e given = absurd (cc)
   go input.Committed e given = inr (inl (r, rw last (has_last m.kept.enrolled (a, r))))
   go input.CommitFailed e given = inr (inr (inr (fault.Store, ap Some given.answered)))
+  go _ e given = absurd (cc)
 
 marked_step : (m : Machine) (i : Input) (o : Order) (a : ℕ) → a < 64 → IsPlain (stage_of (machine_told m i).trace) → accepts (due_after m.last) i ≡ true
     → IsGiven m i o → has_short m.heard a ≡ true → IsAccounted (machine_after m i o) a
@@ -191,10 +184,8 @@ marked_step m input.Start o a small plain due given has = inl has
 marked_step m input.Survey o a small plain due given has = inl has
 marked_step m (input.Heard h) o a small plain due given has =
     heard_step m h o a due given (marks_keep m.course.purpose (stage_of (machine_told m (input.Heard h)).trace) h m.heard a small plain has)
-marked_step m input.Destroyed o a small plain due given has = inl has
-marked_step m input.Lapsed o a small plain due given has = inl has
 marked_step m input.Committed o a small plain due given has = inl (ap (λ s. has_short s a) (committed_heard m (record_ordered m.last)) ∙ has)
-marked_step m input.CommitFailed o a small plain due given has = inl has
+marked_step m _ o a small plain due given has = inl has
 
 pub never_due : (last : Option Order) (w : Fault) (i : Input) → last ≡ Some (Halt w) → accepts (due_after last) i ≡ true → ⊥
 never_due last w i is due = let none : false ≡ true = subst (λ l. accepts (due_after l) i ≡ true) is due in cc
@@ -209,13 +200,7 @@ accounted_stays s n a small taken plain was = subst (λ (x : Machine). IsAccount
 
 heard_of_survey : (p : Purpose) (h : Answer) (s : Stage) (a : ℕ) → heard_by (input.Heard h) p s ≡ Some a → (b : ℕ) × (p ≡ Asking b) × (heard_at s h ≡ Some a)
 heard_of_survey (Asking b) h s a e = (b, refl, e)
-heard_of_survey Opening h s a e = absurd (cc)
-heard_of_survey Probing h s a e = absurd (cc)
-heard_of_survey Visiting h s a e = absurd (cc)
-heard_of_survey (Resolving c) h s a e = absurd (cc)
-heard_of_survey (Closing x) h s a e = absurd (cc)
-heard_of_survey Waking h s a e = absurd (cc)
-heard_of_survey Hunting h s a e = absurd (cc)
+heard_of_survey _ h s a e = absurd (cc)
 
 pub accounted_by : (m : Machine) (i : Input) (o : Order) (a : ℕ) → a < 64 → IsPlain (stage_of (machine_told m i).trace) → accepts (due_after m.last) i ≡ true
     → IsGiven m i o → heard_by i m.course.purpose (stage_of (machine_told m i).trace) ≡ Some a → IsAccounted (machine_after m i o) a
@@ -381,12 +366,7 @@ gives_own t q a p f other opened told reserved ordered later held =
 
 given_ordered : (m : Machine) (i : Input) (p : ℕ) (f : Forward) → IsAnswered m i (Put p f) → IsOrdered (machine_told m i) (Put p f)
 given_ordered m input.CommitFailed p f answered = absurd (cc)
-given_ordered m input.Start p f answered = answered
-given_ordered m input.Survey p f answered = answered
-given_ordered m (input.Heard h) p f answered = answered
-given_ordered m input.Destroyed p f answered = answered
-given_ordered m input.Lapsed p f answered = answered
-given_ordered m input.Committed p f answered = answered
+given_ordered m _ p f answered = answered
 
 pub never_given : (s : Step) (earlier : List Step) (n : Machine) (a : ℕ) (q : SearchAddress) (f : Forward) → a < 64 → IsCourse (s ∷ earlier) n
     → ArePlain (s ∷ earlier) → s.order ≡ Put LATER f → (n.course.way ≡ Fresh → ⊥) → n.opened ≡ true → stage_told s ≡ stage.Unnamed q

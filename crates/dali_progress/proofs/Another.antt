@@ -100,13 +100,9 @@ unended e ended = cc
 
 not_due : (i : Input) → IsDue (controller_at (world (site_after shared_site taking_the_bus)) 0) i → ⊥
 unfolding command_of stage_of
-not_due input.Start due = cc
-not_due input.Survey due = cc
-not_due (input.Heard h) due = cc
-not_due input.Destroyed due = cc
-not_due input.Lapsed due = cc
 not_due input.Committed due = due
 not_due input.CommitFailed due = due
+not_due _ due = cc
 
 none_next : (r : Request) → next_request (site_after shared_site taking_the_bus) ≡ Some r → ⊥
 unfolding command_of stage_of

@@ -25,7 +25,7 @@ use Rattle.dali_script.specs.declared.orders.End.{End}
 use Rattle.dali_script.specs.declared.orders.End.TheVariants.{AllFound}
 use Rattle.dali_search.specs.Least.{Search, Agrees, Gives, HasAtMost}
 use Rattle.dali_controller.specs.declared.purpose.Purpose.{Purpose}
-use Rattle.dali_controller.specs.declared.purpose.Purpose.TheVariants.{Opening, Probing, Visiting, Resolving, Closing, Asking, Waking, Hunting}
+use Rattle.dali_controller.specs.declared.purpose.Purpose.TheVariants.{Opening, Probing, Visiting, Closing}
 use Rattle.dali_controller.specs.Course.{sought, is_yes}
 use Rattle.dali_controller.specs.Machine.{opened_after}
 use Rattle.dali_events.specs.Searching.{number_at}
@@ -491,8 +491,5 @@ at_sent Probing s k opened x n gs numbers left c h at is taken seek =
     subst (λ b. IsSentTo Probing s k b x n gs numbers left c h) (sym at.0) (probing_sent s k x n gs numbers left c h at.1 is taken seek)
 at_sent Visiting s k opened x n gs numbers left c h at is taken seek =
     subst (λ b. IsSentTo Visiting s k b x n gs numbers left c h) (sym at.0) (visiting_sent s k x n gs numbers left c h at.1 is taken seek)
-at_sent (Resolving a) s k opened x n gs numbers left c h at is taken seek = absurd at
-at_sent (Asking a) s k opened x n gs numbers left c h at is taken seek = absurd at
-at_sent Waking s k opened x n gs numbers left c h at is taken seek = absurd at
-at_sent Hunting s k opened x n gs numbers left c h at is taken seek = absurd at
 at_sent (Closing e) s k opened x n gs numbers left c h at is taken seek = closing_sent e s k opened x n gs numbers left c h at is
+at_sent _ s k opened x n gs numbers left c h at is taken seek = absurd at

@@ -80,12 +80,7 @@ followed t s o at turns = record {
 given : (m : Machine) (i : Input) (o : Order) → (i ≡ input.CommitFailed → ⊥) → IsOrdered (machine_told m i) o → BeginsWith (machine_after m i o).course o
     → IsFollowed (machine_told m i) o → IsGiven m i o
 given m input.CommitFailed o other answers begins follows = absurd (other refl)
-given m input.Start o other answers begins follows = record { answered = answers; begins = begins; followed = follows }
-given m input.Survey o other answers begins follows = record { answered = answers; begins = begins; followed = follows }
-given m (input.Heard h) o other answers begins follows = record { answered = answers; begins = begins; followed = follows }
-given m input.Destroyed o other answers begins follows = record { answered = answers; begins = begins; followed = follows }
-given m input.Lapsed o other answers begins follows = record { answered = answers; begins = begins; followed = follows }
-given m input.Committed o other answers begins follows = record { answered = answers; begins = begins; followed = follows }
+given m _ o other answers begins follows = record { answered = answers; begins = begins; followed = follows }
 
 some_same : {A : Type 0} (x y : A) → Some x ≡ Some y → x ≡ y
 some_same x y same = cc

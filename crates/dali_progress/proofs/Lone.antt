@@ -84,10 +84,7 @@ no_input = None
 -- what was put is no direct arc power
 abbrev pub Addresses : Option Order → Type 0
 Addresses (Some (Put p f)) = is_arc (command_of f) ≡ false
-Addresses (Some (Commit x)) = Unit {0}
-Addresses (Some (Done e)) = Unit {0}
-Addresses (Some (Halt why)) = Unit {0}
-Addresses None = Unit {0}
+Addresses _ = Unit {0}
 
 pub record IsLone (w : World) (q c : ℕ) (m : Machine) : Type 0 where
   pub up : IsUp w c
@@ -113,9 +110,7 @@ Comes w q c t (Halt why) = (bus_acted w.bus c (Halt why) ≡ still q None) × ((
 
 abbrev Puts : World → ℕ → Order → Type 0
 Puts w c (Put p f) = (p ≡ FIRST) ⊎ ((p ≡ LATER) × (w.bus.owner ≡ Some c))
-Puts w c (Commit x) = Unit {0}
-Puts w c (Done e) = Unit {0}
-Puts w c (Halt why) = Unit {0}
+Puts w c _ = Unit {0}
 
 same : (c : ℕ) → (c == c) ≡ true
 same c = grind (arith, nat_tests)
@@ -196,11 +191,9 @@ told_kept : (w : World) (q c : ℕ) (m : Machine) (k : Controller) (i : Input) �
     → Moment w q c m k.outstanding k.last k.told → (machine_told m i).kept ≡ kept_after k i
 told_kept w q c m k input.Committed due good last kept at = committed_kept w q c m k k.last k.told refl refl last due kept at
 told_kept w q c m k input.CommitFailed due good last kept at = absurd good
-told_kept w q c m k input.Start due good last kept at = kept
 told_kept w q c m k input.Survey due good last kept at = absurd good
 told_kept w q c m k (input.Heard h) due good last kept at = heard_kept m (frame_put m.last) h ∙ kept
-told_kept w q c m k input.Destroyed due good last kept at = kept
-told_kept w q c m k input.Lapsed due good last kept at = kept
+told_kept w q c m k _ due good last kept at = kept
 
 -- what an order that is allowed asks of the bus
 puts : (w : World) (c : ℕ) (k : Controller) (o : Order) → MayOrder w c k o → Puts w c o

@@ -60,13 +60,9 @@ some_same x y same = cc
 
 not_due : (i : Input) → IsDue (controller_at (world (site_after spent_site up_to_draw)) 0) i → ⊥
 unfolding command_of stage_of
-not_due input.Start due = cc
-not_due input.Survey due = cc
-not_due (input.Heard h) due = cc
-not_due input.Destroyed due = cc
-not_due input.Lapsed due = cc
 not_due input.Committed due = due
 not_due input.CommitFailed due = due
+not_due _ due = cc
 
 no_draws : HasDraws (world (site_after spent_site up_to_draw)) Everyone (frame 0xA7 0) → ⊥
 unfolding command_of stage_of

@@ -172,11 +172,8 @@ none_drawn : (p : Purpose) (s : Stage) (k : Kept) (opened : Bool) (x : Search) (
 none_drawn Opening s k opened x n gs left c h at is closed = opening_none s k opened n gs left c h at is closed
 none_drawn Probing s k opened x n gs left c h at is closed = none_apart Probing n k s gs c (probing_never n k s) is
 none_drawn Visiting s k opened x n gs left c h at is closed = none_apart Visiting n k s gs c (visiting_never n k s) is
-none_drawn (Resolving a) s k opened x n gs left c h at is closed = absurd at
-none_drawn (Asking a) s k opened x n gs left c h at is closed = absurd at
-none_drawn Waking s k opened x n gs left c h at is closed = absurd at
-none_drawn Hunting s k opened x n gs left c h at is closed = absurd at
 none_drawn (Closing e) s k opened x n gs left c h at is closed = none_apart (Closing e) n k s gs c (closing_never e n k s) is
+none_drawn _ s k opened x n gs left c h at is closed = absurd at
 
 was_closed : (s : Stage) (opened : Bool) → opened_after s opened ≡ false → opened ≡ false
 was_closed stage.Opened opened closed = absurd (cc)
@@ -228,11 +225,8 @@ told_has w q c m input.Committed at good due has =
     let none = told_none w q c m (controller_at w c).outstanding (controller_at w c).last (controller_at w c).told at due in
     let before : HasDraws m.opened w.gear w.left = subst (λ t. HasDraws (informed_by m t).opened w.gear w.left) none has in
     subst (λ b. HasDraws b w.gear w.left) (sym (committed_opened m (record_ordered m.last))) before
-told_has w q c m input.Start at good due has = subst (λ t. HasDraws (informed_by m t).opened w.gear w.left) due has
 told_has w q c m input.Survey at good due has = absurd good
-told_has w q c m (input.Heard h) at good due has = subst (λ t. HasDraws (informed_by m t).opened w.gear w.left) due has
-told_has w q c m input.Destroyed at good due has = subst (λ t. HasDraws (informed_by m t).opened w.gear w.left) due has
-told_has w q c m input.Lapsed at good due has = subst (λ t. HasDraws (informed_by m t).opened w.gear w.left) due has
+told_has w q c m _ at good due has = subst (λ t. HasDraws (informed_by m t).opened w.gear w.left) due has
 
 acted_has : (w : World) (c : ℕ) (m : Machine) (i : Input) (o : Order) → IsUp w c → HasDraws (machine_told m i).opened w.gear w.left
     → HasDraws (informed_by (machine_after m i o) (controller_at (happens w (event.Acted c i o)) c).told).opened (happens w (event.Acted c i o)).gear

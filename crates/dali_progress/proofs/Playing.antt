@@ -72,11 +72,7 @@ Gives w ms c (e ∷ es) = Gives (happens w e) (machines_after w ms e) c es
 abbrev pub succeeds : Input → Bool
 succeeds input.CommitFailed = false
 succeeds input.Survey = false
-succeeds input.Start = true
-succeeds (input.Heard h) = true
-succeeds input.Destroyed = true
-succeeds input.Lapsed = true
-succeeds input.Committed = true
+succeeds _ = true
 
 succeeds_by : (i : Input) → succeeds i ≡ true → Succeeds i
 succeeds_by input.CommitFailed e = absurd (cc)

@@ -88,13 +88,10 @@ never_surveys w q c m out (Some (Done e)) (Some i) at is = absurd at
 never_surveys w q c m out (Some (Halt why)) (Some i) at is = absurd at
 
 told_due : (w : World) (q c : ℕ) (m : Machine) (k : Controller) (i : Input) → Moment w q c m k.outstanding k.last k.told → k.told ≡ Some i → IsDue k i
-told_due w q c m k input.Start at told = told
 told_due w q c m k input.Survey at told = absurd (never_surveys w q c m k.outstanding k.last k.told at told)
-told_due w q c m k (input.Heard h) at told = told
-told_due w q c m k input.Destroyed at told = told
-told_due w q c m k input.Lapsed at told = told
 told_due w q c m k input.Committed at told = absurd (never_told w q c m k.outstanding k.last k.told at (inl told))
 told_due w q c m k input.CommitFailed at told = absurd (never_told w q c m k.outstanding k.last k.told at (inr told))
+told_due w q c m k _ at told = told
 
 -- what holds of the site of such an installation, of which controller 0 is alone
 pub record IsWell (s : SiteState) : Type 0 where
@@ -168,9 +165,7 @@ act_never s i _ well one has free refused = refused
 
 some_due : (d : Due) (k : Controller) → HasNoneBy d k → has_turn_by d k ≡ true → ⊥
 some_due due.Store k none has = none
-some_due due.Start k none has = let empty : is_some k.told ≡ false = ap is_some none in cc
-some_due due.Bus k none has = let empty : is_some k.told ≡ false = ap is_some none in cc
-some_due due.Nothing k none has = let empty : is_some k.told ≡ false = ap is_some none in cc
+some_due _ k none has = let empty : is_some k.told ≡ false = ap is_some none in cc
 
 go_never : (n m : Installation) (e : Refusal) → IsWell n.site → controllers n ≡ 1 → has_turn (controller n 0) ≡ true → IsGoRefused n 0 e m → ⊥
 go_never n m e well one has (inl (barred, same)) = not_barred n.site e well one barred

@@ -129,9 +129,7 @@ stored k up is = rw up (stored_by k.last is)
 -- what `go` gives never says that a commit failed
 given_survey : (d : Due) (n : Installation) (c : ℕ) (m : Installation) → IsDue (controller n c) input.Survey → IsGivenBy d n c input.Survey m → ⊥
 given_survey due.Store n c m told given = let is : input.Survey ≡ input.Committed = given.0 in cc
-given_survey due.Start n c m told given = let both : Some input.Start ≡ Some input.Survey = sym told ∙ given.0 in cc
-given_survey due.Bus n c m told given = let both : Some input.Start ≡ Some input.Survey = sym told ∙ given.0 in cc
-given_survey due.Nothing n c m told given = let both : Some input.Start ≡ Some input.Survey = sym told ∙ given.0 in cc
+given_survey _ n c m told given = let both : Some input.Start ≡ Some input.Survey = sym told ∙ given.0 in cc
 
 given_well : (d : Due) (n : Installation) (c : ℕ) (i : Input) (m : Installation) → IsDue (controller n c) i → (i ≡ input.CommitFailed → d ≡ due.Store)
     → IsGivenBy d n c i m → Succeeds i
@@ -139,12 +137,8 @@ given_well d n c input.CommitFailed m told waits given =
     let at : IsGivenBy due.Store n c input.CommitFailed m = subst (λ x. IsGivenBy x n c input.CommitFailed m) (waits refl) given in
     let is : input.CommitFailed ≡ input.Committed = at.0 in
     absurd (cc)
-given_well d n c input.Start m told waits given = tt
 given_well d n c input.Survey m told waits given = absurd (given_survey d n c m told given)
-given_well d n c (input.Heard h) m told waits given = tt
-given_well d n c input.Destroyed m told waits given = tt
-given_well d n c input.Lapsed m told waits given = tt
-given_well d n c input.Committed m told waits given = tt
+given_well d n c _ m told waits given = tt
 
 due_commit : (k : Controller) (i : Input) → IsDue k i → i ≡ input.CommitFailed → IsCommit k.last
 due_commit k i due is = subst (λ x. IsDue k x) is due
@@ -203,9 +197,7 @@ turns_of n m acted text one turns = one_turn n m acted text (subst (λ x. Turns 
 
 abbrev logs_count : Report → ℕ
 logs_count report.Idle = 0
-logs_count (report.Sent c f h) = 1
-logs_count (report.Destroyed c f) = 1
-logs_count (report.Collided c f d g) = 1
+logs_count _ = 1
 
 -- where there is no trouble no frame is destroyed
 undisturbed : (s : SiteState) (set : GearSet)
@@ -278,9 +270,7 @@ run_frames limit n sent text m alone one ran =
 -- what is due for a controller gives it a turn
 pub told_turn : (d : Due) (k : Controller) (i : Input) → k.told ≡ Some i → has_turn_by d k ≡ true
 told_turn due.Store k i told = refl
-told_turn due.Start k i told = rw told refl
-told_turn due.Bus k i told = rw told refl
-told_turn due.Nothing k i told = rw told refl
+told_turn _ k i told = rw told refl
 
 due_turn : (k : Controller) (i : Input) → k.up ≡ true → Succeeds i → IsDue k i → has_turn k ≡ true
 due_turn k input.CommitFailed up good due = absurd good

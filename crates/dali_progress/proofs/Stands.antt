@@ -14,7 +14,7 @@ use Rattle.dali_search.specs.declared.step.Step.TheVariants.{Again}
 use Rattle.dali_search.specs.Least.{Search, Agrees, Gives}
 use Rattle.dali_search.specs.Narrowing.{IsNarrowing}
 use Rattle.dali_controller.specs.declared.purpose.Purpose.{Purpose}
-use Rattle.dali_controller.specs.declared.purpose.Purpose.TheVariants.{Opening, Probing, Visiting, Resolving, Closing, Asking, Waking, Hunting}
+use Rattle.dali_controller.specs.declared.purpose.Purpose.TheVariants.{Opening, Probing, Visiting, Closing, Hunting}
 use Rattle.dali_controller.specs.declared.way.Way.TheVariants.{Fresh}
 use Rattle.dali_controller.specs.Course.{first_of, turn_of, sought, is_yes, byte_to_send}
 use Rattle.dali_controller.specs.Machine.{Machine}
@@ -176,11 +176,8 @@ abbrev pub At : Purpose → Stage → Kept → Bool → Search → SearchAddress
 At Opening s k opened x n gs left = Opens s opened gs left
 At Probing s k opened x n gs left = (opened ≡ true) × Probes s x n gs left
 At Visiting s k opened x n gs left = (opened ≡ true) × VisitsAt s k n gs left
-At (Resolving a) s k opened x n gs left = ⊥
 At (Closing e) s k opened x n gs left = Closes e s k gs left
-At (Asking a) s k opened x n gs left = ⊥
-At Waking s k opened x n gs left = ⊥
-At Hunting s k opened x n gs left = ⊥
+At _ s k opened x n gs left = ⊥
 
 -- what is enrolled is reserved
 abbrev pub IsWithin : Kept → Type 0

@@ -18,7 +18,7 @@ use Rattle.dali_script.specs.declared.stage.Stage.TheVariants as stage
 use Rattle.dali_script.specs.Stages.{next_stage, answered, verified}
 use Rattle.dali_search.specs.Least.{Search}
 use Rattle.dali_controller.specs.declared.purpose.Purpose.{Purpose}
-use Rattle.dali_controller.specs.declared.purpose.Purpose.TheVariants.{Opening, Probing, Visiting, Resolving, Closing, Asking, Waking, Hunting}
+use Rattle.dali_controller.specs.declared.purpose.Purpose.TheVariants.{Opening, Probing, Visiting, Closing}
 use Rattle.dali_script.specs.declared.orders.End.{End}
 use Rattle.dali_events.specs.Wanted.{gear_of, OfPowered, Seek}
 use Rattle.dali_events.proofs.Invariant.Takes.{row_length}
@@ -245,8 +245,5 @@ at_tabled before Opening s k opened now x n gs numbers left rest c h at is seek 
 at_tabled before Probing s k opened now x n gs numbers left rest c h at is seek next tabled = probing_tabled before s k x n gs numbers left c h at.1 is tabled
 at_tabled before Visiting s k opened now x n gs numbers left rest c h at is seek next tabled =
     visiting_tabled before s k n gs numbers left rest c h at.1 is seek next.1 tabled
-at_tabled before (Resolving a) s k opened now x n gs numbers left rest c h at is seek next tabled = absurd at
-at_tabled before (Asking a) s k opened now x n gs numbers left rest c h at is seek next tabled = absurd at
-at_tabled before Waking s k opened now x n gs numbers left rest c h at is seek next tabled = absurd at
-at_tabled before Hunting s k opened now x n gs numbers left rest c h at is seek next tabled = absurd at
 at_tabled before (Closing e) s k opened now x n gs numbers left rest c h at is seek next tabled = closing_tabled before s k n gs numbers left c h e at is tabled
+at_tabled before _ s k opened now x n gs numbers left rest c h at is seek next tabled = absurd at

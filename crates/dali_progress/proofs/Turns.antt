@@ -33,7 +33,7 @@ use Rattle.dali_search.specs.Narrowing.{IsNarrowing}
 use Rattle.dali_search.proofs.Agreement.{agrees_more}
 use Rattle.dali_search.proofs.Answered as searching
 use Rattle.dali_controller.specs.declared.purpose.Purpose.{Purpose}
-use Rattle.dali_controller.specs.declared.purpose.Purpose.TheVariants.{Opening, Probing, Visiting, Resolving, Closing, Asking, Waking, Hunting}
+use Rattle.dali_controller.specs.declared.purpose.Purpose.TheVariants.{Opening, Probing, Visiting, Closing}
 use Rattle.dali_controller.specs.Course.{Course, first_of, turn_of, sought, is_yes, closing_of, searching_anew, visiting, probed, after_step}
 use Rattle.dali_controller.specs.Course.{closing as closing_by}
 use Rattle.dali_controller.specs.Course.{opening as opening_of}
@@ -502,11 +502,8 @@ turned before t o gs left g st kept last running = go t.course.purpose refl st.a
   go Opening purpose at = opening_turns before t o (stage_of t.trace) gs left g st last purpose refl running at
   go Probing purpose at = probing_turns before t o (stage_of t.trace) gs left g st last purpose refl running at.0 at.1
   go Visiting purpose at = visiting_turns before t o (stage_of t.trace) gs left g st kept purpose refl running at.0 at.1
-  go (Resolving a) purpose at = absurd at
-  go (Asking a) purpose at = absurd at
-  go Waking purpose at = absurd at
-  go Hunting purpose at = absurd at
   go (Closing e) purpose at = closing_turns before t o e (stage_of t.trace) gs left g st purpose refl running at
+  go _ purpose at = absurd at
 
 -- ---------------------------------------------------------------- the start
 

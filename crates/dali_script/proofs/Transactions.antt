@@ -22,7 +22,7 @@ use Rattle.dali_script.specs.declared.trace.Entry.{Entry}
 use Rattle.dali_script.specs.declared.stage.Stage.{Stage}
 use Rattle.dali_script.specs.declared.stage.Stage.TheVariants.{Free, Terminated, InitialisedOnce, Initialised, RandomisedOnce, Opened, HighSent, MiddleSent}
 use Rattle.dali_script.specs.declared.stage.Stage.TheVariants.{LowSent, Hunted}
-use Rattle.dali_script.specs.declared.stage.Stage.TheVariants.{NumberSent, Probed, Found, Unnamed, Unanswered, Inconclusive, Programmed, Confirmed, Withdrawn}
+use Rattle.dali_script.specs.declared.stage.Stage.TheVariants.{NumberSent, Probed, Found, Unnamed, Unanswered, Inconclusive, Programmed, Confirmed}
 use Rattle.dali_script.specs.declared.stage.Stage.TheVariants.{HighAsked, MiddleAsked, Spelled, Over}
 use Rattle.dali_script.specs.Records.{Assignment, HasAddress}
 use Rattle.dali_script.specs.Scripts.{no_address, some_address, address, IsHeard, Step, sends, queries, search_at, Script, Open, Probe, Hunt, Look, Give}
@@ -574,15 +574,11 @@ next_at b xs small (Found r c) here e = (Withdraw, tt, (lit< tt, lit< tt), turn 
 next_at b xs small (Unnamed r) here e =
     let found = may_give_some_from b xs r e in
     next_program b xs r found.0 (small found.0 (has_map (λ p. p.0) xs (found.0, value_of r) found.1.reserved_for)) found.1
-next_at b xs small (Unanswered r) here e = absurd (cc)
-next_at b xs small (Inconclusive r other) here e = absurd (cc)
 next_at b xs small (Programmed r a) here e = (QueryShort, tt, (lit< tt, lit< tt), gives refl (may_give_from b xs r a e))
 next_at b xs small (Confirmed r a) here e = (Withdraw, tt, (lit< tt, lit< tt), gives refl (may_give_from b xs r a e))
-next_at b xs small (Withdrawn r a) here e = absurd (cc)
 next_at b xs small (HighAsked a high) here e = next_query b xs (HighAsked a high) a here (rw (self a) refl) refl
 next_at b xs small (MiddleAsked a bytes) here e = next_last b xs (MiddleAsked a bytes) a here (rw (self a) refl) refl
-next_at b xs small (Spelled a number) here e = absurd (cc)
-next_at b xs small Over here e = absurd (cc)
+next_at b xs small _ here e = absurd (cc)
 
 pub goes_on_at : (b : Block) (xs : List Assignment) (t : List Entry) → ((a : ℕ) → HasAddress xs a → a < 64) → may_follow b xs (stage_of t) ≡ true
     → GoesOn b xs t
@@ -612,14 +608,8 @@ front_short [] f (s ∷ ss) front = omega arith
 front_short (e ∷ t) f (s ∷ ss) front = let less : length t < length ss = front_short t f ss front.2 in omega arith
 
 script_short : (b : Block) (xs : List Assignment) (s : Script) → MaySend b xs s → length (steps s) ≤ 8
-script_short b xs Open may = lit≤ tt
-script_short b xs (Probe r) may = lit≤ tt
 script_short b xs (Hunt r cs) may = let few : length cs ≤ 5 = may.1 in let same : length (map sends cs) ≡ length cs = length-map cs sends in omega arith
-script_short b xs (Look r) may = lit≤ tt
-script_short b xs (Give r a) may = lit≤ tt
-script_short b xs (Resolve a) may = lit≤ tt
-script_short b xs Close may = lit≤ tt
-script_short b xs (ArcPower f) may = lit≤ tt
+script_short b xs _ may = lit≤ tt
 
 pub room : (b : Block) (xs : List Assignment) (t : List Entry) (f : Forward) → Lawful b xs t f → length t < 8
 room b xs t f lawful =

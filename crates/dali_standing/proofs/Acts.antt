@@ -53,10 +53,7 @@ abbrev pub IsOfBus : Input → Type 0
 IsOfBus (input.Heard h) = Unit {0}
 IsOfBus input.Destroyed = Unit {0}
 IsOfBus input.Lapsed = Unit {0}
-IsOfBus input.Start = ⊥
-IsOfBus input.Survey = ⊥
-IsOfBus input.Committed = ⊥
-IsOfBus input.CommitFailed = ⊥
+IsOfBus _ = ⊥
 
 pub bus_put : (i : Input) (last : Option Order) → IsOfBus i → accepts (due_after last) i ≡ true → IsPut last
 bus_put (input.Heard h) None bus a = cc
@@ -185,20 +182,14 @@ pub bus_kept : (m : Machine) (i : Input) (p : ℕ) (f : Forward) → IsOfBus i �
 bus_kept m (input.Heard h) p f bus e = rw e refl
 bus_kept m input.Destroyed p f bus e = refl
 bus_kept m input.Lapsed p f bus e = refl
-bus_kept m input.Start p f bus e = elim bus [ ]
-bus_kept m input.Survey p f bus e = elim bus [ ]
-bus_kept m input.Committed p f bus e = elim bus [ ]
-bus_kept m input.CommitFailed p f bus e = elim bus [ ]
+bus_kept m _ p f bus e = elim bus [ ]
 
 bus_records : (k : Controller) (i : Input) → IsOfBus i
     → ((controller_informed k i).records ≡ k.records) × ((controller_informed k i).outstanding ≡ k.outstanding)
 bus_records k (input.Heard h) bus = (refl, refl)
 bus_records k input.Destroyed bus = (refl, refl)
 bus_records k input.Lapsed bus = (refl, refl)
-bus_records k input.Start bus = elim bus [ ]
-bus_records k input.Survey bus = elim bus [ ]
-bus_records k input.Committed bus = elim bus [ ]
-bus_records k input.CommitFailed bus = elim bus [ ]
+bus_records k _ bus = elim bus [ ]
 
 owns_told : (w : World) (c : ℕ) (k : Controller) (m : Machine) (i : Input) (p : ℕ) (f : Forward) → IsOfBus i → k.told ≡ Some i → m.last ≡ k.last
     → k.last ≡ Some (Put p f)
@@ -207,10 +198,7 @@ owns_told w c k m (input.Heard h) p f bus is same e placed =
     owns_heard w c k m (machine_told m (input.Heard h)) p f h is e placed (heard_trace m p f h (same ∙ e))
 owns_told w c k m input.Destroyed p f bus is same e placed = owns_none w c (controller_informed k input.Destroyed) (machine_told m input.Destroyed) refl
 owns_told w c k m input.Lapsed p f bus is same e placed = owns_none w c (controller_informed k input.Lapsed) (machine_told m input.Lapsed) refl
-owns_told w c k m input.Start p f bus is same e placed = elim bus [ ]
-owns_told w c k m input.Survey p f bus is same e placed = elim bus [ ]
-owns_told w c k m input.Committed p f bus is same e placed = elim bus [ ]
-owns_told w c k m input.CommitFailed p f bus is same e placed = elim bus [ ]
+owns_told w c k m _ p f bus is same e placed = elim bus [ ]
 
 pub found_told : (k : Controller) (m : Machine) (i : Input) → k.told ≡ Some i → IsFound k m → later k.finding (finding_of (machine_told m i).trace) ≡ k.finding
 found_told k m i e is = subst (λ t. later k.finding (finding_of (informed_by m t).trace) ≡ k.finding) e is
@@ -229,13 +217,9 @@ committed_trace m None = refl
 committed_trace m (Some x) = refl
 
 last_told : (m : Machine) (i : Input) → (machine_told m i).last ≡ m.last
-last_told m input.Start = refl
-last_told m input.Survey = refl
 last_told m (input.Heard h) = heard_last m (frame_put m.last) h
-last_told m input.Destroyed = refl
-last_told m input.Lapsed = refl
 last_told m input.Committed = committed_last_stays m (record_ordered m.last)
-last_told m input.CommitFailed = refl
+last_told m _ = refl
 
 enrolling_told : (k : Controller) (m : Machine) (i : Input) → IsRunning k m → IsEnrolling (machine_told m i).last k.finding
 enrolling_told k m i tied = subst (λ l. IsEnrolling l k.finding) (sym (last_told m i ∙ tied.last)) tied.enrolling
@@ -263,9 +247,7 @@ still_found t found false is = refl
 
 found_ordered : (t : Machine) (o : Order) (found : Option Finding) → later found (finding_of t.trace) ≡ found → later found (finding_of (trace_by t o)) ≡ found
 found_ordered t (Put p f) found is = still_found t found (p == LATER) is
-found_ordered t (Commit x) found is = refl
-found_ordered t (Done e) found is = refl
-found_ordered t (Halt why) found is = refl
+found_ordered t _ found is = refl
 
 outstanding_ordered : (t : Machine) (o : Order) (outstanding : Option Record) → IsAllowed t o → outstanding ≡ None
     → IsOutstanding t.kept (Some o) (outstanding_after outstanding o)

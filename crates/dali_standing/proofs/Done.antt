@@ -388,9 +388,7 @@ may_hear answers what plain h plain_is is = subst (λ x. Hears answers x) (sym (
   go : (t : Trouble) → Hears answers (heard_under t (heard_of answers))
   go trouble.AnswerLost = tt
   go trouble.Noise = tt
-  go trouble.None = plain_hearing answers
-  go (trouble.Destroyed set) = plain_hearing answers
-  go trouble.Collision = plain_hearing answers
+  go _ = plain_hearing answers
 
 -- ---------------------------------------------------------------- two frames collide
 

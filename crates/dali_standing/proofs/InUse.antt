@@ -114,8 +114,4 @@ reserves_alone us None i o answer may = elim answer [ ]
 reserves_alone us (Some m) i o answer may = go may.0 may.1 may.2 where
   go : (p : Order) → MayAnswer (Some m) i p → ReservesUsed us p → ReservesUsed us o
   go (Commit (Reserve a r)) is has = subst (λ x. ReservesUsed us x) (sym (answered_alone m i a r o is.answered answer.answered)) has
-  go (Commit (Enrol b r)) is has = elim has [ ]
-  go (Commit (Release a r)) is has = elim has [ ]
-  go (Put p f) is has = elim has [ ]
-  go (Done e) is has = elim has [ ]
-  go (Halt why) is has = elim has [ ]
+  go _ is has = elim has [ ]

@@ -53,9 +53,7 @@ left_bus b c o e = go o e (owns b.owner c) refl where
 
   go : (o : Order) → keeps_bus o ≡ false → (x : Bool) → owns b.owner c ≡ x → owns (bus_acted b c o).owner c ≡ false
   go (Put p f) e x own = rw (e, own) (freed_or x own)
-  go (Commit y) e x own = rw own (freed_or x own)
-  go (Done y) e x own = rw own (freed_or x own)
-  go (Halt y) e x own = rw own (freed_or x own)
+  go _ e x own = rw own (freed_or x own)
 
 placed_left : (w : World) (c : ℕ) (k : Controller) (m : Machine) (i : Input) (o : Order) → IsLeft w c (controller_informed k i) (machine_after m i o) o
     → IsPlacedBy (owns (bus_acted w.bus c o).owner c) (if gives_up w.bus c o then [] else w.trace) (controller_acted k i o) (Some (machine_after m i o))

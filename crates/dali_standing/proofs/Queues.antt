@@ -491,9 +491,7 @@ served_offered b place c f served arc = arc_served b.lists b.owner place c f ser
 -- an order whose frame, if it has one, is scripted, and goes to list 1 from the owner or to list 3
 abbrev pub MayAsk : Option ℕ → ℕ → Order → Type 0
 MayAsk owner c (Put p f) = (is_arc (command_of f) ≡ false) × (((p ≡ 1) × (owns owner c ≡ true)) ⊎ (p ≡ 3))
-MayAsk owner c (Commit x) = Unit {0}
-MayAsk owner c (Done e) = Unit {0}
-MayAsk owner c (Halt why) = Unit {0}
+MayAsk owner c _ = Unit {0}
 
 module _ (place place' : ℕ → Seat) (c : ℕ) (f : Forward) where
   put_owned : (lists : List (List Request)) → IsServed lists (Some c) place → Elsewhere place place' c → awaited_requests c (place c).controller ≡ []
@@ -611,9 +609,7 @@ five_acted b c o five = go o (before (gives_up b c o)) where
   go : (x : Order) → length (if gives_up b c o then bus_lapsed b else b).lists ≡ 5
       → length (put_after (if gives_up b c o then bus_lapsed b else b) c x).lists ≡ 5
   go (Put p f) is = five_offered (if gives_up b c o then bus_lapsed b else b) (request_of c p f) is
-  go (Commit x) is = is
-  go (Done x) is = is
-  go (Halt x) is = is
+  go _ is = is
 
 pub five_destroyed : (b : Arbiter) → length b.lists ≡ 5 → length (bus_destroyed b).lists ≡ 5
 five_destroyed b five = emptied_length (without_first b.lists) ∙ without_length b.lists ∙ five
@@ -714,9 +710,7 @@ up_acted b place c o all is = go o (before (gives_up b c o)) where
   go : (x : Order) → AreUp (if gives_up b c o then bus_lapsed b else b).lists place
       → AreUp (put_after (if gives_up b c o then bus_lapsed b else b) c x).lists place
   go (Put p f) then_all = up_offered (if gives_up b c o then bus_lapsed b else b) place (request_of c p f) then_all is
-  go (Commit x) then_all = then_all
-  go (Done x) then_all = then_all
-  go (Halt x) then_all = then_all
+  go _ then_all = then_all
 
 pub up_destroyed : (b : Arbiter) (place : ℕ → Seat) → AreUp b.lists place → AreUp (bus_destroyed b).lists place
 up_destroyed b place all = all_emptied (UpAt place) (without_first b.lists) (all_without (UpAt place) b.lists all)

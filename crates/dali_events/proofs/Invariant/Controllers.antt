@@ -7,7 +7,7 @@ use Rattle.dali_script.specs.Findings.{search_of, asked_of, found_by, later}
 use Rattle.dali_script.specs.declared.orders.Input.{Input}
 use Rattle.dali_script.specs.declared.orders.Input.TheVariants as input
 use Rattle.dali_script.specs.declared.orders.Order.{Order}
-use Rattle.dali_script.specs.declared.orders.Order.TheVariants.{Put, Commit, Done, Halt}
+use Rattle.dali_script.specs.declared.orders.Order.TheVariants.{Commit}
 use Rattle.dali_events.specs.declared.event.Event.{Event}
 use Rattle.dali_events.specs.declared.event.Event.TheVariants as event
 use Rattle.dali_events.specs.World.{World, Controller, controller_at, nobody}
@@ -31,9 +31,7 @@ Of P c k = P c k.records k.outstanding k.finding
 -- what a Commit order and a frame add
 abbrev pub AddsOrder : Property → ℕ → Controller → Order → Type 0
 AddsOrder P c k (Commit x) = Of P c k → P c k.records (Some x) k.finding
-AddsOrder P c k (Put p f) = Unit {0}
-AddsOrder P c k (Done end) = Unit {0}
-AddsOrder P c k (Halt fault) = Unit {0}
+AddsOrder P c k _ = Unit {0}
 
 abbrev pub Adds : Property → World → Event → Type 0
 Adds P w (event.Acted c i o) = AddsOrder P c (controller_informed (controller_at w c) i) o
@@ -45,19 +43,12 @@ Adds P w _ = Unit {0}
 
 informed_stands : (P : Property) (s : Stands P) (c : ℕ) (k : Controller) (i : Input) → Of P c k → Of P c (controller_informed k i)
 informed_stands P s c k input.Committed h = s.keep c k.records k.outstanding k.finding h
-informed_stands P s c k input.Start h = h
-informed_stands P s c k input.Survey h = h
-informed_stands P s c k (input.Heard x) h = h
-informed_stands P s c k input.Destroyed h = h
-informed_stands P s c k input.Lapsed h = h
-informed_stands P s c k input.CommitFailed h = h
+informed_stands P s c k _ h = h
 
 acted_stands : (P : Property) (s : Stands P) (c : ℕ) (k : Controller) (i : Input) (o : Order) → AddsOrder P c (controller_informed k i) o → Of P c k
     → Of P c (controller_acted k i o)
 acted_stands P s c k i (Commit x) adds h = adds (informed_stands P s c k i h)
-acted_stands P s c k i (Put p f) adds h = informed_stands P s c k i h
-acted_stands P s c k i (Done end) adds h = informed_stands P s c k i h
-acted_stands P s c k i (Halt fault) adds h = informed_stands P s c k i h
+acted_stands P s c k i _ adds h = informed_stands P s c k i h
 
 owner_stands : (P : Property) (cs : List Controller) (o : Option ℕ) → Each nobody (Of P) cs → Each nobody (Of P) (owner_told cs o)
 owner_stands P cs None each = each

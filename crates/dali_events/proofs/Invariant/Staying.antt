@@ -6,7 +6,7 @@ use Rattle.dali_script.specs.Records.{Assignment, Kept, Has}
 use Rattle.dali_script.proofs.Lists.{without_other}
 use Rattle.dali_script.proofs.Members.{Each, has_left, same_member}
 use Rattle.dali_script.specs.declared.orders.Order.{Order}
-use Rattle.dali_script.specs.declared.orders.Order.TheVariants.{Put, Commit, Done, Halt}
+use Rattle.dali_script.specs.declared.orders.Order.TheVariants.{Commit}
 use Rattle.dali_events.specs.declared.event.Event.{Event}
 use Rattle.dali_events.specs.declared.event.Event.TheVariants as event
 use Rattle.dali_events.specs.World.{World, Controller, gear_at, controller_at, nobody}
@@ -50,9 +50,7 @@ stays_stand N cs x alone = record {
 stays_order : (N : Assignment → Type 0) (cs : List Controller) (x : Assignment) (c : ℕ) (k : Controller) (o : Order) → AddsOrder (Says N) c k o
     → AddsOrder (Stays N cs x) c k o
 stays_order N cs x c k (Commit y) adds = λ h. record { says = adds h.says; still = h.still }
-stays_order N cs x c k (Put q f) adds = tt
-stays_order N cs x c k (Done end) adds = tt
-stays_order N cs x c k (Halt fault) adds = tt
+stays_order N cs x c k _ adds = tt
 
 stays_add : (N : Assignment → Type 0) (cs : List Controller) (x : Assignment) (w : World) (e : Event) → Adds (Says N) w e → Adds (Stays N cs x) w e
 stays_add N cs x w (event.Acted c i o) adds = stays_order N cs x c (controller_informed (controller_at w c) i) o adds

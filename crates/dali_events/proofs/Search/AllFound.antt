@@ -84,11 +84,9 @@ opens_event w (event.Sent c f h) here calm opens = opens_sent w c f h here (open
 opens_event w (event.Destroyed c f set) here calm opens = opens_free [] _ stage_none
 opens_event w (event.Collided c f d g) here calm opens = opens_free [] w.gear stage_none
 opens_event w event.Lapsed here calm opens = opens_free [] w.gear stage_none
-opens_event w event.Quiet here calm opens = absurd calm
-opens_event w (event.Power g on) here calm opens = absurd calm
-opens_event w (event.Expired g) here calm opens = absurd calm
 opens_event w (event.Down c) here calm opens = opens_unless _ w.trace w.gear opens
 opens_event w (event.Up c kept) here calm opens = opens
+opens_event w _ here calm opens = absurd calm
 
 opens_all : (w : World) (es : List Event) → AllAllowed w es → AreCalm es → OpensAll (stage_of w.trace) w.gear
     → OpensAll (stage_of (after_all w es).trace) (after_all w es).gear

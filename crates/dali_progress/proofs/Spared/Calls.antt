@@ -182,12 +182,7 @@ outstanding_block k (Some x) = block_stays k x
 
 acted_block : (k : Controller) (i : Input) → (kept_after k i).block ≡ k.records.block
 acted_block k input.Committed = outstanding_block k.records k.outstanding
-acted_block k input.Start = refl
-acted_block k input.Survey = refl
-acted_block k (input.Heard h) = refl
-acted_block k input.Destroyed = refl
-acted_block k input.Lapsed = refl
-acted_block k input.CommitFailed = refl
+acted_block k _ = refl
 
 up_block : (kept : Bool) (k : Controller) → (come_up kept k).records.block ≡ k.records.block
 up_block true k = outstanding_block k.records k.outstanding
@@ -211,10 +206,7 @@ block_moved z w c (event.Collided d f e g) b =
 block_moved z w c event.Lapsed b = lapsed_block z w.controllers c w.bus.owner b
 block_moved z w c (event.Down d) b = changed_at (IsOf z) w.controllers d c gone_down b (λ same k. k)
 block_moved z w c (event.Up d kept) b = changed_at (IsOf z) w.controllers d c (come_up kept) b (λ same k. up_block kept (controller_at w c) ∙ k)
-block_moved z w c (event.Offered d f) b = b
-block_moved z w c event.Quiet b = b
-block_moved z w c (event.Power g on) b = b
-block_moved z w c (event.Expired g) b = b
+block_moved z w c _ b = b
 
 -- ---------------------------------------------------------------- it goes down, and comes up
 

@@ -17,7 +17,7 @@ use Rattle.dali_script.specs.declared.orders.Order.{Order}
 use Rattle.dali_script.specs.declared.orders.Order.TheVariants.{Put, Commit}
 use Rattle.dali_script.specs.Due.{due_after, accepts, frame_put, record_ordered}
 use Rattle.dali_controller.specs.declared.purpose.Purpose.{Purpose}
-use Rattle.dali_controller.specs.declared.purpose.Purpose.TheVariants.{Opening, Probing, Visiting, Resolving, Closing, Asking, Waking, Hunting}
+use Rattle.dali_controller.specs.declared.purpose.Purpose.TheVariants.{Asking}
 use Rattle.dali_controller.specs.Machine.{Machine, machine_told, machine_heard, machine_committed, asked_at, asked_after, asked_after_silence}
 use Rattle.dali_controller.specs.Next.{next_course, begins_at, at_rest, asked_once}
 use Rattle.dali_controller.specs.Orders.{IsGiven, IsAllowed, machine_after, machine_ordered}
@@ -121,13 +121,7 @@ heard_counted U n m h p f b o purpose last whole bound may = go hears.at where
 -- whether a short address is asked, or the count stays
 asked_or : (p : Purpose) → ((b : ℕ) × (p ≡ Asking b)) ⊎ ((s : Stage) (h : Answer) (k : ℕ) → asked_after p s h k ≡ k)
 asked_or (Asking b) = inl (b, refl)
-asked_or Opening = inr (λ s h k. refl)
-asked_or Probing = inr (λ s h k. refl)
-asked_or Visiting = inr (λ s h k. refl)
-asked_or (Resolving a) = inr (λ s h k. refl)
-asked_or (Closing e) = inr (λ s h k. refl)
-asked_or Waking = inr (λ s h k. refl)
-asked_or Hunting = inr (λ s h k. refl)
+asked_or _ = inr (λ s h k. refl)
 
 heard_on : (U : ℕ → Type 0) (n : ℕ → ℕ) (m : Machine) (h : Answer) (p : ℕ) (f : Forward) (o : Order) → m.last ≡ Some (Put p f) → IsWhole m
     → ((b : ℕ) → m.course.purpose ≡ Asking b → stage_of (machine_heard m (Some f) h).trace ≡ stage.HighAsked b None → h ≡ Silence → U b

@@ -10,7 +10,7 @@ use Rattle.dali_special.specs.Command.{command_of}
 use Rattle.dali_special.proofs.Table.{read_spelled}
 use Rattle.dali_script.specs.declared.block.Block.{Block}
 use Rattle.dali_script.specs.declared.records.Record.{Record}
-use Rattle.dali_script.specs.declared.records.Record.TheVariants.{Reserve, Enrol, Release}
+use Rattle.dali_script.specs.declared.records.Record.TheVariants.{Reserve}
 use Rattle.dali_script.specs.declared.stage.Stage.{Stage}
 use Rattle.dali_script.specs.declared.stage.Stage.TheVariants as stage
 use Rattle.dali_script.specs.Records.{Kept, Has, InBlock}
@@ -176,11 +176,8 @@ heard_of U z n k m h l due =
     (fair.0, ap frame_put l.last ∙ fair.1, fair.2)
 
 put_of_frame : (last : Option Order) (f : Forward) → frame_put last ≡ Some f → (p : ℕ) × (last ≡ Some (Put p f))
-put_of_frame None f e = absurd (cc)
 put_of_frame (Some (Put p g)) f e = (p, let same : g ≡ f = cc in ap (λ x. Some (Put p x)) same)
-put_of_frame (Some (Commit x)) f e = absurd (cc)
-put_of_frame (Some (Done x)) f e = absurd (cc)
-put_of_frame (Some (Halt x)) f e = absurd (cc)
+put_of_frame _ f e = absurd (cc)
 
 heard_is : (m : Machine) (h : Answer) (f : Forward) → frame_put m.last ≡ Some f → machine_told m (input.Heard h) ≡ machine_heard m (Some f) h
 heard_is m h f put = ap (λ o. machine_heard m o h) put
@@ -251,11 +248,7 @@ ordered_surveyed t o other = go (ordered_way t o) where
 surveys : (i : Input) → accepts due.Start i ≡ true → (i ≡ input.Start → ⊥) → i ≡ input.Survey
 surveys input.Start due unstarted = absurd (unstarted refl)
 surveys input.Survey due unstarted = refl
-surveys (input.Heard h) due unstarted = absurd (cc)
-surveys input.Destroyed due unstarted = absurd (cc)
-surveys input.Lapsed due unstarted = absurd (cc)
-surveys input.Committed due unstarted = absurd (cc)
-surveys input.CommitFailed due unstarted = absurd (cc)
+surveys _ due unstarted = absurd (cc)
 
 begun_on : (m : Machine) (i : Input) (o : Order) (steps : List Step) → HasBegun steps m → (i ≡ input.Start → ⊥) → accepts (due_after m.last) i ≡ true
     → HasBegun ((record { before = m; told = i; order = o }) ∷ steps) (machine_after m i o)
@@ -422,10 +415,7 @@ commit_free : (m : Machine) (last : Option Order) → m.last ≡ last → IsComm
 commit_free m last is commit whole = go last commit (subst (Pending m) is whole) where
   go : (l : Option Order) → IsCommit l → Pending m l → stage_of m.trace ≡ stage.Free
   go (Some (Commit x)) c w = w.free
-  go None c w = absurd c
-  go (Some (Put p f)) c w = absurd c
-  go (Some (Done e)) c w = absurd c
-  go (Some (Halt why)) c w = absurd c
+  go _ c w = absurd c
 
 free_reserves : (t : Machine) (a r : ℕ) → stage_of t.trace ≡ stage.Free → MayCommit t (Reserve a r) → ⊥
 free_reserves t a r free may = no_reservation t stage.Free a r free (λ n e. cc) may
@@ -503,8 +493,4 @@ reserves_none U z n k m input.CommitFailed a r l due below its given = let other
 pub leaves_used : (U : ℕ → Type 0) (z : Block) (n : ℕ → ℕ) (us : List Used) (k : Controller) (m : Machine) (i : Input) (o : Order) → ((a : ℕ) → U a → a < 64)
     → ((a : ℕ) → InBlock z a → Has (used_shorts us) a → U a) → Lives U z n k m → IsDue k i → IsGiven m i o → ReservesUsed us o → ⊥
 leaves_used U z n us k m i (Commit (Reserve a r)) below its l due given used = reserves_none U z n k m i a r l due below (λ within. its a within used) given
-leaves_used U z n us k m i (Commit (Enrol a r)) below its l due given used = used
-leaves_used U z n us k m i (Commit (Release a r)) below its l due given used = used
-leaves_used U z n us k m i (Put p f) below its l due given used = used
-leaves_used U z n us k m i (Done e) below its l due given used = used
-leaves_used U z n us k m i (Halt w) below its l due given used = used
+leaves_used U z n us k m i _ below its l due given used = used

@@ -28,7 +28,7 @@ use Rattle.dali_script.specs.declared.orders.Order.{Order}
 use Rattle.dali_script.specs.declared.orders.Order.TheVariants.{Put, Commit, Done, Halt}
 use Rattle.dali_script.specs.declared.orders.Fault.TheVariants as fault
 use Rattle.dali_controller.specs.declared.purpose.Purpose.{Purpose}
-use Rattle.dali_controller.specs.declared.purpose.Purpose.TheVariants.{Opening, Probing, Hunting, Visiting, Resolving, Closing, Asking, Waking}
+use Rattle.dali_controller.specs.declared.purpose.Purpose.TheVariants.{Opening, Hunting, Visiting}
 use Rattle.dali_controller.specs.declared.shorts.Shorts.{Shorts}
 use Rattle.dali_controller.specs.declared.way.Way.{Way}
 use Rattle.dali_controller.specs.declared.way.Way.TheVariants.{Fresh, Surveying, Drawing}
@@ -188,11 +188,7 @@ untold : (p : Purpose) (y : Way) (s : Stage) (k : Kept) (heard : Shorts) (opened
 untold Opening y s k heard opened asked x n from start gs left unasked at = hunts_untold Opening y s k heard opened x n start gs left unasked at
 untold Hunting y s k heard opened asked x n from start gs left unasked at = hunts_untold Hunting y s k heard opened x n start gs left unasked at
 untold Visiting y s k heard opened asked x n from start gs left unasked at = hunts_untold Visiting y s k heard opened x n start gs left unasked at
-untold (Asking a) y s k heard opened asked x n from start gs left unasked at = at
-untold Waking y s k heard opened asked x n from start gs left unasked at = at
-untold (Closing e) y s k heard opened asked x n from start gs left unasked at = at
-untold Probing y s k heard opened asked x n from start gs left unasked at = at
-untold (Resolving a) y s k heard opened asked x n from start gs left unasked at = at
+untold _ y s k heard opened asked x n from start gs left unasked at = at
 
 pub later_by : (start : Begun) (t : Machine) (o : Order) (p : Purpose) (s : Stage) (c : Command) (gs : List Gear) (left : ℕ) → SurveyStands true start t gs left
     → o ≡ Put LATER (frame_of c) → IsSpelled c → t.course.purpose ≡ p → stage_of t.trace ≡ s → IsUnasked s → Sends p t.course.number t.kept s c

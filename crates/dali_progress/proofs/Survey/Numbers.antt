@@ -18,7 +18,7 @@ use Rattle.dali_script.specs.Stages.{stage_of, next_stage}
 use Rattle.dali_script.specs.Due.{frame_put, record_ordered}
 use Rattle.dali_script.proofs.Transactions.{stage_more}
 use Rattle.dali_script.specs.declared.records.Record.{Record}
-use Rattle.dali_script.specs.declared.records.Record.TheVariants.{Reserve, Enrol, Release}
+use Rattle.dali_script.specs.declared.records.Record.TheVariants.{Reserve}
 use Rattle.dali_script.specs.declared.orders.Input.{Input}
 use Rattle.dali_script.specs.declared.orders.Input.TheVariants as input
 use Rattle.dali_script.specs.declared.orders.Order.{Order}
@@ -60,13 +60,7 @@ use Rattle.dali_progress.proofs.Survey.Goes.{Holds}
 -- they have not drawn before the opening, and until it is complete
 abbrev pub Undrawn : Purpose → Way → Stage → Type 0
 Undrawn Opening y s = opened_after s false ≡ false
-Undrawn Probing y s = y ≡ Surveying
-Undrawn Hunting y s = y ≡ Surveying
-Undrawn Visiting y s = y ≡ Surveying
-Undrawn (Resolving a) y s = y ≡ Surveying
-Undrawn (Asking a) y s = y ≡ Surveying
-Undrawn Waking y s = y ≡ Surveying
-Undrawn (Closing e) y s = y ≡ Surveying
+Undrawn _ y s = y ≡ Surveying
 
 asking_never : (b : ℕ) (n : SearchAddress) (k : Kept) (s : Stage) → Sends (Asking b) n k s Randomise → ⊥
 asking_never b n k (stage.Unnamed r) (a, small, has, is) = cc
@@ -205,13 +199,9 @@ abbrev pub OpensFrom : Machine → Stage → Type 0
 OpensFrom t s = (t.course.way ≡ Surveying) ⊎ ((t.course.purpose ≡ Opening) × (opened_after s false ≡ false) × (s ≡ stage.Free → IsPut t.last))
 
 rest_opens : (t : Machine) (l : Option Order) → t.opened ≡ true → (at_rest t l).purpose ≡ Opening → (t.course.purpose ≡ Opening) × IsPut l
-rest_opens t None wide is = absurd (going_on_open t.kept t.opened t.course wide is)
 rest_opens t (Some (Put p f)) wide is = (is, tt)
 rest_opens t (Some (Commit (Reserve a n))) wide is = absurd (cc)
-rest_opens t (Some (Commit (Enrol a n))) wide is = absurd (going_on_open t.kept t.opened t.course wide is)
-rest_opens t (Some (Commit (Release a n))) wide is = absurd (going_on_open t.kept t.opened t.course wide is)
-rest_opens t (Some (Done e)) wide is = absurd (going_on_open t.kept t.opened t.course wide is)
-rest_opens t (Some (Halt w)) wide is = absurd (going_on_open t.kept t.opened t.course wide is)
+rest_opens t _ wide is = absurd (going_on_open t.kept t.opened t.course wide is)
 
 silenced_opens : (t : Machine) → t.opened ≡ true → (silenced t).purpose ≡ Opening → ⊥
 silenced_opens t wide is = go (t.silent == 16) is where
@@ -258,13 +248,9 @@ silenced_way t = go (t.silent == 16) where
   go false = going_on_way t.kept t.opened (missed t.course)
 
 rest_way : (t : Machine) (l : Option Order) → (at_rest t l).way ≡ t.course.way
-rest_way t None = going_on_way t.kept t.opened t.course
 rest_way t (Some (Put p f)) = refl
 rest_way t (Some (Commit (Reserve a n))) = refl
-rest_way t (Some (Commit (Enrol a n))) = going_on_way t.kept t.opened t.course
-rest_way t (Some (Commit (Release a n))) = going_on_way t.kept t.opened t.course
-rest_way t (Some (Done e)) = going_on_way t.kept t.opened t.course
-rest_way t (Some (Halt w)) = going_on_way t.kept t.opened t.course
+rest_way t _ = going_on_way t.kept t.opened t.course
 
 unanswered_way : (t : Machine) (r : SearchAddress) (b : Bool) (o : Option ℕ) → (unanswered t r b o).way ≡ t.course.way
 unanswered_way t r false (Some a) = refl
@@ -311,13 +297,7 @@ UndrawnAt m = UndrawnBy m.last m.course.purpose m.course.way (stage_of m.trace)
 
 undrawn_free : (p : Purpose) (y : Way) → Undrawn p y stage.Free → (p ≡ Opening) ⊎ (y ≡ Surveying)
 undrawn_free Opening y is = inl refl
-undrawn_free Probing y is = inr is
-undrawn_free Hunting y is = inr is
-undrawn_free Visiting y is = inr is
-undrawn_free (Resolving a) y is = inr is
-undrawn_free (Asking a) y is = inr is
-undrawn_free Waking y is = inr is
-undrawn_free (Closing e) y is = inr is
+undrawn_free _ y is = inr is
 
 -- on that way they have not
 surveying_undrawn : (start : Begun) (p : Purpose) (y : Way) (s : Stage) (k : Kept) (heard : Shorts) (opened : Bool) (asked : ℕ) (x : Ascent) (n : SearchAddress)
@@ -337,13 +317,8 @@ surveying_undrawn start (Closing e) y s k heard opened asked x n from gs left v 
 opening_open : (start : Begun) (p : Purpose) (y : Way) (s : Stage) (k : Kept) (heard : Shorts) (opened : Bool) (asked : ℕ) (x : Ascent) (n : SearchAddress)
     (from : ℕ) (gs : List Gear) (left : ℕ) → SurveyAt false p y s k heard opened asked x n from start gs left → p ≡ Opening → opened ≡ true
 opening_open start Opening y s k heard opened asked x n from gs left v is = v.opened_is
-opening_open start Probing y s k heard opened asked x n from gs left v is = absurd (cc)
-opening_open start Hunting y s k heard opened asked x n from gs left v is = absurd (cc)
-opening_open start Visiting y s k heard opened asked x n from gs left v is = absurd (cc)
 opening_open start (Resolving a) y s k heard opened asked x n from gs left v is = absurd v
-opening_open start (Asking a) y s k heard opened asked x n from gs left v is = absurd (cc)
-opening_open start Waking y s k heard opened asked x n from gs left v is = absurd (cc)
-opening_open start (Closing e) y s k heard opened asked x n from gs left v is = absurd (cc)
+opening_open start _ y s k heard opened asked x n from gs left v is = absurd (cc)
 
 begins_undrawn : (start : Begun) (t : Machine) (f : Forward) (gs : List Gear) (left : ℕ) → IsNext start (machine_ordered t (Put FIRST f)) (Put FIRST f) gs left
     → UndrawnAt (machine_ordered t (Put FIRST f)) → OpensFrom t (stage_of t.trace)

@@ -7,7 +7,7 @@ use Rattle.dali_script.specs.Records.{Kept}
 use Rattle.dali_script.specs.declared.orders.Input.{Input}
 use Rattle.dali_script.specs.declared.orders.Input.TheVariants as input
 use Rattle.dali_script.specs.declared.orders.Order.{Order}
-use Rattle.dali_script.specs.declared.orders.Order.TheVariants.{Put, Commit, Done, Halt}
+use Rattle.dali_script.specs.declared.orders.Order.TheVariants.{Commit}
 use Rattle.dali_script.specs.declared.orders.End.{End}
 use Rattle.dali_events.specs.declared.event.Event.{Event}
 use Rattle.dali_events.specs.declared.event.Event.TheVariants as event
@@ -32,10 +32,7 @@ none_due : (k : Controller) (i : Input) → IsNone k.last → IsDue k i → kept
 none_due k input.Committed none due = go k.last none due where
   go : (last : Option Order) → IsNone last → IsCommit last → kept_after k input.Committed ≡ k.records
   go (Some (Commit x)) none commit = absurd (none x refl)
-  go (Some (Put p f)) none commit = absurd commit
-  go (Some (Done e)) none commit = absurd commit
-  go (Some (Halt why)) none commit = absurd commit
-  go None none commit = absurd commit
+  go _ none commit = absurd commit
 none_due k input.Start none due = refl
 none_due k input.Survey none due = refl
 none_due k (input.Heard h) none due = refl

@@ -47,10 +47,7 @@ surveys_by : (i : Input) → Succeeds i → (i ≡ input.Start → ⊥) → Surv
 surveys_by input.Start good begun = absurd (begun refl)
 surveys_by input.Survey good begun = absurd good
 surveys_by input.CommitFailed good begun = absurd good
-surveys_by (input.Heard h) good begun = tt
-surveys_by input.Destroyed good begun = tt
-surveys_by input.Lapsed good begun = tt
-surveys_by input.Committed good begun = tt
+surveys_by _ good begun = tt
 
 due_start : (k : Controller) (i : Input) → IsDue k i → i ≡ input.Start → k.told ≡ Some input.Start
 due_start k i due is = subst (λ j. IsDue k j) is due

@@ -22,7 +22,7 @@ use Rattle.dali_script.specs.declared.orders.Order.TheVariants.{Put, Commit, Don
 use Rattle.dali_script.specs.declared.orders.End.{End}
 use Rattle.dali_script.specs.declared.orders.Fault.{Fault}
 use Rattle.dali_controller.specs.declared.purpose.Purpose.{Purpose}
-use Rattle.dali_controller.specs.declared.purpose.Purpose.TheVariants.{Opening, Probing, Visiting, Resolving, Closing, Asking, Waking, Hunting}
+use Rattle.dali_controller.specs.declared.purpose.Purpose.TheVariants.{Resolving, Asking}
 use Rattle.dali_controller.specs.declared.way.Way.TheVariants.{Surveying, Drawing}
 use Rattle.dali_controller.specs.Course.{Course}
 use Rattle.dali_controller.specs.Machine.{Machine, machine_heard, asked_at, asked_after_silence}
@@ -60,27 +60,15 @@ moved_left u t n d is free moves = go moves.way where
 
         waiting : (p : Purpose) → of_purpose u n.asked p (stage_of n.trace) ≤ u + 2
         waiting (Asking a) = rw (free, stage_none) (waits_most u n.asked)
-        waiting Opening = omega arith
-        waiting Probing = omega arith
-        waiting Visiting = omega arith
-        waiting (Resolving a) = omega arith
-        waiting (Closing e) = omega arith
-        waiting Waking = omega arith
-        waiting Hunting = omega arith
+        waiting _ = omega arith
 
         most : (last : Option Order) → of_last u n last ≤ u + 2
-        most None = omega arith
         most (Some (Put p f)) = waiting n.course.purpose
-        most (Some (Commit x)) = omega arith
-        most (Some (Done e)) = omega arith
-        most (Some (Halt w)) = omega arith
+        most _ = omega arith
 
         none : (last : Option Order) → ((k j : ℕ) (s : Stage) → of_purpose k j d.purpose s ≡ 0) → of_last u n last ≡ 0
-        none None asks = refl
         none (Some (Put p f)) asks = rw purpose (asks u n.asked (stage_of n.trace))
-        none (Some (Commit x)) asks = refl
-        none (Some (Done e)) asks = refl
-        none (Some (Halt w)) asks = refl
+        none _ asks = refl
 
         on : (last : Option Order)
             → ((d.from ≡ t.course.from) × ((k j : ℕ) (s : Stage) → of_purpose k j d.purpose s ≡ 0)) ⊎ ((t.course.from < d.from) × (d.from ≤ 64))
@@ -95,11 +83,8 @@ moved_left u t n d is free moves = go moves.way where
 pub quiet_left : (u : ℕ) (t n : Machine) (d : Course) → n.course ≡ d → IsQuiet t.course d → left u n ≤ beyond u t.course.from
 quiet_left u t n d is quiet = go quiet.way where
   none : (last : Option Order) → of_last u n last ≡ 0
-  none None = refl
   none (Some (Put p f)) = rw (ap (λ c. c.purpose) is) (quiet.calm u n.asked (stage_of n.trace))
-  none (Some (Commit x)) = refl
-  none (Some (Done e)) = refl
-  none (Some (Halt w)) = refl
+  none _ = refl
 
   go : (d.way ≡ Drawing) ⊎ (d.way ≡ Surveying) → left u n ≤ beyond u t.course.from
   go (inl draws) = let way : n.course.way ≡ Drawing = ap (λ c. c.way) is ∙ draws in rw way (omega arith)
@@ -239,11 +224,8 @@ self b = grind (arith, nat_tests)
 pub sending_of : (m : Machine) (p : ℕ) (f : Forward) → m.last ≡ Some (Put p f) → IsWhole m → IsSending m f
 sending_of m p f = go m.last where
   go : (l : Option Order) → l ≡ Some (Put p f) → Pending m l → IsSending m f
-  go None e w = absurd (cc)
   go (Some (Put q g)) e w = subst (IsSending m) (let same : g ≡ f = cc in same) w
-  go (Some (Commit x)) e w = absurd (cc)
-  go (Some (Done x)) e w = absurd (cc)
-  go (Some (Halt x)) e w = absurd (cc)
+  go _ e w = absurd (cc)
 
 -- a frame of the sweep that was heard
 pub sent_left : (u : ℕ) (m : Machine) (h : Answer) (p : ℕ) (f : Forward) (a : ℕ) → 1 ≤ u → m.course.way ≡ Surveying → m.course.purpose ≡ Asking a

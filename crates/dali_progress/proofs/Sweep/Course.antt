@@ -36,9 +36,7 @@ IsAlone m = (x : Record) → m.last ≡ Some (Commit x) → m.trace ≡ []
 
 pub alone_after : (t : Machine) (o : Order) → IsAlone (machine_ordered t o)
 alone_after t (Commit y) x is = refl
-alone_after t (Put p f) x is = absurd (cc)
-alone_after t (Done e) x is = absurd (cc)
-alone_after t (Halt w) x is = absurd (cc)
+alone_after t _ x is = absurd (cc)
 
 pub put_is : (last : Option Order) (i : Input) → accepts due.Bus i ≡ true → accepts (due_after last) i ≡ true
     → (p : ℕ) × (f : Forward) × (last ≡ Some (Put p f))

@@ -11,7 +11,7 @@ use Rattle.dali_script.specs.declared.stage.Stage.TheVariants as stage
 use Rattle.dali_script.specs.Records.{Kept}
 use Rattle.dali_script.specs.Stages.{stage_of}
 use Rattle.dali_script.specs.declared.orders.Order.{Order}
-use Rattle.dali_script.specs.declared.orders.Order.TheVariants.{Put, Commit, Done, Halt}
+use Rattle.dali_script.specs.declared.orders.Order.TheVariants.{Put, Commit}
 use Rattle.dali_script.specs.declared.orders.End.{End}
 use Rattle.dali_script.specs.declared.orders.End.TheVariants.{AllFound, BlockFull, GaveUp}
 use Rattle.dali_search.specs.declared.step.Step.{Step}
@@ -176,12 +176,9 @@ abbrev pub StaysOrMoves : Course → Course → Type 0
 StaysOrMoves c d = (d ≡ c) ⊎ Moves c d
 
 rest_moves : (t : Machine) (last : Option Order) → t.course.way ≡ Surveying → StaysOrMoves t.course (at_rest t last)
-rest_moves t None is = inr (goes_moves t is)
 rest_moves t (Some (Put p f)) is = inl refl
 rest_moves t (Some (Commit (Reserve a n))) is = inr (quiet t.course (at_rest t (Some (Commit (Reserve a n)))) is refl refl (λ u k s. refl))
-rest_moves t (Some (Commit x)) is = inr (goes_moves t is)
-rest_moves t (Some (Done e)) is = inr (goes_moves t is)
-rest_moves t (Some (Halt w)) is = inr (goes_moves t is)
+rest_moves t _ is = inr (goes_moves t is)
 
 once_moves : (t : Machine) (b : Bool) → t.course.way ≡ Surveying → StaysOrMoves t.course (asked_once t b)
 once_moves t true is = inr (goes_moves t is)

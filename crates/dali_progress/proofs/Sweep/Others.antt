@@ -23,7 +23,7 @@ use Rattle.dali_search.specs.Ascending.{leads_to}
 use Rattle.dali_search.specs.declared.step.Step.TheVariants.{Again, Found, Nobody}
 use Rattle.dali_search.specs.Least.{answered}
 use Rattle.dali_controller.specs.declared.purpose.Purpose.{Purpose}
-use Rattle.dali_controller.specs.declared.purpose.Purpose.TheVariants.{Opening, Probing, Visiting, Resolving, Closing, Asking, Waking, Hunting}
+use Rattle.dali_controller.specs.declared.purpose.Purpose.TheVariants.{Asking}
 use Rattle.dali_controller.specs.declared.way.Way.{Way}
 use Rattle.dali_controller.specs.declared.way.Way.TheVariants.{Fresh, Surveying, Drawing}
 use Rattle.dali_controller.specs.Course.{Course, address_for, next_asked, is_yes, closing, going_on, going_on_early}
@@ -51,13 +51,7 @@ Rests p =
 
 pub asking_or : (p : Purpose) → ((a : ℕ) × (p ≡ Asking a)) ⊎ Rests p
 asking_or (Asking a) = inl (a, refl)
-asking_or Opening = inr ((λ u k s. refl), (λ h. refl), refl, refl)
-asking_or Probing = inr ((λ u k s. refl), (λ h. refl), refl, refl)
-asking_or Visiting = inr ((λ u k s. refl), (λ h. refl), refl, refl)
-asking_or (Resolving a) = inr ((λ u k s. refl), (λ h. refl), refl, refl)
-asking_or (Closing e) = inr ((λ u k s. refl), (λ h. refl), refl, refl)
-asking_or Waking = inr ((λ u k s. refl), (λ h. refl), refl, refl)
-asking_or Hunting = inr ((λ u k s. refl), (λ h. refl), refl, refl)
+asking_or _ = inr ((λ u k s. refl), (λ h. refl), refl, refl)
 
 at_stage_most : (u k : ℕ) (s : Stage) → at_stage u k s ≤ u + 2
 at_stage_most u k stage.Free = waits_most u k
@@ -211,12 +205,9 @@ hunted_way t h = go (leads_to (hunted t.course h).ascent) where
   go Nobody = closes_way (draws t) t.course (hunted t.course h) AllFound refl
 
 rest_way : (t : Machine) (last : Option Order) → KeepsWay t.course (at_rest t last)
-rest_way t None = goes_way t
 rest_way t (Some (Put p f)) = inl refl
 rest_way t (Some (Commit (Reserve a n))) = inl refl
-rest_way t (Some (Commit x)) = goes_way t
-rest_way t (Some (Done e)) = goes_way t
-rest_way t (Some (Halt w)) = goes_way t
+rest_way t _ = goes_way t
 
 once_way : (t : Machine) (b : Bool) → KeepsWay t.course (asked_once t b)
 once_way t true = goes_way t

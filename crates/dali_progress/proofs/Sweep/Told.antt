@@ -43,13 +43,9 @@ enrolling : (m : Machine) (i : Input) (o : Order) (a r : ℕ) → m.last ≡ Som
     → IsNamed (machine_after m i o) a r
 enrolling m i o a r last waits given = go i (subst (λ l. accepts (due_after l) i ≡ true) last waits) given where
   go : (i : Input) → accepts due.Store i ≡ true → IsGiven m i o → IsNamed (machine_after m i o) a r
-  go input.Start e given = absurd (cc)
-  go input.Survey e given = absurd (cc)
-  go (input.Heard h) e given = absurd (cc)
-  go input.Destroyed e given = absurd (cc)
-  go input.Lapsed e given = absurd (cc)
   go input.Committed e given = inl (rw last (has_last m.kept.enrolled (a, r)))
   go input.CommitFailed e given = inr (inr (fault.Store, ap (λ q. Some q) given.answered))
+  go _ e given = absurd (cc)
 
 stays_named : (s : Step) (n : Machine) (a r : ℕ) → IsTaken s n → IsNamed s.before a r → IsNamed n a r
 stays_named s n a r taken was = subst (λ (x : Machine). IsNamed x a r) (sym taken.after) (go was) where
