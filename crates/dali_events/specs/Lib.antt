@@ -1,5 +1,6 @@
 pub mod Used
 pub mod Plan
+pub mod Events
 pub mod World
 pub mod Happens
 pub mod Allowed

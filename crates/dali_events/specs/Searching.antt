@@ -30,20 +30,6 @@ EachPowered w P = (g : ℕ) → g < length w.gear → (gear_at w g).powered ≡ 
 abbrev pub EachActive : World → (Gear → Type 0) → Type 0
 EachActive w P = EachPowered w (λ g. is_active g.state ≡ true → P g)
 
--- the frame that an event puts on the bus for gear to take, all of them or some
-abbrev pub frame_in : Event → Option Forward
-frame_in (event.Sent c f h) = Some f
-frame_in (event.Destroyed c f set) = Some f
-frame_in (event.Acted c i o) = None
-frame_in (event.Offered c f) = None
-frame_in (event.Collided c f d g) = None
-frame_in event.Lapsed = None
-frame_in event.Quiet = None
-frame_in (event.Power g on) = None
-frame_in (event.Expired g) = None
-frame_in (event.Down c) = None
-frame_in (event.Up c kept) = None
-
 -- the search address of a transaction: from the third of its search bytes on, until the COMPARE of
 -- a probe or a WITHDRAW; in a hunt always
 abbrev pub number_at : Stage → Option SearchAddress

@@ -1,3 +1,5 @@
+ghost use Rattle.std.specs.Prelude.{◌≡◌};
+
 use dali_frame::{Answer, Forward};
 use dali_gear::GearSet;
 use dali_script::{Input, Order};
@@ -29,4 +31,70 @@ pub enum Event {
     Down(u8),
     /// A controller came up, with its outstanding record kept (true) or not.
     Up(u8, bool),
+}
+
+/// A frame that came on the bus for gear to take, all of them or some.
+#[derive(Clone, Copy)]
+pub struct Sending {
+    /// The controller that sent it.
+    pub sender: u8,
+    pub frame: Forward,
+    /// What was heard after it. None where it was destroyed.
+    pub heard: Option<Answer>,
+}
+
+impl Event {
+    ghost use Rattle.dali_events.specs.Events.{sending, heard_in, whose_step};
+
+    /// The frame that gear could take by this event. Of two that collided neither counts.
+    pub fn sending(self) -> Option<Sending>
+        ensures { result ≡ sending self }
+    {
+        match self {
+            Event::Sent(sender, frame, heard) => Some(Sending {
+                sender,
+                frame,
+                heard: Some(heard),
+            }),
+            Event::Destroyed(sender, frame, _) => Some(Sending {
+                sender,
+                frame,
+                heard: None,
+            }),
+            Event::Acted(..)
+            | Event::Offered(..)
+            | Event::Collided(..)
+            | Event::Lapsed
+            | Event::Quiet
+            | Event::Power(..)
+            | Event::Expired(_)
+            | Event::Down(_)
+            | Event::Up(..) => None,
+        }
+    }
+
+    /// What was heard after the frame of this event. None where there was no frame, or it was destroyed.
+    pub fn heard(self) -> Option<Answer>
+        ensures { result ≡ heard_in self }
+    {
+        self.sending()?.heard
+    }
+
+    /// The controller whose step this is: it acted, or asked to send an arc power frame.
+    pub fn whose_step(self) -> Option<u8>
+        ensures { result ≡ whose_step self }
+    {
+        match self {
+            Event::Acted(c, ..) | Event::Offered(c, _) => Some(c),
+            Event::Sent(..)
+            | Event::Destroyed(..)
+            | Event::Collided(..)
+            | Event::Lapsed
+            | Event::Quiet
+            | Event::Power(..)
+            | Event::Expired(_)
+            | Event::Down(_)
+            | Event::Up(..) => None,
+        }
+    }
 }

@@ -32,7 +32,8 @@ ghost use Rattle.dali_events.specs.Runs.{after, IsRun, AreDrawn, LeavesUsed};
 ghost use Rattle.dali_events.specs.Promise.{KeepsPromise, IsSafe, IsSafeHistory, Names, HoldsShort};
 ghost use Rattle.dali_events.specs.Laws.{GiftsAreReserved, GiftsAreOwned, KeepsReserved, TablesAgree, FindingsAgree};
 ghost use Rattle.dali_events.specs.Laws.{KeepsRecords};
-ghost use Rattle.dali_events.specs.Searching.{EachPowered, EachActive, frame_in, number_at, sent_event, up_to_compare};
+ghost use Rattle.dali_events.specs.Events.{frame_in};
+ghost use Rattle.dali_events.specs.Searching.{EachPowered, EachActive, number_at, sent_event, up_to_compare};
 ghost use Rattle.dali_events.specs.Searching.{SearchesAll, NobodyAnswers, HasShort};
 
 /// The plain hearing of a row of gear is one that may be heard.

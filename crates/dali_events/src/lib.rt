@@ -11,7 +11,7 @@ mod trouble;
 mod used;
 
 pub use dali_gear::GearSet;
-pub use event::Event;
+pub use event::{Event, Sending};
 pub use plan::{CONTROLLER_LIMIT, DRAW_LIMIT, GEAR_LIMIT, Plan, PlanError};
 pub use trouble::Trouble;
 pub use used::Used;

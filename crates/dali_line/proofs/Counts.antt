@@ -1,9 +1,11 @@
-use Rattle.std.proofs.Common.{◌≡◌, ℕ, ◌+◌, ◌<◌, ◌≤◌, Bool, true, false, List, [], ◌∷◌, ◌++◌, refl, sym, ap, ◌∙◌, arith, length}
-use Rattle.std.specs.Prelude.{◌==◌, if◌then◌else◌, zero, suc, slice_set}
+use Rattle.std.proofs.Common.{◌≡◌, ℕ, ◌+◌, ◌<◌, ◌≤◌, Bool, true, false, List, [], ◌∷◌, ◌++◌, refl, sym, ap, ◌∙◌, arith, length, Option, Some, None}
+use Rattle.std.specs.Prelude.{◌==◌, if◌then◌else◌, zero, suc, slice_set, is_none, nat_eq}
+use Rattle.std.specs.Option.{option_eq}
 use Rattle.std.proofs.lemmas.Bool.Decides.{nat_tests}
 use Rattle.std.proofs.lemmas.List.{length-map, get_or_past, set_past}
 use Rattle.dali_events.specs.declared.event.Event.{Event}
 use Rattle.dali_events.specs.declared.event.Event.TheVariants as event
+use Rattle.dali_events.specs.Events.{whose_step, is_step_of}
 use Rattle.dali_events.specs.Plan.{Plan}
 use Rattle.dali_events.specs.World.{World, controller_at, nobody, start}
 use Rattle.dali_events.specs.Happens.{happens}
@@ -13,9 +15,9 @@ use Rattle.dali_events.proofs.Invariant.Controllers.{controllers_count}
 use Rattle.dali_events.specs.declared.trouble.Trouble.{Trouble}
 use Rattle.dali_standing.specs.declared.report.Report.{Report}
 use Rattle.dali_standing.specs.declared.report.Report.TheVariants as report
-use Rattle.dali_world.specs.Site.{SiteState, is_step_of, share_of, site_logged, Pumps}
+use Rattle.dali_world.specs.Site.{SiteState, share_of, site_logged, Pumps}
 use Rattle.dali_line.specs.Shares.{Tally, total_of, count_at, raised, raised_driver}
-use Rattle.dali_line.specs.Counts.{is_other, others_of, counts_of}
+use Rattle.dali_line.specs.Counts.{others_of, counts_of}
 use Rattle.dali_line.specs.Found.{events_in}
 use Rattle.dali_line.specs.Commits.{state_of}
 use Rattle.dali_line.specs.declared.commits.CommitState.{CommitState}
@@ -27,7 +29,7 @@ share_more : (c : ℕ) (es : List Event) (e : Event) → share_of c (es ++ e ∷
 share_more c [] e = omega arith
 share_more c (f ∷ es) e = let more = share_more c es e in rw more (omega arith)
 
-others_more : (es : List Event) (e : Event) → others_of (es ++ e ∷ []) ≡ others_of es + (if is_other e then 1 else 0)
+others_more : (es : List Event) (e : Event) → others_of (es ++ e ∷ []) ≡ others_of es + (if is_none (whose_step e) then 1 else 0)
 others_more [] e = omega arith
 others_more (f ∷ es) e = let more = others_more es e in rw more (omega arith)
 
@@ -43,12 +45,15 @@ tallies : (a b c d e a' b' c' d' e' : ℕ) → a ≡ a' → b ≡ b' → c ≡ c
     (record { first = a'; second = b'; third = c'; fourth = d'; driver = e' })
 tallies a b c d e a' b' c' d' e' p q r s t = cc
 
--- a step of controller c, and of nobody else
-pub counts_step : (log : List Event) (e : Event) (c : ℕ) → c < 4 → is_other e ≡ false → ((d : ℕ) → is_step_of d e ≡ (c == d))
-    → raised (counts_of log) c ≡ counts_of (log ++ e ∷ [])
-counts_step log e c there own step = sym (go c there step) where
+-- whether an event is a step of controller d, by whose step it is
+by_step : (e : Event) (who : Option ℕ) → whose_step e ≡ who → (d : ℕ) → is_step_of d e ≡ option_eq nat_eq who (Some d)
+by_step e who is d = ap (λ x. option_eq nat_eq x (Some d)) is
+
+-- a step of controller c
+pub counts_step : (log : List Event) (e : Event) (c : ℕ) → c < 4 → whose_step e ≡ Some c → raised (counts_of log) c ≡ counts_of (log ++ e ∷ [])
+counts_step log e c there step = sym (go c there (by_step e (Some c) step)) where
   others : others_of (log ++ e ∷ []) ≡ others_of log
-  others = let more = others_more log e in rw own at more ∙ omega arith
+  others = let more = others_more log e in rw step at more ∙ omega arith
 
   go : (c : ℕ) → c < 4 → ((d : ℕ) → is_step_of d e ≡ (c == d)) → counts_of (log ++ e ∷ []) ≡ raised (counts_of log) c
   go zero there step =
@@ -62,25 +67,23 @@ counts_step log e c there own step = sym (go c there step) where
   go (suc (suc (suc (suc c)))) there step = absurd (omega arith)
 
 -- an event that is nobody's step
-pub counts_other : (log : List Event) (e : Event) → is_other e ≡ true → ((d : ℕ) → is_step_of d e ≡ false)
-    → raised_driver (counts_of log) ≡ counts_of (log ++ e ∷ [])
-counts_other log e other step =
+pub counts_other : (log : List Event) (e : Event) → whose_step e ≡ None → raised_driver (counts_of log) ≡ counts_of (log ++ e ∷ [])
+counts_other log e nobodys =
+    let step = by_step e None nobodys in
     sym (tallies _ _ _ _ _ _ _ _ _ _ (uncounted 0 log e (step 0)) (uncounted 1 log e (step 1)) (uncounted 2 log e (step 2)) (uncounted 3 log e (step 3))
-    (others_more log e ∙ ap (λ (x : Bool). others_of log + (if x then 1 else 0)) other))
+    (others_more log e ∙ ap (λ (x : Option ℕ). others_of log + (if is_none x then 1 else 0)) nobodys))
 
 -- the same of two sites, of which the second has one event more
-pub step_counted : (old new : SiteState) (t t' : Tally) (e : Event) (c d : ℕ) → t ≡ counts_of old.log → t' ≡ raised t d → c ≡ d → c < 4 → is_other e ≡ false
-    → ((x : ℕ) → is_step_of x e ≡ (c == x))
-    → new ≡ site_logged old e → t' ≡ counts_of new.log
-step_counted old new t t' e c d exact raised_is same there own step logged =
-    raised_is ∙ ap (raised t) (sym same) ∙ ap (λ (x : Tally). raised x c) exact ∙ counts_step old.log e c there own step
+pub step_counted : (old new : SiteState) (t t' : Tally) (e : Event) (c d : ℕ) → t ≡ counts_of old.log → t' ≡ raised t d → c ≡ d → c < 4
+    → whose_step e ≡ Some c → new ≡ site_logged old e → t' ≡ counts_of new.log
+step_counted old new t t' e c d exact raised_is same there step logged =
+    raised_is ∙ ap (raised t) (sym same) ∙ ap (λ (x : Tally). raised x c) exact ∙ counts_step old.log e c there step
     ∙ sym (ap (λ (s : SiteState). counts_of s.log) logged)
 
-pub other_counted : (old new : SiteState) (t t' : Tally) (e : Event) → t ≡ counts_of old.log → t' ≡ raised_driver t → is_other e ≡ true
-    → ((x : ℕ) → is_step_of x e ≡ false) → new ≡ site_logged old e
-    → t' ≡ counts_of new.log
-other_counted old new t t' e exact raised_is other step logged =
-    raised_is ∙ ap raised_driver exact ∙ counts_other old.log e other step ∙ sym (ap (λ (s : SiteState). counts_of s.log) logged)
+pub other_counted : (old new : SiteState) (t t' : Tally) (e : Event) → t ≡ counts_of old.log → t' ≡ raised_driver t → whose_step e ≡ None
+    → new ≡ site_logged old e → t' ≡ counts_of new.log
+other_counted old new t t' e exact raised_is nobodys logged =
+    raised_is ∙ ap raised_driver exact ∙ counts_other old.log e nobodys ∙ sym (ap (λ (s : SiteState). counts_of s.log) logged)
 
 -- ---------------------------------------------------------------- no event is of a stranger
 
@@ -114,16 +117,16 @@ count_at-counts_of p queue log (suc (suc (suc (suc c)))) run few = sym (stranger
 abbrev IsInOne : Event → List Event → Type 0
 IsInOne e es = total_of (counts_of (e ∷ es)) ≡ total_of (counts_of es) + 1
 
-of_step : (e : Event) (es : List Event) (d : ℕ) → d < 4 → is_other e ≡ false → ((c : ℕ) → is_step_of c e ≡ (d == c)) → IsInOne e es
-of_step e es zero there own step = rw (step 0, step 1, step 2, step 3, own) (omega arith)
-of_step e es (suc zero) there own step = rw (step 0, step 1, step 2, step 3, own) (omega arith)
-of_step e es (suc (suc zero)) there own step = rw (step 0, step 1, step 2, step 3, own) (omega arith)
-of_step e es (suc (suc (suc zero))) there own step = rw (step 0, step 1, step 2, step 3, own) (omega arith)
-of_step e es (suc (suc (suc (suc d)))) there own step = absurd (omega arith)
+of_step : (e : Event) (es : List Event) (d : ℕ) → d < 4 → whose_step e ≡ Some d → IsInOne e es
+of_step e es zero there step = rw step (omega arith)
+of_step e es (suc zero) there step = rw step (omega arith)
+of_step e es (suc (suc zero)) there step = rw step (omega arith)
+of_step e es (suc (suc (suc zero))) there step = rw step (omega arith)
+of_step e es (suc (suc (suc (suc d)))) there step = absurd (omega arith)
 
 in_one : (w : World) (e : Event) (es : List Event) → Allowed w e → length w.controllers ≤ 4 → IsInOne e es
-in_one w (event.Acted d i o) es allowed few = let known = allowed.up.known in of_step (event.Acted d i o) es d (omega arith) refl (λ c. refl)
-in_one w (event.Offered d f) es allowed few = let known = allowed.0.known in of_step (event.Offered d f) es d (omega arith) refl (λ c. refl)
+in_one w (event.Acted d i o) es allowed few = let known = allowed.up.known in of_step (event.Acted d i o) es d (omega arith) refl
+in_one w (event.Offered d f) es allowed few = let known = allowed.0.known in of_step (event.Offered d f) es d (omega arith) refl
 in_one w _ es allowed few = omega arith
 
 whole_from : (w : World) (log : List Event) → AllAllowed w log → length w.controllers ≤ 4 → total_of (counts_of log) ≡ length log
@@ -142,11 +145,11 @@ pub pump_counted : (old new : SiteState) (t t' : Tally) (trouble : Trouble) (r :
     → Pumps old trouble r new → (r ≡ report.Idle → ⊥) → t' ≡ counts_of new.log
 pump_counted old new t t' trouble report.Idle exact raised_is pumps some = absurd (some refl)
 pump_counted old new t t' trouble (report.Sent c f h) exact raised_is pumps some =
-    other_counted old new t t' (event.Sent c f h) exact raised_is refl (λ x. refl) pumps.3.4.logged
+    other_counted old new t t' (event.Sent c f h) exact raised_is refl pumps.3.4.logged
 pump_counted old new t t' trouble (report.Destroyed c f) exact raised_is pumps some =
-    other_counted old new t t' (event.Destroyed c f pumps.3.2.0) exact raised_is refl (λ x. refl) pumps.3.2.2.logged
+    other_counted old new t t' (event.Destroyed c f pumps.3.2.0) exact raised_is refl pumps.3.2.2.logged
 pump_counted old new t t' trouble (report.Collided c f d g) exact raised_is pumps some =
-    other_counted old new t t' (event.Collided c f d g) exact raised_is refl (λ x. refl) pumps.3.4.logged
+    other_counted old new t t' (event.Collided c f d g) exact raised_is refl pumps.3.4.logged
 
 -- ---------------------------------------------------------------- a controller that is not there
 

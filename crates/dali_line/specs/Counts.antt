@@ -1,28 +1,14 @@
-use Rattle.std.specs.Prelude.{◌≡◌, ℕ, ◌+◌, ◌<◌, Bool, true, false, List, [], ◌∷◌, length, take}
+use Rattle.std.specs.Prelude.{◌≡◌, ℕ, ◌+◌, ◌<◌, List, [], ◌∷◌, length, take, is_none}
 use Rattle.std.specs.Prelude.{slice_index_or, if◌then◌else◌}
 use Rattle.dali_events.specs.declared.event.Event.{Event}
-use Rattle.dali_events.specs.declared.event.Event.TheVariants as event
+use Rattle.dali_events.specs.Events.{whose_step}
 use Rattle.dali_world.specs.Site.{SiteState, share_of}
 use Rattle.dali_line.specs.Shares.{PortShare, port_share, no_share, Tally}
-
--- whether an event is no controller's step
-abbrev pub is_other : Event → Bool
-is_other (event.Acted c i o) = false
-is_other (event.Offered c f) = false
-is_other (event.Sent c f h) = true
-is_other (event.Destroyed c f set) = true
-is_other (event.Collided c f d g) = true
-is_other event.Lapsed = true
-is_other event.Quiet = true
-is_other (event.Power g on) = true
-is_other (event.Expired g) = true
-is_other (event.Down c) = true
-is_other (event.Up c kept) = true
 
 -- THE DRIVER'S SHARE of a log: how many of its events are no controller's steps
 abbrev pub others_of : List Event → ℕ
 others_of [] = 0
-others_of (e ∷ es) = (if is_other e then 1 else 0) + others_of es
+others_of (e ∷ es) = (if is_none (whose_step e) then 1 else 0) + others_of es
 
 -- THE FIVE SHARES of a log
 abbrev pub counts_of : List Event → Tally

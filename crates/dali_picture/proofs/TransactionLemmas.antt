@@ -1,6 +1,8 @@
-use Rattle.std.proofs.Common.{◌≡◌, ℕ, ◌<◌, ◌+◌, List, [], ◌∷◌, ◌++◌, refl, sym, ap, ◌∙◌, take, length, get_or, replicate}
+use Rattle.std.proofs.Common.{◌≡◌, ℕ, ◌<◌, ◌+◌, List, [], ◌∷◌, ◌++◌, refl, sym, ap, ◌∙◌, take, length, get_or, replicate, Option, option_map, option_to_list}
 use Rattle.std.proofs.lemmas.List.{take_more, append_assoc, append-nil, replicate-append-replicate}
 use Rattle.dali_events.specs.declared.event.Event.{Event}
+use Rattle.dali_events.specs.declared.event.Sending.{Sending}
+use Rattle.dali_events.specs.Events.{sending}
 use Rattle.dali_picture.specs.declared.transactions.Transaction.{Transaction}
 use Rattle.dali_picture.specs.Transactions.{sender_in, senders_of, owned, owned_by}
 
@@ -18,6 +20,10 @@ owned_more (x ∷ ts) t = ap (λ ys. owned_by x ++ ys) (owned_more ts t) ∙ sym
 
 replicate_more : (n c : ℕ) → replicate (n + 1) c ≡ replicate n c ++ c ∷ []
 replicate_more n c = sym (replicate-append-replicate n 1 c)
+
+-- who sent the frame of an event, if one came
+pub sent_by : (e : Event) (s : Option Sending) → s ≡ sending e → sender_in e ≡ option_to_list (option_map (λ x. x.sender) s)
+sent_by e s is = ap (λ x. option_to_list (option_map (λ y. y.sender) x)) (sym is)
 
 -- A frame goes on with the running transaction, begins one, or none came.
 pub goes_on : (kept : List Transaction) (f g : Transaction) (s : List ℕ) (e : Event) → owned kept ++ owned_by f ≡ s

@@ -1,5 +1,5 @@
-use Rattle.std.specs.Prelude.{ℕ, ◌+◌, List, [], ◌∷◌, Bool, true, false, Option, Some, None}
-use Rattle.std.specs.Prelude.{nat_eq, nat_lt, option_and_then, if◌then◌else◌}
+use Rattle.std.specs.Prelude.{ℕ, ◌+◌, List, Bool, true, false, Option, Some, None}
+use Rattle.std.specs.Prelude.{nat_eq, nat_lt, count_by, option_and_then, if◌then◌else◌}
 use Rattle.dali_events.specs.declared.event.Event.{Event}
 use Rattle.dali_events.specs.declared.event.Event.TheVariants as event
 use Rattle.dali_events.specs.declared.trouble.Trouble.{Trouble}
@@ -68,19 +68,11 @@ abbrev pub is_it : Incident → Option Incident → Bool
 is_it k None = false
 is_it k (Some j) = nat_eq (place j) (place k)
 
--- how many events of a log are this incident by themselves
-abbrev pub told_count : Incident → List Event → ℕ
-told_count k [] = 0
-told_count k (e ∷ es) = (if is_it k (incident_of e) then 1 else 0) + told_count k es
-
 -- whether a line sent a frame, and did this to its answer
 abbrev pub is_caused : Incident → PlayedLine → Bool
 is_caused k l = if nat_lt l.first l.after then is_it k (disturbance_of l.line.now) else false
 
-abbrev pub caused_count : Incident → List PlayedLine → ℕ
-caused_count k [] = 0
-caused_count k (l ∷ ls) = (if is_caused k l then 1 else 0) + caused_count k ls
-
 -- HOW OFTEN SOMETHING WENT WRONG in a run, by events alone or by lines that disturb an answer.
 abbrev pub count_of : Incident → List PlayedLine → List Event → ℕ
-count_of k lines log = told_count k log + caused_count k lines
+count_of k lines log =
+    count_by (λ e. is_it k (incident_of e)) log + count_by (is_caused k) lines

@@ -1,4 +1,4 @@
-use Rattle.std.specs.Prelude.{ℕ, List, [], ◌∷◌, nat_eq, if◌then◌else◌}
+use Rattle.std.specs.Prelude.{ℕ, List, [], ◌∷◌, Option, Some, None, nat_eq, if◌then◌else◌}
 use Rattle.dali_script.specs.declared.orders.Order.{Order}
 use Rattle.dali_script.specs.declared.orders.Order.TheVariants.{Put, Commit, Done, Halt}
 use Rattle.dali_events.specs.declared.event.Event.{Event}
@@ -12,24 +12,29 @@ after_order (Commit x) = AtWork
 after_order (Done e) = Ended e
 after_order (Halt w) = Halted w
 
--- how controller c stands after an event: its own orders change it, and that it goes down or comes
--- up; nothing else does
-abbrev pub stands_after : ℕ → Outcome → Event → Outcome
-stands_after c was (event.Acted d i o) = if nat_eq d c then after_order o else was
-stands_after c was (event.Down d) = if nat_eq d c then Down else was
-stands_after c was (event.Up d b) = if nat_eq d c then AtWork else was
-stands_after c was (event.Offered d f) = was
-stands_after c was (event.Sent d f h) = was
-stands_after c was (event.Destroyed d f s) = was
-stands_after c was (event.Collided d f g h) = was
-stands_after c was event.Lapsed = was
-stands_after c was event.Quiet = was
-stands_after c was (event.Power g b) = was
-stands_after c was (event.Expired g) = was
+-- the controller of which an event says how it stands, and how: by its own order, and as it goes
+-- down or comes up
+abbrev pub outcome_by : Event → Option (ℕ × Outcome)
+outcome_by (event.Acted c i o) = Some (c, after_order o)
+outcome_by (event.Down c) = Some (c, Down)
+outcome_by (event.Up c b) = Some (c, AtWork)
+outcome_by (event.Offered c f) = None
+outcome_by (event.Sent c f h) = None
+outcome_by (event.Destroyed c f s) = None
+outcome_by (event.Collided c f d g) = None
+outcome_by event.Lapsed = None
+outcome_by event.Quiet = None
+outcome_by (event.Power g b) = None
+outcome_by (event.Expired g) = None
+
+-- how controller c stands after an event that says this, or nothing
+abbrev pub stands_after : ℕ → Outcome → Option (ℕ × Outcome) → Outcome
+stands_after c was None = was
+stands_after c was (Some told) = if nat_eq told.0 c then told.1 else was
 
 abbrev pub stands_after_all : ℕ → Outcome → List Event → Outcome
 stands_after_all c was [] = was
-stands_after_all c was (e ∷ es) = stands_after_all c (stands_after c was e) es
+stands_after_all c was (e ∷ es) = stands_after_all c (stands_after c was (outcome_by e)) es
 
 -- HOW A CONTROLLER ENDED: as it stands after the whole log, at whose begin it is at work.
 abbrev pub outcome_of : ℕ → List Event → Outcome

@@ -35,40 +35,28 @@ MayBefall event.Lapsed m = Unit {0}
 MayBefall (event.Down c) m = Unit {0}
 MayBefall (event.Up c kept) m = Unit {0}
 
-abbrev pub after_frame : Reach → Command → Moment → Moment
-after_frame reach x m = record {
-  gear = row_after reach x 0 m.gear m.left;
-  left = drop (draws_needed reach x 0 m.gear) m.left;
-}
+-- a frame reaches gear: the gear and numbers after it, and what they answer
+abbrev pub after_frame : Reach → Command → Moment → Moment × Answer
+after_frame reach x m = (
+  record {
+    gear = row_after reach x 0 m.gear m.left;
+    left = drop (draws_needed reach x 0 m.gear) m.left;
+  },
+  heard_of (answers_of reach x 0 m.gear),
+)
 
--- WHAT AN EVENT DOES TO THE GEAR, as in a world: a destroyed frame reaches those of its set alone,
--- and two that collide reach nobody.
-abbrev pub befallen : Event → Moment → Moment
+-- WHAT AN EVENT DOES TO THE GEAR, as in a world, and what they answer to its frame: a destroyed
+-- frame reaches those of its set alone, and two that collide reach nobody.
+abbrev pub befallen : Event → Moment → Moment × Answer
 befallen (event.Sent c f h) m = after_frame Everyone (command_of f) m
 befallen (event.Destroyed c f set) m = after_frame (Only set) (command_of f) m
-befallen (event.Power g on) m = record m { gear = gear_changed m.gear g (gear_powered on) }
-befallen (event.Expired g) m = record m { gear = gear_changed m.gear g gear_expired }
-befallen event.Quiet m = record m { gear = map gear_quieted m.gear }
-befallen (event.Collided c f d g) m = m
-befallen (event.Acted c i o) m = m
-befallen (event.Offered c f) m = m
-befallen event.Lapsed m = m
-befallen (event.Down c) m = m
-befallen (event.Up c kept) m = m
-
--- what gear answer to the frame of an event
-abbrev pub plain_answer : Reach → Command → Moment → Answer
-plain_answer reach x m = heard_of (answers_of reach x 0 m.gear)
-
-abbrev pub answer_to : Event → Moment → Answer
-answer_to (event.Sent c f h) m = plain_answer Everyone (command_of f) m
-answer_to (event.Destroyed c f set) m = plain_answer (Only set) (command_of f) m
-answer_to (event.Power g on) m = Silence
-answer_to (event.Expired g) m = Silence
-answer_to event.Quiet m = Silence
-answer_to (event.Collided c f d g) m = Silence
-answer_to (event.Acted c i o) m = Silence
-answer_to (event.Offered c f) m = Silence
-answer_to event.Lapsed m = Silence
-answer_to (event.Down c) m = Silence
-answer_to (event.Up c kept) m = Silence
+befallen (event.Power g on) m =
+    (record m { gear = gear_changed m.gear g (gear_powered on) }, Silence)
+befallen (event.Expired g) m = (record m { gear = gear_changed m.gear g gear_expired }, Silence)
+befallen event.Quiet m = (record m { gear = map gear_quieted m.gear }, Silence)
+befallen (event.Collided c f d g) m = (m, Silence)
+befallen (event.Acted c i o) m = (m, Silence)
+befallen (event.Offered c f) m = (m, Silence)
+befallen event.Lapsed m = (m, Silence)
+befallen (event.Down c) m = (m, Silence)
+befallen (event.Up c kept) m = (m, Silence)

@@ -3,6 +3,8 @@
 ghost use Rattle.std.specs.Prelude.{◌≡◌, ◌≤◌, ◌<◌};
 ghost use Rattle.dali_picture.specs.Clock.{frames_in, bits_in, frames_of, bits_of};
 
+use crate::folds::frames_on;
+use crate::mark::mark_of;
 use dali_frame::Answer;
 use dali_world::Event;
 
@@ -17,17 +19,7 @@ pub fn frames_in(event: Event) -> u64
     ensures value { result ≡ frames_in event }
     ensures most { result ≤ 1 }
 {
-    match event {
-        Event::Sent(..) | Event::Destroyed(..) | Event::Collided(..) => 1,
-        Event::Acted(..)
-        | Event::Offered(..)
-        | Event::Lapsed
-        | Event::Quiet
-        | Event::Power(..)
-        | Event::Expired(_)
-        | Event::Down(_)
-        | Event::Up(..) => 0,
-    }
+    frames_on(mark_of(event).look)
 }
 
 /// How many bit times the frames of an event take at least: a frame that was destroyed may have broken off at once.
@@ -35,42 +27,25 @@ pub fn bits_in(event: Event) -> u64
     ensures value { result ≡ bits_in event }
     ensures most { result ≤ 30 }
 {
-    match event {
-        Event::Sent(_, _, Answer::Silence) => FORWARD_BITS,
-        Event::Sent(_, _, Answer::Byte(_) | Answer::Damaged) => FORWARD_BITS + BACKWARD_BITS,
-        Event::Destroyed(..)
-        | Event::Collided(..)
-        | Event::Acted(..)
-        | Event::Offered(..)
-        | Event::Lapsed
-        | Event::Quiet
-        | Event::Power(..)
-        | Event::Expired(_)
-        | Event::Down(_)
-        | Event::Up(..) => 0,
+    match event.heard() {
+        None => 0,
+        Some(Answer::Silence) => FORWARD_BITS,
+        Some(Answer::Byte(_) | Answer::Damaged) => FORWARD_BITS + BACKWARD_BITS,
     }
 }
 
-/// How many frames a log has.
-pub fn frames_of(log: &[Event]) -> u64
-    ensures { result ≡ frames_of log.now }
+/// How many frames a log has, and how many bit times they take at least.
+pub fn frames_and_bits_of(log: &[Event]) -> (u64, u64)
+    ensures frames { result.0 ≡ frames_of log.now }
+    ensures bits { bits_of log.now < 18446744073709551616 → result.1 ≡ bits_of log.now }
 {
     let mut frames = 0;
-    for event in log {
-        frames += frames_in(*event);
-    }
-    frames
-}
-
-/// How many bit times the frames of a log take at least.
-pub fn bits_of(log: &[Event]) -> u64
-    ensures { bits_of log.now < 18446744073709551616 → result ≡ bits_of log.now }
-{
     let mut bits: u64 = 0;
     for event in log {
+        frames += frames_in(*event);
         bits = bits.saturating_add(bits_in(*event));
     }
-    bits
+    (frames, bits)
 }
 
 /// So many bit times in whole milliseconds, at 1,200 bits in a second.

@@ -131,7 +131,7 @@ impl Fold {
 }
 
 /// How many frames a mark shows: one, where it is a frame on the bus.
-fn frames_on(look: Look) -> u64
+pub fn frames_on(look: Look) -> u64
     ensures value { result ≡ frames_on look }
     ensures most { result ≤ 1 }
 {

@@ -1,8 +1,8 @@
 //! What went wrong in a run: lost answers, destroyed frames, and the like, each with its place in the log.
 
-ghost use Rattle.std.specs.Prelude.{◌≡◌, ◌≤◌, length};
-ghost use Rattle.dali_picture.specs.Incidents.{place, incident_of, disturbance_of, is_it, told_count};
-ghost use Rattle.dali_picture.specs.Incidents.{is_caused, caused_count, count_of};
+ghost use Rattle.std.specs.Prelude.{◌≡◌};
+ghost use Rattle.dali_picture.specs.Incidents.{place, incident_of, disturbance_of, is_it};
+ghost use Rattle.dali_picture.specs.Incidents.{is_caused, count_of};
 
 use crate::stays::Unheard;
 use dali_frame::Answer;
@@ -112,20 +112,6 @@ fn is(incident: Incident, happened: Option<Incident>) -> bool
     }
 }
 
-/// How many events of a log are this incident by themselves.
-fn told_count(incident: Incident, log: &[Event]) -> u64
-    ensures value { result ≡ told_count incident log.now }
-    ensures most { result ≤ length log.now }
-{
-    let mut count = 0;
-    for event in log {
-        if is(incident, incident_of(*event)) {
-            count += 1;
-        }
-    }
-    count
-}
-
 /// Whether a line caused this incident by what it does to an answer.
 fn is_caused(incident: Incident, line: &PlayedLine) -> bool
     ensures { result ≡ is_caused incident line.now }
@@ -133,25 +119,19 @@ fn is_caused(incident: Incident, line: &PlayedLine) -> bool
     line.first < line.after && is(incident, disturbance_of(line.line))
 }
 
-/// How many lines caused this incident by what they do to an answer.
-fn caused_count(incident: Incident, lines: &[PlayedLine]) -> u64
-    ensures value { result ≡ caused_count incident lines.now }
-    ensures most { result ≤ length lines.now }
-{
-    let mut count = 0;
-    for line in lines {
-        if is_caused(incident, line) {
-            count += 1;
-        }
-    }
-    count
-}
-
 /// How often something went wrong.
-pub fn count_of(incident: Incident, lines: &[PlayedLine], log: &[Event]) -> u64
+pub fn count_of(incident: Incident, lines: &[PlayedLine], log: &[Event]) -> usize
     ensures { result ≡ count_of incident lines.now log.now }
 {
-    told_count(incident, log) + caused_count(incident, lines)
+    let told = log
+        .iter()
+        .filter(|event| is(incident, incident_of(**event)))
+        .count();
+    let caused = lines
+        .iter()
+        .filter(|line| is_caused(incident, line))
+        .count();
+    told + caused
 }
 
 /// One incident: what it was, the place of its event in the log, the number of the line that caused it, and what gear
@@ -181,10 +161,10 @@ fn from_place(unheard: &[Unheard], at: usize) -> &[Unheard] {
 }
 
 /// What went wrong by an event, whose line does this to an answer.
-fn incident_under(disturbance: Option<Incident>, event: Event) -> Option<Incident> {
-    match event {
-        Event::Sent(..) => disturbance,
-        _ => incident_of(event),
+fn incident_under(disturbance: Option<Incident>, event: &Event) -> Option<Incident> {
+    match event.heard() {
+        Some(_) => disturbance,
+        None => incident_of(*event),
     }
 }
 
@@ -202,7 +182,7 @@ fn push_of_line<'a>(
         let Some(event) = log.get(at) else {
             return Ok(left);
         };
-        if let Some(incident) = incident_under(disturbance, *event) {
+        if let Some(incident) = incident_under(disturbance, event) {
             happened.push(Happened {
                 incident,
                 at,

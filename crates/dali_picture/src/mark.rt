@@ -140,60 +140,21 @@ fn order_look(order: Order) -> Look
 pub fn mark_of(event: Event) -> Mark
     ensures { result ≡ mark_of event }
 {
-    match event {
-        Event::Acted(c, _, order) => Mark {
-            lane: Lane::Controller(c),
-            look: order_look(order),
-        },
-        Event::Offered(c, frame) => {
-            Mark {
-                lane: Lane::Controller(c),
-                look: Look::Asked(tone_of(frame)),
-            }
-        }
-        Event::Sent(_, frame, heard) => {
-            Mark {
-                lane: Lane::Bus,
-                look: Look::Sent(tone_of(frame), reply_of(heard)),
-            }
-        }
-        Event::Destroyed(..) => Mark {
-            lane: Lane::Bus,
-            look: Look::Destroyed,
-        },
-        Event::Collided(..) => Mark {
-            lane: Lane::Bus,
-            look: Look::Collided,
-        },
-        Event::Lapsed => Mark {
-            lane: Lane::Bus,
-            look: Look::Lapsed,
-        },
-        Event::Quiet => Mark {
-            lane: Lane::Bus,
-            look: Look::Quiet,
-        },
-        Event::Power(g, true) => Mark {
-            lane: Lane::Gear(g),
-            look: Look::PowerOn,
-        },
-        Event::Power(g, false) => Mark {
-            lane: Lane::Gear(g),
-            look: Look::PowerOff,
-        },
-        Event::Expired(g) => Mark {
-            lane: Lane::Gear(g),
-            look: Look::Expired,
-        },
-        Event::Down(c) => Mark {
-            lane: Lane::Controller(c),
-            look: Look::Down,
-        },
-        Event::Up(c, _) => Mark {
-            lane: Lane::Controller(c),
-            look: Look::Up,
-        },
-    }
+    let (lane, look) = match event {
+        Event::Acted(c, _, order) => (Lane::Controller(c), order_look(order)),
+        Event::Offered(c, frame) => (Lane::Controller(c), Look::Asked(tone_of(frame))),
+        Event::Sent(_, frame, heard) => (Lane::Bus, Look::Sent(tone_of(frame), reply_of(heard))),
+        Event::Destroyed(..) => (Lane::Bus, Look::Destroyed),
+        Event::Collided(..) => (Lane::Bus, Look::Collided),
+        Event::Lapsed => (Lane::Bus, Look::Lapsed),
+        Event::Quiet => (Lane::Bus, Look::Quiet),
+        Event::Power(g, true) => (Lane::Gear(g), Look::PowerOn),
+        Event::Power(g, false) => (Lane::Gear(g), Look::PowerOff),
+        Event::Expired(g) => (Lane::Gear(g), Look::Expired),
+        Event::Down(c) => (Lane::Controller(c), Look::Down),
+        Event::Up(c, _) => (Lane::Controller(c), Look::Up),
+    };
+    Mark { lane, look }
 }
 
 /// Puts one item more at the end of a list.

@@ -1,7 +1,7 @@
 //! How each controller ended, as far as a log tells.
 
 ghost use Rattle.std.specs.Prelude.{◌≡◌};
-ghost use Rattle.dali_picture.specs.Outcomes.{after_order, stands_after, outcome_of};
+ghost use Rattle.dali_picture.specs.Outcomes.{after_order, outcome_by, outcome_of};
 
 use dali_script::{End, Fault, Order};
 use dali_world::Event;
@@ -30,43 +30,14 @@ fn after_order(order: Order) -> Outcome
     }
 }
 
-/// How controller c stands after an event.
-fn stands_after(c: u8, before: Outcome, event: Event) -> Outcome
-    ensures { result ≡ stands_after c before event }
+/// The controller of which an event says how it stands, and how.
+pub fn outcome_by(event: Event) -> Option<(u8, Outcome)>
+    ensures { result ≡ outcome_by event }
 {
     match event {
-        Event::Acted(d, _, order) if d == c => after_order(order),
-        Event::Down(d) if d == c => Outcome::Down,
-        Event::Up(d, _) if d == c => Outcome::AtWork,
-        Event::Acted(..)
-        | Event::Offered(..)
-        | Event::Sent(..)
-        | Event::Destroyed(..)
-        | Event::Collided(..)
-        | Event::Lapsed
-        | Event::Quiet
-        | Event::Power(..)
-        | Event::Expired(_)
-        | Event::Down(_)
-        | Event::Up(..) => before,
-    }
-}
-
-/// How controller c stands at the end of a log.
-pub fn outcome_of(c: u8, log: &[Event]) -> Outcome
-    ensures { result ≡ outcome_of c log.now }
-{
-    let mut outcome = Outcome::AtWork;
-    for event in log {
-        outcome = stands_after(c, outcome, *event);
-    }
-    outcome
-}
-
-/// Whether an event says how controller c stands.
-fn tells(c: u8, event: Event) -> bool {
-    match event {
-        Event::Acted(d, ..) | Event::Down(d) | Event::Up(d, _) => d == c,
+        Event::Acted(c, _, order) => Some((c, after_order(order))),
+        Event::Down(c) => Some((c, Outcome::Down)),
+        Event::Up(c, _) => Some((c, Outcome::AtWork)),
         Event::Offered(..)
         | Event::Sent(..)
         | Event::Destroyed(..)
@@ -74,17 +45,23 @@ fn tells(c: u8, event: Event) -> bool {
         | Event::Lapsed
         | Event::Quiet
         | Event::Power(..)
-        | Event::Expired(_) => false,
+        | Event::Expired(_) => None,
     }
 }
 
-/// The place of the last event that says how controller c stands. None where it did nothing.
-pub fn last_of(c: u8, log: &[Event]) -> Option<usize> {
+/// How controller c stands at the end of a log, and the place of the last event that says so, if one does.
+pub fn outcome_of(c: u8, log: &[Event]) -> (Outcome, Option<usize>)
+    ensures { result.0 ≡ outcome_of c log.now }
+{
+    let mut outcome = Outcome::AtWork;
     let mut last = None;
     for (at, event) in log.iter().enumerate() {
-        if tells(c, *event) {
-            last = Some(at);
+        if let Some((told, stands)) = outcome_by(*event) {
+            if told == c {
+                outcome = stands;
+                last = Some(at);
+            }
         }
     }
-    last
+    (outcome, last)
 }

@@ -82,7 +82,7 @@ impl<'a> Model for RunGear<'a> {
 }
 
 impl<'a> RunGear<'a> {
-    ghost use Rattle.dali_picture.specs.RunGear.{MayTake, MayBefall, after_frame, befallen, plain_answer, answer_to};
+    ghost use Rattle.dali_picture.specs.RunGear.{MayTake, MayBefall, after_frame, befallen};
 
     /// So many gear as they are at first: all but the used ones come from the factory. They draw none of the numbers
     /// where one is `FFFFFF`, as never in a run that was played.
@@ -109,10 +109,8 @@ impl<'a> RunGear<'a> {
     /// A frame reaches gear. What they answer. Nothing comes of it where too few numbers are left, as never in a run
     /// that was played.
     fn reached(&mut self, frame: Forward, reach: &Reach) -> Answer
-        ensures gear { MayTake reach.now (command_of frame) self.old
-            → self.new ≡ after_frame reach.now (command_of frame) self.old }
-        ensures answer { MayTake reach.now (command_of frame) self.old
-            → result ≡ plain_answer reach.now (command_of frame) self.old }
+        ensures { MayTake reach.now (command_of frame) self.old
+            → (self.new, result) ≡ after_frame reach.now (command_of frame) self.old }
     {
         let command = Command::read(frame);
         let left = &self.draws[self.drawn..];
@@ -126,8 +124,7 @@ impl<'a> RunGear<'a> {
 
     /// An event befalls the gear. What they answer to its frame.
     pub fn befall(&mut self, event: Event) -> Answer
-        ensures gear { MayBefall event self.old → self.new ≡ befallen event self.old }
-        ensures answer { MayBefall event self.old → result ≡ answer_to event self.old }
+        ensures { MayBefall event self.old → (self.new, result) ≡ befallen event self.old }
     {
         match event {
             Event::Sent(_, frame, _) => return self.reached(frame, &Reach::Everyone),

@@ -3,13 +3,15 @@
 use crate::folds::{Fold, Held};
 use crate::incidents::{Happened, Incident};
 use crate::mark::{Lane, Look, Mark, Reply, Tone};
+use crate::outcomes::{Outcome, outcome_by};
 use crate::stays::{Shown, Stay};
 use crate::transactions::{Purpose, Transaction};
 use crate::words::{
-    push_event, push_fold, push_plain, push_short, push_shown, push_transaction, push_unheard,
+    push_event, push_fold, push_outcome, push_plain, push_short, push_shown, push_transaction,
+    push_unheard,
 };
 use dali_gear::InitialisationState;
-use dali_script::{End, Order, Record};
+use dali_script::{End, Record};
 use dali_world::Event;
 use std::alloc::AllocError;
 
@@ -107,25 +109,14 @@ pub fn push_mark(
 
 /// The name of an end, beside its mark.
 pub fn push_end_name(text: &mut String, event: Event, x: u64, y: u64) -> Result<(), AllocError> {
-    let (before, name) = match event {
-        Event::Acted(_, _, Order::Done(end)) => ("", end.name()),
-        Event::Acted(_, _, Order::Halt(fault)) => ("halt ", fault.name()),
-        Event::Acted(_, _, Order::Put(..) | Order::Commit(_))
-        | Event::Offered(..)
-        | Event::Sent(..)
-        | Event::Destroyed(..)
-        | Event::Collided(..)
-        | Event::Lapsed
-        | Event::Quiet
-        | Event::Power(..)
-        | Event::Expired(_)
-        | Event::Down(_)
-        | Event::Up(..) => return Ok(()),
-    };
-    write!(
-        text,
-        "<text class=\"v\" x=\"{x}\" y=\"{y}\">{before}{name}</text>\n"
-    )
+    match outcome_by(event) {
+        Some((_, outcome @ (Outcome::Ended(_) | Outcome::Halted(_)))) => {
+            write!(text, "<text class=\"v\" x=\"{x}\" y=\"{y}\">")?;
+            push_outcome(text, outcome)?;
+            text.push_str("</text>\n")
+        }
+        Some((_, Outcome::AtWork | Outcome::Down)) | None => Ok(()),
+    }
 }
 
 /// A box around a frame whose answer was lost or damaged, with the whole event as its title.

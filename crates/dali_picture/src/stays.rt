@@ -2,6 +2,7 @@
 
 ghost use Rattle.std.specs.Prelude.{◌≤◌};
 
+use crate::mark::{Lane, mark_of};
 use crate::run_gear::RunGear;
 use dali_frame::{Answer, Random24, Short};
 use dali_gear::{Gear, InitialisationState, Row};
@@ -73,13 +74,12 @@ fn note_answer(
     event: Event,
     answer: Answer,
 ) -> Result<(), AllocError> {
-    match event {
-        Event::Sent(_, _, heard) if heard != answer => {
+    if let Some(heard) = event.heard() {
+        if heard != answer {
             unheard.push(Unheard { at, answer })?;
-            Ok(())
         }
-        _ => Ok(()),
     }
+    Ok(())
 }
 
 impl Watch<'_> {
@@ -125,18 +125,9 @@ fn at_first(alloc: Global, gear: &Row) -> Result<Vec<(usize, Shown)>, AllocError
     Ok(since)
 }
 
-/// Whether an event may change what gear show.
-fn is_felt(event: Event) -> bool {
-    match event {
-        Event::Sent(..) | Event::Destroyed(..) | Event::Power(..) | Event::Expired(_) => true,
-        Event::Acted(..)
-        | Event::Offered(..)
-        | Event::Collided(..)
-        | Event::Lapsed
-        | Event::Quiet
-        | Event::Down(_)
-        | Event::Up(..) => false,
-    }
+/// Whether an event may change what gear show: it stands in the lane of one of them, or they can take its frame.
+fn is_felt(event: &Event) -> bool {
+    matches!(mark_of(*event).lane, Lane::Gear(_)) || event.sending().is_some()
 }
 
 /// What so many gear showed while this happened, in which they drew of these numbers, and what they answered unheard.
@@ -158,7 +149,7 @@ pub fn watch_over(
     for (at, event) in log.iter().enumerate() {
         let answer = watch.gear.befall(*event);
         note_answer(&mut unheard, at, *event, answer)?;
-        if is_felt(*event) {
+        if is_felt(event) {
             watch.note(&mut stays, at)?;
         }
     }

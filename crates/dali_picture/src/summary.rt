@@ -1,10 +1,10 @@
 //! The result of a run: how each controller ended, how many gear have an address, and what went wrong, with links to
 //! the places in the picture.
 
-use crate::clock::{bits_of, frames_of, milliseconds};
+use crate::clock::{frames_and_bits_of, milliseconds};
 use crate::gear_table::{addressed_in, at_end};
 use crate::incidents::{Happened, INCIDENTS, Incident, count_of};
-use crate::outcomes::{Outcome, last_of, outcome_of};
+use crate::outcomes::{Outcome, outcome_of};
 use crate::picture::Picture;
 use crate::words::{outcome_class, outcome_meaning, push_event, push_outcome, push_unheard};
 use std::alloc::AllocError;
@@ -38,7 +38,8 @@ fn push_ends(text: &mut String, picture: &Picture) -> Result<(), AllocError> {
     text.push_str("<ul class=\"ends\">\n")?;
     for c in 0..picture.played.controllers {
         let log = picture.played.log.as_slice();
-        push_end(text, c, outcome_of(c, log), last_of(c, log))?;
+        let (outcome, last) = outcome_of(c, log);
+        push_end(text, c, outcome, last)?;
     }
     text.push_str("</ul>\n")
 }
@@ -64,8 +65,8 @@ fn push_addressed(text: &mut String, picture: &Picture) -> Result<(), AllocError
 
 /// How many of what there are, and how long it took.
 fn push_counts(text: &mut String, picture: &Picture) -> Result<(), AllocError> {
-    let frames = frames_of(&picture.played.log);
-    let time = milliseconds(bits_of(&picture.played.log));
+    let (frames, bits) = frames_and_bits_of(&picture.played.log);
+    let time = milliseconds(bits);
     let controllers = picture.played.controllers;
     let gear = picture.played.gear;
     let events = picture.marks.len();
@@ -121,7 +122,7 @@ fn push_given(
 fn push_often(
     text: &mut String,
     incident: Incident,
-    count: u64,
+    count: usize,
     happened: &[Happened],
 ) -> Result<(), AllocError> {
     let (class, one, more) = names_of(incident);

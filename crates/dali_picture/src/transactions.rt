@@ -1,7 +1,7 @@
 //! The transactions of a log: which frames belong together, and what they are for.
 
 ghost use Rattle.std.specs.Prelude.{◌≡◌, ◌<◌, ◌+◌, ◌++◌, true, IfOk};
-ghost use Rattle.dali_picture.specs.Transactions.{senders_of, owned, owned_by, IsOf};
+ghost use Rattle.dali_picture.specs.Transactions.{senders_of, owned, owned_by};
 
 use dali_frame::Forward;
 use dali_special::{Command, Part};
@@ -48,24 +48,6 @@ pub struct Transaction {
     pub last: usize,
     /// How many frames it has.
     pub frames: u64,
-}
-
-/// The frame that came on the bus by an event, and its sender. Of two that collided neither counts.
-pub fn frame_of(event: Event) -> Option<(u8, Forward)>
-    ensures { IsOf result event }
-{
-    match event {
-        Event::Sent(c, frame, _) | Event::Destroyed(c, frame, _) => Some((c, frame)),
-        Event::Acted(..)
-        | Event::Offered(..)
-        | Event::Collided(..)
-        | Event::Lapsed
-        | Event::Quiet
-        | Event::Power(..)
-        | Event::Expired(_)
-        | Event::Down(_)
-        | Event::Up(..) => None,
-    }
 }
 
 /// Whether a frame may begin a transaction: no later frame of one is such a frame, but SEARCHADDRH in a hunt.
@@ -203,12 +185,12 @@ pub fn transactions_of(alloc: Global, log: &[Event]) -> Result<Vec<Transaction>,
     let mut kept = Vec::new(alloc);
     let mut running = Transaction::default();
     for (at, event) in log.iter().enumerate() {
-        if let Some((sender, frame)) = frame_of(*event) {
-            if running.goes_on(sender, frame) {
-                running = running.with(frame, at);
+        if let Some(sending) = event.sending() {
+            if running.goes_on(sending.sender, sending.frame) {
+                running = running.with(sending.frame, at);
             } else {
                 keep(&mut kept, running)?;
-                running = Transaction::begun(sender, frame, at);
+                running = Transaction::begun(sending.sender, sending.frame, at);
             }
         }
     }

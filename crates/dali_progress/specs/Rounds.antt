@@ -1,5 +1,5 @@
-use Rattle.std.specs.Prelude.{◌≡◌, ◌⊎◌, ℕ, ◌+◌, ◌<◌, Bool, true, false, List, [], ◌∷◌, length}
-use Rattle.std.specs.Prelude.{Some, None, if◌then◌else◌}
+use Rattle.std.specs.Prelude.{◌≡◌, ◌⊎◌, ℕ, ◌+◌, ◌<◌, Bool, List, [], ◌∷◌, length}
+use Rattle.std.specs.Prelude.{Some, None, is_some, if◌then◌else◌}
 use Rattle.dali_special.specs.Command.{command_of}
 use Rattle.dali_gear.specs.declared.row.Reach.TheVariants.{Everyone}
 use Rattle.dali_gear.specs.Gear.{Gear}
@@ -16,6 +16,7 @@ use Rattle.dali_script.specs.declared.orders.End.TheVariants.{AllFound, BlockFul
 use Rattle.dali_controller.specs.Machine.{at_first}
 use Rattle.dali_events.specs.declared.event.Event.{Event}
 use Rattle.dali_events.specs.declared.event.Event.TheVariants as event
+use Rattle.dali_events.specs.Events.{sending}
 use Rattle.dali_events.specs.World.{controller_at}
 use Rattle.dali_events.specs.Allowed.{Allowed, IsUp, IsDue}
 use Rattle.dali_events.specs.Runs.{IsRun, LeavesUsed}
@@ -79,17 +80,7 @@ site_after s (e ∷ es) = site_after (site_logged s e) es
 
 -- how many of them are frames on the bus
 abbrev pub is_frame : Event → Bool
-is_frame (event.Sent c f h) = true
-is_frame (event.Acted c i o) = false
-is_frame (event.Offered c f) = false
-is_frame (event.Destroyed c f set) = false
-is_frame (event.Collided c f d g) = false
-is_frame event.Lapsed = false
-is_frame event.Quiet = false
-is_frame (event.Power g on) = false
-is_frame (event.Expired g) = false
-is_frame (event.Down c) = false
-is_frame (event.Up c kept) = false
+is_frame e = is_some (sending e)
 
 abbrev pub frames : List Event → ℕ
 frames [] = 0

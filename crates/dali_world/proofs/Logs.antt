@@ -10,6 +10,7 @@ use Rattle.dali_script.specs.Due.{due_after, accepts}
 use Rattle.dali_controller.specs.Machine.{Machine}
 use Rattle.dali_events.specs.declared.event.Event.{Event}
 use Rattle.dali_events.specs.declared.event.Event.TheVariants as event
+use Rattle.dali_events.specs.Events.{whose_step, is_step_of}
 use Rattle.dali_events.specs.Plan.{Plan, IsPlan}
 use Rattle.dali_events.specs.World.{World, Controller, controller_at, start}
 use Rattle.dali_events.specs.Happens.{happens}
@@ -42,7 +43,7 @@ use Rattle.dali_standing.specs.Settled.{IsPlacedBy, IsPlacedOn}
 use Rattle.dali_world.proofs.Agreeing.{no_conflict}
 use Rattle.dali_script.specs.declared.orders.Order.TheVariants.{Halt}
 use Rattle.dali_script.specs.declared.orders.Fault.TheVariants as fault
-use Rattle.dali_world.specs.Site.{SiteState, world, site_logged, machines_all, machines, machine_at, is_step_of, share_of, IsSite, opened_site, HasRoom}
+use Rattle.dali_world.specs.Site.{SiteState, world, site_logged, machines_all, machines, machine_at, share_of, IsSite, opened_site, HasRoom}
 use Rattle.dali_world.specs.Site.{IsCrowded, Logs, Receipt, HasActed, IsSpent, IsSendable}
 use Rattle.dali_events.specs.Troubles.{reach_under}
 use Rattle.dali_events.specs.declared.trouble.Trouble.{Trouble}
@@ -73,15 +74,15 @@ abbrev pub IsCounted : List ℕ → Event → List ℕ → Type 0
 IsCounted old e new = (length new ≡ 4) × ((c : ℕ) → c < 4 → get_or new c 0 ≡ get_or old c 0 + (if is_step_of c e then 1 else 0))
 
 -- an event that is nobody's step
-pub uncounted : (shares : List ℕ) (e : Event) → length shares ≡ 4 → ((c : ℕ) → is_step_of c e ≡ false) → IsCounted shares e shares
-uncounted shares e four none = (four, λ c there. rw (none c) (omega arith))
+pub uncounted : (shares : List ℕ) (e : Event) → length shares ≡ 4 → whose_step e ≡ None → IsCounted shares e shares
+uncounted shares e four none = (four, λ c there. rw none (omega arith))
 
 pub counted_step : (shares new : List ℕ) (e : Event) (d : ℕ) → length shares ≡ 4 → d < 4 → new ≡ set shares d (get_or shares d 0 + 1)
-    → ((c : ℕ) → is_step_of c e ≡ (d == c)) → IsCounted shares e new
+    → whose_step e ≡ Some d → IsCounted shares e new
 counted_step shares new e d four there is step = (
   ap length is ∙ length-set shares d _ ∙ four,
   λ c in_four. subst (λ (xs : List ℕ). get_or xs c 0 ≡ get_or shares c 0 + (if is_step_of c e then 1 else 0))
-      (sym is) (rw (step c) (go c (nat_eq c d) refl)),
+      (sym is) (rw step (go c (nat_eq c d) refl)),
 ) where
   here : d < length shares
   here = subst (λ n. d < n) (sym four) there
@@ -164,10 +165,9 @@ self_same : (c : ℕ) → (c == c) ≡ true
 self_same c = grind (arith, nat_tests)
 
 -- an event that is nobody's step reserves nothing
-nobodys_leaves : (us : List Used) (e : Event) → ((c : ℕ) → is_step_of c e ≡ false) → LeavesUsed us e
+nobodys_leaves : (us : List Used) (e : Event) → whose_step e ≡ None → LeavesUsed us e
 nobodys_leaves us e nobodys c i a r is has =
-    let no : (c == c) ≡ false = subst (λ (x : Event). is_step_of c x ≡ false) is (nobodys c) in
-    let yes : (c == c) ≡ true = self_same c in
+    let own : Some c ≡ None = subst (λ (x : Event). whose_step x ≡ None) is nobodys in
     cc
 
 -- `was` is the site as its caller sees it, and s the same by its parts
@@ -183,7 +183,7 @@ site_logs s was old new shares room log' e view site free moves log_is =
 
 pub site_goes_on : (s was : SiteState) (old new : Standing) (shares : List ℕ) (room room' : ℕ) (log' : List Event) (e : Event) → s ≡ was
     → IsSite s old shares room → HasRoom was → Moves old e new
-    → log' ≡ s.log ++ e ∷ [] → room' ≡ room → ((c : ℕ) → is_step_of c e ≡ false)
+    → log' ≡ s.log ++ e ∷ [] → room' ≡ room → whose_step e ≡ None
     → IsSite (record { plan = s.plan; queue = s.queue; room = s.room; log = log' }) new shares room'
 site_goes_on s was old new shares room room' log' e view site free moves log_is room_is nobodys =
     goes_on s old new shares shares room room' log' e site moves (nobodys_leaves s.plan.used e nobodys)
@@ -192,7 +192,7 @@ site_goes_on s was old new shares room room' log' e view site free moves log_is 
 -- a step of controller d
 pub step_goes_on : (s was : SiteState) (old new : Standing) (shares shares' : List ℕ) (room room' : ℕ) (log' : List Event) (e : Event) (d : ℕ) → s ≡ was
     → IsSite s old shares room → HasRoom was → Moves old e new → LeavesUsed was.plan.used e
-    → log' ≡ s.log ++ e ∷ [] → room' ≡ room → d < 4 → shares' ≡ set shares d (get_or shares d 0 + 1) → ((c : ℕ) → is_step_of c e ≡ (d == c))
+    → log' ≡ s.log ++ e ∷ [] → room' ≡ room → d < 4 → shares' ≡ set shares d (get_or shares d 0 + 1) → whose_step e ≡ Some d
     → IsSite (record { plan = s.plan; queue = s.queue; room = s.room; log = log' }) new shares' room'
 step_goes_on s was old new shares shares' room room' log' e d view site free moves leaves log_is room_is there shares_is step =
     goes_on s old new shares shares' room room' log' e site moves (subst (λ (w : SiteState). LeavesUsed w.plan.used e) (sym view) leaves)
@@ -298,7 +298,7 @@ sent_room s was old shares room r t view site may enough sendable =
     subst (λ reach. draws_needed reach (command_of r.frame) 0 (world s).gear ≤ length (world s).left) (everyone t sendable) (draws_there s r t enough_s) in
     subst (λ (o : Standing). HasGiftRoom o Everyone r) (sym site.stands)
     (gifts_fit_after s.plan s.queue s.log (event.Sent r.sender r.frame Silence) site.run (record { up = may_s.0; may = may_s.1; draws = draws; heard = tt })
-    (nobodys_leaves s.plan.used (event.Sent r.sender r.frame Silence) (λ d. refl)))
+    (nobodys_leaves s.plan.used (event.Sent r.sender r.frame Silence) refl))
 
 pub lost_room : (s was : SiteState) (old : Standing) (shares : List ℕ) (room : ℕ) (r : Request) (set : GearSet) → s ≡ was → IsSite s old shares room
     → IsUp (world was) r.sender × MaySend (world was) r.sender r.frame
@@ -309,7 +309,7 @@ lost_room s was old shares room r set view site may enough =
     subst (λ (o : Standing). HasGiftRoom o (Only set) r) (sym site.stands)
     (gifts_fit_after s.plan s.queue s.log (event.Destroyed r.sender r.frame set) site.run
     (record { up = may_s.0; may = may_s.1; draws = draws_there s r (trouble.Destroyed set) enough_s })
-    (nobodys_leaves s.plan.used (event.Destroyed r.sender r.frame set) (λ d. refl)))
+    (nobodys_leaves s.plan.used (event.Destroyed r.sender r.frame set) refl))
 
 -- the request that is next may be sent
 pub request_may : (s was : SiteState) (old : Standing) (shares : List ℕ) (room : ℕ) (r : Request) → s ≡ was → IsSite s old shares room → MayBeSent old r

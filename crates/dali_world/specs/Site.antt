@@ -1,5 +1,5 @@
 use Rattle.std.specs.Prelude.{◌≡◌, ℕ, ◌+◌, ◌<◌, ◌≤◌, ◌⊎◌, Bool, false, List, [], ◌∷◌, ◌++◌, length}
-use Rattle.std.specs.Prelude.{slice_index_or, Option, Some, None, ◌==◌, if◌then◌else◌, IfOk, IfErr}
+use Rattle.std.specs.Prelude.{slice_index_or, Option, Some, None, if◌then◌else◌, IfOk, IfErr}
 use Rattle.std.specs.Prelude.{OnErr}
 use Rattle.std.proofs.Common.{Result}
 use Rattle.dali_frame.specs.declared.frames.Forward.{Forward}
@@ -16,6 +16,7 @@ use Rattle.dali_script.specs.Due.{frame_put}
 use Rattle.dali_controller.specs.Machine.{Machine}
 use Rattle.dali_events.specs.declared.event.Event.{Event}
 use Rattle.dali_events.specs.declared.event.Event.TheVariants as event
+use Rattle.dali_events.specs.Events.{is_step_of}
 use Rattle.dali_events.specs.Plan.{Plan}
 use Rattle.dali_events.specs.World.{World, controller_at, start}
 use Rattle.dali_events.specs.Happens.{happens}
@@ -65,20 +66,6 @@ machines s = machines_all (start s.plan s.queue) (machines_at 0 s.plan.blocks) s
 -- the machine of controller c: none while it is down
 abbrev pub machine_at : SiteState → ℕ → Option Machine
 machine_at s c = machine_in (machines s) c
-
--- whether an event is a step of controller c
-abbrev pub is_step_of : ℕ → Event → Bool
-is_step_of c (event.Acted d i o) = d == c
-is_step_of c (event.Offered d f) = d == c
-is_step_of c (event.Sent d f h) = false
-is_step_of c (event.Destroyed d f set) = false
-is_step_of c (event.Collided d f e g) = false
-is_step_of c event.Lapsed = false
-is_step_of c event.Quiet = false
-is_step_of c (event.Power g on) = false
-is_step_of c (event.Expired g) = false
-is_step_of c (event.Down d) = false
-is_step_of c (event.Up d kept) = false
 
 -- THE SHARE of controller c in a log: how many of its events are steps of c
 abbrev pub share_of : ℕ → List Event → ℕ

@@ -441,28 +441,12 @@ where
     ((one, two, three, four), pumped)
 }
 
-/// Whose step an event is: a controller's, or 255.
-fn owner_of(event: &Event) -> u8 {
-    match event {
-        Event::Acted(c, ..) | Event::Offered(c, _) => *c,
-        Event::Sent(..)
-        | Event::Destroyed(..)
-        | Event::Collided(..)
-        | Event::Lapsed
-        | Event::Quiet
-        | Event::Power(..)
-        | Event::Expired(_)
-        | Event::Down(_)
-        | Event::Up(..) => 255,
-    }
-}
-
-/// The list is whole, and is what the log has in this name.
-fn is_logged<R: Abort>(rt: &R, log: &[Event], name: u8, list: &List) {
+/// The list is whole, and is what the log has of this controller; of none, what is nobody's step.
+fn is_logged<R: Abort>(rt: &R, log: &[Event], name: Option<u8>, list: &List) {
     assert!(rt; list.is_whole);
     let mut rest = list.events.iter();
     for event in log {
-        if owner_of(event) == name {
+        if event.whose_step() == name {
             assert!(rt; rest.next() == Some(event));
         }
     }
@@ -505,7 +489,7 @@ fn left_its_list<R: Abort>(
         _ => assert!(rt; false),
     }
     begins_so(rt, name, list);
-    is_logged(rt, log, name, list);
+    is_logged(rt, log, Some(name), list);
 }
 
 /// The port of a worker, if there was one, is back behind the others. How the worker ended, and its list.
@@ -608,7 +592,7 @@ fn lists_are_right<R: Abort>(
     left: Four<(Outcome, List)>,
     stops: bool,
 ) {
-    is_logged(rt, site.log(), 255, &list);
+    is_logged(rt, site.log(), None, &list);
     assert!(rt; list.events.is_empty() == stops);
     left_their_lists(rt, site.log(), left, stops);
 }

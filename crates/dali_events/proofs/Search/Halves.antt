@@ -27,7 +27,8 @@ use Rattle.dali_events.specs.World.{World, gear_at, controller_at, start}
 use Rattle.dali_events.specs.Happens.{happens, trace_running, entry, goes_on, gear_powered}
 use Rattle.dali_events.specs.Allowed.{Allowed, MaySend}
 use Rattle.dali_events.specs.Runs.{after, after_all, AllAllowed, IsRun}
-use Rattle.dali_events.specs.Searching.{EachPowered, EachActive, frame_in, number_at}
+use Rattle.dali_events.specs.Events.{frame_in}
+use Rattle.dali_events.specs.Searching.{EachPowered, EachActive, number_at}
 use Rattle.dali_events.proofs.Invariant.Growing.{after_more, allowed_front, last_allowed}
 use Rattle.dali_script.proofs.Members.{Each, each_changed, each_map}
 use Rattle.dali_events.proofs.Invariant.Takes.{Moved, stays, goes, moves_at, row_length}

@@ -8,5 +8,5 @@ invariant_of-self-2 g c =
     let step = c.in_ok-receipt.ensures.step in
     record {
       exact = step_counted _ _ _ _ (event.Acted c.controller-c.result c.args.input c.in_ok-receipt.receipt.order)
-          _ _ c.audit.new.self.exact c.raise.ensures.tally c.controller-c.ensures step.0 refl (λ d. refl) step.1;
+          _ _ c.audit.new.self.exact c.raise.ensures.tally c.controller-c.ensures step.0 refl step.1;
     }

@@ -19,5 +19,5 @@ invariant_of-self-2 g c =
     let there : c.controller.result < 4 = omega arith in
     record {
       exact = step_counted _ _ _ _ (event.Offered c.controller.result c.args.frame)
-          _ _ c.audit.new.self.exact c.raise.ensures.tally c.controller.ensures there refl (λ d. refl) logs.logged;
+          _ _ c.audit.new.self.exact c.raise.ensures.tally c.controller.ensures there refl logs.logged;
     }

@@ -7,5 +7,5 @@ pub invariant_of-self-2 : goal.invariant_of-self-2
 invariant_of-self-2 g c =
     record {
       exact = other_counted _ _ _ _ (event.Expired c.args.number) c.audit_driver.new.self.exact c.raise_driver.ensures.tally refl
-          (λ d. refl) c.in_ok-expire.ensures.expired.1.logged;
+          c.in_ok-expire.ensures.expired.1.logged;
     }

@@ -6,6 +6,5 @@ use Rattle.dali_line.proofs.locked.Locked.quiet.Goals as goal
 pub invariant_of-self-2 : goal.invariant_of-self-2
 invariant_of-self-2 g c =
     record {
-      exact = other_counted _ _ _ _ event.Quiet c.audit_driver.new.self.exact c.raise_driver.ensures.tally refl
-          (λ d. refl) c.in_ok-quiet.ensures.quiet.logged;
+      exact = other_counted _ _ _ _ event.Quiet c.audit_driver.new.self.exact c.raise_driver.ensures.tally refl c.in_ok-quiet.ensures.quiet.logged;
     }

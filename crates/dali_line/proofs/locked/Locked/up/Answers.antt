@@ -10,7 +10,7 @@ use Rattle.dali_line.proofs.locked.Locked.up.Goals as goal
 pub invariant_of-self : goal.invariant_of-self
 invariant_of-self g c = record {
   exact = other_counted _ _ _ _ (event.Up c.args.c c.in-Ok.ensures.up.0)
-      c.audit_driver.new.self.exact c.raise_driver.ensures.tally refl (λ d. refl) c.in-Ok.ensures.up.2.logged;
+      c.audit_driver.new.self.exact c.raise_driver.ensures.tally refl c.in-Ok.ensures.up.2.logged;
 }
 
 pub returns-in-Ok-clause-settled : goal.returns-in-Ok-clause-settled

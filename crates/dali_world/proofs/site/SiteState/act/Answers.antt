@@ -25,7 +25,7 @@ invariant_of-self c =
     let up = c.in_ok-check_up.ensures.ok in
     let four : c.args.c < 4 = let there = up.1 in let few = up.2 in omega arith in
     step_goes_on _ _ _ _ _ _ _ _ _ (event.Acted c.args.c c.args.input c.in-Some.order) c.args.c c.self.view_is c.self.invariant (c.if-is_full.ensures.room refl)
-    moves leaves c.append.ensures.items c.append.ensures.capacity four c.count-number.ensures.shares (λ d. refl)
+    moves leaves c.append.ensures.items c.append.ensures.capacity four c.count-number.ensures.shares refl
 
 pub returns-in-Some-clause-answer : goal.returns-in-Some-clause-answer
 unfolding Rattle.dali_world.specs.Site.Acts

@@ -10,4 +10,4 @@ send-heard-requires-clause-room c =
 pub invariant_of-self : goal.invariant_of-self
 invariant_of-self c =
     site_goes_on _ _ _ _ _ _ _ _ (event.Sent c.args.request.sender c.args.request.frame c.send-heard.result) c.self.view_is c.self.invariant c.requires.room
-    c.send-heard.ensures.moves c.append.ensures.items c.append.ensures.capacity (λ d. refl)
+    c.send-heard.ensures.moves c.append.ensures.items c.append.ensures.capacity refl

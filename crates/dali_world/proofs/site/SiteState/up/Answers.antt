@@ -7,4 +7,4 @@ pub invariant_of-self : goal.invariant_of-self
 invariant_of-self c =
     site_goes_on _ _ _ _ _ _ _ _ (event.Up c.args.c c.in-Some.kept) c.self.view_is c.self.invariant (c.if-is_full.ensures.room refl)
     (c.up.ensures c.in-Some.kept c.in-Some.ensures)
-    c.append.ensures.items c.append.ensures.capacity (λ d. refl)
+    c.append.ensures.items c.append.ensures.capacity refl

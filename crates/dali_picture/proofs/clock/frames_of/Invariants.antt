@@ -1,6 +1,0 @@
-use Rattle.std.proofs.Common.{◌≡◌, ◌+◌, ◌≤◌, drop}
-use Rattle.dali_picture.specs.Clock.{frames_of}
-use Rattle.dali_picture.proofs.clock.frames_of.Given as goal
-
-abbrev pub invariant-loop-event : goal.invariant-loop-event
-invariant-loop-event l = (l.frames + frames_of (drop l.event-index l.log) ≡ frames_of l.log) × (l.frames ≤ l.event-index)
