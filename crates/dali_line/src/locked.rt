@@ -10,6 +10,7 @@ ghost use Rattle.dali_line.specs.Counts.{counts_of, others_of, shares_of, AreInO
 
 use crate::commits::{CommitState, Commits};
 use crate::driver::Driver;
+use crate::ledgers::Ledgers;
 use crate::port::Port;
 use crate::ready::Ready;
 use crate::tally::Tally;
@@ -18,20 +19,19 @@ use arrayvec::ArrayVec;
 use dali_frame::Forward;
 use dali_script::{Due, Input, Kept, Record};
 use dali_world::{Receipt, Refusal, Report, SiteState, Trouble};
-use std::sync::ledger::Ledger;
 
 /// What lies under a line's lock: a site, how many events of its log are whose, whose workers are at a commit, and
 /// whether the line is stopped.
 #[derive(Drop)]
-pub(crate) struct Locked<P0: Ledger, P1: Ledger, P2: Ledger, P3: Ledger, D: Ledger> {
+pub(crate) struct Locked<L: Ledgers> {
     site: SiteState,
-    tally: Tally<P0, P1, P2, P3, D>,
+    tally: Tally<L>,
     commits: Commits,
     stopped: bool,
     ghost exact: { tally ≡ counts_of site.log },
 }
 
-impl<P0: Ledger, P1: Ledger, P2: Ledger, P3: Ledger, D: Ledger> Locked<P0, P1, P2, P3, D> {
+impl<L: Ledgers> Locked<L> {
     ghost use Rattle.dali_world.specs.Site.{Acts, world, share_of, IsSound};
     ghost use Rattle.dali_line.specs.Shares.{raised_share, total_of};
     ghost use Rattle.dali_line.specs.Found.{IsFoundFrom, IsFoundByDriver, HasDue, Wakes, MayOffer, WakesForRoom};
@@ -42,7 +42,7 @@ impl<P0: Ledger, P1: Ledger, P2: Ledger, P3: Ledger, D: Ledger> Locked<P0, P1, P
     ghost use Rattle.dali_line.specs.Calls.{Offers, PumpsOnce, Lapses, FallsQuiet, Powers, Expires, GoesDown, ComesUp};
 
     /// A site with the tally of its log.
-    pub(crate) fn new(site: SiteState, tally: Tally<P0, P1, P2, P3, D>) -> Locked<P0, P1, P2, P3, D>
+    pub(crate) fn new(site: SiteState, tally: Tally<L>) -> Locked<L>
         requires { tally ≡ counts_of site.log }
         ensures site { result.site ≡ site }
         ensures stopped { result.stopped ≡ false }
@@ -56,7 +56,7 @@ impl<P0: Ledger, P1: Ledger, P2: Ledger, P3: Ledger, D: Ledger> Locked<P0, P1, P
     }
 
     /// Says what the port's holder knows of the site. It changes nothing.
-    fn audit(&mut self, port: &mut Port<P0, P1, P2, P3, D>)
+    fn audit(&mut self, port: &mut Port<L>)
         ensures found { IsFoundFrom port.old self.old.site }
         ensures few { length (world self.new.site).controllers ≤ 4 }
         ensures site { self.new.site ≡ self.old.site }
@@ -70,11 +70,7 @@ impl<P0: Ledger, P1: Ledger, P2: Ledger, P3: Ledger, D: Ledger> Locked<P0, P1, P
     }
 
     /// A controller acts. Where it was accepted, its worker is at no commit any more.
-    pub(crate) fn act(
-        &mut self,
-        port: &mut Port<P0, P1, P2, P3, D>,
-        input: Input,
-    ) -> Result<Receipt, Refusal>
+    pub(crate) fn act(&mut self, port: &mut Port<L>, input: Input) -> Result<Receipt, Refusal>
         ensures found { IsFoundFrom port.old self.old.site }
         ensures answer { Acts self.old.site port.old.controller input result self.new.site }
         ensures accepted { OnOk result (port.new ≡ raised_share port.old) }
@@ -96,11 +92,7 @@ impl<P0: Ledger, P1: Ledger, P2: Ledger, P3: Ledger, D: Ledger> Locked<P0, P1, P
 
     /// A controller offers a frame of direct arc power.
     #[tactic(auto, unfolding(crate::specs::Calls::Offers))]
-    pub(crate) fn arc(
-        &mut self,
-        port: &mut Port<P0, P1, P2, P3, D>,
-        frame: Forward,
-    ) -> Result<(), Refusal>
+    pub(crate) fn arc(&mut self, port: &mut Port<L>, frame: Forward) -> Result<(), Refusal>
         ensures found { IsFoundFrom port.old self.old.site }
         ensures answer { Offers self.old.site port.old.controller frame result self.new.site }
         ensures accepted { OnOk result (port.new ≡ raised_share port.old) }
@@ -163,7 +155,7 @@ impl<P0: Ledger, P1: Ledger, P2: Ledger, P3: Ledger, D: Ledger> Locked<P0, P1, P
     }
 
     /// What the port's controller may act on.
-    pub(crate) fn next(&mut self, port: &mut Port<P0, P1, P2, P3, D>) -> Option<Input>
+    pub(crate) fn next(&mut self, port: &mut Port<L>) -> Option<Input>
         ensures found { IsFoundFrom port.old self.old.site }
         ensures answer { result ≡ (controller_at (world self.old.site) port.old.controller).told }
         ensures same { port.new ≡ port.old }
@@ -175,7 +167,7 @@ impl<P0: Ledger, P1: Ledger, P2: Ledger, P3: Ledger, D: Ledger> Locked<P0, P1, P
     }
 
     /// What is due for the port's controller.
-    pub(crate) fn due(&mut self, port: &mut Port<P0, P1, P2, P3, D>) -> Due
+    pub(crate) fn due(&mut self, port: &mut Port<L>) -> Due
         ensures found { IsFoundFrom port.old self.old.site }
         ensures answer { result ≡ due_of (controller_at (world self.old.site) port.old.controller) }
         ensures same { port.new ≡ port.old }
@@ -201,7 +193,7 @@ impl<P0: Ledger, P1: Ledger, P2: Ledger, P3: Ledger, D: Ledger> Locked<P0, P1, P
     }
 
     /// Whether something is due for the port's controller, and the line is not stopped.
-    pub(crate) fn waits(&mut self, port: &mut Port<P0, P1, P2, P3, D>) -> bool
+    pub(crate) fn waits(&mut self, port: &mut Port<L>) -> bool
         ensures found { IsFoundFrom port.old self.old.site }
         ensures answer { IsTrue result ↔ (self.old.stopped ≡ false) × HasDue self.old.site port.old.controller }
         ensures same { port.new ≡ port.old }
@@ -213,7 +205,7 @@ impl<P0: Ledger, P1: Ledger, P2: Ledger, P3: Ledger, D: Ledger> Locked<P0, P1, P
     }
 
     /// The port's holder begins the commit that is due, if one is.
-    pub(crate) fn begin_commit(&mut self, port: &mut Port<P0, P1, P2, P3, D>) -> Option<Record>
+    pub(crate) fn begin_commit(&mut self, port: &mut Port<L>) -> Option<Record>
         ensures found { IsFoundFrom port.old self.old.site }
         ensures answer { result ≡ record_ordered (controller_at (world self.old.site) port.old.controller).last }
         ensures same { port.new ≡ port.old }
@@ -234,7 +226,7 @@ impl<P0: Ledger, P1: Ledger, P2: Ledger, P3: Ledger, D: Ledger> Locked<P0, P1, P
 
     /// The port's holder makes no commit any more. Where it had begun one, the store has the record (true), or maybe
     /// not.
-    pub(crate) fn end_commit(&mut self, port: &Port<P0, P1, P2, P3, D>, is_made: bool)
+    pub(crate) fn end_commit(&mut self, port: &Port<L>, is_made: bool)
         ensures ended { state_of self.old.commits port.now.controller ≡ commit.Begun → self.new.commits
             ≡ slice_set self.old.commits port.now.controller (if is_made then commit.Made else commit.Settled) }
         ensures not_begun { (state_of self.old.commits port.now.controller ≡ commit.Begun → ⊥)
@@ -270,7 +262,7 @@ impl<P0: Ledger, P1: Ledger, P2: Ledger, P3: Ledger, D: Ledger> Locked<P0, P1, P
     }
 
     /// Whether a request more may wait, or the port's controller is down, and the line is not stopped.
-    pub(crate) fn has_room(&mut self, port: &mut Port<P0, P1, P2, P3, D>) -> bool
+    pub(crate) fn has_room(&mut self, port: &mut Port<L>) -> bool
         ensures found { IsFoundFrom port.old self.old.site }
         ensures answer { IsTrue result ↔ (self.old.stopped ≡ false) × MayOffer self.old.site port.old.controller }
         ensures same { port.new ≡ port.old }
@@ -282,7 +274,7 @@ impl<P0: Ledger, P1: Ledger, P2: Ledger, P3: Ledger, D: Ledger> Locked<P0, P1, P
     }
 
     /// Says what the driver's holder knows of the site. It changes nothing.
-    fn audit_driver(&mut self, driver: &mut Driver<P0, P1, P2, P3, D>)
+    fn audit_driver(&mut self, driver: &mut Driver<L>)
         ensures found { IsFoundByDriver driver.old self.old.site }
         ensures whole { total_of (counts_of self.old.site.log) ≡ length self.old.site.log }
         ensures site { self.new.site ≡ self.old.site }
@@ -299,7 +291,7 @@ impl<P0: Ledger, P1: Ledger, P2: Ledger, P3: Ledger, D: Ledger> Locked<P0, P1, P
     #[tactic(auto, unfolding(crate::specs::Calls::PumpsOnce))]
     pub(crate) fn pump(
         &mut self,
-        driver: &mut Driver<P0, P1, P2, P3, D>,
+        driver: &mut Driver<L>,
         trouble: Trouble,
     ) -> Result<Report, Refusal>
         ensures found { IsFoundByDriver driver.old self.old.site }
@@ -319,10 +311,7 @@ impl<P0: Ledger, P1: Ledger, P2: Ledger, P3: Ledger, D: Ledger> Locked<P0, P1, P
 
     /// The owner loses the bus.
     #[tactic(auto, unfolding(crate::specs::Calls::Lapses))]
-    pub(crate) fn lapse(
-        &mut self,
-        driver: &mut Driver<P0, P1, P2, P3, D>,
-    ) -> Result<Option<u8>, Refusal>
+    pub(crate) fn lapse(&mut self, driver: &mut Driver<L>) -> Result<Option<u8>, Refusal>
         ensures found { IsFoundByDriver driver.old self.old.site }
         ensures answer { Lapses self.old.site result self.new.site }
         ensures accepted { OnOk result (driver.new ≡ driver.old + 1) }
@@ -338,7 +327,7 @@ impl<P0: Ledger, P1: Ledger, P2: Ledger, P3: Ledger, D: Ledger> Locked<P0, P1, P
 
     /// Half pairs are forgotten.
     #[tactic(auto, unfolding(crate::specs::Calls::FallsQuiet))]
-    pub(crate) fn quiet(&mut self, driver: &mut Driver<P0, P1, P2, P3, D>) -> Result<(), Refusal>
+    pub(crate) fn quiet(&mut self, driver: &mut Driver<L>) -> Result<(), Refusal>
         ensures found { IsFoundByDriver driver.old self.old.site }
         ensures answer { FallsQuiet self.old.site result self.new.site }
         ensures accepted { OnOk result (driver.new ≡ driver.old + 1) }
@@ -356,7 +345,7 @@ impl<P0: Ledger, P1: Ledger, P2: Ledger, P3: Ledger, D: Ledger> Locked<P0, P1, P
     #[tactic(auto, unfolding(crate::specs::Calls::Powers))]
     pub(crate) fn power(
         &mut self,
-        driver: &mut Driver<P0, P1, P2, P3, D>,
+        driver: &mut Driver<L>,
         number: u32,
         on: bool,
     ) -> Result<(), Refusal>
@@ -375,11 +364,7 @@ impl<P0: Ledger, P1: Ledger, P2: Ledger, P3: Ledger, D: Ledger> Locked<P0, P1, P
 
     /// A gear's initialisation is over.
     #[tactic(auto, unfolding(crate::specs::Calls::Expires))]
-    pub(crate) fn expire(
-        &mut self,
-        driver: &mut Driver<P0, P1, P2, P3, D>,
-        number: u32,
-    ) -> Result<(), Refusal>
+    pub(crate) fn expire(&mut self, driver: &mut Driver<L>, number: u32) -> Result<(), Refusal>
         ensures found { IsFoundByDriver driver.old self.old.site }
         ensures answer { Expires self.old.site number result self.new.site }
         ensures accepted { OnOk result (driver.new ≡ driver.old + 1) }
@@ -395,11 +380,7 @@ impl<P0: Ledger, P1: Ledger, P2: Ledger, P3: Ledger, D: Ledger> Locked<P0, P1, P
 
     /// A controller goes down.
     #[tactic(auto, unfolding(crate::specs::Calls::GoesDown))]
-    pub(crate) fn down(
-        &mut self,
-        driver: &mut Driver<P0, P1, P2, P3, D>,
-        c: u8,
-    ) -> Result<(), Refusal>
+    pub(crate) fn down(&mut self, driver: &mut Driver<L>, c: u8) -> Result<(), Refusal>
         ensures found { IsFoundByDriver driver.old self.old.site }
         ensures answer { GoesDown self.old.site c result self.new.site }
         ensures accepted { OnOk result (driver.new ≡ driver.old + 1) }
@@ -434,12 +415,7 @@ impl<P0: Ledger, P1: Ledger, P2: Ledger, P3: Ledger, D: Ledger> Locked<P0, P1, P
 
     /// A controller comes up with a copy of its records, unless a commit for it is open.
     #[tactic(auto, unfolding(crate::specs::Calls::ComesUp))]
-    pub(crate) fn up(
-        &mut self,
-        driver: &mut Driver<P0, P1, P2, P3, D>,
-        c: u8,
-        copy: &Kept,
-    ) -> Result<(), UpRefusal>
+    pub(crate) fn up(&mut self, driver: &mut Driver<L>, c: u8, copy: &Kept) -> Result<(), UpRefusal>
         ensures found { IsFoundByDriver driver.old self.old.site }
         ensures answer { ComesUp self.old.site c copy.now result self.new.site }
         ensures accepted { OnOk result (driver.new ≡ driver.old + 1) }
@@ -511,7 +487,7 @@ impl<P0: Ledger, P1: Ledger, P2: Ledger, P3: Ledger, D: Ledger> Locked<P0, P1, P
     }
 
     /// What a driver may do, if there is anything to say.
-    pub(crate) fn ready(&mut self, driver: &mut Driver<P0, P1, P2, P3, D>) -> Option<Ready>
+    pub(crate) fn ready(&mut self, driver: &mut Driver<L>) -> Option<Ready>
         ensures found { IsFoundByDriver driver.old self.old.site }
         ensures answer { MatchOption result (IsBusy self.old.stopped self.old.site)
             (IsReady self.old.stopped self.old.site) }
@@ -540,7 +516,7 @@ impl<P0: Ledger, P1: Ledger, P2: Ledger, P3: Ledger, D: Ledger> Locked<P0, P1, P
     }
 
     /// A port goes. Its share was how many events of the log are its controller's steps.
-    fn take_back(&mut self, port: Port<P0, P1, P2, P3, D>)
+    fn take_back(&mut self, port: Port<L>)
         ensures share { share_of port.controller self.old.site.log ≡ port.share }
         ensures site { self.new.site ≡ self.old.site }
         ensures stopped { self.new.stopped ≡ self.old.stopped }
@@ -551,11 +527,7 @@ impl<P0: Ledger, P1: Ledger, P2: Ledger, P3: Ledger, D: Ledger> Locked<P0, P1, P
 
     /// The site, of which each share is what its log has, and whether there is a port for each of its controllers, in
     /// order.
-    pub(crate) fn close(
-        self,
-        ports: ArrayVec<Port<P0, P1, P2, P3, D>, 4>,
-        driver: Driver<P0, P1, P2, P3, D>,
-    ) -> (SiteState, bool)
+    pub(crate) fn close(self, ports: ArrayVec<Port<L>, 4>, driver: Driver<L>) -> (SiteState, bool)
         ensures site { result.0 ≡ self.site }
         ensures ports { All (λ one. share_of one.controller result.0.log ≡ one.share) ports.items }
         ensures driver { others_of result.0.log ≡ driver }
@@ -577,7 +549,7 @@ impl<P0: Ledger, P1: Ledger, P2: Ledger, P3: Ledger, D: Ledger> Locked<P0, P1, P
     }
 
     /// Whether these are as many ports as there are controllers, each that of the controller whose number is its place.
-    fn has_all(&self, ports: &[Port<P0, P1, P2, P3, D>]) -> bool
+    fn has_all(&self, ports: &[Port<L>]) -> bool
         ensures few { length self.now.site.plan.blocks ≤ 4 }
         ensures all { IsTrue result ↔ (length ports.now ≡ length self.now.site.plan.blocks) × AreInOrder ports.now }
     {
@@ -586,9 +558,7 @@ impl<P0: Ledger, P1: Ledger, P2: Ledger, P3: Ledger, D: Ledger> Locked<P0, P1, P
 }
 
 /// Whether each port is that of the controller whose number is its place.
-fn are_in_order<P0: Ledger, P1: Ledger, P2: Ledger, P3: Ledger, D: Ledger>(
-    ports: &[Port<P0, P1, P2, P3, D>],
-) -> bool
+fn are_in_order<L: Ledgers>(ports: &[Port<L>]) -> bool
     ensures { IsTrue result ↔ AreInOrder ports.now }
 {
     for place in 0..ports.len() {
