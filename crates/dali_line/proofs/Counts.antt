@@ -13,7 +13,7 @@ use Rattle.dali_events.proofs.Invariant.Controllers.{controllers_count}
 use Rattle.dali_events.specs.declared.trouble.Trouble.{Trouble}
 use Rattle.dali_standing.specs.declared.report.Report.{Report}
 use Rattle.dali_standing.specs.declared.report.Report.TheVariants as report
-use Rattle.dali_world.specs.Site.{SiteState, is_step_of, share_of, site_logged, Pumps}
+use Rattle.dali_world.specs.Site.{SiteState, is_step_of, share_of, site_logged, Logs, Pumps}
 use Rattle.dali_line.specs.Shares.{Tally, total_of, count_at, raised, raised_driver}
 use Rattle.dali_line.specs.Counts.{is_other, others_of, counts_of}
 use Rattle.dali_line.specs.Found.{events_in}
@@ -76,11 +76,16 @@ step_counted old new t t' e c d exact raised_is same there own step logged =
     raised_is ∙ ap (raised t) (sym same) ∙ ap (λ (x : Tally). raised x c) exact ∙ counts_step old.log e c there own step
     ∙ sym (ap (λ (s : SiteState). counts_of s.log) logged)
 
-pub other_counted : (old new : SiteState) (t t' : Tally) (e : Event) → t ≡ counts_of old.log → t' ≡ raised_driver t → is_other e ≡ true
-    → ((x : ℕ) → is_step_of x e ≡ false) → new ≡ site_logged old e
+-- an event that is no controller's step
+nobodys : (e : Event) → is_other e ≡ true → (c : ℕ) → is_step_of c e ≡ false
+nobodys (event.Acted d i o) other c = absurd (cc)
+nobodys (event.Offered d f) other c = absurd (cc)
+nobodys _ other c = refl
+
+pub other_counted : (old new : SiteState) (t t' : Tally) (e : Event) → t ≡ counts_of old.log → t' ≡ raised_driver t → is_other e ≡ true → Logs old e new
     → t' ≡ counts_of new.log
-other_counted old new t t' e exact raised_is other step logged =
-    raised_is ∙ ap raised_driver exact ∙ counts_other old.log e other step ∙ sym (ap (λ (s : SiteState). counts_of s.log) logged)
+other_counted old new t t' e exact raised_is other logs =
+    raised_is ∙ ap raised_driver exact ∙ counts_other old.log e other (nobodys e other) ∙ sym (ap (λ (s : SiteState). counts_of s.log) logs.logged)
 
 -- ---------------------------------------------------------------- no event is of a stranger
 
@@ -142,11 +147,11 @@ pub pump_counted : (old new : SiteState) (t t' : Tally) (trouble : Trouble) (r :
     → Pumps old trouble r new → (r ≡ report.Idle → ⊥) → t' ≡ counts_of new.log
 pump_counted old new t t' trouble report.Idle exact raised_is pumps some = absurd (some refl)
 pump_counted old new t t' trouble (report.Sent c f h) exact raised_is pumps some =
-    other_counted old new t t' (event.Sent c f h) exact raised_is refl (λ x. refl) pumps.3.4.logged
+    other_counted old new t t' (event.Sent c f h) exact raised_is refl pumps.3.4
 pump_counted old new t t' trouble (report.Destroyed c f) exact raised_is pumps some =
-    other_counted old new t t' (event.Destroyed c f pumps.3.2.0) exact raised_is refl (λ x. refl) pumps.3.2.2.logged
+    other_counted old new t t' (event.Destroyed c f pumps.3.2.0) exact raised_is refl pumps.3.2.2
 pump_counted old new t t' trouble (report.Collided c f d g) exact raised_is pumps some =
-    other_counted old new t t' (event.Collided c f d g) exact raised_is refl (λ x. refl) pumps.3.4.logged
+    other_counted old new t t' (event.Collided c f d g) exact raised_is refl pumps.3.4
 
 -- ---------------------------------------------------------------- a controller that is not there
 

@@ -29,6 +29,7 @@ mod bus;
 mod commits;
 mod committing;
 mod count;
+mod counted;
 mod driver;
 mod gate;
 mod ledgers;

@@ -11,6 +11,7 @@ ghost use Rattle.dali_line.specs.Found.{events_in};
 ghost use Rattle.dali_line.specs.Calls.{Offers, PumpsOnce, Lapses, FallsQuiet, Powers, Expires, GoesDown, ComesUp};
 
 use crate::count::{others, steps};
+use crate::counted::CountedSite;
 use crate::driver::Driver;
 use crate::ledgers::{Ledgers, Numbered};
 use crate::locked::Locked;
@@ -82,7 +83,7 @@ impl<L: Ledgers> Line<L> {
             driver,
         };
         let line = Line {
-            locked: Mutex::new(Locked::new(site, tally)),
+            locked: Mutex::new(Locked::new(CountedSite::new(site, tally))),
             moved: Condvar::new(),
         };
         (line, ports(count, one, two, three, four), Driver::of(own))
@@ -102,7 +103,8 @@ impl<L: Ledgers> Line<L> {
         ensures missing { IfErr result (λ s. IsGivenBack s ports.items driver × (ports.items ≡ shares_of s → ⊥)) }
     {
         let Line { locked, moved: _ } = self;
-        let (site, has_all) = locked.into_inner().close(ports, driver);
+        let Locked { counted, .. } = locked.into_inner();
+        let (site, has_all) = counted.close(ports, driver);
         if has_all { Ok(site) } else { Err(site) }
     }
 
@@ -127,7 +129,7 @@ impl<L: Ledgers> Line<L> {
         ensures receipt { IfOk result (λ r. (r.controller ≡ port.old.controller) × (r.input ≡ input)
             × (r.number ≡ port.new.share)) }
     {
-        self.change(rt).locked.act(port, input)
+        self.change(rt).locked.counted.act(port, input)
     }
 
     /// The port's controller asks to send a frame of direct arc power, as `SiteState::arc` says.
@@ -139,7 +141,7 @@ impl<L: Ledgers> Line<L> {
         ensures accepted { OnOk result (port.new ≡ raised_share port.old) }
         ensures refused { OnErr result (port.new ≡ port.old) }
     {
-        self.change(rt).locked.arc(port, frame)
+        self.change(rt).locked.counted.arc(port, frame)
     }
 
     /// What the bus has told the port's controller, and it has not acted on, as `SiteState::next` says; None of a spare
@@ -149,7 +151,9 @@ impl<L: Ledgers> Line<L> {
             (λ s. result ≡ (controller_at (world s) port.old.controller).told) }
         ensures same { port.new ≡ port.old }
     {
-        self.locked.lock(rt).next(port)
+        let mut locked = self.locked.lock(rt);
+        locked.counted.audit(port);
+        locked.counted.told(port.controller())
     }
 
     /// What is due for the port's controller, as `SiteState::due` says; Nothing for a spare port.
@@ -158,7 +162,9 @@ impl<L: Ledgers> Line<L> {
             (λ s. result ≡ due_of (controller_at (world s) port.old.controller)) }
         ensures same { port.new ≡ port.old }
     {
-        self.locked.lock(rt).due(port)
+        let mut locked = self.locked.lock(rt);
+        locked.counted.audit(port);
+        locked.counted.due_for(port.controller())
     }
 
     /// Waits until something is due for the port's controller (true); or the line is stopped, or the controller is
@@ -175,7 +181,8 @@ impl<L: Ledgers> Line<L> {
         let mut locked = self
             .moved
             .wait_while(rt, self.locked.lock(rt), |l| !l.wakes(controller));
-        locked.waits(port)
+        locked.counted.audit(port);
+        !locked.is_stopped() && locked.counted.has_due(controller)
     }
 
     /// The port's holder begins the commit that is due, as `SiteState::ordered` says: of the record that is answered.
@@ -189,7 +196,9 @@ impl<L: Ledgers> Line<L> {
             (λ s. result ≡ record_ordered (controller_at (world s) port.old.controller).last) }
         ensures same { port.new ≡ port.old }
     {
-        self.locked.lock(rt).begin_commit(port)
+        let mut locked = self.locked.lock(rt);
+        locked.counted.audit(port);
+        locked.counted.begin_commit(port.controller())
     }
 
     /// The port's holder makes no commit any more. It tells whether it has made one whose outcome it could not tell:
@@ -199,7 +208,7 @@ impl<L: Ledgers> Line<L> {
     pub fn end_commit<R: Wait>(&self, rt: &R, port: &mut Port<L>, is_made: bool)
         ensures { port.new ≡ port.old }
     {
-        self.locked.lock(rt).end_commit(port, is_made);
+        self.locked.lock(rt).counted.end_commit(port, is_made);
     }
 
     /// Waits until the port's controller is not refused for want of room: until a request more may wait, or the
@@ -215,7 +224,8 @@ impl<L: Ledgers> Line<L> {
             self.locked.lock(rt),
             |l| !l.wakes_for_room(controller),
         );
-        locked.has_room(port)
+        locked.counted.audit(port);
+        !locked.is_stopped() && locked.counted.may_offer(controller)
     }
 
     /// The request that is next comes on the bus, as `SiteState::pump` says.
@@ -232,7 +242,7 @@ impl<L: Ledgers> Line<L> {
         ensures accepted { IfOk result (λ r. driver.new ≡ driver.old + events_in r) }
         ensures refused { OnErr result (driver.new ≡ driver.old) }
     {
-        self.change(rt).locked.pump(driver, trouble)
+        self.change(rt).locked.counted.pump(driver, trouble)
     }
 
     /// The owner loses the bus, as `SiteState::lapse` says. Answers who it was, if anybody.
@@ -243,7 +253,7 @@ impl<L: Ledgers> Line<L> {
         ensures accepted { OnOk result (driver.new ≡ driver.old + 1) }
         ensures refused { OnErr result (driver.new ≡ driver.old) }
     {
-        self.change(rt).locked.lapse(driver)
+        self.change(rt).locked.counted.lapse(driver)
     }
 
     /// The bus is quiet for so long that half of a send-twice pair is forgotten.
@@ -254,7 +264,7 @@ impl<L: Ledgers> Line<L> {
         ensures accepted { OnOk result (driver.new ≡ driver.old + 1) }
         ensures refused { OnErr result (driver.new ≡ driver.old) }
     {
-        self.locked.lock(rt).quiet(driver)
+        self.locked.lock(rt).counted.quiet(driver)
     }
 
     /// The power of gear `number`, 0 to 127, comes (true) or goes.
@@ -271,7 +281,7 @@ impl<L: Ledgers> Line<L> {
         ensures accepted { OnOk result (driver.new ≡ driver.old + 1) }
         ensures refused { OnErr result (driver.new ≡ driver.old) }
     {
-        self.locked.lock(rt).power(driver, number, on)
+        self.locked.lock(rt).counted.power(driver, number, on)
     }
 
     /// The 15 minutes of the initialisation of gear `number`, 0 to 127, are over.
@@ -287,7 +297,7 @@ impl<L: Ledgers> Line<L> {
         ensures accepted { OnOk result (driver.new ≡ driver.old + 1) }
         ensures refused { OnErr result (driver.new ≡ driver.old) }
     {
-        self.locked.lock(rt).expire(driver, number)
+        self.locked.lock(rt).counted.expire(driver, number)
     }
 
     /// Controller `c`, 0 to 3, goes down, as `SiteState::down` says.
@@ -298,7 +308,7 @@ impl<L: Ledgers> Line<L> {
         ensures accepted { OnOk result (driver.new ≡ driver.old + 1) }
         ensures refused { OnErr result (driver.new ≡ driver.old) }
     {
-        self.change(rt).locked.down(driver, c)
+        self.change(rt).locked.counted.down(driver, c)
     }
 
     /// Controller `c`, 0 to 3, comes up with a copy of its records: those that the site under the lock remembers, or
@@ -317,7 +327,7 @@ impl<L: Ledgers> Line<L> {
         ensures accepted { OnOk result (driver.new ≡ driver.old + 1) }
         ensures refused { OnErr result (driver.new ≡ driver.old) }
     {
-        self.change(rt).locked.up(driver, c, copy)
+        self.change(rt).locked.counted.up(driver, c, copy)
     }
 
     /// Waits until there is something to say to the driver: the line is stopped, a request is next, nothing can be sent
@@ -331,7 +341,8 @@ impl<L: Ledgers> Line<L> {
         let mut locked = self
             .moved
             .wait_while(rt, self.locked.lock(rt), |l| !l.wakes_driver());
-        locked.ready(driver).unwrap()
+        locked.counted.audit_driver(driver);
+        locked.may_do().unwrap()
     }
 
     /// The line is stopped, for good: who waits now or later is told so. Its other calls go on as before.

@@ -1,6 +1,6 @@
 use Rattle.std.proofs.Common.{rules}
 use Rattle.dali_line.proofs.Counts.{pump_counted}
-use Rattle.dali_line.proofs.locked.Locked.pump.Goals as goal
+use Rattle.dali_line.proofs.counted.CountedSite.pump.Goals as goal
 
 pub invariant_of-self-then-ne : goal.invariant_of-self-then-ne
 invariant_of-self-then-ne g c =

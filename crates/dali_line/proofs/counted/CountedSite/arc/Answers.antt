@@ -1,7 +1,7 @@
 use Rattle.std.proofs.Common.{◌<◌, refl, arith}
 use Rattle.dali_events.specs.declared.event.Event.TheVariants as event
 use Rattle.dali_line.proofs.Counts.{step_counted}
-use Rattle.dali_line.proofs.locked.Locked.arc.Goals as goal
+use Rattle.dali_line.proofs.counted.CountedSite.arc.Goals as goal
 
 pub raise-requires : goal.raise-requires
 raise-requires g c =

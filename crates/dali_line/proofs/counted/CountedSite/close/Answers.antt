@@ -4,7 +4,7 @@ use Rattle.dali_world.specs.Site.{SiteState}
 use Rattle.dali_line.specs.Shares.{PortShare}
 use Rattle.dali_line.specs.Counts.{AreInOrder}
 use Rattle.dali_line.proofs.Closing.{IsExact, one_back, all_back, all_there}
-use Rattle.dali_line.proofs.locked.Locked.close.Goals as goal
+use Rattle.dali_line.proofs.counted.CountedSite.close.Goals as goal
 
 pub loop-port-preserved : goal.loop-port-preserved
 loop-port-preserved g c =
@@ -26,4 +26,4 @@ returns-clause-all g c =
     let given = subst (λ (ps : List PortShare). IsTrue whole ↔ ((length ps ≡ length c.audit_driver.new.self.site.plan.blocks) × AreInOrder ps))
     c.as_slice.ensures.value c.has_all-has_all.ensures.all in
     let found = subst (λ (s : SiteState). IsTrue whole ↔ ((length items ≡ length s.plan.blocks) × AreInOrder items)) same given in
-    all_there c.loop-port.locked.site items whole few (returns-clause-ports g c) found
+    all_there c.loop-port.counted.site items whole few (returns-clause-ports g c) found

@@ -1,7 +1,7 @@
 use Rattle.std.proofs.Common.{refl}
 use Rattle.dali_events.specs.declared.event.Event.TheVariants as event
 use Rattle.dali_line.proofs.Counts.{step_counted}
-use Rattle.dali_line.proofs.locked.Locked.act.Goals as goal
+use Rattle.dali_line.proofs.counted.CountedSite.act.Goals as goal
 
 pub invariant_of-self-2 : goal.invariant_of-self-2
 invariant_of-self-2 g c =

@@ -2,7 +2,7 @@ use Rattle.std.proofs.Common.{◌∙◌, ◌≤◌, sym, ap, subst, length}
 use Rattle.dali_events.specs.Plan.{Plan}
 use Rattle.dali_line.specs.Shares.{Tally}
 use Rattle.dali_line.proofs.Counts.{whole}
-use Rattle.dali_line.proofs.locked.Locked.audit_driver.Goals as goal
+use Rattle.dali_line.proofs.counted.CountedSite.audit_driver.Goals as goal
 
 pub returns-clause-found : goal.returns-clause-found
 returns-clause-found g c = record {

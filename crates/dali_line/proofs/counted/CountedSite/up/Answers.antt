@@ -5,12 +5,12 @@ use Rattle.dali_world.specs.Site.{SiteState, world}
 use Rattle.dali_line.specs.Commits.{state_of, MayComeUp}
 use Rattle.dali_line.specs.declared.commits.CommitState.{CommitState}
 use Rattle.dali_line.proofs.Counts.{other_counted}
-use Rattle.dali_line.proofs.locked.Locked.up.Goals as goal
+use Rattle.dali_line.proofs.counted.CountedSite.up.Goals as goal
 
 pub invariant_of-self : goal.invariant_of-self
 invariant_of-self g c = record {
   exact = other_counted _ _ _ _ (event.Up c.args.c c.in-Ok.ensures.up.0)
-      c.audit_driver.new.self.exact c.raise_driver.ensures.tally refl (λ d. refl) c.in-Ok.ensures.up.2.logged;
+      c.audit_driver.new.self.exact c.raise_driver.ensures.tally refl c.in-Ok.ensures.up.2;
 }
 
 pub returns-in-Ok-clause-settled : goal.returns-in-Ok-clause-settled
