@@ -374,13 +374,15 @@ impl<L: Ledgers> CountedSite<L> {
         self.site.owner().is_none() && self.have_ended()
     }
 
-    /// A port goes. Its share was how many events of the log are its controller's steps.
-    fn take_back(&mut self, port: Port<L>)
-        ensures share { share_of port.controller self.old.site.log ≡ port.share }
+    /// Says of each port what its holder knows of the site. It changes nothing.
+    fn audit_all(&mut self, ports: &mut [Port<L>])
+        ensures exact { All (λ one. share_of one.controller self.old.site.log ≡ one.share) ports.old }
+        ensures ports { ports.new ≡ ports.old }
         ensures site { self.new.site ≡ self.old.site }
     {
-        let mut port = port;
-        self.audit(&mut port);
+        for place in 0..ports.len() {
+            self.audit(&mut ports[place]);
+        }
     }
 
     /// The site, of which each share is what its log has, and whether there is a port for each of its controllers, in
@@ -398,10 +400,9 @@ impl<L: Ledgers> CountedSite<L> {
         let mut driver = driver;
         let mut ports = ports;
         counted.audit_driver(&mut driver);
-        let has_all = counted.has_all(ports.as_slice());
-        while let Some(port) = ports.pop() {
-            counted.take_back(port);
-        }
+        let ports = ports.as_mut_slice();
+        counted.audit_all(ports);
+        let has_all = counted.has_all(ports);
         let CountedSite { site, .. } = counted;
         (site, has_all)
     }
