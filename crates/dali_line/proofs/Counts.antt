@@ -15,7 +15,7 @@ use Rattle.dali_events.proofs.Invariant.Controllers.{controllers_count}
 use Rattle.dali_events.specs.declared.trouble.Trouble.{Trouble}
 use Rattle.dali_standing.specs.declared.report.Report.{Report}
 use Rattle.dali_standing.specs.declared.report.Report.TheVariants as report
-use Rattle.dali_world.specs.Site.{SiteState, share_of, site_logged, Pumps}
+use Rattle.dali_world.specs.Site.{SiteState, share_of, site_logged, Logs, Pumps}
 use Rattle.dali_line.specs.Shares.{Tally, total_of, count_at, raised, raised_driver}
 use Rattle.dali_line.specs.Counts.{others_of, counts_of}
 use Rattle.dali_line.specs.Found.{events_in}
@@ -80,10 +80,10 @@ step_counted old new t t' e c d exact raised_is same there step logged =
     raised_is ∙ ap (raised t) (sym same) ∙ ap (λ (x : Tally). raised x c) exact ∙ counts_step old.log e c there step
     ∙ sym (ap (λ (s : SiteState). counts_of s.log) logged)
 
-pub other_counted : (old new : SiteState) (t t' : Tally) (e : Event) → t ≡ counts_of old.log → t' ≡ raised_driver t → whose_step e ≡ None
-    → new ≡ site_logged old e → t' ≡ counts_of new.log
-other_counted old new t t' e exact raised_is nobodys logged =
-    raised_is ∙ ap raised_driver exact ∙ counts_other old.log e nobodys ∙ sym (ap (λ (s : SiteState). counts_of s.log) logged)
+pub other_counted : (old new : SiteState) (t t' : Tally) (e : Event) → t ≡ counts_of old.log → t' ≡ raised_driver t → whose_step e ≡ None → Logs old e new
+    → t' ≡ counts_of new.log
+other_counted old new t t' e exact raised_is nobodys logs =
+    raised_is ∙ ap raised_driver exact ∙ counts_other old.log e nobodys ∙ sym (ap (λ (s : SiteState). counts_of s.log) logs.logged)
 
 -- ---------------------------------------------------------------- no event is of a stranger
 
@@ -145,11 +145,11 @@ pub pump_counted : (old new : SiteState) (t t' : Tally) (trouble : Trouble) (r :
     → Pumps old trouble r new → (r ≡ report.Idle → ⊥) → t' ≡ counts_of new.log
 pump_counted old new t t' trouble report.Idle exact raised_is pumps some = absurd (some refl)
 pump_counted old new t t' trouble (report.Sent c f h) exact raised_is pumps some =
-    other_counted old new t t' (event.Sent c f h) exact raised_is refl pumps.3.4.logged
+    other_counted old new t t' (event.Sent c f h) exact raised_is refl pumps.3.4
 pump_counted old new t t' trouble (report.Destroyed c f) exact raised_is pumps some =
-    other_counted old new t t' (event.Destroyed c f pumps.3.2.0) exact raised_is refl pumps.3.2.2.logged
+    other_counted old new t t' (event.Destroyed c f pumps.3.2.0) exact raised_is refl pumps.3.2.2
 pump_counted old new t t' trouble (report.Collided c f d g) exact raised_is pumps some =
-    other_counted old new t t' (event.Collided c f d g) exact raised_is refl pumps.3.4.logged
+    other_counted old new t t' (event.Collided c f d g) exact raised_is refl pumps.3.4
 
 -- ---------------------------------------------------------------- a controller that is not there
 

@@ -11,7 +11,9 @@ ghost use Rattle.dali_line.specs.Found.{events_in};
 ghost use Rattle.dali_line.specs.Calls.{Offers, PumpsOnce, Lapses, FallsQuiet, Powers, Expires, GoesDown, ComesUp};
 
 use crate::count::{others, steps};
+use crate::counted::CountedSite;
 use crate::driver::Driver;
+use crate::ledgers::{Ledgers, Numbered};
 use crate::locked::Locked;
 use crate::own::Own;
 use crate::port::{Kind, Port};
@@ -22,7 +24,7 @@ use arrayvec::ArrayVec;
 use dali_frame::Forward;
 use dali_script::{Due, Input, Kept, Record};
 use dali_world::{Receipt, Refusal, Report, SiteState, Trouble};
-use std::sync::ledger::{Blank, Ledger};
+use std::sync::ledger::Blank;
 use std::sync::{Condvar, Mutex, MutexGuard, Wait};
 
 /// A site under a lock, which threads share by reference.
@@ -38,12 +40,12 @@ use std::sync::{Condvar, Mutex, MutexGuard, Wait};
 /// A line in use: a `Worker` for each port and a `Pumper` for the driver, each in a thread of its own. A call that
 /// waits (`wait`, `wait_for_room`, `ready`) sleeps; nothing promises that it ends.
 #[derive(Drop)]
-pub struct Line<P0: Ledger, P1: Ledger, P2: Ledger, P3: Ledger, D: Ledger> {
-    locked: Mutex<Locked<P0, P1, P2, P3, D>>,
+pub struct Line<L: Ledgers> {
+    locked: Mutex<Locked<L>>,
     moved: Condvar,
 }
 
-impl<P0: Ledger, P1: Ledger, P2: Ledger, P3: Ledger, D: Ledger> Line<P0, P1, P2, P3, D> {
+impl<L: Ledgers> Line<L> {
     /// A line round this site, with a port for each of its controllers, in order of their numbers, and the driver.
     ///
     /// The shares begin at what the site's log has. It takes no memory.
@@ -54,16 +56,12 @@ impl<P0: Ledger, P1: Ledger, P2: Ledger, P3: Ledger, D: Ledger> Line<P0, P1, P2,
         third: Blank,
         fourth: Blank,
         driver: Blank,
-    ) -> (
-        Line<P0, P1, P2, P3, D>,
-        ArrayVec<Port<P0, P1, P2, P3, D>, 4>,
-        Driver<P0, P1, P2, P3, D>,
-    )
-        requires first { (first.name ≡ P0.name) × (first.parts ≡ P0.parts) × (0 < P0.parts) }
-        requires second { (second.name ≡ P1.name) × (second.parts ≡ P1.parts) × (0 < P1.parts) }
-        requires third { (third.name ≡ P2.name) × (third.parts ≡ P2.parts) × (0 < P2.parts) }
-        requires fourth { (fourth.name ≡ P3.name) × (fourth.parts ≡ P3.parts) × (0 < P3.parts) }
-        requires driver { (driver.name ≡ D.name) × (driver.parts ≡ D.parts) × (0 < D.parts) }
+    ) -> (Line<L>, ArrayVec<Port<L>, 4>, Driver<L>)
+        requires first { (first.name ≡ L.name 0) × (first.parts ≡ L.parts 0) × (0 < L.parts 0) }
+        requires second { (second.name ≡ L.name 1) × (second.parts ≡ L.parts 1) × (0 < L.parts 1) }
+        requires third { (third.name ≡ L.name 2) × (third.parts ≡ L.parts 2) × (0 < L.parts 2) }
+        requires fourth { (fourth.name ≡ L.name 3) × (fourth.parts ≡ L.parts 3) × (0 < L.parts 3) }
+        requires driver { (driver.name ≡ L.name 4) × (driver.parts ≡ L.parts 4) × (0 < L.parts 4) }
         ensures ports { result.1.items ≡ shares_of site }
         ensures driver { result.2 ≡ others_of site.log }
         ensures promise { KeepsPromise site.plan site.queue site.log }
@@ -85,7 +83,7 @@ impl<P0: Ledger, P1: Ledger, P2: Ledger, P3: Ledger, D: Ledger> Line<P0, P1, P2,
             driver,
         };
         let line = Line {
-            locked: Mutex::new(Locked::new(site, tally)),
+            locked: Mutex::new(Locked::new(CountedSite::new(site, tally))),
             moved: Condvar::new(),
         };
         (line, ports(count, one, two, three, four), Driver::of(own))
@@ -98,19 +96,20 @@ impl<P0: Ledger, P1: Ledger, P2: Ledger, P3: Ledger, D: Ledger> Line<P0, P1, P2,
     /// how many are nobody's. Each event is in one of the shares of all controllers and the driver, and in one alone.
     pub fn close(
         self,
-        ports: ArrayVec<Port<P0, P1, P2, P3, D>, 4>,
-        driver: Driver<P0, P1, P2, P3, D>,
+        ports: ArrayVec<Port<L>, 4>,
+        driver: Driver<L>,
     ) -> Result<SiteState, SiteState>
         ensures all { IfOk result (λ s. IsGivenBack s ports.items driver × (ports.items ≡ shares_of s)) }
         ensures missing { IfErr result (λ s. IsGivenBack s ports.items driver × (ports.items ≡ shares_of s → ⊥)) }
     {
         let Line { locked, moved: _ } = self;
-        let (site, has_all) = locked.into_inner().close(ports, driver);
+        let Locked { counted, .. } = locked.into_inner();
+        let (site, has_all) = counted.close(ports, driver);
         if has_all { Ok(site) } else { Err(site) }
     }
 
     /// The lock, for a call that may end a wait.
-    fn change<R: Wait>(&self, rt: &R) -> Change<'_, Locked<P0, P1, P2, P3, D>> {
+    fn change<R: Wait>(&self, rt: &R) -> Change<'_, Locked<L>> {
         Change {
             locked: self.locked.lock(rt),
             moved: &self.moved,
@@ -122,12 +121,7 @@ impl<P0: Ledger, P1: Ledger, P2: Ledger, P3: Ledger, D: Ledger> Line<P0, P1, P2,
     ///
     /// Refusals, in this order: 1 UnknownController, 2 ControllerDown, 3 NotDue, 7 QueueFull, 8 LogFull,
     /// 10 AddressInUse.
-    pub fn act<R: Wait>(
-        &self,
-        rt: &R,
-        port: &mut Port<P0, P1, P2, P3, D>,
-        input: Input,
-    ) -> Result<Receipt, Refusal>
+    pub fn act<R: Wait>(&self, rt: &R, port: &mut Port<L>, input: Input) -> Result<Receipt, Refusal>
         ensures answer { FromPort port.old
             (λ s. (new : SiteState) × Acts s port.old.controller input result new) }
         ensures accepted { OnOk result (port.new ≡ raised_share port.old) }
@@ -135,43 +129,42 @@ impl<P0: Ledger, P1: Ledger, P2: Ledger, P3: Ledger, D: Ledger> Line<P0, P1, P2,
         ensures receipt { IfOk result (λ r. (r.controller ≡ port.old.controller) × (r.input ≡ input)
             × (r.number ≡ port.new.share)) }
     {
-        self.change(rt).locked.act(port, input)
+        self.change(rt).locked.counted.act(port, input)
     }
 
     /// The port's controller asks to send a frame of direct arc power, as `SiteState::arc` says.
     ///
     /// Refusals, in this order: 1 UnknownController, 2 ControllerDown, 4 NotArc, 7 QueueFull, 8 LogFull.
-    pub fn arc<R: Wait>(
-        &self,
-        rt: &R,
-        port: &mut Port<P0, P1, P2, P3, D>,
-        frame: Forward,
-    ) -> Result<(), Refusal>
+    pub fn arc<R: Wait>(&self, rt: &R, port: &mut Port<L>, frame: Forward) -> Result<(), Refusal>
         ensures answer { FromPort port.old
             (λ s. (new : SiteState) × Offers s port.old.controller frame result new) }
         ensures accepted { OnOk result (port.new ≡ raised_share port.old) }
         ensures refused { OnErr result (port.new ≡ port.old) }
     {
-        self.change(rt).locked.arc(port, frame)
+        self.change(rt).locked.counted.arc(port, frame)
     }
 
     /// What the bus has told the port's controller, and it has not acted on, as `SiteState::next` says; None of a spare
     /// port.
-    pub fn next<R: Wait>(&self, rt: &R, port: &mut Port<P0, P1, P2, P3, D>) -> Option<Input>
+    pub fn next<R: Wait>(&self, rt: &R, port: &mut Port<L>) -> Option<Input>
         ensures answer { FromPort port.old
             (λ s. result ≡ (controller_at (world s) port.old.controller).told) }
         ensures same { port.new ≡ port.old }
     {
-        self.locked.lock(rt).next(port)
+        let mut locked = self.locked.lock(rt);
+        locked.counted.audit(port);
+        locked.counted.told(port.controller())
     }
 
     /// What is due for the port's controller, as `SiteState::due` says; Nothing for a spare port.
-    pub fn due<R: Wait>(&self, rt: &R, port: &mut Port<P0, P1, P2, P3, D>) -> Due
+    pub fn due<R: Wait>(&self, rt: &R, port: &mut Port<L>) -> Due
         ensures answer { FromPort port.old
             (λ s. result ≡ due_of (controller_at (world s) port.old.controller)) }
         ensures same { port.new ≡ port.old }
     {
-        self.locked.lock(rt).due(port)
+        let mut locked = self.locked.lock(rt);
+        locked.counted.audit(port);
+        locked.counted.due_for(port.controller())
     }
 
     /// Waits until something is due for the port's controller (true); or the line is stopped, or the controller is
@@ -179,7 +172,7 @@ impl<P0: Ledger, P1: Ledger, P2: Ledger, P3: Ledger, D: Ledger> Line<P0, P1, P2,
     ///
     /// Something is due where `next` says something, or where `due` is Store. It may wait forever, as with a port whose
     /// controller has ended.
-    pub fn wait<R: Wait>(&self, rt: &R, port: &mut Port<P0, P1, P2, P3, D>) -> bool
+    pub fn wait<R: Wait>(&self, rt: &R, port: &mut Port<L>) -> bool
         ensures answer { FromPort port.old
             (λ s. (stopped : Bool) × EndsWait stopped s port.old.controller result) }
         ensures same { port.new ≡ port.old }
@@ -188,7 +181,8 @@ impl<P0: Ledger, P1: Ledger, P2: Ledger, P3: Ledger, D: Ledger> Line<P0, P1, P2,
         let mut locked = self
             .moved
             .wait_while(rt, self.locked.lock(rt), |l| !l.wakes(controller));
-        locked.waits(port)
+        locked.counted.audit(port);
+        !locked.is_stopped() && locked.counted.has_due(controller)
     }
 
     /// The port's holder begins the commit that is due, as `SiteState::ordered` says: of the record that is answered.
@@ -197,31 +191,29 @@ impl<P0: Ledger, P1: Ledger, P2: Ledger, P3: Ledger, D: Ledger> Line<P0, P1, P2,
     /// From now on `up` of this controller is refused with CommitOpen, until an `act` with this port is accepted, as
     /// the one that tells the outcome, or until `end_commit`. So the store has what it will have before anybody goes on
     /// from it. It may be called again, as by a new holder of the port.
-    pub fn begin_commit<R: Wait>(
-        &self,
-        rt: &R,
-        port: &mut Port<P0, P1, P2, P3, D>,
-    ) -> Option<Record>
+    pub fn begin_commit<R: Wait>(&self, rt: &R, port: &mut Port<L>) -> Option<Record>
         ensures answer { FromPort port.old
             (λ s. result ≡ record_ordered (controller_at (world s) port.old.controller).last) }
         ensures same { port.new ≡ port.old }
     {
-        self.locked.lock(rt).begin_commit(port)
+        let mut locked = self.locked.lock(rt);
+        locked.counted.audit(port);
+        locked.counted.begin_commit(port.controller())
     }
 
     /// The port's holder makes no commit any more. It tells whether it has made one whose outcome it could not tell:
     /// then `up` of this controller wants records with that one, and else those with it or without it.
     ///
     /// Where the holder has begun none, or has told the outcome, this does nothing.
-    pub fn end_commit<R: Wait>(&self, rt: &R, port: &mut Port<P0, P1, P2, P3, D>, is_made: bool)
+    pub fn end_commit<R: Wait>(&self, rt: &R, port: &mut Port<L>, is_made: bool)
         ensures { port.new ≡ port.old }
     {
-        self.locked.lock(rt).end_commit(port, is_made);
+        self.locked.lock(rt).counted.end_commit(port, is_made);
     }
 
     /// Waits until the port's controller is not refused for want of room: until a request more may wait, or the
     /// controller is down (true); or until the line is stopped (false).
-    pub fn wait_for_room<R: Wait>(&self, rt: &R, port: &mut Port<P0, P1, P2, P3, D>) -> bool
+    pub fn wait_for_room<R: Wait>(&self, rt: &R, port: &mut Port<L>) -> bool
         ensures answer { FromPort port.old
             (λ s. (stopped : Bool) × EndsWaitForRoom stopped s port.old.controller result) }
         ensures same { port.new ≡ port.old }
@@ -232,7 +224,8 @@ impl<P0: Ledger, P1: Ledger, P2: Ledger, P3: Ledger, D: Ledger> Line<P0, P1, P2,
             self.locked.lock(rt),
             |l| !l.wakes_for_room(controller),
         );
-        locked.has_room(port)
+        locked.counted.audit(port);
+        !locked.is_stopped() && locked.counted.may_offer(controller)
     }
 
     /// The request that is next comes on the bus, as `SiteState::pump` says.
@@ -241,7 +234,7 @@ impl<P0: Ledger, P1: Ledger, P2: Ledger, P3: Ledger, D: Ledger> Line<P0, P1, P2,
     pub fn pump<R: Wait>(
         &self,
         rt: &R,
-        driver: &mut Driver<P0, P1, P2, P3, D>,
+        driver: &mut Driver<L>,
         trouble: Trouble,
     ) -> Result<Report, Refusal>
         ensures answer { FromDriver driver.old
@@ -249,37 +242,29 @@ impl<P0: Ledger, P1: Ledger, P2: Ledger, P3: Ledger, D: Ledger> Line<P0, P1, P2,
         ensures accepted { IfOk result (λ r. driver.new ≡ driver.old + events_in r) }
         ensures refused { OnErr result (driver.new ≡ driver.old) }
     {
-        self.change(rt).locked.pump(driver, trouble)
+        self.change(rt).locked.counted.pump(driver, trouble)
     }
 
     /// The owner loses the bus, as `SiteState::lapse` says. Answers who it was, if anybody.
     ///
     /// Refusal: 8 LogFull.
-    pub fn lapse<R: Wait>(
-        &self,
-        rt: &R,
-        driver: &mut Driver<P0, P1, P2, P3, D>,
-    ) -> Result<Option<u8>, Refusal>
+    pub fn lapse<R: Wait>(&self, rt: &R, driver: &mut Driver<L>) -> Result<Option<u8>, Refusal>
         ensures answer { FromDriver driver.old (λ s. (new : SiteState) × Lapses s result new) }
         ensures accepted { OnOk result (driver.new ≡ driver.old + 1) }
         ensures refused { OnErr result (driver.new ≡ driver.old) }
     {
-        self.change(rt).locked.lapse(driver)
+        self.change(rt).locked.counted.lapse(driver)
     }
 
     /// The bus is quiet for so long that half of a send-twice pair is forgotten.
     ///
     /// Refusal: 8 LogFull.
-    pub fn quiet<R: Wait>(
-        &self,
-        rt: &R,
-        driver: &mut Driver<P0, P1, P2, P3, D>,
-    ) -> Result<(), Refusal>
+    pub fn quiet<R: Wait>(&self, rt: &R, driver: &mut Driver<L>) -> Result<(), Refusal>
         ensures answer { FromDriver driver.old (λ s. (new : SiteState) × FallsQuiet s result new) }
         ensures accepted { OnOk result (driver.new ≡ driver.old + 1) }
         ensures refused { OnErr result (driver.new ≡ driver.old) }
     {
-        self.locked.lock(rt).quiet(driver)
+        self.locked.lock(rt).counted.quiet(driver)
     }
 
     /// The power of gear `number`, 0 to 127, comes (true) or goes.
@@ -288,7 +273,7 @@ impl<P0: Ledger, P1: Ledger, P2: Ledger, P3: Ledger, D: Ledger> Line<P0, P1, P2,
     pub fn power<R: Wait>(
         &self,
         rt: &R,
-        driver: &mut Driver<P0, P1, P2, P3, D>,
+        driver: &mut Driver<L>,
         number: u32,
         on: bool,
     ) -> Result<(), Refusal>
@@ -296,7 +281,7 @@ impl<P0: Ledger, P1: Ledger, P2: Ledger, P3: Ledger, D: Ledger> Line<P0, P1, P2,
         ensures accepted { OnOk result (driver.new ≡ driver.old + 1) }
         ensures refused { OnErr result (driver.new ≡ driver.old) }
     {
-        self.locked.lock(rt).power(driver, number, on)
+        self.locked.lock(rt).counted.power(driver, number, on)
     }
 
     /// The 15 minutes of the initialisation of gear `number`, 0 to 127, are over.
@@ -305,30 +290,25 @@ impl<P0: Ledger, P1: Ledger, P2: Ledger, P3: Ledger, D: Ledger> Line<P0, P1, P2,
     pub fn expire<R: Wait>(
         &self,
         rt: &R,
-        driver: &mut Driver<P0, P1, P2, P3, D>,
+        driver: &mut Driver<L>,
         number: u32,
     ) -> Result<(), Refusal>
         ensures answer { FromDriver driver.old (λ s. (new : SiteState) × Expires s number result new) }
         ensures accepted { OnOk result (driver.new ≡ driver.old + 1) }
         ensures refused { OnErr result (driver.new ≡ driver.old) }
     {
-        self.locked.lock(rt).expire(driver, number)
+        self.locked.lock(rt).counted.expire(driver, number)
     }
 
     /// Controller `c`, 0 to 3, goes down, as `SiteState::down` says.
     ///
     /// Refusals, in this order: 1 UnknownController, 2 ControllerDown, 8 LogFull.
-    pub fn down<R: Wait>(
-        &self,
-        rt: &R,
-        driver: &mut Driver<P0, P1, P2, P3, D>,
-        c: u8,
-    ) -> Result<(), Refusal>
+    pub fn down<R: Wait>(&self, rt: &R, driver: &mut Driver<L>, c: u8) -> Result<(), Refusal>
         ensures answer { FromDriver driver.old (λ s. (new : SiteState) × GoesDown s c result new) }
         ensures accepted { OnOk result (driver.new ≡ driver.old + 1) }
         ensures refused { OnErr result (driver.new ≡ driver.old) }
     {
-        self.change(rt).locked.down(driver, c)
+        self.change(rt).locked.counted.down(driver, c)
     }
 
     /// Controller `c`, 0 to 3, comes up with a copy of its records: those that the site under the lock remembers, or
@@ -339,7 +319,7 @@ impl<P0: Ledger, P1: Ledger, P2: Ledger, P3: Ledger, D: Ledger> Line<P0, P1, P2,
     pub fn up<R: Wait>(
         &self,
         rt: &R,
-        driver: &mut Driver<P0, P1, P2, P3, D>,
+        driver: &mut Driver<L>,
         c: u8,
         copy: &Kept,
     ) -> Result<(), UpRefusal>
@@ -347,21 +327,22 @@ impl<P0: Ledger, P1: Ledger, P2: Ledger, P3: Ledger, D: Ledger> Line<P0, P1, P2,
         ensures accepted { OnOk result (driver.new ≡ driver.old + 1) }
         ensures refused { OnErr result (driver.new ≡ driver.old) }
     {
-        self.change(rt).locked.up(driver, c, copy)
+        self.change(rt).locked.counted.up(driver, c, copy)
     }
 
     /// Waits until there is something to say to the driver: the line is stopped, a request is next, nothing can be sent
     /// since the queue is full, or all is over.
     ///
     /// It may wait forever, as where a controller is due and nobody acts for it.
-    pub fn ready<R: Wait>(&self, rt: &R, driver: &mut Driver<P0, P1, P2, P3, D>) -> Ready
+    pub fn ready<R: Wait>(&self, rt: &R, driver: &mut Driver<L>) -> Ready
         ensures answer { FromDriver driver.old (λ s. (stopped : Bool) × IsReady stopped s result) }
         ensures same { driver.new ≡ driver.old }
     {
         let mut locked = self
             .moved
             .wait_while(rt, self.locked.lock(rt), |l| !l.wakes_driver());
-        locked.ready(driver).unwrap()
+        locked.counted.audit_driver(driver);
+        locked.may_do().unwrap()
     }
 
     /// The line is stopped, for good: who waits now or later is told so. Its other calls go on as before.
@@ -376,12 +357,12 @@ impl<P0: Ledger, P1: Ledger, P2: Ledger, P3: Ledger, D: Ledger> Line<P0, P1, P2,
 }
 
 /// A lock that is taken. When it is let go, all who wait are woken, so that no call can forget to wake them.
-struct Change<'a, L> {
-    locked: MutexGuard<'a, L>,
+struct Change<'a, T> {
+    locked: MutexGuard<'a, T>,
     moved: &'a Condvar,
 }
 
-impl<L> Drop for Change<'_, L> {
+impl<T> Drop for Change<'_, T> {
     fn drop(self) {
         let Self { locked, moved } = self;
         drop(locked);
@@ -390,13 +371,13 @@ impl<L> Drop for Change<'_, L> {
 }
 
 /// The ports of the first `count` controllers.
-fn ports<P0: Ledger, P1: Ledger, P2: Ledger, P3: Ledger, D: Ledger>(
+fn ports<L: Ledgers>(
     count: usize,
-    first: Own<P0>,
-    second: Own<P1>,
-    third: Own<P2>,
-    fourth: Own<P3>,
-) -> ArrayVec<Port<P0, P1, P2, P3, D>, 4>
+    first: Own<Numbered<L, 0>>,
+    second: Own<Numbered<L, 1>>,
+    third: Own<Numbered<L, 2>>,
+    fourth: Own<Numbered<L, 3>>,
+) -> ArrayVec<Port<L>, 4>
     requires { count ≤ 4 }
     ensures { result.items ≡ take count
         (port_share 0 first ∷ port_share 1 second ∷ port_share 2 third ∷ port_share 3 fourth ∷ []) }

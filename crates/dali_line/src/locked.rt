@@ -1,503 +1,59 @@
-ghost use Rattle.std.specs.Prelude.{◌≡◌, ◌+◌, ◌<◌, ◌≤◌, length, All, IfOk, OnOk, OnErr, IfSome, IsTrue, true, false};
-ghost use Rattle.std.specs.Prelude.{slice_set, None, Err, ◌↔◌, if◌then◌else◌, MatchOption};
-ghost use Rattle.dali_events.specs.World.{controller_at};
-ghost use Rattle.dali_events.specs.Allowed.{IsDown};
-ghost use Rattle.dali_script.specs.Due.{record_ordered};
-ghost use Rattle.dali_standing.specs.Seats.{due_of};
-ghost use Rattle.dali_script.specs.declared.orders.Due.TheVariants as due;
-ghost use Rattle.dali_events.specs.Promise.{KeepsPromise};
-ghost use Rattle.dali_line.specs.Counts.{counts_of, others_of, shares_of, AreInOrder};
+ghost use Rattle.std.specs.Prelude.{◌≡◌, IsTrue, true, false, ◌↔◌, MatchOption};
 
-use crate::commits::{CommitState, Commits};
-use crate::driver::Driver;
-use crate::port::Port;
+use crate::counted::CountedSite;
+use crate::ledgers::Ledgers;
 use crate::ready::Ready;
-use crate::tally::Tally;
-use crate::up_refusal::UpRefusal;
-use arrayvec::ArrayVec;
-use dali_frame::Forward;
-use dali_script::{Due, Input, Kept, Record};
-use dali_world::{Receipt, Refusal, Report, SiteState, Trouble};
-use std::sync::ledger::Ledger;
 
-/// What lies under a line's lock: a site, how many events of its log are whose, whose workers are at a commit, and
-/// whether the line is stopped.
+/// What lies under a line's lock: a site with what is counted of it, and whether the line is stopped.
 #[derive(Drop)]
-pub(crate) struct Locked<P0: Ledger, P1: Ledger, P2: Ledger, P3: Ledger, D: Ledger> {
-    site: SiteState,
-    tally: Tally<P0, P1, P2, P3, D>,
-    commits: Commits,
+pub(crate) struct Locked<L: Ledgers> {
+    pub(crate) counted: CountedSite<L>,
     stopped: bool,
-    ghost exact: { tally ≡ counts_of site.log },
 }
 
-impl<P0: Ledger, P1: Ledger, P2: Ledger, P3: Ledger, D: Ledger> Locked<P0, P1, P2, P3, D> {
-    ghost use Rattle.dali_world.specs.Site.{Acts, world, share_of, IsSound};
-    ghost use Rattle.dali_line.specs.Shares.{raised_share, total_of};
-    ghost use Rattle.dali_line.specs.Found.{IsFoundFrom, IsFoundByDriver, HasDue, Wakes, MayOffer, WakesForRoom};
-    ghost use Rattle.dali_line.specs.Found.{HaveEnded, IsBusy, IsReady, events_in};
-    ghost use Rattle.dali_line.specs.Commits.{state_of, MayComeUp};
-    ghost use Rattle.dali_line.specs.declared.up_refusal.UpRefusal.TheVariants.{CommitOpen};
-    ghost use Rattle.dali_line.specs.declared.commits.CommitState.TheVariants as commit;
-    ghost use Rattle.dali_line.specs.Calls.{Offers, PumpsOnce, Lapses, FallsQuiet, Powers, Expires, GoesDown, ComesUp};
+impl<L: Ledgers> Locked<L> {
+    ghost use Rattle.dali_line.specs.Found.{Wakes, WakesForRoom, IsBusy, IsReady};
 
-    /// A site with the tally of its log.
-    pub(crate) fn new(site: SiteState, tally: Tally<P0, P1, P2, P3, D>) -> Locked<P0, P1, P2, P3, D>
-        requires { tally ≡ counts_of site.log }
-        ensures site { result.site ≡ site }
+    /// The site of a line that is not stopped.
+    pub(crate) fn new(counted: CountedSite<L>) -> Locked<L>
+        ensures counted { result.counted ≡ counted }
         ensures stopped { result.stopped ≡ false }
     {
         Locked {
-            site,
-            tally,
-            commits: Commits::settled(),
+            counted,
             stopped: false,
         }
     }
 
-    /// Says what the port's holder knows of the site. It changes nothing.
-    fn audit(&mut self, port: &mut Port<P0, P1, P2, P3, D>)
-        ensures found { IsFoundFrom port.old self.old.site }
-        ensures few { length (world self.new.site).controllers ≤ 4 }
-        ensures site { self.new.site ≡ self.old.site }
-        ensures commits { self.new.commits ≡ self.old.commits }
-        ensures stopped { self.new.stopped ≡ self.old.stopped }
-        ensures port { port.new ≡ port.old }
-    {
-        self.site.is_safe();
-        let _blocks = self.site.plan().blocks();
-        self.tally.audit(port);
-    }
-
-    /// A controller acts. Where it was accepted, its worker is at no commit any more.
-    pub(crate) fn act(
-        &mut self,
-        port: &mut Port<P0, P1, P2, P3, D>,
-        input: Input,
-    ) -> Result<Receipt, Refusal>
-        ensures found { IsFoundFrom port.old self.old.site }
-        ensures answer { Acts self.old.site port.old.controller input result self.new.site }
-        ensures accepted { OnOk result (port.new ≡ raised_share port.old) }
-        ensures refused { OnErr result (port.new ≡ port.old) }
-        ensures receipt { IfOk result (λ r. (r.controller ≡ port.old.controller) × (r.input ≡ input)
-            × (r.number ≡ port.new.share)) }
-        ensures told { OnOk result
-            (self.new.commits ≡ slice_set self.old.commits port.old.controller commit.Settled) }
-        ensures untold { OnErr result (self.new.commits ≡ self.old.commits) }
-        ensures stopped { self.new.stopped ≡ self.old.stopped }
-    {
-        self.audit(port);
-        let c = port.controller();
-        let receipt = self.site.act(c, input)?;
-        self.tally.raise(port);
-        self.commits.set(c, CommitState::Settled);
-        Ok(receipt)
-    }
-
-    /// A controller offers a frame of direct arc power.
-    #[tactic(auto, unfolding(crate::specs::Calls::Offers))]
-    pub(crate) fn arc(
-        &mut self,
-        port: &mut Port<P0, P1, P2, P3, D>,
-        frame: Forward,
-    ) -> Result<(), Refusal>
-        ensures found { IsFoundFrom port.old self.old.site }
-        ensures answer { Offers self.old.site port.old.controller frame result self.new.site }
-        ensures accepted { OnOk result (port.new ≡ raised_share port.old) }
-        ensures refused { OnErr result (port.new ≡ port.old) }
-        ensures commits { self.new.commits ≡ self.old.commits }
-        ensures stopped { self.new.stopped ≡ self.old.stopped }
-    {
-        self.audit(port);
-        self.site.arc(port.controller(), frame)?;
-        self.tally.raise(port);
-        Ok(())
-    }
-
-    /// What a controller is told. Nothing, if it is not there.
-    #[tactic(auto, using(crate::proofs::Counts::nobody_there))]
-    fn told(&self, c: u8) -> Option<Input>
-        ensures { result ≡ (controller_at (world self.now.site) c).told }
-    {
-        self.site.is_safe();
-        if (c as usize) >= self.site.plan().blocks().len() {
-            return None;
-        }
-        self.site.next(c)
-    }
-
-    /// What is due for a controller. Nothing, if it is not there.
-    #[tactic(auto, using(crate::proofs::Counts::nobody_there))]
-    fn due_for(&self, c: u8) -> Due
-        ensures { result ≡ due_of (controller_at (world self.now.site) c) }
-    {
-        self.site.is_safe();
-        if (c as usize) >= self.site.plan().blocks().len() {
-            return Due::Nothing;
-        }
-        self.site.due(c)
-    }
-
-    /// The record whose commit is due for a controller. None, if it is not there.
-    #[tactic(auto, using(crate::proofs::Counts::nobody_there))]
-    fn ordered(&self, c: u8) -> Option<Record>
-        ensures { result ≡ record_ordered (controller_at (world self.now.site) c).last }
-    {
-        self.site.is_safe();
-        if (c as usize) >= self.site.plan().blocks().len() {
-            return None;
-        }
-        self.site.ordered(c)
-    }
-
-    /// Whether a controller is down, or not there.
-    #[tactic(auto, using(crate::proofs::Counts::nobody_there))]
-    fn is_down(&self, c: u8) -> bool
-        ensures { IsTrue result ↔ ((controller_at (world self.now.site) c).up ≡ false) }
-    {
-        self.site.is_safe();
-        if (c as usize) >= self.site.plan().blocks().len() {
-            return true;
-        }
-        self.site.table(c).is_none()
-    }
-
-    /// What the port's controller may act on.
-    pub(crate) fn next(&mut self, port: &mut Port<P0, P1, P2, P3, D>) -> Option<Input>
-        ensures found { IsFoundFrom port.old self.old.site }
-        ensures answer { result ≡ (controller_at (world self.old.site) port.old.controller).told }
-        ensures same { port.new ≡ port.old }
-        ensures site { self.new.site ≡ self.old.site }
-        ensures stopped { self.new.stopped ≡ self.old.stopped }
-    {
-        self.audit(port);
-        self.told(port.controller())
-    }
-
-    /// What is due for the port's controller.
-    pub(crate) fn due(&mut self, port: &mut Port<P0, P1, P2, P3, D>) -> Due
-        ensures found { IsFoundFrom port.old self.old.site }
-        ensures answer { result ≡ due_of (controller_at (world self.old.site) port.old.controller) }
-        ensures same { port.new ≡ port.old }
-        ensures site { self.new.site ≡ self.old.site }
-        ensures stopped { self.new.stopped ≡ self.old.stopped }
-    {
-        self.audit(port);
-        self.due_for(port.controller())
-    }
-
-    /// Whether something is due for a controller: it was told something, or its commit is to be made.
-    fn has_due(&self, c: u8) -> bool
-        ensures { IsTrue result ↔ HasDue self.now.site c }
-    {
-        self.told(c).is_some() || self.due_for(c) == Due::Store
-    }
-
     /// Whether a controller has no reason to wait: the line is stopped, something is due for it, or it is down.
     pub(crate) fn wakes(&self, c: u8) -> bool
-        ensures { IsTrue result ↔ Wakes self.now.stopped self.now.site c }
+        ensures { IsTrue result ↔ Wakes self.now.stopped self.now.counted.site c }
     {
-        self.stopped || self.has_due(c) || self.is_down(c)
-    }
-
-    /// Whether something is due for the port's controller, and the line is not stopped.
-    pub(crate) fn waits(&mut self, port: &mut Port<P0, P1, P2, P3, D>) -> bool
-        ensures found { IsFoundFrom port.old self.old.site }
-        ensures answer { IsTrue result ↔ (self.old.stopped ≡ false) × HasDue self.old.site port.old.controller }
-        ensures same { port.new ≡ port.old }
-        ensures site { self.new.site ≡ self.old.site }
-        ensures stopped { self.new.stopped ≡ self.old.stopped }
-    {
-        self.audit(port);
-        !self.stopped && self.has_due(port.controller())
-    }
-
-    /// The port's holder begins the commit that is due, if one is.
-    pub(crate) fn begin_commit(&mut self, port: &mut Port<P0, P1, P2, P3, D>) -> Option<Record>
-        ensures found { IsFoundFrom port.old self.old.site }
-        ensures answer { result ≡ record_ordered (controller_at (world self.old.site) port.old.controller).last }
-        ensures same { port.new ≡ port.old }
-        ensures site { self.new.site ≡ self.old.site }
-        ensures begun { IfSome result
-            (λ _. self.new.commits ≡ slice_set self.old.commits port.old.controller commit.Begun) }
-        ensures none { result ≡ None → self.new.commits ≡ self.old.commits }
-        ensures stopped { self.new.stopped ≡ self.old.stopped }
-    {
-        self.audit(port);
-        let c = port.controller();
-        let ordered = self.ordered(c);
-        if ordered.is_some() {
-            self.commits.set(c, CommitState::Begun);
-        }
-        ordered
-    }
-
-    /// The port's holder makes no commit any more. Where it had begun one, the store has the record (true), or maybe
-    /// not.
-    pub(crate) fn end_commit(&mut self, port: &Port<P0, P1, P2, P3, D>, is_made: bool)
-        ensures ended { state_of self.old.commits port.now.controller ≡ commit.Begun → self.new.commits
-            ≡ slice_set self.old.commits port.now.controller (if is_made then commit.Made else commit.Settled) }
-        ensures not_begun { (state_of self.old.commits port.now.controller ≡ commit.Begun → ⊥)
-            → self.new.commits ≡ self.old.commits }
-        ensures site { self.new.site ≡ self.old.site }
-        ensures stopped { self.new.stopped ≡ self.old.stopped }
-    {
-        let c = port.controller();
-        if self.commits.state(c) == CommitState::Begun {
-            self.commits.set(
-                c,
-                if is_made {
-                    CommitState::Made
-                } else {
-                    CommitState::Settled
-                },
-            );
-        }
+        self.stopped || self.counted.has_due(c) || self.counted.is_down(c)
     }
 
     /// Whether a controller has no reason to wait for room: the line is stopped, or `may_offer` says so.
     pub(crate) fn wakes_for_room(&self, c: u8) -> bool
-        ensures { IsTrue result ↔ WakesForRoom self.now.stopped self.now.site c }
+        ensures { IsTrue result ↔ WakesForRoom self.now.stopped self.now.counted.site c }
     {
-        self.stopped || self.may_offer(c)
-    }
-
-    /// Whether a request more may wait, or the controller is down.
-    fn may_offer(&self, c: u8) -> bool
-        ensures { IsTrue result ↔ MayOffer self.now.site c }
-    {
-        !self.site.is_crowded() || self.is_down(c)
-    }
-
-    /// Whether a request more may wait, or the port's controller is down, and the line is not stopped.
-    pub(crate) fn has_room(&mut self, port: &mut Port<P0, P1, P2, P3, D>) -> bool
-        ensures found { IsFoundFrom port.old self.old.site }
-        ensures answer { IsTrue result ↔ (self.old.stopped ≡ false) × MayOffer self.old.site port.old.controller }
-        ensures same { port.new ≡ port.old }
-        ensures site { self.new.site ≡ self.old.site }
-        ensures stopped { self.new.stopped ≡ self.old.stopped }
-    {
-        self.audit(port);
-        !self.stopped && self.may_offer(port.controller())
-    }
-
-    /// Says what the driver's holder knows of the site. It changes nothing.
-    fn audit_driver(&mut self, driver: &mut Driver<P0, P1, P2, P3, D>)
-        ensures found { IsFoundByDriver driver.old self.old.site }
-        ensures whole { total_of (counts_of self.old.site.log) ≡ length self.old.site.log }
-        ensures site { self.new.site ≡ self.old.site }
-        ensures commits { self.new.commits ≡ self.old.commits }
-        ensures stopped { self.new.stopped ≡ self.old.stopped }
-        ensures driver { driver.new ≡ driver.old }
-    {
-        self.site.is_safe();
-        let _blocks = self.site.plan().blocks();
-        self.tally.audit_driver(driver);
-    }
-
-    /// The request that is next comes on the bus.
-    #[tactic(auto, unfolding(crate::specs::Calls::PumpsOnce))]
-    pub(crate) fn pump(
-        &mut self,
-        driver: &mut Driver<P0, P1, P2, P3, D>,
-        trouble: Trouble,
-    ) -> Result<Report, Refusal>
-        ensures found { IsFoundByDriver driver.old self.old.site }
-        ensures answer { PumpsOnce self.old.site trouble result self.new.site }
-        ensures accepted { IfOk result (λ r. driver.new ≡ driver.old + events_in r) }
-        ensures refused { OnErr result (driver.new ≡ driver.old) }
-        ensures commits { self.new.commits ≡ self.old.commits }
-        ensures stopped { self.new.stopped ≡ self.old.stopped }
-    {
-        self.audit_driver(driver);
-        let report = self.site.pump(trouble)?;
-        if report != Report::Idle {
-            self.tally.raise_driver(driver);
-        }
-        Ok(report)
-    }
-
-    /// The owner loses the bus.
-    #[tactic(auto, unfolding(crate::specs::Calls::Lapses))]
-    pub(crate) fn lapse(
-        &mut self,
-        driver: &mut Driver<P0, P1, P2, P3, D>,
-    ) -> Result<Option<u8>, Refusal>
-        ensures found { IsFoundByDriver driver.old self.old.site }
-        ensures answer { Lapses self.old.site result self.new.site }
-        ensures accepted { OnOk result (driver.new ≡ driver.old + 1) }
-        ensures refused { OnErr result (driver.new ≡ driver.old) }
-        ensures commits { self.new.commits ≡ self.old.commits }
-        ensures stopped { self.new.stopped ≡ self.old.stopped }
-    {
-        self.audit_driver(driver);
-        let owner = self.site.lapse()?;
-        self.tally.raise_driver(driver);
-        Ok(owner)
-    }
-
-    /// Half pairs are forgotten.
-    #[tactic(auto, unfolding(crate::specs::Calls::FallsQuiet))]
-    pub(crate) fn quiet(&mut self, driver: &mut Driver<P0, P1, P2, P3, D>) -> Result<(), Refusal>
-        ensures found { IsFoundByDriver driver.old self.old.site }
-        ensures answer { FallsQuiet self.old.site result self.new.site }
-        ensures accepted { OnOk result (driver.new ≡ driver.old + 1) }
-        ensures refused { OnErr result (driver.new ≡ driver.old) }
-        ensures commits { self.new.commits ≡ self.old.commits }
-        ensures stopped { self.new.stopped ≡ self.old.stopped }
-    {
-        self.audit_driver(driver);
-        self.site.quiet()?;
-        self.tally.raise_driver(driver);
-        Ok(())
-    }
-
-    /// A gear's power comes or goes.
-    #[tactic(auto, unfolding(crate::specs::Calls::Powers))]
-    pub(crate) fn power(
-        &mut self,
-        driver: &mut Driver<P0, P1, P2, P3, D>,
-        number: u32,
-        on: bool,
-    ) -> Result<(), Refusal>
-        ensures found { IsFoundByDriver driver.old self.old.site }
-        ensures answer { Powers self.old.site number on result self.new.site }
-        ensures accepted { OnOk result (driver.new ≡ driver.old + 1) }
-        ensures refused { OnErr result (driver.new ≡ driver.old) }
-        ensures commits { self.new.commits ≡ self.old.commits }
-        ensures stopped { self.new.stopped ≡ self.old.stopped }
-    {
-        self.audit_driver(driver);
-        self.site.power(number, on)?;
-        self.tally.raise_driver(driver);
-        Ok(())
-    }
-
-    /// A gear's initialisation is over.
-    #[tactic(auto, unfolding(crate::specs::Calls::Expires))]
-    pub(crate) fn expire(
-        &mut self,
-        driver: &mut Driver<P0, P1, P2, P3, D>,
-        number: u32,
-    ) -> Result<(), Refusal>
-        ensures found { IsFoundByDriver driver.old self.old.site }
-        ensures answer { Expires self.old.site number result self.new.site }
-        ensures accepted { OnOk result (driver.new ≡ driver.old + 1) }
-        ensures refused { OnErr result (driver.new ≡ driver.old) }
-        ensures commits { self.new.commits ≡ self.old.commits }
-        ensures stopped { self.new.stopped ≡ self.old.stopped }
-    {
-        self.audit_driver(driver);
-        self.site.expire(number)?;
-        self.tally.raise_driver(driver);
-        Ok(())
-    }
-
-    /// A controller goes down.
-    #[tactic(auto, unfolding(crate::specs::Calls::GoesDown))]
-    pub(crate) fn down(
-        &mut self,
-        driver: &mut Driver<P0, P1, P2, P3, D>,
-        c: u8,
-    ) -> Result<(), Refusal>
-        ensures found { IsFoundByDriver driver.old self.old.site }
-        ensures answer { GoesDown self.old.site c result self.new.site }
-        ensures accepted { OnOk result (driver.new ≡ driver.old + 1) }
-        ensures refused { OnErr result (driver.new ≡ driver.old) }
-        ensures commits { self.new.commits ≡ self.old.commits }
-        ensures stopped { self.new.stopped ≡ self.old.stopped }
-    {
-        self.audit_driver(driver);
-        self.site.down(c)?;
-        self.tally.raise_driver(driver);
-        Ok(())
-    }
-
-    /// Whether a controller that is down is not to come up with these records: they are behind its store, or may fall
-    /// behind it.
-    fn is_barred(&self, c: u8, copy: &Kept) -> bool
-        ensures barred { IsTrue result → ((controller_at (world self.now.site) c).up ≡ false)
-            × (MayComeUp (state_of self.now.commits c) (controller_at (world self.now.site) c).records copy.now → ⊥) }
-        ensures free { result ≡ false → IsDown (world self.now.site) c
-            → MayComeUp (state_of self.now.commits c) (controller_at (world self.now.site) c).records copy.now }
-    {
-        self.site.is_safe();
-        if (c as usize) >= self.site.plan().blocks().len() || self.site.table(c).is_some() {
-            return false;
-        }
-        match self.commits.state(c) {
-            CommitState::Settled => false,
-            CommitState::Begun => true,
-            CommitState::Made => copy.same(self.site.kept(c)),
-        }
-    }
-
-    /// A controller comes up with a copy of its records, unless a commit for it is open.
-    #[tactic(auto, unfolding(crate::specs::Calls::ComesUp))]
-    pub(crate) fn up(
-        &mut self,
-        driver: &mut Driver<P0, P1, P2, P3, D>,
-        c: u8,
-        copy: &Kept,
-    ) -> Result<(), UpRefusal>
-        ensures found { IsFoundByDriver driver.old self.old.site }
-        ensures answer { ComesUp self.old.site c copy.now result self.new.site }
-        ensures accepted { OnOk result (driver.new ≡ driver.old + 1) }
-        ensures refused { OnErr result (driver.new ≡ driver.old) }
-        ensures commits { self.new.commits ≡ self.old.commits }
-        ensures stopped { self.new.stopped ≡ self.old.stopped }
-        ensures settled { OnOk result (MayComeUp (state_of self.old.commits c)
-            (controller_at (world self.old.site) c).records copy.now) }
-        ensures open { result ≡ Err CommitOpen → MayComeUp (state_of self.old.commits c)
-            (controller_at (world self.old.site) c).records copy.now → ⊥ }
-    {
-        self.audit_driver(driver);
-        if self.is_barred(c, copy) {
-            return Err(UpRefusal::CommitOpen);
-        }
-        match self.site.up(c, copy) {
-            Ok(()) => {
-                self.tally.raise_driver(driver);
-                Ok(())
-            }
-            Err(refusal) => Err(UpRefusal::Site(refusal)),
-        }
-    }
-
-    /// Whether nothing is due for any controller: each has ended, has halted or is down.
-    fn have_ended(&self) -> bool
-        ensures { IsTrue result ↔ HaveEnded self.now.site }
-    {
-        let count = self.site.plan().blocks().len() as u8;
-        for c in 0..count {
-            if self.site.due(c) != Due::Nothing {
-                return false;
-            }
-        }
-        true
-    }
-
-    /// Whether nobody owns the bus, and nothing is due for any controller.
-    fn is_over(&self) -> bool
-        ensures { IsTrue result ↔ ((world self.now.site).bus.owner ≡ None) × HaveEnded self.now.site }
-    {
-        self.site.owner().is_none() && self.have_ended()
+        self.stopped || self.counted.may_offer(c)
     }
 
     /// What a driver may do, if there is anything to say.
-    fn may_do(&self) -> Option<Ready>
-        ensures { MatchOption result (IsBusy self.now.stopped self.now.site) (IsReady self.now.stopped self.now.site) }
+    pub(crate) fn may_do(&self) -> Option<Ready>
+        ensures { MatchOption result (IsBusy self.now.stopped self.now.counted.site)
+            (IsReady self.now.stopped self.now.counted.site) }
     {
         if self.stopped {
             return Some(Ready::Stopped);
         }
-        if !self.site.idle() {
+        if !self.counted.site.idle() {
             return Some(Ready::Next);
         }
-        if self.site.is_crowded() {
+        if self.counted.site.is_crowded() {
             return Some(Ready::Full);
         }
-        if self.is_over() {
+        if self.counted.is_over() {
             return Some(Ready::Over);
         }
         None
@@ -505,22 +61,9 @@ impl<P0: Ledger, P1: Ledger, P2: Ledger, P3: Ledger, D: Ledger> Locked<P0, P1, P
 
     /// Whether a driver has no reason to wait.
     pub(crate) fn wakes_driver(&self) -> bool
-        ensures { IsTrue result ↔ (IsBusy self.now.stopped self.now.site → ⊥) }
+        ensures { IsTrue result ↔ (IsBusy self.now.stopped self.now.counted.site → ⊥) }
     {
         self.may_do().is_some()
-    }
-
-    /// What a driver may do, if there is anything to say.
-    pub(crate) fn ready(&mut self, driver: &mut Driver<P0, P1, P2, P3, D>) -> Option<Ready>
-        ensures found { IsFoundByDriver driver.old self.old.site }
-        ensures answer { MatchOption result (IsBusy self.old.stopped self.old.site)
-            (IsReady self.old.stopped self.old.site) }
-        ensures same { driver.new ≡ driver.old }
-        ensures site { self.new.site ≡ self.old.site }
-        ensures stopped { self.new.stopped ≡ self.old.stopped }
-    {
-        self.audit_driver(driver);
-        self.may_do()
     }
 
     /// Whether nobody waits any more.
@@ -533,68 +76,8 @@ impl<P0: Ledger, P1: Ledger, P2: Ledger, P3: Ledger, D: Ledger> Locked<P0, P1, P
     /// Nobody waits any more.
     pub(crate) fn stop(&mut self)
         ensures stopped { self.new.stopped ≡ true }
-        ensures site { self.new.site ≡ self.old.site }
-        ensures commits { self.new.commits ≡ self.old.commits }
+        ensures counted { self.new.counted ≡ self.old.counted }
     {
         self.stopped = true;
     }
-
-    /// A port goes. Its share was how many events of the log are its controller's steps.
-    fn take_back(&mut self, port: Port<P0, P1, P2, P3, D>)
-        ensures share { share_of port.controller self.old.site.log ≡ port.share }
-        ensures site { self.new.site ≡ self.old.site }
-        ensures stopped { self.new.stopped ≡ self.old.stopped }
-    {
-        let mut port = port;
-        self.audit(&mut port);
-    }
-
-    /// The site, of which each share is what its log has, and whether there is a port for each of its controllers, in
-    /// order.
-    pub(crate) fn close(
-        self,
-        ports: ArrayVec<Port<P0, P1, P2, P3, D>, 4>,
-        driver: Driver<P0, P1, P2, P3, D>,
-    ) -> (SiteState, bool)
-        ensures site { result.0 ≡ self.site }
-        ensures ports { All (λ one. share_of one.controller result.0.log ≡ one.share) ports.items }
-        ensures driver { others_of result.0.log ≡ driver }
-        ensures whole { total_of (counts_of result.0.log) ≡ length result.0.log }
-        ensures promise { KeepsPromise result.0.plan result.0.queue result.0.log }
-        ensures sound { IsSound result.0 }
-        ensures all { IsTrue result.1 ↔ (ports.items ≡ shares_of result.0) }
-    {
-        let mut locked = self;
-        let mut driver = driver;
-        let mut ports = ports;
-        locked.audit_driver(&mut driver);
-        let has_all = locked.has_all(ports.as_slice());
-        while let Some(port) = ports.pop() {
-            locked.take_back(port);
-        }
-        let Locked { site, .. } = locked;
-        (site, has_all)
-    }
-
-    /// Whether these are as many ports as there are controllers, each that of the controller whose number is its place.
-    fn has_all(&self, ports: &[Port<P0, P1, P2, P3, D>]) -> bool
-        ensures few { length self.now.site.plan.blocks ≤ 4 }
-        ensures all { IsTrue result ↔ (length ports.now ≡ length self.now.site.plan.blocks) × AreInOrder ports.now }
-    {
-        ports.len() == self.site.plan().blocks().len() && are_in_order(ports)
-    }
-}
-
-/// Whether each port is that of the controller whose number is its place.
-fn are_in_order<P0: Ledger, P1: Ledger, P2: Ledger, P3: Ledger, D: Ledger>(
-    ports: &[Port<P0, P1, P2, P3, D>],
-) -> bool
-    ensures { IsTrue result ↔ AreInOrder ports.now }
-{
-    for place in 0..ports.len() {
-        if ports[place].controller() as usize != place {
-            return false;
-        }
-    }
-    true
 }

@@ -1,17 +1,17 @@
 ghost use Rattle.std.specs.Prelude.{◌≡◌};
 ghost use Rattle.dali_line.specs.Shares.{no_share};
 
+use crate::ledgers::{Ledgers, Numbered};
 use crate::own::Own;
-use std::marker::{Model, PhantomData};
-use std::sync::ledger::Ledger;
+use std::marker::Model;
 
 /// Which controller a port speaks for, with that controller's share.
 #[derive(Drop)]
-pub(crate) enum Kind<P0: Ledger, P1: Ledger, P2: Ledger, P3: Ledger> {
-    First(Own<P0>),
-    Second(Own<P1>),
-    Third(Own<P2>),
-    Fourth(Own<P3>),
+pub(crate) enum Kind<L: Ledgers> {
+    First(Own<Numbered<L, 0>>),
+    Second(Own<Numbered<L, 1>>),
+    Third(Own<Numbered<L, 2>>),
+    Fourth(Own<Numbered<L, 3>>),
     Spare,
 }
 
@@ -22,12 +22,11 @@ pub(crate) enum Kind<P0: Ledger, P1: Ledger, P2: Ledger, P3: Ledger> {
 ///
 /// Contracts see its share: the controller's number, and how many events of the line's log are its steps.
 #[derive(Drop)]
-pub struct Port<P0: Ledger, P1: Ledger, P2: Ledger, P3: Ledger, D: Ledger> {
-    pub(crate) kind: Kind<P0, P1, P2, P3>,
-    line: PhantomData<D>,
+pub struct Port<L: Ledgers> {
+    pub(crate) kind: Kind<L>,
 }
 
-impl<P0: Ledger, P1: Ledger, P2: Ledger, P3: Ledger, D: Ledger> Model for Port<P0, P1, P2, P3, D> {
+impl<L: Ledgers> Model for Port<L> {
     ghost use Rattle.dali_line.specs.Shares.{PortShare};
 
     ghost Value = { PortShare };
@@ -37,16 +36,13 @@ impl<P0: Ledger, P1: Ledger, P2: Ledger, P3: Ledger, D: Ledger> Model for Port<P
     ghost view = { λ p. port_share_of p.kind };
 }
 
-impl<P0: Ledger, P1: Ledger, P2: Ledger, P3: Ledger, D: Ledger> Port<P0, P1, P2, P3, D> {
+impl<L: Ledgers> Port<L> {
     ghost use Rattle.dali_line.specs.Ports.{port_share_of};
 
-    pub(crate) fn of(kind: Kind<P0, P1, P2, P3>) -> Port<P0, P1, P2, P3, D>
+    pub(crate) fn of(kind: Kind<L>) -> Port<L>
         ensures { result ≡ port_share_of kind }
     {
-        Port {
-            kind,
-            line: PhantomData,
-        }
+        Port { kind }
     }
 
     /// The controller's number, 0 to 3; 255 of a spare port.
@@ -64,11 +60,10 @@ impl<P0: Ledger, P1: Ledger, P2: Ledger, P3: Ledger, D: Ledger> Port<P0, P1, P2,
 }
 
 /// A spare port.
-impl<P0: Ledger, P1: Ledger, P2: Ledger, P3: Ledger, D: Ledger> Default
-    for Port<P0, P1, P2, P3, D> {
+impl<L: Ledgers> Default for Port<L> {
     ghost is_default = { λ p. p ≡ no_share };
 
-    fn default() -> Port<P0, P1, P2, P3, D> {
+    fn default() -> Port<L> {
         Port::of(Kind::Spare)
     }
 }

@@ -14,7 +14,9 @@ mod listed;
 
 use arrayvec::ArrayVec;
 use dali_enrol::Directory;
-use dali_line::{Bus, Driver, Gate, Line, Moment, Outcome, Port, Ready, UpRefusal, Worker};
+use dali_line::{
+    Bus, Driver, Gate, Ledgers, Line, Moment, Outcome, Port, Ready, UpRefusal, Worker,
+};
 use dali_reserve::Keep;
 use dali_script::{Block, Kept};
 use dali_sqlite::SqliteKeep;
@@ -26,7 +28,7 @@ use std::alloc::Global;
 use std::env;
 use std::marker::Brand;
 use std::process::ExitCode;
-use std::sync::ledger::{Blank, Ledger};
+use std::sync::ledger::Blank;
 use std::sync::{Mutex, Wait};
 use std::thread::{Threads, join, yield_now};
 
@@ -83,7 +85,7 @@ struct Turnover {
 }
 
 /// The driver, with its list, and what is done to controllers.
-type Driving<P0, P1, P2, P3, D> = (Listed<Driver<P0, P1, P2, P3, D>>, Turnover);
+type Driving<L> = (Listed<Driver<L>>, Turnover);
 
 /// A controller of these at random, as a number from 0 to 3.
 fn some_controller(chance: &mut Chance) -> u8 {
@@ -96,12 +98,7 @@ fn some_controller(chance: &mut Chance) -> u8 {
 }
 
 /// A controller goes down, if it is up.
-fn takes_down<P0: Ledger, P1: Ledger, P2: Ledger, P3: Ledger, D: Ledger, R: Wait>(
-    rt: &R,
-    line: &Line<P0, P1, P2, P3, D>,
-    driving: &mut Driving<P0, P1, P2, P3, D>,
-    at: u8,
-) {
+fn takes_down<L: Ledgers, R: Wait>(rt: &R, line: &Line<L>, driving: &mut Driving<L>, at: u8) {
     match line.down(rt, &mut driving.0.inner, at) {
         Ok(()) => driving.1.downs = driving.1.downs.saturating_add(1),
         Err(Refusal::ControllerDown) => {}
@@ -111,10 +108,10 @@ fn takes_down<P0: Ledger, P1: Ledger, P2: Ledger, P3: Ledger, D: Ledger, R: Wait
 
 /// A controller comes up with these records. They are what its store reads now, or what it read when the session began
 /// (`is_old`): then they may be behind.
-fn brings_up<P0: Ledger, P1: Ledger, P2: Ledger, P3: Ledger, D: Ledger, R: Wait>(
+fn brings_up<L: Ledgers, R: Wait>(
     rt: &R,
-    line: &Line<P0, P1, P2, P3, D>,
-    driving: &mut Driving<P0, P1, P2, P3, D>,
+    line: &Line<L>,
+    driving: &mut Driving<L>,
     at: u8,
     records: &Kept,
     is_old: bool,
@@ -129,10 +126,10 @@ fn brings_up<P0: Ledger, P1: Ledger, P2: Ledger, P3: Ledger, D: Ledger, R: Wait>
 
 /// A controller goes down while its worker is at a commit, and half of the time it is to come up at once with old
 /// records.
-fn strikes<P0: Ledger, P1: Ledger, P2: Ledger, P3: Ledger, D: Ledger, R: Wait>(
+fn strikes<L: Ledgers, R: Wait>(
     rt: &R,
-    line: &Line<P0, P1, P2, P3, D>,
-    driving: &mut Driving<P0, P1, P2, P3, D>,
+    line: &Line<L>,
+    driving: &mut Driving<L>,
     at: u8,
     records: &[Kept],
 ) {
@@ -143,11 +140,7 @@ fn strikes<P0: Ledger, P1: Ledger, P2: Ledger, P3: Ledger, D: Ledger, R: Wait>(
 }
 
 /// A controller goes down now and then.
-fn turns_over<P0: Ledger, P1: Ledger, P2: Ledger, P3: Ledger, D: Ledger, R: Wait>(
-    rt: &R,
-    line: &Line<P0, P1, P2, P3, D>,
-    driving: &mut Driving<P0, P1, P2, P3, D>,
-) {
+fn turns_over<L: Ledgers, R: Wait>(rt: &R, line: &Line<L>, driving: &mut Driving<L>) {
     if driving.1.chance.below(1024) == 0 {
         let at = some_controller(&mut driving.1.chance);
         takes_down(rt, line, driving, at);
@@ -156,14 +149,13 @@ fn turns_over<P0: Ledger, P1: Ledger, P2: Ledger, P3: Ledger, D: Ledger, R: Wait
 
 /// A worker's gate, which takes the worker's controller down before and after some commits.
 #[derive(Drop)]
-struct Striking<'a, P0: Ledger, P1: Ledger, P2: Ledger, P3: Ledger, D: Ledger> {
-    line: &'a Line<P0, P1, P2, P3, D>,
-    driving: &'a Mutex<Driving<P0, P1, P2, P3, D>>,
+struct Striking<'a, L: Ledgers> {
+    line: &'a Line<L>,
+    driving: &'a Mutex<Driving<L>>,
     records: &'a [Kept],
 }
 
-impl<P0: Ledger, P1: Ledger, P2: Ledger, P3: Ledger, D: Ledger> Gate
-    for Striking<'_, P0, P1, P2, P3, D> {
+impl<L: Ledgers> Gate for Striking<'_, L> {
     fn at<R: Wait>(&self, rt: &R, controller: u8, moment: Moment) {
         if moment == Moment::AfterTurn {
             return;
@@ -179,11 +171,7 @@ impl<P0: Ledger, P1: Ledger, P2: Ledger, P3: Ledger, D: Ledger> Gate
 
 /// The bus's turn, if there is one. Where all is over, and no controller is to be brought up, one goes down, and the
 /// session ends. Whether it goes on.
-fn goes_on<P0: Ledger, P1: Ledger, P2: Ledger, P3: Ledger, D: Ledger, R: Wait>(
-    rt: &R,
-    line: &Line<P0, P1, P2, P3, D>,
-    driving: &mut Driving<P0, P1, P2, P3, D>,
-) -> bool {
+fn goes_on<L: Ledgers, R: Wait>(rt: &R, line: &Line<L>, driving: &mut Driving<L>) -> bool {
     match line.ready(rt, &mut driving.0.inner) {
         Ready::Stopped | Ready::Full => false,
         Ready::Over => {
@@ -204,11 +192,7 @@ fn goes_on<P0: Ledger, P1: Ledger, P2: Ledger, P3: Ledger, D: Ledger, R: Wait>(
 }
 
 /// The bus has its turns, and controllers go down and come up. In the end the line is stopped.
-fn drives<P0: Ledger, P1: Ledger, P2: Ledger, P3: Ledger, D: Ledger, R: Wait>(
-    rt: &R,
-    line: &Line<P0, P1, P2, P3, D>,
-    driving: &Mutex<Driving<P0, P1, P2, P3, D>>,
-) {
+fn drives<L: Ledgers, R: Wait>(rt: &R, line: &Line<L>, driving: &Mutex<Driving<L>>) {
     for _ in 0..TURNS {
         if !drives_once(rt, line, driving) {
             break;
@@ -218,11 +202,7 @@ fn drives<P0: Ledger, P1: Ledger, P2: Ledger, P3: Ledger, D: Ledger, R: Wait>(
     line.stop(rt);
 }
 
-fn drives_once<P0: Ledger, P1: Ledger, P2: Ledger, P3: Ledger, D: Ledger, R: Wait>(
-    rt: &R,
-    line: &Line<P0, P1, P2, P3, D>,
-    driving: &Mutex<Driving<P0, P1, P2, P3, D>>,
-) -> bool {
+fn drives_once<L: Ledgers, R: Wait>(rt: &R, line: &Line<L>, driving: &Mutex<Driving<L>>) -> bool {
     let mut driving = driving.lock(rt);
     let goes_on = goes_on(rt, line, &mut driving);
     if goes_on {
@@ -253,23 +233,23 @@ fn works<B: Bus, G: Gate, R: Wait>(
     }
 }
 
-type Listing<P0, P1, P2, P3, D> = Listed<Port<P0, P1, P2, P3, D>>;
+type Listing<L> = Listed<Port<L>>;
 
 /// A port and the store of its controller.
 type Manned<P> = (P, Database);
 
 /// A controller's thread: workers run, one after the other, until one ends for another cause than that its controller
 /// is down. Each time the controller comes up with what the store reads.
-fn serves<P0: Ledger, P1: Ledger, P2: Ledger, P3: Ledger, D: Ledger, R: Wait>(
+fn serves<L: Ledgers, R: Wait>(
     rt: &R,
     alloc: Global,
-    line: &Line<P0, P1, P2, P3, D>,
+    line: &Line<L>,
     directory: &Directory,
-    driving: &Mutex<Driving<P0, P1, P2, P3, D>>,
+    driving: &Mutex<Driving<L>>,
     records: &[Kept],
     at: u8,
-    manned: Manned<Listing<P0, P1, P2, P3, D>>,
-) -> Left<Listing<P0, P1, P2, P3, D>> {
+    manned: Manned<Listing<L>>,
+) -> Left<Listing<L>> {
     let bus = ListedBus { bus: line };
     let gate = Striking {
         line,
@@ -296,10 +276,10 @@ fn serves<P0: Ledger, P1: Ledger, P2: Ledger, P3: Ledger, D: Ledger, R: Wait>(
     left
 }
 
-fn is_brought_up<P0: Ledger, P1: Ledger, P2: Ledger, P3: Ledger, D: Ledger, R: Wait>(
+fn is_brought_up<L: Ledgers, R: Wait>(
     rt: &R,
-    line: &Line<P0, P1, P2, P3, D>,
-    driving: &Mutex<Driving<P0, P1, P2, P3, D>>,
+    line: &Line<L>,
+    driving: &Mutex<Driving<L>>,
     at: u8,
     keep: &mut Database,
 ) {
@@ -311,11 +291,7 @@ fn is_brought_up<P0: Ledger, P1: Ledger, P2: Ledger, P3: Ledger, D: Ledger, R: W
     }
 }
 
-fn ends<P0: Ledger, P1: Ledger, P2: Ledger, P3: Ledger, D: Ledger, R: Wait>(
-    rt: &R,
-    driving: &Mutex<Driving<P0, P1, P2, P3, D>>,
-    at: u8,
-) {
+fn ends<L: Ledgers, R: Wait>(rt: &R, driving: &Mutex<Driving<L>>, at: u8) {
     let mut driving = driving.lock(rt);
     if at < 4 {
         let mut ended = driving.1.ended;
@@ -325,21 +301,17 @@ fn ends<P0: Ledger, P1: Ledger, P2: Ledger, P3: Ledger, D: Ledger, R: Wait>(
 }
 
 /// The threads of four controllers and of the bus run.
-fn all_run<P0, P1, P2, P3, D, R>(
+fn all_run<L, R>(
     rt: &R,
     alloc: Global,
-    line: &Line<P0, P1, P2, P3, D>,
+    line: &Line<L>,
     directory: &Directory,
-    workers: Four<Manned<Listing<P0, P1, P2, P3, D>>>,
-    driving: &Mutex<Driving<P0, P1, P2, P3, D>>,
+    workers: Four<Manned<Listing<L>>>,
+    driving: &Mutex<Driving<L>>,
     records: &[Kept],
-) -> Four<Left<Listing<P0, P1, P2, P3, D>>>
+) -> Four<Left<Listing<L>>>
 where
-    P0: Ledger + Send + Sync,
-    P1: Ledger + Send + Sync,
-    P2: Ledger + Send + Sync,
-    P3: Ledger + Send + Sync,
-    D: Ledger + Send + Sync,
+    L: Ledgers + Send + Sync,
     R: Threads + Wait + Sync,
 {
     let (first, second, third, fourth) = workers;
@@ -414,7 +386,7 @@ struct Played {
 }
 
 /// A session. It is right only where what each thread noted is what the log has of it.
-fn session<P0, P1, P2, P3, D, R>(
+fn session<L, R>(
     rt: &R,
     alloc: Global,
     played: Played,
@@ -423,17 +395,13 @@ fn session<P0, P1, P2, P3, D, R>(
     records: &[Kept],
 ) -> Played
 where
-    P0: Ledger + Send + Sync,
-    P1: Ledger + Send + Sync,
-    P2: Ledger + Send + Sync,
-    P3: Ledger + Send + Sync,
-    D: Ledger + Send + Sync,
+    L: Ledgers + Send + Sync,
     R: Threads + Wait + Sync,
-    requires first { (blanks.0.name ≡ P0.name) × (blanks.0.parts ≡ P0.parts) × (0 < P0.parts) }
-    requires second { (blanks.1.name ≡ P1.name) × (blanks.1.parts ≡ P1.parts) × (0 < P1.parts) }
-    requires third { (blanks.2.name ≡ P2.name) × (blanks.2.parts ≡ P2.parts) × (0 < P2.parts) }
-    requires fourth { (blanks.3.name ≡ P3.name) × (blanks.3.parts ≡ P3.parts) × (0 < P3.parts) }
-    requires driver { (blanks.4.name ≡ D.name) × (blanks.4.parts ≡ D.parts) × (0 < D.parts) }
+    requires first { (blanks.0.name ≡ L.name 0) × (blanks.0.parts ≡ L.parts 0) × (0 < L.parts 0) }
+    requires second { (blanks.1.name ≡ L.name 1) × (blanks.1.parts ≡ L.parts 1) × (0 < L.parts 1) }
+    requires third { (blanks.2.name ≡ L.name 2) × (blanks.2.parts ≡ L.parts 2) × (0 < L.parts 2) }
+    requires fourth { (blanks.3.name ≡ L.name 3) × (blanks.3.parts ≡ L.parts 3) × (0 < L.parts 3) }
+    requires driver { (blanks.4.name ≡ L.name 4) × (blanks.4.parts ≡ L.parts 4) × (0 < L.parts 4) }
 {
     let Played {
         site,
@@ -442,9 +410,7 @@ where
     } = played;
     let begun = site.log().len();
     let (first, second, third, fourth, driver) = blanks;
-    let (line, ports, driver) = Line::<P0, P1, P2, P3, D>::new(
-        site, first, second, third, fourth, driver,
-    );
+    let (line, ports, driver) = Line::<L>::new(site, first, second, third, fourth, driver);
     let mut ports = ports.into_iter();
     let ports = (
         ports.next().unwrap_or_default(),
@@ -593,9 +559,7 @@ fn goes_further<R: Threads + Wait + Sync>(
     let none = [false; 4];
     played.turnover.ended = none;
     let blanks = blanks();
-    let mut played = session::<Brand, Brand, Brand, Brand, Brand, R>(
-        rt, alloc, played, blanks, &directory, records,
-    );
+    let mut played = session::<Brand, R>(rt, alloc, played, blanks, &directory, records);
     records.clear();
     reads(&mut played.keeps, records)?;
     looks(&played.site, records, &played.turnover)?;

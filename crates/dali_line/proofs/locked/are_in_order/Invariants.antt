@@ -1,7 +1,0 @@
-use Rattle.std.proofs.Common.{◌≡◌, ◌<◌, ℕ}
-use Rattle.std.specs.Prelude.{slice_index_or}
-use Rattle.dali_line.specs.Shares.{no_share}
-use Rattle.dali_line.proofs.locked.are_in_order.Given as goal
-
-abbrev pub invariant-loop-place : goal.invariant-loop-place
-invariant-loop-place g l = (i : ℕ) → i < l.place → (slice_index_or l.ports i no_share).controller ≡ i
