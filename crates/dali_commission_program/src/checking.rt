@@ -8,6 +8,7 @@ use crate::stores::{Borrower, Stores};
 use dali_commission_words::Bounds;
 use dali_commissioning::{Checked, Driver, check, places};
 use dali_reserve::{Keep, MemoryKeep};
+use dali_script::Block;
 use std::cell::RefCell;
 use std::io;
 use std::io::Eprint;
