@@ -4,7 +4,7 @@ use Rattle.std.proofs.lemmas.List.{append_assoc, append-nil}
 use Rattle.dali_script.specs.declared.block.Block.{Block}
 use Rattle.dali_script.specs.declared.records.Record.{Record}
 use Rattle.dali_script.specs.declared.orders.Input.{Input}
-use Rattle.dali_script.specs.declared.orders.Input.TheVariants.{Start, Survey, Heard, Destroyed, Lapsed, Committed, CommitFailed}
+use Rattle.dali_script.specs.declared.orders.Input.TheVariants.{Committed}
 use Rattle.dali_script.specs.declared.orders.End.TheVariants.{AllFound}
 use Rattle.dali_script.specs.Due.{record_ordered}
 use Rattle.dali_script.specs.Records.{Kept}
@@ -26,12 +26,7 @@ neither false b e = (refl, e)
 
 unkept : (told : Input) (x : Option Record) → is_kept told ≡ false → record_told told x ≡ []
 unkept Committed x e = absurd (false≢true (sym e))
-unkept Start x e = refl
-unkept Survey x e = refl
-unkept (Heard h) x e = refl
-unkept Destroyed x e = refl
-unkept Lapsed x e = refl
-unkept CommitFailed x e = refl
+unkept _ x e = refl
 
 pub uncommitted : (steps : List Step) → has_committed steps ≡ false → committed_by steps ≡ []
 uncommitted [] e = refl

@@ -66,11 +66,7 @@ begins : (first : Input) → accepts due.Start first ≡ true
     → AreTold first [] × (None ≡ if_heard first None) × (record_told first None ≡ []) × (false ≡ is_kept first)
 begins Start may = (refl, refl, refl, refl)
 begins Survey may = (refl, refl, refl, refl)
-begins (Heard h) may = absurd (false≢true may)
-begins Destroyed may = absurd (false≢true may)
-begins Lapsed may = absurd (false≢true may)
-begins Committed may = absurd (false≢true may)
-begins CommitFailed may = absurd (false≢true may)
+begins _ may = absurd (false≢true may)
 
 -- before the first order is done
 pub at_begun : {S : Type 0} (is_up is_sound : S → Type 0) (holds : S → List Record → Type 0)

@@ -35,10 +35,7 @@ waits : (k : Controller) → k.up ≡ true → IsCommit k.last → due_of k ≡ 
 waits k up commit = rw up (waits_after k.last commit) where
   waits_after : (last : Option Order) → IsCommit last → due_after last ≡ due.Store
   waits_after (Some (Commit x)) commit = refl
-  waits_after (Some (Put p f)) commit = absurd commit
-  waits_after (Some (Done e)) commit = absurd commit
-  waits_after (Some (Halt e)) commit = absurd commit
-  waits_after None commit = absurd commit
+  waits_after _ commit = absurd commit
 
 -- what the store holds, once its controller has heard the input: what was kept with the outstanding record or without it
 abbrev Remembers : Kept → Controller → Type 0
@@ -59,12 +56,7 @@ after_input : (k : Controller) (held : Kept) (pending : Option Record) (i : Inpu
     → IsInStepBy pending held k
     → Remembers held (controller_informed k i)
 after_input k held pending input.Committed is made step = inr (after_commit k held pending is (made refl is) step)
-after_input k held pending input.CommitFailed is made step = remembers k held pending step
-after_input k held pending input.Start is made step = remembers k held pending step
-after_input k held pending input.Survey is made step = remembers k held pending step
-after_input k held pending (input.Heard h) is made step = remembers k held pending step
-after_input k held pending input.Destroyed is made step = remembers k held pending step
-after_input k held pending input.Lapsed is made step = remembers k held pending step
+after_input k held pending _ is made step = remembers k held pending step
 
 without_outstanding : (j : Controller) (held : Kept) → j.outstanding ≡ None → Remembers held j → held ≡ j.records
 without_outstanding j held none (inl with_it) = with_it ∙ ap (λ (x : Option Record). with_outstanding j.records x) none

@@ -50,9 +50,7 @@ goes n given m c d i result number up is stepped refused same =
 -- who is given something has a turn
 given_turn : (d : Due) (n given : Installation) (c : ℕ) (i : Input) → IsGivenBy d n c i given → has_turn_by d (controller n c) ≡ true
 given_turn due.Store n given c i is = refl
-given_turn due.Start n given c i is = rw (is.0) refl
-given_turn due.Bus n given c i is = rw (is.0) refl
-given_turn due.Nothing n given c i is = rw (is.0) refl
+given_turn _ n given c i is = rw (is.0) refl
 
 pub gone : (n given m : Installation) (c : ℕ) (i : Input) (o : Order) → c < length n.site.plan.blocks → (controller n c).up ≡ true → IsGiven n c i given
     → HasStepped given c i o m → HasTurn n c (Ok (Some o)) m

@@ -73,10 +73,8 @@ stops_in : (s t u : Player) (lines left rest : NumberedLines) (before now : List
     → StopsIn (record { player = s; left = lines }) e
 stops_in s t u lines left rest before now kept all said text old new n line (BadLine k) was first takes =
     was.bad k (rw first (inl (sym takes.0, takes.1)))
-stops_in s t u lines left rest before now kept all said text old new n line (BadPlan e) was first takes = absurd takes
 stops_in s t u lines left rest before now kept all said text old new n line Memory was first takes = tt
-stops_in s t u lines left rest before now kept all said text old new n line Read was first takes = absurd takes
-stops_in s t u lines left rest before now kept all said text old new n line Write was first takes = absurd takes
+stops_in s t u lines left rest before now kept all said text old new n line _ was first takes = absurd takes
 
 pub stops_all : (s t u q : Player) (lines left rest : NumberedLines) (before now more : List PlayedLine) (kept all end : List Event)
     (said text whole old new : List ℕ) (n : ℕ) (line : List ℕ) (e : ReplayFault) (r : Result (Unit {0}) ReplayFault)

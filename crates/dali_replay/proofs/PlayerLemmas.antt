@@ -93,10 +93,8 @@ plays_want form (player.Site n) lines a r is = site_memory form n n lines lines 
 plays_stop : (form : Form) (s t : Player) (n : ℕ) (line old new : List ℕ) (lines rest : NumberedLines) (e : ReplayFault) (a : Option (List ℕ))
     → Takes s n line old t new (Err e) → lines ≡ (n, line) ∷ rest → PlaysOn {A = Unit {0}} form s lines a a (Err e)
 plays_stop form s t n line old new lines rest (BadLine k) a takes next = rw (next, takes.0) (plays_bad form s rest n line a takes.1)
-plays_stop form s t n line old new lines rest (BadPlan e) a takes next = absurd takes
 plays_stop form s t n line old new lines rest Memory a takes next = plays_want form s lines a (Err Memory) refl
-plays_stop form s t n line old new lines rest Read a takes next = absurd takes
-plays_stop form s t n line old new lines rest Write a takes next = absurd takes
+plays_stop form s t n line old new lines rest _ a takes next = absurd takes
 
 pub plays_fault : (form : Form) (s t : Player) (n : ℕ) (line old new : List ℕ) (lines rest : NumberedLines) (e : ReplayFault) (a : Option (List ℕ))
     (r : Result (Unit {0}) ReplayFault)

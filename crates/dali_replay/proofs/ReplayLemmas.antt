@@ -92,32 +92,12 @@ module _ (form : Form) (n u : Installation) (lines left : NumberedLines) (a b : 
 pub plan_refused : (gear : ℕ) (blocks : List (ℕ × ℕ)) (draws : List ℕ) (e : PlanError) → IsRefusal gear blocks draws e → (e ≡ plan_error.NoMemory → ⊥)
     → refusal_of gear blocks draws ≡ Some e
 plan_refused gear blocks draws plan_error.NoMemory is not = absurd (not refl)
-plan_refused gear blocks draws plan_error.GearCount is not = is
-plan_refused gear blocks draws plan_error.ControllerCount is not = is
-plan_refused gear blocks draws plan_error.BlockOrder is not = is
-plan_refused gear blocks draws plan_error.BlockOverlap is not = is
-plan_refused gear blocks draws plan_error.DrawTooLarge is not = is
-plan_refused gear blocks draws plan_error.DrawTwice is not = is
-plan_refused gear blocks draws plan_error.UnknownGear is not = is
-plan_refused gear blocks draws plan_error.GearTwice is not = is
-plan_refused gear blocks draws plan_error.ShortTwice is not = is
-plan_refused gear blocks draws plan_error.RandomTooLarge is not = is
-plan_refused gear blocks draws plan_error.RandomTwice is not = is
+plan_refused gear blocks draws _ is not = is
 
 -- and of used gear
 pub used_refused : (p : Plan) (us : List Used) (e : PlanError) → IsUsedRefusal p us e → (e ≡ plan_error.NoMemory → ⊥) → used_refusal_of p us ≡ Some e
 used_refused p us plan_error.NoMemory is not = absurd (not refl)
-used_refused p us plan_error.GearCount is not = is
-used_refused p us plan_error.ControllerCount is not = is
-used_refused p us plan_error.BlockOrder is not = is
-used_refused p us plan_error.BlockOverlap is not = is
-used_refused p us plan_error.DrawTooLarge is not = is
-used_refused p us plan_error.DrawTwice is not = is
-used_refused p us plan_error.UnknownGear is not = is
-used_refused p us plan_error.GearTwice is not = is
-used_refused p us plan_error.ShortTwice is not = is
-used_refused p us plan_error.RandomTooLarge is not = is
-used_refused p us plan_error.RandomTwice is not = is
+used_refused p us _ is not = is
 
 -- memory ran out before the first text
 setting_memory : (B : Type 0) (form : Form) (a : Option (List ℕ)) (is_bench : Bool) (p : Plan) (lines : NumberedLines)

@@ -1,4 +1,4 @@
-use Rattle.std.proofs.Common.{◌*◌, subst}
+use Rattle.std.proofs.Common.{subst}
 use Rattle.std.specs.Io.KnownBytes.{Appends}
 use Rattle.dali_commissioning.specs.declared.lines.Half.TheVariants.{Whole}
 use Rattle.dali_commissioning.specs.Drivers.{writer_of}
