@@ -279,11 +279,9 @@ draws_there : (s : SiteState) (r : Request) (t : Trouble) → (IsSpent s r t →
 draws_there s r t enough = grind (arith, enough)
 
 everyone : (t : Trouble) → IsSendable t → reach_under t ≡ Everyone
-everyone trouble.None is = refl
-everyone trouble.AnswerLost is = refl
-everyone trouble.Noise is = refl
 everyone (trouble.Destroyed set) is = elim is [ ]
 everyone trouble.Collision is = elim is [ ]
+everyone _ is = refl
 
 abbrev HasGiftRoom : Standing → Reach → Request → Type 0
 HasGiftRoom old reach r = length (old.gifts ++ stored_of reach (command_of r.frame) 0 old.gear) ≤ length old.gear
