@@ -7,18 +7,12 @@ pub returns-in_default-clause-runs : goal.returns-in_default-clause-runs
 returns-in_default-clause-runs g c =
     let none : c.given.result ≡ None = search rules in
     let idle = c.given.ensures.none none in
-    runs_idle g.K.Keep.is_up g.K.Keep.is_sound g.K.Keep.holds g.K.Keep.block
-    (facts_of g.B.Bus.acted g.B.Bus.refused g.B.Bus.told g.B.Bus.untold g.B.Bus.unordered g.B.Bus.ordered g.B.Bus.is_down
-    (g.B.Bus.is_stopped c.args.bus.now) c.args.surveys)
-    _ _ _ _ _ _ _ _ idle.1 c.given.ensures.last c.given.ensures.port idle.0 refl
+    runs_idle _ _ _ _ _ _ _ _ _ _ _ _ _ idle.1 c.given.ensures.last c.given.ensures.port idle.0 refl
 
 pub returns-clause-runs : goal.returns-clause-runs
 returns-clause-runs g c =
-    runs_acted g.K.Keep.is_up g.K.Keep.is_sound g.K.Keep.holds g.K.Keep.block
-    (facts_of g.B.Bus.acted g.B.Bus.refused g.B.Bus.told g.B.Bus.untold g.B.Bus.unordered g.B.Bus.ordered g.B.Bus.is_down
-    (g.B.Bus.is_stopped c.args.bus.now) c.args.surveys)
-    _ _ _ _ _ _ _ _ _ _ _ c.in-Some.input _ _ c.in-Some.ensures.gives c.given.ensures.block c.given.ensures.last c.given.ensures.port c.tell.ensures.keep
-    (c.tell.ensures.tells c.args.surveys)
+    runs_acted _ _ _ _ _ _ _ _ _ _ _ _ _ _ _ _ c.in-Some.input _ _ c.in-Some.ensures.gives c.given.ensures.block c.given.ensures.last
+    c.given.ensures.port c.tell.ensures.keep (c.tell.ensures.tells c.args.surveys)
 
 pub returns-clause-unspent : goal.returns-clause-unspent
 returns-clause-unspent g c =

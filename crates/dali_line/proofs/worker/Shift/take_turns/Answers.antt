@@ -1,17 +1,12 @@
-use Rattle.std.proofs.Common.{rules, ◌≡◌, ◌+◌, ◌≤◌, ◌∙◌, arith, subst}
-use Rattle.std.specs.declared.option.Option.{Option}
+use Rattle.std.proofs.Common.{rules, ◌≡◌, ◌+◌, ◌≤◌, ◌∙◌, arith}
 use Rattle.std.specs.declared.option.Option.TheVariants.{None}
-use Rattle.dali_line.specs.declared.outcome.Outcome.{Outcome}
-use Rattle.dali_line.specs.Facts.{facts_of}
-use Rattle.dali_line.specs.Runs.{Runs}
 use Rattle.dali_line.proofs.Leaving.{leaves_more}
 use Rattle.dali_line.proofs.Learning.{keeps_more, posts_more}
 use Rattle.dali_line.proofs.Running.{runs_more, runs_wider}
 use Rattle.dali_line.proofs.worker.Shift.take_turns.Goals as goal
 
 pub returns-in-Some-clause-keep : goal.returns-in-Some-clause-keep
-returns-in-Some-clause-keep g c =
-    leaves_more g.K.Keep.is_up g.K.Keep.is_sound g.K.Keep.holds _ _ _ c.loop.invariant.keep c.take_turn.ensures.keep
+returns-in-Some-clause-keep g c = leaves_more _ _ _ _ _ _ c.loop.invariant.keep c.take_turn.ensures.keep
 
 pub returns-in-Some-clause-known : goal.returns-in-Some-clause-known
 returns-in-Some-clause-known g c =
@@ -19,20 +14,14 @@ returns-in-Some-clause-known g c =
 
 pub returns-in-Some-clause-posted : goal.returns-in-Some-clause-posted
 returns-in-Some-clause-posted g c =
-    posts_more g.K.Keep.is_up g.K.Keep.is_sound g.K.Keep.holds _ _ _ _ _ _
-    c.loop.invariant.keep c.take_turn.ensures.keep c.loop.invariant.posted c.take_turn.ensures.posted
+    posts_more _ _ _ _ _ _ _ _ _ c.loop.invariant.keep c.take_turn.ensures.keep c.loop.invariant.posted c.take_turn.ensures.posted
 
 pub returns-in-Some-clause-runs : goal.returns-in-Some-clause-runs
 returns-in-Some-clause-runs g c =
     let wide : c.loop.counter + 1 ≤ c.args.turns = search rules in
-    runs_wider g.K.Keep.is_up g.K.Keep.is_sound g.K.Keep.holds g.K.Keep.block
-    (facts_of g.B.Bus.acted g.B.Bus.refused g.B.Bus.told g.B.Bus.untold g.B.Bus.unordered g.B.Bus.ordered g.B.Bus.is_down
-    (g.B.Bus.is_stopped c.args.bus.now) c.args.surveys)
-    _ _ _ _ _ _ _ _ (c.loop.counter + 1) _ c.in-Some.end c.in-Some.ensures.unspent wide
-    (runs_more g.K.Keep.is_up g.K.Keep.is_sound g.K.Keep.holds g.K.Keep.block
-    (facts_of g.B.Bus.acted g.B.Bus.refused g.B.Bus.told g.B.Bus.untold g.B.Bus.unordered g.B.Bus.ordered g.B.Bus.is_down
-    (g.B.Bus.is_stopped c.args.bus.now) c.args.surveys)
-    _ _ _ _ _ _ _ _ _ _ _ _ c.loop.counter 1 _ c.loop.invariant.keep c.in-Some.ensures.keep c.loop.invariant.runs c.in-Some.ensures.runs)
+    runs_wider _ _ _ _ _ _ _ _ _ _ _ _ _ (c.loop.counter + 1) _ c.in-Some.end c.in-Some.ensures.unspent wide
+    (runs_more _ _ _ _ _ _ _ _ _ _ _ _ _ _ _ _ _ c.loop.counter 1 _ c.loop.invariant.keep c.in-Some.ensures.keep c.loop.invariant.runs
+    c.in-Some.ensures.runs)
 
 pub loop-preserved : goal.loop-preserved
 loop-preserved g c =
@@ -45,17 +34,9 @@ loop-preserved g c =
     let none : c.take_turn.result ≡ None = search rules in
     record {
       port = record { controller = turn.port.controller ∙ inside.port.controller; least = omega arith; most = omega arith };
-      keep = leaves_more g.K.Keep.is_up g.K.Keep.is_sound g.K.Keep.holds _ _ _ inside.keep turn.keep;
+      keep = leaves_more _ _ _ _ _ _ inside.keep turn.keep;
       pass = turn.pass ∙ inside.pass;
       known = keeps_more c.args.pass.now c.loop.pass c.take_turn.new.pass inside.known turn.known;
-      posted = posts_more g.K.Keep.is_up g.K.Keep.is_sound g.K.Keep.holds _ _ _ _ _ _ inside.keep turn.keep inside.posted turn.posted;
-      runs = runs_more g.K.Keep.is_up g.K.Keep.is_sound g.K.Keep.holds g.K.Keep.block
-          (facts_of g.B.Bus.acted g.B.Bus.refused g.B.Bus.told g.B.Bus.untold g.B.Bus.unordered g.B.Bus.ordered g.B.Bus.is_down
-          (g.B.Bus.is_stopped c.args.bus.now) c.args.surveys)
-          _ _ _ _ _ _ _ _ _ _ _ _ c.loop.counter 1 _ inside.keep turn.keep inside.runs
-          (subst (λ (end : Option Outcome). Runs g.K.Keep.is_up g.K.Keep.is_sound g.K.Keep.holds g.K.Keep.block
-          (facts_of g.B.Bus.acted g.B.Bus.refused g.B.Bus.told g.B.Bus.untold g.B.Bus.unordered g.B.Bus.ordered g.B.Bus.is_down
-          (g.B.Bus.is_stopped c.args.bus.now) c.args.surveys)
-          c.loop.self.last c.take_turn.new.self.last (g.B.Bus.share c.loop.self.port) (g.B.Bus.share c.take_turn.new.self.port)
-          c.loop.self.keep c.take_turn.new.self.keep c.loop.pass c.take_turn.new.pass 1 end) none turn.runs);
+      posted = posts_more _ _ _ _ _ _ _ _ _ inside.keep turn.keep inside.posted turn.posted;
+      runs = runs_more _ _ _ _ _ _ _ _ _ _ _ _ _ _ _ _ _ c.loop.counter 1 _ inside.keep turn.keep inside.runs (rw none at turn.runs);
     }
