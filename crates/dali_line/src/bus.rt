@@ -14,13 +14,13 @@ ghost use Rattle.dali_line.specs.Calls.{IsUnorderedFrom, IsDownFrom};
 ghost use Rattle.dali_line.specs.Calls.{PumpsFrom, LapsesFrom};
 
 use crate::driver::Driver;
-use crate::ledgers::Ledgers;
 use crate::line::Line;
 use crate::port::Port;
 use crate::ready::Ready;
 use dali_script::{Due, Input, Record};
 use dali_world::{Receipt, Refusal, Report, Trouble};
 use std::sync::Wait;
+use std::sync::ledger::Ledger;
 
 /// A site that threads share: all that a worker and a pumper need of it. A [`Line`] is one; a vendor may write another,
 /// as one round a line that counts its calls.
@@ -160,10 +160,10 @@ pub trait Bus {
         ensures { IsTrue result → is_stopped self.now };
 }
 
-impl<L: Ledgers> Bus for Line<L> {
-    type Port = Port<L>;
+impl<P0: Ledger, P1: Ledger, P2: Ledger, P3: Ledger, D: Ledger> Bus for Line<P0, P1, P2, P3, D> {
+    type Port = Port<P0, P1, P2, P3, D>;
 
-    type Driver = Driver<L>;
+    type Driver = Driver<P0, P1, P2, P3, D>;
 
     ghost share = { λ port. port };
 
@@ -196,53 +196,62 @@ impl<L: Ledgers> Bus for Line<L> {
 
     ghost is_told_to_stop = { λ _. Unit {0} };
 
-    fn controller(&self, port: &Port<L>) -> u8 {
+    fn controller(&self, port: &Port<P0, P1, P2, P3, D>) -> u8 {
         port.controller()
     }
 
-    fn act<R: Wait>(&self, rt: &R, port: &mut Port<L>, input: Input) -> Result<Receipt, Refusal> {
+    fn act<R: Wait>(
+        &self,
+        rt: &R,
+        port: &mut Port<P0, P1, P2, P3, D>,
+        input: Input,
+    ) -> Result<Receipt, Refusal> {
         self.act(rt, port, input)
     }
 
     #[tactic(auto, using(crate::proofs::Telling::told_of_bus))]
-    fn next<R: Wait>(&self, rt: &R, port: &mut Port<L>) -> Option<Input> {
+    fn next<R: Wait>(&self, rt: &R, port: &mut Port<P0, P1, P2, P3, D>) -> Option<Input> {
         self.next(rt, port)
     }
 
-    fn due<R: Wait>(&self, rt: &R, port: &mut Port<L>) -> Due {
+    fn due<R: Wait>(&self, rt: &R, port: &mut Port<P0, P1, P2, P3, D>) -> Due {
         self.due(rt, port)
     }
 
-    fn wait<R: Wait>(&self, rt: &R, port: &mut Port<L>) -> bool {
+    fn wait<R: Wait>(&self, rt: &R, port: &mut Port<P0, P1, P2, P3, D>) -> bool {
         self.wait(rt, port)
     }
 
-    fn begin_commit<R: Wait>(&self, rt: &R, port: &mut Port<L>) -> Option<Record> {
+    fn begin_commit<R: Wait>(&self, rt: &R, port: &mut Port<P0, P1, P2, P3, D>) -> Option<Record> {
         self.begin_commit(rt, port)
     }
 
-    fn end_commit<R: Wait>(&self, rt: &R, port: &mut Port<L>, is_made: bool) {
+    fn end_commit<R: Wait>(&self, rt: &R, port: &mut Port<P0, P1, P2, P3, D>, is_made: bool) {
         self.end_commit(rt, port, is_made)
     }
 
-    fn wait_for_room<R: Wait>(&self, rt: &R, port: &mut Port<L>) -> bool {
+    fn wait_for_room<R: Wait>(&self, rt: &R, port: &mut Port<P0, P1, P2, P3, D>) -> bool {
         self.wait_for_room(rt, port)
     }
 
     fn pump<R: Wait>(
         &self,
         rt: &R,
-        driver: &mut Driver<L>,
+        driver: &mut Driver<P0, P1, P2, P3, D>,
         trouble: Trouble,
     ) -> Result<Report, Refusal> {
         self.pump(rt, driver, trouble)
     }
 
-    fn lapse<R: Wait>(&self, rt: &R, driver: &mut Driver<L>) -> Result<Option<u8>, Refusal> {
+    fn lapse<R: Wait>(
+        &self,
+        rt: &R,
+        driver: &mut Driver<P0, P1, P2, P3, D>,
+    ) -> Result<Option<u8>, Refusal> {
         self.lapse(rt, driver)
     }
 
-    fn ready<R: Wait>(&self, rt: &R, driver: &mut Driver<L>) -> Ready {
+    fn ready<R: Wait>(&self, rt: &R, driver: &mut Driver<P0, P1, P2, P3, D>) -> Ready {
         self.ready(rt, driver)
     }
 

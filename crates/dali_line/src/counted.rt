@@ -9,7 +9,6 @@ ghost use Rattle.dali_line.specs.Counts.{counts_of, others_of, shares_of, AreInO
 
 use crate::commits::{CommitState, Commits};
 use crate::driver::Driver;
-use crate::ledgers::Ledgers;
 use crate::port::Port;
 use crate::tally::Tally;
 use crate::up_refusal::UpRefusal;
@@ -17,20 +16,21 @@ use arrayvec::ArrayVec;
 use dali_frame::Forward;
 use dali_script::{Due, Input, Kept, Record};
 use dali_world::{Receipt, Refusal, Report, SiteState, Trouble};
+use std::sync::ledger::Ledger;
 
 /// A site, how many events of its log are whose, and whose workers are at a commit.
 ///
 /// Each call audits its caller's share and makes the site's call. Where that adds an event, the share is raised with
 /// the tally.
 #[derive(Drop)]
-pub(crate) struct CountedSite<L: Ledgers> {
+pub(crate) struct CountedSite<P0: Ledger, P1: Ledger, P2: Ledger, P3: Ledger, D: Ledger> {
     pub(crate) site: SiteState,
-    tally: Tally<L>,
+    tally: Tally<P0, P1, P2, P3, D>,
     commits: Commits,
     ghost exact: { tally ≡ counts_of site.log },
 }
 
-impl<L: Ledgers> CountedSite<L> {
+impl<P0: Ledger, P1: Ledger, P2: Ledger, P3: Ledger, D: Ledger> CountedSite<P0, P1, P2, P3, D> {
     ghost use Rattle.dali_world.specs.Site.{Acts, world, share_of, IsSound};
     ghost use Rattle.dali_line.specs.Shares.{raised_share, total_of};
     ghost use Rattle.dali_line.specs.Found.{IsFoundFrom, IsFoundByDriver, HasDue, MayOffer, HaveEnded, events_in};
@@ -40,7 +40,10 @@ impl<L: Ledgers> CountedSite<L> {
     ghost use Rattle.dali_line.specs.Calls.{Offers, PumpsOnce, Lapses, FallsQuiet, Powers, Expires, GoesDown, ComesUp};
 
     /// A site with the tally of its log, of which nobody has begun a commit.
-    pub(crate) fn new(site: SiteState, tally: Tally<L>) -> CountedSite<L>
+    pub(crate) fn new(
+        site: SiteState,
+        tally: Tally<P0, P1, P2, P3, D>,
+    ) -> CountedSite<P0, P1, P2, P3, D>
         requires { tally ≡ counts_of site.log }
         ensures { result.site ≡ site }
     {
@@ -52,7 +55,7 @@ impl<L: Ledgers> CountedSite<L> {
     }
 
     /// Says what the port's holder knows of the site. It changes nothing.
-    pub(crate) fn audit(&mut self, port: &mut Port<L>)
+    pub(crate) fn audit(&mut self, port: &mut Port<P0, P1, P2, P3, D>)
         ensures found { IsFoundFrom port.old self.old.site }
         ensures few { length (world self.new.site).controllers ≤ 4 }
         ensures site { self.new.site ≡ self.old.site }
@@ -65,7 +68,11 @@ impl<L: Ledgers> CountedSite<L> {
     }
 
     /// A controller acts. Where it was accepted, its worker is at no commit any more.
-    pub(crate) fn act(&mut self, port: &mut Port<L>, input: Input) -> Result<Receipt, Refusal>
+    pub(crate) fn act(
+        &mut self,
+        port: &mut Port<P0, P1, P2, P3, D>,
+        input: Input,
+    ) -> Result<Receipt, Refusal>
         ensures found { IsFoundFrom port.old self.old.site }
         ensures answer { Acts self.old.site port.old.controller input result self.new.site }
         ensures accepted { OnOk result (port.new ≡ raised_share port.old) }
@@ -86,7 +93,11 @@ impl<L: Ledgers> CountedSite<L> {
 
     /// A controller offers a frame of direct arc power.
     #[tactic(auto, unfolding(crate::specs::Calls::Offers))]
-    pub(crate) fn arc(&mut self, port: &mut Port<L>, frame: Forward) -> Result<(), Refusal>
+    pub(crate) fn arc(
+        &mut self,
+        port: &mut Port<P0, P1, P2, P3, D>,
+        frame: Forward,
+    ) -> Result<(), Refusal>
         ensures found { IsFoundFrom port.old self.old.site }
         ensures answer { Offers self.old.site port.old.controller frame result self.new.site }
         ensures accepted { OnOk result (port.new ≡ raised_share port.old) }
@@ -170,7 +181,7 @@ impl<L: Ledgers> CountedSite<L> {
 
     /// The port's holder makes no commit any more. Where it had begun one, the store has the record (true), or maybe
     /// not.
-    pub(crate) fn end_commit(&mut self, port: &Port<L>, is_made: bool)
+    pub(crate) fn end_commit(&mut self, port: &Port<P0, P1, P2, P3, D>, is_made: bool)
         ensures ended { state_of self.old.commits port.now.controller ≡ commit.Begun → self.new.commits
             ≡ slice_set self.old.commits port.now.controller (if is_made then commit.Made else commit.Settled) }
         ensures not_begun { (state_of self.old.commits port.now.controller ≡ commit.Begun → ⊥)
@@ -196,7 +207,7 @@ impl<L: Ledgers> CountedSite<L> {
     }
 
     /// Says what the driver's holder knows of the site. It changes nothing.
-    pub(crate) fn audit_driver(&mut self, driver: &mut Driver<L>)
+    pub(crate) fn audit_driver(&mut self, driver: &mut Driver<P0, P1, P2, P3, D>)
         ensures found { IsFoundByDriver driver.old self.old.site }
         ensures whole { total_of (counts_of self.old.site.log) ≡ length self.old.site.log }
         ensures site { self.new.site ≡ self.old.site }
@@ -212,7 +223,7 @@ impl<L: Ledgers> CountedSite<L> {
     #[tactic(auto, unfolding(crate::specs::Calls::PumpsOnce))]
     pub(crate) fn pump(
         &mut self,
-        driver: &mut Driver<L>,
+        driver: &mut Driver<P0, P1, P2, P3, D>,
         trouble: Trouble,
     ) -> Result<Report, Refusal>
         ensures found { IsFoundByDriver driver.old self.old.site }
@@ -231,7 +242,10 @@ impl<L: Ledgers> CountedSite<L> {
 
     /// The owner loses the bus.
     #[tactic(auto, unfolding(crate::specs::Calls::Lapses))]
-    pub(crate) fn lapse(&mut self, driver: &mut Driver<L>) -> Result<Option<u8>, Refusal>
+    pub(crate) fn lapse(
+        &mut self,
+        driver: &mut Driver<P0, P1, P2, P3, D>,
+    ) -> Result<Option<u8>, Refusal>
         ensures found { IsFoundByDriver driver.old self.old.site }
         ensures answer { Lapses self.old.site result self.new.site }
         ensures accepted { OnOk result (driver.new ≡ driver.old + 1) }
@@ -246,7 +260,7 @@ impl<L: Ledgers> CountedSite<L> {
 
     /// Half pairs are forgotten.
     #[tactic(auto, unfolding(crate::specs::Calls::FallsQuiet))]
-    pub(crate) fn quiet(&mut self, driver: &mut Driver<L>) -> Result<(), Refusal>
+    pub(crate) fn quiet(&mut self, driver: &mut Driver<P0, P1, P2, P3, D>) -> Result<(), Refusal>
         ensures found { IsFoundByDriver driver.old self.old.site }
         ensures answer { FallsQuiet self.old.site result self.new.site }
         ensures accepted { OnOk result (driver.new ≡ driver.old + 1) }
@@ -263,7 +277,7 @@ impl<L: Ledgers> CountedSite<L> {
     #[tactic(auto, unfolding(crate::specs::Calls::Powers))]
     pub(crate) fn power(
         &mut self,
-        driver: &mut Driver<L>,
+        driver: &mut Driver<P0, P1, P2, P3, D>,
         number: u32,
         on: bool,
     ) -> Result<(), Refusal>
@@ -281,7 +295,11 @@ impl<L: Ledgers> CountedSite<L> {
 
     /// A gear's initialisation is over.
     #[tactic(auto, unfolding(crate::specs::Calls::Expires))]
-    pub(crate) fn expire(&mut self, driver: &mut Driver<L>, number: u32) -> Result<(), Refusal>
+    pub(crate) fn expire(
+        &mut self,
+        driver: &mut Driver<P0, P1, P2, P3, D>,
+        number: u32,
+    ) -> Result<(), Refusal>
         ensures found { IsFoundByDriver driver.old self.old.site }
         ensures answer { Expires self.old.site number result self.new.site }
         ensures accepted { OnOk result (driver.new ≡ driver.old + 1) }
@@ -296,7 +314,11 @@ impl<L: Ledgers> CountedSite<L> {
 
     /// A controller goes down.
     #[tactic(auto, unfolding(crate::specs::Calls::GoesDown))]
-    pub(crate) fn down(&mut self, driver: &mut Driver<L>, c: u8) -> Result<(), Refusal>
+    pub(crate) fn down(
+        &mut self,
+        driver: &mut Driver<P0, P1, P2, P3, D>,
+        c: u8,
+    ) -> Result<(), Refusal>
         ensures found { IsFoundByDriver driver.old self.old.site }
         ensures answer { GoesDown self.old.site c result self.new.site }
         ensures accepted { OnOk result (driver.new ≡ driver.old + 1) }
@@ -330,7 +352,12 @@ impl<L: Ledgers> CountedSite<L> {
 
     /// A controller comes up with a copy of its records, unless a commit for it is open.
     #[tactic(auto, unfolding(crate::specs::Calls::ComesUp))]
-    pub(crate) fn up(&mut self, driver: &mut Driver<L>, c: u8, copy: &Kept) -> Result<(), UpRefusal>
+    pub(crate) fn up(
+        &mut self,
+        driver: &mut Driver<P0, P1, P2, P3, D>,
+        c: u8,
+        copy: &Kept,
+    ) -> Result<(), UpRefusal>
         ensures found { IsFoundByDriver driver.old self.old.site }
         ensures answer { ComesUp self.old.site c copy.now result self.new.site }
         ensures accepted { OnOk result (driver.new ≡ driver.old + 1) }
@@ -375,7 +402,7 @@ impl<L: Ledgers> CountedSite<L> {
     }
 
     /// Says of each port what its holder knows of the site. It changes nothing.
-    fn audit_all(&mut self, ports: &mut [Port<L>])
+    fn audit_all(&mut self, ports: &mut [Port<P0, P1, P2, P3, D>])
         ensures exact { All (λ one. share_of one.controller self.old.site.log ≡ one.share) ports.old }
         ensures ports { ports.new ≡ ports.old }
         ensures site { self.new.site ≡ self.old.site }
@@ -387,7 +414,11 @@ impl<L: Ledgers> CountedSite<L> {
 
     /// The site, of which each share is what its log has, and whether there is a port for each of its controllers, in
     /// order.
-    pub(crate) fn close(self, ports: ArrayVec<Port<L>, 4>, driver: Driver<L>) -> (SiteState, bool)
+    pub(crate) fn close(
+        self,
+        ports: ArrayVec<Port<P0, P1, P2, P3, D>, 4>,
+        driver: Driver<P0, P1, P2, P3, D>,
+    ) -> (SiteState, bool)
         ensures site { result.0 ≡ self.site }
         ensures ports { All (λ one. share_of one.controller result.0.log ≡ one.share) ports.items }
         ensures driver { others_of result.0.log ≡ driver }
@@ -408,7 +439,7 @@ impl<L: Ledgers> CountedSite<L> {
     }
 
     /// Whether these are as many ports as there are controllers, each that of the controller whose number is its place.
-    fn has_all(&self, ports: &[Port<L>]) -> bool
+    fn has_all(&self, ports: &[Port<P0, P1, P2, P3, D>]) -> bool
         ensures few { length self.now.site.plan.blocks ≤ 4 }
         ensures all { IsTrue result ↔ (length ports.now ≡ length self.now.site.plan.blocks) × AreInOrder ports.now }
     {
@@ -417,7 +448,9 @@ impl<L: Ledgers> CountedSite<L> {
 }
 
 /// Whether each port is that of the controller whose number is its place.
-fn are_in_order<L: Ledgers>(ports: &[Port<L>]) -> bool
+fn are_in_order<P0: Ledger, P1: Ledger, P2: Ledger, P3: Ledger, D: Ledger>(
+    ports: &[Port<P0, P1, P2, P3, D>],
+) -> bool
     ensures { IsTrue result ↔ AreInOrder ports.now }
 {
     for place in 0..ports.len() {

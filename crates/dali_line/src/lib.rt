@@ -20,9 +20,9 @@
 //!
 //! Not proved: that a thread runs, that a wait ends, any order between threads.
 //!
-//! A line has a type parameter for the five ledgers of its shares ([`Ledgers`]). A function over it is called with
-//! `std::marker::Brand` and five blanks of one part each, `Blank::new(1)`; the caller's proof says that the ledgers are
-//! of those blanks.
+//! A line has five type parameters, the ledgers of its shares. A function over them is called with
+//! `std::marker::Brand` five times and five blanks of one part each, `Blank::new(1)`; the caller's proof says that
+//! they are of those blanks, a line each.
 #![tactic(auto)]
 
 mod bus;
@@ -32,7 +32,6 @@ mod count;
 mod counted;
 mod driver;
 mod gate;
-mod ledgers;
 mod line;
 mod locked;
 mod outcome;
@@ -48,7 +47,6 @@ mod worker;
 pub use bus::Bus;
 pub use driver::Driver;
 pub use gate::{Gate, Moment, OpenGate};
-pub use ledgers::Ledgers;
 pub use line::Line;
 pub use outcome::Outcome;
 pub use port::Port;

@@ -13,7 +13,6 @@ ghost use Rattle.dali_line.specs.Calls.{Offers, PumpsOnce, Lapses, FallsQuiet, P
 use crate::count::{others, steps};
 use crate::counted::CountedSite;
 use crate::driver::Driver;
-use crate::ledgers::{Ledgers, Numbered};
 use crate::locked::Locked;
 use crate::own::Own;
 use crate::port::{Kind, Port};
@@ -24,7 +23,7 @@ use arrayvec::ArrayVec;
 use dali_frame::Forward;
 use dali_script::{Due, Input, Kept, Record};
 use dali_world::{Receipt, Refusal, Report, SiteState, Trouble};
-use std::sync::ledger::Blank;
+use std::sync::ledger::{Blank, Ledger};
 use std::sync::{Condvar, Mutex, MutexGuard, Wait};
 
 /// A site under a lock, which threads share by reference.
@@ -40,12 +39,12 @@ use std::sync::{Condvar, Mutex, MutexGuard, Wait};
 /// A line in use: a `Worker` for each port and a `Pumper` for the driver, each in a thread of its own. A call that
 /// waits (`wait`, `wait_for_room`, `ready`) sleeps; nothing promises that it ends.
 #[derive(Drop)]
-pub struct Line<L: Ledgers> {
-    locked: Mutex<Locked<L>>,
+pub struct Line<P0: Ledger, P1: Ledger, P2: Ledger, P3: Ledger, D: Ledger> {
+    locked: Mutex<Locked<P0, P1, P2, P3, D>>,
     moved: Condvar,
 }
 
-impl<L: Ledgers> Line<L> {
+impl<P0: Ledger, P1: Ledger, P2: Ledger, P3: Ledger, D: Ledger> Line<P0, P1, P2, P3, D> {
     /// A line round this site, with a port for each of its controllers, in order of their numbers, and the driver.
     ///
     /// The shares begin at what the site's log has. It takes no memory.
@@ -56,12 +55,16 @@ impl<L: Ledgers> Line<L> {
         third: Blank,
         fourth: Blank,
         driver: Blank,
-    ) -> (Line<L>, ArrayVec<Port<L>, 4>, Driver<L>)
-        requires first { (first.name ≡ L.name 0) × (first.parts ≡ L.parts 0) × (0 < L.parts 0) }
-        requires second { (second.name ≡ L.name 1) × (second.parts ≡ L.parts 1) × (0 < L.parts 1) }
-        requires third { (third.name ≡ L.name 2) × (third.parts ≡ L.parts 2) × (0 < L.parts 2) }
-        requires fourth { (fourth.name ≡ L.name 3) × (fourth.parts ≡ L.parts 3) × (0 < L.parts 3) }
-        requires driver { (driver.name ≡ L.name 4) × (driver.parts ≡ L.parts 4) × (0 < L.parts 4) }
+    ) -> (
+        Line<P0, P1, P2, P3, D>,
+        ArrayVec<Port<P0, P1, P2, P3, D>, 4>,
+        Driver<P0, P1, P2, P3, D>,
+    )
+        requires first { (first.name ≡ P0.name) × (first.parts ≡ P0.parts) × (0 < P0.parts) }
+        requires second { (second.name ≡ P1.name) × (second.parts ≡ P1.parts) × (0 < P1.parts) }
+        requires third { (third.name ≡ P2.name) × (third.parts ≡ P2.parts) × (0 < P2.parts) }
+        requires fourth { (fourth.name ≡ P3.name) × (fourth.parts ≡ P3.parts) × (0 < P3.parts) }
+        requires driver { (driver.name ≡ D.name) × (driver.parts ≡ D.parts) × (0 < D.parts) }
         ensures ports { result.1.items ≡ shares_of site }
         ensures driver { result.2 ≡ others_of site.log }
         ensures promise { KeepsPromise site.plan site.queue site.log }
@@ -96,8 +99,8 @@ impl<L: Ledgers> Line<L> {
     /// how many are nobody's. Each event is in one of the shares of all controllers and the driver, and in one alone.
     pub fn close(
         self,
-        ports: ArrayVec<Port<L>, 4>,
-        driver: Driver<L>,
+        ports: ArrayVec<Port<P0, P1, P2, P3, D>, 4>,
+        driver: Driver<P0, P1, P2, P3, D>,
     ) -> Result<SiteState, SiteState>
         ensures all { IfOk result (λ s. IsGivenBack s ports.items driver × (ports.items ≡ shares_of s)) }
         ensures missing { IfErr result (λ s. IsGivenBack s ports.items driver × (ports.items ≡ shares_of s → ⊥)) }
@@ -109,7 +112,7 @@ impl<L: Ledgers> Line<L> {
     }
 
     /// The lock, for a call that may end a wait.
-    fn change<R: Wait>(&self, rt: &R) -> Change<'_, Locked<L>> {
+    fn change<R: Wait>(&self, rt: &R) -> Change<'_, Locked<P0, P1, P2, P3, D>> {
         Change {
             locked: self.locked.lock(rt),
             moved: &self.moved,
@@ -121,7 +124,12 @@ impl<L: Ledgers> Line<L> {
     ///
     /// Refusals, in this order: 1 UnknownController, 2 ControllerDown, 3 NotDue, 7 QueueFull, 8 LogFull,
     /// 10 AddressInUse.
-    pub fn act<R: Wait>(&self, rt: &R, port: &mut Port<L>, input: Input) -> Result<Receipt, Refusal>
+    pub fn act<R: Wait>(
+        &self,
+        rt: &R,
+        port: &mut Port<P0, P1, P2, P3, D>,
+        input: Input,
+    ) -> Result<Receipt, Refusal>
         ensures answer { FromPort port.old
             (λ s. (new : SiteState) × Acts s port.old.controller input result new) }
         ensures accepted { OnOk result (port.new ≡ raised_share port.old) }
@@ -135,7 +143,12 @@ impl<L: Ledgers> Line<L> {
     /// The port's controller asks to send a frame of direct arc power, as `SiteState::arc` says.
     ///
     /// Refusals, in this order: 1 UnknownController, 2 ControllerDown, 4 NotArc, 7 QueueFull, 8 LogFull.
-    pub fn arc<R: Wait>(&self, rt: &R, port: &mut Port<L>, frame: Forward) -> Result<(), Refusal>
+    pub fn arc<R: Wait>(
+        &self,
+        rt: &R,
+        port: &mut Port<P0, P1, P2, P3, D>,
+        frame: Forward,
+    ) -> Result<(), Refusal>
         ensures answer { FromPort port.old
             (λ s. (new : SiteState) × Offers s port.old.controller frame result new) }
         ensures accepted { OnOk result (port.new ≡ raised_share port.old) }
@@ -146,7 +159,7 @@ impl<L: Ledgers> Line<L> {
 
     /// What the bus has told the port's controller, and it has not acted on, as `SiteState::next` says; None of a spare
     /// port.
-    pub fn next<R: Wait>(&self, rt: &R, port: &mut Port<L>) -> Option<Input>
+    pub fn next<R: Wait>(&self, rt: &R, port: &mut Port<P0, P1, P2, P3, D>) -> Option<Input>
         ensures answer { FromPort port.old
             (λ s. result ≡ (controller_at (world s) port.old.controller).told) }
         ensures same { port.new ≡ port.old }
@@ -157,7 +170,7 @@ impl<L: Ledgers> Line<L> {
     }
 
     /// What is due for the port's controller, as `SiteState::due` says; Nothing for a spare port.
-    pub fn due<R: Wait>(&self, rt: &R, port: &mut Port<L>) -> Due
+    pub fn due<R: Wait>(&self, rt: &R, port: &mut Port<P0, P1, P2, P3, D>) -> Due
         ensures answer { FromPort port.old
             (λ s. result ≡ due_of (controller_at (world s) port.old.controller)) }
         ensures same { port.new ≡ port.old }
@@ -172,7 +185,7 @@ impl<L: Ledgers> Line<L> {
     ///
     /// Something is due where `next` says something, or where `due` is Store. It may wait forever, as with a port whose
     /// controller has ended.
-    pub fn wait<R: Wait>(&self, rt: &R, port: &mut Port<L>) -> bool
+    pub fn wait<R: Wait>(&self, rt: &R, port: &mut Port<P0, P1, P2, P3, D>) -> bool
         ensures answer { FromPort port.old
             (λ s. (stopped : Bool) × EndsWait stopped s port.old.controller result) }
         ensures same { port.new ≡ port.old }
@@ -191,7 +204,11 @@ impl<L: Ledgers> Line<L> {
     /// From now on `up` of this controller is refused with CommitOpen, until an `act` with this port is accepted, as
     /// the one that tells the outcome, or until `end_commit`. So the store has what it will have before anybody goes on
     /// from it. It may be called again, as by a new holder of the port.
-    pub fn begin_commit<R: Wait>(&self, rt: &R, port: &mut Port<L>) -> Option<Record>
+    pub fn begin_commit<R: Wait>(
+        &self,
+        rt: &R,
+        port: &mut Port<P0, P1, P2, P3, D>,
+    ) -> Option<Record>
         ensures answer { FromPort port.old
             (λ s. result ≡ record_ordered (controller_at (world s) port.old.controller).last) }
         ensures same { port.new ≡ port.old }
@@ -205,7 +222,7 @@ impl<L: Ledgers> Line<L> {
     /// then `up` of this controller wants records with that one, and else those with it or without it.
     ///
     /// Where the holder has begun none, or has told the outcome, this does nothing.
-    pub fn end_commit<R: Wait>(&self, rt: &R, port: &mut Port<L>, is_made: bool)
+    pub fn end_commit<R: Wait>(&self, rt: &R, port: &mut Port<P0, P1, P2, P3, D>, is_made: bool)
         ensures { port.new ≡ port.old }
     {
         self.locked.lock(rt).counted.end_commit(port, is_made);
@@ -213,7 +230,7 @@ impl<L: Ledgers> Line<L> {
 
     /// Waits until the port's controller is not refused for want of room: until a request more may wait, or the
     /// controller is down (true); or until the line is stopped (false).
-    pub fn wait_for_room<R: Wait>(&self, rt: &R, port: &mut Port<L>) -> bool
+    pub fn wait_for_room<R: Wait>(&self, rt: &R, port: &mut Port<P0, P1, P2, P3, D>) -> bool
         ensures answer { FromPort port.old
             (λ s. (stopped : Bool) × EndsWaitForRoom stopped s port.old.controller result) }
         ensures same { port.new ≡ port.old }
@@ -234,7 +251,7 @@ impl<L: Ledgers> Line<L> {
     pub fn pump<R: Wait>(
         &self,
         rt: &R,
-        driver: &mut Driver<L>,
+        driver: &mut Driver<P0, P1, P2, P3, D>,
         trouble: Trouble,
     ) -> Result<Report, Refusal>
         ensures answer { FromDriver driver.old
@@ -248,7 +265,11 @@ impl<L: Ledgers> Line<L> {
     /// The owner loses the bus, as `SiteState::lapse` says. Answers who it was, if anybody.
     ///
     /// Refusal: 8 LogFull.
-    pub fn lapse<R: Wait>(&self, rt: &R, driver: &mut Driver<L>) -> Result<Option<u8>, Refusal>
+    pub fn lapse<R: Wait>(
+        &self,
+        rt: &R,
+        driver: &mut Driver<P0, P1, P2, P3, D>,
+    ) -> Result<Option<u8>, Refusal>
         ensures answer { FromDriver driver.old (λ s. (new : SiteState) × Lapses s result new) }
         ensures accepted { OnOk result (driver.new ≡ driver.old + 1) }
         ensures refused { OnErr result (driver.new ≡ driver.old) }
@@ -259,7 +280,11 @@ impl<L: Ledgers> Line<L> {
     /// The bus is quiet for so long that half of a send-twice pair is forgotten.
     ///
     /// Refusal: 8 LogFull.
-    pub fn quiet<R: Wait>(&self, rt: &R, driver: &mut Driver<L>) -> Result<(), Refusal>
+    pub fn quiet<R: Wait>(
+        &self,
+        rt: &R,
+        driver: &mut Driver<P0, P1, P2, P3, D>,
+    ) -> Result<(), Refusal>
         ensures answer { FromDriver driver.old (λ s. (new : SiteState) × FallsQuiet s result new) }
         ensures accepted { OnOk result (driver.new ≡ driver.old + 1) }
         ensures refused { OnErr result (driver.new ≡ driver.old) }
@@ -273,7 +298,7 @@ impl<L: Ledgers> Line<L> {
     pub fn power<R: Wait>(
         &self,
         rt: &R,
-        driver: &mut Driver<L>,
+        driver: &mut Driver<P0, P1, P2, P3, D>,
         number: u32,
         on: bool,
     ) -> Result<(), Refusal>
@@ -290,7 +315,7 @@ impl<L: Ledgers> Line<L> {
     pub fn expire<R: Wait>(
         &self,
         rt: &R,
-        driver: &mut Driver<L>,
+        driver: &mut Driver<P0, P1, P2, P3, D>,
         number: u32,
     ) -> Result<(), Refusal>
         ensures answer { FromDriver driver.old (λ s. (new : SiteState) × Expires s number result new) }
@@ -303,7 +328,12 @@ impl<L: Ledgers> Line<L> {
     /// Controller `c`, 0 to 3, goes down, as `SiteState::down` says.
     ///
     /// Refusals, in this order: 1 UnknownController, 2 ControllerDown, 8 LogFull.
-    pub fn down<R: Wait>(&self, rt: &R, driver: &mut Driver<L>, c: u8) -> Result<(), Refusal>
+    pub fn down<R: Wait>(
+        &self,
+        rt: &R,
+        driver: &mut Driver<P0, P1, P2, P3, D>,
+        c: u8,
+    ) -> Result<(), Refusal>
         ensures answer { FromDriver driver.old (λ s. (new : SiteState) × GoesDown s c result new) }
         ensures accepted { OnOk result (driver.new ≡ driver.old + 1) }
         ensures refused { OnErr result (driver.new ≡ driver.old) }
@@ -319,7 +349,7 @@ impl<L: Ledgers> Line<L> {
     pub fn up<R: Wait>(
         &self,
         rt: &R,
-        driver: &mut Driver<L>,
+        driver: &mut Driver<P0, P1, P2, P3, D>,
         c: u8,
         copy: &Kept,
     ) -> Result<(), UpRefusal>
@@ -334,7 +364,7 @@ impl<L: Ledgers> Line<L> {
     /// since the queue is full, or all is over.
     ///
     /// It may wait forever, as where a controller is due and nobody acts for it.
-    pub fn ready<R: Wait>(&self, rt: &R, driver: &mut Driver<L>) -> Ready
+    pub fn ready<R: Wait>(&self, rt: &R, driver: &mut Driver<P0, P1, P2, P3, D>) -> Ready
         ensures answer { FromDriver driver.old (λ s. (stopped : Bool) × IsReady stopped s result) }
         ensures same { driver.new ≡ driver.old }
     {
@@ -357,12 +387,12 @@ impl<L: Ledgers> Line<L> {
 }
 
 /// A lock that is taken. When it is let go, all who wait are woken, so that no call can forget to wake them.
-struct Change<'a, T> {
-    locked: MutexGuard<'a, T>,
+struct Change<'a, L> {
+    locked: MutexGuard<'a, L>,
     moved: &'a Condvar,
 }
 
-impl<T> Drop for Change<'_, T> {
+impl<L> Drop for Change<'_, L> {
     fn drop(self) {
         let Self { locked, moved } = self;
         drop(locked);
@@ -371,13 +401,13 @@ impl<T> Drop for Change<'_, T> {
 }
 
 /// The ports of the first `count` controllers.
-fn ports<L: Ledgers>(
+fn ports<P0: Ledger, P1: Ledger, P2: Ledger, P3: Ledger, D: Ledger>(
     count: usize,
-    first: Own<Numbered<L, 0>>,
-    second: Own<Numbered<L, 1>>,
-    third: Own<Numbered<L, 2>>,
-    fourth: Own<Numbered<L, 3>>,
-) -> ArrayVec<Port<L>, 4>
+    first: Own<P0>,
+    second: Own<P1>,
+    third: Own<P2>,
+    fourth: Own<P3>,
+) -> ArrayVec<Port<P0, P1, P2, P3, D>, 4>
     requires { count ≤ 4 }
     ensures { result.items ≡ take count
         (port_share 0 first ∷ port_share 1 second ∷ port_share 2 third ∷ port_share 3 fourth ∷ []) }

@@ -1,21 +1,21 @@
 ghost use Rattle.std.specs.Prelude.{◌≡◌, IsTrue, true, false, ◌↔◌, MatchOption};
 
 use crate::counted::CountedSite;
-use crate::ledgers::Ledgers;
 use crate::ready::Ready;
+use std::sync::ledger::Ledger;
 
 /// What lies under a line's lock: a site with what is counted of it, and whether the line is stopped.
 #[derive(Drop)]
-pub(crate) struct Locked<L: Ledgers> {
-    pub(crate) counted: CountedSite<L>,
+pub(crate) struct Locked<P0: Ledger, P1: Ledger, P2: Ledger, P3: Ledger, D: Ledger> {
+    pub(crate) counted: CountedSite<P0, P1, P2, P3, D>,
     stopped: bool,
 }
 
-impl<L: Ledgers> Locked<L> {
+impl<P0: Ledger, P1: Ledger, P2: Ledger, P3: Ledger, D: Ledger> Locked<P0, P1, P2, P3, D> {
     ghost use Rattle.dali_line.specs.Found.{Wakes, WakesForRoom, IsBusy, IsReady};
 
     /// The site of a line that is not stopped.
-    pub(crate) fn new(counted: CountedSite<L>) -> Locked<L>
+    pub(crate) fn new(counted: CountedSite<P0, P1, P2, P3, D>) -> Locked<P0, P1, P2, P3, D>
         ensures counted { result.counted ≡ counted }
         ensures stopped { result.stopped ≡ false }
     {

@@ -1,17 +1,17 @@
 ghost use Rattle.std.specs.Prelude.{◌≡◌};
 ghost use Rattle.dali_line.specs.Shares.{no_share};
 
-use crate::ledgers::{Ledgers, Numbered};
 use crate::own::Own;
-use std::marker::Model;
+use std::marker::{Model, PhantomData};
+use std::sync::ledger::Ledger;
 
 /// Which controller a port speaks for, with that controller's share.
 #[derive(Drop)]
-pub(crate) enum Kind<L: Ledgers> {
-    First(Own<Numbered<L, 0>>),
-    Second(Own<Numbered<L, 1>>),
-    Third(Own<Numbered<L, 2>>),
-    Fourth(Own<Numbered<L, 3>>),
+pub(crate) enum Kind<P0: Ledger, P1: Ledger, P2: Ledger, P3: Ledger> {
+    First(Own<P0>),
+    Second(Own<P1>),
+    Third(Own<P2>),
+    Fourth(Own<P3>),
     Spare,
 }
 
@@ -22,11 +22,12 @@ pub(crate) enum Kind<L: Ledgers> {
 ///
 /// Contracts see its share: the controller's number, and how many events of the line's log are its steps.
 #[derive(Drop)]
-pub struct Port<L: Ledgers> {
-    pub(crate) kind: Kind<L>,
+pub struct Port<P0: Ledger, P1: Ledger, P2: Ledger, P3: Ledger, D: Ledger> {
+    pub(crate) kind: Kind<P0, P1, P2, P3>,
+    line: PhantomData<D>,
 }
 
-impl<L: Ledgers> Model for Port<L> {
+impl<P0: Ledger, P1: Ledger, P2: Ledger, P3: Ledger, D: Ledger> Model for Port<P0, P1, P2, P3, D> {
     ghost use Rattle.dali_line.specs.Shares.{PortShare};
 
     ghost Value = { PortShare };
@@ -36,13 +37,16 @@ impl<L: Ledgers> Model for Port<L> {
     ghost view = { λ p. port_share_of p.kind };
 }
 
-impl<L: Ledgers> Port<L> {
+impl<P0: Ledger, P1: Ledger, P2: Ledger, P3: Ledger, D: Ledger> Port<P0, P1, P2, P3, D> {
     ghost use Rattle.dali_line.specs.Ports.{port_share_of};
 
-    pub(crate) fn of(kind: Kind<L>) -> Port<L>
+    pub(crate) fn of(kind: Kind<P0, P1, P2, P3>) -> Port<P0, P1, P2, P3, D>
         ensures { result ≡ port_share_of kind }
     {
-        Port { kind }
+        Port {
+            kind,
+            line: PhantomData,
+        }
     }
 
     /// The controller's number, 0 to 3; 255 of a spare port.
@@ -60,10 +64,11 @@ impl<L: Ledgers> Port<L> {
 }
 
 /// A spare port.
-impl<L: Ledgers> Default for Port<L> {
+impl<P0: Ledger, P1: Ledger, P2: Ledger, P3: Ledger, D: Ledger> Default
+    for Port<P0, P1, P2, P3, D> {
     ghost is_default = { λ p. p ≡ no_share };
 
-    fn default() -> Port<L> {
+    fn default() -> Port<P0, P1, P2, P3, D> {
         Port::of(Kind::Spare)
     }
 }

@@ -2,24 +2,23 @@ ghost use Rattle.std.specs.Prelude.{◌≡◌, ◌+◌, ◌<◌};
 ghost use Rattle.dali_line.specs.Shares.{count_at, raised, raised_share, raised_driver};
 
 use crate::driver::Driver;
-use crate::ledgers::{Ledgers, Numbered};
 use crate::port::{Kind, Port};
 use std::marker::Model;
-use std::sync::ledger::Book;
+use std::sync::ledger::{Book, Ledger};
 
 /// The books of a line's five ledgers, which lie under its lock. They know no site.
 ///
 /// Contracts see their totals.
 #[derive(Drop)]
-pub(crate) struct Tally<L: Ledgers> {
-    pub(crate) first: Book<Numbered<L, 0>>,
-    pub(crate) second: Book<Numbered<L, 1>>,
-    pub(crate) third: Book<Numbered<L, 2>>,
-    pub(crate) fourth: Book<Numbered<L, 3>>,
-    pub(crate) driver: Book<Numbered<L, 4>>,
+pub(crate) struct Tally<P0: Ledger, P1: Ledger, P2: Ledger, P3: Ledger, D: Ledger> {
+    pub(crate) first: Book<P0>,
+    pub(crate) second: Book<P1>,
+    pub(crate) third: Book<P2>,
+    pub(crate) fourth: Book<P3>,
+    pub(crate) driver: Book<D>,
 }
 
-impl<L: Ledgers> Model for Tally<L> {
+impl<P0: Ledger, P1: Ledger, P2: Ledger, P3: Ledger, D: Ledger> Model for Tally<P0, P1, P2, P3, D> {
     ghost use Rattle.dali_line.specs.Shares.{Tally};
 
     ghost Value = { Tally };
@@ -33,9 +32,9 @@ impl<L: Ledgers> Model for Tally<L> {
     } };
 }
 
-impl<L: Ledgers> Tally<L> {
+impl<P0: Ledger, P1: Ledger, P2: Ledger, P3: Ledger, D: Ledger> Tally<P0, P1, P2, P3, D> {
     /// One step more of the port's controller.
-    pub(crate) fn raise(&mut self, port: &mut Port<L>)
+    pub(crate) fn raise(&mut self, port: &mut Port<P0, P1, P2, P3, D>)
         requires { port.old.controller < 4 }
         ensures tally { self.new ≡ raised self.old port.old.controller }
         ensures port { port.new ≡ raised_share port.old }
@@ -50,7 +49,7 @@ impl<L: Ledgers> Tally<L> {
     }
 
     /// Says that the port's share is its controller's count. It changes neither.
-    pub(crate) fn audit(&mut self, port: &mut Port<L>)
+    pub(crate) fn audit(&mut self, port: &mut Port<P0, P1, P2, P3, D>)
         ensures exact { port.old.share ≡ count_at self.old port.old.controller }
         ensures tally { self.new ≡ self.old }
         ensures port { port.new ≡ port.old }
@@ -65,7 +64,7 @@ impl<L: Ledgers> Tally<L> {
     }
 
     /// One event more that is no controller's step.
-    pub(crate) fn raise_driver(&mut self, driver: &mut Driver<L>)
+    pub(crate) fn raise_driver(&mut self, driver: &mut Driver<P0, P1, P2, P3, D>)
         ensures tally { self.new ≡ raised_driver self.old }
         ensures driver { driver.new ≡ driver.old + 1 }
     {
@@ -73,7 +72,7 @@ impl<L: Ledgers> Tally<L> {
     }
 
     /// Says that the driver's share is the count of events that are no controller's step. It changes neither.
-    pub(crate) fn audit_driver(&mut self, driver: &mut Driver<L>)
+    pub(crate) fn audit_driver(&mut self, driver: &mut Driver<P0, P1, P2, P3, D>)
         ensures exact { driver.old ≡ self.old.driver }
         ensures tally { self.new ≡ self.old }
         ensures driver { driver.new ≡ driver.old }

@@ -15,13 +15,13 @@ use crate::report::{json_report, report};
 use crate::setup::{Setup, ThreadsFault};
 use crate::workers::{Left, all_run};
 use arrayvec::ArrayVec;
-use dali_line::{Ledgers, Line, Outcome, Port};
+use dali_line::{Line, Outcome, Port};
 use dali_world::{Plan, PlanError, SiteState};
 use std::alloc::{AllocError, Global};
 use std::io::Write;
 use std::marker::Brand;
 use std::sync::Wait;
-use std::sync::ledger::Blank;
+use std::sync::ledger::{Blank, Ledger};
 use std::thread::Threads;
 
 /// How many events a site's log holds.
@@ -31,10 +31,10 @@ const LOG_ROOM: usize = 65_536;
 const QUEUE_ROOM: usize = 64;
 
 /// The ports of a line as a list.
-fn listed<L: Ledgers>(
+fn listed<P0: Ledger, P1: Ledger, P2: Ledger, P3: Ledger, D: Ledger>(
     alloc: Global,
-    ports: ArrayVec<Port<L>, 4>,
-) -> Result<Vec<Port<L>>, AllocError>
+    ports: ArrayVec<Port<P0, P1, P2, P3, D>, 4>,
+) -> Result<Vec<Port<P0, P1, P2, P3, D>>, AllocError>
     ensures { IfOk result (λ list. list.items ≡ ports.items) }
 {
     ports.into_iter().collect(alloc)
@@ -78,7 +78,7 @@ fn blanks() -> Blanks
 }
 
 /// All run over a line round this site. Answers how the workers ended, and the site.
-fn commission<L, R>(
+fn commission<P0, P1, P2, P3, D, R>(
     rt: &R,
     alloc: Global,
     site: SiteState,
@@ -87,20 +87,26 @@ fn commission<L, R>(
     surveys: bool,
 ) -> Result<(Vec<Outcome>, SiteState), AllocError>
 where
-    L: Ledgers + Send + Sync,
+    P0: Ledger + Send + Sync,
+    P1: Ledger + Send + Sync,
+    P2: Ledger + Send + Sync,
+    P3: Ledger + Send + Sync,
+    D: Ledger + Send + Sync,
     R: Threads + Wait + Sync,
-    requires first { (blanks.0.name ≡ L.name 0) × (blanks.0.parts ≡ L.parts 0) × (0 < L.parts 0) }
-    requires second { (blanks.1.name ≡ L.name 1) × (blanks.1.parts ≡ L.parts 1) × (0 < L.parts 1) }
-    requires third { (blanks.2.name ≡ L.name 2) × (blanks.2.parts ≡ L.parts 2) × (0 < L.parts 2) }
-    requires fourth { (blanks.3.name ≡ L.name 3) × (blanks.3.parts ≡ L.parts 3) × (0 < L.parts 3) }
-    requires driver { (blanks.4.name ≡ L.name 4) × (blanks.4.parts ≡ L.parts 4) × (0 < L.parts 4) }
+    requires first { (blanks.0.name ≡ P0.name) × (blanks.0.parts ≡ P0.parts) × (0 < P0.parts) }
+    requires second { (blanks.1.name ≡ P1.name) × (blanks.1.parts ≡ P1.parts) × (0 < P1.parts) }
+    requires third { (blanks.2.name ≡ P2.name) × (blanks.2.parts ≡ P2.parts) × (0 < P2.parts) }
+    requires fourth { (blanks.3.name ≡ P3.name) × (blanks.3.parts ≡ P3.parts) × (0 < P3.parts) }
+    requires driver { (blanks.4.name ≡ D.name) × (blanks.4.parts ≡ D.parts) × (0 < D.parts) }
     requires log { site.log ≡ [] }
     ensures count { IfOk result (λ r. vec_len r.0 ≡ length site.plan.blocks) }
     ensures run { IfOk result (λ r. HaveRun turns surveys r.0.items r.1) }
 {
     let blocks = Vec::from_slice(alloc, site.plan().blocks())?;
     let (first, second, third, fourth, driver) = blanks;
-    let (line, ports, driver) = Line::<L>::new(site, first, second, third, fourth, driver);
+    let (line, ports, driver) = Line::<P0, P1, P2, P3, D>::new(
+        site, first, second, third, fourth, driver,
+    );
     let ports = listed(alloc, ports)?;
     let Left { ended, driver } = all_run(rt, alloc, &line, ports, driver, &blocks, turns, surveys)?;
     let (outcomes, ports) = parted(alloc, ended)?;
@@ -207,7 +213,7 @@ fn run_on<R: Threads + Wait + Sync, W: Write>(
         return Err(ThreadsFault::Memory);
     };
     let blanks = blanks();
-    let (outcomes, site) = commission::<Brand, R>(
+    let (outcomes, site) = commission::<Brand, Brand, Brand, Brand, Brand, R>(
         rt,
         alloc,
         site,

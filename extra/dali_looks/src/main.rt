@@ -7,7 +7,7 @@ ghost use Rattle.std.specs.Prelude.{◌≡◌, ◌<◌};
 use arrayvec::ArrayVec;
 use dali_enrol::{Directory, Pass};
 use dali_frame::Short;
-use dali_line::{Bus, Driver, Ledgers, Line, OpenGate, Outcome, Port, Pumper, Worker};
+use dali_line::{Bus, Driver, Line, OpenGate, Outcome, Port, Pumper, Worker};
 use dali_reserve::MemoryKeep;
 use dali_script::{Block, Due};
 use dali_world::{Plan, SiteState};
@@ -17,7 +17,7 @@ use std::process::ExitCode;
 use std::sync::Wait;
 use std::sync::atomic::AtomicBool;
 use std::sync::atomic::Ordering::SeqCst;
-use std::sync::ledger::Blank;
+use std::sync::ledger::{Blank, Ledger};
 use std::thread;
 use std::thread::Threads;
 
@@ -66,7 +66,11 @@ fn looks(alloc: Global, directory: &Directory, ended: &AtomicBool) -> (u32, u64)
 }
 
 /// Asks the line what is due until the end, by a port that is nobody's. How often it asked, in rounds of 64.
-fn asks<L: Ledgers, R: Wait>(rt: &R, line: &Line<L>, ended: &AtomicBool) -> u32 {
+fn asks<P0: Ledger, P1: Ledger, P2: Ledger, P3: Ledger, D: Ledger, R: Wait>(
+    rt: &R,
+    line: &Line<P0, P1, P2, P3, D>,
+    ended: &AtomicBool,
+) -> u32 {
     let mut port = Port::default();
     let mut rounds = 0;
     for round in 0..ROUNDS {
@@ -113,16 +117,20 @@ struct Counts {
 }
 
 /// Four workers, a pumper, and two threads that read until these have ended.
-fn all_run<L, R>(
+fn all_run<P0, P1, P2, P3, D, R>(
     rt: &R,
     alloc: Global,
-    line: &Line<L>,
-    ports: ArrayVec<Port<L>, 4>,
-    driver: Driver<L>,
+    line: &Line<P0, P1, P2, P3, D>,
+    ports: ArrayVec<Port<P0, P1, P2, P3, D>, 4>,
+    driver: Driver<P0, P1, P2, P3, D>,
     blocks: &[Block],
 ) -> Result<Counts, AllocError>
 where
-    L: Ledgers + Send + Sync,
+    P0: Ledger + Send + Sync,
+    P1: Ledger + Send + Sync,
+    P2: Ledger + Send + Sync,
+    P3: Ledger + Send + Sync,
+    D: Ledger + Send + Sync,
     R: Threads + Wait + Sync,
 {
     let Ok(directory) = Directory::new(alloc) else {
@@ -184,24 +192,30 @@ fn blanks() -> Blanks
 }
 
 /// All run over a line round this site.
-fn counted<L, R>(
+fn counted<P0, P1, P2, P3, D, R>(
     rt: &R,
     alloc: Global,
     site: SiteState,
     blanks: Blanks,
 ) -> Result<Counts, AllocError>
 where
-    L: Ledgers + Send + Sync,
+    P0: Ledger + Send + Sync,
+    P1: Ledger + Send + Sync,
+    P2: Ledger + Send + Sync,
+    P3: Ledger + Send + Sync,
+    D: Ledger + Send + Sync,
     R: Threads + Wait + Sync,
-    requires first { (blanks.0.name ≡ L.name 0) × (blanks.0.parts ≡ L.parts 0) × (0 < L.parts 0) }
-    requires second { (blanks.1.name ≡ L.name 1) × (blanks.1.parts ≡ L.parts 1) × (0 < L.parts 1) }
-    requires third { (blanks.2.name ≡ L.name 2) × (blanks.2.parts ≡ L.parts 2) × (0 < L.parts 2) }
-    requires fourth { (blanks.3.name ≡ L.name 3) × (blanks.3.parts ≡ L.parts 3) × (0 < L.parts 3) }
-    requires driver { (blanks.4.name ≡ L.name 4) × (blanks.4.parts ≡ L.parts 4) × (0 < L.parts 4) }
+    requires first { (blanks.0.name ≡ P0.name) × (blanks.0.parts ≡ P0.parts) × (0 < P0.parts) }
+    requires second { (blanks.1.name ≡ P1.name) × (blanks.1.parts ≡ P1.parts) × (0 < P1.parts) }
+    requires third { (blanks.2.name ≡ P2.name) × (blanks.2.parts ≡ P2.parts) × (0 < P2.parts) }
+    requires fourth { (blanks.3.name ≡ P3.name) × (blanks.3.parts ≡ P3.parts) × (0 < P3.parts) }
+    requires driver { (blanks.4.name ≡ D.name) × (blanks.4.parts ≡ D.parts) × (0 < D.parts) }
 {
     let blocks = Vec::from_slice(alloc, site.plan().blocks())?;
     let (first, second, third, fourth, driver) = blanks;
-    let (line, ports, driver) = Line::<L>::new(site, first, second, third, fourth, driver);
+    let (line, ports, driver) = Line::<P0, P1, P2, P3, D>::new(
+        site, first, second, third, fourth, driver,
+    );
     all_run(rt, alloc, &line, ports, driver, &blocks)
 }
 
@@ -223,7 +237,7 @@ fn site(alloc: Global) -> Result<SiteState, AllocError> {
 fn run<R: Threads + Wait + Sync>(rt: &R, alloc: Global) -> Result<Counts, AllocError> {
     let site = site(alloc)?;
     let blanks = blanks();
-    counted::<Brand, R>(rt, alloc, site, blanks)
+    counted::<Brand, Brand, Brand, Brand, Brand, R>(rt, alloc, site, blanks)
 }
 
 fn main(rt: HostRuntime) -> ExitCode {

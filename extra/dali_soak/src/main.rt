@@ -14,9 +14,7 @@ mod listed;
 
 use arrayvec::ArrayVec;
 use dali_enrol::Directory;
-use dali_line::{
-    Bus, Driver, Gate, Ledgers, Line, Moment, Outcome, Port, Ready, UpRefusal, Worker,
-};
+use dali_line::{Bus, Driver, Gate, Line, Moment, Outcome, Port, Ready, UpRefusal, Worker};
 use dali_reserve::Keep;
 use dali_script::{Block, Kept};
 use dali_sqlite::SqliteKeep;
@@ -28,7 +26,7 @@ use std::alloc::Global;
 use std::env;
 use std::marker::Brand;
 use std::process::ExitCode;
-use std::sync::ledger::Blank;
+use std::sync::ledger::{Blank, Ledger};
 use std::sync::{Mutex, Wait};
 use std::thread::{Threads, join, yield_now};
 
@@ -85,7 +83,7 @@ struct Turnover {
 }
 
 /// The driver, with its list, and what is done to controllers.
-type Driving<L> = (Listed<Driver<L>>, Turnover);
+type Driving<P0, P1, P2, P3, D> = (Listed<Driver<P0, P1, P2, P3, D>>, Turnover);
 
 /// A controller of these at random, as a number from 0 to 3.
 fn some_controller(chance: &mut Chance) -> u8 {
@@ -98,7 +96,12 @@ fn some_controller(chance: &mut Chance) -> u8 {
 }
 
 /// A controller goes down, if it is up.
-fn takes_down<L: Ledgers, R: Wait>(rt: &R, line: &Line<L>, driving: &mut Driving<L>, at: u8) {
+fn takes_down<P0: Ledger, P1: Ledger, P2: Ledger, P3: Ledger, D: Ledger, R: Wait>(
+    rt: &R,
+    line: &Line<P0, P1, P2, P3, D>,
+    driving: &mut Driving<P0, P1, P2, P3, D>,
+    at: u8,
+) {
     match line.down(rt, &mut driving.0.inner, at) {
         Ok(()) => driving.1.downs = driving.1.downs.saturating_add(1),
         Err(Refusal::ControllerDown) => {}
@@ -108,10 +111,10 @@ fn takes_down<L: Ledgers, R: Wait>(rt: &R, line: &Line<L>, driving: &mut Driving
 
 /// A controller comes up with these records. They are what its store reads now, or what it read when the session began
 /// (`is_old`): then they may be behind.
-fn brings_up<L: Ledgers, R: Wait>(
+fn brings_up<P0: Ledger, P1: Ledger, P2: Ledger, P3: Ledger, D: Ledger, R: Wait>(
     rt: &R,
-    line: &Line<L>,
-    driving: &mut Driving<L>,
+    line: &Line<P0, P1, P2, P3, D>,
+    driving: &mut Driving<P0, P1, P2, P3, D>,
     at: u8,
     records: &Kept,
     is_old: bool,
@@ -126,10 +129,10 @@ fn brings_up<L: Ledgers, R: Wait>(
 
 /// A controller goes down while its worker is at a commit, and half of the time it is to come up at once with old
 /// records.
-fn strikes<L: Ledgers, R: Wait>(
+fn strikes<P0: Ledger, P1: Ledger, P2: Ledger, P3: Ledger, D: Ledger, R: Wait>(
     rt: &R,
-    line: &Line<L>,
-    driving: &mut Driving<L>,
+    line: &Line<P0, P1, P2, P3, D>,
+    driving: &mut Driving<P0, P1, P2, P3, D>,
     at: u8,
     records: &[Kept],
 ) {
@@ -140,7 +143,11 @@ fn strikes<L: Ledgers, R: Wait>(
 }
 
 /// A controller goes down now and then.
-fn turns_over<L: Ledgers, R: Wait>(rt: &R, line: &Line<L>, driving: &mut Driving<L>) {
+fn turns_over<P0: Ledger, P1: Ledger, P2: Ledger, P3: Ledger, D: Ledger, R: Wait>(
+    rt: &R,
+    line: &Line<P0, P1, P2, P3, D>,
+    driving: &mut Driving<P0, P1, P2, P3, D>,
+) {
     if driving.1.chance.below(1024) == 0 {
         let at = some_controller(&mut driving.1.chance);
         takes_down(rt, line, driving, at);
@@ -149,13 +156,14 @@ fn turns_over<L: Ledgers, R: Wait>(rt: &R, line: &Line<L>, driving: &mut Driving
 
 /// A worker's gate, which takes the worker's controller down before and after some commits.
 #[derive(Drop)]
-struct Striking<'a, L: Ledgers> {
-    line: &'a Line<L>,
-    driving: &'a Mutex<Driving<L>>,
+struct Striking<'a, P0: Ledger, P1: Ledger, P2: Ledger, P3: Ledger, D: Ledger> {
+    line: &'a Line<P0, P1, P2, P3, D>,
+    driving: &'a Mutex<Driving<P0, P1, P2, P3, D>>,
     records: &'a [Kept],
 }
 
-impl<L: Ledgers> Gate for Striking<'_, L> {
+impl<P0: Ledger, P1: Ledger, P2: Ledger, P3: Ledger, D: Ledger> Gate
+    for Striking<'_, P0, P1, P2, P3, D> {
     fn at<R: Wait>(&self, rt: &R, controller: u8, moment: Moment) {
         if moment == Moment::AfterTurn {
             return;
@@ -171,7 +179,11 @@ impl<L: Ledgers> Gate for Striking<'_, L> {
 
 /// The bus's turn, if there is one. Where all is over, and no controller is to be brought up, one goes down, and the
 /// session ends. Whether it goes on.
-fn goes_on<L: Ledgers, R: Wait>(rt: &R, line: &Line<L>, driving: &mut Driving<L>) -> bool {
+fn goes_on<P0: Ledger, P1: Ledger, P2: Ledger, P3: Ledger, D: Ledger, R: Wait>(
+    rt: &R,
+    line: &Line<P0, P1, P2, P3, D>,
+    driving: &mut Driving<P0, P1, P2, P3, D>,
+) -> bool {
     match line.ready(rt, &mut driving.0.inner) {
         Ready::Stopped | Ready::Full => false,
         Ready::Over => {
@@ -192,7 +204,11 @@ fn goes_on<L: Ledgers, R: Wait>(rt: &R, line: &Line<L>, driving: &mut Driving<L>
 }
 
 /// The bus has its turns, and controllers go down and come up. In the end the line is stopped.
-fn drives<L: Ledgers, R: Wait>(rt: &R, line: &Line<L>, driving: &Mutex<Driving<L>>) {
+fn drives<P0: Ledger, P1: Ledger, P2: Ledger, P3: Ledger, D: Ledger, R: Wait>(
+    rt: &R,
+    line: &Line<P0, P1, P2, P3, D>,
+    driving: &Mutex<Driving<P0, P1, P2, P3, D>>,
+) {
     for _ in 0..TURNS {
         if !drives_once(rt, line, driving) {
             break;
@@ -202,7 +218,11 @@ fn drives<L: Ledgers, R: Wait>(rt: &R, line: &Line<L>, driving: &Mutex<Driving<L
     line.stop(rt);
 }
 
-fn drives_once<L: Ledgers, R: Wait>(rt: &R, line: &Line<L>, driving: &Mutex<Driving<L>>) -> bool {
+fn drives_once<P0: Ledger, P1: Ledger, P2: Ledger, P3: Ledger, D: Ledger, R: Wait>(
+    rt: &R,
+    line: &Line<P0, P1, P2, P3, D>,
+    driving: &Mutex<Driving<P0, P1, P2, P3, D>>,
+) -> bool {
     let mut driving = driving.lock(rt);
     let goes_on = goes_on(rt, line, &mut driving);
     if goes_on {
@@ -233,23 +253,23 @@ fn works<B: Bus, G: Gate, R: Wait>(
     }
 }
 
-type Listing<L> = Listed<Port<L>>;
+type Listing<P0, P1, P2, P3, D> = Listed<Port<P0, P1, P2, P3, D>>;
 
 /// A port and the store of its controller.
 type Manned<P> = (P, Database);
 
 /// A controller's thread: workers run, one after the other, until one ends for another cause than that its controller
 /// is down. Each time the controller comes up with what the store reads.
-fn serves<L: Ledgers, R: Wait>(
+fn serves<P0: Ledger, P1: Ledger, P2: Ledger, P3: Ledger, D: Ledger, R: Wait>(
     rt: &R,
     alloc: Global,
-    line: &Line<L>,
+    line: &Line<P0, P1, P2, P3, D>,
     directory: &Directory,
-    driving: &Mutex<Driving<L>>,
+    driving: &Mutex<Driving<P0, P1, P2, P3, D>>,
     records: &[Kept],
     at: u8,
-    manned: Manned<Listing<L>>,
-) -> Left<Listing<L>> {
+    manned: Manned<Listing<P0, P1, P2, P3, D>>,
+) -> Left<Listing<P0, P1, P2, P3, D>> {
     let bus = ListedBus { bus: line };
     let gate = Striking {
         line,
@@ -276,10 +296,10 @@ fn serves<L: Ledgers, R: Wait>(
     left
 }
 
-fn is_brought_up<L: Ledgers, R: Wait>(
+fn is_brought_up<P0: Ledger, P1: Ledger, P2: Ledger, P3: Ledger, D: Ledger, R: Wait>(
     rt: &R,
-    line: &Line<L>,
-    driving: &Mutex<Driving<L>>,
+    line: &Line<P0, P1, P2, P3, D>,
+    driving: &Mutex<Driving<P0, P1, P2, P3, D>>,
     at: u8,
     keep: &mut Database,
 ) {
@@ -291,7 +311,11 @@ fn is_brought_up<L: Ledgers, R: Wait>(
     }
 }
 
-fn ends<L: Ledgers, R: Wait>(rt: &R, driving: &Mutex<Driving<L>>, at: u8) {
+fn ends<P0: Ledger, P1: Ledger, P2: Ledger, P3: Ledger, D: Ledger, R: Wait>(
+    rt: &R,
+    driving: &Mutex<Driving<P0, P1, P2, P3, D>>,
+    at: u8,
+) {
     let mut driving = driving.lock(rt);
     if at < 4 {
         let mut ended = driving.1.ended;
@@ -301,17 +325,21 @@ fn ends<L: Ledgers, R: Wait>(rt: &R, driving: &Mutex<Driving<L>>, at: u8) {
 }
 
 /// The threads of four controllers and of the bus run.
-fn all_run<L, R>(
+fn all_run<P0, P1, P2, P3, D, R>(
     rt: &R,
     alloc: Global,
-    line: &Line<L>,
+    line: &Line<P0, P1, P2, P3, D>,
     directory: &Directory,
-    workers: Four<Manned<Listing<L>>>,
-    driving: &Mutex<Driving<L>>,
+    workers: Four<Manned<Listing<P0, P1, P2, P3, D>>>,
+    driving: &Mutex<Driving<P0, P1, P2, P3, D>>,
     records: &[Kept],
-) -> Four<Left<Listing<L>>>
+) -> Four<Left<Listing<P0, P1, P2, P3, D>>>
 where
-    L: Ledgers + Send + Sync,
+    P0: Ledger + Send + Sync,
+    P1: Ledger + Send + Sync,
+    P2: Ledger + Send + Sync,
+    P3: Ledger + Send + Sync,
+    D: Ledger + Send + Sync,
     R: Threads + Wait + Sync,
 {
     let (first, second, third, fourth) = workers;
@@ -386,7 +414,7 @@ struct Played {
 }
 
 /// A session. It is right only where what each thread noted is what the log has of it.
-fn session<L, R>(
+fn session<P0, P1, P2, P3, D, R>(
     rt: &R,
     alloc: Global,
     played: Played,
@@ -395,13 +423,17 @@ fn session<L, R>(
     records: &[Kept],
 ) -> Played
 where
-    L: Ledgers + Send + Sync,
+    P0: Ledger + Send + Sync,
+    P1: Ledger + Send + Sync,
+    P2: Ledger + Send + Sync,
+    P3: Ledger + Send + Sync,
+    D: Ledger + Send + Sync,
     R: Threads + Wait + Sync,
-    requires first { (blanks.0.name ≡ L.name 0) × (blanks.0.parts ≡ L.parts 0) × (0 < L.parts 0) }
-    requires second { (blanks.1.name ≡ L.name 1) × (blanks.1.parts ≡ L.parts 1) × (0 < L.parts 1) }
-    requires third { (blanks.2.name ≡ L.name 2) × (blanks.2.parts ≡ L.parts 2) × (0 < L.parts 2) }
-    requires fourth { (blanks.3.name ≡ L.name 3) × (blanks.3.parts ≡ L.parts 3) × (0 < L.parts 3) }
-    requires driver { (blanks.4.name ≡ L.name 4) × (blanks.4.parts ≡ L.parts 4) × (0 < L.parts 4) }
+    requires first { (blanks.0.name ≡ P0.name) × (blanks.0.parts ≡ P0.parts) × (0 < P0.parts) }
+    requires second { (blanks.1.name ≡ P1.name) × (blanks.1.parts ≡ P1.parts) × (0 < P1.parts) }
+    requires third { (blanks.2.name ≡ P2.name) × (blanks.2.parts ≡ P2.parts) × (0 < P2.parts) }
+    requires fourth { (blanks.3.name ≡ P3.name) × (blanks.3.parts ≡ P3.parts) × (0 < P3.parts) }
+    requires driver { (blanks.4.name ≡ D.name) × (blanks.4.parts ≡ D.parts) × (0 < D.parts) }
 {
     let Played {
         site,
@@ -410,7 +442,9 @@ where
     } = played;
     let begun = site.log().len();
     let (first, second, third, fourth, driver) = blanks;
-    let (line, ports, driver) = Line::<L>::new(site, first, second, third, fourth, driver);
+    let (line, ports, driver) = Line::<P0, P1, P2, P3, D>::new(
+        site, first, second, third, fourth, driver,
+    );
     let mut ports = ports.into_iter();
     let ports = (
         ports.next().unwrap_or_default(),
@@ -559,7 +593,9 @@ fn goes_further<R: Threads + Wait + Sync>(
     let none = [false; 4];
     played.turnover.ended = none;
     let blanks = blanks();
-    let mut played = session::<Brand, R>(rt, alloc, played, blanks, &directory, records);
+    let mut played = session::<Brand, Brand, Brand, Brand, Brand, R>(
+        rt, alloc, played, blanks, &directory, records,
+    );
     records.clear();
     reads(&mut played.keeps, records)?;
     looks(&played.site, records, &played.turnover)?;

@@ -5,13 +5,14 @@ use super::full::FullBus;
 use super::threads::{Blanks, blanks, closed, go_back, last_two, line_of};
 use super::values::Ordered::{Commit, Done, Put};
 use super::values::{ENROL, Ordered, RESERVE, forward, one_reserved, same, site_of};
-use dali_line::{Bus, Ledgers, Port, Ready, UpRefusal};
+use dali_line::{Bus, Port, Ready, UpRefusal};
 use dali_script::{Due, End, Input, Kept};
 use dali_world::{Receipt, Refusal, SiteState, Trouble};
 use std::alloc::Global;
 use std::marker::Brand;
 use std::process::Abort;
 use std::sync::Wait;
+use std::sync::ledger::Ledger;
 use std::test::Fail;
 
 /// What a controller ordered, with the number of its step.
@@ -303,7 +304,7 @@ fn have_one_log<R: Abort>(rt: &R, was: SiteState, wanted: &SiteState) {
 }
 
 /// A line and a site that are the same at first are played a story, and have the same log at its end.
-fn beside<L: Ledgers, R: Abort + Wait>(
+fn beside<P0: Ledger, P1: Ledger, P2: Ledger, P3: Ledger, D: Ledger, R: Abort + Wait>(
     rt: &R,
     under: SiteState,
     blanks: Blanks,
@@ -311,7 +312,7 @@ fn beside<L: Ledgers, R: Abort + Wait>(
     records: Records<'_>,
     story: &[Step],
 ) {
-    let (line, mut ports, mut driver) = line_of::<L>(under, blanks);
+    let (line, mut ports, mut driver) = line_of::<P0, P1, P2, P3, D>(under, blanks);
     let (mut port, mut other) = last_two(&mut ports);
     played(
         rt,
@@ -341,7 +342,7 @@ fn plays_on_both<R: Abort + Wait>(
 ) {
     let (under, mut site) = sites;
     let blanks = blanks();
-    beside::<Brand, R>(rt, under, blanks, &mut site, records, story);
+    beside::<Brand, Brand, Brand, Brand, Brand, R>(rt, under, blanks, &mut site, records, story);
 }
 
 /// Two sites of one gear that are the same.

@@ -16,7 +16,7 @@ use super::threads::{
 };
 use super::values::{block, same};
 use dali_enrol::{Directory, Table};
-use dali_line::{Bus, Gate, Ledgers, Moment, OpenGate, Outcome, Pumper, Worker};
+use dali_line::{Bus, Gate, Moment, OpenGate, Outcome, Pumper, Worker};
 use dali_reserve::{Keep, KeepError, MemoryKeep};
 use dali_script::{AddError, Block, End, Fault, Kept, Record};
 use dali_world::SiteState;
@@ -26,6 +26,7 @@ use std::process::Abort;
 use std::sync::Wait;
 use std::sync::atomic::Ordering::SeqCst;
 use std::sync::atomic::{AtomicBool, AtomicU32};
+use std::sync::ledger::Ledger;
 use std::test::Fail;
 use std::thread::{Threads, join};
 
@@ -313,7 +314,7 @@ where
 }
 
 /// The sessions of one controller on a line. Its table is true in the end.
-fn halts<L, R>(
+fn halts<P0, P1, P2, P3, D, R>(
     rt: &R,
     alloc: Global,
     site: SiteState,
@@ -323,15 +324,19 @@ fn halts<L, R>(
     stored: (usize, usize),
 )
 where
-    L: Ledgers + Send + Sync,
+    P0: Ledger + Send + Sync,
+    P1: Ledger + Send + Sync,
+    P2: Ledger + Send + Sync,
+    P3: Ledger + Send + Sync,
+    D: Ledger + Send + Sync,
     R: Threads + Wait + Abort + Sync,
-    requires first { (blanks.0.name ≡ L.name 0) × (blanks.0.parts ≡ L.parts 0) × (0 < L.parts 0) }
-    requires second { (blanks.1.name ≡ L.name 1) × (blanks.1.parts ≡ L.parts 1) × (0 < L.parts 1) }
-    requires third { (blanks.2.name ≡ L.name 2) × (blanks.2.parts ≡ L.parts 2) × (0 < L.parts 2) }
-    requires fourth { (blanks.3.name ≡ L.name 3) × (blanks.3.parts ≡ L.parts 3) × (0 < L.parts 3) }
-    requires driver { (blanks.4.name ≡ L.name 4) × (blanks.4.parts ≡ L.parts 4) × (0 < L.parts 4) }
+    requires first { (blanks.0.name ≡ P0.name) × (blanks.0.parts ≡ P0.parts) × (0 < P0.parts) }
+    requires second { (blanks.1.name ≡ P1.name) × (blanks.1.parts ≡ P1.parts) × (0 < P1.parts) }
+    requires third { (blanks.2.name ≡ P2.name) × (blanks.2.parts ≡ P2.parts) × (0 < P2.parts) }
+    requires fourth { (blanks.3.name ≡ P3.name) × (blanks.3.parts ≡ P3.parts) × (0 < P3.parts) }
+    requires driver { (blanks.4.name ≡ D.name) × (blanks.4.parts ≡ D.parts) × (0 < D.parts) }
 {
-    let (line, mut ports, driver) = line_of::<L>(site, blanks);
+    let (line, mut ports, driver) = line_of::<P0, P1, P2, P3, D>(site, blanks);
     let (spare, port) = last_two(&mut ports);
     let (port, driver) = sessions(rt, alloc, &line, directory, port, driver, keep, stored);
     go_back(rt, &mut ports, (spare, port), true);
@@ -366,7 +371,9 @@ fn fails_at<R: Threads + Wait + Abort + Sync + AllocGlobal>(
     let count = usize::from(commit) + usize::from(is_stored);
     let stored = (count.div_ceil(2), count / 2);
     let blanks = blanks();
-    halts::<Brand, R>(rt, alloc, site, blanks, keep, &directory, stored);
+    halts::<Brand, Brand, Brand, Brand, Brand, R>(
+        rt, alloc, site, blanks, keep, &directory, stored,
+    );
     Ok(())
 }
 

@@ -2,10 +2,11 @@
 //! none of the five ledgers.
 
 use dali_frame::Forward;
-use dali_line::{Bus, Ledgers, Line, UpRefusal};
+use dali_line::{Bus, Line, UpRefusal};
 use dali_script::Kept;
 use dali_world::Refusal;
 use std::sync::Wait;
+use std::sync::ledger::Ledger;
 
 /// A bus that has also the calls of a line that no worker and no pumper makes. Each is the line's call of this name.
 pub trait FullBus: Bus {
@@ -39,7 +40,8 @@ pub trait FullBus: Bus {
     ) -> Result<(), UpRefusal>;
 }
 
-impl<L: Ledgers> FullBus for Line<L> {
+impl<P0: Ledger, P1: Ledger, P2: Ledger, P3: Ledger, D: Ledger> FullBus
+    for Line<P0, P1, P2, P3, D> {
     fn arc<R: Wait>(&self, rt: &R, port: &mut Self::Port, frame: Forward) -> Result<(), Refusal> {
         self.arc(rt, port, frame)
     }

@@ -10,7 +10,7 @@ use super::threads::{
 use super::values::{block, forward, same};
 use dali_enrol::Directory;
 use dali_frame::Answer;
-use dali_line::{Bus, Gate, Ledgers, Moment, OpenGate, Outcome, Pumper, Ready, UpRefusal, Worker};
+use dali_line::{Bus, Gate, Moment, OpenGate, Outcome, Pumper, Ready, UpRefusal, Worker};
 use dali_reserve::{Keep, MemoryKeep};
 use dali_script::{Due, End, Input, Kept};
 use dali_world::{Event, Refusal, SiteState, Trouble};
@@ -19,6 +19,7 @@ use std::marker::Brand;
 use std::process::Abort;
 use std::sync::atomic::AtomicBool;
 use std::sync::atomic::Ordering::SeqCst;
+use std::sync::ledger::Ledger;
 use std::sync::{Mutex, Wait};
 use std::test::Fail;
 
@@ -382,7 +383,7 @@ where
 }
 
 /// A story is played on a line round this site. The site and the store of controller 0 then.
-fn played<L: Ledgers, R: Abort + Wait>(
+fn played<P0: Ledger, P1: Ledger, P2: Ledger, P3: Ledger, D: Ledger, R: Abort + Wait>(
     rt: &R,
     alloc: Global,
     site: SiteState,
@@ -391,7 +392,7 @@ fn played<L: Ledgers, R: Abort + Wait>(
     records: &Kept,
     story: Story,
 ) -> (SiteState, MemoryKeep) {
-    let (line, mut ports, driver) = line_of::<L>(site, blanks);
+    let (line, mut ports, driver) = line_of::<P0, P1, P2, P3, D>(site, blanks);
     let (mut port, mut other) = last_two(&mut ports);
     let ((port, other), driver, keep) = match story {
         Story::Lapse => {
@@ -423,7 +424,7 @@ fn plays<R: Abort + Wait>(
     story: Story,
 ) -> (SiteState, MemoryKeep) {
     let blanks = blanks();
-    played::<Brand, R>(rt, alloc, site, blanks, keep, records, story)
+    played::<Brand, Brand, Brand, Brand, Brand, R>(rt, alloc, site, blanks, keep, records, story)
 }
 
 /// Whether the store of controller 0 reads what the site remembers.

@@ -6,7 +6,7 @@ use super::reading::{Reading, has_read, reads, see_table};
 use super::values::{block, same, site_of};
 use arrayvec::ArrayVec;
 use dali_enrol::{Directory, Pass};
-use dali_line::{Bus, Driver, Gate, Ledgers, Line, OpenGate, Outcome, Port, Pumper, Worker};
+use dali_line::{Bus, Driver, Gate, Line, OpenGate, Outcome, Port, Pumper, Worker};
 use dali_reserve::{Keep, MemoryKeep};
 use dali_script::{End, Input, Kept};
 use dali_world::{Event, Refusal, SiteState};
@@ -15,7 +15,7 @@ use std::marker::Brand;
 use std::process::Abort;
 use std::sync::atomic::AtomicBool;
 use std::sync::atomic::Ordering::SeqCst;
-use std::sync::ledger::Blank;
+use std::sync::ledger::{Blank, Ledger};
 use std::sync::{Mutex, Wait};
 use std::test::Fail;
 use std::thread::{Threads, join};
@@ -162,10 +162,14 @@ pub fn blanks() -> Blanks {
 }
 
 /// A line round this site, by the right to make its ledgers.
-pub fn line_of<L: Ledgers>(
+pub fn line_of<P0: Ledger, P1: Ledger, P2: Ledger, P3: Ledger, D: Ledger>(
     site: SiteState,
     blanks: Blanks,
-) -> (Line<L>, ArrayVec<Port<L>, 4>, Driver<L>) {
+) -> (
+    Line<P0, P1, P2, P3, D>,
+    ArrayVec<Port<P0, P1, P2, P3, D>, 4>,
+    Driver<P0, P1, P2, P3, D>,
+) {
     let (first, second, third, fourth, driver) = blanks;
     Line::new(site, first, second, third, fourth, driver)
 }
@@ -239,11 +243,11 @@ pub fn go_back<P: Drop, R: Abort>(
 }
 
 /// The site of a line that is closed with all its ports.
-pub fn closed<L: Ledgers, R: Abort>(
+pub fn closed<P0: Ledger, P1: Ledger, P2: Ledger, P3: Ledger, D: Ledger, R: Abort>(
     rt: &R,
-    line: Line<L>,
-    ports: ArrayVec<Port<L>, 4>,
-    driver: Driver<L>,
+    line: Line<P0, P1, P2, P3, D>,
+    ports: ArrayVec<Port<P0, P1, P2, P3, D>, 4>,
+    driver: Driver<P0, P1, P2, P3, D>,
 ) -> SiteState {
     match line.close(ports, driver) {
         Ok(site) => site,
@@ -288,7 +292,7 @@ where
     run
 }
 
-fn commits_apart<L, R>(
+fn commits_apart<P0, P1, P2, P3, D, R>(
     rt: &R,
     alloc: Global,
     site: SiteState,
@@ -297,10 +301,14 @@ fn commits_apart<L, R>(
     directory: &Directory,
 )
 where
-    L: Ledgers + Send + Sync,
+    P0: Ledger + Send + Sync,
+    P1: Ledger + Send + Sync,
+    P2: Ledger + Send + Sync,
+    P3: Ledger + Send + Sync,
+    D: Ledger + Send + Sync,
     R: Threads + Wait + Abort + Sync,
 {
-    let (line, mut ports, driver) = line_of::<L>(site, blanks);
+    let (line, mut ports, driver) = line_of::<P0, P1, P2, P3, D>(site, blanks);
     let pair = last_two(&mut ports);
     let (one, other, pumped, reading) = run_apart(rt, alloc, &line, directory, pair, driver, keeps);
     same(rt, &pumped.1, &None);
@@ -322,7 +330,9 @@ fn commit_apart<R: Threads + Wait + Abort + Sync>(
     directory: &Directory,
 ) {
     let blanks = blanks();
-    commits_apart::<Brand, R>(rt, alloc, site, blanks, keeps, directory);
+    commits_apart::<Brand, Brand, Brand, Brand, Brand, R>(
+        rt, alloc, site, blanks, keeps, directory,
+    );
 }
 
 /// Empty stores for the two controllers.
@@ -587,7 +597,7 @@ fn lists_are_right<R: Abort>(
     left_their_lists(rt, site.log(), left, stops);
 }
 
-fn lists_are_logged<L, R>(
+fn lists_are_logged<P0, P1, P2, P3, D, R>(
     rt: &R,
     alloc: Global,
     site: SiteState,
@@ -597,10 +607,14 @@ fn lists_are_logged<L, R>(
     stops: bool,
 )
 where
-    L: Ledgers + Send + Sync,
+    P0: Ledger + Send + Sync,
+    P1: Ledger + Send + Sync,
+    P2: Ledger + Send + Sync,
+    P3: Ledger + Send + Sync,
+    D: Ledger + Send + Sync,
     R: Threads + Wait + Abort + Sync,
 {
-    let (line, ports, driver) = line_of::<L>(site, blanks);
+    let (line, ports, driver) = line_of::<P0, P1, P2, P3, D>(site, blanks);
     let workers = workers_of(alloc, ports, keeps);
     let (left, driver) = listed_run(rt, alloc, &line, directory, workers, driver, stops);
     let Listed { inner, list } = driver;
@@ -636,7 +650,9 @@ fn ports_list<R: Threads + Wait + Abort + Sync + AllocGlobal>(
     let keeps = stores_of(alloc, blocks)?;
     let site = site_with(alloc, 8, blocks)?;
     let blanks = blanks();
-    lists_are_logged::<Brand, R>(rt, alloc, site, blanks, keeps, directory, stops);
+    lists_are_logged::<Brand, Brand, Brand, Brand, Brand, R>(
+        rt, alloc, site, blanks, keeps, directory, stops,
+    );
     Ok(())
 }
 
