@@ -47,10 +47,13 @@ class Edit(typing.NamedTuple):
 
 def read(file, crate):
     """The edit that stands in a file."""
-    words = re.findall(r"^(file|old|new): ?(.*)$", file.read_text(), re.M)
+    lines = file.read_text().splitlines()
+    words = [match.groups() for line in lines if (match := re.match(r"(file|old|new): ?(.*)$", line))]
     kinds, texts = [kind for kind, _ in words], [text for _, text in words[1:]]
-    if kinds != ["file", *["old", "new"] * (len(texts) // 2)] or not texts:
-        raise Unfit("it wants a line 'file:', and then pairs of lines 'old:' and 'new:'")
+    if kinds != ["file", *["old", "new"] * (len(texts) // 2)] or not texts or len(words) != len(lines):
+        raise Unfit("it wants a line 'file:', and then pairs of lines 'old:' and 'new:', and no other line")
+    if texts[::2] == texts[1::2]:
+        raise Unfit("it changes nothing")
     edit = Edit(file.name, words[0][1], list(zip(texts[::2], texts[1::2])), set())
     text, changed = edit.applied((crate.folder / edit.file).read_text())
     return edit._replace(functions=functions(edit.file, text.splitlines(), changed))
