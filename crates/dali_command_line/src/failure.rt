@@ -1,14 +1,10 @@
 //! Why the program ends without having done what was asked for, and its exit statuses.
 
-ghost use Rattle.std.specs.Prelude.{◌≡◌};
-ghost use Rattle.std.specs.Process.{exit_status};
-ghost use Rattle.dali_command_line.specs.Failure.{status_of, status_after};
-
+use dali_console::{ConsoleFault, Failed};
 use dali_events::PlanError;
 use dali_replay::{Explained, plan_limit};
 use dali_threads::ThreadsFault;
 use std::fmt;
-use std::process::ExitCode;
 
 /// Why the program ends without having done what was asked for.
 #[derive(Clone, Copy)]
@@ -17,12 +13,8 @@ pub enum Failure {
     Replay(Explained),
     /// Status 2 or 3: a run of threads did not come to its report.
     Threads(ThreadsFault),
-    /// Status 2: the command line asks for nothing that this program does. `clap` says why.
-    BadCommandLine,
-    /// Status 2: a word of the command line is not UTF-8.
-    NotText,
-    /// Status 3: there is too little memory, or the command line cannot be read, or help cannot be written.
-    Refused,
+    /// Status 2 or 3: the command line or the output.
+    Console(ConsoleFault),
 }
 
 /// Writes the limit that a plan goes past.
@@ -43,35 +35,21 @@ impl fmt::Display for Failure {
                     ThreadsFault::Memory | ThreadsFault::Write => Ok(()),
                 }
             }
-            Failure::BadCommandLine => f.write_str("error: bad command line"),
-            Failure::NotText => f.write_str("error: an argument is not UTF-8"),
-            Failure::Refused => {
-                f.write_str("error: memory, the command line or the output is refused")
-            }
+            Failure::Console(fault) => write!(f, "{fault}"),
         }
     }
 }
 
-impl Failure {
-    /// The exit status of the program.
-    pub fn status(self) -> u8
-        ensures { result ≡ status_of self }
-    {
+impl Failed for Failure {
+    ghost use Rattle.dali_command_line.specs.Failure.{status_of};
+
+    ghost status_of = { status_of };
+
+    fn status(&self) -> u8 {
         match self {
-            Failure::Replay(explained) => explained.fault.status(),
+            Failure::Replay(explained) => explained.status(),
             Failure::Threads(fault) => fault.status(),
-            Failure::BadCommandLine | Failure::NotText => 2,
-            Failure::Refused => 3,
+            Failure::Console(fault) => fault.status(),
         }
-    }
-}
-
-/// The exit status of a program that ends so.
-pub fn exit_code(ended: Result<(), Failure>) -> ExitCode
-    ensures { exit_status result ≡ status_after ended }
-{
-    match ended {
-        Ok(()) => ExitCode::SUCCESS,
-        Err(failure) => ExitCode::from(failure.status()),
     }
 }

@@ -3,8 +3,7 @@
 
 mod failure;
 mod program;
-mod threads_words;
 mod words;
 
-pub use failure::{Failure, exit_code};
+pub use failure::Failure;
 pub use program::run_and_say;

@@ -2,29 +2,26 @@
 
 ghost use Rattle.std.specs.Prelude.{◌≡◌, [], IfSome};
 ghost use Rattle.dali_events.specs.Plan.{refusal_of};
-ghost use Rattle.dali_command_line.specs.Failure.{status_after};
+ghost use Rattle.dali_console.specs.Status.{status_after};
+ghost use Rattle.dali_command_line.specs.Failure.{status_of};
 
 use crate::failure::Failure;
-use crate::words::{Task, asked};
+use crate::words::{PROGRAM, Task, task};
+use dali_console::{ConsoleFault, words};
 use dali_replay::{Form, replay_streams};
 use dali_threads::{Setup, run_threads};
+use dali_words::asked;
 use std::env::Env;
 use std::io;
 use std::io::Eprint;
 use std::sync::Wait;
 use std::thread::Threads;
 
-/// The words of the command line, the program's name first.
-fn words<S: Env + AllocGlobal>(system: &S) -> Result<Vec<String>, Failure> {
-    let words = match std::env::args(system) {
-        Ok(words) => words,
-        Err(error) if error.kind() == io::ErrorKind::InvalidData => return Err(Failure::NotText),
-        Err(_) => return Err(Failure::Refused),
-    };
-    match words.collect(system.alloc()) {
-        Ok(words) => Ok(words),
-        Err(_) => Err(Failure::Refused),
-    }
+/// What the words of the command line ask for. None where they ask for help, which is printed.
+fn asked_for<S: Env + Print + Eprint + AllocGlobal>(
+    system: &S,
+) -> Result<Option<Task>, ConsoleFault> {
+    asked(system, &PROGRAM, &words(system)?, task)
 }
 
 /// Plays a script from the system's input to its output.
@@ -41,7 +38,7 @@ fn threads<S: Print + AllocGlobal, R: Threads + Wait + Sync>(
     rt: &R,
     setup: Setup,
 ) -> Result<(), Failure>
-    ensures refused { IfSome (refusal_of setup.gear setup.blocks.items []) (λ _. status_after result ≡ 2) }
+    ensures refused { IfSome (refusal_of setup.gear setup.blocks.items []) (λ _. status_after status_of result ≡ 2) }
 {
     match run_threads(rt, system.alloc(), setup, &mut io::writer(system)) {
         Ok(()) => Ok(()),
@@ -55,11 +52,11 @@ where
     S: Env + Input + Print + Eprint + AllocGlobal,
     R: Threads + Wait + Sync,
 {
-    let words = words(system)?;
-    match asked(system, &words)? {
-        Task::Help => Ok(()),
-        Task::Replay(form) => replay(system, form),
-        Task::Threads(setup) => threads(system, rt, setup),
+    match asked_for(system) {
+        Ok(Some(Task::Replay(form))) => replay(system, form),
+        Ok(Some(Task::Threads(setup))) => threads(system, rt, setup),
+        Ok(None) => Ok(()),
+        Err(fault) => Err(Failure::Console(fault)),
     }
 }
 
@@ -73,7 +70,7 @@ where
 {
     let ended = run(system, rt);
     match &ended {
-        Ok(()) | Err(Failure::BadCommandLine) => {}
+        Ok(()) | Err(Failure::Console(ConsoleFault::BadCommandLine)) => {}
         Err(failure) => {
             let _ = eprintln!(system; "{failure}");
         }

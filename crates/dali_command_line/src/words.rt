@@ -1,18 +1,11 @@
 //! The command line, and what it asks for.
 
-ghost use Rattle.std.specs.Prelude.{◌≡◌};
-ghost use Rattle.dali_command_line.specs.Failure.{answered};
-
-use crate::failure::Failure;
-use crate::threads_words::{json, setup, threads_command};
-use clap::error::ErrorKind;
-use clap::{ArgMatches, Command, Error};
-use dali_plain::Plain;
-use dali_replay::Form;
+use arrayvec::ArrayVec;
+use dali_events::PlanError;
+use dali_replay::{Form, block_of, plan_limit};
 use dali_threads::Setup;
-use std::alloc::{AllocError, Global};
-use std::io;
-use std::io::Eprint;
+use dali_words::{Kind, Line, Program, Subcommand, Value, Word, Wrong};
+use std::alloc::Global;
 
 /// What a command line asks for.
 #[derive(Drop)]
@@ -21,8 +14,6 @@ pub enum Task {
     Replay(Form),
     /// Controllers are to be run in threads.
     Threads(Setup),
-    /// Help or the version, which is printed.
-    Help,
 }
 
 const REPLAY: &str = "\
@@ -43,88 +34,155 @@ Examples:
 
 The manual is README.md of the repository, and docs/FORMAT.md for each line that is read or written.";
 
-fn replay_command<'a>(alloc: Global) -> Result<Command<'a>, AllocError> {
-    Command::new(alloc, "replay")
-        .about("Reads a script of events from standard input and reports each")
-        .long_about(REPLAY)
-        .after_help(AFTER_REPLAY)
-        .arg(json(
-            alloc,
-            "Writes what each line `show` shows as one line of JSON, and no other report",
-        ))
-}
+const THREADS: &str = "\
+Runs application controllers in threads of their own over one bus, and reports what became of the gear.
 
-/// What is to be written of a script.
-fn form(found: &ArgMatches<'_>) -> Form {
-    if found.get_flag("json") {
-        Form::Json
-    } else {
-        Form::Text
-    }
-}
+The gear come from the factory. Each controller searches them and gives them addresses of its block, until it ends or
+has had its turns. Standard input is not read. The report is written when all have ended, a line for
+  controller C: END                        how each controller ended
+  gear G POWER STATE RANDOM SEARCH SHORT   each gear with its short address, or - where it has none
+  table C: A=RANDOM ..                     the gear that each controller enrolled, by address
+  addressed K of N                         how many gear have a short address
+What the threads do when is open, so two runs of one command line may give different addresses.";
+
+const AFTER_THREADS: &str = "\
+Example: dali_sim threads --gear 8 --seed 1 --turns 100000 0-15 16-31
+
+README.md of the repository shows what it writes, docs/FORMAT.md has each line and the exit statuses.";
+
+const REPLAY_WORDS: &[Word] = &[Word {
+    name: "json",
+    value: "",
+    help: "Writes what each line `show` shows as one line of JSON, and no other report",
+    kind: Kind::Flag,
+}];
+
+const THREADS_WORDS: &[Word] = &[
+    Word {
+        name: "gear",
+        value: "N",
+        help: "How many gear there are, 1 to 128",
+        kind: Kind::Needed(Value::Text),
+    },
+    Word {
+        name: "seed",
+        value: "S",
+        help: "Where the random addresses come from: a seed always gives the same ones",
+        kind: Kind::Needed(Value::Number64),
+    },
+    Word {
+        name: "turns",
+        value: "T",
+        help: "How many turns each controller may take, and how many the bus",
+        kind: Kind::Needed(Value::Number32),
+    },
+    Word {
+        name: "survey",
+        value: "",
+        help: "Each controller begins by a survey: it asks first who has a short address",
+        kind: Kind::Flag,
+    },
+    Word {
+        name: "json",
+        value: "",
+        help: "Writes the report as one line of JSON",
+        kind: Kind::Flag,
+    },
+    Word {
+        name: "blocks",
+        value: "BLOCK",
+        help: "A controller each, 1 to 4: the first and the last address of its block, as 0-15",
+        kind: Kind::Places,
+    },
+];
 
 /// The words that the program knows.
-fn command<'a>(alloc: Global) -> Result<Command<'a>, AllocError> {
-    let replay = replay_command(alloc)?;
-    let threads = threads_command(alloc, "threads")?;
-    let tasks = vec![in alloc; replay, threads]?;
-    Command::new(alloc, "dali_sim")
-        .version("0.1.0")
-        .about("Short address commissioning of DALI control gear, simulated")
-        .after_help(AFTER_HELP)
-        .subcommand_required(true)
-        .subcommands(tasks)
-}
+pub const PROGRAM: Program = Program {
+    name: "dali_sim",
+    about: "Short address commissioning of DALI control gear, simulated",
+    long_about: None,
+    after_help: AFTER_HELP,
+    subcommands: &[
+        Subcommand {
+            name: "replay",
+            about: "Reads a script of events from standard input and reports each",
+            long_about: Some(REPLAY),
+            after_help: Some(AFTER_REPLAY),
+            words: REPLAY_WORDS,
+        },
+        Subcommand {
+            name: "threads",
+            about: "Runs controllers in threads of their own, and reports what became of the gear",
+            long_about: Some(THREADS),
+            after_help: Some(AFTER_THREADS),
+            words: THREADS_WORDS,
+        },
+    ],
+};
 
-fn matches<'a>(alloc: Global, words: &'a [String]) -> Result<ArgMatches<'a>, Error> {
-    command(alloc)?.try_get_matches_from(words)
-}
-
-/// A subcommand that the program does not know, or none. `clap` refuses both before.
-fn no_task(alloc: Global) -> Result<Task, Error> {
-    let mut command = command(alloc)?;
-    Err(command.error(ErrorKind::InvalidSubcommand, "no such subcommand")?)
-}
-
-fn asked_for(alloc: Global, found: &ArgMatches<'_>) -> Result<Task, Error> {
-    match found.subcommand() {
-        Some(("replay", found)) => Ok(Task::Replay(form(found))),
-        Some(("threads", found)) => Ok(Task::Threads(setup(alloc, found)?)),
-        _ => no_task(alloc),
+/// How many gear there are, as far as it is a number: a plan refuses one that is out of range, in the same words.
+fn gear_count(alloc: Global, line: &Line) -> Result<u32, Wrong> {
+    match line.number("gear") {
+        Some(gear) => Ok(gear),
+        None => {
+            let text = line.value("gear").unwrap_or_default();
+            let limit = plan_limit(PlanError::GearCount);
+            let message = format!(in alloc; "invalid value '{text}' for '--gear <N>': {limit}")?;
+            Err(Wrong::Value(message))
+        }
     }
 }
 
-/// Reads the words of a command line, the program's name first.
-fn read(alloc: Global, words: &[String]) -> Result<Task, Error> {
-    asked_for(alloc, &matches(alloc, words)?)
+fn not_a_block(alloc: Global, word: &str) -> Result<(u8, u8), Wrong> {
+    Err(Wrong::Value(format!(in alloc;
+        "invalid value '{word}' for '<BLOCK>...': a block is first-last, as 0-15, and addresses end at 63"
+    )?))
 }
 
-/// What a command line comes to that `clap` answered, with its answer printed or not.
-fn answered(kind: ErrorKind, printed: bool) -> Result<Task, Failure>
-    ensures { result ≡ answered kind printed }
-{
-    match kind {
-        ErrorKind::DisplayHelp | ErrorKind::DisplayVersion if printed => Ok(Task::Help),
-        ErrorKind::DisplayHelp | ErrorKind::DisplayVersion => Err(Failure::Refused),
-        ErrorKind::OutOfMemory => Err(Failure::Refused),
-        _ => Err(Failure::BadCommandLine),
+/// A block that a word is, spelled as in the line `site` of a script.
+fn block(alloc: Global, word: &str) -> Result<(u8, u8), Wrong> {
+    match block_of(word.as_bytes()) {
+        Some(block) => Ok(block),
+        None => not_a_block(alloc, word),
     }
 }
 
-/// Prints help, or says on standard error what is wrong, with the control characters of arguments by their numbers.
-fn print<R: Print + Eprint + AllocGlobal>(rt: &R, error: &Error) -> io::Result<()> {
-    if error.use_stderr() {
-        let text = error.to_string(rt.alloc())?;
-        rt.eprint(Plain(text))
-    } else {
-        error.print(rt)
+/// The blocks, one for each controller.
+fn blocks(alloc: Global, line: &Line) -> Result<ArrayVec<(u8, u8), 4>, Wrong> {
+    let mut blocks = ArrayVec::new();
+    for (name, word) in line.values.iter() {
+        if name.as_str() == "blocks" && blocks.try_push(block(alloc, word)?).is_err() {
+            let limit = plan_limit(PlanError::ControllerCount);
+            let message = format!(in alloc;
+                "unexpected value '{word}' for '<BLOCK>...' found; no more were expected: {limit}"
+            )?;
+            return Err(Wrong::TooMany(message));
+        }
     }
+    Ok(blocks)
 }
 
-/// What the words of a command line ask for. Help is printed, and what is wrong is said on standard error.
-pub fn asked<R: Print + Eprint + AllocGlobal>(rt: &R, words: &[String]) -> Result<Task, Failure> {
-    match read(rt.alloc(), words) {
-        Ok(task) => Ok(task),
-        Err(error) => answered(error.kind(), print(rt, &error).is_ok()),
+/// What is to be run.
+fn setup(alloc: Global, line: &Line) -> Result<Setup, Wrong> {
+    Ok(Setup {
+        gear: gear_count(alloc, line)?,
+        seed: line.number("seed").unwrap_or(0),
+        turns: line.number("turns").unwrap_or(0),
+        surveys: line.has("survey"),
+        as_json: line.has("json"),
+        blocks: blocks(alloc, line)?,
+    })
+}
+
+/// What a line asks for.
+pub fn task(alloc: Global, line: &Line) -> Result<Task, Wrong> {
+    match line.subcommand.as_str() {
+        "replay" => Ok(Task::Replay(if line.has("json") {
+            Form::Json
+        } else {
+            Form::Text
+        })),
+        "threads" => Ok(Task::Threads(setup(alloc, line)?)),
+        _ => Err(Wrong::Value(String::from_str(alloc, "no such subcommand")?)),
     }
 }

@@ -121,22 +121,11 @@ fn at_one_moment(rt: &HostRuntime, name: &str) -> Result<Lying, StoreFault> {
 fn copied(
     rt: &HostRuntime,
     name: &str,
-    block: Block,
 ) -> Result<SqliteKeep<FileStore<sqlite_disk::Memory>>, StoreFault> {
     let lying = at_one_moment(rt, name)?;
-    match open_copy(rt.alloc(), &lying.db, &lying.log, block) {
+    match open_copy(rt.alloc(), &lying.db, &lying.log, Block::ALL) {
         Ok(store) => Ok(store),
         Err(error) => Err(copy_fault(error)),
-    }
-}
-
-/// Whether the files may be opened to be written: those of records alone may, and what is not there yet.
-fn may_be_opened(rt: &HostRuntime, name: &str) -> Result<(), StoreFault> {
-    match copied(rt, name, Block::ALL) {
-        Ok(_) => Ok(()),
-        // Of which block its records are, the store says.
-        Err(StoreFault::Store(KeepError::BadStore)) => Ok(()),
-        Err(fault) => Err(fault),
     }
 }
 
@@ -169,11 +158,10 @@ fn opened_to_write(rt: &HostRuntime, name: &str) -> io::Result<fs::File> {
         .open(rt, name)
 }
 
-fn opened(rt: &HostRuntime, name: &str) -> Result<Connection<FileStore<File>>, StoreFault> {
-    may_be_opened(rt, name)?;
+fn opened(rt: &HostRuntime, name: &str) -> Result<Connection<FileStore<File>>, Failure> {
     match Connection::open(rt, name) {
         Ok(conn) => Ok(conn),
-        Err(error) => Err(why_closed(rt, name, error)),
+        Err(error) => Err(failure(why_closed(rt, name, error))),
     }
 }
 
@@ -222,7 +210,7 @@ impl Stores for Files<'_> {
     }
 
     fn lend<B: Borrower>(&self, name: &str, block: Block, borrower: &B) -> Result<(), Failure> {
-        let conn = opened(self.rt, name).map_err(failure)?;
+        let conn = opened(self.rt, name)?;
         let (conn, done) = lent(conn, block, borrower)?;
         let is_closed = closed(self.rt, name, conn);
         done?;
@@ -234,7 +222,7 @@ impl Stores for Files<'_> {
     }
 
     fn lend_copy<B: Borrower>(&self, name: &str, borrower: &B) -> Result<(), Failure> {
-        let mut store = copied(self.rt, name, Block::ALL).map_err(failure)?;
+        let mut store = copied(self.rt, name).map_err(failure)?;
         borrower.take(&mut store)
     }
 }

@@ -4,7 +4,8 @@
 
 mod files;
 
-use dali_commission_program::{exit_code, run_and_say};
+use dali_commission_program::run_and_say;
+use dali_console::exit_code;
 use files::Files;
 use std::io::IsTerminal;
 use std::process::ExitCode;

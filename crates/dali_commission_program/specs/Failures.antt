@@ -9,14 +9,13 @@ use Rattle.dali_commissioning.specs.declared.verdict.Place.{Place}
 use Rattle.dali_commissioning.specs.Places.{are_as_recorded}
 use Rattle.dali_commissioning.specs.declared.fault.CommissionFault.{CommissionFault}
 use Rattle.dali_commissioning.specs.declared.fault.CommissionFault.TheVariants as commission
-use Rattle.dali_commission_words.specs.declared.fault.WordsFault.{WordsFault}
-use Rattle.dali_commission_words.specs.declared.fault.WordsFault.TheVariants as words
+use Rattle.dali_console.specs.declared.fault.ConsoleFault.TheVariants.{Refused}
+use Rattle.dali_console.specs.Status as console
 use Rattle.dali_commission_program.specs.declared.failure.Failure.{Failure}
 use Rattle.dali_commission_program.specs.declared.failure.Failure.TheVariants.{AddressedBefore}
 use Rattle.dali_commission_program.specs.declared.failure.Failure.TheVariants.{NotAsRecorded}
-use Rattle.dali_commission_program.specs.declared.failure.Failure.TheVariants.{BadCommandLine}
-use Rattle.dali_commission_program.specs.declared.failure.Failure.TheVariants.{NotText, Refused}
-use Rattle.dali_commission_program.specs.declared.failure.Failure.TheVariants.{Driver, Store}
+use Rattle.dali_commission_program.specs.declared.failure.Failure.TheVariants.{Console, Driver}
+use Rattle.dali_commission_program.specs.declared.failure.Failure.TheVariants.{Store}
 use Rattle.dali_commission_program.specs.declared.failure.Failure.TheVariants.{Outside, BlockFull}
 use Rattle.dali_commission_program.specs.declared.failure.Failure.TheVariants.{GaveUp, Conflict}
 use Rattle.dali_commission_program.specs.declared.failure.Failure.TheVariants.{Spent}
@@ -28,9 +27,7 @@ use Rattle.dali_commission_program.specs.declared.stores.StoreFault.TheVariants 
 abbrev pub status_of : Failure → ℕ
 status_of AddressedBefore = 1
 status_of NotAsRecorded = 1
-status_of BadCommandLine = 2
-status_of NotText = 2
-status_of Refused = 3
+status_of (Console fault) = console.status_of fault
 status_of (Driver line fault) = 4
 status_of (Store fault) = 5
 status_of (Outside a) = 5
@@ -40,15 +37,6 @@ status_of Conflict = 8
 status_of Spent = 9
 status_of NobodyAnswered = 10
 status_of (NobodyThere a) = 10
-
-abbrev pub status_after : {A : Type 0} → Result A Failure → ℕ
-status_after (Ok done) = 0
-status_after (Err failure) = status_of failure
-
--- what a fault of the command line is to the program
-abbrev pub words_failure : WordsFault → Failure
-words_failure words.Bad = BadCommandLine
-words_failure words.Refused = Refused
 
 -- what the end of the last machine is to the program: where no gear was heard it is none
 abbrev pub ended_as : Ended → Bool → Result (Unit {0}) Failure
@@ -67,7 +55,7 @@ checked places unaddressed true =
 
 -- what a fault is to the program, at a line of the driver
 abbrev pub failure_of : CommissionFault → ℕ → Failure
-failure_of (commission.Driver Memory) line = Refused
+failure_of (commission.Driver Memory) line = Console Refused
 failure_of (commission.Driver fault) line = Driver line fault
 failure_of (commission.Store error) line = Store (store.Store error)
 failure_of commission.QuestionLost line = GaveUp

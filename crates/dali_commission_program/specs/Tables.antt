@@ -3,8 +3,8 @@ use Rattle.std.specs.Prelude.{◌∷◌, ◌++◌, Option, Some, None, codes, de
 use Rattle.dali_frame.specs.Hex.{random_text}
 use Rattle.dali_script.specs.Records.{Assignment}
 use Rattle.dali_commissioning.specs.Places.{random_at}
-use Rattle.dali_commission_words.specs.declared.tasks.Form.{Form}
-use Rattle.dali_commission_words.specs.declared.tasks.Form.TheVariants.{Text, Csv, Json}
+use Rattle.dali_commission_program.specs.declared.tasks.Form.{Form}
+use Rattle.dali_commission_program.specs.declared.tasks.Form.TheVariants.{Text, Csv, Json}
 
 -- THE ROWS of a table: what is enrolled, by short address from 0 on.
 abbrev pub at_if : ℕ → Option ℕ → List Assignment

@@ -5,7 +5,7 @@ use crate::records::lend_copy;
 use crate::report::Report;
 use crate::reports::{say_checked, say_line};
 use crate::stores::{Borrower, Stores};
-use dali_commission_words::Bounds;
+use crate::tasks::Bounds;
 use dali_commissioning::{Checked, Driver, check, places};
 use dali_reserve::{Keep, MemoryKeep};
 use dali_script::Block;

@@ -1,18 +1,15 @@
 //! Why the program ends without having done what was asked for, and its exit statuses.
 
 ghost use Rattle.std.specs.Prelude.{◌≡◌};
-ghost use Rattle.std.specs.Process.{exit_status};
-ghost use Rattle.dali_commission_program.specs.Failures.{status_of, status_after, ended_as, checked, failure_of};
-ghost use Rattle.dali_commission_program.specs.Failures.{words_failure};
+ghost use Rattle.dali_commission_program.specs.Failures.{ended_as, checked, failure_of};
 
 use crate::stores::StoreFault;
-use dali_commission_words::WordsFault;
 use dali_commissioning::{CommissionFault, DriverFault, Ended, Place, are_as_recorded};
+use dali_console::{ConsoleFault, Failed};
 use dali_frame::Short;
 use dali_reserve::KeepError;
 use dali_script::{End, Fault};
 use std::fmt;
-use std::process::ExitCode;
 
 /// Why the program ends without having done what was asked for.
 #[derive(Clone, Copy, PartialEq, Eq)]
@@ -21,12 +18,8 @@ pub enum Failure {
     AddressedBefore,
     /// Status 1: the gear are not as the records have them.
     NotAsRecorded,
-    /// Status 2: the command line asks for nothing that this program does. `clap` says why.
-    BadCommandLine,
-    /// Status 2: a word of the command line is not UTF-8.
-    NotText,
-    /// Status 3: there is too little memory, or the command line cannot be read, or the output cannot be written.
-    Refused,
+    /// Status 2 or 3: the command line or the output.
+    Console(ConsoleFault),
     /// Status 4: at this line of the driver.
     Driver(u64, DriverFault),
     /// Status 5: the records.
@@ -55,9 +48,7 @@ impl fmt::Display for Failure {
                 "not begun: gear answer to short addresses that the records do not name"
             }
             Failure::NotAsRecorded => "the gear are not as recorded",
-            Failure::BadCommandLine => "error: bad command line",
-            Failure::NotText => "error: an argument is not UTF-8",
-            Failure::Refused => "error: memory, the command line or the output is refused",
+            Failure::Console(fault) => return write!(f, "{fault}"),
             Failure::Driver(line, fault) => {
                 return write!(f, "error: line {line} of the driver: {fault}");
             }
@@ -91,8 +82,9 @@ impl Failure {
         match self {
             Failure::AddressedBefore => "not-begun",
             Failure::NotAsRecorded => "not-as-recorded",
-            Failure::BadCommandLine | Failure::NotText => "bad-command-line",
-            Failure::Refused => "refused",
+            Failure::Console(ConsoleFault::BadCommandLine | ConsoleFault::NotText) =>
+                "bad-command-line",
+            Failure::Console(ConsoleFault::Refused) => "refused",
             Failure::Driver(..) => "driver",
             Failure::Store(_) | Failure::Outside(_) => "records",
             Failure::BlockFull => "block-full",
@@ -102,15 +94,17 @@ impl Failure {
             Failure::NobodyAnswered | Failure::NobodyThere(_) => "nobody-answered",
         }
     }
+}
 
-    /// The exit status of the program.
-    pub fn status(self) -> u8
-        ensures { result ≡ status_of self }
-    {
+impl Failed for Failure {
+    ghost use Rattle.dali_commission_program.specs.Failures.{status_of};
+
+    ghost status_of = { status_of };
+
+    fn status(&self) -> u8 {
         match self {
             Failure::AddressedBefore | Failure::NotAsRecorded => 1,
-            Failure::BadCommandLine | Failure::NotText => 2,
-            Failure::Refused => 3,
+            Failure::Console(fault) => fault.status(),
             Failure::Driver(..) => 4,
             Failure::Store(_) | Failure::Outside(_) => 5,
             Failure::BlockFull => 6,
@@ -119,16 +113,6 @@ impl Failure {
             Failure::Spent => 9,
             Failure::NobodyAnswered | Failure::NobodyThere(_) => 10,
         }
-    }
-}
-
-/// What a fault of the command line is to the program.
-pub fn words_failure(fault: WordsFault) -> Failure
-    ensures { result ≡ words_failure fault }
-{
-    match fault {
-        WordsFault::Bad => Failure::BadCommandLine,
-        WordsFault::Refused => Failure::Refused,
     }
 }
 
@@ -173,20 +157,10 @@ pub fn failure_of(fault: CommissionFault, line: u64) -> Failure
     ensures { result ≡ failure_of fault line }
 {
     match fault {
-        CommissionFault::Driver(DriverFault::Memory) => Failure::Refused,
+        CommissionFault::Driver(DriverFault::Memory) => Failure::Console(ConsoleFault::Refused),
         CommissionFault::Driver(fault) => Failure::Driver(line, fault),
         CommissionFault::Store(error) => Failure::Store(StoreFault::Store(error)),
         CommissionFault::QuestionLost => Failure::GaveUp,
         CommissionFault::StepsSpent | CommissionFault::RunsSpent => Failure::Spent,
-    }
-}
-
-/// The exit status of a program that ends so.
-pub fn exit_code(ended: Result<(), Failure>) -> ExitCode
-    ensures { exit_status result ≡ status_after ended }
-{
-    match ended {
-        Ok(()) => ExitCode::SUCCESS,
-        Err(failure) => ExitCode::from(failure.status()),
     }
 }

@@ -13,8 +13,11 @@ mod reports;
 mod running;
 mod stores;
 mod table;
+mod tasks;
+mod words;
 
-pub use failure::{Failure, exit_code};
+pub use failure::Failure;
 pub use program::run_and_say;
 pub use stores::{Borrower, StoreFault, Stores};
 pub use table::push_table;
+pub use tasks::Form;

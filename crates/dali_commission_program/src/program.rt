@@ -5,7 +5,7 @@ ghost use Rattle.std.specs.Io.KnownBytes.{Appends};
 ghost use Rattle.dali_commission_program.specs.Tables.{table_text};
 
 use crate::checking::checks;
-use crate::failure::{Failure, words_failure};
+use crate::failure::Failure;
 use crate::identifying::identify;
 use crate::json::write_report;
 use crate::records::{kept, lend};
@@ -13,9 +13,12 @@ use crate::report::Report;
 use crate::running::Running;
 use crate::stores::{Borrower, Stores};
 use crate::table::push_table;
-use dali_commission_words::{Form, Task, asked};
+use crate::tasks::{Form, Task};
+use crate::words::{PROGRAM, task};
+use dali_console::{ConsoleFault, Failed, words};
 use dali_reserve::Keep;
 use dali_script::Kept;
+use dali_words::asked;
 use std::alloc::Global;
 use std::cell::RefCell;
 use std::env::Env;
@@ -23,25 +26,13 @@ use std::io;
 use std::io::{Eprint, Write};
 use std::time::Clock;
 
-/// The words of the command line, the program's name first.
-fn words<S: Env + AllocGlobal>(system: &S) -> Result<Vec<String>, Failure> {
-    let words = match std::env::args(system) {
-        Ok(words) => words,
-        Err(error) if error.kind() == io::ErrorKind::InvalidData => return Err(Failure::NotText),
-        Err(_) => return Err(Failure::Refused),
-    };
-    match words.collect(system.alloc()) {
-        Ok(words) => Ok(words),
-        Err(_) => Err(Failure::Refused),
-    }
-}
+const REFUSED: Failure = Failure::Console(ConsoleFault::Refused);
 
-/// What the words of the command line ask for.
-fn asked_for<S: Env + Print + Eprint + AllocGlobal>(system: &S) -> Result<Task, Failure> {
-    match asked(system, &words(system)?) {
-        Ok(task) => Ok(task),
-        Err(fault) => Err(words_failure(fault)),
-    }
+/// What the words of the command line ask for. None where they ask for help, which is printed.
+fn asked_for<S: Env + Print + Eprint + AllocGlobal>(
+    system: &S,
+) -> Result<Option<Task>, ConsoleFault> {
+    asked(system, &PROGRAM, &words(system)?, task)
 }
 
 /// Writes the table of the gear that are enrolled.
@@ -56,7 +47,7 @@ fn write_table<W: Write>(
 {
     let mut text = String::new(alloc);
     if push_table(&mut text, form, kept).is_err() || writer.write_all(text.as_bytes()).is_err() {
-        return Err(Failure::Refused);
+        return Err(REFUSED);
     }
     Ok(())
 }
@@ -88,7 +79,6 @@ where
     F: Stores,
 {
     match task {
-        Task::Help => Ok(()),
         Task::Run(setup) => {
             let running = Running {
                 system,
@@ -119,7 +109,7 @@ fn records_of(task: &Task) -> Option<&str> {
             None => None,
         },
         Task::Table(name, _) => Some(name),
-        Task::Identify(_) | Task::Help => None,
+        Task::Identify(_) => None,
     }
 }
 
@@ -128,7 +118,7 @@ fn wants_json(task: &Task) -> bool {
     match task {
         Task::Run(setup) => setup.as_json,
         Task::Check(bounds) => bounds.as_json,
-        Task::Identify(_) | Task::Table(..) | Task::Help => false,
+        Task::Identify(_) | Task::Table(..) => false,
     }
 }
 
@@ -136,7 +126,7 @@ fn wants_json(task: &Task) -> bool {
 /// it cannot be said.
 fn say_why<S: Eprint>(system: &S, failure: &Failure, records: Option<&str>) {
     let _ = match (failure, records) {
-        (Failure::BadCommandLine, _) => Ok(()),
+        (Failure::Console(ConsoleFault::BadCommandLine), _) => Ok(()),
         (Failure::Store(fault), Some(name)) => eprintln!(system; "error: {name}: {fault}"),
         _ => eprintln!(system; "{failure}"),
     };
@@ -191,13 +181,7 @@ fn is_told<S: Print + AllocGlobal>(
 /// A result that cannot be written is a failure where there was none before.
 fn or_refused(ended: Result<(), Failure>, is_told: bool) -> Result<(), Failure> {
     match ended {
-        Ok(()) => {
-            if is_told {
-                Ok(())
-            } else {
-                Err(Failure::Refused)
-            }
-        }
+        Ok(()) => { if is_told { Ok(()) } else { Err(REFUSED) } }
         Err(failure) => Err(failure),
     }
 }
@@ -231,8 +215,10 @@ where
     F: Stores,
 {
     match asked_for(system) {
-        Ok(task) => does_and_tells(system, stores, is_terminal, &task),
-        Err(failure) => {
+        Ok(Some(task)) => does_and_tells(system, stores, is_terminal, &task),
+        Ok(None) => Ok(()),
+        Err(fault) => {
+            let failure = Failure::Console(fault);
             say_why(system, &failure, None);
             Err(failure)
         }

@@ -3,37 +3,34 @@
 use crate::failure::Failure;
 use crate::stores::{Borrower, StoreFault, Stores};
 use dali_commissioning::outside;
-use dali_reserve::{Keep, KeepError};
+use dali_reserve::Keep;
 use dali_script::{Block, Kept};
 
-/// Who says why records are none of a block, if one of all addresses takes them.
+/// Who sees that records are of a block.
 #[derive(Drop)]
-struct Refusing {
+struct Fitting {
     block: Block,
 }
 
-impl Borrower for Refusing {
+impl Borrower for Fitting {
     fn take<K: Keep>(&self, store: &mut K) -> Result<(), Failure> {
         match outside(&kept(store)?, self.block) {
             Some(short) => Err(Failure::Outside(short)),
-            None => Err(Failure::Store(StoreFault::Store(KeepError::BadStore))),
+            None => Ok(()),
         }
     }
 }
 
-/// Lends the records of a name, for a controller with this block.
+/// Lends the records of a name, for a controller with this block, where a copy of them has shown that they are records
+/// of it. So nothing else is opened to be written.
 pub(crate) fn lend<F: Stores, B: Borrower>(
     stores: &F,
     name: &str,
     block: &Block,
     borrower: &B,
 ) -> Result<(), Failure> {
-    match stores.lend(name, *block, borrower) {
-        Err(Failure::Store(StoreFault::Store(KeepError::BadStore))) => {
-            stores.lend_copy(name, &Refusing { block: *block })
-        }
-        done => done,
-    }
+    stores.lend_copy(name, &Fitting { block: *block })?;
+    stores.lend(name, *block, borrower)
 }
 
 /// Lends a copy of the records of a name, if they are there.

@@ -8,10 +8,11 @@ use crate::records::kept;
 use crate::report::Report;
 use crate::reports::{say_addressed, say_commissioned, say_left_alone, say_line, say_why_ended};
 use crate::stores::Borrower;
-use dali_commission_words::{Setup, Start};
+use crate::tasks::{Setup, Start};
 use dali_commissioning::{
     Begun, CommissionFault, Driver, Outcome, Reply, Watch, ask, begin, commission,
 };
+use dali_console::ConsoleFault;
 use dali_frame::Short;
 use dali_reserve::Keep;
 use dali_script::{Input as Told, Kept};
@@ -155,7 +156,7 @@ impl<S: Input + Print + Eprint + AllocGlobal> Running<'_, S> {
     fn run<K: Keep>(&self, store: &mut K) -> Result<(), Failure> {
         let (system, setup) = (self.system, self.setup);
         if setup.idle_passes == 0 {
-            return Err(Failure::BadCommandLine);
+            return Err(Failure::Console(ConsoleFault::BadCommandLine));
         }
         let before = kept(store)?;
         let mut driver = Driver::new(system.alloc(), system.reader(), io::writer(system));

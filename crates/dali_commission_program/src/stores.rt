@@ -57,7 +57,7 @@ pub trait Stores {
     /// where there are none. What the borrower ends with goes before why they could not be closed.
     fn lend<B: Borrower>(&self, name: &str, block: Block, borrower: &B) -> Result<(), Failure>;
 
-    /// Lends a copy of the records of this name, which are there, as to a controller with all addresses. They are only
-    /// read: nothing that the borrower does to the copy changes them.
+    /// Lends a copy of the records of this name, as to a controller with all addresses; one with no records where they
+    /// are not there. They are only read: nothing that the borrower does to the copy changes them.
     fn lend_copy<B: Borrower>(&self, name: &str, borrower: &B) -> Result<(), Failure>;
 }

@@ -4,8 +4,8 @@ ghost use Rattle.std.specs.Prelude.{◌≡◌, ◌++◌, ◌<◌, length, OnOk, 
 ghost use Rattle.dali_commission_program.specs.Tables.{at_if, rows, head, separator, tail, row_text};
 ghost use Rattle.dali_commission_program.specs.Tables.{rows_text, table_text};
 
+use crate::tasks::Form;
 use arrayvec::ArrayVec;
-use dali_commission_words::Form;
 use dali_commissioning::random_at;
 use dali_frame::{Random24, Short};
 use dali_script::Kept;

@@ -2,6 +2,8 @@
 
 ghost use Rattle.std.specs.Prelude.{◌≡◌};
 
+use crate::reason::Explained;
+use dali_console::Failed;
 use dali_events::PlanError;
 use std::alloc::AllocError;
 use thiserror::Error;
@@ -47,5 +49,15 @@ impl From<AllocError> for ReplayFault {
 
     fn from(_error: AllocError) -> ReplayFault {
         ReplayFault::Memory
+    }
+}
+
+impl Failed for Explained {
+    ghost use Rattle.dali_grammar.specs.ReplayFault.{status_of};
+
+    ghost status_of = { λ e. status_of e.fault };
+
+    fn status(&self) -> u8 {
+        self.fault.status()
     }
 }

@@ -3,10 +3,7 @@
 //! that whoever plays a script waits for the proofs of that alone. It takes one word, `--json`, or none.
 #![tactic(auto)]
 
-ghost use Rattle.std.specs.Prelude.{◌≡◌};
-ghost use Rattle.std.specs.Process.{exit_status};
-ghost use Rattle.dali_play.specs.Status.{status_after};
-
+use dali_console::{exit_code, words};
 use dali_replay::{Explained, Form, replay_streams};
 use std::env::Env;
 use std::io::Eprint;
@@ -31,17 +28,9 @@ fn form_of(words: &[String]) -> Option<Form> {
     }
 }
 
-/// The words of the command line; `None` where they cannot be read.
-fn words<R: Env + AllocGlobal>(rt: &R) -> Option<Vec<String>> {
-    match std::env::args(rt) {
-        Ok(words) => words.collect(rt.alloc()).ok(),
-        Err(_) => None,
-    }
-}
-
-/// What is to be written; `None` where the words ask for something else.
+/// What is to be written; `None` where the words ask for something else, or cannot be read.
 fn form_asked<R: Env + AllocGlobal>(rt: &R) -> Option<Form> {
-    form_of(&words(rt)?)
+    form_of(&words(rt).ok()?)
 }
 
 /// Plays the script of standard input, and says on standard error why it ended before its end. What is said there
@@ -55,14 +44,4 @@ fn play_and_say<R: Input + Print + Eprint + AllocGlobal>(
         let _ = eprintln!(rt; "replay: {explained}");
     }
     ended
-}
-
-/// The exit status: 0, or that of the fault.
-fn exit_code(ended: Result<(), Explained>) -> ExitCode
-    ensures { exit_status result ≡ status_after ended }
-{
-    match ended {
-        Ok(()) => ExitCode::SUCCESS,
-        Err(explained) => ExitCode::from(explained.fault.status()),
-    }
 }

@@ -3,7 +3,8 @@
 //! and reports what became of the gear.
 #![tactic(auto)]
 
-use dali_command_line::{exit_code, run_and_say};
+use dali_command_line::run_and_say;
+use dali_console::exit_code;
 use std::process::ExitCode;
 
 fn main(rt: HostRuntime) -> ExitCode {

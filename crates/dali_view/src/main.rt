@@ -2,10 +2,7 @@
 //! controllers, plays it to its end, and writes a page that shows the run as a picture. It takes no words.
 #![tactic(auto)]
 
-ghost use Rattle.std.specs.Prelude.{◌≡◌};
-ghost use Rattle.std.specs.Process.{exit_status};
-ghost use Rattle.dali_view.specs.Status.{status_after};
-
+use dali_console::exit_code;
 use dali_picture::draw_streams;
 use dali_replay::Explained;
 use std::io::Eprint;
@@ -22,14 +19,4 @@ fn draw_and_say<R: Input + Print + Eprint + AllocGlobal>(rt: &R) -> Result<(), E
         let _ = eprintln!(rt; "view: {explained}");
     }
     ended
-}
-
-/// The exit status: 0, or that of the fault.
-fn exit_code(ended: Result<(), Explained>) -> ExitCode
-    ensures { exit_status result ≡ status_after ended }
-{
-    match ended {
-        Ok(()) => ExitCode::SUCCESS,
-        Err(explained) => ExitCode::from(explained.fault.status()),
-    }
 }

@@ -2,6 +2,7 @@
 
 use super::shelf::Shelf;
 use dali_commission_program::{StoreFault, run_and_say};
+use dali_console::Failed;
 use dali_desk::Desk;
 use std::process::Abort;
 

@@ -1,6 +1,7 @@
 //! `dali_sim`, played whole by its command line.
 
 use dali_command_line::run_and_say;
+use dali_console::Failed;
 use dali_desk::Desk;
 use std::process::Abort;
 use std::sync::Wait;

@@ -1,5 +1,4 @@
 //! Texts for a terminal, without what it would obey.
-#![tactic(auto)]
 
 use std::fmt;
 

@@ -1,3 +1,5 @@
+//! What the command line may ask for.
+
 use dali_frame::Short;
 use dali_script::Block;
 
@@ -32,8 +34,6 @@ pub enum Task {
     Identify(Short),
     /// The table of the records of this name is to be written.
     Table(String, Form),
-    /// Help or the version, which is printed.
-    Help,
 }
 
 /// How gear are to be given short addresses.

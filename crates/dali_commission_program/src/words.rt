@@ -1,0 +1,321 @@
+//! The command line, and what it asks for.
+
+use crate::tasks::{Bounds, Form, Setup, Start, Task};
+use dali_frame::Short;
+use dali_script::Block;
+use dali_words::{Kind, Line, Program, Subcommand, Value, Word, Wrong};
+use std::alloc::Global;
+
+const LONG_ABOUT: &str = "\
+Gives short addresses to the DALI control gear on a bus, and keeps its records in a file.
+
+It talks to a driver of the bus by lines, on standard input and output: `put P HHHH ask|tell [pair 1|2]` is answered by
+`silence`, `byte HH`, `damaged`, `destroyed` or `lapsed`. With --driver the launcher starts one and passes lines on.";
+
+const AFTER_HELP: &str = "\
+Examples:
+  ./dali_commission run --records site.db --driver 'adapters/daliserver localhost 55825' 0-63
+  ./dali_commission check --records site.db --driver 'adapters/daliserver localhost 55825'
+  ./dali_commission identify 5 --driver 'adapters/daliserver localhost 55825'
+  ./dali_commission table --records site.db --csv
+
+docs/INSTALLER.md of the repository says how to use it, docs/FORMAT.md has each line and the exit statuses.";
+
+const RUN: &str = "\
+Gives each gear without short address one of the block, and keeps which gear has which in the file of the records.
+
+It makes passes over the bus until three in a row have found nothing. Each pass begins with a survey: it asks each short
+address that its table does not name who is there, and enrols each gear that tells its random address. Where somebody
+answers who does not, it gives that address to nobody, and says so. With --start fresh, for new gear alone, it asks
+before it begins, begins nothing where a gear answers, and says what can be done. It may be stopped at any moment, also
+by a power cut: the next run goes on from the file.";
+
+const CHECK: &str = "\
+Asks each short address three times for the random address of its gear, and says beside the records: who answers, who is
+missing, which gear are strangers, and where several have one address. Then it asks whether gear without short address
+are there. It gives no address and writes no record.";
+
+const DRIVER: Word = Word {
+    name: "driver",
+    value: "COMMAND",
+    help: "The driver of the bus, which the launcher starts; without it the lines are yours",
+    kind: Kind::Option(Value::Text),
+};
+
+const DRIVER_TIMEOUT: Word = Word {
+    name: "driver-timeout",
+    value: "SECONDS",
+    help: "How long the driver may say nothing before the launcher ends the run, 10 seconds if nothing is said",
+    kind: Kind::Option(Value::Text),
+};
+
+const JSON: Word = Word {
+    name: "json",
+    value: "",
+    help: "Write what it came to as an object of JSON, too, on standard output",
+    kind: Kind::Flag,
+};
+
+const OTHERS: Word = Word {
+    name: "others",
+    value: "BLOCK",
+    help: "The block of another controller, whose addresses no census asks; may be given again",
+    kind: Kind::Again,
+};
+
+const RECORDS: &str = "The file of the records: one controller, one file";
+
+const NEEDED_RECORDS: Word = Word {
+    name: "records",
+    value: "FILE",
+    help: RECORDS,
+    kind: Kind::Needed(Value::Text),
+};
+
+const RUN_WORDS: &[Word] = &[
+    NEEDED_RECORDS,
+    DRIVER,
+    DRIVER_TIMEOUT,
+    OTHERS,
+    Word {
+        name: "start",
+        value: "WAY",
+        help: "How each pass begins: with a survey of who is there, or as beside new gear alone",
+        kind: Kind::Default(Value::Among(&["survey", "fresh"]), "survey"),
+    },
+    Word {
+        name: "idle-passes",
+        value: "N",
+        help: "How many passes over the bus in a row must have found nothing",
+        kind: Kind::Default(Value::Count, "3"),
+    },
+    Word {
+        name: "quiet",
+        value: "",
+        help: "Say nothing of how far it is",
+        kind: Kind::Flag,
+    },
+    JSON,
+    Word {
+        name: "block",
+        value: "BLOCK",
+        help: "The short addresses that may be given, as 0-63",
+        kind: Kind::Place(Value::Text),
+    },
+];
+
+const CHECK_WORDS: &[Word] = &[
+    Word {
+        name: "records",
+        value: "FILE",
+        help: RECORDS,
+        kind: Kind::Option(Value::Text),
+    },
+    DRIVER,
+    DRIVER_TIMEOUT,
+    OTHERS,
+    JSON,
+];
+
+const IDENTIFY_WORDS: &[Word] = &[
+    DRIVER,
+    DRIVER_TIMEOUT,
+    Word {
+        name: "address",
+        value: "ADDRESS",
+        help: "The short address of the gear, 0 to 63",
+        kind: Kind::Place(Value::Address),
+    },
+];
+
+const TABLE_WORDS: &[Word] = &[
+    NEEDED_RECORDS,
+    Word {
+        name: "csv",
+        value: "",
+        help: "As comma-separated values, with a heading",
+        kind: Kind::Flag,
+    },
+    Word {
+        name: "json",
+        value: "",
+        help: "As an array with an object for each gear",
+        kind: Kind::NotBeside("csv"),
+    },
+];
+
+const SUBCOMMANDS: &[Subcommand] = &[
+    Subcommand {
+        name: "run",
+        about: "Gives short addresses to the gear",
+        long_about: Some(RUN),
+        after_help: None,
+        words: RUN_WORDS,
+    },
+    Subcommand {
+        name: "check",
+        about: "Says which gear answer, beside the records",
+        long_about: Some(CHECK),
+        after_help: None,
+        words: CHECK_WORDS,
+    },
+    Subcommand {
+        name: "identify",
+        about: "Makes the gear with a short address go bright and dark",
+        long_about: None,
+        after_help: None,
+        words: IDENTIFY_WORDS,
+    },
+    Subcommand {
+        name: "table",
+        about: "Writes which gear has which short address",
+        long_about: None,
+        after_help: None,
+        words: TABLE_WORDS,
+    },
+];
+
+/// The words that the program knows.
+pub(crate) const PROGRAM: Program = Program {
+    name: "dali_commission",
+    about: "Short address commissioning of DALI control gear",
+    long_about: Some(LONG_ABOUT),
+    after_help: AFTER_HELP,
+    subcommands: SUBCOMMANDS,
+};
+
+/// A block of short addresses, as `0-63`.
+fn block_of(word: &str) -> Option<Block> {
+    let (first, last) = word.split_once("-")?;
+    let first = Short::of(first.parse().ok()?)?;
+    let last = Short::of(last.parse().ok()?)?;
+    if first <= last {
+        Some(Block { first, last })
+    } else {
+        None
+    }
+}
+
+fn block(alloc: Global, word: &str) -> Result<Block, Wrong> {
+    match block_of(word) {
+        Some(block) => Ok(block),
+        None => Err(Wrong::Value(format!(in alloc;
+            "invalid value '{word}': not a block such as 0-63"
+        )?)),
+    }
+}
+
+/// The blocks of other controllers.
+fn blocks(alloc: Global, line: &Line) -> Result<Vec<Block>, Wrong> {
+    let mut blocks = Vec::new(alloc);
+    for (word, value) in line.values.iter() {
+        if word.as_str() == "others" && blocks.push(block(alloc, value)?).is_err() {
+            return Err(Wrong::Memory);
+        }
+    }
+    Ok(blocks)
+}
+
+fn meets_any(own: Block, others: &[Block]) -> bool {
+    others
+        .iter()
+        .any(|other| own.first <= other.last && other.first <= own.last)
+}
+
+fn conflict<T>(alloc: Global, message: &str) -> Result<T, Wrong> {
+    Err(Wrong::Conflict(String::from_str(alloc, message)?))
+}
+
+/// The blocks of other controllers, none of which may have an address in common with the own one.
+fn other_blocks(alloc: Global, line: &Line, own: Block) -> Result<Vec<Block>, Wrong> {
+    let others = blocks(alloc, line)?;
+    if meets_any(own, &others) {
+        conflict(
+            alloc,
+            "the block and that of another controller have an address in common",
+        )
+    } else {
+        Ok(others)
+    }
+}
+
+fn text(alloc: Global, line: &Line, name: &str) -> Result<String, Wrong> {
+    Ok(String::from_str(alloc, line.value(name).unwrap_or_default())?)
+}
+
+fn wrong_value<T>(alloc: Global, message: &str) -> Result<T, Wrong> {
+    Err(Wrong::Value(String::from_str(alloc, message)?))
+}
+
+/// How a run starts. The table has no other word, so that a further one is told and not taken for these.
+fn start(alloc: Global, line: &Line) -> Result<Start, Wrong> {
+    match line.value("start") {
+        None | Some("survey") => Ok(Start::Survey),
+        Some("fresh") => Ok(Start::Fresh),
+        Some(_) => wrong_value(alloc, "a start is neither 'survey' nor 'fresh'"),
+    }
+}
+
+/// What is asked for by `run`.
+fn setup(alloc: Global, line: &Line) -> Result<Setup, Wrong> {
+    let block = block(alloc, line.value("block").unwrap_or_default())?;
+    let others = other_blocks(alloc, line, block)?;
+    Ok(Setup {
+        records: text(alloc, line, "records")?,
+        block,
+        others,
+        start: start(alloc, line)?,
+        idle_passes: line.number("idle-passes").unwrap_or(3),
+        is_quiet: line.has("quiet"),
+        as_json: line.has("json"),
+    })
+}
+
+/// What is asked for by `check`.
+fn bounds(alloc: Global, line: &Line) -> Result<Bounds, Wrong> {
+    let others = blocks(alloc, line)?;
+    let records = match line.value("records") {
+        Some(name) => Some(String::from_str(alloc, name)?),
+        None => None,
+    };
+    Ok(Bounds {
+        records,
+        others,
+        as_json: line.has("json"),
+    })
+}
+
+/// The short address that is asked for by `identify`.
+fn short(alloc: Global, line: &Line) -> Result<Short, Wrong> {
+    match Short::of(line.number("address").unwrap_or(64)) {
+        Some(short) => Ok(short),
+        None => wrong_value(alloc, "not a short address"),
+    }
+}
+
+fn form(line: &Line) -> Form {
+    if line.has("csv") {
+        Form::Csv
+    } else if line.has("json") {
+        Form::Json
+    } else {
+        Form::Text
+    }
+}
+
+/// What a line asks for.
+pub(crate) fn task(alloc: Global, line: &Line) -> Result<Task, Wrong> {
+    if line.value("driver").is_some() || line.value("driver-timeout").is_some() {
+        return conflict(
+            alloc,
+            "a driver is started by the launcher, ./dali_commission",
+        );
+    }
+    match line.subcommand.as_str() {
+        "run" => Ok(Task::Run(setup(alloc, line)?)),
+        "check" => Ok(Task::Check(bounds(alloc, line)?)),
+        "identify" => Ok(Task::Identify(short(alloc, line)?)),
+        "table" => Ok(Task::Table(text(alloc, line, "records")?, form(line))),
+        _ => wrong_value(alloc, "no such subcommand"),
+    }
+}

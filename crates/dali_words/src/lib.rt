@@ -1,0 +1,12 @@
+//! The command line of a program: a table of the words that it knows, and what stands on a line.
+//!
+//! It is read by `clap`, which takes long to load, so no other crate names that.
+#![tactic(auto)]
+
+mod line;
+mod program;
+mod reading;
+
+pub use line::{Line, Wrong};
+pub use program::{Kind, Program, Subcommand, Value, Word};
+pub use reading::asked;

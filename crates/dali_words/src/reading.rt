@@ -1,0 +1,115 @@
+//! A command line is read, and it is said what is wrong with it.
+
+ghost use Rattle.std.specs.Prelude.{◌≡◌};
+ghost use Rattle.dali_words.specs.Answered.{answered};
+
+use crate::line::{Line, Wrong};
+use crate::program::{Program, Subcommand, command, command_of};
+use clap::error::ErrorKind;
+use clap::{ArgMatches, Error};
+use dali_console::{ConsoleFault, Plain};
+use std::alloc::{AllocError, Global};
+use std::io;
+use std::io::Eprint;
+
+/// The subcommand of this name.
+fn named(program: &Program, name: &str) -> Option<&'static Subcommand> {
+    program.subcommands.iter().find(|from| from.name == name)
+}
+
+/// Why a line is wrong that `clap` took, with the usage of its subcommand.
+fn refused(
+    alloc: Global,
+    program: &Program,
+    name: &str,
+    wrong: Wrong,
+) -> Result<Error, AllocError> {
+    let (kind, message) = match wrong {
+        Wrong::Value(message) => (ErrorKind::ValueValidation, message),
+        Wrong::TooMany(message) => (ErrorKind::TooManyValues, message),
+        Wrong::Conflict(message) => (ErrorKind::ArgumentConflict, message),
+        Wrong::Memory => return Err(AllocError),
+    };
+    let program_name = program.name;
+    let whole = format!(in alloc; "{program_name} {name}")?;
+    match named(program, name) {
+        Some(from) => command_of(alloc, &whole, from)?.error(kind, &message),
+        None => command(alloc, program)?.error(kind, &message),
+    }
+}
+
+fn matches<'a>(
+    alloc: Global,
+    program: &Program,
+    words: &'a [String],
+) -> Result<ArgMatches<'a>, Error> {
+    command(alloc, program)?.try_get_matches_from(words)
+}
+
+/// What stands on the line. A subcommand that the program does not know, or none, `clap` refuses before.
+fn line(alloc: Global, program: &Program, found: &ArgMatches<'_>) -> Result<Line, Error> {
+    if let Some((name, found)) = found.subcommand() {
+        if let Some(from) = named(program, name) {
+            return Ok(Line::of(alloc, from, found)?);
+        }
+    }
+    let message = "no such subcommand";
+    Err(command(alloc, program)?.error(ErrorKind::InvalidSubcommand, message)?)
+}
+
+/// Reads a command line, the program's name first.
+fn read<T, F: FnOnce(Global, &Line) -> Result<T, Wrong>>(
+    alloc: Global,
+    program: &Program,
+    words: &[String],
+    task: F,
+) -> Result<T, Error>
+    requires { F.IsAlwaysCallable task }
+{
+    let line = line(alloc, program, &matches(alloc, program, words)?)?;
+    match task(alloc, &line) {
+        Ok(task) => Ok(task),
+        Err(wrong) => Err(refused(alloc, program, &line.subcommand, wrong)?),
+    }
+}
+
+/// What a command line comes to that `clap` answered, with its answer printed or not.
+fn answered<T>(kind: ErrorKind, printed: bool) -> Result<Option<T>, ConsoleFault>
+    ensures { result ≡ answered kind printed }
+{
+    match kind {
+        ErrorKind::DisplayHelp | ErrorKind::DisplayVersion if printed => Ok(None),
+        ErrorKind::DisplayHelp | ErrorKind::DisplayVersion => Err(ConsoleFault::Refused),
+        ErrorKind::OutOfMemory => Err(ConsoleFault::Refused),
+        _ => Err(ConsoleFault::BadCommandLine),
+    }
+}
+
+/// Prints help, or says on standard error what is wrong, with the control characters of arguments by their numbers.
+fn print<S: Print + Eprint + AllocGlobal>(system: &S, error: &Error) -> io::Result<()> {
+    if error.use_stderr() {
+        let text = error.to_string(system.alloc())?;
+        system.eprint(Plain(text))
+    } else {
+        error.print(system)
+    }
+}
+
+/// What the words of a command line ask for, the program's name first: what `task` makes of the line. None where they
+/// ask for help or the version, which is printed. What is wrong is said on standard error.
+pub fn asked<S, T, F>(
+    system: &S,
+    program: &Program,
+    words: &[String],
+    task: F,
+) -> Result<Option<T>, ConsoleFault>
+where
+    S: Print + Eprint + AllocGlobal,
+    F: FnOnce(Global, &Line) -> Result<T, Wrong>,
+    requires { F.IsAlwaysCallable task }
+{
+    match read(system.alloc(), program, words, task) {
+        Ok(task) => Ok(Some(task)),
+        Err(error) => answered(error.kind(), print(system, &error).is_ok()),
+    }
+}
