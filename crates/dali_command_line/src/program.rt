@@ -6,7 +6,7 @@ ghost use Rattle.dali_console.specs.Status.{status_after};
 ghost use Rattle.dali_command_line.specs.Failure.{status_of};
 
 use crate::failure::Failure;
-use crate::words::{PROGRAM, Task, task};
+use crate::words::{PROGRAM, Task, task_of};
 use dali_console::{ConsoleFault, words};
 use dali_replay::{Form, replay_streams};
 use dali_threads::{Setup, run_threads};
@@ -21,7 +21,7 @@ use std::thread::Threads;
 fn asked_for<S: Env + Print + Eprint + AllocGlobal>(
     system: &S,
 ) -> Result<Option<Task>, ConsoleFault> {
-    asked(system, &PROGRAM, &words(system)?, task)
+    asked(system, &PROGRAM, &words(system)?, task_of)
 }
 
 /// Plays a script from the system's input to its output.

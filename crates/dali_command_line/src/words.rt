@@ -4,7 +4,7 @@ use arrayvec::ArrayVec;
 use dali_events::PlanError;
 use dali_replay::{Form, block_of, plan_limit};
 use dali_threads::Setup;
-use dali_words::{Kind, Line, Program, Subcommand, Value, Word, Wrong};
+use dali_words::{WordKind, Line, Program, Subcommand, Value, Word, Wrong};
 use std::alloc::Global;
 
 /// What a command line asks for.
@@ -54,7 +54,7 @@ const REPLAY_WORDS: &[Word] = &[Word {
     name: "json",
     value: "",
     help: "Writes what each line `show` shows as one line of JSON, and no other report",
-    kind: Kind::Flag,
+    kind: WordKind::Flag,
 }];
 
 const THREADS_WORDS: &[Word] = &[
@@ -62,37 +62,37 @@ const THREADS_WORDS: &[Word] = &[
         name: "gear",
         value: "N",
         help: "How many gear there are, 1 to 128",
-        kind: Kind::Needed(Value::Text),
+        kind: WordKind::Needed(Value::Text),
     },
     Word {
         name: "seed",
         value: "S",
         help: "Where the random addresses come from: a seed always gives the same ones",
-        kind: Kind::Needed(Value::Number64),
+        kind: WordKind::Needed(Value::Number64),
     },
     Word {
         name: "turns",
         value: "T",
         help: "How many turns each controller may take, and how many the bus",
-        kind: Kind::Needed(Value::Number32),
+        kind: WordKind::Needed(Value::Number32),
     },
     Word {
         name: "survey",
         value: "",
         help: "Each controller begins by a survey: it asks first who has a short address",
-        kind: Kind::Flag,
+        kind: WordKind::Flag,
     },
     Word {
         name: "json",
         value: "",
         help: "Writes the report as one line of JSON",
-        kind: Kind::Flag,
+        kind: WordKind::Flag,
     },
     Word {
         name: "blocks",
         value: "BLOCK",
         help: "A controller each, 1 to 4: the first and the last address of its block, as 0-15",
-        kind: Kind::Places,
+        kind: WordKind::Places,
     },
 ];
 
@@ -175,7 +175,7 @@ fn setup(alloc: Global, line: &Line) -> Result<Setup, Wrong> {
 }
 
 /// What a line asks for.
-pub fn task(alloc: Global, line: &Line) -> Result<Task, Wrong> {
+pub fn task_of(alloc: Global, line: &Line) -> Result<Task, Wrong> {
     match line.subcommand.as_str() {
         "replay" => Ok(Task::Replay(if line.has("json") {
             Form::Json

@@ -3,8 +3,8 @@ use Rattle.std.specs.Prelude.{◌∷◌, ◌++◌, Option, Some, None, codes, de
 use Rattle.dali_frame.specs.Hex.{random_text}
 use Rattle.dali_script.specs.Records.{Assignment}
 use Rattle.dali_commissioning.specs.Places.{random_at}
-use Rattle.dali_commission_program.specs.declared.tasks.Form.{Form}
-use Rattle.dali_commission_program.specs.declared.tasks.Form.TheVariants.{Text, Csv, Json}
+use Rattle.dali_commission_program.specs.declared.tasks.TableForm.{TableForm}
+use Rattle.dali_commission_program.specs.declared.tasks.TableForm.TheVariants.{Text, Csv, Json}
 
 -- THE ROWS of a table: what is enrolled, by short address from 0 on.
 abbrev pub at_if : ℕ → Option ℕ → List Assignment
@@ -19,31 +19,31 @@ abbrev pub rows : List Assignment → List Assignment
 rows xs = rows_below 64 xs
 
 -- ITS TEXT
-abbrev pub head : Form → List ℕ
+abbrev pub head : TableForm → List ℕ
 head Text = []
 head Csv = codes "address,random\n"
 head Json = codes "["
 
-abbrev pub separator : Form → Bool → List ℕ
+abbrev pub separator : TableForm → Bool → List ℕ
 separator Json true = codes "\n"
 separator Json false = codes ",\n"
 separator form is_first = []
 
-abbrev pub tail : Form → List ℕ
+abbrev pub tail : TableForm → List ℕ
 tail Json = codes "\n]\n"
 tail form = []
 
-abbrev pub row_text : Form → Assignment → List ℕ
+abbrev pub row_text : TableForm → Assignment → List ℕ
 row_text Text p = decimal p.0 ++ (codes " " ++ (random_text p.1 ++ codes "\n"))
 row_text Csv p = decimal p.0 ++ (codes "," ++ (random_text p.1 ++ codes "\n"))
 row_text Json p =
     codes "{\"address\":"
     ++ (decimal p.0 ++ (codes ",\"random\":\"" ++ (random_text p.1 ++ codes "\"}")))
 
-abbrev pub rows_text : Form → Bool → List Assignment → List ℕ
+abbrev pub rows_text : TableForm → Bool → List Assignment → List ℕ
 rows_text form is_first [] = []
 rows_text form is_first (p ∷ more) =
     separator form is_first ++ (row_text form p ++ rows_text form false more)
 
-abbrev pub table_text : Form → List Assignment → List ℕ
+abbrev pub table_text : TableForm → List Assignment → List ℕ
 table_text form xs = head form ++ (rows_text form true (rows xs) ++ tail form)

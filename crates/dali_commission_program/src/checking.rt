@@ -6,7 +6,7 @@ use crate::report::Report;
 use crate::reports::{say_checked, say_line};
 use crate::stores::{Borrower, Stores};
 use crate::tasks::Bounds;
-use dali_commissioning::{Checked, Driver, check, places};
+use dali_commissioning::{Checked, DriverLink, check, places};
 use dali_reserve::{Keep, MemoryKeep};
 use dali_script::Block;
 use std::cell::RefCell;
@@ -38,7 +38,7 @@ impl<S: Input + Print + Eprint + AllocGlobal> Checking<'_, S> {
     /// Says which gear answer, beside these records.
     fn check<K: Keep>(&self, store: &mut K) -> Result<(), Failure> {
         let system = self.system;
-        let mut driver = Driver::new(system.alloc(), system.reader(), io::writer(system));
+        let mut driver = DriverLink::new(system.alloc(), system.reader(), io::writer(system));
         let ended = match check(store, &mut driver, &self.bounds.others) {
             Ok(found) => self.say(&found, driver.has_heard()),
             Err(fault) => Err(failure_of(fault, driver.lines())),

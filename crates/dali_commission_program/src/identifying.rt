@@ -2,7 +2,7 @@
 
 use crate::failure::{Failure, failure_of};
 use crate::reports::say_line;
-use dali_commissioning::{CommissionFault, Driver, Reply, ask, light, light_at_last};
+use dali_commissioning::{CommissionFault, DriverLink, Reply, ask, light, light_at_last};
 use dali_frame::Short;
 use std::io::{Eprint, Read, Write};
 use std::time::{Clock, Duration};
@@ -22,7 +22,7 @@ const DARK: u8 = 0;
 
 /// Sets the light of a gear, as soon as a frame is sent.
 fn lit<R: Read, W: Write>(
-    driver: &mut Driver<R, W>,
+    driver: &mut DriverLink<R, W>,
     short: Short,
     level: u8,
 ) -> Result<(), Failure> {
@@ -39,7 +39,7 @@ fn lit<R: Read, W: Write>(
 /// Makes the gear go bright and dark, and bright in the end.
 fn blinks<S: Clock, R: Read, W: Write>(
     system: &S,
-    driver: &mut Driver<R, W>,
+    driver: &mut DriverLink<R, W>,
     short: Short,
 ) -> Result<(), Failure> {
     for _ in 0..BLINKS {
@@ -55,7 +55,7 @@ fn blinks<S: Clock, R: Read, W: Write>(
 /// launcher passes it on when it was interrupted.
 fn shows<S: Clock, R: Read, W: Write>(
     system: &S,
-    driver: &mut Driver<R, W>,
+    driver: &mut DriverLink<R, W>,
     short: Short,
 ) -> Result<(), Failure> {
     match ask(driver, short) {
@@ -75,7 +75,7 @@ pub(crate) fn identify<S: Input + Print + Eprint + AllocGlobal + Clock>(
     system: &S,
     short: Short,
 ) -> Result<(), Failure> {
-    let mut driver = Driver::new(system.alloc(), system.reader(), io::writer(system));
+    let mut driver = DriverLink::new(system.alloc(), system.reader(), io::writer(system));
     let shown = shows(system, &mut driver, short);
     say_line(system, &shown, driver.line());
     shown

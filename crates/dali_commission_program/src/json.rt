@@ -1,7 +1,7 @@
 //! What a task came to, as one object of JSON on a line.
 
 use crate::report::Report;
-use dali_commissioning::{Outcome, Place};
+use dali_commissioning::{Pass, Place};
 use dali_frame::{Random24, Short};
 use std::alloc::{AllocError, Global};
 use std::io::Write;
@@ -34,12 +34,12 @@ fn push_table(text: &mut String, report: &Report) -> Result<(), AllocError> {
 }
 
 /// The short addresses that were left alone.
-fn push_left_alone(text: &mut String, outcome: &Option<Outcome>) -> Result<(), AllocError> {
+fn push_left_alone(text: &mut String, pass: &Option<Pass>) -> Result<(), AllocError> {
     text.push_str(",\"left_alone\":[")?;
     let mut is_first = true;
     for number in 0..64u8 {
-        if let (Some(outcome), Some(short)) = (outcome, Short::of(number)) {
-            if outcome.heard.has(short) {
+        if let (Some(pass), Some(short)) = (pass, Short::of(number)) {
+            if pass.heard.has(short) {
                 push_comma(text, is_first)?;
                 write!(text, "{number}")?;
                 is_first = false;
@@ -123,7 +123,7 @@ fn push_report(
     write!(text, "{{\"end\":\"{end}\",\"status\":{status}")?;
     write!(text, ",\"frames\":{frames},\"enrolled\":{enrolled}")?;
     push_table(text, report)?;
-    push_left_alone(text, &report.outcome)?;
+    push_left_alone(text, &report.pass)?;
     push_missing(text, &report.places)?;
     push_strangers(text, &report.places)?;
     push_unaddressed(text, report.has_unaddressed)?;

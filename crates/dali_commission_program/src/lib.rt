@@ -20,4 +20,4 @@ pub use failure::Failure;
 pub use program::run_and_say;
 pub use stores::{Borrower, StoreFault, Stores};
 pub use table::push_table;
-pub use tasks::Form;
+pub use tasks::TableForm;

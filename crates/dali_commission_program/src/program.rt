@@ -13,8 +13,8 @@ use crate::report::Report;
 use crate::running::Running;
 use crate::stores::{Borrower, Stores};
 use crate::table::push_table;
-use crate::tasks::{Form, Task};
-use crate::words::{PROGRAM, task};
+use crate::tasks::{TableForm, Task};
+use crate::words::{PROGRAM, task_of};
 use dali_console::{ConsoleFault, Failed, words};
 use dali_reserve::Keep;
 use dali_script::Kept;
@@ -32,14 +32,14 @@ const REFUSED: Failure = Failure::Console(ConsoleFault::Refused);
 fn asked_for<S: Env + Print + Eprint + AllocGlobal>(
     system: &S,
 ) -> Result<Option<Task>, ConsoleFault> {
-    asked(system, &PROGRAM, &words(system)?, task)
+    asked(system, &PROGRAM, &words(system)?, task_of)
 }
 
 /// Writes the table of the gear that are enrolled.
 fn write_table<W: Write>(
     alloc: Global,
     writer: &mut W,
-    form: Form,
+    form: TableForm,
     kept: &Kept,
 ) -> Result<(), Failure>
     ensures { OnOk result (Appends (W.contents writer.old) (W.contents writer.new)
@@ -56,7 +56,7 @@ fn write_table<W: Write>(
 #[derive(Drop)]
 struct Writing<'a, S> {
     system: &'a S,
-    form: Form,
+    form: TableForm,
 }
 
 impl<S: Print + AllocGlobal> Borrower for Writing<'_, S> {
@@ -165,7 +165,7 @@ fn is_told<S: Print + AllocGlobal>(
     }
     match report.try_borrow() {
         Ok(report) => {
-            let end = end_name(ended, report.outcome.is_some());
+            let end = end_name(ended, report.pass.is_some());
             write_report(
                 system.alloc(),
                 &mut io::writer(system),

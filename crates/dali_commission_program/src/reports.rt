@@ -3,7 +3,7 @@
 use crate::failure::Failure;
 use crate::progress::Aim;
 use arrayvec::ArrayVec;
-use dali_commissioning::{DriverFault, Ended, Outcome, Place, Reply, places};
+use dali_commissioning::{DriverFault, Ended, Pass, Place, Reply, places};
 use dali_frame::{Random24, Short};
 use dali_script::{Block, End, Fault, Kept};
 use std::fmt;
@@ -112,10 +112,10 @@ pub fn say_addressed<S: Eprint>(
 
 /// The short addresses under which somebody was heard whose random address was not: to whom they belong is not known,
 /// so they are given to nobody.
-pub fn say_left_alone<S: Eprint>(system: &S, outcome: &Outcome) {
+pub fn say_left_alone<S: Eprint>(system: &S, pass: &Pass) {
     for number in 0..64u8 {
         let is_heard = match Short::of(number) {
-            Some(short) => outcome.heard.has(short),
+            Some(short) => pass.heard.has(short),
             None => false,
         };
         if is_heard {
@@ -127,8 +127,8 @@ pub fn say_left_alone<S: Eprint>(system: &S, outcome: &Outcome) {
 }
 
 /// How the gear that was found last contradicts the table.
-fn say_conflict<S: Eprint>(system: &S, outcome: &Outcome, kept: &Kept) {
-    let Some(found) = outcome.found else {
+fn say_conflict<S: Eprint>(system: &S, pass: &Pass, kept: &Kept) {
+    let Some(found) = pass.found else {
         return;
     };
     let (short, random) = found.assigned();
@@ -151,8 +151,8 @@ fn say_conflict<S: Eprint>(system: &S, outcome: &Outcome, kept: &Kept) {
 }
 
 /// Why the last machine gave up.
-fn say_gave_up<S: Eprint>(system: &S, outcome: &Outcome, aim: Aim) {
-    let _ = if outcome.tries >= 8 {
+fn say_gave_up<S: Eprint>(system: &S, pass: &Pass, aim: Aim) {
+    let _ = if pass.tries >= 8 {
         eprintln!(system;
             "a frame of one transaction was destroyed or not sent, eight times in a row: the frames {aim}"
         )
@@ -164,10 +164,10 @@ fn say_gave_up<S: Eprint>(system: &S, outcome: &Outcome, aim: Aim) {
 }
 
 /// Why the last machine ended so, where that wants to be said.
-pub fn say_why_ended<S: Eprint>(system: &S, outcome: &Outcome, kept: &Kept, aim: Aim) {
-    match outcome.ended {
-        Ended::Done(End::GaveUp) => say_gave_up(system, outcome, aim),
-        Ended::Halted(Fault::Conflict) => say_conflict(system, outcome, kept),
+pub fn say_why_ended<S: Eprint>(system: &S, pass: &Pass, kept: &Kept, aim: Aim) {
+    match pass.ended {
+        Ended::Done(End::GaveUp) => say_gave_up(system, pass, aim),
+        Ended::Halted(Fault::Conflict) => say_conflict(system, pass, kept),
         Ended::Done(End::AllFound | End::BlockFull) | Ended::Halted(Fault::Store) => {}
     }
 }

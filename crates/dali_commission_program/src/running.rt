@@ -10,7 +10,7 @@ use crate::reports::{say_addressed, say_commissioned, say_left_alone, say_line, 
 use crate::stores::Borrower;
 use crate::tasks::{Setup, Start};
 use dali_commissioning::{
-    Begun, CommissionFault, Driver, Outcome, Reply, Watch, ask, begin, commission,
+    Begun, CommissionFault, DriverLink, Pass, Reply, Watch, ask, begin, commission,
 };
 use dali_console::ConsoleFault;
 use dali_frame::Short;
@@ -45,7 +45,7 @@ fn manner(setup: &Setup, is_terminal: bool) -> Manner {
 /// Begins as is asked for: machines that survey ask themselves who is there, before all others there is a census.
 fn begun<K: Keep, R: Read, W: Write, P: Watch>(
     store: &mut K,
-    driver: &mut Driver<R, W>,
+    driver: &mut DriverLink<R, W>,
     watch: &mut P,
     setup: &Setup,
 ) -> Result<Begun, CommissionFault>
@@ -54,8 +54,8 @@ fn begun<K: Keep, R: Read, W: Write, P: Watch>(
     match setup.start {
         Start::Fresh => begin(store, driver, watch, &setup.others, setup.idle_passes),
         Start::Survey => {
-            let outcome = commission(store, driver, watch, Told::Survey, setup.idle_passes)?;
-            Ok(Begun::Commissioned(outcome))
+            let pass = commission(store, driver, watch, Told::Survey, setup.idle_passes)?;
+            Ok(Begun::Commissioned(pass))
         }
     }
 }
@@ -63,7 +63,7 @@ fn begun<K: Keep, R: Read, W: Write, P: Watch>(
 /// Whether any gear was heard. Where none was, the gear of the table are asked one after the other until one answers:
 /// a bus on which nobody answers at all is told from one whose gear are all in the table.
 fn is_anybody_there<R: Read, W: Write>(
-    driver: &mut Driver<R, W>,
+    driver: &mut DriverLink<R, W>,
     kept: &Kept,
 ) -> Result<bool, CommissionFault> {
     for pair in kept.enrolled() {
@@ -87,9 +87,9 @@ struct Came<'a> {
 
 impl Came<'_> {
     /// Notes what the last machine came to, and the records.
-    fn note(&self, outcome: Outcome, after: &Kept, enrolled: usize) {
+    fn note(&self, pass: Pass, after: &Kept, enrolled: usize) {
         if let Ok(mut report) = self.report.try_borrow_mut() {
-            report.outcome = Some(outcome);
+            report.pass = Some(pass);
             report.enrolled = enrolled;
             report.note_table(after);
         }
@@ -100,9 +100,9 @@ impl Came<'_> {
         &self,
         system: &S,
         store: &mut K,
-        driver: &mut Driver<R, W>,
+        driver: &mut DriverLink<R, W>,
         progress: &Progress<'_, S>,
-        outcome: Outcome,
+        pass: Pass,
     ) -> Result<(), Failure> {
         let after = kept(store)?;
         let has_heard = match is_anybody_there(driver, &after) {
@@ -111,11 +111,11 @@ impl Came<'_> {
         };
         let all = after.enrolled().len();
         let enrolled = all.saturating_sub(self.before.enrolled().len());
-        self.note(outcome, &after, enrolled);
-        say_left_alone(system, &outcome);
-        say_why_ended(system, &outcome, &after, progress.aim());
+        self.note(pass, &after, enrolled);
+        say_left_alone(system, &pass);
+        say_why_ended(system, &pass, &after, progress.aim());
         say_commissioned(system, enrolled, all, driver.lines());
-        ended_as(outcome.ended, has_heard)
+        ended_as(pass.ended, has_heard)
     }
 
     /// Says what a run came to.
@@ -123,7 +123,7 @@ impl Came<'_> {
         &self,
         system: &S,
         store: &mut K,
-        driver: &mut Driver<R, W>,
+        driver: &mut DriverLink<R, W>,
         progress: &Progress<'_, S>,
         came: Begun,
     ) -> Result<(), Failure> {
@@ -135,8 +135,8 @@ impl Came<'_> {
                 }
                 Err(Failure::AddressedBefore)
             }
-            Begun::Commissioned(outcome) => {
-                self.say_ended(system, store, driver, progress, outcome)
+            Begun::Commissioned(pass) => {
+                self.say_ended(system, store, driver, progress, pass)
             }
         }
     }
@@ -159,7 +159,7 @@ impl<S: Input + Print + Eprint + AllocGlobal> Running<'_, S> {
             return Err(Failure::Console(ConsoleFault::BadCommandLine));
         }
         let before = kept(store)?;
-        let mut driver = Driver::new(system.alloc(), system.reader(), io::writer(system));
+        let mut driver = DriverLink::new(system.alloc(), system.reader(), io::writer(system));
         let mut progress = Progress::new(system, manner(setup, self.is_terminal), left_of(&before));
         progress.begin();
         let came = begun(store, &mut driver, &mut progress, setup);

@@ -4,7 +4,7 @@ ghost use Rattle.std.specs.Prelude.{◌≡◌, ◌++◌, ◌<◌, length, OnOk, 
 ghost use Rattle.dali_commission_program.specs.Tables.{at_if, rows, head, separator, tail, row_text};
 ghost use Rattle.dali_commission_program.specs.Tables.{rows_text, table_text};
 
-use crate::tasks::Form;
+use crate::tasks::TableForm;
 use arrayvec::ArrayVec;
 use dali_commissioning::random_at;
 use dali_frame::{Random24, Short};
@@ -35,50 +35,50 @@ pub(crate) fn rows(kept: &Kept) -> ArrayVec<(Short, Random24), 64>
     rows
 }
 
-fn head(form: Form) -> &'static str
+fn head(form: TableForm) -> &'static str
     ensures { result.now ≡ head form }
 {
     match form {
-        Form::Text => "",
-        Form::Csv => "address,random\n",
-        Form::Json => "[",
+        TableForm::Text => "",
+        TableForm::Csv => "address,random\n",
+        TableForm::Json => "[",
     }
 }
 
-fn separator(form: Form, is_first: bool) -> &'static str
+fn separator(form: TableForm, is_first: bool) -> &'static str
     ensures { result.now ≡ separator form is_first }
 {
     match form {
-        Form::Text | Form::Csv => "",
-        Form::Json => { if is_first { "\n" } else { ",\n" } }
+        TableForm::Text | TableForm::Csv => "",
+        TableForm::Json => { if is_first { "\n" } else { ",\n" } }
     }
 }
 
-fn tail(form: Form) -> &'static str
+fn tail(form: TableForm) -> &'static str
     ensures { result.now ≡ tail form }
 {
     match form {
-        Form::Text | Form::Csv => "",
-        Form::Json => "\n]\n",
+        TableForm::Text | TableForm::Csv => "",
+        TableForm::Json => "\n]\n",
     }
 }
 
-fn push_row(text: &mut String, form: Form, row: (Short, Random24)) -> Result<(), AllocError>
+fn push_row(text: &mut String, form: TableForm, row: (Short, Random24)) -> Result<(), AllocError>
     ensures { OnOk result (string_bytes text.new ≡ string_bytes text.old ++ row_text form row) }
 {
     let address = row.0.number();
     let random = row.1;
     match form {
-        Form::Text => write!(text, "{address} {random}\n"),
-        Form::Csv => write!(text, "{address},{random}\n"),
-        Form::Json => write!(text, "{{\"address\":{address},\"random\":\"{random}\"}}"),
+        TableForm::Text => write!(text, "{address} {random}\n"),
+        TableForm::Csv => write!(text, "{address},{random}\n"),
+        TableForm::Json => write!(text, "{{\"address\":{address},\"random\":\"{random}\"}}"),
     }
 }
 
 #[tactic(auto, using(std::proofs::lemmas::List::append_assoc))]
 fn push_rows(
     text: &mut String,
-    form: Form,
+    form: TableForm,
     is_first: bool,
     rows: &[(Short, Random24)],
 ) -> Result<(), AllocError>
@@ -96,7 +96,7 @@ fn push_rows(
 
 /// Adds the table of the gear that are enrolled, by their short addresses.
 #[tactic(auto, using(std::proofs::lemmas::List::append_assoc))]
-pub fn push_table(text: &mut String, form: Form, kept: &Kept) -> Result<(), AllocError>
+pub fn push_table(text: &mut String, form: TableForm, kept: &Kept) -> Result<(), AllocError>
     ensures { OnOk result (string_bytes text.new
         ≡ string_bytes text.old ++ table_text form kept.now.enrolled) }
 {

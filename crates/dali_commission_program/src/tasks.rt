@@ -5,7 +5,7 @@ use dali_script::Block;
 
 /// How a table is spelled.
 #[derive(Clone, Copy)]
-pub enum Form {
+pub enum TableForm {
     /// A line for each gear: its short address, a space, and its random address.
     Text,
     /// Comma-separated values, with a heading.
@@ -33,7 +33,7 @@ pub enum Task {
     /// The gear with a short address is to show itself.
     Identify(Short),
     /// The table of the records of this name is to be written.
-    Table(String, Form),
+    Table(String, TableForm),
 }
 
 /// How gear are to be given short addresses.

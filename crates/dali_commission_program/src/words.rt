@@ -1,9 +1,9 @@
 //! The command line, and what it asks for.
 
-use crate::tasks::{Bounds, Form, Setup, Start, Task};
+use crate::tasks::{Bounds, TableForm, Setup, Start, Task};
 use dali_frame::Short;
 use dali_script::Block;
-use dali_words::{Kind, Line, Program, Subcommand, Value, Word, Wrong};
+use dali_words::{WordKind, Line, Program, Subcommand, Value, Word, Wrong};
 use std::alloc::Global;
 
 const LONG_ABOUT: &str = "\
@@ -39,28 +39,28 @@ const DRIVER: Word = Word {
     name: "driver",
     value: "COMMAND",
     help: "The driver of the bus, which the launcher starts; without it the lines are yours",
-    kind: Kind::Option(Value::Text),
+    kind: WordKind::Option(Value::Text),
 };
 
 const DRIVER_TIMEOUT: Word = Word {
     name: "driver-timeout",
     value: "SECONDS",
     help: "How long the driver may say nothing before the launcher ends the run, 10 seconds if nothing is said",
-    kind: Kind::Option(Value::Text),
+    kind: WordKind::Option(Value::Text),
 };
 
 const JSON: Word = Word {
     name: "json",
     value: "",
     help: "Write what it came to as an object of JSON, too, on standard output",
-    kind: Kind::Flag,
+    kind: WordKind::Flag,
 };
 
 const OTHERS: Word = Word {
     name: "others",
     value: "BLOCK",
     help: "The block of another controller, whose addresses no census asks; may be given again",
-    kind: Kind::Again,
+    kind: WordKind::Again,
 };
 
 const RECORDS: &str = "The file of the records: one controller, one file";
@@ -69,7 +69,7 @@ const NEEDED_RECORDS: Word = Word {
     name: "records",
     value: "FILE",
     help: RECORDS,
-    kind: Kind::Needed(Value::Text),
+    kind: WordKind::Needed(Value::Text),
 };
 
 const RUN_WORDS: &[Word] = &[
@@ -81,26 +81,26 @@ const RUN_WORDS: &[Word] = &[
         name: "start",
         value: "WAY",
         help: "How each pass begins: with a survey of who is there, or as beside new gear alone",
-        kind: Kind::Default(Value::Among(&["survey", "fresh"]), "survey"),
+        kind: WordKind::Default(Value::Among(&["survey", "fresh"]), "survey"),
     },
     Word {
         name: "idle-passes",
         value: "N",
         help: "How many passes over the bus in a row must have found nothing",
-        kind: Kind::Default(Value::Count, "3"),
+        kind: WordKind::Default(Value::Count, "3"),
     },
     Word {
         name: "quiet",
         value: "",
         help: "Say nothing of how far it is",
-        kind: Kind::Flag,
+        kind: WordKind::Flag,
     },
     JSON,
     Word {
         name: "block",
         value: "BLOCK",
         help: "The short addresses that may be given, as 0-63",
-        kind: Kind::Place(Value::Text),
+        kind: WordKind::Place(Value::Text),
     },
 ];
 
@@ -109,7 +109,7 @@ const CHECK_WORDS: &[Word] = &[
         name: "records",
         value: "FILE",
         help: RECORDS,
-        kind: Kind::Option(Value::Text),
+        kind: WordKind::Option(Value::Text),
     },
     DRIVER,
     DRIVER_TIMEOUT,
@@ -124,7 +124,7 @@ const IDENTIFY_WORDS: &[Word] = &[
         name: "address",
         value: "ADDRESS",
         help: "The short address of the gear, 0 to 63",
-        kind: Kind::Place(Value::Address),
+        kind: WordKind::Place(Value::Address),
     },
 ];
 
@@ -134,13 +134,13 @@ const TABLE_WORDS: &[Word] = &[
         name: "csv",
         value: "",
         help: "As comma-separated values, with a heading",
-        kind: Kind::Flag,
+        kind: WordKind::Flag,
     },
     Word {
         name: "json",
         value: "",
         help: "As an array with an object for each gear",
-        kind: Kind::NotBeside("csv"),
+        kind: WordKind::NotBeside("csv"),
     },
 ];
 
@@ -293,18 +293,18 @@ fn short(alloc: Global, line: &Line) -> Result<Short, Wrong> {
     }
 }
 
-fn form(line: &Line) -> Form {
+fn form(line: &Line) -> TableForm {
     if line.has("csv") {
-        Form::Csv
+        TableForm::Csv
     } else if line.has("json") {
-        Form::Json
+        TableForm::Json
     } else {
-        Form::Text
+        TableForm::Text
     }
 }
 
 /// What a line asks for.
-pub(crate) fn task(alloc: Global, line: &Line) -> Result<Task, Wrong> {
+pub(crate) fn task_of(alloc: Global, line: &Line) -> Result<Task, Wrong> {
     if line.value("driver").is_some() || line.value("driver-timeout").is_some() {
         return conflict(
             alloc,

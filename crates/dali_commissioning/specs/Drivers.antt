@@ -4,23 +4,23 @@ use Rattle.dali_script.specs.declared.orders.Input.{Input}
 use Rattle.dali_script.specs.declared.orders.Input.TheVariants.{Start, Survey, Heard}
 use Rattle.dali_script.specs.declared.orders.Input.TheVariants.{Destroyed, Lapsed, Committed}
 use Rattle.dali_script.specs.declared.orders.Input.TheVariants.{CommitFailed}
-use Rattle.dali_commissioning.specs.declared.driver.Driver.{Driver}
+use Rattle.dali_commissioning.specs.declared.driver.DriverLink.{DriverLink}
 
 -- what is read from a driver, what is written to it, the number of the line that was read last,
 -- that line, and whether any gear was heard
-abbrev pub reader_of : {R W : Type 0} → Driver R W → R
+abbrev pub reader_of : {R W : Type 0} → DriverLink R W → R
 reader_of d = d.reader
 
-abbrev pub writer_of : {R W : Type 0} → Driver R W → W
+abbrev pub writer_of : {R W : Type 0} → DriverLink R W → W
 writer_of d = d.writer
 
-abbrev pub lines_of : {R W : Type 0} → Driver R W → ℕ
+abbrev pub lines_of : {R W : Type 0} → DriverLink R W → ℕ
 lines_of d = d.lines
 
-abbrev pub line_of : {R W : Type 0} → Driver R W → List ℕ
+abbrev pub line_of : {R W : Type 0} → DriverLink R W → List ℕ
 line_of d = d.line.items
 
-abbrev pub has_heard : {R W : Type 0} → Driver R W → Bool
+abbrev pub has_heard : {R W : Type 0} → DriverLink R W → Bool
 has_heard d = d.has_heard
 
 -- a gear was heard, clean or damaged
@@ -45,5 +45,5 @@ pub record Talk : Type 0 where
   pub left : Option (List ℕ)
 
 abbrev pub talk_of : {R W : Type 0} → (R → Option (List ℕ)) → (W → Option (List ℕ))
-    → Driver R W → Talk
+    → DriverLink R W → Talk
 talk_of remaining contents d = record { written = contents d.writer; left = remaining d.reader }

@@ -8,8 +8,8 @@ ghost use Rattle.dali_commissioning.specs.Conducted.{Stays};
 ghost use Rattle.dali_commissioning.specs.Runs.{IsRead, IsBegun, IsChecked, IsCheckLost, Grows, outside};
 
 use crate::census::{Reply, is_addressed, take_census};
-use crate::conducting::Outcome;
-use crate::driver::Driver;
+use crate::conducting::Pass;
+use crate::driver::DriverLink;
 use crate::fault::CommissionFault;
 use crate::runs::commission;
 use crate::unaddressed::has_unaddressed;
@@ -27,7 +27,7 @@ pub enum Begun {
     /// address, from 0 on; those that are accounted for were not asked.
     Addressed(ArrayVec<Reply, 64>),
     /// Machines ran, and the last one came to this.
-    Commissioned(Outcome),
+    Commissioned(Pass),
 }
 
 /// The records of a store.
@@ -54,7 +54,7 @@ fn records<K: Keep>(keep: &mut K) -> Result<Kept, CommissionFault>
 #[tactic(auto, using(crate::proofs::Ran::read_grows))]
 pub fn begin<K: Keep, R: Read, W: Write, P: Watch>(
     keep: &mut K,
-    driver: &mut Driver<R, W>,
+    driver: &mut DriverLink<R, W>,
     watch: &mut P,
     others: &[Block],
     quiet_runs: u8,
@@ -74,7 +74,7 @@ pub fn begin<K: Keep, R: Read, W: Write, P: Watch>(
         return Ok(Begun::Addressed(replies));
     }
     match commission(keep, driver, watch, Input::Start, quiet_runs) {
-        Ok(outcome) => Ok(Begun::Commissioned(outcome)),
+        Ok(pass) => Ok(Begun::Commissioned(pass)),
         Err(fault) => Err(fault),
     }
 }
@@ -92,7 +92,7 @@ pub struct Checked {
 /// without short address are there. Nothing is committed, and no address given.
 pub fn check<K: Keep, R: Read, W: Write>(
     keep: &mut K,
-    driver: &mut Driver<R, W>,
+    driver: &mut DriverLink<R, W>,
     others: &[Block],
 ) -> Result<Checked, CommissionFault>
     ensures checked { IfOk result (IsChecked K.is_up K.is_sound K.holds (K.block keep.old) others.now keep.old keep.new

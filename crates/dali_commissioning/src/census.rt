@@ -14,7 +14,7 @@ ghost use Rattle.dali_commissioning.specs.Census.{IsAnswered, IsGivenUp, is_name
 ghost use Rattle.dali_commissioning.specs.Census.{is_known, is_silent, is_addressed};
 ghost use Rattle.dali_script.specs.Stages.{in_block};
 
-use crate::driver::{Driver, DriverFault};
+use crate::driver::{DriverFault, DriverLink};
 use crate::fault::CommissionFault;
 use crate::lines::Half;
 use arrayvec::ArrayVec;
@@ -148,7 +148,7 @@ fn lost_after(lost: u8, told: &Option<Reply>) -> u8
 
 /// Asks for one byte of a random address. None where the frame was lost.
 fn byte<R: Read, W: Write>(
-    driver: &mut Driver<R, W>,
+    driver: &mut DriverLink<R, W>,
     priority: Priority,
     short: Short,
     part: Part,
@@ -163,7 +163,7 @@ fn byte<R: Read, W: Write>(
 
 /// Asks the gear with a short address for its random address. None where one of the three frames was lost.
 fn question<R: Read, W: Write>(
-    driver: &mut Driver<R, W>,
+    driver: &mut DriverLink<R, W>,
     short: Short,
 ) -> Result<Option<Reply>, DriverFault>
     ensures { IfOk result (λ reply. (told : List Input) × IsAsked short told
@@ -184,7 +184,7 @@ fn question<R: Read, W: Write>(
 
 /// Asks the gear with a short address for its random address, until three questions were answered.
 pub fn ask<R: Read, W: Write>(
-    driver: &mut Driver<R, W>,
+    driver: &mut DriverLink<R, W>,
     short: Short,
 ) -> Result<Reply, CommissionFault>
     ensures answered { IfOk result (λ reply. IsAnswered short reply
@@ -249,7 +249,7 @@ pub fn is_known(kept: &Kept, others: &[Block], short: Short) -> bool
 
 /// What is heard of a short address, where it is not accounted for.
 fn count<R: Read, W: Write>(
-    driver: &mut Driver<R, W>,
+    driver: &mut DriverLink<R, W>,
     kept: &Kept,
     others: &[Block],
     short: Short,
@@ -272,7 +272,7 @@ fn count<R: Read, W: Write>(
 /// Each is asked for its random address three times, by the three queries of one transaction. Nothing is given.
 #[tactic(auto, using(crate::proofs::Asked::counted_more))]
 pub fn take_census<R: Read, W: Write>(
-    driver: &mut Driver<R, W>,
+    driver: &mut DriverLink<R, W>,
     kept: &Kept,
     others: &[Block],
 ) -> Result<ArrayVec<Reply, 64>, CommissionFault>

@@ -14,7 +14,7 @@ ghost use Rattle.dali_commissioning.specs.Steps.{order_line, record_told, is_kep
 ghost use Rattle.dali_commissioning.specs.Conducted.{Hears, Commits, MayCommit, Stays, IsAt, IsLeft, HasTaken};
 ghost use Rattle.dali_commissioning.specs.Conducted.{order_of};
 
-use crate::driver::{Driver, DriverFault};
+use crate::driver::{DriverFault, DriverLink};
 use crate::fault::CommissionFault;
 use crate::lines::Half;
 use crate::watch::Watch;
@@ -34,7 +34,7 @@ pub enum Ended {
 
 /// What came of a machine that was conducted to its end.
 #[derive(Clone, Copy)]
-pub struct Outcome {
+pub struct Pass {
     pub ended: Ended,
     /// Whether a record was committed.
     pub committed: bool,
@@ -92,7 +92,7 @@ fn waits_behind(half: Half, frame: Forward, told: Input) -> Option<Forward>
 
 /// Puts a frame, and answers what came of it.
 fn put<R: Read, W: Write>(
-    driver: &mut Driver<R, W>,
+    driver: &mut DriverLink<R, W>,
     waiting: &mut Option<Forward>,
     priority: Priority,
     frame: Forward,
@@ -142,7 +142,7 @@ fn is_kept(told: Input) -> bool
 #[tactic(auto, using(crate::proofs::Steps::no_line))]
 fn answer<K: Keep, R: Read, W: Write>(
     keep: &mut K,
-    driver: &mut Driver<R, W>,
+    driver: &mut DriverLink<R, W>,
     waiting: &mut Option<Forward>,
     order: &Order,
 ) -> Result<Input, CommissionFault>
@@ -217,21 +217,21 @@ fn end_at(order: &Order) -> Option<Ended>
 pub fn conduct<K: Keep, R: Read, W: Write, P: Watch>(
     machine: &mut Machine,
     keep: &mut K,
-    driver: &mut Driver<R, W>,
+    driver: &mut DriverLink<R, W>,
     watch: &mut P,
     start: Input,
     steps: u32,
-) -> Result<Outcome, CommissionFault>
+) -> Result<Pass, CommissionFault>
     requires start { machine.old.last ≡ None }
     requires begins { accepts due.Start start ≡ true }
     requires block { K.block keep.old ≡ machine.old.kept.block }
-    ensures ended { IfOk result (λ outcome. (waiting : Option Forward) × (count : ℕ) × IsAt K.is_up K.is_sound K.holds
+    ensures ended { IfOk result (λ pass. (waiting : Option Forward) × (count : ℕ) × IsAt K.is_up K.is_sound K.holds
         keep.old keep.new machine.old machine.new
         (talk_of R.remaining W.contents driver.old) (talk_of R.remaining W.contents driver.new)
-        start waiting (order_of outcome.ended) outcome.committed count) }
-    ensures heard { IfOk result (λ outcome. outcome.heard ≡ machine.new.heard) }
-    ensures found { IfOk result (λ outcome. outcome.found ≡ machine.new.finding) }
-    ensures tries { IfOk result (λ outcome. outcome.tries ≡ machine.new.tries) }
+        start waiting (order_of pass.ended) pass.committed count) }
+    ensures heard { IfOk result (λ pass. pass.heard ≡ machine.new.heard) }
+    ensures found { IfOk result (λ pass. pass.found ≡ machine.new.finding) }
+    ensures tries { IfOk result (λ pass. pass.tries ≡ machine.new.tries) }
     ensures spent { result ≡ Err CommissionFault.StepsSpent → HasTaken machine.old machine.new (steps + 1) }
     ensures fault { IfErr result (λ _. IsLeft K.is_up K.is_sound K.holds keep.old keep.new machine.old machine.new) }
     ensures one_run { result ≢ Err CommissionFault.RunsSpent }
@@ -245,7 +245,7 @@ pub fn conduct<K: Keep, R: Read, W: Write, P: Watch>(
     for _ in 0..steps {
         watch.ordered(&order);
         if let Some(ended) = end_at(&order) {
-            return Ok(Outcome {
+            return Ok(Pass {
                 ended,
                 committed,
                 heard: machine.heard(),

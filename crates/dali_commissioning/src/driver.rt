@@ -84,7 +84,7 @@ fn is_answer(told: Input) -> bool
 ///
 /// Contracts see both, how many lines were begun to be read from it, the one that was read last, and whether any gear
 /// was heard.
-pub struct Driver<R, W> {
+pub struct DriverLink<R, W> {
     reader: R,
     writer: W,
     /// Where a line is made.
@@ -94,9 +94,9 @@ pub struct Driver<R, W> {
     has_heard: bool,
 }
 
-impl<R: Drop, W: Drop> Drop for Driver<R, W> {
+impl<R: Drop, W: Drop> Drop for DriverLink<R, W> {
     fn drop(self) {
-        let Driver {
+        let DriverLink {
             reader: _,
             writer: _,
             text: _,
@@ -107,7 +107,7 @@ impl<R: Drop, W: Drop> Drop for Driver<R, W> {
     }
 }
 
-impl<R: Read, W: Write> Driver<R, W> {
+impl<R: Read, W: Write> DriverLink<R, W> {
     ghost use Rattle.std.specs.Prelude.{◌++◌, [], ◌∷◌, ◌||◌, true, false, None, Err, OnOk, IfOk};
     ghost use Rattle.std.specs.Io.KnownBytes.{Appends, Consumes};
     ghost use Rattle.dali_script.specs.Due.{accepts};
@@ -119,13 +119,13 @@ impl<R: Read, W: Write> Driver<R, W> {
     ghost use Rattle.dali_commissioning.specs.declared.driver.DriverFault.TheVariants.{BadLine};
 
     /// A driver of which no line was read. What it writes is read by `reader`, and it reads what `writer` writes.
-    pub fn new(alloc: Global, reader: R, writer: W) -> Driver<R, W>
+    pub fn new(alloc: Global, reader: R, writer: W) -> DriverLink<R, W>
         ensures reader { reader_of result ≡ reader }
         ensures writer { writer_of result ≡ writer }
         ensures lines { lines_of result ≡ 0 }
         ensures unheard { has_heard result ≡ false }
     {
-        Driver {
+        DriverLink {
             reader,
             writer,
             text: String::new(alloc),

@@ -16,8 +16,8 @@ mod watch;
 
 pub use beginning::{Begun, Checked, begin, check, outside};
 pub use census::{Reply, ask, is_known, take_census};
-pub use conducting::{Ended, Outcome, conduct};
-pub use driver::{Driver, DriverFault};
+pub use conducting::{Ended, Pass, conduct};
+pub use driver::{DriverFault, DriverLink};
 pub use fault::CommissionFault;
 pub use lighting::{light, light_at_last};
 pub use lines::{Half, told_of};

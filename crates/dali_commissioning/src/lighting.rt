@@ -7,7 +7,7 @@ ghost use Rattle.dali_commissioning.specs.Drivers.{talk_of, writer_of};
 ghost use Rattle.dali_commissioning.specs.Lines.{put_text};
 ghost use Rattle.dali_commissioning.specs.Census.{IsPut, is_sent};
 
-use crate::driver::{Driver, DriverFault};
+use crate::driver::{DriverFault, DriverLink};
 use crate::lines::Half;
 use dali_frame::{Forward, Priority, Short};
 use dali_script::Input;
@@ -44,7 +44,7 @@ fn arc_power(short: Short, level: u8) -> Forward
 ///
 /// No addressing variable of any gear changes by it.
 pub fn light<R: Read, W: Write>(
-    driver: &mut Driver<R, W>,
+    driver: &mut DriverLink<R, W>,
     short: Short,
     level: u8,
 ) -> Result<bool, DriverFault>
@@ -58,7 +58,7 @@ pub fn light<R: Read, W: Write>(
 
 /// Writes the line of the same frame, and reads nothing: for the end, where the driver tells no more.
 pub fn light_at_last<R: Read, W: Write>(
-    driver: &mut Driver<R, W>,
+    driver: &mut DriverLink<R, W>,
     short: Short,
     level: u8,
 ) -> Result<(), DriverFault>

@@ -10,8 +10,8 @@ ghost use Rattle.dali_commissioning.specs.Conducted.{Stays};
 ghost use Rattle.dali_commissioning.specs.Runs.{Run, IsRun, AreRuns, HaveRun, AreQuiet, EndWith, ComeTo, Grows};
 ghost use Rattle.dali_commissioning.specs.Runs.{quiet_after};
 
-use crate::conducting::{Ended, Outcome, conduct};
-use crate::driver::Driver;
+use crate::conducting::{Ended, Pass, conduct};
+use crate::driver::DriverLink;
 use crate::fault::CommissionFault;
 use crate::watch::Watch;
 use dali_controller::Machine;
@@ -42,15 +42,15 @@ fn quiet_after(quiet: u8, committed: bool) -> u8
 /// Runs one machine, from the records of the store and by this input.
 fn run<K: Keep, R: Read, W: Write, P: Watch>(
     keep: &mut K,
-    driver: &mut Driver<R, W>,
+    driver: &mut DriverLink<R, W>,
     watch: &mut P,
     start: Input,
-) -> Result<Outcome, CommissionFault>
+) -> Result<Pass, CommissionFault>
     requires begins { accepts due.Start start ≡ true }
-    ensures ran { IfOk result (λ outcome. (run : Run) × IsRun K.is_up K.is_sound K.holds (K.block keep.old) start
+    ensures ran { IfOk result (λ pass. (run : Run) × IsRun K.is_up K.is_sound K.holds (K.block keep.old) start
         keep.old keep.new (talk_of R.remaining W.contents driver.old) (talk_of R.remaining W.contents driver.new) run
-        × (run.ended ≡ outcome.ended) × (run.heard ≡ outcome.heard) × (run.found ≡ outcome.found)
-        × (run.tries ≡ outcome.tries) × (outcome.committed ≡ has_committed run.steps)) }
+        × (run.ended ≡ pass.ended) × (run.heard ≡ pass.heard) × (run.found ≡ pass.found)
+        × (run.tries ≡ pass.tries) × (pass.committed ≡ has_committed run.steps)) }
     ensures left { IfErr result (λ _. Grows K.is_up K.is_sound K.holds keep.old keep.new) }
     ensures stays { Stays K.is_up K.is_sound keep.old keep.new }
     ensures block { K.block keep.new ≡ K.block keep.old }
@@ -63,7 +63,7 @@ fn run<K: Keep, R: Read, W: Write, P: Watch>(
     };
     let mut machine = Machine::new(0, &kept);
     match conduct(&mut machine, keep, driver, watch, start, MOST_STEPS) {
-        Ok(outcome) => Ok(outcome),
+        Ok(pass) => Ok(pass),
         Err(fault) => Err(fault),
     }
 }
@@ -75,18 +75,18 @@ fn run<K: Keep, R: Read, W: Write, P: Watch>(
 #[tactic(auto, using(crate::proofs::Ran::none_ran, crate::proofs::Ran::all_ran))]
 pub fn commission<K: Keep, R: Read, W: Write, P: Watch>(
     keep: &mut K,
-    driver: &mut Driver<R, W>,
+    driver: &mut DriverLink<R, W>,
     watch: &mut P,
     start: Input,
     quiet_runs: u8,
-) -> Result<Outcome, CommissionFault>
+) -> Result<Pass, CommissionFault>
     requires begins { accepts due.Start start ≡ true }
     requires some { 0 < quiet_runs }
-    ensures ran { IfOk result (λ outcome. (runs : List Run) × AreRuns K.is_up K.is_sound K.holds (K.block keep.old)
+    ensures ran { IfOk result (λ pass. (runs : List Run) × AreRuns K.is_up K.is_sound K.holds (K.block keep.old)
         start keep.old keep.new (talk_of R.remaining W.contents driver.old)
         (talk_of R.remaining W.contents driver.new) runs
-        × EndWith outcome.ended runs × ComeTo outcome runs
-        × (outcome.ended ≡ Ended.Done ends.AllFound → AreQuiet quiet_runs runs)) }
+        × EndWith pass.ended runs × ComeTo pass runs
+        × (pass.ended ≡ Ended.Done ends.AllFound → AreQuiet quiet_runs runs)) }
     ensures spent { result ≡ Err CommissionFault.RunsSpent → HaveRun K.is_up K.is_sound K.holds (K.block keep.old)
         start keep.old keep.new (talk_of R.remaining W.contents driver.old)
         (talk_of R.remaining W.contents driver.new) 1000 }
@@ -97,16 +97,16 @@ pub fn commission<K: Keep, R: Read, W: Write, P: Watch>(
 {
     let mut quiet = 0;
     for _ in 0..MOST_RUNS {
-        let outcome = match run(keep, driver, watch, start) {
-            Ok(outcome) => outcome,
+        let pass = match run(keep, driver, watch, start) {
+            Ok(pass) => pass,
             Err(fault) => return Err(fault),
         };
-        if !is_all_found(outcome.ended) {
-            return Ok(outcome);
+        if !is_all_found(pass.ended) {
+            return Ok(pass);
         }
-        quiet = quiet_after(quiet, outcome.committed);
+        quiet = quiet_after(quiet, pass.committed);
         if quiet == quiet_runs {
-            return Ok(outcome);
+            return Ok(pass);
         }
     }
     Err(CommissionFault::RunsSpent)

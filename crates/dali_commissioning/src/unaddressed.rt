@@ -7,7 +7,7 @@ ghost use Rattle.dali_commissioning.specs.Drivers.{talk_of};
 ghost use Rattle.dali_commissioning.specs.Unaddressed.{put_so, is_yes, joined_yes, ArePut, found_by, asking};
 ghost use Rattle.dali_commissioning.specs.Unaddressed.{AreLeftOver, AreLostSo};
 
-use crate::driver::{Driver, DriverFault};
+use crate::driver::{DriverFault, DriverLink};
 use crate::fault::CommissionFault;
 use crate::lines::Half;
 use dali_frame::{Answer, Forward, Priority};
@@ -90,7 +90,7 @@ fn joined_yes(here: bool, later: Option<bool>) -> Option<bool>
 
 /// Puts frames one after the other. Whether one of them was heard to find somebody; None where one was lost.
 fn put_all<R: Read, W: Write>(
-    driver: &mut Driver<R, W>,
+    driver: &mut DriverLink<R, W>,
     puttings: &[Putting],
 ) -> Result<Option<bool>, DriverFault>
     ensures { IfOk result (λ found. (told : List Input) × ArePut puttings.now told
@@ -113,7 +113,7 @@ fn put_all<R: Read, W: Write>(
 /// Where one of these frames is lost all begins again, eight times in a row at most. No gear draws a random address, is
 /// given a short one, or is withdrawn.
 pub fn has_unaddressed<R: Read, W: Write>(
-    driver: &mut Driver<R, W>,
+    driver: &mut DriverLink<R, W>,
 ) -> Result<bool, CommissionFault>
     ensures answered { IfOk result (λ found. AreLeftOver found
         (talk_of R.remaining W.contents driver.old) (talk_of R.remaining W.contents driver.new)) }

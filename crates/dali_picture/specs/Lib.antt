@@ -1,6 +1,6 @@
 pub mod Marks
 pub mod Folds
-pub mod Outcomes
+pub mod Stances
 pub mod Pages
 pub mod Incidents
 pub mod Clock

@@ -3,11 +3,11 @@
 use crate::folds::{Fold, Held};
 use crate::incidents::{Happened, Incident};
 use crate::mark::{Lane, Look, Mark, Reply, Tone};
-use crate::outcomes::{Outcome, outcome_by};
+use crate::stances::{Stance, stance_by};
 use crate::stays::{Shown, Stay};
 use crate::transactions::{Purpose, Transaction};
 use crate::words::{
-    push_event, push_fold, push_outcome, push_plain, push_short, push_shown, push_transaction,
+    push_event, push_fold, push_stance, push_plain, push_short, push_shown, push_transaction,
     push_unheard,
 };
 use dali_gear::InitialisationState;
@@ -109,13 +109,13 @@ pub fn push_mark(
 
 /// The name of an end, beside its mark.
 pub fn push_end_name(text: &mut String, event: Event, x: u64, y: u64) -> Result<(), AllocError> {
-    match outcome_by(event) {
-        Some((_, outcome @ (Outcome::Ended(_) | Outcome::Halted(_)))) => {
+    match stance_by(event) {
+        Some((_, stance @ (Stance::Ended(_) | Stance::Halted(_)))) => {
             write!(text, "<text class=\"v\" x=\"{x}\" y=\"{y}\">")?;
-            push_outcome(text, outcome)?;
+            push_stance(text, stance)?;
             text.push_str("</text>\n")
         }
-        Some((_, Outcome::AtWork | Outcome::Down)) | None => Ok(()),
+        Some((_, Stance::AtWork | Stance::Down)) | None => Ok(()),
     }
 }
 

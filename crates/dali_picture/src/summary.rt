@@ -4,9 +4,9 @@
 use crate::clock::{frames_and_bits_of, milliseconds};
 use crate::gear_table::{addressed_in, at_end};
 use crate::incidents::{Happened, INCIDENTS, Incident, count_of};
-use crate::outcomes::{Outcome, outcome_of};
+use crate::stances::{Stance, stance_of};
 use crate::picture::Picture;
-use crate::words::{outcome_class, outcome_meaning, push_event, push_outcome, push_unheard};
+use crate::words::{stance_class, stance_meaning, push_event, push_stance, push_unheard};
 use std::alloc::AllocError;
 
 /// How many incidents a page lists one by one.
@@ -16,20 +16,20 @@ const LISTED: usize = 100;
 fn push_end(
     text: &mut String,
     c: u8,
-    outcome: Outcome,
+    stance: Stance,
     last: Option<usize>,
 ) -> Result<(), AllocError> {
-    let class = outcome_class(outcome);
+    let class = stance_class(stance);
     write!(text, "<li class=\"{class}\">controller {c}: <b>")?;
-    match (outcome, last) {
-        (Outcome::AtWork, _) | (_, None) => push_outcome(text, outcome)?,
+    match (stance, last) {
+        (Stance::AtWork, _) | (_, None) => push_stance(text, stance)?,
         (_, Some(at)) => {
             write!(text, "<a href=\"#e{at}\">")?;
-            push_outcome(text, outcome)?;
+            push_stance(text, stance)?;
             text.push_str("</a>")?;
         }
     }
-    let meaning = outcome_meaning(outcome);
+    let meaning = stance_meaning(stance);
     write!(text, "</b>, {meaning}</li>\n")
 }
 
@@ -38,8 +38,8 @@ fn push_ends(text: &mut String, picture: &Picture) -> Result<(), AllocError> {
     text.push_str("<ul class=\"ends\">\n")?;
     for c in 0..picture.played.controllers {
         let log = picture.played.log.as_slice();
-        let (outcome, last) = outcome_of(c, log);
-        push_end(text, c, outcome, last)?;
+        let (stance, last) = stance_of(c, log);
+        push_end(text, c, stance, last)?;
     }
     text.push_str("</ul>\n")
 }

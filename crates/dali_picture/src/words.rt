@@ -2,7 +2,7 @@
 
 use crate::folds::{Fold, Held};
 use crate::incidents::Incident;
-use crate::outcomes::Outcome;
+use crate::stances::Stance;
 use crate::stays::Shown;
 use crate::transactions::{Purpose, Transaction};
 use dali_frame::{Answer, Forward, Short};
@@ -275,12 +275,12 @@ pub fn push_unheard(
 }
 
 /// How a controller stands, in a word or two.
-pub fn push_outcome(text: &mut String, outcome: Outcome) -> Result<(), AllocError> {
-    match outcome {
-        Outcome::AtWork => text.push_str("at work"),
-        Outcome::Down => text.push_str("down"),
-        Outcome::Ended(end) => text.push_str(end.name()),
-        Outcome::Halted(fault) => {
+pub fn push_stance(text: &mut String, stance: Stance) -> Result<(), AllocError> {
+    match stance {
+        Stance::AtWork => text.push_str("at work"),
+        Stance::Down => text.push_str("down"),
+        Stance::Ended(end) => text.push_str(end.name()),
+        Stance::Halted(fault) => {
             let name = fault.name();
             write!(text, "halt {name}")
         }
@@ -288,26 +288,26 @@ pub fn push_outcome(text: &mut String, outcome: Outcome) -> Result<(), AllocErro
 }
 
 /// The class that shows how good that is.
-pub fn outcome_class(outcome: Outcome) -> &'static str {
-    match outcome {
-        Outcome::Ended(End::AllFound) => "good",
-        Outcome::AtWork | Outcome::Ended(End::BlockFull) => "part",
-        Outcome::Ended(End::GaveUp) | Outcome::Halted(_) | Outcome::Down => "bad",
+pub fn stance_class(stance: Stance) -> &'static str {
+    match stance {
+        Stance::Ended(End::AllFound) => "good",
+        Stance::AtWork | Stance::Ended(End::BlockFull) => "part",
+        Stance::Ended(End::GaveUp) | Stance::Halted(_) | Stance::Down => "bad",
     }
 }
 
 /// What it means to whoever installs the gear.
-pub fn outcome_meaning(outcome: Outcome) -> &'static str {
-    match outcome {
-        Outcome::AtWork => "it was still at work when the script ended, or had not begun",
-        Outcome::Ended(End::AllFound) => "no gear answers its search any more",
-        Outcome::Ended(End::BlockFull) =>
+pub fn stance_meaning(stance: Stance) -> &'static str {
+    match stance {
+        Stance::AtWork => "it was still at work when the script ended, or had not begun",
+        Stance::Ended(End::AllFound) => "no gear answers its search any more",
+        Stance::Ended(End::BlockFull) =>
             "a gear has no short address, and its block of addresses is used up",
-        Outcome::Ended(End::GaveUp) =>
+        Stance::Ended(End::GaveUp) =>
             "its transactions were lost again and again, or its searches led to no gear",
-        Outcome::Halted(Fault::Store) => "a record could not be kept",
-        Outcome::Halted(Fault::Conflict) => "a gear contradicts its table",
-        Outcome::Down => "it went down, and did not come up again",
+        Stance::Halted(Fault::Store) => "a record could not be kept",
+        Stance::Halted(Fault::Conflict) => "a gear contradicts its table",
+        Stance::Down => "it went down, and did not come up again",
     }
 }
 

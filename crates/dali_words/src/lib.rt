@@ -8,5 +8,5 @@ mod program;
 mod reading;
 
 pub use line::{Line, Wrong};
-pub use program::{Kind, Program, Subcommand, Value, Word};
+pub use program::{WordKind, Program, Subcommand, Value, Word};
 pub use reading::asked;

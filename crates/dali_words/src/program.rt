@@ -26,7 +26,7 @@ pub enum Value {
 
 /// What a word of the command line is.
 #[derive(Clone, Copy)]
-pub enum Kind {
+pub enum WordKind {
     /// An option that is there or not.
     Flag,
     /// The same, but never beside another one.
@@ -50,7 +50,7 @@ pub struct Word {
     pub name: &'static str,
     pub value: &'static str,
     pub help: &'static str,
-    pub kind: Kind,
+    pub kind: WordKind,
 }
 
 /// A subcommand: its name, what the short help and the long one say of it and after its words, and its words.
@@ -109,14 +109,14 @@ fn place<'a>(alloc: Global, word: &Word) -> Arg<'a> {
 /// The argument of `clap` that a word is.
 fn arg<'a>(alloc: Global, word: &Word) -> Result<Arg<'a>, AllocError> {
     match word.kind {
-        Kind::Flag => Ok(flag(alloc, word)),
-        Kind::NotBeside(other) => flag(alloc, word).conflicts_with(other),
-        Kind::Option(value) => Ok(option(alloc, word, value)),
-        Kind::Needed(value) => Ok(option(alloc, word, value).required(true)),
-        Kind::Default(value, is) => Ok(option(alloc, word, value).default_value(is)),
-        Kind::Again => Ok(option(alloc, word, Value::Text).action(ArgAction::Append)),
-        Kind::Place(value) => Ok(typed(place(alloc, word), value)),
-        Kind::Places => Ok(place(alloc, word).num_args(1..).action(ArgAction::Append)),
+        WordKind::Flag => Ok(flag(alloc, word)),
+        WordKind::NotBeside(other) => flag(alloc, word).conflicts_with(other),
+        WordKind::Option(value) => Ok(option(alloc, word, value)),
+        WordKind::Needed(value) => Ok(option(alloc, word, value).required(true)),
+        WordKind::Default(value, is) => Ok(option(alloc, word, value).default_value(is)),
+        WordKind::Again => Ok(option(alloc, word, Value::Text).action(ArgAction::Append)),
+        WordKind::Place(value) => Ok(typed(place(alloc, word), value)),
+        WordKind::Places => Ok(place(alloc, word).num_args(1..).action(ArgAction::Append)),
     }
 }
 

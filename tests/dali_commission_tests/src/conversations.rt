@@ -2,7 +2,7 @@
 
 use super::broken::Broken;
 use dali_commissioning::{
-    CommissionFault, Driver, DriverFault, Ended, Unwatched, commission, told_of,
+    CommissionFault, DriverLink, DriverFault, Ended, Unwatched, commission, told_of,
 };
 use dali_frame::Answer;
 use dali_reserve::{Keep, KeepError, MemoryKeep};
@@ -13,7 +13,7 @@ use std::process::Abort;
 /// How machines end that begin with Start.
 fn ended<K: Keep, W: Write>(
     keep: &mut K,
-    driver: &mut Driver<&[u8], W>,
+    driver: &mut DriverLink<&[u8], W>,
 ) -> Result<Ended, CommissionFault> {
     match commission(keep, driver, &mut Unwatched, Input::Start, 1) {
         Ok(outcome) => Ok(outcome.ended),
@@ -31,7 +31,7 @@ fn ends_as<R: Abort + AllocGlobal, K: Keep + Drop, W: Write + Drop>(
     line: u64,
 ) {
     let mut keep = keep;
-    let mut driver = Driver::new(rt.alloc(), answers, writer);
+    let mut driver = DriverLink::new(rt.alloc(), answers, writer);
     let found = ended(&mut keep, &mut driver);
     assert!(rt; found == wanted);
     assert!(rt; driver.lines() == line);
@@ -88,7 +88,7 @@ fn a_gear_is_given_an_address(rt: HostRuntime) {
     let mut answers = found(&rt);
     assert!(rt; answers.push_str(GIVEN).is_ok());
     let mut keep = none_kept();
-    let mut driver = Driver::new(rt.alloc(), answers.as_bytes(), std::io::sink());
+    let mut driver = DriverLink::new(rt.alloc(), answers.as_bytes(), std::io::sink());
     let found = ended(&mut keep, &mut driver);
     assert!(rt; found == Ok(Ended::Done(End::AllFound)));
     assert!(rt; driver.lines() == 131);

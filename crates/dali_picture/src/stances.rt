@@ -1,14 +1,14 @@
 //! How each controller ended, as far as a log tells.
 
 ghost use Rattle.std.specs.Prelude.{◌≡◌};
-ghost use Rattle.dali_picture.specs.Outcomes.{after_order, outcome_by, outcome_of};
+ghost use Rattle.dali_picture.specs.Stances.{after_order, stance_by, stance_of};
 
 use dali_script::{End, Fault, Order};
 use dali_world::Event;
 
 /// How a controller stands.
 #[derive(Clone, Copy)]
-pub enum Outcome {
+pub enum Stance {
     /// It is at work, or did nothing yet.
     AtWork,
     /// Its commissioning ended.
@@ -20,24 +20,24 @@ pub enum Outcome {
 }
 
 /// How a controller stands after an order of its own.
-fn after_order(order: Order) -> Outcome
+fn after_order(order: Order) -> Stance
     ensures { result ≡ after_order order }
 {
     match order {
-        Order::Done(end) => Outcome::Ended(end),
-        Order::Halt(fault) => Outcome::Halted(fault),
-        Order::Put(..) | Order::Commit(_) => Outcome::AtWork,
+        Order::Done(end) => Stance::Ended(end),
+        Order::Halt(fault) => Stance::Halted(fault),
+        Order::Put(..) | Order::Commit(_) => Stance::AtWork,
     }
 }
 
 /// The controller of which an event says how it stands, and how.
-pub fn outcome_by(event: Event) -> Option<(u8, Outcome)>
-    ensures { result ≡ outcome_by event }
+pub fn stance_by(event: Event) -> Option<(u8, Stance)>
+    ensures { result ≡ stance_by event }
 {
     match event {
         Event::Acted(c, _, order) => Some((c, after_order(order))),
-        Event::Down(c) => Some((c, Outcome::Down)),
-        Event::Up(c, _) => Some((c, Outcome::AtWork)),
+        Event::Down(c) => Some((c, Stance::Down)),
+        Event::Up(c, _) => Some((c, Stance::AtWork)),
         Event::Offered(..)
         | Event::Sent(..)
         | Event::Destroyed(..)
@@ -50,18 +50,18 @@ pub fn outcome_by(event: Event) -> Option<(u8, Outcome)>
 }
 
 /// How controller c stands at the end of a log, and the place of the last event that says so, if one does.
-pub fn outcome_of(c: u8, log: &[Event]) -> (Outcome, Option<usize>)
-    ensures { result.0 ≡ outcome_of c log.now }
+pub fn stance_of(c: u8, log: &[Event]) -> (Stance, Option<usize>)
+    ensures { result.0 ≡ stance_of c log.now }
 {
-    let mut outcome = Outcome::AtWork;
+    let mut stance = Stance::AtWork;
     let mut last = None;
     for (at, event) in log.iter().enumerate() {
-        if let Some((told, stands)) = outcome_by(*event) {
+        if let Some((told, stands)) = stance_by(*event) {
             if told == c {
-                outcome = stands;
+                stance = stands;
                 last = Some(at);
             }
         }
     }
-    (outcome, last)
+    (stance, last)
 }

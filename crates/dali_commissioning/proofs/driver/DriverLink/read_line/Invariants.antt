@@ -1,7 +1,7 @@
 use Rattle.std.proofs.Common.{◌≡◌}
 use Rattle.std.specs.Io.KnownBytes.{Consumes}
 use Rattle.dali_commissioning.specs.Drivers.{reader_of, writer_of, lines_of, next_line, line_of, has_heard}
-use Rattle.dali_commissioning.proofs.driver.Driver.read_line.Given as goal
+use Rattle.dali_commissioning.proofs.driver.DriverLink.read_line.Given as goal
 
 abbrev pub invariant-loop : goal.invariant-loop
 invariant-loop g l = record {
