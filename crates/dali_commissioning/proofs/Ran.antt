@@ -51,17 +51,17 @@ commits_grow is_up is_sound holds old new records commits = λ sound up xs held.
 -- one run, from one moment of the store and of the talk to another
 abbrev pub OneRun : {S : Type 0} (is_up is_sound : S → Type 0) (holds : S → List Record → Type 0) → Block
     → Input → S → S → Talk → Talk → Pass → Type 0
-OneRun is_up is_sound holds block first was keep x y outcome =
-    (run : Run) × IsRun is_up is_sound holds block first was keep x y run × (run.ended ≡ outcome.ended)
-    × (run.heard ≡ outcome.heard) × (run.found ≡ outcome.found) × (run.tries ≡ outcome.tries)
-    × (outcome.committed ≡ has_committed run.steps)
+OneRun is_up is_sound holds block first was keep x y pass =
+    (run : Run) × IsRun is_up is_sound holds block first was keep x y run × (run.ended ≡ pass.ended)
+    × (run.heard ≡ pass.heard) × (run.found ≡ pass.found) × (run.tries ≡ pass.tries)
+    × (pass.committed ≡ has_committed run.steps)
 
 pub of_block : {S : Type 0} (is_up is_sound : S → Type 0) (holds : S → List Record → Type 0) (a b : Block)
-    (first : Input) (was keep : S) (x y : Talk) (outcome : Pass) → a ≡ b
-    → OneRun is_up is_sound holds a first was keep x y outcome
-    → OneRun is_up is_sound holds b first was keep x y outcome
-of_block is_up is_sound holds a b first was keep x y outcome same =
-    subst (λ c. OneRun is_up is_sound holds c first was keep x y outcome) same
+    (first : Input) (was keep : S) (x y : Talk) (pass : Pass) → a ≡ b
+    → OneRun is_up is_sound holds a first was keep x y pass
+    → OneRun is_up is_sound holds b first was keep x y pass
+of_block is_up is_sound holds a b first was keep x y pass same =
+    subst (λ c. OneRun is_up is_sound holds c first was keep x y pass) same
 
 -- all runs so far
 pub record HasRun {S : Type 0} (is_up is_sound : S → Type 0) (holds : S → List Record → Type 0) (block : Block)
@@ -95,18 +95,18 @@ quiet_more quiet false run before is so_far =
 
 -- one run more, that found no gear any more
 pub ran_more : {S : Type 0} (is_up is_sound : S → Type 0) (holds : S → List Record → Type 0) (block : Block)
-    (first : Input) (was mid keep : S) (x y z : Talk) (quiet more count : ℕ) (outcome : Pass)
+    (first : Input) (was mid keep : S) (x y z : Talk) (quiet more count : ℕ) (pass : Pass)
     → HasRun is_up is_sound holds block first was mid x y quiet count
-    → OneRun is_up is_sound holds block first mid keep y z outcome
-    → outcome.ended ≡ Done AllFound → more ≡ quiet_after quiet outcome.committed
+    → OneRun is_up is_sound holds block first mid keep y z pass
+    → pass.ended ≡ Done AllFound → more ≡ quiet_after quiet pass.committed
     → HasRun is_up is_sound holds block first was keep x z more (count + 1)
-ran_more is_up is_sound holds block first was mid keep x y z quiet more count outcome so_far (run, is, ends, marks, finds, tried, has) all_found added =
+ran_more is_up is_sound holds block first was mid keep x y z quiet more count pass so_far (run, is, ends, marks, finds, tried, has) all_found added =
     record {
       runs = run ∷ so_far.runs;
       counted = omega (arith, so_far.counted);
       are = (mid, y, so_far.are, is);
       found = (ends ∙ all_found, so_far.found);
-      quiet_runs = subst (λ n. AreQuiet n (run ∷ so_far.runs)) (sym added) (quiet_more quiet outcome.committed run so_far.runs has so_far.quiet_runs);
+      quiet_runs = subst (λ n. AreQuiet n (run ∷ so_far.runs)) (sym added) (quiet_more quiet pass.committed run so_far.runs has so_far.quiet_runs);
       grows = grows_further is_up is_sound holds was mid keep so_far.stays is.stays so_far.grows
           (commits_grow is_up is_sound holds mid keep (committed_by run.steps) is.commits);
       stays = stays_further is_up is_sound was mid keep so_far.stays is.stays;
@@ -114,30 +114,30 @@ ran_more is_up is_sound holds block first was mid keep x y z quiet more count ou
 
 -- the last run, which ended otherwise
 pub ended_otherwise : {S : Type 0} (is_up is_sound : S → Type 0) (holds : S → List Record → Type 0) (block : Block)
-    (first : Input) (was mid keep : S) (x y z : Talk) (quiet wanted count : ℕ) (outcome : Pass)
+    (first : Input) (was mid keep : S) (x y z : Talk) (quiet wanted count : ℕ) (pass : Pass)
     → HasRun is_up is_sound holds block first was mid x y quiet count
-    → OneRun is_up is_sound holds block first mid keep y z outcome
-    → (outcome.ended ≡ Done AllFound → ⊥)
-    → (runs : List Run) × AreRuns is_up is_sound holds block first was keep x z runs × EndWith outcome.ended runs
-    × ComeTo outcome runs × (outcome.ended ≡ Done AllFound → AreQuiet wanted runs)
-ended_otherwise is_up is_sound holds block first was mid keep x y z quiet wanted count outcome so_far (run, is, ends, marks, finds, tried, has) otherwise =
+    → OneRun is_up is_sound holds block first mid keep y z pass
+    → (pass.ended ≡ Done AllFound → ⊥)
+    → (runs : List Run) × AreRuns is_up is_sound holds block first was keep x z runs × EndWith pass.ended runs
+    × ComeTo pass runs × (pass.ended ≡ Done AllFound → AreQuiet wanted runs)
+ended_otherwise is_up is_sound holds block first was mid keep x y z quiet wanted count pass so_far (run, is, ends, marks, finds, tried, has) otherwise =
     (run ∷ so_far.runs, (mid, y, so_far.are, is), (ends, so_far.found), (marks, finds, tried, has), λ found. absurd (otherwise found))
 
 -- the last run, after which as many as are wanted were quiet
 pub ended_quiet : {S : Type 0} (is_up is_sound : S → Type 0) (holds : S → List Record → Type 0) (block : Block)
-    (first : Input) (was mid keep : S) (x y z : Talk) (quiet wanted count : ℕ) (outcome : Pass)
+    (first : Input) (was mid keep : S) (x y z : Talk) (quiet wanted count : ℕ) (pass : Pass)
     → HasRun is_up is_sound holds block first was mid x y quiet count
-    → OneRun is_up is_sound holds block first mid keep y z outcome
-    → quiet_after quiet outcome.committed ≡ wanted
-    → (runs : List Run) × AreRuns is_up is_sound holds block first was keep x z runs × EndWith outcome.ended runs
-    × ComeTo outcome runs × (outcome.ended ≡ Done AllFound → AreQuiet wanted runs)
-ended_quiet is_up is_sound holds block first was mid keep x y z quiet wanted count outcome so_far (run, is, ends, marks, finds, tried, has) enough = (
+    → OneRun is_up is_sound holds block first mid keep y z pass
+    → quiet_after quiet pass.committed ≡ wanted
+    → (runs : List Run) × AreRuns is_up is_sound holds block first was keep x z runs × EndWith pass.ended runs
+    × ComeTo pass runs × (pass.ended ≡ Done AllFound → AreQuiet wanted runs)
+ended_quiet is_up is_sound holds block first was mid keep x y z quiet wanted count pass so_far (run, is, ends, marks, finds, tried, has) enough = (
   run ∷ so_far.runs,
   (mid, y, so_far.are, is),
   (ends, so_far.found),
   (marks, finds, tried, has),
   λ found.
-      subst (λ n. AreQuiet n (run ∷ so_far.runs)) enough (quiet_more quiet outcome.committed run so_far.runs has so_far.quiet_runs),
+      subst (λ n. AreQuiet n (run ∷ so_far.runs)) enough (quiet_more quiet pass.committed run so_far.runs has so_far.quiet_runs),
 )
 
 -- all runs, as many as were counted
@@ -152,21 +152,21 @@ pub run_of : {S : Type 0} (is_up is_sound : S → Type 0) (holds : S → List Re
     (must_read : S → Bool) (block_of : S → Block)
     → ((s : S) (xs : List Record) → is_sound s → must_read s ≡ false → holds s xs → IsReplay (block_of s) xs (kept_of s))
     → (was mid keep : S) (m n : Machine) (x y : Talk) (first : Input) (k : Kept) (waiting : Option Forward)
-    (outcome : Pass) (count : ℕ)
+    (pass : Pass) (count : ℕ)
     → k ≡ kept_of mid → must_read mid ≡ false → block_of mid ≡ block_of was → Stays is_up is_sound was mid
     → (is_sound was → is_up mid → (xs : List Record) → holds was xs → holds mid xs)
-    → m ≡ at_first 0 k → IsAt is_up is_sound holds mid keep m n x y first waiting (order_of outcome.ended) outcome.committed count
-    → outcome.heard ≡ n.heard → outcome.found ≡ n.finding → outcome.tries ≡ n.tries
-    → OneRun is_up is_sound holds (block_of was) first was keep x y outcome
-run_of is_up is_sound holds kept_of must_read block_of replay was mid keep m n x y first k waiting outcome count answer is_read block stays same begins at
+    → m ≡ at_first 0 k → IsAt is_up is_sound holds mid keep m n x y first waiting (order_of pass.ended) pass.committed count
+    → pass.heard ≡ n.heard → pass.found ≡ n.finding → pass.tries ≡ n.tries
+    → OneRun is_up is_sound holds (block_of was) first was keep x y pass
+run_of is_up is_sound holds kept_of must_read block_of replay was mid keep m n x y first k waiting pass count answer is_read block stays same begins at
     heard finds tried = (
       record {
         start = k;
         steps = at.steps;
-        ended = outcome.ended;
-        heard = outcome.heard;
-        found = outcome.found;
-        tries = outcome.tries;
+        ended = pass.ended;
+        heard = pass.heard;
+        found = pass.found;
+        tries = pass.tries;
       },
       record {
         machine = n;

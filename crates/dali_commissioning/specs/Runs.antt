@@ -73,12 +73,12 @@ EndWith ended (run ∷ before) = (run.ended ≡ ended) × AreAllFound before
 
 -- the last run came to this
 abbrev pub ComeTo : Pass → List Run → Type 0
-ComeTo outcome [] = ⊥
-ComeTo outcome (run ∷ before) =
-    (run.heard ≡ outcome.heard)
-    × (run.found ≡ outcome.found)
-    × (run.tries ≡ outcome.tries)
-    × (outcome.committed ≡ has_committed run.steps)
+ComeTo pass [] = ⊥
+ComeTo pass (run ∷ before) =
+    (run.heard ≡ pass.heard)
+    × (run.found ≡ pass.found)
+    × (run.tries ≡ pass.tries)
+    × (pass.committed ≡ has_committed run.steps)
 
 -- SO MANY RUNS, one after the other, and none of them found any gear more
 abbrev pub HaveRun : {S : Type 0} (is_up is_sound : S → Type 0)
@@ -126,7 +126,7 @@ IsBegun is_up is_sound holds block others wanted was keep x y (begun.Addressed r
     × (length replies.items ≡ 64)
     × (is_addressed replies.items ≡ true)
 IsBegun {S = S} is_up is_sound holds block others wanted was keep x y
-    (begun.Commissioned outcome) =
+    (begun.Commissioned pass) =
     (k : Kept)
     × (mid : S)
     × (at : Talk)
@@ -137,9 +137,9 @@ IsBegun {S = S} is_up is_sound holds block others wanted was keep x y
     × (length replies ≡ 64)
     × (is_addressed replies ≡ false)
     × AreRuns is_up is_sound holds block Start mid keep at y runs
-    × EndWith outcome.ended runs
-    × ComeTo outcome runs
-    × (outcome.ended ≡ Done AllFound → AreQuiet wanted runs)
+    × EndWith pass.ended runs
+    × ComeTo pass runs
+    × (pass.ended ≡ Done AllFound → AreQuiet wanted runs)
 
 -- WHAT A CHECK FOUND: all short addresses were asked, but those in the blocks of other controllers,
 -- and then gear that have none. The store has what it had.

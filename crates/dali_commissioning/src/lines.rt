@@ -4,14 +4,13 @@
 ghost use Rattle.std.specs.Prelude.{◌≡◌, ◌++◌, true, OnOk, IfSome, string_bytes};
 ghost use Rattle.dali_script.specs.Due.{accepts};
 ghost use Rattle.dali_script.specs.declared.orders.Due.TheVariants as due;
-ghost use Rattle.dali_frame.specs.Hex.{forward_text, byte_of};
+ghost use Rattle.dali_frame.specs.Hex.{byte_of};
 ghost use Rattle.dali_commissioning.specs.Lines.{is_question, asked_text, half_text, put_text, told_byte, told_of};
 
 use dali_frame::{Answer, Forward, Priority};
 use dali_script::Input;
 use dali_special::Command;
 use std::alloc::AllocError;
-use std::str;
 
 /// Which frame of a pair a frame is. INITIALISE and RANDOMISE are executed only where they are sent twice within
 /// 100 ms.
@@ -46,19 +45,6 @@ pub(crate) fn is_question(command: Command) -> bool
     }
 }
 
-/// The four digits of a frame.
-fn push_frame(text: &mut String, frame: Forward) -> Result<(), AllocError>
-    ensures { OnOk result (string_bytes text.new ≡ string_bytes text.old ++ forward_text frame) }
-{
-    let mut digits = [0; 4];
-    frame.write_hex(&mut digits);
-    match str::from_utf8(&digits) {
-        Ok(digits) => text.push_str(digits),
-        // Never so, since digits are text; the frame spells itself all the same.
-        Err(_) => write!(text, "{frame}"),
-    }
-}
-
 fn asked_name(asks: bool) -> &'static str
     ensures { result.now ≡ asked_text asks }
 {
@@ -85,8 +71,7 @@ pub fn push_put(
     ensures { OnOk result (string_bytes text.new ≡ string_bytes text.old ++ put_text priority frame half) }
 {
     let level = priority.number();
-    write!(text, "put {level} ")?;
-    push_frame(text, frame)?;
+    write!(text, "put {level} {frame}")?;
     text.push_str(asked_name(is_question(Command::read(frame))))?;
     text.push_str(half_name(half))?;
     text.push_str("\n")

@@ -39,7 +39,7 @@ returns-then-quiet-quiet_runs-clause-ran g c =
 
 pub loop-preserved : goal.loop-preserved
 loop-preserved g c = record {
-  ran = ran_more g.K.Keep.is_up g.K.Keep.is_sound g.K.Keep.holds _ _ _ _ _ _ _ _ _ _ _ c.in-Ok.outcome c.loop.invariant.ran
+  ran = ran_more g.K.Keep.is_up g.K.Keep.is_sound g.K.Keep.holds _ _ _ _ _ _ _ _ _ _ _ c.in-Ok.pass c.loop.invariant.ran
       (of_block g.K.Keep.is_up g.K.Keep.is_sound g.K.Keep.holds _ _ _ _ _ _ _ _ c.loop.invariant.block c.in-Ok.ensures.ran)
       (search rules) c.quiet_after-quiet.ensures;
   few = search rules;
