@@ -2,7 +2,7 @@
 
 use super::broken::Broken;
 use dali_commissioning::{
-    CommissionFault, DriverLink, DriverFault, Ended, Unwatched, commission, told_of,
+    CommissionFault, DriverFault, DriverLink, Ended, Unwatched, commission, told_of,
 };
 use dali_frame::Answer;
 use dali_reserve::{Keep, KeepError, MemoryKeep};
