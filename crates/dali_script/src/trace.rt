@@ -78,14 +78,13 @@ impl Trace {
     pub fn copy(&self) -> Trace
         ensures { result ≡ self.now }
     {
-        let sent = self.entries();
         let mut entries = ArrayVec::new();
-        for entry in sent {
-            entries.push(*entry);
-        }
-        Trace {
-            entries,
-            stage: self.stage,
+        match entries.try_extend_from_slice(self.entries()) {
+            Ok(()) => Trace {
+                entries,
+                stage: self.stage,
+            },
+            Err(_) => unreachable!(),
         }
     }
 
