@@ -4,7 +4,7 @@ use Rattle.dali_search.specs.Narrowing.{answers_of}
 use Rattle.dali_search.specs.Ascending.{Ascent, ascent_of}
 use Rattle.dali_controller.specs.declared.state.State.{State}
 use Rattle.dali_controller.specs.Machine.{Machine}
-use Rattle.dali_controller.specs.Parts.{machine_with}
+use Rattle.dali_controller.specs.States.{machine_with}
 use Rattle.dali_c.specs.Ascents.{IsPlainAscent}
 use Rattle.dali_c.specs.Pairs.{random_of}
 use Rattle.dali_c.specs.declared.ascents.PlainAscent.{PlainAscent}

@@ -3,7 +3,7 @@ use Rattle.dali_search.specs.Least.{Search, lowest}
 use Rattle.dali_search.specs.Narrowing.{IsSearch}
 use Rattle.dali_controller.specs.declared.state.State.{State}
 use Rattle.dali_controller.specs.Machine.{Machine}
-use Rattle.dali_controller.specs.Parts.{machine_with}
+use Rattle.dali_controller.specs.States.{machine_with}
 use Rattle.dali_controller.specs.Whole.{IsWhole}
 use Rattle.dali_c.specs.Ascents.{IsPlainAscent}
 use Rattle.dali_c.specs.Codes.{bool_of}

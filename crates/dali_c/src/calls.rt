@@ -9,7 +9,7 @@ ghost use Rattle.dali_script.specs.Pairs.{pairs_in};
 ghost use Rattle.dali_script.specs.Due.{due_after, accepts, record_ordered};
 ghost use Rattle.dali_controller.specs.Machine.{Machine, at_first};
 ghost use Rattle.dali_controller.specs.Orders.{IsGiven, machine_after};
-ghost use Rattle.dali_controller.specs.Parts.{machine_with};
+ghost use Rattle.dali_controller.specs.States.{machine_with};
 ghost use Rattle.dali_controller.specs.Whole.{IsWhole};
 ghost use Rattle.dali_c.specs.Codes.{input_of, due_code};
 ghost use Rattle.dali_c.specs.Orders.{record_of, order_of, HasNoMore};

@@ -15,10 +15,9 @@ use Rattle.dali_script.specs.Stages.{stage_of, Follows}
 use Rattle.dali_script.proofs.Transactions.{lawful_follows}
 use Rattle.dali_script.specs.declared.orders.Order.TheVariants.{Put}
 use Rattle.dali_controller.specs.declared.purpose.Purpose.TheVariants.{Hunting}
-use Rattle.dali_controller.specs.Parts.{Parts}
 use Rattle.dali_controller.specs.Course.{closing_of, byte_to_send}
-use Rattle.dali_controller.specs.Parts.{machine_of}
 use Rattle.dali_controller.specs.Whole.{IsWhole}
+use Rattle.dali_controller.specs.Machine.{Machine}
 use Rattle.dali_controller.specs.Moments.{IsNext}
 use Rattle.dali_controller.specs.Moments.{AsksOn}
 use Rattle.dali_controller.proofs.Steps.{Goes, goes_hunted, not_empty, begun_none}
@@ -33,10 +32,10 @@ byte_spelled n r = go (r.high == n.high) (r.low == n.low) (r.middle == n.middle)
   go true true false = tt
   go true true true = tt
 
-pub asks_next : (w : Parts) (number sent : SearchAddress) (f : Forward) → AsksOn w number sent → f ≡ frame_of (byte_to_send number sent)
-    → IsNext (machine_of w) (Put LATER f) (machine_of (record w { number = number; last = Some (Put LATER f) }))
+pub asks_next : (w : Machine) (number sent : SearchAddress) (f : Forward) → AsksOn w number sent → f ≡ frame_of (byte_to_send number sent)
+    → IsNext w (Put LATER f) (record w { course = record w.course { number = number }; last = Some (Put LATER f) })
 asks_next w number sent f a is =
-    subst (λ g. IsNext (machine_of w) (Put LATER g) (machine_of (record w { number = number; last = Some (Put LATER g) }))) (sym is) next where
+    subst (λ g. IsNext w (Put LATER g) (record w { course = record w.course { number = number }; last = Some (Put LATER g) })) (sym is) next where
       s : Stage
       s = Hunted sent (Some a.next.asked.0) a.left
 
@@ -58,10 +57,10 @@ asks_next w number sent f a is =
       calm : w.silent < 16
       calm = a.next.silent
 
-      going_on : closing_of w.purpose ≡ None
+      going_on : closing_of w.course.purpose ≡ None
       going_on = ap closing_of a.next.hunting
 
-      next : IsNext (machine_of w) (Put LATER (frame_of c)) (machine_of (record w { number = number; last = Some (Put LATER (frame_of c)) }))
+      next : IsNext w (Put LATER (frame_of c)) (record w { course = record w.course { number = number }; last = Some (Put LATER (frame_of c)) })
       next = record {
         order = record {
           allowed = inr (
@@ -72,7 +71,7 @@ asks_next w number sent f a is =
                 (subst (λ d. Follows w.kept.block w.kept.reserved s d) (sym spelled) on.follows)),
           );
           addressing = λ g e. on.addressing g (sym spelled ∙ e);
-          caused = (begun_none (machine_of w) (closing_of w.purpose) going_on going_on, inl going_on);
+          caused = (begun_none w (closing_of w.course.purpose) going_on going_on, inl going_on);
           given_up = λ n. absurd (omega arith);
           silent = λ n. absurd (omega arith);
           unnamed = λ r e. absurd (let other : s ≡ Unnamed r = sym stage ∙ e in cc);
@@ -81,8 +80,8 @@ asks_next w number sent f a is =
         state = refl;
       }
 
-pub asks_whole : (w : Parts) (number sent : SearchAddress) (f : Forward) → AsksOn w number sent → f ≡ frame_of (byte_to_send number sent)
-    → IsWhole (machine_of (record w { number = number; last = Some (Put LATER f) }))
+pub asks_whole : (w : Machine) (number sent : SearchAddress) (f : Forward) → AsksOn w number sent → f ≡ frame_of (byte_to_send number sent)
+    → IsWhole (record w { course = record w.course { number = number }; last = Some (Put LATER f) })
 asks_whole w number sent f a is = record {
   ready = record {
     tries = a.next.tries;

@@ -31,7 +31,6 @@ use Rattle.dali_search.specs.Ascending.{Ascent, leads_to, begun_anew}
 use Rattle.dali_search.specs.Least.{Search, step_after, probe_after, next_probe, answered}
 use Rattle.dali_controller.specs.declared.purpose.Purpose.{Purpose}
 use Rattle.dali_controller.specs.declared.purpose.Purpose.TheVariants.{Opening, Probing, Visiting, Resolving, Closing, Asking, Waking, Hunting}
-use Rattle.dali_controller.specs.Parts.{Parts}
 use Rattle.dali_controller.specs.Course.{Course, first_of, turn_of, is_yes, after_step, probed, number_at, address_for, unless_enrolled, unfinished_at}
 use Rattle.dali_controller.specs.Course.{unfinished_among, taking, missed, hunted, searching_on, searching_first, here_or_later, closing, going_on}
 use Rattle.dali_controller.specs.Course.{going_on_early, visit_or_opening, next_unfinished}
@@ -43,16 +42,15 @@ use Rattle.dali_controller.specs.declared.way.Way.TheVariants.{Fresh, Surveying,
 use Rattle.dali_script.specs.declared.orders.End.{End}
 use Rattle.dali_script.specs.declared.orders.End.TheVariants.{AllFound, BlockFull, GaveUp}
 use Rattle.dali_controller.specs.Orders.{machine_ordered, AfterFinding, AfterEnrolled, IsFollowed, IsSought}
-use Rattle.dali_controller.specs.Parts.{machine_of, parts_course}
 use Rattle.dali_controller.specs.Moments.{Begun, IsMoment, IsNext}
 use Rattle.dali_controller.specs.Whole.{IsWhole, Pending}
 
 -- THE COURSE OF A MACHINE is the one of the table of moments.
 
 -- a transaction that begins where the trace has this stage
-pub started : (w : Parts) (s : Stage) (t : Machine) (o : Order) (new : Machine) (c : Course) → stage_of w.trace ≡ s → c ≡ begins_at (machine_of w) s
-    → Begun t c o new → new.course ≡ course_by (machine_of w) o
-started w s t o new c stage is begun = rw begun.order (begun.course ∙ is ∙ ap (λ x. begins_at (machine_of w) x) (sym stage))
+pub started : (w : Machine) (s : Stage) (t : Machine) (o : Order) (new : Machine) (c : Course) → stage_of w.trace ≡ s → c ≡ begins_at w s
+    → Begun t c o new → new.course ≡ course_by w o
+started w s t o new c stage is begun = rw begun.order (begun.course ∙ is ∙ ap (λ x. begins_at w x) (sym stage))
 
 -- a transaction that begins is a moment
 pub begins_moment : (t u : Machine) (c : Course) (o : Order) (new : Machine) → Begun u c o new → new.course ≡ course_by t o → IsNext t o new
@@ -63,10 +61,10 @@ begins_moment t u c o new begun course next =
     record { begins = rw begun.order (λ e. first); course = course; next = next; whole = begun.whole }
 
 -- where the trace has this stage
-pub begun_at : (w : Parts) (s : Stage) (o : Order) (new : Machine) (c : Course) → stage_of w.trace ≡ s → c ≡ begins_at (machine_of w) s
-    → Begun (machine_of w) c o new → IsMoment (machine_of w) o new
+pub begun_at : (w : Machine) (s : Stage) (o : Order) (new : Machine) (c : Course) → stage_of w.trace ≡ s → c ≡ begins_at w s
+    → Begun w c o new → IsMoment w o new
 begun_at w s o new c stage is begun =
-    begins_moment (machine_of w) (machine_of w) c o new begun (started w s (machine_of w) o new c stage is begun) begun.next
+    begins_moment w w c o new begun (started w s w o new c stage is begun) begun.next
 
 -- and so is an order that leaves the course
 pub stays_moment : (t : Machine) (o : Order) (new : Machine) → BeginsWith new.course o → new ≡ machine_ordered t o → IsNext t o new → IsWhole new
@@ -75,11 +73,11 @@ stays_moment t o new begins state next whole =
     record { begins = begins; course = ap (λ (m : Machine). m.course) state; next = next; whole = whole }
 
 -- a search that led to no gear goes on, where it was not the sixteenth in a row
-pub on_anew : (w : Parts) (new : Ascent) → new ≡ begun_anew w.ascent → (w.silent ≡ 16 → ⊥) → next_course (machine_of w) ≡ silenced (machine_of w)
-    → going_on w.kept w.opened (record (parts_course w) { ascent = new }) ≡ next_course (machine_of w)
+pub on_anew : (w : Machine) (new : Ascent) → new ≡ begun_anew w.course.ascent → (w.silent ≡ 16 → ⊥) → next_course w ≡ silenced w
+    → going_on w.kept w.opened (record w.course { ascent = new }) ≡ next_course w
 on_anew w new anew more next =
-    ap (λ a. going_on w.kept w.opened (record (parts_course w) { ascent = a })) anew
-    ∙ ap (λ b. if b then closing (parts_course w) GaveUp else goes_on_anew (machine_of w)) (sym (ne_eqb w.silent 16 more)) ∙ sym next
+    ap (λ a. going_on w.kept w.opened (record w.course { ascent = a })) anew
+    ∙ ap (λ b. if b then closing w.course GaveUp else goes_on_anew w) (sym (ne_eqb w.silent 16 more)) ∙ sym next
 
 -- a short address that was silent is asked again
 pub asked_again : (t : Machine) → (t.asked ≡ 0 → ⊥) → t.course ≡ asked_once t (t.asked == 0)
@@ -99,24 +97,25 @@ course_stays t (Hunted r (Some h) left) c e = absurd (go t.course.purpose e) whe
   go Waking e = cc
 course_stays t _ c e = refl
 
-put_course : (w : Parts) (s : Stage) (c : Command) (o : Order) (new : Course) → stage_of w.trace ≡ s → turn_of w.purpose w.number s ≡ Some c
-    → o ≡ Put LATER (frame_of c) → new ≡ parts_course w → new ≡ course_by (machine_of w) o
+put_course : (w : Machine) (s : Stage) (c : Command) (o : Order) (new : Course) → stage_of w.trace ≡ s → turn_of w.course.purpose w.course.number s ≡ Some c
+    → o ≡ Put LATER (frame_of c) → new ≡ w.course → new ≡ course_by w o
 put_course w s c o new stage turn is same =
-    same ∙ sym (ap (course_by (machine_of w)) is ∙ ap (course_on (machine_of w)) stage ∙ course_stays (machine_of w) s c turn)
+    same ∙ sym (ap (course_by w) is ∙ ap (course_on w) stage ∙ course_stays w s c turn)
 
-pub put_moment : (w : Parts) (s : Stage) (c : Command) (o : Order) (new : Machine) → stage_of w.trace ≡ s → turn_of w.purpose w.number s ≡ Some c
-    → o ≡ Put LATER (frame_of c) → new.course ≡ parts_course w → IsNext (machine_of w) o new → IsWhole new → IsMoment (machine_of w) o new
+pub put_moment : (w : Machine) (s : Stage) (c : Command) (o : Order) (new : Machine) → stage_of w.trace ≡ s
+    → turn_of w.course.purpose w.course.number s ≡ Some c
+    → o ≡ Put LATER (frame_of c) → new.course ≡ w.course → IsNext w o new → IsWhole new → IsMoment w o new
 put_moment w s c o new stage turn is same next whole =
     record { begins = rw is (λ e. absurd (cc)); course = put_course w s c o new.course stage turn is same; next = next; whole = whole }
 
 -- the same transaction once more, after it was lost
-pub lost_course : (w : Parts) (t : List Entry) (o : Order) (new : Machine) → due_after w.last ≡ due.Bus → t ≡ []
-    → Begun (machine_of (record w { trace = t; tries = w.tries + 1 })) (taking (parts_course w) w.purpose w.number) o new
-    → new.course ≡ course_by (machine_lost (machine_of w)) o
+pub lost_course : (w : Machine) (t : List Entry) (o : Order) (new : Machine) → due_after w.last ≡ due.Bus → t ≡ []
+    → Begun (record w { trace = t; tries = w.tries + 1 }) (taking w.course w.course.purpose w.course.number) o new
+    → new.course ≡ course_by (machine_lost w) o
 lost_course w t o new bus empty begun =
-    started (record w { trace = []; tries = w.tries + 1 }) Free _ o new (taking (parts_course w) w.purpose w.number) stage_none
+    started (record w { trace = []; tries = w.tries + 1 }) Free _ o new (taking w.course w.course.purpose w.course.number) stage_none
     (sym (rests w.last bus)) begun where
-      rests : (l : Option Order) → due_after l ≡ due.Bus → at_rest (machine_of (record w { trace = []; tries = w.tries + 1 })) l ≡ parts_course w
+      rests : (l : Option Order) → due_after l ≡ due.Bus → at_rest (record w { trace = []; tries = w.tries + 1 }) l ≡ w.course
       rests (Some (Put p f)) bus = refl
       rests _ bus = absurd (cc)
 
@@ -261,15 +260,15 @@ followed_free t o free none = record {
   enrolled = λ b n e. absurd (let there : None ≡ Some (Commit (Enrol b n)) = sym none ∙ e in cc);
 }
 
-pub followed_start : (w : Parts) (o : Order) → IsWhole (machine_of w) → w.last ≡ None → IsFollowed (machine_told (machine_of w) input.Start) o
-followed_start w o whole none = followed_free (machine_told (machine_of w) input.Start) o (subst (Pending (machine_of w)) none whole).free none
+pub followed_start : (w : Machine) (o : Order) → IsWhole w → w.last ≡ None → IsFollowed (machine_told w input.Start) o
+followed_start w o whole none = followed_free (machine_told w input.Start) o (subst (Pending w) none whole).free none
 
-pub followed_survey : (w : Parts) (o : Order) → IsWhole (machine_of w) → w.last ≡ None → IsFollowed (machine_told (machine_of w) input.Survey) o
-followed_survey w o whole none = followed_free (machine_told (machine_of w) input.Survey) o (subst (Pending (machine_of w)) none whole).free none
+pub followed_survey : (w : Machine) (o : Order) → IsWhole w → w.last ≡ None → IsFollowed (machine_told w input.Survey) o
+followed_survey w o whole none = followed_free (machine_told w input.Survey) o (subst (Pending w) none whole).free none
 
-pub followed_lost : (w : Parts) (o : Order) → due_after w.last ≡ due.Bus → IsFollowed (machine_lost (machine_of w)) o
+pub followed_lost : (w : Machine) (o : Order) → due_after w.last ≡ due.Bus → IsFollowed (machine_lost w) o
 followed_lost w o bus = record {
-  sent = λ c e. absurd (no_turn w.purpose w.number (stage_of []) c stage_none e);
+  sent = λ c e. absurd (no_turn w.course.purpose w.course.number (stage_of []) c stage_none e);
   told = λ b n s e. absurd (let there : Free ≡ Spelled b (Some n) = sym stage_none ∙ s in cc);
   another = λ b n s e. absurd (let there : Free ≡ Spelled b (Some n) = sym stage_none ∙ s in cc);
   unconfirmed = λ r x s. absurd (let there : Free ≡ Inconclusive r x = sym stage_none ∙ s in cc);
@@ -281,14 +280,14 @@ heard_last : (m : Machine) (f : Forward) (h : Answer) → frame_put m.last ≡ S
 heard_last m f h put = rw put refl
 
 -- a frame that was heard follows no enrolment
-pub followed_heard : (w mid : Parts) (o : Order) (f : Forward) (h : Answer) → frame_put w.last ≡ Some f
-    → machine_of mid ≡ machine_told (machine_of w) (input.Heard h)
-    → ((c : Command) → turn_of mid.purpose mid.number (stage_of mid.trace) ≡ Some c → o ≡ Put LATER (frame_of c))
-    → ((b n : ℕ) → stage_of mid.trace ≡ Spelled b (Some n) → IsSought mid.purpose mid.number n → AfterFinding (machine_of mid) b n o)
-    → ((b n : ℕ) → stage_of mid.trace ≡ Spelled b (Some n) → (IsSought mid.purpose mid.number n → ⊥) → o ≡ beginning (next_course (machine_of mid)))
-    → ((r : SearchAddress) (x : Option ℕ) → stage_of mid.trace ≡ Inconclusive r x → o ≡ beginning (next_course (machine_of mid)))
-    → ((r : SearchAddress) (g : Answer) (left : ℕ) → stage_of mid.trace ≡ Hunted r (Some g) left → o ≡ question (next_course (machine_of mid)) r left)
-    → IsFollowed (machine_told (machine_of w) (input.Heard h)) o
+pub followed_heard : (w mid : Machine) (o : Order) (f : Forward) (h : Answer) → frame_put w.last ≡ Some f
+    → mid ≡ machine_told w (input.Heard h)
+    → ((c : Command) → turn_of mid.course.purpose mid.course.number (stage_of mid.trace) ≡ Some c → o ≡ Put LATER (frame_of c))
+    → ((b n : ℕ) → stage_of mid.trace ≡ Spelled b (Some n) → IsSought mid.course.purpose mid.course.number n → AfterFinding mid b n o)
+    → ((b n : ℕ) → stage_of mid.trace ≡ Spelled b (Some n) → (IsSought mid.course.purpose mid.course.number n → ⊥) → o ≡ beginning (next_course mid))
+    → ((r : SearchAddress) (x : Option ℕ) → stage_of mid.trace ≡ Inconclusive r x → o ≡ beginning (next_course mid))
+    → ((r : SearchAddress) (g : Answer) (left : ℕ) → stage_of mid.trace ≡ Hunted r (Some g) left → o ≡ question (next_course mid) r left)
+    → IsFollowed (machine_told w (input.Heard h)) o
 followed_heard w mid o f h put is sent told another unconfirmed hunted = record {
   sent = subst (λ (t : Machine). (c : Command) → turn_of t.course.purpose t.course.number (stage_of t.trace) ≡ Some c → o ≡ Put LATER (frame_of c)) is sent;
   told = subst (λ (t : Machine). (b n : ℕ) → stage_of t.trace ≡ Spelled b (Some n) → IsSought t.course.purpose t.course.number n → AfterFinding t b n o)
@@ -300,26 +299,26 @@ followed_heard w mid o f h put is sent told another unconfirmed hunted = record 
   hunted = subst (λ (t : Machine). (r : SearchAddress) (g : Answer) (left : ℕ) → stage_of t.trace ≡ Hunted r (Some g) left
       → o ≡ question (next_course t) r left)
       is hunted;
-  enrolled = λ b n e. absurd (let there = subst (λ l. frame_put l ≡ Some f) (sym (heard_last (machine_of w) f h put) ∙ e) put in cc);
+  enrolled = λ b n e. absurd (let there = subst (λ l. frame_put l ≡ Some f) (sym (heard_last w f h put) ∙ e) put in cc);
 }
 
 -- a record that is kept follows no queries
-pub followed_committed : (w : Parts) (x : Record) (o : Order) → IsWhole (machine_of w) → record_ordered w.last ≡ Some x
-    → ((b n : ℕ) → x ≡ Enrol b n → AfterEnrolled (machine_told (machine_of w) input.Committed) b n o)
-    → IsFollowed (machine_told (machine_of w) input.Committed) o
+pub followed_committed : (w : Machine) (x : Record) (o : Order) → IsWhole w → record_ordered w.last ≡ Some x
+    → ((b n : ℕ) → x ≡ Enrol b n → AfterEnrolled (machine_told w input.Committed) b n o)
+    → IsFollowed (machine_told w input.Committed) o
 followed_committed w x o whole ordered enrolled = record {
-  sent = λ c e. absurd (no_turn w.purpose w.number (stage_of w.trace) c (free_stored w w.last x ordered whole)
-      (subst (λ r. turn_of (machine_committed (machine_of w) r).course.purpose (machine_committed (machine_of w) r).course.number
-      (stage_of (machine_committed (machine_of w) r).trace) ≡ Some c) ordered e));
+  sent = λ c e. absurd (no_turn w.course.purpose w.course.number (stage_of w.trace) c (free_stored w w.last x ordered whole)
+      (subst (λ r. turn_of (machine_committed w r).course.purpose (machine_committed w r).course.number
+      (stage_of (machine_committed w r).trace) ≡ Some c) ordered e));
   told = λ b n s e. absurd (let there : Free ≡ Spelled b (Some n) = sym (free_stored w w.last x ordered whole)
-      ∙ subst (λ r. stage_of (machine_committed (machine_of w) r).trace ≡ Spelled b (Some n)) ordered s in cc);
+      ∙ subst (λ r. stage_of (machine_committed w r).trace ≡ Spelled b (Some n)) ordered s in cc);
   another = λ b n s e. absurd (let there : Free ≡ Spelled b (Some n) = sym (free_stored w w.last x ordered whole)
-      ∙ subst (λ r. stage_of (machine_committed (machine_of w) r).trace ≡ Spelled b (Some n)) ordered s in cc);
+      ∙ subst (λ r. stage_of (machine_committed w r).trace ≡ Spelled b (Some n)) ordered s in cc);
   unconfirmed = λ r y s. absurd (let there : Free ≡ Inconclusive r y = sym (free_stored w w.last x ordered whole)
-      ∙ subst (λ q. stage_of (machine_committed (machine_of w) q).trace ≡ Inconclusive r y) ordered s in cc);
+      ∙ subst (λ q. stage_of (machine_committed w q).trace ≡ Inconclusive r y) ordered s in cc);
   hunted = λ r h left s. absurd (let there : Free ≡ Hunted r (Some h) left = sym (free_stored w w.last x ordered whole)
-      ∙ subst (λ q. stage_of (machine_committed (machine_of w) q).trace ≡ Hunted r (Some h) left) ordered s in cc);
-  enrolled = λ b n e. enrolled b n (same x b n (sym ordered ∙ ap record_ordered (sym (committed_stays (machine_of w) (record_ordered w.last)) ∙ e)));
+      ∙ subst (λ q. stage_of (machine_committed w q).trace ≡ Hunted r (Some h) left) ordered s in cc);
+  enrolled = λ b n e. enrolled b n (same x b n (sym ordered ∙ ap record_ordered (sym (committed_stays w (record_ordered w.last)) ∙ e)));
 } where
   same : (x : Record) (b n : ℕ) → Some x ≡ Some (Enrol b n) → x ≡ Enrol b n
   same x b n e = cc
@@ -328,7 +327,7 @@ followed_committed w x o whole ordered enrolled = record {
   committed_stays m None = refl
   committed_stays m (Some r) = refl
 
-  free_stored : (w : Parts) (l : Option Order) (x : Record) → record_ordered l ≡ Some x → Pending (machine_of w) l → stage_of w.trace ≡ Free
+  free_stored : (w : Machine) (l : Option Order) (x : Record) → record_ordered l ≡ Some x → Pending w l → stage_of w.trace ≡ Free
   free_stored w None x is p = absurd (cc)
   free_stored w (Some (Put q f)) x is p = absurd (cc)
   free_stored w (Some (Commit y)) x is p = p.free

@@ -14,7 +14,7 @@ use Rattle.dali_controller.specs.Course.{Course}
 use Rattle.dali_controller.specs.Machine.{Machine}
 use Rattle.dali_controller.specs.Next.{BeginsWith}
 use Rattle.dali_controller.specs.Orders.{IsGiven, IsAnswered, IsFollowedAt, machine_after}
-use Rattle.dali_controller.specs.Parts.{machine_with}
+use Rattle.dali_controller.specs.States.{machine_with}
 use Rattle.dali_controller.specs.Whole.{IsWhole, IsStoring, Pending}
 use Rattle.dali_controller.specs.Steps.{IsBefore, with_some, kept_by}
 

@@ -17,7 +17,6 @@ use Rattle.dali_controller.specs.declared.purpose.Purpose.TheVariants.{Visiting,
 use Rattle.dali_controller.specs.declared.shorts.Shorts.{Shorts}
 use Rattle.dali_controller.specs.declared.way.Way.{Way}
 use Rattle.dali_controller.specs.declared.way.Way.TheVariants.{Fresh, Surveying, Drawing}
-use Rattle.dali_controller.specs.Parts.{Parts}
 use Rattle.dali_controller.specs.Course.{Course, first_of, closing_of, address_for, least_open, is_anothers}
 use Rattle.dali_controller.specs.Machine.{Machine, is_withheld, is_withheld_by}
 use Rattle.dali_controller.specs.Next.{begins_at, beginning, next_course, draws, draw_or_close}
@@ -25,7 +24,6 @@ use Rattle.dali_controller.proofs.Courses.{address_is}
 use Rattle.dali_controller.proofs.Asked.{least_open_is, open_unreserved}
 use Rattle.dali_controller.specs.Orders.{AfterReserved, AfterMaskBy, AfterMaskOn, AfterMaskSurveyed, IsOrderedTo, IsLeft}
 use Rattle.dali_controller.specs.Orders.{is_left_by, machine_ordered}
-use Rattle.dali_controller.specs.Parts.{parts_course, machine_of}
 use Rattle.dali_controller.specs.Whole.{Knows}
 use Rattle.dali_controller.specs.Moments.{Closes, IsHeard, IsNext}
 use Rattle.dali_controller.specs.Moments.{IsFirstFree, IsUngiven, IsNextTo}
@@ -46,34 +44,34 @@ withheld_by Fresh t a r e = absurd (cc)
 withheld_by Surveying t a r e = withheld_opened t.opened (is_anothers t.kept t.heard a r) e
 withheld_by Drawing t a r e = withheld_opened t.opened (is_anothers t.kept t.heard a r) e
 
-pub withheld_searching : (w : Parts) (a m : ℕ) → is_withheld (machine_of w) a m ≡ true → w.opened ≡ true
-withheld_searching w a m e = withheld_by w.way (machine_of w) a m e
+pub withheld_searching : (w : Machine) (a m : ℕ) → is_withheld w a m ≡ true → w.opened ≡ true
+withheld_searching w a m e = withheld_by w.course.way w a m e
 
-left_by_withheld : (y : Way) (w : Parts) (r : SearchAddress) (a : ℕ) → w.way ≡ y → IsKept w.kept → Has w.kept.reserved (a, value_of r)
-    → is_withheld (machine_of w) a (value_of r) ≡ true → IsUngiven y w r
+left_by_withheld : (y : Way) (w : Machine) (r : SearchAddress) (a : ℕ) → w.course.way ≡ y → IsKept w.kept → Has w.kept.reserved (a, value_of r)
+    → is_withheld w a (value_of r) ≡ true → IsUngiven y w r
 left_by_withheld Fresh w r a way kept has withheld =
-    absurd (let no : is_withheld_by (machine_of w) Fresh a (value_of r) ≡ true =
-    subst (λ y. is_withheld_by (machine_of w) y a (value_of r) ≡ true) way withheld in cc)
+    absurd (let no : is_withheld_by w Fresh a (value_of r) ≡ true =
+    subst (λ y. is_withheld_by w y a (value_of r) ≡ true) way withheld in cc)
 left_by_withheld Surveying w r a way kept has withheld =
-    ap (λ o. is_left_by (machine_of w) (value_of r) o (least_open w.kept w.heard)) (sym (reserved_for w.kept (value_of r) a kept has)) ∙ withheld
+    ap (λ o. is_left_by w (value_of r) o (least_open w.kept w.heard)) (sym (reserved_for w.kept (value_of r) a kept has)) ∙ withheld
 left_by_withheld Drawing w r a way kept has withheld =
-    ap (λ o. is_left_by (machine_of w) (value_of r) o (least_open w.kept w.heard)) (sym (reserved_for w.kept (value_of r) a kept has)) ∙ withheld
+    ap (λ o. is_left_by w (value_of r) o (least_open w.kept w.heard)) (sym (reserved_for w.kept (value_of r) a kept has)) ∙ withheld
 
-pub withheld_left : (w : Parts) (r : SearchAddress) (a m : ℕ) → IsKept w.kept → Has w.kept.reserved (a, value_of r) → m ≡ value_of r
-    → is_withheld (machine_of w) a m ≡ true → IsUngiven w.way w r
+pub withheld_left : (w : Machine) (r : SearchAddress) (a m : ℕ) → IsKept w.kept → Has w.kept.reserved (a, value_of r) → m ≡ value_of r
+    → is_withheld w a m ≡ true → IsUngiven w.course.way w r
 withheld_left w r a m kept has is withheld =
-    left_by_withheld w.way w r a refl kept has (ap (is_withheld (machine_of w) a) (sym is) ∙ withheld)
+    left_by_withheld w.course.way w r a refl kept has (ap (is_withheld w a) (sym is) ∙ withheld)
 
-given_surveyed : (w : Parts) (r : SearchAddress) (a : ℕ) → IsKept w.kept → Has w.kept.reserved (a, value_of r)
-    → is_withheld (machine_of w) a (value_of r) ≡ false → AfterMaskSurveyed (machine_of w) r (Put LATER (frame_of (Program (Some a))))
+given_surveyed : (w : Machine) (r : SearchAddress) (a : ℕ) → IsKept w.kept → Has w.kept.reserved (a, value_of r)
+    → is_withheld w a (value_of r) ≡ false → AfterMaskSurveyed w r (Put LATER (frame_of (Program (Some a))))
 given_surveyed w r a kept has given =
     let o : Order = Put LATER (frame_of (Program (Some a))) in
-    let here : AfterReserved (machine_of w) a (is_withheld (machine_of w) a (value_of r)) o =
-    subst (λ b. AfterReserved (machine_of w) a b o) (sym given) refl in
-    subst (λ x. AfterMaskBy (machine_of w) r x (least_open w.kept w.heard) o) (reserved_for w.kept (value_of r) a kept has) here
+    let here : AfterReserved w a (is_withheld w a (value_of r)) o =
+    subst (λ b. AfterReserved w a b o) (sym given) refl in
+    subst (λ x. AfterMaskBy w r x (least_open w.kept w.heard) o) (reserved_for w.kept (value_of r) a kept has) here
 
-given_masked : (y : Way) (w : Parts) (r : SearchAddress) (a : ℕ) → IsKept w.kept → Has w.kept.reserved (a, value_of r)
-    → is_withheld (machine_of w) a (value_of r) ≡ false → AfterMaskOn y (machine_of w) (parts_course w) r (Put LATER (frame_of (Program (Some a))))
+given_masked : (y : Way) (w : Machine) (r : SearchAddress) (a : ℕ) → IsKept w.kept → Has w.kept.reserved (a, value_of r)
+    → is_withheld w a (value_of r) ≡ false → AfterMaskOn y w w.course r (Put LATER (frame_of (Program (Some a))))
 given_masked Fresh w r a kept has given = inl (a, has, refl, refl)
 given_masked Surveying w r a kept has given = given_surveyed w r a kept has given
 given_masked Drawing w r a kept has given = given_surveyed w r a kept has given
@@ -81,17 +79,17 @@ given_masked Drawing w r a kept has given = given_surveyed w r a kept has given
 same_unnamed : (r q : SearchAddress) → Unnamed r ≡ Unnamed q → r ≡ q
 same_unnamed r q e = cc
 
-pub gives_masked : (w : Parts) (r : SearchAddress) (a m : ℕ) → IsHeard w (Unnamed r) → IsKept w.kept → Has w.kept.reserved (a, value_of r) → m ≡ value_of r
-    → is_withheld (machine_of w) a m ≡ false → IsMasked w (Put LATER (frame_of (Program (Some a))))
+pub gives_masked : (w : Machine) (r : SearchAddress) (a m : ℕ) → IsHeard w (Unnamed r) → IsKept w.kept → Has w.kept.reserved (a, value_of r) → m ≡ value_of r
+    → is_withheld w a m ≡ false → IsMasked w (Put LATER (frame_of (Program (Some a))))
 gives_masked w r a m h kept has is given q stage =
-    subst (λ x. AfterMaskOn w.way (machine_of w) (parts_course w) x (Put LATER (frame_of (Program (Some a)))))
-    (same_unnamed r q (sym h.stage ∙ stage)) (given_masked w.way w r a kept has (ap (is_withheld (machine_of w) a) (sym is) ∙ given))
+    subst (λ x. AfterMaskOn w.course.way w w.course x (Put LATER (frame_of (Program (Some a)))))
+    (same_unnamed r q (sym h.stage ∙ stage)) (given_masked w.course.way w r a kept has (ap (is_withheld w a) (sym is) ∙ given))
 
 -- gear that answered MASK and for whose number nothing is reserved is found by a search
-pub free_searching : (w : Parts) (r : SearchAddress) → IsHeard w (Unnamed r) → (HasRandom w.kept.reserved (value_of r) → ⊥) → w.opened ≡ true
+pub free_searching : (w : Machine) (r : SearchAddress) → IsHeard w (Unnamed r) → (HasRandom w.kept.reserved (value_of r) → ⊥) → w.opened ≡ true
 free_searching w r h free =
-    let visiting : Knows w.way w.kept w.number w.search w.ascent w.opened Visiting =
-    subst (Knows w.way w.kept w.number w.search w.ascent w.opened) h.arrived.0 h.knows in
+    let visiting : Knows w.course.way w.kept w.course.number w.course.search w.course.ascent w.opened Visiting =
+    subst (Knows w.course.way w.kept w.course.number w.course.search w.course.ascent w.opened) h.arrived.0 h.knows in
     go w.opened (λ e. subst (λ q. HasRandom w.kept.reserved (value_of q)) (sym h.arrived.1) (visiting.1 e)) where
       go : (o : Bool) → (o ≡ false → HasRandom w.kept.reserved (value_of r)) → o ≡ true
       go true early = refl
@@ -106,52 +104,52 @@ free_within Drawing k heard a is = let x = least_open_is k heard a (sym is) in (
 none_reserved_for : (k : Kept) (r : ℕ) → IsMap k.reserved → (HasRandom k.reserved r → ⊥) → None ≡ address_for k.reserved r
 none_reserved_for k r map free = address_is k.reserved r None map.random_once free
 
-pub unfree_left : (y : Way) (w : Parts) (r : SearchAddress) → IsMap w.kept.reserved → (HasRandom w.kept.reserved (value_of r) → ⊥)
+pub unfree_left : (y : Way) (w : Machine) (r : SearchAddress) → IsMap w.kept.reserved → (HasRandom w.kept.reserved (value_of r) → ⊥)
     → IsFirstFree y w.kept w.heard None → IsUngiven y w r
 unfree_left Fresh w r map free is = (free, is)
 unfree_left Surveying w r map free is =
-    ap (λ o. is_left_by (machine_of w) (value_of r) o (least_open w.kept w.heard)) (sym (none_reserved_for w.kept (value_of r) map free))
+    ap (λ o. is_left_by w (value_of r) o (least_open w.kept w.heard)) (sym (none_reserved_for w.kept (value_of r) map free))
     ∙ ap (λ o. not (is_some o)) (sym is)
 unfree_left Drawing w r map free is =
-    ap (λ o. is_left_by (machine_of w) (value_of r) o (least_open w.kept w.heard)) (sym (none_reserved_for w.kept (value_of r) map free))
+    ap (λ o. is_left_by w (value_of r) o (least_open w.kept w.heard)) (sym (none_reserved_for w.kept (value_of r) map free))
     ∙ ap (λ o. not (is_some o)) (sym is)
 
-reserved_surveyed : (w : Parts) (r : SearchAddress) (a m : ℕ) → IsMap w.kept.reserved → (HasRandom w.kept.reserved (value_of r) → ⊥)
-    → Some a ≡ least_open w.kept w.heard → m ≡ value_of r → AfterMaskSurveyed (machine_of w) r (Commit (Reserve a m))
+reserved_surveyed : (w : Machine) (r : SearchAddress) (a m : ℕ) → IsMap w.kept.reserved → (HasRandom w.kept.reserved (value_of r) → ⊥)
+    → Some a ≡ least_open w.kept w.heard → m ≡ value_of r → AfterMaskSurveyed w r (Commit (Reserve a m))
 reserved_surveyed w r a m map free is same =
-    subst (λ x. AfterMaskBy (machine_of w) r x (least_open w.kept w.heard) (Commit (Reserve a m))) (none_reserved_for w.kept (value_of r) map free)
-    (subst (λ x. AfterMaskBy (machine_of w) r None x (Commit (Reserve a m))) is (ap (λ n. Commit (Reserve a n)) same))
+    subst (λ x. AfterMaskBy w r x (least_open w.kept w.heard) (Commit (Reserve a m))) (none_reserved_for w.kept (value_of r) map free)
+    (subst (λ x. AfterMaskBy w r None x (Commit (Reserve a m))) is (ap (λ n. Commit (Reserve a n)) same))
 
-reserved_masked : (y : Way) (w : Parts) (c : Course) (r : SearchAddress) (a m : ℕ) → IsMap w.kept.reserved → (HasRandom w.kept.reserved (value_of r) → ⊥)
-    → IsFirstFree y w.kept w.heard (Some a) → m ≡ value_of r → AfterMaskOn y (machine_of w) c r (Commit (Reserve a m))
+reserved_masked : (y : Way) (w : Machine) (c : Course) (r : SearchAddress) (a m : ℕ) → IsMap w.kept.reserved → (HasRandom w.kept.reserved (value_of r) → ⊥)
+    → IsFirstFree y w.kept w.heard (Some a) → m ≡ value_of r → AfterMaskOn y w c r (Commit (Reserve a m))
 reserved_masked Fresh w c r a m map free is same = (sym same, subst (λ n. HasRandom w.kept.reserved n → ⊥) (sym same) free, is)
 reserved_masked Surveying w c r a m map free is same = reserved_surveyed w r a m map free is same
 reserved_masked Drawing w c r a m map free is same = reserved_surveyed w r a m map free is same
 
 -- what may be reserved for gear that answered MASK
-pub record IsReservable (w : Parts) (a m : ℕ) : Type 0 where
+pub record IsReservable (w : Machine) (a m : ℕ) : Type 0 where
   pub fits : Fits w.kept.block (Reserve a m)
   pub may : MayAdd w.kept (Reserve a m)
 
-pub reservable : (w : Parts) (r : SearchAddress) (a m : ℕ) → IsHeard w (Unnamed r) → (HasRandom w.kept.reserved (value_of r) → ⊥)
-    → IsFirstFree w.way w.kept w.heard (Some a) → m ≡ value_of r → IsReservable w a m
+pub reservable : (w : Machine) (r : SearchAddress) (a m : ℕ) → IsHeard w (Unnamed r) → (HasRandom w.kept.reserved (value_of r) → ⊥)
+    → IsFirstFree w.course.way w.kept w.heard (Some a) → m ≡ value_of r → IsReservable w a m
 reservable w r a m h free is same =
-    let visiting : Knows w.way w.kept w.number w.search w.ascent w.opened Visiting =
-    subst (Knows w.way w.kept w.number w.search w.ascent w.opened) h.arrived.0 h.knows in
-    let x = free_within w.way w.kept w.heard a is in
+    let visiting : Knows w.course.way w.kept w.course.number w.course.search w.course.ascent w.opened Visiting =
+    subst (Knows w.course.way w.kept w.course.number w.course.search w.course.ascent w.opened) h.arrived.0 h.knows in
+    let x = free_within w.course.way w.kept w.heard a is in
     let drawn : value_of r < MASK24 = subst (λ q. value_of q < MASK24) (sym h.arrived.1) visiting.0 in
     record {
       fits = (x.0, subst (λ n. n < MASK24) (sym same) drawn);
       may = (x.1, subst (λ n. HasRandom w.kept.reserved n → ⊥) (sym same) free);
     }
 
-reserves_at : (w : Parts) (c : Course) (r : SearchAddress) (a m : ℕ) → IsMap w.kept.reserved → IsHeard w (Unnamed r)
-    → (HasRandom w.kept.reserved (value_of r) → ⊥) → IsFirstFree w.way w.kept w.heard (Some a) → m ≡ value_of r
-    → IsOrderedTo (machine_of w) c (Commit (Reserve a m))
+reserves_at : (w : Machine) (c : Course) (r : SearchAddress) (a m : ℕ) → IsMap w.kept.reserved → IsHeard w (Unnamed r)
+    → (HasRandom w.kept.reserved (value_of r) → ⊥) → IsFirstFree w.course.way w.kept w.heard (Some a) → m ≡ value_of r
+    → IsOrderedTo w c (Commit (Reserve a m))
 reserves_at w c r a m map h free is same =
     let tries : w.tries < 8 = h.tries in
-    let going : closing_of w.purpose ≡ None = ap closing_of h.arrived.0 in
-    let calm : w.silent < 16 = calm_less w.purpose w.silent going h.calm in
+    let going : closing_of w.course.purpose ≡ None = ap closing_of h.arrived.0 in
+    let calm : w.silent < 16 = calm_less w.course.purpose w.silent going h.calm in
     let may = reservable w r a m h free is same in
     let stage : stage_of w.trace ≡ Unnamed r = h.stage in
     record {
@@ -160,43 +158,43 @@ reserves_at w c r a m map h free is same =
       caused = going;
       given_up = λ e. absurd (omega arith);
       silent = λ e. absurd (omega arith);
-      unnamed = λ q e. subst (λ x. AfterMaskOn w.way (machine_of w) c x (Commit (Reserve a m))) (same_unnamed r q (sym stage ∙ e))
-          (reserved_masked w.way w c r a m map free is same);
+      unnamed = λ q e. subst (λ x. AfterMaskOn w.course.way w c x (Commit (Reserve a m))) (same_unnamed r q (sym stage ∙ e))
+          (reserved_masked w.course.way w c r a m map free is same);
       found = λ q b e. absurd (cc);
     }
 
-pub reserves : (w : Parts) (r : SearchAddress) (a m : ℕ) (o : Order) (new : Machine) → IsMap w.kept.reserved → IsHeard w (Unnamed r)
-    → (HasRandom w.kept.reserved (value_of r) → ⊥) → IsFirstFree w.way w.kept w.heard (Some a) → m ≡ value_of r
-    → o ≡ Commit (Reserve a m) → new ≡ machine_ordered (machine_of w) o → IsNext (machine_of w) o new
+pub reserves : (w : Machine) (r : SearchAddress) (a m : ℕ) (o : Order) (new : Machine) → IsMap w.kept.reserved → IsHeard w (Unnamed r)
+    → (HasRandom w.kept.reserved (value_of r) → ⊥) → IsFirstFree w.course.way w.kept w.heard (Some a) → m ≡ value_of r
+    → o ≡ Commit (Reserve a m) → new ≡ machine_ordered w o → IsNext w o new
 reserves w r a m o new map h free is same order state = record {
-  order = subst (IsOrderedTo (machine_of w) new.course) (sym order) (reserves_at w new.course r a m map h free is same);
-  state = but_course new (machine_ordered (machine_of w) o) state;
+  order = subst (IsOrderedTo w new.course) (sym order) (reserves_at w new.course r a m map h free is same);
+  state = but_course new (machine_ordered w o) state;
 }
 
 -- gear that is left
-left_closes : (y : Way) (w : Parts) (r : SearchAddress) → w.way ≡ y → stage_of w.trace ≡ Unnamed r → draws (machine_of w) ≡ false → IsUngiven y w r
-    → IsLeft (machine_of w) y (value_of r) × IsNextTo y w (Closing BlockFull) w.number
+left_closes : (y : Way) (w : Machine) (r : SearchAddress) → w.course.way ≡ y → stage_of w.trace ≡ Unnamed r → draws w ≡ false → IsUngiven y w r
+    → IsLeft w y (value_of r) × IsNextTo y w (Closing BlockFull) w.course.number
 left_closes y w r way stage undrawn ungiven = go y ungiven where
-  next : Put FIRST (frame_of (first_of (Closing BlockFull) w.number)) ≡ beginning (next_course (machine_of w))
-  next = sym (ap beginning (ap (begins_at (machine_of w)) stage ∙ ap (λ b. draw_or_close b (parts_course w) BlockFull) undrawn))
+  next : Put FIRST (frame_of (first_of (Closing BlockFull) w.course.number)) ≡ beginning (next_course w)
+  next = sym (ap beginning (ap (begins_at w) stage ∙ ap (λ b. draw_or_close b w.course BlockFull) undrawn))
 
-  go : (y : Way) → IsUngiven y w r → IsLeft (machine_of w) y (value_of r) × IsNextTo y w (Closing BlockFull) w.number
+  go : (y : Way) → IsUngiven y w r → IsLeft w y (value_of r) × IsNextTo y w (Closing BlockFull) w.course.number
   go Fresh ungiven = (ungiven, refl)
   go Surveying ungiven = ((ungiven, undrawn), next)
   go Drawing ungiven = ((ungiven, undrawn), next)
 
-pub leaves : (w : Parts) (r : SearchAddress) → IsHeard w (Unnamed r) → w.opened ≡ true → IsUngiven w.way w r → draws (machine_of w) ≡ false
+pub leaves : (w : Machine) (r : SearchAddress) → IsHeard w (Unnamed r) → w.opened ≡ true → IsUngiven w.course.way w r → draws w ≡ false
     → Closes w BlockFull
 leaves w r h opened ungiven undrawn =
-    let going : closing_of w.purpose ≡ None = ap closing_of h.arrived.0 in
-    let calm : w.silent < 16 = calm_less w.purpose w.silent going h.calm in
-    let left = left_closes w.way w r refl h.stage undrawn ungiven in
+    let going : closing_of w.course.purpose ≡ None = ap closing_of h.arrived.0 in
+    let calm : w.silent < 16 = calm_less w.course.purpose w.silent going h.calm in
+    let left = left_closes w.course.way w r refl h.stage undrawn ungiven in
     record {
       tries = h.tries;
       calm = calm;
       opened = opened;
       going = going;
       cause = (r, h.stage, left.0);
-      unnamed = λ q e. (subst (IsUngiven w.way w) (same_unnamed r q (sym h.stage ∙ e)) ungiven, left.1);
+      unnamed = λ q e. (subst (IsUngiven w.course.way w) (same_unnamed r q (sym h.stage ∙ e)) ungiven, left.1);
       found = λ q b e. let other : Unnamed r ≡ Withdrawn q b = sym h.stage ∙ e in cc;
     }

@@ -15,13 +15,11 @@ use Rattle.dali_script.specs.declared.orders.Fault.TheVariants as fault
 use Rattle.dali_controller.specs.declared.purpose.Purpose.TheVariants.{Visiting, Resolving, Asking}
 use Rattle.dali_controller.specs.declared.way.Way.{Way}
 use Rattle.dali_controller.specs.declared.way.Way.TheVariants.{Fresh, Surveying, Drawing}
-use Rattle.dali_controller.specs.Parts.{Parts}
 use Rattle.dali_controller.specs.Course.{Course, closing_of}
 use Rattle.dali_controller.specs.Machine.{Machine}
 use Rattle.dali_controller.specs.Next.{begins_at}
 use Rattle.dali_controller.specs.Orders.{Contradicts, IsOrderedTo, IsSought}
 use Rattle.dali_controller.specs.Orders.{MayEnrolOn, machine_ordered}
-use Rattle.dali_controller.specs.Parts.{machine_of}
 use Rattle.dali_controller.specs.Whole.{Knows, IsReady}
 use Rattle.dali_controller.specs.Moments.{Settles, IsHeard, IsNext}
 use Rattle.dali_controller.proofs.Steps.{calm_less, but_course}
@@ -44,56 +42,56 @@ may_resolved Fresh reserved b n has = (refl, has)
 may_resolved Surveying reserved b n has = refl
 may_resolved Drawing reserved b n has = refl
 
-pub settles_withdrawn : (w : Parts) (r : SearchAddress) (b n : ℕ) → IsHeard w (Withdrawn r b) → n ≡ value_of r → Settles w b n
+pub settles_withdrawn : (w : Machine) (r : SearchAddress) (b n : ℕ) → IsHeard w (Withdrawn r b) → n ≡ value_of r → Settles w b n
 settles_withdrawn w r b n h is =
     let stage : stage_of w.trace ≡ Withdrawn r b = h.stage in
-    let visiting : Knows w.way w.kept w.number w.search w.ascent w.opened Visiting =
-    subst (Knows w.way w.kept w.number w.search w.ascent w.opened) h.arrived.0 h.knows in
+    let visiting : Knows w.course.way w.kept w.course.number w.course.search w.course.ascent w.opened Visiting =
+    subst (Knows w.course.way w.kept w.course.number w.course.search w.course.ascent w.opened) h.arrived.0 h.knows in
     subst (Settles w b) (sym is) (record {
       ready = record { tries = h.tries; calm = h.calm; knows = h.knows };
       going = ap closing_of h.arrived.0;
       drawn = subst (λ x. value_of x < MASK24) (sym h.arrived.1) visiting.0;
       found = Queried b (value_of r);
       is = refl;
-      may = may_queried w.way w.kept.reserved b (value_of r);
+      may = may_queried w.course.way w.kept.reserved b (value_of r);
       finding = h.finding;
       trace_finding = h.trace_finding;
-      next = ap (begins_at (machine_of w)) stage;
+      next = ap (begins_at w) stage;
       unnamed = λ q e. absurd (cc);
       withdrawn = λ q c e. let there : Withdrawn r b ≡ Withdrawn q c =
           sym stage ∙ e in (same_address q r c b (sym there), ap value_of (same_number q r c b (sym there)));
     })
 
 -- what the queries of a random address told, of a reservation or in a survey
-record IsTold (w : Parts) (b n : ℕ) : Type 0 where
-  pub going : closing_of w.purpose ≡ None
+record IsTold (w : Machine) (b n : ℕ) : Type 0 where
+  pub going : closing_of w.course.purpose ≡ None
   pub drawn : n < MASK24
-  pub may : MayEnrolOn w.way w.kept.reserved (Resolved b n) (b, n)
+  pub may : MayEnrolOn w.course.way w.kept.reserved (Resolved b n) (b, n)
 
-told_by : (w : Parts) (b n : ℕ) → IsReady (machine_of w) → (w.purpose ≡ Resolving b) ⊎ (w.purpose ≡ Asking b) → IsSought w.purpose w.number n
+told_by : (w : Machine) (b n : ℕ) → IsReady w → (w.course.purpose ≡ Resolving b) ⊎ (w.course.purpose ≡ Asking b) → IsSought w.course.purpose w.course.number n
     → IsTold w b n
 told_by w b n ready (inl is) sought =
-    let resolving : Knows w.way w.kept w.number w.search w.ascent w.opened (Resolving b) =
-    subst (Knows w.way w.kept w.number w.search w.ascent w.opened) is ready.knows in
-    let same : n ≡ value_of w.number = subst (λ p. IsSought p w.number n) is sought in
+    let resolving : Knows w.course.way w.kept w.course.number w.course.search w.course.ascent w.opened (Resolving b) =
+    subst (Knows w.course.way w.kept w.course.number w.course.search w.course.ascent w.opened) is ready.knows in
+    let same : n ≡ value_of w.course.number = subst (λ p. IsSought p w.course.number n) is sought in
     record {
       going = ap closing_of is;
       drawn = subst (λ x. x < MASK24) (sym same) resolving.1;
-      may = may_resolved w.way w.kept.reserved b n (subst (λ x. Has w.kept.reserved (b, x)) (sym same) resolving.3);
+      may = may_resolved w.course.way w.kept.reserved b n (subst (λ x. Has w.kept.reserved (b, x)) (sym same) resolving.3);
     }
 told_by w b n ready (inr is) sought =
-    let asking : Knows w.way w.kept w.number w.search w.ascent w.opened (Asking b) =
-    subst (Knows w.way w.kept w.number w.search w.ascent w.opened) is ready.knows in
+    let asking : Knows w.course.way w.kept w.course.number w.course.search w.course.ascent w.opened (Asking b) =
+    subst (Knows w.course.way w.kept w.course.number w.course.search w.course.ascent w.opened) is ready.knows in
     record {
       going = ap closing_of is;
-      drawn = subst (λ p. IsSought p w.number n) is sought;
+      drawn = subst (λ p. IsSought p w.course.number n) is sought;
       may = rw asking.1 refl;
     }
 
-pub settles_resolved : (w : Parts) (b n : ℕ) → IsHeard w (Spelled b (Some n)) → IsSought w.purpose w.number n → Settles w b n
+pub settles_resolved : (w : Machine) (b n : ℕ) → IsHeard w (Spelled b (Some n)) → IsSought w.course.purpose w.course.number n → Settles w b n
 settles_resolved w b n h sought =
     let stage : stage_of w.trace ≡ Spelled b (Some n) = h.stage in
-    let ready : IsReady (machine_of w) = record { tries = h.tries; calm = h.calm; knows = h.knows } in
+    let ready : IsReady w = record { tries = h.tries; calm = h.calm; knows = h.knows } in
     let told = told_by w b n ready h.arrived sought in
     record {
       ready = ready;
@@ -104,16 +102,16 @@ settles_resolved w b n h sought =
       may = told.may;
       finding = h.finding;
       trace_finding = h.trace_finding;
-      next = ap (begins_at (machine_of w)) stage;
+      next = ap (begins_at w) stage;
       unnamed = λ q e. absurd (cc);
       withdrawn = λ q c e. absurd (cc);
     }
 
 -- the count of silent searches is below its limit
-settled_calm : (w : Parts) (b n : ℕ) → Settles w b n → w.silent < 16
-settled_calm w b n h = calm_less w.purpose w.silent h.going h.ready.calm
+settled_calm : (w : Machine) (b n : ℕ) → Settles w b n → w.silent < 16
+settled_calm w b n h = calm_less w.course.purpose w.silent h.going h.ready.calm
 
-halted_at : (w : Parts) (c : Course) (b n : ℕ) → Settles w b n → Contradicts w.kept.enrolled b n → IsOrderedTo (machine_of w) c (Halt fault.Conflict)
+halted_at : (w : Machine) (c : Course) (b n : ℕ) → Settles w b n → Contradicts w.kept.enrolled b n → IsOrderedTo w c (Halt fault.Conflict)
 halted_at w c b n h conflict =
     let tries : w.tries < 8 = h.ready.tries in
     let calm : w.silent < 16 = settled_calm w b n h in
@@ -129,22 +127,22 @@ halted_at w c b n h conflict =
           subst (λ m. Contradicts w.kept.enrolled d m) (sym there.1) (subst (λ a. Contradicts w.kept.enrolled a n) (sym there.0) conflict);
     }
 
-halted : (w : Parts) (b n : ℕ) (o : Order) (new : Machine) → Settles w b n → Contradicts w.kept.enrolled b n → o ≡ Halt fault.Conflict
-    → new ≡ machine_ordered (machine_of w) o → IsNext (machine_of w) o new
+halted : (w : Machine) (b n : ℕ) (o : Order) (new : Machine) → Settles w b n → Contradicts w.kept.enrolled b n → o ≡ Halt fault.Conflict
+    → new ≡ machine_ordered w o → IsNext w o new
 halted w b n o new h conflict is state =
     record {
-      order = subst (IsOrderedTo (machine_of w) new.course) (sym is) (halted_at w new.course b n h conflict);
-      state = but_course new (machine_ordered (machine_of w) o) state;
+      order = subst (IsOrderedTo w new.course) (sym is) (halted_at w new.course b n h conflict);
+      state = but_course new (machine_ordered w o) state;
     }
 
 -- the table has the address for another gear
-pub halts_by_address : (w : Parts) (b m n : ℕ) (o : Order) (new : Machine) → Settles w b n → Has w.kept.enrolled (b, m) → (m ≡ n → ⊥)
-    → o ≡ Halt fault.Conflict → new ≡ machine_ordered (machine_of w) o → IsNext (machine_of w) o new
+pub halts_by_address : (w : Machine) (b m n : ℕ) (o : Order) (new : Machine) → Settles w b n → Has w.kept.enrolled (b, m) → (m ≡ n → ⊥)
+    → o ≡ Halt fault.Conflict → new ≡ machine_ordered w o → IsNext w o new
 halts_by_address w b m n o new h has other order state =
     halted w b n o new h (inl (m, has, other)) order state
 
 -- or the gear with another address
-pub contradicts_by_random : (w : Parts) (b a n : ℕ) → Settles w b n → (HasAddress w.kept.enrolled b → ⊥) → Has w.kept.enrolled (a, n)
+pub contradicts_by_random : (w : Machine) (b a n : ℕ) → Settles w b n → (HasAddress w.kept.enrolled b → ⊥) → Has w.kept.enrolled (a, n)
     → Contradicts w.kept.enrolled b n
 contradicts_by_random w b a n h none has = inr (
   a,
@@ -152,12 +150,12 @@ contradicts_by_random w b a n h none has = inr (
   λ e. none (subst (HasAddress w.kept.enrolled) e (has_map (λ q. q.0) w.kept.enrolled (a, n) has)),
 )
 
-pub halts_by_random : (w : Parts) (b a n : ℕ) (o : Order) (new : Machine) → Settles w b n → (HasAddress w.kept.enrolled b → ⊥) → Has w.kept.enrolled (a, n)
-    → o ≡ Halt fault.Conflict → new ≡ machine_ordered (machine_of w) o → IsNext (machine_of w) o new
+pub halts_by_random : (w : Machine) (b a n : ℕ) (o : Order) (new : Machine) → Settles w b n → (HasAddress w.kept.enrolled b → ⊥) → Has w.kept.enrolled (a, n)
+    → o ≡ Halt fault.Conflict → new ≡ machine_ordered w o → IsNext w o new
 halts_by_random w b a n o new h none has order state = halted w b n o new h (contradicts_by_random w b a n h none has) order state
 
-enrols_at : (w : Parts) (c : Course) (b n : ℕ) → Settles w b n → (HasAddress w.kept.enrolled b → ⊥) → (HasRandom w.kept.enrolled n → ⊥)
-    → IsOrderedTo (machine_of w) c (Commit (Enrol b n))
+enrols_at : (w : Machine) (c : Course) (b n : ℕ) → Settles w b n → (HasAddress w.kept.enrolled b → ⊥) → (HasRandom w.kept.enrolled n → ⊥)
+    → IsOrderedTo w c (Commit (Enrol b n))
 enrols_at w c b n h none fresh =
     let tries : w.tries < 8 = h.ready.tries in
     let calm : w.silent < 16 = settled_calm w b n h in
@@ -173,10 +171,10 @@ enrols_at w c b n h none fresh =
           ap (λ a. Enrol a n) (sym there.0) ∙ ap (λ m. Enrol d m) (sym there.1);
     }
 
-pub enrols : (w : Parts) (b n : ℕ) (o : Order) (new : Machine) → Settles w b n → (HasAddress w.kept.enrolled b → ⊥) → (HasRandom w.kept.enrolled n → ⊥)
-    → o ≡ Commit (Enrol b n) → new ≡ machine_ordered (machine_of w) o → IsNext (machine_of w) o new
+pub enrols : (w : Machine) (b n : ℕ) (o : Order) (new : Machine) → Settles w b n → (HasAddress w.kept.enrolled b → ⊥) → (HasRandom w.kept.enrolled n → ⊥)
+    → o ≡ Commit (Enrol b n) → new ≡ machine_ordered w o → IsNext w o new
 enrols w b n o new h none fresh order state = record {
-  order = subst (IsOrderedTo (machine_of w) new.course) (sym order)
+  order = subst (IsOrderedTo w new.course) (sym order)
       (enrols_at w new.course b n h none fresh);
-  state = but_course new (machine_ordered (machine_of w) o) state;
+  state = but_course new (machine_ordered w o) state;
 }

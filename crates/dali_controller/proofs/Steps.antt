@@ -45,7 +45,6 @@ use Rattle.dali_controller.specs.declared.purpose.Purpose.TheVariants.{Opening, 
 use Rattle.dali_controller.specs.declared.shorts.Shorts.{Shorts}
 use Rattle.dali_controller.specs.declared.way.Way.{Way}
 use Rattle.dali_controller.specs.declared.way.Way.TheVariants.{Fresh, Surveying, Drawing}
-use Rattle.dali_controller.specs.Parts.{Parts}
 use Rattle.dali_script.specs.Due.{due_after, frame_put}
 use Rattle.dali_controller.specs.Course.{Course, taking, first_of, turn_of, closing_of, drawing, address_for, least_open, byte_to_send, bytes_to_send}
 use Rattle.dali_controller.specs.Machine.{machine_lost, Machine, opened_after, woken_after, silent_after, tries_after}
@@ -53,7 +52,6 @@ use Rattle.dali_controller.specs.Next.{begins_at, course_by, beginning, next_cou
 use Rattle.dali_controller.specs.Orders.{IsBegun, AfterMaskBy, AfterMaskOn, IsOrderedTo}
 use Rattle.dali_controller.specs.Orders.{is_left, is_left_by, machine_ordered}
 use Rattle.dali_controller.specs.Orders.{running_close}
-use Rattle.dali_controller.specs.Parts.{parts_course, machine_of}
 use Rattle.dali_controller.specs.Whole.{IsWhole, IsSurvey, Sends, Knows, IsEarly, IsWithinSilence, IsReady, IsSending, Pending}
 use Rattle.dali_controller.specs.Moments.{FoundAt, IsBetween, Closes, Arrived, KnowsAt, KnowsWoken, CalmAt, IsHeard, Turns, Begins, Begun, IsNext}
 use Rattle.dali_controller.specs.Moments.{Draws, IsUngiven, IsNextTo}
@@ -294,33 +292,36 @@ calm_less (Closing end) i e calm = absurd (cc)
 calm_less _ i e calm = calm
 
 -- A FRAME THAT IS OUTSTANDING
-pub sending : (w : Parts) (l : Option Order) (f : Forward) → frame_put l ≡ Some f → Pending (machine_of w) l → IsSending (machine_of w) f
-sending w (Some (Put p g)) f is e = subst (λ d. IsSending (machine_of w) d) (let same : g ≡ f = cc in same) e
+pub sending : (w : Machine) (l : Option Order) (f : Forward) → frame_put l ≡ Some f → Pending w l → IsSending w f
+sending w (Some (Put p g)) f is e = subst (λ d. IsSending w d) (let same : g ≡ f = cc in same) e
 sending w _ f is e = absurd (cc)
 
 -- also where only the bus is waited for
-pub waiting : (w : Parts) (l : Option Order) → due_after l ≡ due.Bus → Pending (machine_of w) l → IsReady (machine_of w)
+pub waiting : (w : Machine) (l : Option Order) → due_after l ≡ due.Bus → Pending w l → IsReady w
 waiting w (Some (Put p f)) is e = e.ready
 waiting w _ is e = absurd (cc)
 
-pub sending_lawful : (w : Parts) (f : Forward) → IsSending (machine_of w) f → Lawful w.kept.block w.kept.reserved w.trace f
-sending_lawful w f e = lawful_follows w.kept.block w.kept.reserved w.trace f (goes w.kept w.number w.purpose (stage_of w.trace) (command_of f) e.sends).follows
+pub sending_lawful : (w : Machine) (f : Forward) → IsSending w f → Lawful w.kept.block w.kept.reserved w.trace f
+sending_lawful w f e =
+    lawful_follows w.kept.block w.kept.reserved w.trace f (goes w.kept w.course.number w.course.purpose (stage_of w.trace) (command_of f) e.sends).follows
 
 -- TO GO ON
-put_whole_at : (w : Parts) (s : Stage) (c : Command) (p : ℕ) (f : Forward) → IsHeard w s → Sends w.kept w.number w.purpose s c → command_of f ≡ c
-    → IsWhole (machine_of (record w { last = Some (Put p f) }))
+put_whole_at : (w : Machine) (s : Stage) (c : Command) (p : ℕ) (f : Forward) → IsHeard w s → Sends w.kept w.course.number w.course.purpose s c
+    → command_of f ≡ c
+    → IsWhole (record w { last = Some (Put p f) })
 put_whole_at w s c p f h e read = record {
   ready = record {
     tries = h.tries;
-    calm = sends_calm w.kept w.number w.purpose s c w.opened w.silent e h.calm;
-    knows = sends_knows w.way w.kept w.number w.purpose s c w.search w.ascent w.opened e h.knows;
+    calm = sends_calm w.kept w.course.number w.course.purpose s c w.opened w.silent e h.calm;
+    knows = sends_knows w.course.way w.kept w.course.number w.course.purpose s c w.course.search w.course.ascent w.opened e h.knows;
   };
-  sends = subst (λ x. Sends w.kept w.number w.purpose x (command_of f)) (sym h.stage) (subst (λ d. Sends w.kept w.number w.purpose s d) (sym read) e);
+  sends = subst (λ x. Sends w.kept w.course.number w.course.purpose x (command_of f)) (sym h.stage)
+      (subst (λ d. Sends w.kept w.course.number w.course.purpose s d) (sym read) e);
 }
 
-pub put_whole : (w : Parts) (s : Stage) (c : Command) (p : ℕ) (f : Forward) → IsHeard w s → Sends w.kept w.number w.purpose s c
-    → (IsSpelled c → command_of f ≡ c) → IsWhole (machine_of (record w { last = Some (Put p f) }))
-put_whole w s c p f h e read = put_whole_at w s c p f h e (read (goes w.kept w.number w.purpose s c e).spelled)
+pub put_whole : (w : Machine) (s : Stage) (c : Command) (p : ℕ) (f : Forward) → IsHeard w s → Sends w.kept w.course.number w.course.purpose s c
+    → (IsSpelled c → command_of f ≡ c) → IsWhole (record w { last = Some (Put p f) })
+put_whole w s c p f h e read = put_whole_at w s c p f h e (read (goes w.kept w.course.number w.course.purpose s c e).spelled)
 
 pub begun_none : (t : Machine) (o : Option End) → o ≡ None → running_close t ≡ None → IsBegun t o
 begun_none t o is none = subst (IsBegun t) (sym is) none
@@ -328,46 +329,48 @@ begun_none t o is none = subst (IsBegun t) (sym is) none
 pub not_empty : (t : List Entry) (s : Stage) → stage_of t ≡ s → (s ≡ Free → ⊥) → t ≡ [] → ⊥
 not_empty t s is later empty = later (sym is ∙ ap stage_of empty ∙ stage_none)
 
-abbrev pub IsMasked : Parts → Order → Type 0
-IsMasked w o = (r : SearchAddress) → stage_of w.trace ≡ Unnamed r → AfterMaskOn w.way (machine_of w) (parts_course w) r o
+abbrev pub IsMasked : Machine → Order → Type 0
+IsMasked w o = (r : SearchAddress) → stage_of w.trace ≡ Unnamed r → AfterMaskOn w.course.way w w.course r o
 
-put_next_at : (w : Parts) (s : Stage) (c : Command) → IsHeard w s → Sends w.kept w.number w.purpose s c → (s ≡ Free → ⊥)
+put_next_at : (w : Machine) (s : Stage) (c : Command) → IsHeard w s → Sends w.kept w.course.number w.course.purpose s c → (s ≡ Free → ⊥)
     → IsMasked w (Put LATER (frame_of c))
-    → IsNext (machine_of w) (Put LATER (frame_of c)) (machine_of (record w { last = Some (Put LATER (frame_of c)) }))
+    → IsNext w (Put LATER (frame_of c)) (record w { last = Some (Put LATER (frame_of c)) })
 put_next_at w s c h e later masked =
-    let going : closing_of w.purpose ≡ None = (goes w.kept w.number w.purpose s c e).unclosed later in
-    let calm : w.silent < 16 = calm_less w.purpose w.silent going (sends_calm w.kept w.number w.purpose s c w.opened w.silent e h.calm) in
+    let going : closing_of w.course.purpose ≡ None = (goes w.kept w.course.number w.course.purpose s c e).unclosed later in
+    let calm : w.silent < 16 = calm_less w.course.purpose w.silent going (sends_calm w.kept w.course.number w.course.purpose s c w.opened w.silent e h.calm) in
     let tries : w.tries < 8 = h.tries in
-    let spelled : command_of (frame_of c) ≡ c = read_written c (goes w.kept w.number w.purpose s c e).spelled in
-    let sends : Sends w.kept w.number w.purpose (stage_of w.trace) (command_of (frame_of c)) =
-    subst (λ x. Sends w.kept w.number w.purpose x (command_of (frame_of c))) (sym h.stage) (subst (λ d. Sends w.kept w.number w.purpose s d) (sym spelled) e) in
+    let spelled : command_of (frame_of c) ≡ c = read_written c (goes w.kept w.course.number w.course.purpose s c e).spelled in
+    let sends : Sends w.kept w.course.number w.course.purpose (stage_of w.trace) (command_of (frame_of c)) =
+    subst (λ x. Sends w.kept w.course.number w.course.purpose x (command_of (frame_of c))) (sym h.stage)
+    (subst (λ d. Sends w.kept w.course.number w.course.purpose s d) (sym spelled) e) in
     record {
       order = record {
         allowed = inr (
           refl,
           not_empty w.trace s h.stage later,
           lawful_follows w.kept.block w.kept.reserved w.trace (frame_of c)
-              (goes w.kept w.number w.purpose (stage_of w.trace) (command_of (frame_of c)) sends).follows,
+              (goes w.kept w.course.number w.course.purpose (stage_of w.trace) (command_of (frame_of c)) sends).follows,
         );
-        addressing = λ g is. (goes w.kept w.number w.purpose s c e).addressing g (sym spelled ∙ is);
-        caused = (begun_none (machine_of w) (closing_of w.purpose) going going, inl going);
+        addressing = λ g is. (goes w.kept w.course.number w.course.purpose s c e).addressing g (sym spelled ∙ is);
+        caused = (begun_none w (closing_of w.course.purpose) going going, inl going);
         given_up = λ n. absurd (omega arith);
         silent = λ n. absurd (omega arith);
         unnamed = masked;
-        found = λ r b is. absurd (not_withdrawn w.kept w.number w.purpose r b c (subst (λ x. Sends w.kept w.number w.purpose x c) (sym h.stage ∙ is) e));
+        found = λ r b is. absurd (not_withdrawn w.kept w.course.number w.course.purpose r b c
+            (subst (λ x. Sends w.kept w.course.number w.course.purpose x c) (sym h.stage ∙ is) e));
       };
       state = refl;
     }
 
-pub put_next : (w : Parts) (s : Stage) (c : Command) (p : ℕ) (f : Forward) → IsHeard w s → Sends w.kept w.number w.purpose s c → (s ≡ Free → ⊥)
+pub put_next : (w : Machine) (s : Stage) (c : Command) (p : ℕ) (f : Forward) → IsHeard w s → Sends w.kept w.course.number w.course.purpose s c → (s ≡ Free → ⊥)
     → IsMasked w (Put LATER (frame_of c)) → p ≡ LATER → f ≡ frame_of c
-    → IsNext (machine_of w) (Put p f) (machine_of (record w { last = Some (Put p f) }))
+    → IsNext w (Put p f) (record w { last = Some (Put p f) })
 put_next w s c p f h e later masked first is =
-    subst (λ q. IsNext (machine_of w) (Put q f) (machine_of (record w { last = Some (Put q f) }))) (sym first)
-    (subst (λ g. IsNext (machine_of w) (Put LATER g) (machine_of (record w { last = Some (Put LATER g) }))) (sym is) (put_next_at w s c h e later masked))
+    subst (λ q. IsNext w (Put q f) (record w { last = Some (Put q f) })) (sym first)
+    (subst (λ g. IsNext w (Put LATER g) (record w { last = Some (Put LATER g) })) (sym is) (put_next_at w s c h e later masked))
 
 -- TO BEGIN
-begun : (w : Parts) (p : Purpose) → Turns w p → IsBegun (machine_of w) (closing_of p)
+begun : (w : Machine) (p : Purpose) → Turns w p → IsBegun w (closing_of p)
 begun w (Closing e) t = t.cause
 begun w _ t = t
 
@@ -391,13 +394,13 @@ left_follows t r (Some a) free o left is = rw left is
 left_follows t r None (Some a) o left is = absurd (cc)
 left_follows t r None None o left is = is
 
-masked_first : (y : Way) (w : Parts) (c : Course) (r : SearchAddress) (n : SearchAddress) → IsUngiven y w r → IsNextTo y w c.purpose n
-    → AfterMaskOn y (machine_of w) c r (Put FIRST (frame_of (first_of c.purpose n)))
+masked_first : (y : Way) (w : Machine) (c : Course) (r : SearchAddress) (n : SearchAddress) → IsUngiven y w r → IsNextTo y w c.purpose n
+    → AfterMaskOn y w c r (Put FIRST (frame_of (first_of c.purpose n)))
 masked_first Fresh w c r n ungiven next = inr (ungiven.0, ungiven.1, next)
 masked_first Surveying w c r n ungiven next =
-    left_follows (machine_of w) r (address_for w.kept.reserved (value_of r)) (least_open w.kept w.heard) _ ungiven next
+    left_follows w r (address_for w.kept.reserved (value_of r)) (least_open w.kept w.heard) _ ungiven next
 masked_first Drawing w c r n ungiven next =
-    left_follows (machine_of w) r (address_for w.kept.reserved (value_of r)) (least_open w.kept w.heard) _ ungiven next
+    left_follows w r (address_for w.kept.reserved (value_of r)) (least_open w.kept w.heard) _ ungiven next
 
 first_read : (k : Kept) (p : Purpose) (n : SearchAddress) → IsSpelled (first_of p n) → command_of (frame_of (first_of p n)) ≡ first_of p n
 first_read k p n small = read_written (first_of p n) small
@@ -406,12 +409,12 @@ first_lawful : (k : Kept) (p : Purpose) (n : SearchAddress) → IsSpelled (first
 first_lawful k p n small =
     lawful_follows k.block k.reserved [] (frame_of (first_of p n)) (rw (first_read k p n small, stage_none) (goes_first k n p small).follows)
 
-begin_next_at : (w : Parts) (p : Purpose) (n : SearchAddress) → Begins w p n
-    → IsNext (machine_of w) (Put FIRST (frame_of (first_of p n)))
-    (machine_of (record w { trace = []; last = Some (Put FIRST (frame_of (first_of p n))); purpose = p; number = n }))
+begin_next_at : (w : Machine) (p : Purpose) (n : SearchAddress) → Begins w p n
+    → IsNext w (Put FIRST (frame_of (first_of p n)))
+    (record w { trace = []; last = Some (Put FIRST (frame_of (first_of p n))); course = taking w.course p n })
 begin_next_at w p n b =
     let tries : w.tries < 8 = b.tries in
-    let small : IsSpelled (first_of p n) = first_spelled w.way w.kept n w.search w.ascent w.opened p b.knows in
+    let small : IsSpelled (first_of p n) = first_spelled w.course.way w.kept n w.course.search w.course.ascent w.opened p b.knows in
     record {
       order = record {
         allowed = inl (refl, first_lawful w.kept p n small);
@@ -419,41 +422,42 @@ begin_next_at w p n b =
         caused = (begun w p b.turns, terminates p n);
         given_up = λ e. absurd (omega arith);
         silent = λ e. silent_closes p w.silent b.calm e;
-        unnamed = λ r e. let x = b.unnamed r e in masked_first w.way w (record (parts_course w) { purpose = p; number = n }) r n x.0 x.1;
+        unnamed = λ r e. let x = b.unnamed r e in masked_first w.course.way w (record w.course { purpose = p; number = n }) r n x.0 x.1;
         found = b.found;
       };
       state = refl;
     }
 
-pub begin_next : (w : Parts) (p : Purpose) (n : SearchAddress) (t : List Entry) (q : ℕ) (f : Forward) → Begins w p n → t ≡ [] → q ≡ FIRST
+pub begin_next : (w : Machine) (p : Purpose) (n : SearchAddress) (t : List Entry) (q : ℕ) (f : Forward) → Begins w p n → t ≡ [] → q ≡ FIRST
     → f ≡ frame_of (first_of p n)
-    → IsNext (machine_of w) (Put q f) (machine_of (record w { trace = t; last = Some (Put q f); purpose = p; number = n }))
+    → IsNext w (Put q f) (record w { trace = t; last = Some (Put q f); course = taking w.course p n })
 begin_next w p n t q f b empty first is =
-    subst (λ u. IsNext (machine_of w) (Put q f) (machine_of (record w { trace = u; last = Some (Put q f); purpose = p; number = n }))) (sym empty)
-    (subst (λ x. IsNext (machine_of w) (Put x f) (machine_of (record w { trace = []; last = Some (Put x f); purpose = p; number = n }))) (sym first)
-    (subst (λ g. IsNext (machine_of w) (Put FIRST g) (machine_of (record w { trace = []; last = Some (Put FIRST g); purpose = p; number = n }))) (sym is)
+    subst (λ u. IsNext w (Put q f) (record w { trace = u; last = Some (Put q f); course = taking w.course p n })) (sym empty)
+    (subst (λ x. IsNext w (Put x f) (record w { trace = []; last = Some (Put x f); course = taking w.course p n })) (sym first)
+    (subst (λ g. IsNext w (Put FIRST g) (record w { trace = []; last = Some (Put FIRST g); course = taking w.course p n })) (sym is)
     (begin_next_at w p n b)))
 
 free_of : (t : List Entry) → t ≡ [] → stage_of t ≡ Free
 free_of t empty = ap stage_of empty ∙ stage_none
 
-first_sends : (w : Parts) (p : Purpose) (n : SearchAddress) (f : Forward) → Knows w.way w.kept n w.search w.ascent w.opened p → f ≡ frame_of (first_of p n)
+first_sends : (w : Machine) (p : Purpose) (n : SearchAddress) (f : Forward) → Knows w.course.way w.kept n w.course.search w.course.ascent w.opened p
+    → f ≡ frame_of (first_of p n)
     → (command_of f ≡ first_of p n) × IsSpelled (command_of f)
 first_sends w p n f knows is =
-    let small : IsSpelled (first_of p n) = first_spelled w.way w.kept n w.search w.ascent w.opened p knows in
+    let small : IsSpelled (first_of p n) = first_spelled w.course.way w.kept n w.course.search w.course.ascent w.opened p knows in
     let read : command_of f ≡ first_of p n = ap command_of is ∙ first_read w.kept p n small in
     (read, subst IsSpelled (sym read) small)
 
-pub begin_whole : (w : Parts) (p : Purpose) (n : SearchAddress) (t : List Entry) (q : ℕ) (f : Forward) → Begins w p n → t ≡ [] → f ≡ frame_of (first_of p n)
-    → IsWhole (machine_of (record w { trace = t; last = Some (Put q f); purpose = p; number = n }))
+pub begin_whole : (w : Machine) (p : Purpose) (n : SearchAddress) (t : List Entry) (q : ℕ) (f : Forward) → Begins w p n → t ≡ [] → f ≡ frame_of (first_of p n)
+    → IsWhole (record w { trace = t; last = Some (Put q f); course = taking w.course p n })
 begin_whole w p n t q f b empty is = record {
   ready = record { tries = b.tries; calm = b.calm; knows = b.knows };
   sends = subst (λ s. Sends w.kept n p s (command_of f)) (sym (free_of t empty)) (first_sends w p n f b.knows is);
 }
 
-pub begin_begun : (w : Parts) (p : Purpose) (n : SearchAddress) (t : List Entry) (q : ℕ) (f : Forward) → Begins w p n → t ≡ [] → q ≡ FIRST
+pub begin_begun : (w : Machine) (p : Purpose) (n : SearchAddress) (t : List Entry) (q : ℕ) (f : Forward) → Begins w p n → t ≡ [] → q ≡ FIRST
     → f ≡ frame_of (first_of p n)
-    → Begun (machine_of w) (taking (parts_course w) p n) (Put q f) (machine_of (record w { trace = t; last = Some (Put q f); purpose = p; number = n }))
+    → Begun w (taking w.course p n) (Put q f) (record w { trace = t; last = Some (Put q f); course = taking w.course p n })
 begin_begun w p n t q f b empty first is = record {
   course = refl;
   order = ap₂ Put first is;
@@ -462,9 +466,9 @@ begin_begun w p n t q f b empty first is = record {
 }
 
 -- TO STORE
-pub commit_whole : (w : Parts) (x : Record) (t : List Entry) → IsReady (machine_of w) → closing_of w.purpose ≡ None → Fits w.kept.block x → MayAdd w.kept x
+pub commit_whole : (w : Machine) (x : Record) (t : List Entry) → IsReady w → closing_of w.course.purpose ≡ None → Fits w.kept.block x → MayAdd w.kept x
     → t ≡ []
-    → IsWhole (machine_of (record w { trace = t; last = Some (Commit x) }))
+    → IsWhole (record w { trace = t; last = Some (Commit x) })
 commit_whole w x t ready going fits may empty = record {
   ready = record { tries = ready.tries; calm = ready.calm; knows = ready.knows };
   free = free_of t empty;
@@ -478,8 +482,8 @@ calm_small : (p : Purpose) (i : ℕ) → IsWithinSilence p i → i ≤ 16
 calm_small (Closing GaveUp) i calm = calm
 calm_small _ i calm = omega arith
 
-pub sending_small : (w : Parts) (f : Forward) → IsSending (machine_of w) f → w.silent < 255
-sending_small w f e = let small : w.silent ≤ 16 = calm_small w.purpose w.silent e.ready.calm in omega arith
+pub sending_small : (w : Machine) (f : Forward) → IsSending w f → w.silent < 255
+sending_small w f e = let small : w.silent ≤ 16 = calm_small w.course.purpose w.silent e.ready.calm in omega arith
 
 found_at : (s : Stage) (earlier found : Option Finding) → found ≡ later earlier (finding_at s) → FoundAt s found
 found_at (Withdrawn r b) earlier found is = is
@@ -494,23 +498,24 @@ trace_found_at (Spelled b None) found is = tt
 trace_found_at _ found is = tt
 
 -- the parts after a frame was heard, the last finding noted, and the counts made
-pub hear_heard : (w noted : Parts) (f : Forward) (h : Answer) (t : List Entry) (s : Stage) (complete o : Bool) (n i : ℕ) (shorts : Shorts) (asked : ℕ)
-    → IsWhole (machine_of w)
+pub hear_heard : (w noted : Machine) (f : Forward) (h : Answer) (t : List Entry) (s : Stage) (complete o : Bool) (n i : ℕ) (shorts : Shorts) (asked : ℕ)
+    → IsWhole w
     → frame_put w.last ≡ Some f
     → t ≡ w.trace ++ (record { frame = f; heard = h }) ∷ [] → noted ≡ record w { trace = t; finding = later w.finding (finding_of t) }
     → s ≡ stage_of noted.trace
     → n ≡ tries_after complete noted.tries → i ≡ silent_after (stage_of noted.trace) noted.opened noted.silent
-    → o ≡ woken_after (stage_of noted.trace) noted.purpose (opened_after (stage_of noted.trace) noted.opened)
+    → o ≡ woken_after (stage_of noted.trace) noted.course.purpose (opened_after (stage_of noted.trace) noted.opened)
     → IsHeard (record noted { tries = n; silent = i; opened = o; heard = shorts; asked = asked }) s
 hear_heard w noted f h t s complete o n i shorts asked whole put trace is stage tries silent opened =
-    let sent : IsSending (machine_of w) f = sending w w.last f put whole in
-    let same_trace : noted.trace ≡ t = ap (λ (x : Parts). x.trace) is in
+    let sent : IsSending w f = sending w w.last f put whole in
+    let same_trace : noted.trace ≡ t = ap (λ (x : Machine). x.trace) is in
     let there : stage_of noted.trace ≡ next_stage (stage_of w.trace) (command_of f) h =
     ap stage_of (same_trace ∙ trace) ∙ stage_more w.trace (record { frame = f; heard = h }) in
-    let arrived : Arrived w.kept w.number w.purpose (stage_of noted.trace) =
-    subst (Arrived w.kept w.number w.purpose) (sym there) ((goes w.kept w.number w.purpose (stage_of w.trace) (command_of f) sent.sends).arrives h) in
+    let arrived : Arrived w.kept w.course.number w.course.purpose (stage_of noted.trace) =
+    subst (Arrived w.kept w.course.number w.course.purpose) (sym there)
+    ((goes w.kept w.course.number w.course.purpose (stage_of w.trace) (command_of f) sent.sends).arrives h) in
     let finding : noted.finding ≡ later w.finding (finding_at (stage_of noted.trace)) =
-    ap (λ (x : Parts). x.finding) is ∙ ap (λ u. later w.finding (finding_of u)) trace
+    ap (λ (x : Machine). x.finding) is ∙ ap (λ u. later w.finding (finding_of u)) trace
     ∙ ap (later w.finding) (finding_after w.kept.block w.kept.reserved w.trace (record { frame = f; heard = h }) (sending_lawful w f sent))
     ∙ ap (λ u. later w.finding (finding_at (stage_of u))) (sym (same_trace ∙ trace)) in
     let trace_finding : finding_of noted.trace ≡ finding_at (stage_of noted.trace) =
@@ -518,21 +523,21 @@ hear_heard w noted f h t s complete o n i shorts asked whole put trace is stage 
     ∙ ap (λ u. finding_at (stage_of u)) (sym (same_trace ∙ trace)) in
     rw stage (from arrived sent.ready finding trace_finding)
   where
-    from : Arrived w.kept w.number w.purpose (stage_of noted.trace) → IsReady (machine_of w)
+    from : Arrived w.kept w.course.number w.course.purpose (stage_of noted.trace) → IsReady w
         → noted.finding ≡ later w.finding (finding_at (stage_of noted.trace)) → finding_of noted.trace ≡ finding_at (stage_of noted.trace)
         → IsHeard (record noted { tries = n; silent = i; opened = o; heard = shorts; asked = asked }) (stage_of noted.trace)
     from arrived ready finding trace_finding = record {
       stage = refl;
-      tries = subst (λ m. m < 8) (sym (tries ∙ ap (λ m. tries_after complete m) (ap (λ (x : Parts). x.tries) is))) (tries_less complete w.tries ready.tries);
-      arrived = subst (λ (x : Parts). Arrived x.kept x.number x.purpose (stage_of noted.trace)) (sym is) arrived;
-      calm = rw (opened, silent) (subst (λ (x : Parts). CalmAt (stage_of noted.trace) x.purpose
-          (woken_after (stage_of noted.trace) x.purpose (opened_after (stage_of noted.trace) x.opened))
+      tries = subst (λ m. m < 8) (sym (tries ∙ ap (λ m. tries_after complete m) (ap (λ (x : Machine). x.tries) is))) (tries_less complete w.tries ready.tries);
+      arrived = subst (λ (x : Machine). Arrived x.kept x.course.number x.course.purpose (stage_of noted.trace)) (sym is) arrived;
+      calm = rw (opened, silent) (subst (λ (x : Machine). CalmAt (stage_of noted.trace) x.course.purpose
+          (woken_after (stage_of noted.trace) x.course.purpose (opened_after (stage_of noted.trace) x.opened))
           (silent_after (stage_of noted.trace) x.opened x.silent)) (sym is)
-          (calm_at w.kept w.number w.opened w.purpose w.silent (stage_of noted.trace) arrived ready.calm));
-      knows = rw opened (subst (λ (x : Parts). KnowsAt (stage_of noted.trace) x.way x.kept x.number x.search x.ascent
-          (woken_after (stage_of noted.trace) x.purpose (opened_after (stage_of noted.trace) x.opened)) x.purpose)
+          (calm_at w.kept w.course.number w.opened w.course.purpose w.silent (stage_of noted.trace) arrived ready.calm));
+      knows = rw opened (subst (λ (x : Machine). KnowsAt (stage_of noted.trace) x.course.way x.kept x.course.number x.course.search x.course.ascent
+          (woken_after (stage_of noted.trace) x.course.purpose (opened_after (stage_of noted.trace) x.opened)) x.course.purpose)
           (sym is)
-          (knows_at w.way w.kept w.number w.search w.ascent w.opened w.purpose (stage_of noted.trace) ready.knows));
+          (knows_at w.course.way w.kept w.course.number w.course.search w.course.ascent w.opened w.course.purpose (stage_of noted.trace) ready.knows));
       finding = found_at (stage_of noted.trace) w.finding noted.finding finding;
       trace_finding = trace_found_at (stage_of noted.trace) (finding_of noted.trace) trace_finding;
     }
@@ -543,17 +548,18 @@ early Fresh o is = is
 early Surveying o is = tt
 early Drawing o is = tt
 
-pub opens : (w : Parts) (n : SearchAddress) → IsBetween w → w.opened ≡ false → Begins w Opening n
+pub opens : (w : Machine) (n : SearchAddress) → IsBetween w → w.opened ≡ false → Begins w Opening n
 opens w n b opened = record {
   tries = b.tries;
   calm = b.silent;
-  knows = early w.way w.opened opened;
+  knows = early w.course.way w.opened opened;
   turns = b.going;
   unnamed = λ r e. absurd (b.unnamed r e);
   found = b.found;
 }
 
-pub probes : (w : Parts) (n : SearchAddress) → IsBetween w → w.opened ≡ true → w.search.step ≡ Again → value_of n ≡ w.search.probe → Begins w Probing n
+pub probes : (w : Machine) (n : SearchAddress) → IsBetween w → w.opened ≡ true → w.course.search.step ≡ Again → value_of n ≡ w.course.search.probe
+    → Begins w Probing n
 probes w n b opened running is = record {
   tries = b.tries;
   calm = b.silent;
@@ -563,7 +569,8 @@ probes w n b opened running is = record {
   found = b.found;
 }
 
-pub hunts : (w : Parts) (n : SearchAddress) → IsBetween w → w.opened ≡ true → IsSurvey w.way → leads_to w.ascent ≡ Again → value_of n ≡ asked_next w.ascent
+pub hunts : (w : Machine) (n : SearchAddress) → IsBetween w → w.opened ≡ true → IsSurvey w.course.way → leads_to w.course.ascent ≡ Again
+    → value_of n ≡ asked_next w.course.ascent
     → Begins w Hunting n
 hunts w n b opened survey running is = record {
   tries = b.tries;
@@ -574,7 +581,7 @@ hunts w n b opened survey running is = record {
   found = b.found;
 }
 
-pub visits : (w : Parts) (n : SearchAddress) (r : ℕ) → IsBetween w → r < MASK24 → (w.opened ≡ false → HasRandom w.kept.reserved r) → value_of n ≡ r
+pub visits : (w : Machine) (n : SearchAddress) (r : ℕ) → IsBetween w → r < MASK24 → (w.opened ≡ false → HasRandom w.kept.reserved r) → value_of n ≡ r
     → Begins w Visiting n
 visits w n r b drawn reserved is = record {
   tries = b.tries;
@@ -585,7 +592,7 @@ visits w n r b drawn reserved is = record {
   found = b.found;
 }
 
-pub asks : (w : Parts) (n : SearchAddress) (a : ℕ) → IsBetween w → w.opened ≡ false → w.way ≡ Surveying → a < 64 → Begins w (Asking a) n
+pub asks : (w : Machine) (n : SearchAddress) (a : ℕ) → IsBetween w → w.opened ≡ false → w.course.way ≡ Surveying → a < 64 → Begins w (Asking a) n
 asks w n a b opened way small = record {
   tries = b.tries;
   calm = b.silent;
@@ -595,7 +602,7 @@ asks w n a b opened way small = record {
   found = b.found;
 }
 
-pub wakes : (w : Parts) (n : SearchAddress) → IsBetween w → w.opened ≡ false → w.way ≡ Surveying → Begins w Waking n
+pub wakes : (w : Machine) (n : SearchAddress) → IsBetween w → w.opened ≡ false → w.course.way ≡ Surveying → Begins w Waking n
 wakes w n b opened way = record {
   tries = b.tries;
   calm = b.silent;
@@ -605,13 +612,13 @@ wakes w n b opened way = record {
   found = b.found;
 }
 
-drawn_unnamed : (y : Way) (w : Parts) (r : SearchAddress) → y ≡ Surveying → is_left (machine_of w) (value_of r) ≡ true
-    → Put FIRST (frame_of (first_of Opening w.number)) ≡ beginning (next_course (machine_of w)) → IsUngiven y w r × IsNextTo y w Opening w.number
+drawn_unnamed : (y : Way) (w : Machine) (r : SearchAddress) → y ≡ Surveying → is_left w (value_of r) ≡ true
+    → Put FIRST (frame_of (first_of Opening w.course.number)) ≡ beginning (next_course w) → IsUngiven y w r × IsNextTo y w Opening w.course.number
 drawn_unnamed Fresh w r is left next = absurd (cc)
 drawn_unnamed Surveying w r is left next = (left, next)
 drawn_unnamed Drawing w r is left next = absurd (cc)
 
-pub draws_again : (w : Parts) → Draws w → Begins w Opening w.number
+pub draws_again : (w : Machine) → Draws w → Begins w Opening w.course.number
 draws_again w d = record {
   tries = d.tries;
   calm = d.silent;
@@ -619,18 +626,18 @@ draws_again w d = record {
   turns = d.going;
   unnamed = λ r e.
       let x = d.unnamed r e in
-      let next : next_course (machine_of w) ≡ drawing (parts_course w) =
-      ap (begins_at (machine_of w)) e ∙ ap (λ b. draw_or_close b (parts_course w) BlockFull) x.1 in
-      drawn_unnamed w.way w r d.surveying x.0 (sym (ap beginning next));
+      let next : next_course w ≡ drawing w.course =
+      ap (begins_at w) e ∙ ap (λ b. draw_or_close b w.course BlockFull) x.1 in
+      drawn_unnamed w.course.way w r d.surveying x.0 (sym (ap beginning next));
   found = λ r b e. absurd (d.found r b e);
 }
 
-pub resolves : (w : Parts) (r : SearchAddress) (a : ℕ) → IsHeard w (Unanswered r) → w.opened ≡ false → a < 64 → Has w.kept.reserved (a, value_of r)
+pub resolves : (w : Machine) (r : SearchAddress) (a : ℕ) → IsHeard w (Unanswered r) → w.opened ≡ false → a < 64 → Has w.kept.reserved (a, value_of r)
     → Begins w (Resolving a) r
 resolves w r a h early small reserved =
     let stage : stage_of w.trace ≡ Unanswered r = h.stage in
-    let visiting : Knows w.way w.kept w.number w.search w.ascent w.opened Visiting =
-    subst (Knows w.way w.kept w.number w.search w.ascent w.opened) h.arrived.0 h.knows in
+    let visiting : Knows w.course.way w.kept w.course.number w.course.search w.course.ascent w.opened Visiting =
+    subst (Knows w.course.way w.kept w.course.number w.course.search w.course.ascent w.opened) h.arrived.0 h.knows in
     record {
       tries = h.tries;
       calm = early_calm w.opened w.silent early h.calm;
@@ -644,7 +651,7 @@ resolves w r a h early small reserved =
         late : i ≡ 16 → ⊥
         late e = let no : false ≡ true = sym early ∙ calm.1 e in cc
 
-pub closing : (w : Parts) (e : End) → Closes w e → Begins w (Closing e) w.number
+pub closing : (w : Machine) (e : End) → Closes w e → Begins w (Closing e) w.course.number
 closing w e b = record {
   tries = b.tries;
   calm = b.calm;
@@ -655,26 +662,27 @@ closing w e b = record {
 }
 
 -- LOST
-turns_same : (w : Parts) (p : Purpose) → w.purpose ≡ p → Knows w.way w.kept w.number w.search w.ascent w.opened p → Turns w p
+turns_same : (w : Machine) (p : Purpose) → w.course.purpose ≡ p → Knows w.course.way w.kept w.course.number w.course.search w.course.ascent w.opened p
+    → Turns w p
 turns_same w (Closing e) is knows = record { opened = knows; cause = inl (ap closing_of is) }
 turns_same w _ is knows = ap closing_of is
 
-pub lost_begins : (w : Parts) (t : List Entry) → IsWhole (machine_of w) → due_after w.last ≡ due.Bus → t ≡ [] → (w.tries + 1 ≡ 8 → ⊥)
-    → Begins (record w { trace = t; tries = w.tries + 1 }) w.purpose w.number
+pub lost_begins : (w : Machine) (t : List Entry) → IsWhole w → due_after w.last ≡ due.Bus → t ≡ [] → (w.tries + 1 ≡ 8 → ⊥)
+    → Begins (record w { trace = t; tries = w.tries + 1 }) w.course.purpose w.course.number
 lost_begins w t whole put empty more =
-    let ready : IsReady (machine_of w) = waiting w w.last put whole in
+    let ready : IsReady w = waiting w w.last put whole in
     let less : w.tries < 8 = ready.tries in
     let free : stage_of t ≡ Free = free_of t empty in
     record {
       tries = omega (arith, more);
       calm = ready.calm;
       knows = ready.knows;
-      turns = turns_same (record w { trace = t; tries = w.tries + 1 }) w.purpose refl ready.knows;
+      turns = turns_same (record w { trace = t; tries = w.tries + 1 }) w.course.purpose refl ready.knows;
       unnamed = λ r e. absurd (cc);
       found = λ r b e. absurd (cc);
     }
 
-lost_ended_at : (w : Parts) → IsReady (machine_of w) → w.tries + 1 ≡ 8 → IsOrderedTo (machine_lost (machine_of w)) (parts_course w) (Done GaveUp)
+lost_ended_at : (w : Machine) → IsReady w → w.tries + 1 ≡ 8 → IsOrderedTo (machine_lost w) w.course (Done GaveUp)
 lost_ended_at w ready is =
     let free : stage_of [] ≡ Free = stage_none in
     record {
@@ -682,7 +690,7 @@ lost_ended_at w ready is =
       addressing = tt;
       caused = inl (refl, is);
       given_up = λ e. refl;
-      silent = λ e. silent_closes w.purpose w.silent ready.calm e;
+      silent = λ e. silent_closes w.course.purpose w.silent ready.calm e;
       unnamed = λ r e. absurd (cc);
       found = λ r b e. absurd (cc);
     }
@@ -690,20 +698,20 @@ lost_ended_at w ready is =
 pub but_course : (new m : Machine) → new ≡ m → new ≡ record m { course = new.course }
 but_course new m is = subst (λ (n : Machine). n ≡ record m { course = n.course }) (sym is) refl
 
-pub lost_ended : (w : Parts) (t : List Entry) (o : Order) (new : Machine) → IsWhole (machine_of w) → due_after w.last ≡ due.Bus → t ≡ [] → w.tries + 1 ≡ 8
+pub lost_ended : (w : Machine) (t : List Entry) (o : Order) (new : Machine) → IsWhole w → due_after w.last ≡ due.Bus → t ≡ [] → w.tries + 1 ≡ 8
     → o ≡ Done GaveUp
-    → new ≡ machine_ordered (machine_of (record w { trace = t; tries = w.tries + 1 })) o → IsNext (machine_lost (machine_of w)) o new
+    → new ≡ machine_ordered (record w { trace = t; tries = w.tries + 1 }) o → IsNext (machine_lost w) o new
 lost_ended w t o new whole put empty is done state = record {
-  order = subst (λ c. IsOrderedTo (machine_lost (machine_of w)) c o)
-      (sym (ap (λ (m : Machine). m.course) state ∙ ap (course_by (machine_of (record w { trace = t; tries = w.tries + 1 }))) done))
-      (subst (IsOrderedTo (machine_lost (machine_of w)) (parts_course w)) (sym done) (lost_ended_at w (waiting w w.last put whole) is));
-  state = but_course new (machine_ordered (machine_lost (machine_of w)) o)
-      (state ∙ ap (λ u. machine_ordered (machine_of (record w { trace = u; tries = w.tries + 1 })) o) empty);
+  order = subst (λ c. IsOrderedTo (machine_lost w) c o)
+      (sym (ap (λ (m : Machine). m.course) state ∙ ap (course_by (record w { trace = t; tries = w.tries + 1 })) done))
+      (subst (IsOrderedTo (machine_lost w) w.course) (sym done) (lost_ended_at w (waiting w w.last put whole) is));
+  state = but_course new (machine_ordered (machine_lost w) o)
+      (state ∙ ap (λ u. machine_ordered (record w { trace = u; tries = w.tries + 1 }) o) empty);
 }
 
-pub lost_next : (w : Parts) (t : List Entry) (o : Order) (new : Machine) → t ≡ [] → IsNext (machine_of (record w { trace = t; tries = w.tries + 1 })) o new
-    → IsNext (machine_lost (machine_of w)) o new
-lost_next w t o new empty next = subst (λ u. IsNext (machine_of (record w { trace = u; tries = w.tries + 1 })) o new) empty next
+pub lost_next : (w : Machine) (t : List Entry) (o : Order) (new : Machine) → t ≡ [] → IsNext (record w { trace = t; tries = w.tries + 1 }) o new
+    → IsNext (machine_lost w) o new
+lost_next w t o new empty next = subst (λ u. IsNext (record w { trace = u; tries = w.tries + 1 }) o new) empty next
 
 -- TO GIVE
 may_give : (k : Kept) (r : SearchAddress) (a : ℕ) → IsKept k → Has k.reserved (a, value_of r) → MayGive k.block k.reserved r a
@@ -720,9 +728,9 @@ sends_program k n r p a m kept visiting is h =
     (visiting.0, visiting.1, (a, kept.reserved.short a (has_map (λ q. q.0) k.reserved (a, value_of r) there), may_give k r a kept there, refl))
 
 -- a command that the transaction's turn names follows no MASK
-pub turns_masked : (w : Parts) (c : Command) → turn_of w.purpose w.number (stage_of w.trace) ≡ Some c → IsMasked w (Put LATER (frame_of c))
-turns_masked w c turn q stage = absurd (none w.purpose (subst (λ s. turn_of w.purpose w.number s ≡ Some c) stage turn)) where
-  none : (p : Purpose) → turn_of p w.number (Unnamed q) ≡ Some c → ⊥
+pub turns_masked : (w : Machine) (c : Command) → turn_of w.course.purpose w.course.number (stage_of w.trace) ≡ Some c → IsMasked w (Put LATER (frame_of c))
+turns_masked w c turn q stage = absurd (none w.course.purpose (subst (λ s. turn_of w.course.purpose w.course.number s ≡ Some c) stage turn)) where
+  none : (p : Purpose) → turn_of p w.course.number (Unnamed q) ≡ Some c → ⊥
   none Opening e = cc
   none Probing e = cc
   none Visiting e = cc
@@ -733,15 +741,16 @@ turns_masked w c turn q stage = absurd (none w.purpose (subst (λ s. turn_of w.p
   none Hunting e = cc
 
 -- a number is reserved once its reservation is kept
-pub reserved_kept : (w new : Parts) (x : Record) (a n m : ℕ) → x ≡ Reserve a n → new ≡ record w { kept = with_record w.kept x } → m ≡ n
+pub reserved_kept : (w new : Machine) (x : Record) (a n m : ℕ) → x ≡ Reserve a n → new ≡ record w { kept = with_record w.kept x } → m ≡ n
     → HasRandom new.kept.reserved m
 reserved_kept w new x a n m reserves is same =
     let there : HasRandom (w.kept.reserved ++ (a, n) ∷ []) n = has_map (λ q. q.1) (w.kept.reserved ++ (a, n) ∷ []) (a, n) (has_last w.kept.reserved (a, n)) in
     rw (is, reserves, same) there
 
 -- before the start
-pub whole_at_first : (w : Parts) → w.trace ≡ [] → w.last ≡ None → w.tries ≡ 0 → w.silent ≡ 0 → w.opened ≡ false → w.purpose ≡ Opening → w.way ≡ Fresh
-    → IsWhole (machine_of w)
+pub whole_at_first : (w : Machine) → w.trace ≡ [] → w.last ≡ None → w.tries ≡ 0 → w.silent ≡ 0 → w.opened ≡ false → w.course.purpose ≡ Opening
+    → w.course.way ≡ Fresh
+    → IsWhole w
 whole_at_first w trace last tries silent opened opening fresh = rw last (record {
   ready = record {
     tries = rw tries (lit< tt);

@@ -6,5 +6,5 @@ pub mod Next
 pub mod Orders
 pub mod Moments
 pub mod Whole
-pub mod Parts
+pub mod States
 pub mod Steps

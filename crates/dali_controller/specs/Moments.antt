@@ -33,10 +33,8 @@ use Rattle.dali_controller.specs.declared.purpose.Purpose.TheVariants.{Resolving
 use Rattle.dali_controller.specs.declared.purpose.Purpose.TheVariants.{Asking, Waking, Hunting}
 use Rattle.dali_controller.specs.declared.way.Way.{Way}
 use Rattle.dali_controller.specs.declared.way.Way.TheVariants.{Fresh, Surveying, Drawing}
-use Rattle.dali_controller.specs.Parts.{Parts}
 use Rattle.dali_controller.specs.Course.{Course, closing_of, first_of, least_open, bytes_to_send}
 use Rattle.dali_controller.specs.Machine.{Machine}
-use Rattle.dali_controller.specs.Parts.{machine_of}
 use Rattle.dali_controller.specs.declared.shorts.Shorts.{Shorts}
 use Rattle.dali_controller.specs.Next.{beginning, course_by, next_course, goes_on_to, draws}
 use Rattle.dali_controller.specs.Next.{BeginsWith}
@@ -45,7 +43,7 @@ use Rattle.dali_controller.specs.Orders.{MayEnrolOn, is_left}
 use Rattle.dali_controller.specs.Orders.{machine_after}
 use Rattle.dali_controller.specs.Whole.{IsWhole, IsReady, IsWithinSilence, IsSurvey, Knows, Sends}
 
--- What holds of a machine's parts between its moments. Its public contract cites none of this.
+-- What holds of a machine between its moments. Its public contract cites none of this.
 
 -- what is known at a stage of the transaction that led there: its end, or that there is a command
 -- to send
@@ -90,91 +88,92 @@ FoundAt (Spelled b (Some n)) found = found ≡ Some (Resolved b n)
 FoundAt _ found = Unit {0}
 
 -- what holds where a frame was just heard
-pub record IsHeard (w : Parts) (s : Stage) : Type 0 where
+pub record IsHeard (w : Machine) (s : Stage) : Type 0 where
   pub stage : stage_of w.trace ≡ s
   pub tries : w.tries < 8
-  pub arrived : Arrived w.kept w.number w.purpose s
-  pub calm : CalmAt s w.purpose w.opened w.silent
-  pub knows : KnowsAt s w.way w.kept w.number w.search w.ascent w.opened w.purpose
+  pub arrived : Arrived w.kept w.course.number w.course.purpose s
+  pub calm : CalmAt s w.course.purpose w.opened w.silent
+  pub knows : KnowsAt s w.course.way w.kept w.course.number w.course.search w.course.ascent
+      w.opened w.course.purpose
   pub finding : FoundAt s w.finding
   pub trace_finding : FoundAt s (finding_of w.trace)
 
 -- what holds where a transaction may end without a record and without a close
-pub record IsBetween (w : Parts) : Type 0 where
+pub record IsBetween (w : Machine) : Type 0 where
   pub tries : w.tries < 8
   pub silent : w.silent < 16
-  pub going : closing_of w.purpose ≡ None
+  pub going : closing_of w.course.purpose ≡ None
   pub unnamed : (r : SearchAddress) → stage_of w.trace ≡ Unnamed r → ⊥
   pub found : (r : SearchAddress) (b : ℕ) → stage_of w.trace ≡ Withdrawn r b
       → Has w.kept.enrolled (b, value_of r)
 
 -- a close is begun with its cause, or again
-pub record IsTurn (w : Parts) (e : End) : Type 0 where
+pub record IsTurn (w : Machine) (e : End) : Type 0 where
   pub opened : w.opened ≡ true
-  pub cause : (closing_of w.purpose ≡ Some e)
-      ⊎ ((closing_of w.purpose ≡ None) × Cause (machine_of w) e)
+  pub cause : (closing_of w.course.purpose ≡ Some e)
+      ⊎ ((closing_of w.course.purpose ≡ None) × Cause w e)
 
-abbrev pub Turns : Parts → Purpose → Type 0
+abbrev pub Turns : Machine → Purpose → Type 0
 Turns w (Closing e) = IsTurn w e
-Turns w _ = closing_of w.purpose ≡ None
+Turns w _ = closing_of w.course.purpose ≡ None
 
 -- what holds where nothing can be given to gear that answered MASK, and where a transaction begins
 -- then
-abbrev pub IsUngiven : Way → Parts → SearchAddress → Type 0
+abbrev pub IsUngiven : Way → Machine → SearchAddress → Type 0
 IsUngiven Fresh w r =
     (HasRandom w.kept.reserved (value_of r) → ⊥) × IsFull w.kept.block w.kept.reserved
-IsUngiven Surveying w r = is_left (machine_of w) (value_of r) ≡ true
-IsUngiven Drawing w r = is_left (machine_of w) (value_of r) ≡ true
+IsUngiven Surveying w r = is_left w (value_of r) ≡ true
+IsUngiven Drawing w r = is_left w (value_of r) ≡ true
 
-abbrev pub IsNextTo : Way → Parts → Purpose → SearchAddress → Type 0
+abbrev pub IsNextTo : Way → Machine → Purpose → SearchAddress → Type 0
 IsNextTo Fresh w p n = p ≡ Closing BlockFull
 IsNextTo Surveying w p n =
-    Put FIRST (frame_of (first_of p n)) ≡ beginning (next_course (machine_of w))
+    Put FIRST (frame_of (first_of p n)) ≡ beginning (next_course w)
 IsNextTo Drawing w p n =
-    Put FIRST (frame_of (first_of p n)) ≡ beginning (next_course (machine_of w))
+    Put FIRST (frame_of (first_of p n)) ≡ beginning (next_course w)
 
 -- what holds where a transaction begins
-pub record Begins (w : Parts) (p : Purpose) (n : SearchAddress) : Type 0 where
+pub record Begins (w : Machine) (p : Purpose) (n : SearchAddress) : Type 0 where
   pub tries : w.tries < 8
   pub calm : IsWithinSilence p w.silent
-  pub knows : Knows w.way w.kept n w.search w.ascent w.opened p
+  pub knows : Knows w.course.way w.kept n w.course.search w.course.ascent w.opened p
   pub turns : Turns w p
   pub unnamed : (r : SearchAddress) → stage_of w.trace ≡ Unnamed r
-      → IsUngiven w.way w r × IsNextTo w.way w p n
+      → IsUngiven w.course.way w r × IsNextTo w.course.way w p n
   pub found : (r : SearchAddress) (b : ℕ) → stage_of w.trace ≡ Withdrawn r b
       → Has w.kept.enrolled (b, value_of r)
 
 -- what holds where a gear was found, and may be enrolled
-pub record Settles (w : Parts) (b n : ℕ) : Type 0 where
-  pub ready : IsReady (machine_of w)
-  pub going : closing_of w.purpose ≡ None
+pub record Settles (w : Machine) (b n : ℕ) : Type 0 where
+  pub ready : IsReady w
+  pub going : closing_of w.course.purpose ≡ None
   pub drawn : n < MASK24
   pub found : Finding
   pub is : assigned found ≡ (b, n)
-  pub may : MayEnrolOn w.way w.kept.reserved found (b, n)
+  pub may : MayEnrolOn w.course.way w.kept.reserved found (b, n)
   pub finding : w.finding ≡ Some found
   pub trace_finding : finding_of w.trace ≡ Some found
-  pub next : next_course (machine_of w) ≡ goes_on_to (machine_of w)
+  pub next : next_course w ≡ goes_on_to w
   pub unnamed : (r : SearchAddress) → stage_of w.trace ≡ Unnamed r → ⊥
   pub withdrawn : (r : SearchAddress) (c : ℕ) → stage_of w.trace ≡ Withdrawn r c
       → (c ≡ b) × (value_of r ≡ n)
 
 -- what holds where an enrolment was just kept
-pub record Enrolled (w : Parts) (b n : ℕ) : Type 0 where
+pub record Enrolled (w : Machine) (b n : ℕ) : Type 0 where
   pub between : IsBetween w
-  pub ready : IsReady (machine_of w)
+  pub ready : IsReady w
   pub free : stage_of w.trace ≡ Free
   pub last : w.last ≡ Some (Commit (Enrol b n))
 
 -- what holds where a close is begun
-pub record Closes (w : Parts) (e : End) : Type 0 where
+pub record Closes (w : Machine) (e : End) : Type 0 where
   pub tries : w.tries < 8
   pub calm : IsWithinSilence (Closing e) w.silent
   pub opened : w.opened ≡ true
-  pub going : closing_of w.purpose ≡ None
-  pub cause : Cause (machine_of w) e
+  pub going : closing_of w.course.purpose ≡ None
+  pub cause : Cause w e
   pub unnamed : (r : SearchAddress) → stage_of w.trace ≡ Unnamed r
-      → IsUngiven w.way w r × IsNextTo w.way w (Closing e) w.number
+      → IsUngiven w.course.way w r × IsNextTo w.course.way w (Closing e) w.course.number
   pub found : (r : SearchAddress) (b : ℕ) → stage_of w.trace ≡ Withdrawn r b → ⊥
 
 -- an order that a machine of which this is seen may give, and what is seen after it but its course
@@ -202,13 +201,13 @@ pub record IsStep (m : Machine) (i : Input) (o : Order) (new : Machine) : Type 0
   pub state : new ≡ machine_after m i o
 
 -- what holds where gear are to draw new random addresses
-pub record Draws (w : Parts) : Type 0 where
+pub record Draws (w : Machine) : Type 0 where
   pub tries : w.tries < 8
   pub silent : w.silent < 16
-  pub surveying : w.way ≡ Surveying
-  pub going : closing_of w.purpose ≡ None
+  pub surveying : w.course.way ≡ Surveying
+  pub going : closing_of w.course.purpose ≡ None
   pub unnamed : (r : SearchAddress) → stage_of w.trace ≡ Unnamed r
-      → (is_left (machine_of w) (value_of r) ≡ true) × (draws (machine_of w) ≡ true)
+      → (is_left w (value_of r) ≡ true) × (draws w ≡ true)
   pub found : (r : SearchAddress) (b : ℕ) → stage_of w.trace ≡ Withdrawn r b → ⊥
 
 -- the address that is reserved next, if there is one
@@ -219,18 +218,18 @@ IsFirstFree Surveying k heard o = o ≡ least_open k heard
 IsFirstFree Drawing k heard o = o ≡ least_open k heard
 
 -- what holds where the search that goes up asks its next question, after one was answered
-pub record AsksNext (w : Parts) (sent : SearchAddress) (left : ℕ) : Type 0 where
+pub record AsksNext (w : Machine) (sent : SearchAddress) (left : ℕ) : Type 0 where
   pub tries : w.tries < 8
   pub silent : w.silent < 16
   pub opened : w.opened ≡ true
-  pub hunting : w.purpose ≡ Hunting
-  pub survey : IsSurvey w.way
-  pub running : leads_to w.ascent ≡ Again
+  pub hunting : w.course.purpose ≡ Hunting
+  pub survey : IsSurvey w.course.way
+  pub running : leads_to w.course.ascent ≡ Again
   pub asked : (h : Answer) × (stage_of w.trace ≡ Hunted sent (Some h) left)
 
 -- the same where it does so in the transaction that runs
-pub record AsksOn (w : Parts) (number sent : SearchAddress) : Type 0 where
+pub record AsksOn (w : Machine) (number sent : SearchAddress) : Type 0 where
   pub left : ℕ
   pub next : AsksNext w sent left
-  pub number_is : value_of number ≡ asked_next w.ascent
+  pub number_is : value_of number ≡ asked_next w.course.ascent
   pub room : bytes_to_send number sent < left

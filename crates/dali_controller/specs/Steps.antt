@@ -6,7 +6,7 @@ use Rattle.dali_script.specs.declared.orders.Order.{Order}
 use Rattle.dali_script.specs.declared.orders.Order.TheVariants.{Put, Commit, Done, Halt}
 use Rattle.dali_script.specs.Records.{Kept, with_record}
 use Rattle.dali_controller.specs.declared.state.State.{State}
-use Rattle.dali_controller.specs.Parts.{machine_with}
+use Rattle.dali_controller.specs.States.{machine_with}
 use Rattle.dali_controller.specs.Whole.{IsWhole}
 
 -- the record that is kept from now on, by the last order and an input

@@ -28,7 +28,7 @@ use Rattle.dali_controller.specs.Course.{first_of, turn_of, closing_of, byte_to_
 use Rattle.dali_controller.specs.Machine.{Machine}
 
 -- WHAT IS TRUE OF EVERY MACHINE between two inputs: its last order is one that it gives in this
--- state. Of parts that are no machine's, something below is false.
+-- state. Of what is no machine, something below is false.
 
 -- what was sent of the transaction's search address, or that its short address is asked
 abbrev pub IsAt : Stage → Purpose → SearchAddress → Type 0

@@ -17,7 +17,7 @@ use dali_script::{Order, Records};
 use dali_search::Step;
 
 impl State {
-    ghost use Rattle.dali_controller.specs.Parts.{with_kept, machine_with, course_of};
+    ghost use Rattle.dali_controller.specs.States.{machine_with, course_of};
     ghost use Rattle.dali_controller.specs.Whole.{IsWhole, IsSurvey};
     ghost use Rattle.dali_controller.specs.Moments.{IsHeard, IsBetween, IsMoment, Begun, IsNext, AsksNext};
     ghost use Rattle.dali_controller.specs.Course.{turn_of, hunting};
@@ -27,7 +27,7 @@ impl State {
     /// The transaction that asks under the number of the search that goes up.
     #[tactic(auto, using(crate::proofs::Steps::hunts))]
     pub(crate) fn hunt(&mut self, kept: &Records<'_>) -> Order
-        requires between { IsBetween (with_kept self.old kept.now) }
+        requires between { IsBetween (machine_with self.old kept.now) }
         requires opened { self.old.opened ≡ true }
         requires survey { IsSurvey self.old.way }
         requires running { leads_to self.old.ascent ≡ search.Again }
@@ -47,7 +47,7 @@ impl State {
         last: Option<Answer>,
         left: u8,
     ) -> Order
-        requires heard { IsHeard (with_kept self.old kept.now) (stage.Hunted sent last left) }
+        requires heard { IsHeard (machine_with self.old kept.now) (stage.Hunted sent last left) }
         requires over { turn_of self.old.purpose self.old.number (stage.Hunted sent last left) ≡ None }
 
         ensures asked { result ≡ question (next_course (machine_with self.old kept.now)) sent left }
@@ -67,7 +67,7 @@ impl State {
         heard: Answer,
         left: u8,
     ) -> Order
-        requires { IsHeard (with_kept self.old kept.now) (stage.Hunted sent (Some heard) left) }
+        requires { IsHeard (machine_with self.old kept.now) (stage.Hunted sent (Some heard) left) }
 
         ensures asked { result ≡ question (next_course (machine_with self.old kept.now)) sent left }
         ensures moment { IsMoment (machine_with self.old kept.now) result (machine_with self.new kept.now) }
@@ -81,7 +81,7 @@ impl State {
 
     /// The next question of a hunt: in the transaction that runs, where that has room for it.
     fn ask_next(&mut self, kept: &Records<'_>, sent: SearchAddress, left: u8) -> Order
-        requires { AsksNext (with_kept self.old kept.now) sent left }
+        requires { AsksNext (machine_with self.old kept.now) sent left }
 
         ensures asked { result ≡ question (hunting (course_of self.old)) sent left }
         ensures course { course_of self.new ≡ hunting (course_of self.old) }

@@ -5,7 +5,7 @@ ghost use Rattle.dali_script.specs.Table.{table_of};
 ghost use Rattle.dali_script.specs.Due.{due_after, accepts, record_ordered};
 ghost use Rattle.dali_controller.specs.Machine.{at_first};
 ghost use Rattle.dali_controller.specs.Next.{BeginsWith};
-ghost use Rattle.dali_controller.specs.Parts.{machine_with};
+ghost use Rattle.dali_controller.specs.States.{machine_with};
 ghost use Rattle.dali_controller.specs.Whole.{IsWhole};
 ghost use Rattle.dali_controller.specs.Orders.{IsAnswered, IsFollowedAt, IsGiven, machine_after};
 
@@ -62,7 +62,7 @@ pub struct Machine {
 
 impl Model for Machine {
     ghost use Rattle.dali_controller.specs.Machine.{Machine};
-    ghost use Rattle.dali_controller.specs.Parts.{machine_with};
+    ghost use Rattle.dali_controller.specs.States.{machine_with};
     ghost use Rattle.dali_controller.specs.Whole.{IsWhole};
 
     ghost Value = { Machine };

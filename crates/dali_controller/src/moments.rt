@@ -42,7 +42,7 @@ pub(crate) fn is_yes(heard: Answer) -> bool
 }
 
 impl State {
-    ghost use Rattle.dali_controller.specs.Parts.{with_kept, machine_with, course_of};
+    ghost use Rattle.dali_controller.specs.States.{machine_with, course_of};
     ghost use Rattle.dali_controller.specs.Whole.{IsWhole};
     ghost use Rattle.dali_controller.specs.Moments.{IsHeard, IsBetween, Closes, Settles, IsMoment, Begun, Enrolled};
     ghost use Rattle.dali_controller.specs.Moments.{IsStep, Draws};
@@ -87,7 +87,7 @@ impl State {
     /// The next transaction: before the opening was complete another visit or the opening, in a survey the next short
     /// address or the waking; afterwards a new search.
     pub(crate) fn go_on(&mut self, kept: &Records<'_>) -> Order
-        requires { IsBetween (with_kept self.old kept.now) }
+        requires { IsBetween (machine_with self.old kept.now) }
 
         ensures { Begun (machine_with self.old kept.now) (going_on kept.now self.old.opened (course_of self.old))
             result (machine_with self.new kept.now) }
@@ -111,7 +111,7 @@ impl State {
 
     /// In a survey, where no more can be given under the old random addresses: gear draw new ones.
     pub(crate) fn draw(&mut self, kept: &Records<'_>) -> Order
-        requires { Draws (with_kept self.old kept.now) }
+        requires { Draws (machine_with self.old kept.now) }
 
         ensures { Begun (machine_with self.old kept.now) (drawing (course_of self.old))
             result (machine_with self.new kept.now) }
@@ -125,7 +125,7 @@ impl State {
     /// The transaction that lets all gear without short address draw a random address.
     #[tactic(auto, using(crate::proofs::Steps::opens))]
     pub(crate) fn open(&mut self, kept: &Records<'_>) -> Order
-        requires between { IsBetween (with_kept self.old kept.now) }
+        requires between { IsBetween (machine_with self.old kept.now) }
         requires opened { self.old.opened ≡ false }
 
         ensures { Begun (machine_with self.old kept.now) (opening (course_of self.old))
@@ -137,7 +137,7 @@ impl State {
 
     /// The transaction that ends the initialisation of all gear, before this end.
     pub(crate) fn close(&mut self, kept: &Records<'_>, end: End) -> Order
-        requires { Closes (with_kept self.old kept.now) end }
+        requires { Closes (machine_with self.old kept.now) end }
 
         ensures { Begun (machine_with self.old kept.now) (closing (course_of self.old) end)
             result (machine_with self.new kept.now) }
@@ -164,7 +164,7 @@ impl State {
 
     /// What follows at each stage of a transaction.
     fn after(&mut self, kept: &Records<'_>, stage: Stage) -> Order
-        requires { IsHeard (with_kept self.old kept.now) stage }
+        requires { IsHeard (machine_with self.old kept.now) stage }
 
         ensures sent { (c : Command) → turn_of self.old.purpose self.old.number (stage_of self.old.trace) ≡ Some c
             → result ≡ order.Put LATER (frame_of c) }
@@ -187,7 +187,7 @@ impl State {
 
     /// What follows where the transaction sends no more, or PROGRAM SHORT ADDRESS.
     fn over(&mut self, kept: &Records<'_>, stage: Stage) -> Order
-        requires heard { IsHeard (with_kept self.old kept.now) stage }
+        requires heard { IsHeard (machine_with self.old kept.now) stage }
         requires over { turn_of self.old.purpose self.old.number stage ≡ None }
 
         ensures told { (b n : ℕ) → stage_of self.old.trace ≡ Spelled b (Some n)
@@ -230,7 +230,7 @@ impl State {
 
     /// The TERMINATE of a close was sent.
     fn terminated(&mut self, kept: &Records<'_>) -> Order
-        requires heard { IsHeard (with_kept self.old kept.now) stage.Terminated }
+        requires heard { IsHeard (machine_with self.old kept.now) stage.Terminated }
         requires over { turn_of self.old.purpose self.old.number stage.Terminated ≡ None }
 
         ensures { IsMoment (machine_with self.old kept.now) result (machine_with self.new kept.now) }
@@ -249,7 +249,7 @@ impl State {
 
     /// The opening is complete.
     fn all_drawn(&mut self, kept: &Records<'_>) -> Order
-        requires { IsHeard (with_kept self.old kept.now) stage.Opened }
+        requires { IsHeard (machine_with self.old kept.now) stage.Opened }
 
         ensures { IsMoment (machine_with self.old kept.now) result (machine_with self.new kept.now) }
     {
@@ -259,8 +259,8 @@ impl State {
     /// The visit led to no gear.
     pub(crate) fn silenced(&mut self, kept: &Records<'_>) -> Order
         requires heard { (number : SearchAddress)
-            × (IsHeard (with_kept self.old kept.now) (stage.Unanswered number)
-            ⊎ ((other : Option ℕ) × IsHeard (with_kept self.old kept.now) (stage.Inconclusive number other))) }
+            × (IsHeard (machine_with self.old kept.now) (stage.Unanswered number)
+            ⊎ ((other : Option ℕ) × IsHeard (machine_with self.old kept.now) (stage.Inconclusive number other))) }
         requires next { next_course (machine_with self.old kept.now) ≡ silenced (machine_with self.old kept.now) }
 
         ensures starts { result ≡ beginning (next_course (machine_with self.old kept.now)) }
@@ -275,7 +275,7 @@ impl State {
 
     /// The gear with this short address and this random address was found.
     pub(crate) fn settle(&mut self, kept: &Records<'_>, short: Short, random: Random24) -> Order
-        requires { Settles (with_kept self.old kept.now) short random }
+        requires { Settles (machine_with self.old kept.now) short random }
 
         ensures found { AfterFinding (machine_with self.old kept.now) short random result }
         ensures moment { IsMoment (machine_with self.old kept.now) result (machine_with self.new kept.now) }
@@ -313,9 +313,9 @@ impl State {
     pub(crate) fn committed(&mut self, kept: &Records<'_>, added: Record) -> Order
         requires ordered { self.old.last ≡ Some (Commit added) }
         requires free { stage_of self.old.trace ≡ stage.Free }
-        requires between { IsBetween (with_kept self.old kept.now) }
+        requires between { IsBetween (machine_with self.old kept.now) }
         requires reserved { (a n : ℕ) → added ≡ Reserve a n → (n < MASK24) × HasRandom kept.now.reserved n }
-        requires enrolled { (b n : ℕ) → added ≡ Enrol b n → Enrolled (with_kept self.old kept.now) b n }
+        requires enrolled { (b n : ℕ) → added ≡ Enrol b n → Enrolled (machine_with self.old kept.now) b n }
 
         ensures enrolled { (b n : ℕ) → added ≡ Enrol b n → AfterEnrolled (machine_with self.old kept.now) b n result }
         ensures moment { IsMoment (machine_with self.old kept.now) result (machine_with self.new kept.now) }
@@ -330,7 +330,7 @@ impl State {
     /// The gear with this short address and this random address is enrolled. Another short address that was reserved
     /// for it is given back.
     fn enrolled(&mut self, kept: &Records<'_>, short: Short, random: Random24) -> Order
-        requires { Enrolled (with_kept self.old kept.now) short random }
+        requires { Enrolled (machine_with self.old kept.now) short random }
 
         ensures enrolled { AfterEnrolled (machine_with self.old kept.now) short random result }
         ensures moment { IsMoment (machine_with self.old kept.now) result (machine_with self.new kept.now) }

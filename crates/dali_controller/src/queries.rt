@@ -15,7 +15,7 @@ use dali_frame::{Random24, SearchAddress, Short};
 use dali_script::{Order, Records};
 
 impl State {
-    ghost use Rattle.dali_controller.specs.Parts.{with_kept, machine_with, course_of};
+    ghost use Rattle.dali_controller.specs.States.{machine_with, course_of};
     ghost use Rattle.dali_controller.specs.Moments.{IsHeard, IsBetween, IsMoment, Begun};
     ghost use Rattle.dali_controller.specs.Course.{resolving, turn_of, taking, ask_or_wake, next_asked, waking};
     ghost use Rattle.dali_controller.specs.Next.{next_course, beginning};
@@ -24,7 +24,7 @@ impl State {
 
     /// In a survey: the next short address is asked, or gear are woken.
     pub(crate) fn ask_or_wake(&mut self, kept: &Records<'_>) -> Order
-        requires between { IsBetween (with_kept self.old kept.now) }
+        requires between { IsBetween (machine_with self.old kept.now) }
         requires opened { self.old.opened ≡ false }
         requires surveying { self.old.way ≡ way.Surveying }
 
@@ -44,7 +44,7 @@ impl State {
     /// The transaction that asks whoever has a short address for its random address.
     #[tactic(auto, using(crate::proofs::Steps::asks))]
     fn ask(&mut self, kept: &Records<'_>, short: Short) -> Order
-        requires between { IsBetween (with_kept self.old kept.now) }
+        requires between { IsBetween (machine_with self.old kept.now) }
         requires opened { self.old.opened ≡ false }
         requires surveying { self.old.way ≡ way.Surveying }
         requires range { short < 64 }
@@ -60,7 +60,8 @@ impl State {
     /// A short address was asked for the first byte of a random address, and no byte was heard. Where it was silent, it
     /// is asked again, three times in all.
     pub(crate) fn asked_once(&mut self, kept: &Records<'_>) -> Order
-        requires heard { (b : ℕ) × (high : Option ℕ) × IsHeard (with_kept self.old kept.now) (stage.HighAsked b high) }
+        requires heard { (b : ℕ) × (high : Option ℕ)
+            × IsHeard (machine_with self.old kept.now) (stage.HighAsked b high) }
         requires over { turn_of self.old.purpose self.old.number (stage_of self.old.trace) ≡ None }
 
         ensures { IsMoment (machine_with self.old kept.now) result (machine_with self.new kept.now) }
@@ -76,7 +77,7 @@ impl State {
     /// The transaction that initialises all gear without short address, which keep their random addresses.
     #[tactic(auto, using(crate::proofs::Steps::wakes))]
     fn wake(&mut self, kept: &Records<'_>) -> Order
-        requires between { IsBetween (with_kept self.old kept.now) }
+        requires between { IsBetween (machine_with self.old kept.now) }
         requires opened { self.old.opened ≡ false }
         requires surveying { self.old.way ≡ way.Surveying }
 
@@ -89,7 +90,7 @@ impl State {
 
     /// Gear were woken.
     pub(crate) fn woken(&mut self, kept: &Records<'_>) -> Order
-        requires heard { IsHeard (with_kept self.old kept.now) stage.Initialised }
+        requires heard { IsHeard (machine_with self.old kept.now) stage.Initialised }
         requires over { turn_of self.old.purpose self.old.number stage.Initialised ≡ None }
 
         ensures { IsMoment (machine_with self.old kept.now) result (machine_with self.new kept.now) }
@@ -105,7 +106,7 @@ impl State {
         short: Short,
         number: SearchAddress,
     ) -> Order
-        requires heard { IsHeard (with_kept self.old kept.now) (stage.Unanswered number) }
+        requires heard { IsHeard (machine_with self.old kept.now) (stage.Unanswered number) }
         requires early { self.old.opened ≡ false }
         requires reserved { Has kept.now.reserved (short, value_of number) }
 
@@ -123,7 +124,7 @@ impl State {
         short: Short,
         number: Option<Random24>,
     ) -> Order
-        requires { IsHeard (with_kept self.old kept.now) (stage.Spelled short number) }
+        requires { IsHeard (machine_with self.old kept.now) (stage.Spelled short number) }
 
         ensures told { (n : ℕ) → number ≡ Some n → IsSought self.old.purpose self.old.number n
             → AfterFinding (machine_with self.old kept.now) short n result }

@@ -18,14 +18,14 @@ use dali_script::{End, Order, Records};
 use dali_search::{Ascent, Search, Step};
 
 impl State {
-    ghost use Rattle.dali_controller.specs.Parts.{with_kept, machine_with, course_of};
+    ghost use Rattle.dali_controller.specs.States.{machine_with, course_of};
     ghost use Rattle.dali_controller.specs.Moments.{IsHeard, IsBetween, Closes, IsMoment, Begun};
     ghost use Rattle.dali_controller.specs.Course.{probing, searching_anew, searching_first, searching_on};
     ghost use Rattle.dali_controller.specs.Next.{draws, draw_or_close};
 
     /// Where gear are searched: a new search, or in a survey the one that goes up, above who was found last.
     pub(crate) fn search_on(&mut self, kept: &Records<'_>) -> Order
-        requires between { IsBetween (with_kept self.old kept.now) }
+        requires between { IsBetween (machine_with self.old kept.now) }
         requires opened { self.old.opened ≡ true }
 
         ensures { Begun (machine_with self.old kept.now) (searching_on self.old.way (course_of self.old))
@@ -42,7 +42,7 @@ impl State {
 
     /// Gear are searched from now on.
     pub(crate) fn search_first(&mut self, kept: &Records<'_>) -> Order
-        requires between { IsBetween (with_kept self.old kept.now) }
+        requires between { IsBetween (machine_with self.old kept.now) }
         requires opened { self.old.opened ≡ true }
 
         ensures { Begun (machine_with self.old kept.now) (searching_first self.old.way (course_of self.old))
@@ -58,7 +58,7 @@ impl State {
     }
 
     fn search_anew(&mut self, kept: &Records<'_>) -> Order
-        requires between { IsBetween (with_kept self.old kept.now) }
+        requires between { IsBetween (machine_with self.old kept.now) }
         requires opened { self.old.opened ≡ true }
 
         ensures { Begun (machine_with self.old kept.now) (searching_anew (course_of self.old))
@@ -71,7 +71,7 @@ impl State {
     /// The transaction that asks whether some gear is at most the search's number.
     #[tactic(auto, using(crate::proofs::Steps::probes))]
     pub(crate) fn probe(&mut self, kept: &Records<'_>) -> Order
-        requires between { IsBetween (with_kept self.old kept.now) }
+        requires between { IsBetween (machine_with self.old kept.now) }
         requires opened { self.old.opened ≡ true }
         requires running { self.old.search.step ≡ search.Again }
 
@@ -84,7 +84,7 @@ impl State {
 
     /// COMPARE was sent, and this was heard.
     pub(crate) fn probed(&mut self, kept: &Records<'_>, heard: Answer) -> Order
-        requires { (number : SearchAddress) × IsHeard (with_kept self.old kept.now) (stage.Probed number heard) }
+        requires { (number : SearchAddress) × IsHeard (machine_with self.old kept.now) (stage.Probed number heard) }
 
         ensures { IsMoment (machine_with self.old kept.now) result (machine_with self.new kept.now) }
     {
@@ -97,7 +97,7 @@ impl State {
 
     /// Nobody answers the search any more.
     pub(crate) fn nobody(&mut self, kept: &Records<'_>) -> Order
-        requires { Closes (with_kept self.old kept.now) AllFound }
+        requires { Closes (machine_with self.old kept.now) AllFound }
 
         ensures { Begun (machine_with self.old kept.now)
             (draw_or_close (draws (machine_with self.old kept.now)) (course_of self.old) AllFound)

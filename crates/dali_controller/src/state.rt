@@ -66,7 +66,7 @@ pub struct State {
 }
 
 impl State {
-    ghost use Rattle.dali_controller.specs.Parts.{with_kept, machine_with, course_of};
+    ghost use Rattle.dali_controller.specs.States.{machine_with, course_of};
     ghost use Rattle.dali_controller.specs.Moments.{IsHeard, Begins};
     ghost use Rattle.dali_controller.specs.Whole.{IsWhole, Sends, IsReady};
     ghost use Rattle.dali_controller.specs.Moments.{IsNext, Begun, AsksOn};
@@ -205,7 +205,7 @@ impl State {
 
         ensures told { machine_with self.new kept.now
             ≡ machine_told (machine_with self.old kept.now) (input.Heard heard) }
-        ensures heard { IsHeard (with_kept self.new kept.now) result }
+        ensures heard { IsHeard (machine_with self.new kept.now) result }
     {
         self.trace.push(frame, heard);
         self.note_finding();
@@ -219,7 +219,7 @@ impl State {
 
     /// Goes on with the running transaction.
     pub(crate) fn put(&mut self, kept: &Records<'_>, command: Command) -> Order
-        requires heard { IsHeard (with_kept self.old kept.now) (stage_of self.old.trace) }
+        requires heard { IsHeard (machine_with self.old kept.now) (stage_of self.old.trace) }
         requires sends { Sends kept.now self.old.number self.old.purpose (stage_of self.old.trace) command }
         requires later { stage_of self.old.trace ≡ Free → ⊥ }
         requires masked { (r : SearchAddress) → stage_of self.old.trace ≡ Unnamed r
@@ -245,7 +245,7 @@ impl State {
         number: SearchAddress,
         sent: SearchAddress,
     ) -> Order
-        requires { AsksOn (with_kept self.old kept.now) number sent }
+        requires { AsksOn (machine_with self.old kept.now) number sent }
 
         ensures order { result ≡ order.Put LATER (frame_of (byte_to_send number sent)) }
         ensures course { course_of self.new ≡ taking (course_of self.old) purpose.Hunting number }
@@ -266,7 +266,7 @@ impl State {
         purpose: Purpose,
         number: SearchAddress,
     ) -> Order
-        requires { Begins (with_kept self.old kept.now) purpose number }
+        requires { Begins (machine_with self.old kept.now) purpose number }
 
         ensures { Begun (machine_with self.old kept.now) (taking (course_of self.old) purpose number)
             result (machine_with self.new kept.now) }

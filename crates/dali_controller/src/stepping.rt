@@ -14,7 +14,7 @@ use dali_search::{Ascent, Search};
 
 impl State {
     ghost use Rattle.dali_controller.specs.Machine.{at_first};
-    ghost use Rattle.dali_controller.specs.Parts.{machine_with};
+    ghost use Rattle.dali_controller.specs.States.{machine_with};
     ghost use Rattle.dali_controller.specs.Whole.{IsWhole};
     ghost use Rattle.dali_controller.specs.Steps.{kept_by, IsBefore};
 

@@ -18,7 +18,7 @@ use dali_script::{End, Order, Record, Records};
 use dali_special::Command;
 
 impl State {
-    ghost use Rattle.dali_controller.specs.Parts.{with_kept, machine_with, course_of};
+    ghost use Rattle.dali_controller.specs.States.{machine_with, course_of};
     ghost use Rattle.dali_controller.specs.Moments.{IsHeard, IsBetween, IsMoment, Begun, IsFirstFree, IsUngiven};
     ghost use Rattle.dali_controller.specs.Course.{visiting, visit_or_opening, next_unfinished, address_for};
     ghost use Rattle.dali_controller.specs.Next.{draws};
@@ -27,7 +27,7 @@ impl State {
 
     /// Before the opening was complete: a visit to the next unfinished reservation, or the opening.
     pub(crate) fn visit_or_open(&mut self, kept: &Records<'_>) -> Order
-        requires between { IsBetween (with_kept self.old kept.now) }
+        requires between { IsBetween (machine_with self.old kept.now) }
         requires opened { self.old.opened ≡ false }
 
         ensures { Begun (machine_with self.old kept.now)
@@ -46,7 +46,7 @@ impl State {
     /// The transaction that asks the gear at a number for its short address.
     #[tactic(auto, using(crate::proofs::Steps::visits))]
     pub(crate) fn visit(&mut self, kept: &Records<'_>, number: Random24) -> Order
-        requires between { IsBetween (with_kept self.old kept.now) }
+        requires between { IsBetween (machine_with self.old kept.now) }
         requires drawn { number < MASK24 }
         requires reserved { self.old.opened ≡ false → HasRandom kept.now.reserved number }
 
@@ -58,7 +58,7 @@ impl State {
 
     /// The gear at this number has no short address: it is programmed with the one that is reserved for it.
     pub(crate) fn unnamed(&mut self, kept: &Records<'_>, number: SearchAddress) -> Order
-        requires { IsHeard (with_kept self.old kept.now) (stage.Unnamed number) }
+        requires { IsHeard (machine_with self.old kept.now) (stage.Unnamed number) }
 
         ensures { IsMoment (machine_with self.old kept.now) result (machine_with self.new kept.now) }
     {
@@ -70,7 +70,7 @@ impl State {
 
     /// The gear at this number has no short address, and this one is reserved for it.
     fn give(&mut self, kept: &Records<'_>, number: SearchAddress, short: Short) -> Order
-        requires heard { IsHeard (with_kept self.old kept.now) (stage.Unnamed number) }
+        requires heard { IsHeard (machine_with self.old kept.now) (stage.Unnamed number) }
         requires reserved { Has kept.now.reserved (short, value_of number) }
         requires kept { IsKept kept.now }
 
@@ -107,7 +107,7 @@ impl State {
 
     /// The gear at this number has no short address, and none is reserved for it.
     fn reserve(&mut self, kept: &Records<'_>, number: SearchAddress) -> Order
-        requires heard { IsHeard (with_kept self.old kept.now) (stage.Unnamed number) }
+        requires heard { IsHeard (machine_with self.old kept.now) (stage.Unnamed number) }
         requires free { HasRandom kept.now.reserved (value_of number) → ⊥ }
         requires kept { IsKept kept.now }
 
@@ -132,9 +132,9 @@ impl State {
     /// The gear at this number has no short address, and none can be given to it: it draws a new random address, or is
     /// left.
     fn leave(&mut self, kept: &Records<'_>, number: SearchAddress) -> Order
-        requires heard { IsHeard (with_kept self.old kept.now) (stage.Unnamed number) }
+        requires heard { IsHeard (machine_with self.old kept.now) (stage.Unnamed number) }
         requires opened { self.old.opened ≡ true }
-        requires ungiven { IsUngiven self.old.way (with_kept self.old kept.now) number }
+        requires ungiven { IsUngiven self.old.way (machine_with self.old kept.now) number }
 
         ensures { IsMoment (machine_with self.old kept.now) result (machine_with self.new kept.now) }
     {
@@ -148,7 +148,7 @@ impl State {
     /// The gear at this number did not answer. In the visits before the opening it may be disabled, and have the short
     /// address that is reserved for it already: that is asked for its random address.
     pub(crate) fn unanswered(&mut self, kept: &Records<'_>, number: SearchAddress) -> Order
-        requires { IsHeard (with_kept self.old kept.now) (stage.Unanswered number) }
+        requires { IsHeard (machine_with self.old kept.now) (stage.Unanswered number) }
 
         ensures { IsMoment (machine_with self.old kept.now) result (machine_with self.new kept.now) }
     {
@@ -166,7 +166,7 @@ impl State {
         number: SearchAddress,
         short: Short,
     ) -> Order
-        requires { IsHeard (with_kept self.old kept.now) (stage.Withdrawn number short) }
+        requires { IsHeard (machine_with self.old kept.now) (stage.Withdrawn number short) }
 
         ensures { IsMoment (machine_with self.old kept.now) result (machine_with self.new kept.now) }
     {

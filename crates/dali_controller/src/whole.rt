@@ -19,7 +19,7 @@ use dali_search::Step;
 use dali_special::Command;
 
 impl State {
-    ghost use Rattle.dali_controller.specs.Parts.{machine_with};
+    ghost use Rattle.dali_controller.specs.States.{machine_with};
     ghost use Rattle.dali_controller.specs.Course.{turn_of, byte_to_send, bytes_to_send};
     ghost use Rattle.dali_controller.specs.Whole.{IsWhole, IsReady, Knows, Sends, IsChosen};
 

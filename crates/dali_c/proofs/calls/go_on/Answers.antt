@@ -1,6 +1,6 @@
 use Rattle.std.proofs.Common.{◌≡◌, Some, refl, sym, subst, ◌∙◌}
 use Rattle.dali_controller.specs.Machine.{Machine}
-use Rattle.dali_controller.specs.Parts.{machine_with}
+use Rattle.dali_controller.specs.States.{machine_with}
 use Rattle.dali_c.specs.Calls.{Steps}
 use Rattle.dali_c.specs.Records.{kept_of}
 use Rattle.dali_c.specs.declared.machine.PlainMachine.{PlainMachine}

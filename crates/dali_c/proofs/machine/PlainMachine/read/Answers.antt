@@ -1,5 +1,5 @@
 use Rattle.std.proofs.Common.{◌≡◌, sym, subst, ◌∙◌, true, false}
-use Rattle.dali_controller.specs.Parts.{machine_with}
+use Rattle.dali_controller.specs.States.{machine_with}
 use Rattle.dali_controller.specs.Whole.{IsWhole}
 use Rattle.dali_c.specs.Records.{kept_of}
 use Rattle.dali_c.proofs.Machines.{spells_once, read_of}

@@ -2,30 +2,31 @@ use Rattle.std.proofs.Common.{◌≡◌, arith}
 use Rattle.std.proofs.lemmas.Bool.Decides.{nat_tests}
 use Rattle.dali_controller.proofs.Courses.{stays_moment}
 use Rattle.dali_controller.proofs.Settling.{contradicts_by_random, halts_by_address, halts_by_random, enrols}
-use Rattle.dali_controller.specs.Parts.{with_kept}
+use Rattle.dali_controller.specs.States.{machine_with}
 use Rattle.dali_controller.proofs.state.State.settle.Goals as goal
 
 pub returns-in-Some-2-clause-moment : goal.returns-in-Some-2-clause-moment
 returns-in-Some-2-clause-moment c =
     let other : c.in-Some.enrolled ≡ c.args.random → ⊥ = grind (arith, nat_tests) in
     stays_moment _ _ _ (rw c.halt.ensures.order tt) c.halt.ensures.state
-    (halts_by_address (with_kept c.args.self.now c.args.kept.now) c.args.short c.in-Some.enrolled c.args.random _ _ c.requires c.in-Some.ensures.value other
+    (halts_by_address (machine_with c.args.self.now c.args.kept.now) c.args.short c.in-Some.enrolled c.args.random _ _ c.requires c.in-Some.ensures.value other
     c.halt.ensures.order c.halt.ensures.state) c.halt.ensures.whole
 
 pub returns-in-Some-enrolled_for-clause-moment : goal.returns-in-Some-enrolled_for-clause-moment
 returns-in-Some-enrolled_for-clause-moment c =
     let halt = c.halt-in-Some-enrolled_for.ensures in
     stays_moment _ _ _ (rw halt.order tt) halt.state
-    (halts_by_random (with_kept c.args.self.now c.args.kept.now) c.args.short _ c.args.random _ _ c.requires c.in-None.ensures.value
+    (halts_by_random (machine_with c.args.self.now c.args.kept.now) c.args.short _ c.args.random _ _ c.requires c.in-None.ensures.value
     c.in-Some-enrolled_for.ensures.value halt.order halt.state) halt.whole
 
 pub returns-in-None-enrolled_for-clause-moment : goal.returns-in-None-enrolled_for-clause-moment
 returns-in-None-enrolled_for-clause-moment c =
     stays_moment _ _ _ (rw c.commit.ensures.order tt) c.commit.ensures.state
-    (enrols (with_kept c.args.self.now c.args.kept.now) c.args.short c.args.random _ _ c.requires c.in-None.ensures.value c.in-None-enrolled_for.ensures.value
+    (enrols (machine_with c.args.self.now c.args.kept.now) c.args.short c.args.random _ _ c.requires c.in-None.ensures.value
+    c.in-None-enrolled_for.ensures.value
     c.commit.ensures.order c.commit.ensures.state) c.commit.ensures.whole
 
 pub returns-in-Some-enrolled_for-clause-found : goal.returns-in-Some-enrolled_for-clause-found
 returns-in-Some-enrolled_for-clause-found c =
-    rw c.halt-in-Some-enrolled_for.ensures.order (contradicts_by_random (with_kept c.args.self.now c.args.kept.now)
+    rw c.halt-in-Some-enrolled_for.ensures.order (contradicts_by_random (machine_with c.args.self.now c.args.kept.now)
     c.args.short _ c.args.random c.requires c.in-None.ensures.value c.in-Some-enrolled_for.ensures.value)

@@ -2,7 +2,7 @@ use Rattle.std.proofs.Common.{inl, sym, ap, ◌∙◌, Some}
 use Rattle.dali_script.specs.declared.stage.Stage.TheVariants.{Unanswered}
 use Rattle.dali_controller.specs.Course.{address_for}
 use Rattle.dali_controller.specs.Next.{unanswered as asked}
-use Rattle.dali_controller.specs.Parts.{with_kept, machine_of}
+use Rattle.dali_controller.specs.States.{machine_with}
 use Rattle.dali_controller.proofs.Courses.{begun_at, address_is}
 use Rattle.dali_controller.proofs.state.State.unanswered.Goals as goal
 
@@ -11,9 +11,9 @@ silenced-requires-clause-heard c = (c.args.number, inl c.requires)
 
 pub returns-in-Some : goal.returns-in-Some
 returns-in-Some c =
-    let w = (with_kept c.args.self.now c.args.kept.now) in
+    let w = (machine_with c.args.self.now c.args.kept.now) in
     let k = c.in-Some.ensures.kept in
     let reserved = address_is w.kept.reserved c.value.result (Some c.in-Some.short) k.reserved.random_once c.in-Some.ensures.value in
-    let next = ap (λ o. asked (machine_of w) c.args.number o (Some c.in-Some.short)) (sym c.if-not-self.true)
-    ∙ ap (λ r. asked (machine_of w) c.args.number w.opened r) (reserved ∙ ap (address_for w.kept.reserved) c.value.ensures) in
+    let next = ap (λ o. asked w c.args.number o (Some c.in-Some.short)) (sym c.if-not-self.true)
+    ∙ ap (λ r. asked w c.args.number w.opened r) (reserved ∙ ap (address_for w.kept.reserved) c.value.ensures) in
     begun_at w (Unanswered c.args.number) _ _ _ c.requires.stage next c.resolve.ensures

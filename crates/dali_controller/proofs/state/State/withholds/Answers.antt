@@ -1,6 +1,6 @@
 use Rattle.std.proofs.Common.{ap, ◌∙◌, Some, None}
 use Rattle.dali_controller.specs.Machine.{withholds}
-use Rattle.dali_controller.specs.Parts.{machine_with}
+use Rattle.dali_controller.specs.States.{machine_with}
 use Rattle.dali_controller.proofs.Courses.{address_is}
 use Rattle.dali_controller.proofs.state.State.withholds.Goals as goal
 

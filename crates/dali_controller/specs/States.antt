@@ -1,0 +1,31 @@
+use Rattle.dali_script.specs.Records.{Kept}
+use Rattle.dali_controller.specs.declared.state.State.{State}
+use Rattle.dali_controller.specs.Course.{Course}
+use Rattle.dali_controller.specs.Machine.{Machine}
+
+-- THE COURSE that a machine takes in this state
+abbrev pub course_of : State → Course
+course_of s = record {
+  purpose = s.purpose;
+  number = s.number;
+  search = s.search;
+  ascent = s.ascent;
+  from = s.from;
+  way = s.way;
+}
+
+-- THE MACHINE in this state, with these records: what contracts see of it
+abbrev pub machine_with : State → Kept → Machine
+machine_with s k = record {
+  id = s.id;
+  kept = k;
+  trace = s.trace;
+  finding = s.finding;
+  last = s.last;
+  tries = s.tries;
+  silent = s.silent;
+  opened = s.opened;
+  course = course_of s;
+  heard = s.heard;
+  asked = s.asked;
+}
