@@ -1,5 +1,5 @@
-use Rattle.std.proofs.Common.{◌≡◌, ℕ, ◌+◌, ◌*◌, ◌%◌, ◌^◌, ◌<◌, ◌≤◌, ◌⊎◌, inl, inr, Bool, true, false, List, [], ◌∷◌, refl, sym, ap, subst, ◌∙◌, arith}
-use Rattle.std.proofs.Common.{Option, Some, None, w64}
+use Rattle.std.proofs.Common.{◌≡◌, ℕ, ◌+◌, ◌*◌, ◌%◌, ◌^◌, ◌<◌, ◌≤◌, ◌⊎◌, inl, inr, Bool, true, false, List, [], ◌∷◌, refl, sym, ap, subst, ◌∙◌, arith, Option}
+use Rattle.std.proofs.Common.{Some, None, w64}
 use Rattle.std.specs.Prelude.{◌==◌, ◌&&◌, ◌||◌, ◌-◌, nat_eq, max, not, is_some, zero, suc, MatchOption, if◌then◌else◌, bit_or}
 use Rattle.dali_script.specs.declared.orders.Due.TheVariants as due
 use Rattle.std.specs.Int.{bit_at}
@@ -37,8 +37,7 @@ use Rattle.dali_frame.specs.Priority.{FIRST, LATER}
 use Rattle.dali_special.specs.Command.{frame_of}
 use Rattle.dali_controller.proofs.Courses.{found_number}
 use Rattle.dali_controller.specs.Orders.{IsGiven, IsSought, IsAnswered, IsOrdered, AfterFinding, AfterReserved, AfterMaskBy, AfterMaskOn, AfterMaskSurveyed}
-use Rattle.dali_controller.specs.Orders.{machine_after}
-use Rattle.dali_controller.specs.Orders.{machine_ordered}
+use Rattle.dali_controller.specs.Orders.{machine_after, machine_ordered}
 use Rattle.dali_progress.proofs.Later.{later_leaves}
 use Rattle.dali_progress.specs.Surveyed.{Step, IsTaken, IsCourse, stage_told, heard_at, heard_by, WasHeard, IsPlain, ArePlain, IsAccounted}
 

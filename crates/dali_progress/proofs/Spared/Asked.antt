@@ -1,5 +1,4 @@
-use Rattle.std.proofs.Common.{◌≡◌, ℕ, true, false, List, [], ◌∷◌, refl, sym, ap, subst, ◌∙◌, Option, Some, None}
-use Rattle.std.proofs.Common.{set, get_or-set_same, get_or-set_other}
+use Rattle.std.proofs.Common.{◌≡◌, ℕ, true, false, List, [], ◌∷◌, refl, sym, ap, subst, ◌∙◌, Option, Some, None, set, get_or-set_same, get_or-set_other}
 use Rattle.std.specs.Option.{option_map}
 use Rattle.std.specs.List.{AllByRecursion}
 use Rattle.dali_script.specs.declared.orders.Input.{Input}
@@ -21,7 +20,7 @@ use Rattle.dali_standing.specs.Standing.{machine_in, machines_after}
 use Rattle.dali_world.specs.Site.{SiteState, world, machines, machine_at, site_logged, IsActRefused}
 use Rattle.dali_progress.specs.Rounds.{site_after}
 use Rattle.dali_progress.specs.Spared.{IsOfCall, AreOfCalls, HasJustBegun, IsUsedOf, HearsUsed, HasAsked, StaysBegun}
-use Rattle.dali_progress.proofs.Bounded.{machines_logged, some_within}
+use Rattle.dali_progress.proofs.Logged.{machines_logged, some_within}
 use Rattle.dali_progress.proofs.Spared.Lives.{IsFair, told_opened}
 use Rattle.dali_progress.proofs.Spared.Calls.{IsLivedAt, Heeds, counts_after, heeded_on, none_yet, just_lived, lived_all, unrefused_now, none_set, some_same}
 use Rattle.dali_progress.proofs.Spared.Calls.{by_place}

@@ -1,6 +1,5 @@
 use Rattle.std.proofs.Common.{◌≡◌, ℕ, ◌+◌, ◌<◌, Bool, true, false, List, [], ◌∷◌, ◌++◌, append-nil, append_assoc, refl, sym, ap, subst, ◌∙◌, length, arith}
-use Rattle.std.proofs.Common.{zero, suc, Some, None}
-use Rattle.std.proofs.Common.{map, get_or}
+use Rattle.std.proofs.Common.{zero, suc, Some, None, map, get_or}
 use Rattle.std.specs.Prelude.{◌==◌, ◌&&◌, if◌then◌else◌}
 use Rattle.std.specs.List.{AllByRecursion}
 use Rattle.std.proofs.lemmas.Bool.Decides.{nat_tests}
@@ -35,9 +34,8 @@ use Rattle.dali_standing.proofs.InUse.{leaves_acted}
 use Rattle.dali_world.specs.Site.{SiteState, opened_site, world, site_logged, IsActRefused}
 use Rattle.dali_progress.specs.Rounds.{site_after}
 use Rattle.dali_progress.specs.Spared.{HearsUsed, IsOfCall, AreOfCalls, HasJustBegun, IsUsedOf, BeginsBySurveys, asks_first, is_silence, silences_after}
-use Rattle.dali_progress.specs.Spared.{IsHeardInTime}
-use Rattle.dali_progress.specs.Spared.{AsksInPeace, AllAskInPeace}
-use Rattle.dali_progress.proofs.Bounded.{run_logged}
+use Rattle.dali_progress.specs.Spared.{IsHeardInTime, AsksInPeace, AllAskInPeace}
+use Rattle.dali_progress.proofs.Logged.{run_logged}
 use Rattle.dali_progress.proofs.Spared.Lives.{lives_more}
 use Rattle.dali_progress.proofs.Spared.Calls.{IsLivedAt, counts_after, none_yet, lived_on, opened_lived, start_block, lived_leaves, unrefused}
 

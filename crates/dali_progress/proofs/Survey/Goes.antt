@@ -1,5 +1,4 @@
-use Rattle.std.proofs.Common.{◌≡◌, ℕ, ◌-◌, ◌+◌, ◌*◌, ◌<◌, ◌≤◌, inl, inr, Bool, true, false, suc, List, [], ◌∷◌, ◌++◌, refl, sym, ap, subst, ◌∙◌, arith}
-use Rattle.std.proofs.Common.{length}
+use Rattle.std.proofs.Common.{◌≡◌, ℕ, ◌-◌, ◌+◌, ◌*◌, ◌<◌, ◌≤◌, inl, inr, Bool, true, false, suc, List, [], ◌∷◌, ◌++◌, refl, sym, ap, subst, ◌∙◌, arith, length}
 use Rattle.std.proofs.Common.{Option, Some, None}
 use Rattle.std.specs.Prelude.{◌==◌, if◌then◌else◌}
 use Rattle.dali_frame.specs.Priority.{LATER}
@@ -10,7 +9,7 @@ use Rattle.dali_gear.specs.declared.row.Reach.TheVariants.{Everyone}
 use Rattle.dali_gear.specs.Gear.{Gear}
 use Rattle.dali_gear.specs.Row.{row_after, answers_of, heard_of}
 use Rattle.dali_controller.specs.declared.shorts.Shorts.{Shorts}
-use Rattle.dali_script.specs.Records.{Kept}
+use Rattle.dali_script.specs.Records.{Kept, Assignment, Has, IsKept}
 use Rattle.dali_search.specs.Ascending.{Ascent}
 use Rattle.dali_frame.specs.declared.numbers.SearchAddress.{SearchAddress}
 use Rattle.dali_arbiter.specs.declared.request.Request.{Request}
@@ -18,7 +17,6 @@ use Rattle.dali_arbiter.specs.Arbiter.{next}
 use Rattle.dali_script.specs.declared.finding.Finding.{Finding}
 use Rattle.dali_script.specs.declared.records.Record.{Record}
 use Rattle.dali_script.specs.declared.records.Record.TheVariants.{Reserve, Enrol, Release}
-use Rattle.dali_script.specs.Records.{Assignment, Has, IsKept}
 use Rattle.dali_script.specs.Findings.{assigned, search_of, asked_of, found_by, later, finding_of}
 use Rattle.dali_script.specs.Scripts.{Lawful, IsLawful}
 use Rattle.dali_script.specs.declared.stage.Stage.{Stage}
@@ -49,15 +47,13 @@ use Rattle.dali_events.specs.Laws.{FindingsAgree, HasFound}
 use Rattle.dali_events.proofs.Invariant.Sending.{lawful_of}
 use Rattle.dali_events.proofs.Search.Leaving.{SameCore}
 use Rattle.dali_standing.specs.Seats.{IsFound, informed_by}
-use Rattle.dali_progress.specs.Surveys.{Surveys, IsSettled}
+use Rattle.dali_progress.specs.Rounds.{IsSettled, Succeeds}
 use Rattle.dali_controller.specs.Shorts.{has_short}
 use Rattle.dali_events.specs.Promise.{KeepsPromiseNow}
-use Rattle.dali_progress.proofs.Lone.{IsLone, Moment, IsDueOf, due_of, Addresses, heard_kept, acted_there, sent_there, acted_last, acted_told, lone_acted}
-use Rattle.dali_progress.proofs.Lone.{lone_next, lone_sent}
-use Rattle.dali_progress.proofs.Lone.{sent_last}
+use Rattle.dali_progress.proofs.Lone.{IsLone, Moment, IsDueOf, due_of, heard_kept, acted_there, sent_there, acted_last, acted_told, lone_acted, lone_next}
+use Rattle.dali_progress.proofs.Lone.{lone_sent, sent_last, acts_by}
 use Rattle.dali_progress.proofs.Frames.{Seeks}
-use Rattle.dali_progress.proofs.Turns.{never_eight, with_kept}
-use Rattle.dali_progress.proofs.Goes.{not_free, no_tries, addresses_by, put_no_enrolment, IsKnown, taken_of}
+use Rattle.dali_progress.proofs.Both.{never_eight, with_kept, not_free, no_tries, addresses_by, put_no_enrolment, IsKnown, taken_of, not_failed}
 use Rattle.dali_progress.proofs.Survey.Drawn.{AreNumbered, apart_drawn}
 use Rattle.dali_progress.proofs.Survey.Queried.{OneShort, IsTrue, below_none}
 use Rattle.dali_progress.proofs.Survey.Stands.{Begun, wake_frames, SurveyAt, SurveyStands}
@@ -101,29 +97,18 @@ pub record Goes (start : Begun) (w : World) (q c : ℕ) (m : Machine) (left : �
 
 -- the finding of its transaction is that of the controller
 found_told : (w : World) (q c : ℕ) (m : Machine) (out : Option Record) (k : Controller) (last : Option Order) (told : Option Input) (i : Input)
-    → Moment w q c m out last told → IsDueOf last told i → Surveys i → k.told ≡ told → IsFound k m
+    → Moment w q c m out last told → IsDueOf last told i → Succeeds true i → k.told ≡ told → IsFound k m
     → later k.finding (finding_of (machine_told m i).trace) ≡ k.finding
-found_told w q c m out k last told (input.Heard h) at due surveys is found =
-    subst (λ t. later k.finding (finding_of (informed_by m t).trace) ≡ k.finding) (is ∙ due) found
-found_told w q c m out k last told input.Destroyed at due surveys is found =
-    subst (λ t. later k.finding (finding_of (informed_by m t).trace) ≡ k.finding) (is ∙ due) found
-found_told w q c m out k last told input.Lapsed at due surveys is found =
-    subst (λ t. later k.finding (finding_of (informed_by m t).trace) ≡ k.finding) (is ∙ due) found
-found_told w q c m out k last told input.Survey at due surveys is found =
-    subst (λ t. later k.finding (finding_of (informed_by m t).trace) ≡ k.finding) (is ∙ due) found
-found_told w q c m out k last told input.Start at due surveys is found = absurd surveys
-found_told w q c m out k last told input.CommitFailed at due surveys is found = absurd surveys
-found_told w q c m out k (Some (Commit x)) None input.Committed at due surveys is found =
-    ap (λ t. later k.finding (finding_of t)) (stays (record_ordered m.last))
-    ∙ subst (λ t. later k.finding (finding_of (informed_by m t).trace) ≡ k.finding) is found where
-      stays : (x : Option Record) → (machine_committed m x).trace ≡ m.trace
-      stays None = refl
-      stays (Some x) = refl
-found_told w q c m out k (Some (Commit x)) (Some i) input.Committed at due surveys is found = absurd at
-found_told w q c m out k (Some (Put p f)) told input.Committed at due surveys is found = absurd due
-found_told w q c m out k (Some (Done e)) told input.Committed at due surveys is found = absurd due
-found_told w q c m out k (Some (Halt why)) told input.Committed at due surveys is found = absurd due
-found_told w q c m out k None told input.Committed at due surveys is found = absurd due
+found_told w q c m out k last told i at due surveys is found =
+    acts_by true (λ l t j. k.told ≡ t → later k.finding (finding_of (machine_told m j).trace) ≡ k.finding) so (λ p f h. so)
+    (λ x is. ap (λ t. later k.finding (finding_of t)) (stays (record_ordered m.last)) ∙ so is) w q c m out last told i at due surveys is
+  where
+    so : {t : Option Input} → k.told ≡ t → later k.finding (finding_of (informed_by m t).trace) ≡ k.finding
+    so is = subst (λ t. later k.finding (finding_of (informed_by m t).trace) ≡ k.finding) is found
+
+    stays : (x : Option Record) → (machine_committed m x).trace ≡ m.trace
+    stays None = refl
+    stays (Some x) = refl
 
 ordered_found : (found : Option Finding) (t : Machine) (o : Order) → later found (finding_of t.trace) ≡ found
     → later found (finding_of (machine_ordered t o).trace) ≡ found
@@ -223,66 +208,23 @@ kept_acts start m x o gs left told is g kept one holds free commits =
     same = ap (λ l. machine_committed m (record_ordered l)) is
 
 acts : (start : Begun) (w : World) (q c : ℕ) (m : Machine) (out : Option Record) (last : Option Order) (told : Option Input) (i : Input) (o : Order)
-    (left : ℕ) → Moment w q c m out last told → m.last ≡ last → IsDueOf last told i → Surveys i → IsGivenBy (machine_told m i) o → IsKept m.kept
+    (left : ℕ) → Moment w q c m out last told → m.last ≡ last → IsDueOf last told i → Succeeds true i → IsGivenBy (machine_told m i) o → IsKept m.kept
     → AreNumbered w.gear → OneShort w.gear → IsTrue (machine_told m i).kept.enrolled w.gear
     → ((b : Answer) → i ≡ input.Heard b → IsUncontradicted (machine_told m i)) → IsWhole (machine_after m i o)
     → Holds start m last told w.gear left → ActsTo start (machine_after m i o) o w.gear left last told
-acts start w q c m out None (Some input.Start) input.Survey o left at is due surveys g kept numbered one true_table agreed whole holds =
-    survey_acts start m o w.gear left (Some input.Start) is g one true_table holds
-acts start w q c m out (Some (Put p f)) (Some (input.Heard h)) (input.Heard a) o left at is due surveys g kept numbered one true_table agreed whole holds =
-    let same : h ≡ a = cc in
-    subst (λ b. ActsTo start (machine_after m (input.Heard a) o) o w.gear left (Some (Put p f)) (Some (input.Heard b))) (sym same)
-    (heard_acts start m p f a o w.gear left is g kept numbered one true_table (agreed a refl) whole (subst (λ b. Hears start m f b w.gear left) same holds))
-acts start w q c m out (Some (Commit x)) None input.Committed o left at is due surveys g kept numbered one true_table agreed whole holds =
-    kept_acts start m x o w.gear left None is g kept one true_table at.1 holds
-acts start w q c m out last told input.CommitFailed o left at is due surveys g kept numbered one true_table agreed whole holds = absurd surveys
-acts start w q c m out last told input.Start o left at is due surveys g kept numbered one true_table agreed whole holds = absurd surveys
-acts start w q c m out None told input.Committed o left at is due surveys g kept numbered one true_table agreed whole holds = absurd due
-acts start w q c m out (Some (Put p f)) told input.Committed o left at is due surveys g kept numbered one true_table agreed whole holds = absurd due
-acts start w q c m out (Some (Done e)) told input.Committed o left at is due surveys g kept numbered one true_table agreed whole holds = absurd due
-acts start w q c m out (Some (Halt why)) told input.Committed o left at is due surveys g kept numbered one true_table agreed whole holds = absurd due
-acts start w q c m out None None i o left at is due surveys g kept numbered one true_table agreed whole holds = absurd at
-acts start w q c m out None (Some input.Start) i o left at is due surveys g kept numbered one true_table agreed whole holds = absurd (cc)
-acts start w q c m out None (Some j) i o left at is due surveys g kept numbered one true_table agreed whole holds = absurd at
-acts start w q c m out (Some (Put p f)) (Some (input.Heard h)) i o left at is due surveys g kept numbered one true_table agreed whole holds = absurd (cc)
-acts start w q c m out (Some (Put p f)) (Some j) i o left at is due surveys g kept numbered one true_table agreed whole holds = absurd at
-acts start w q c m out (Some l) (Some j) i o left at is due surveys g kept numbered one true_table agreed whole holds = absurd at
-acts start w q c m out (Some l) None i o left at is due surveys g kept numbered one true_table agreed whole holds = absurd (cc)
+acts start w q c m out last told i o left at is due surveys g kept numbered one true_table agreed whole holds =
+    acts_by true (λ l t j. Moment w q c m out l t → m.last ≡ l → IsGivenBy (machine_told m j) o → IsTrue (machine_told m j).kept.enrolled w.gear
+    → ((b : Answer) → j ≡ input.Heard b → IsUncontradicted (machine_told m j)) → IsWhole (machine_after m j o) → Holds start m l t w.gear left
+    → ActsTo start (machine_after m j o) o w.gear left l t)
+    (λ at is g true_table agreed whole holds. survey_acts start m o w.gear left (Some input.Start) is g one true_table holds)
+    (λ p f h at is g true_table agreed whole holds. heard_acts start m p f h o w.gear left is g kept numbered one true_table (agreed h refl) whole holds)
+    (λ x at is g true_table agreed whole holds. kept_acts start m x o w.gear left None is g kept one true_table at.1 holds)
+    w q c m out last told i at due surveys at is g true_table agreed whole holds
 
 -- ---------------------------------------------------------------- one event more of the controller
 
-moment_surveys : (w : World) (q c : ℕ) (m : Machine) (out : Option Record) (last : Option Order) (told : Option Input) → Moment w q c m out last told
-    → told ≡ Some input.Start → Moment w q c (machine_surveying m) out last told
-moment_surveys w q c m out None (Some input.Start) at is = at
-moment_surveys w q c m out last None at is = absurd (cc)
-moment_surveys w q c m out None (Some j) at is = absurd at
-moment_surveys w q c m out (Some (Put p f)) (Some (input.Heard h)) at is = absurd (cc)
-moment_surveys w q c m out (Some o) (Some j) at is = absurd at
-
--- a survey is a start of the machine that surveys
-lone_acts : (w : World) (q c : ℕ) (m : Machine) (i : Input) (o : Order) → IsLone w q c m → Surveys i → Addresses (Some o) → Allowed w (event.Acted c i o)
-    → IsLone (happens w (event.Acted c i o)) q c (machine_after m i o)
-lone_acts w q c m input.Survey o l surveys addresses here =
-    lone_acted w q c (machine_surveying m) input.Start o
-    (record {
-      up = l.up;
-      kept = l.kept;
-      last = l.last;
-      addresses = l.addresses;
-      moment = moment_surveys w q c m (controller_at w c).outstanding (controller_at w c).last (controller_at w c).told l.moment here.due;
-    }) tt addresses (record { up = here.up; due = here.due; order = here.order })
-lone_acts w q c m input.Start o l surveys addresses here = absurd surveys
-lone_acts w q c m input.CommitFailed o l surveys addresses here = absurd surveys
-lone_acts w q c m (input.Heard h) o l surveys addresses here = lone_acted w q c m (input.Heard h) o l tt addresses here
-lone_acts w q c m input.Destroyed o l surveys addresses here = lone_acted w q c m input.Destroyed o l tt addresses here
-lone_acts w q c m input.Lapsed o l surveys addresses here = lone_acted w q c m input.Lapsed o l tt addresses here
-lone_acts w q c m input.Committed o l surveys addresses here = lone_acted w q c m input.Committed o l tt addresses here
-
 abbrev pub slack_now : Bool → World → ℕ → ℕ
 slack_now any w c = survey_slack any (controller_at w c).last (controller_at w c).told
-
-pub not_failed : (i : Input) → Surveys i → i ≡ input.CommitFailed → ⊥
-not_failed i surveys e = subst Surveys e surveys
 
 holds_next : (start : Begun) (m : Machine) (o : Order) (gs : List Gear) (left : ℕ) → IsNext start m o gs left → Holds start m (Some o) None gs left
 holds_next start m (Put p f) gs left next = next
@@ -304,7 +246,7 @@ pub record IsSurveyed (w : World) (c : ℕ) : Type 0 where
   pub holds : IsTrue (controller_at w c).records.enrolled w.gear
   pub agree : FindingsAgree w
 
-pub goes_acted : (start : Begun) (w : World) (q c : ℕ) (m : Machine) (i : Input) (o : Order) (left : ℕ) → Goes start w q c m left → Surveys i
+pub goes_acted : (start : Begun) (w : World) (q c : ℕ) (m : Machine) (i : Input) (o : Order) (left : ℕ) → Goes start w q c m left → Succeeds true i
     → Allowed w (event.Acted c i o) → IsGiven m i o → IsWhole (machine_after m i o) → IsSurveyed w c → KeepsPromiseNow (happens w (event.Acted c i o))
     → Goes start (happens w (event.Acted c i o)) q c (machine_after m i o) left
     × (slack_now start.any (happens w (event.Acted c i o)) c + 1 ≤ slack_now start.any w c)
@@ -319,10 +261,10 @@ goes_acted start w q c m i o left goes surveys here given whole known promise = 
   rw (acted_last w c i o goes.lone.up, acted_told w c i o goes.lone.up) out.1,
 ) where
   by : IsGivenBy (machine_told m i) o
-  by = given_by m i o (not_failed i surveys) given
+  by = given_by m i o (not_failed true i surveys) given
 
   lone : IsLone (happens w (event.Acted c i o)) q c (machine_after m i o)
-  lone = lone_acts w q c m i o goes.lone surveys (addresses_by o by.ordered.addressing) here
+  lone = lone_acted true w q c m i o goes.lone surveys (addresses_by o by.ordered.addressing) here
 
   -- its table, with what was kept now
   holds : IsTrue (machine_told m i).kept.enrolled w.gear

@@ -1,6 +1,4 @@
-use Rattle.std.proofs.Common.{◌≡◌, ℕ, ◌+◌, ◌*◌, ◌<◌, ◌≤◌, true, List, [], ◌∷◌, sym, ap, subst, ◌∙◌, arith, length}
-use Rattle.std.proofs.Common.{Some, None}
-use Rattle.std.specs.List.{count_by}
+use Rattle.std.proofs.Common.{◌≡◌, ℕ, ◌<◌, ◌≤◌, true, List, [], ◌∷◌, sym, ap, subst, ◌∙◌, arith, length, Some, None}
 use Rattle.dali_frame.specs.declared.frames.Forward.{Forward}
 use Rattle.dali_frame.specs.declared.frames.Answer.{Answer}
 use Rattle.dali_special.specs.Command.{command_of}
@@ -18,21 +16,19 @@ use Rattle.dali_events.specs.declared.event.Event.TheVariants as event
 use Rattle.dali_events.specs.World.{World, controller_at}
 use Rattle.dali_events.specs.Happens.{happens}
 use Rattle.dali_events.specs.Allowed.{Allowed}
-use Rattle.dali_events.specs.Wanted.{is_bare}
 use Rattle.dali_standing.specs.declared.refusal.Refusal.TheVariants as refusal
 use Rattle.dali_events.specs.declared.trouble.Trouble.TheVariants as trouble
 use Rattle.dali_standing.specs.Seats.{MayAnswer, informed_by}
 use Rattle.dali_standing.specs.Standing.{machine_in}
 use Rattle.dali_world.specs.Site.{SiteState, world, machine_at, site_logged, IsPumpRefused}
-use Rattle.dali_progress.specs.Rounds.{site_after}
-use Rattle.dali_progress.specs.Surveys.{SurveysAlone, Surveys, IsOfSurvey, SurveyRounds}
+use Rattle.dali_progress.specs.Rounds.{site_after, IsAlone, IsOfRound, Succeeds, Rounds}
 use Rattle.dali_progress.proofs.Lone.{due_of, acted_last, acted_told, lone_next, lone_sent}
-use Rattle.dali_progress.proofs.Bounded.{world_logged, machines_logged, acted_machine}
-use Rattle.dali_progress.proofs.Numbers.{same_some}
-use Rattle.dali_progress.proofs.Survey.Stands.{Begun, spare}
+use Rattle.dali_progress.proofs.Logged.{world_logged, machines_logged, acted_machine, same_some}
+use Rattle.dali_progress.proofs.Survey.Stands.{Begun}
 use Rattle.dali_progress.proofs.Survey.Begins.{IsNext}
-use Rattle.dali_progress.proofs.Survey.Goes.{Holds, not_failed, next_holds}
-use Rattle.dali_progress.proofs.Survey.Bounded.{Runs, began_at, runs_on, starts, runs_after, unsettled}
+use Rattle.dali_progress.proofs.Survey.Goes.{Holds, next_holds}
+use Rattle.dali_progress.proofs.Both.{not_failed}
+use Rattle.dali_progress.proofs.Survey.Bounded.{Runs, began_at, runs_on, starts, runs_after, unsettled, left_before}
 use Rattle.dali_progress.proofs.Survey.Numbers.{HasNumbers, acts_has, heard_has, draws_enough, undrawn_last}
 
 -- THE NUMBERS OF THE GEAR, event by event.
@@ -67,11 +63,11 @@ ordered start s c left l i o u v =
     (subst (λ m. Holds start m (controller_at (world t) c).last (controller_at (world t) c).told (world t).gear l) same v.goes.holds)))
 
 acted_draws : (start : Begun) (s : SiteState) (c left l : ℕ) (i : Input) (o : Order) → Runs start s c left → Runs start (site_logged s (event.Acted c i o)) c l
-    → Allowed (world s) (event.Acted c i o) → Surveys i → MayAnswer (machine_at s c) i o → DrawsAt s c → DrawsAt (site_logged s (event.Acted c i o)) c
+    → Allowed (world s) (event.Acted c i o) → Succeeds true i → MayAnswer (machine_at s c) i o → DrawsAt s c → DrawsAt (site_logged s (event.Acted c i o)) c
 acted_draws start s c left l i o u v here surveys may has =
     let w : World = world s in
     let given : IsGiven u.machine i o = subst (λ n. MayAnswer n i o) u.there may in
-    let by = given_by u.machine i o (not_failed i surveys) given in
+    let by = given_by u.machine i o (not_failed true i surveys) given in
     let now : HasNumbers (machine_after u.machine i o) w.gear w.left =
     acts_has start w s.queue c u.machine (controller_at w c).outstanding (controller_at w c).last (controller_at w c).told i o w.gear
     (world (site_logged s (event.Acted c i o))).gear w.left left l u.goes.lone.moment u.goes.lone.last (due_of (controller_at w c) i here.due) surveys
@@ -91,7 +87,7 @@ sent_draws start s c left p f h u last told has =
     (rw (lone.1) (heard_has start u.machine p f h w.gear w.left left last next before))
 
 draws_on : (start : Begun) (s : SiteState) (c left l : ℕ) (e : Event) → Runs start s c left → Runs start (site_logged s e) c l → Allowed (world s) e
-    → IsOfSurvey s c e → DrawsAt s c → DrawsAt (site_logged s e) c
+    → IsOfRound true s c e → DrawsAt s c → DrawsAt (site_logged s e) c
 draws_on start s c left l (event.Acted d i o) u v here of has =
     subst (λ n. Runs start (site_logged s (event.Acted n i o)) c l → Allowed (world s) (event.Acted n i o) → DrawsAt (site_logged s (event.Acted n i o)) c)
     (sym of.0) (λ v now. acted_draws start s c left l i o u v now of.1 of.2 has) v here
@@ -101,7 +97,7 @@ draws_on start s c left l (event.Sent d f h) u v here of has =
     (sent_draws start s c left put.0 f h u (subst (λ g. u.machine.last ≡ Some (Put put.0 g)) (sym of.3) put.1) put.2 has)
 draws_on start s c left l _ u v here of has = absurd of
 
-draws_all : (start : Begun) (s : SiteState) (c left : ℕ) (es : List Event) → Runs start s c left → SurveyRounds s c es → DrawsAt s c
+draws_all : (start : Begun) (s : SiteState) (c left : ℕ) (es : List Event) → Runs start s c left → Rounds true s c es → DrawsAt s c
     → DrawsAt (site_after s es) c
 draws_all start s c left [] u rounds has = has
 draws_all start s c left (e ∷ es) u rounds has =
@@ -126,10 +122,10 @@ spent_never start s c left u has (r, is, spent) =
     never : (x y : ℕ) → x ≤ y → y < x → ⊥
     never x y enough less = omega (arith, enough, less)
 
-pub never_spent : (s : SiteState) (c : ℕ) (es : List Event) → SurveysAlone s c → length (world s).gear ≤ length (world s).left → SurveyRounds s c es
+pub never_spent : (s : SiteState) (c : ℕ) (es : List Event) → IsAlone s c → length (world s).gear ≤ length (world s).left → Rounds true s c es
     → IsPumpRefused (site_after s es) trouble.None refusal.DrawsSpent → ⊥
 never_spent s c es alone enough rounds =
     let all = runs_after true s c es alone (unsettled s c) rounds in
     spent_never (began_at true s) (site_after s es) c all.rest all.runs
-    (draws_all (began_at true s) s c (106 * count_by is_bare (world s).gear + 219 + spare true) es (starts true s c alone (unsettled s c)) rounds
+    (draws_all (began_at true s) s c (left_before true s) es (starts true s c alone (unsettled s c)) rounds
     (λ m there undrawn. enough))

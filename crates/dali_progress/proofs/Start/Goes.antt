@@ -1,28 +1,22 @@
-use Rattle.std.proofs.Common.{◌≡◌, ℕ, ◌+◌, ◌≤◌, Bool, true, false, suc, List, [], ◌∷◌, ◌++◌, refl, sym, ap, subst, ◌∙◌, arith, Option, Some, None}
+use Rattle.std.proofs.Common.{◌≡◌, ℕ, ◌+◌, ◌≤◌, Bool, false, suc, List, [], ◌∷◌, ◌++◌, refl, sym, ap, subst, ◌∙◌, arith, Option, Some, None}
 use Rattle.std.specs.List.{count_by}
 use Rattle.dali_frame.specs.declared.frames.Forward.{Forward}
 use Rattle.dali_frame.specs.declared.frames.Answer.{Answer}
 use Rattle.dali_frame.specs.declared.numbers.SearchAddress.{SearchAddress}
-use Rattle.dali_special.specs.declared.command.Command.{Command}
-use Rattle.dali_special.specs.declared.command.Command.TheVariants.{Arc}
 use Rattle.dali_special.specs.Command.{command_of}
 use Rattle.dali_gear.specs.declared.row.Reach.TheVariants.{Everyone}
 use Rattle.dali_gear.specs.Gear.{Gear}
-use Rattle.dali_gear.specs.Row.{row_after, answers_of, heard_of, drawn_of}
+use Rattle.dali_gear.specs.Row.{row_after, answers_of, heard_of}
 use Rattle.dali_arbiter.specs.declared.request.Request.{Request}
 use Rattle.dali_arbiter.specs.Arbiter.{next}
-use Rattle.dali_script.specs.declared.trace.Entry.{Entry}
 use Rattle.dali_script.specs.declared.records.Record.{Record}
-use Rattle.dali_script.specs.declared.records.Record.TheVariants.{Enrol}
 use Rattle.dali_script.specs.Records.{Kept, IsKept}
 use Rattle.dali_script.specs.Scripts.{Lawful, IsLawful}
 use Rattle.dali_script.specs.declared.stage.Stage.{Stage}
 use Rattle.dali_script.specs.declared.stage.Stage.TheVariants as stage
 use Rattle.dali_script.specs.Stages.{IsTrace, stage_of, next_stage}
 use Rattle.dali_script.specs.Due.{frame_put, record_ordered}
-use Rattle.dali_script.proofs.Members.{has_right}
 use Rattle.dali_script.proofs.Transactions.{stage_more}
-use Rattle.dali_script.proofs.Firsts.{free_is_empty}
 use Rattle.dali_script.proofs.Found.{trace_more}
 use Rattle.dali_script.specs.declared.orders.Input.{Input}
 use Rattle.dali_script.specs.declared.orders.Input.TheVariants as input
@@ -30,28 +24,27 @@ use Rattle.dali_script.specs.declared.orders.Order.{Order}
 use Rattle.dali_script.specs.declared.orders.Order.TheVariants.{Put, Commit, Done, Halt}
 use Rattle.dali_search.specs.Least.{Search}
 use Rattle.dali_controller.specs.declared.purpose.Purpose.{Purpose}
-use Rattle.dali_controller.specs.declared.purpose.Purpose.TheVariants.{Opening, Probing, Visiting, Resolving, Closing, Asking, Waking, Hunting}
+use Rattle.dali_controller.specs.declared.purpose.Purpose.TheVariants.{Opening, Probing, Visiting, Closing, Waking}
 use Rattle.dali_controller.proofs.Courses.{not_woken}
-use Rattle.dali_controller.specs.Machine.{Machine, machine_heard, machine_committed, machine_told, tries_after, silent_after, opened_after}
-use Rattle.dali_controller.specs.Orders.{IsGiven, IsAddressing, machine_ordered, machine_after}
+use Rattle.dali_controller.specs.Machine.{Machine, machine_heard, machine_committed, machine_told, silent_after, opened_after}
+use Rattle.dali_controller.specs.Orders.{IsGiven, machine_ordered, machine_after}
 use Rattle.dali_controller.specs.Course.{Course}
 use Rattle.dali_controller.specs.Next.{next_course, beginning}
-use Rattle.dali_controller.proofs.Given.{IsGivenBy, given_by, IsNoEnrolment}
+use Rattle.dali_controller.proofs.Given.{IsGivenBy, given_by}
 use Rattle.dali_events.specs.declared.event.Event.TheVariants as event
 use Rattle.dali_events.specs.World.{World, controller_at}
-use Rattle.dali_events.specs.Happens.{happens, entry, is_arc}
+use Rattle.dali_events.specs.Happens.{happens, entry}
 use Rattle.dali_events.specs.Allowed.{Allowed}
-use Rattle.dali_events.specs.Runs.{AreDrawn}
-use Rattle.dali_events.specs.Searching.{number_at}
-use Rattle.dali_events.specs.Wanted.{is_bare, Seek}
+use Rattle.dali_events.specs.Wanted.{is_bare}
 use Rattle.dali_events.proofs.Invariant.Sending.{lawful_of}
-use Rattle.dali_events.proofs.Search.Heard.{opened_apart}
-use Rattle.dali_progress.specs.Rounds.{Succeeds, AreTabled}
-use Rattle.dali_progress.proofs.Lone.{IsLone, Moment, IsDueOf, due_of, Addresses, acted_last, acted_told, lone_acted, lone_next, sent_last, lone_sent}
+use Rattle.dali_progress.specs.Rounds.{Succeeds}
+use Rattle.dali_progress.specs.Ends.{AreTabled}
+use Rattle.dali_progress.proofs.Lone.{IsLone, Moment, IsDueOf, due_of, acted_last, acted_told, lone_acted, lone_next, sent_last, lone_sent, acts_by}
 use Rattle.dali_progress.proofs.Stands.{search_frames, to_come, At, Stands}
-use Rattle.dali_progress.proofs.Frames.{IsTaken, Seeks, at_sent}
+use Rattle.dali_progress.proofs.Frames.{Seeks, at_sent}
 use Rattle.dali_progress.proofs.Tables.{IsTabledTo, at_tabled}
-use Rattle.dali_progress.proofs.Turns.{IsUndisturbed, CommitsTo, IsNext, turned, started, started_begins, committed, committed_begins, with_kept}
+use Rattle.dali_progress.proofs.Start.Turns.{IsUndisturbed, CommitsTo, IsNext, turned, started, started_begins, committed, committed_begins}
+use Rattle.dali_progress.proofs.Both.{with_kept, not_free, IsKnown, taken_of, not_failed, no_tries, addresses_by, put_no_enrolment}
 
 -- COMMISSIONING GOES ON, event by event.
 
@@ -74,31 +67,13 @@ abbrev pub Holds : List Gear → Machine → Option Order → Option Input → L
 Holds before m None (Some input.Start) gs left = IsFresh before m gs left
 Holds before m (Some (Put p f)) (Some (input.Heard h)) gs left = Hears before m f h gs left
 Holds before m (Some o) None gs left = IsNext before m o gs left
-Holds before m None None gs left = ⊥
-Holds before m None (Some (input.Heard h)) gs left = ⊥
-Holds before m None (Some input.Survey) gs left = ⊥
-Holds before m None (Some input.Destroyed) gs left = ⊥
-Holds before m None (Some input.Lapsed) gs left = ⊥
-Holds before m None (Some input.Committed) gs left = ⊥
-Holds before m None (Some input.CommitFailed) gs left = ⊥
-Holds before m (Some (Put p f)) (Some input.Start) gs left = ⊥
-Holds before m (Some (Put p f)) (Some input.Survey) gs left = ⊥
-Holds before m (Some (Put p f)) (Some input.Destroyed) gs left = ⊥
-Holds before m (Some (Put p f)) (Some input.Lapsed) gs left = ⊥
-Holds before m (Some (Put p f)) (Some input.Committed) gs left = ⊥
-Holds before m (Some (Put p f)) (Some input.CommitFailed) gs left = ⊥
-Holds before m (Some (Commit x)) (Some i) gs left = ⊥
-Holds before m (Some (Done e)) (Some i) gs left = ⊥
-Holds before m (Some (Halt why)) (Some i) gs left = ⊥
+Holds before m _ _ gs left = ⊥
 
 pub record Goes (before : List Gear) (w : World) (q c : ℕ) (m : Machine) (left : ℕ) : Type 0 where
   pub lone : IsLone w q c m
   pub holds : Holds before m (controller_at w c).last (controller_at w c).told w.gear left
 
 -- ---------------------------------------------------------------- the controller acts
-
-pub put_no_enrolment : (p : ℕ) (f : Forward) (last : Option Order) → last ≡ Some (Put p f) → IsNoEnrolment last
-put_no_enrolment p f last is b n e = let other : Some (Put p f) ≡ Some (Commit (Enrol b n)) = sym is ∙ e in cc
 
 heard_next : (before : List Gear) (m : Machine) (p : ℕ) (f : Forward) (h : Answer) (o : Order) (gs : List Gear) (left : ℕ) → m.last ≡ Some (Put p f)
     → IsGivenBy (machine_told m (input.Heard h)) o → IsKept m.kept → Hears before m f h gs left
@@ -115,34 +90,6 @@ kept_next before m x o gs left is g kept free commits =
     let told : machine_told m input.Committed ≡ with_kept m x = ap (λ l. machine_committed m (record_ordered l)) is in
     subst (λ t. IsNext before (machine_ordered t o) o gs left) (sym told)
     (committed before m x o gs left commits.0 commits.1 free is kept.reserved (subst (λ t. IsGivenBy t o) told g))
-
--- what is due, by the last order and by what was told
-acts : (before : List Gear) (w : World) (q c : ℕ) (m : Machine) (out : Option Record) (last : Option Order) (told : Option Input) (i : Input) (o : Order)
-    (left : ℕ) → Moment w q c m out last told → m.last ≡ last
-    → IsDueOf last told i → Succeeds i → IsGivenBy (machine_told m i) o → IsKept m.kept → Holds before m last told w.gear left
-    → IsNext before (machine_after m i o) o w.gear left
-acts before w q c m out None (Some input.Start) input.Start o left at is due good g kept holds =
-    started before m o w.gear left g holds.calm holds.tabled holds.free is holds.nothing holds.unopened holds.opening holds.frames
-acts before w q c m out (Some (Put p f)) (Some (input.Heard h)) (input.Heard a) o left at is due good g kept holds =
-    let same : h ≡ a = cc in
-    heard_next before m p f a o w.gear left is g kept (subst (λ b. Hears before m f b w.gear left) same holds)
-acts before w q c m out (Some (Commit x)) None input.Committed o left at is due good g kept holds = kept_next before m x o w.gear left is g kept at.1 holds
-acts before w q c m out last told input.CommitFailed o left at is due good g kept holds = absurd good
-acts before w q c m out last told input.Survey o left at is due good g kept holds = absurd good
-acts before w q c m out None told input.Committed o left at is due good g kept holds = absurd due
-acts before w q c m out (Some (Put p f)) told input.Committed o left at is due good g kept holds = absurd due
-acts before w q c m out (Some (Done e)) told input.Committed o left at is due good g kept holds = absurd due
-acts before w q c m out (Some (Halt why)) told input.Committed o left at is due good g kept holds = absurd due
-acts before w q c m out None None i o left at is due good g kept holds = absurd at
-acts before w q c m out None (Some input.Start) i o left at is due good g kept holds = absurd (cc)
-acts before w q c m out None (Some j) i o left at is due good g kept holds = absurd at
-acts before w q c m out (Some (Put p f)) (Some (input.Heard h)) i o left at is due good g kept holds = absurd (cc)
-acts before w q c m out (Some (Put p f)) (Some j) i o left at is due good g kept holds = absurd at
-acts before w q c m out (Some l) (Some j) i o left at is due good g kept holds = absurd at
-acts before w q c m out (Some l) None i o left at is due good g kept holds = absurd (cc)
-
-not_failed : (i : Input) → Succeeds i → i ≡ input.CommitFailed → ⊥
-not_failed i good e = subst Succeeds e good
 
 -- how many events come before the next frame is sent, at the most
 abbrev pub slack : Option Order → Option Input → ℕ
@@ -162,55 +109,43 @@ slack_one (Commit x) = omega arith
 slack_one (Done e) = omega arith
 slack_one (Halt why) = omega arith
 
-acts_less : (before : List Gear) (w : World) (q c : ℕ) (m : Machine) (out : Option Record) (last : Option Order) (told : Option Input) (i : Input) (o : Order)
-    (left : ℕ) → Moment w q c m out last told → m.last ≡ last
-    → IsDueOf last told i → Succeeds i → IsGivenBy (machine_told m i) o → IsKept m.kept → Holds before m last told w.gear left
-    → slack (Some o) None + 1 ≤ slack last told
-acts_less before w q c m out None (Some input.Start) input.Start o left at is due good g kept holds =
-    let none : slack (Some o) None ≡ 0 = slack_first o (next_course m) (started_begins m o g holds.calm holds.free is) in
-    omega (arith, none)
-acts_less before w q c m out (Some (Put p f)) (Some (input.Heard h)) (input.Heard a) o left at is due good g kept holds = let one : slack (Some o) None ≤ 1 =
-    slack_one o in omega (arith, one)
-acts_less before w q c m out (Some (Commit x)) None input.Committed o left at is due good g kept holds =
-    let told : machine_told m input.Committed ≡ with_kept m x = ap (λ l. machine_committed m (record_ordered l)) is in
-    let none : slack (Some o) None ≡ 0 =
-    slack_first o (next_course (with_kept m x)) (committed_begins before m x o w.gear left holds.0 holds.1 at.1 is kept.reserved
-    (subst (λ t. IsGivenBy t o) told g)) in
-    omega (arith, none)
-acts_less before w q c m out last told input.CommitFailed o left at is due good g kept holds = absurd good
-acts_less before w q c m out last told input.Survey o left at is due good g kept holds = absurd good
-acts_less before w q c m out None told input.Committed o left at is due good g kept holds = absurd due
-acts_less before w q c m out (Some (Put p f)) told input.Committed o left at is due good g kept holds = absurd due
-acts_less before w q c m out (Some (Done e)) told input.Committed o left at is due good g kept holds = absurd due
-acts_less before w q c m out (Some (Halt why)) told input.Committed o left at is due good g kept holds = absurd due
-acts_less before w q c m out None None i o left at is due good g kept holds = absurd at
-acts_less before w q c m out None (Some input.Start) i o left at is due good g kept holds = absurd (cc)
-acts_less before w q c m out None (Some j) i o left at is due good g kept holds = absurd at
-acts_less before w q c m out (Some (Put p f)) (Some (input.Heard h)) i o left at is due good g kept holds = absurd (cc)
-acts_less before w q c m out (Some (Put p f)) (Some j) i o left at is due good g kept holds = absurd at
-acts_less before w q c m out (Some l) (Some j) i o left at is due good g kept holds = absurd at
-acts_less before w q c m out (Some l) None i o left at is due good g kept holds = absurd (cc)
+-- what is to come of its order, and that events before the next frame are one less
+abbrev ActsTo : List Gear → Machine → Order → List Gear → ℕ → Option Order → Option Input → Type 0
+ActsTo before n o gs left last told = IsNext before n o gs left × (slack (Some o) None + 1 ≤ slack last told)
+
+one_less : (x : ℕ) → x ≡ 0 → x + 1 ≤ 1
+one_less x none = omega (arith, none)
+
+first_acts : (before : List Gear) (m : Machine) (o : Order) (gs : List Gear) (left : ℕ) → m.last ≡ None → IsGivenBy m o → IsFresh before m gs left
+    → ActsTo before (machine_ordered m o) o gs left None (Some input.Start)
+first_acts before m o gs left is g v = (
+  started before m o gs left g v.calm v.tabled v.free is v.nothing v.unopened v.opening v.frames,
+  one_less (slack (Some o) None) (slack_first o (next_course m) (started_begins m o g v.calm v.free is)),
+)
+
+kept_acts : (before : List Gear) (m : Machine) (x : Record) (o : Order) (gs : List Gear) (left : ℕ) → m.last ≡ Some (Commit x)
+    → IsGivenBy (machine_told m input.Committed) o → IsKept m.kept → m.trace ≡ [] → IsUndisturbed m × CommitsTo before m x gs left
+    → ActsTo before (machine_after m input.Committed o) o gs left (Some (Commit x)) None
+kept_acts before m x o gs left is g kept free commits = (
+  kept_next before m x o gs left is g kept free commits,
+  one_less (slack (Some o) None) (slack_first o (next_course (with_kept m x)) (committed_begins before m x o gs left commits.0 commits.1 free is kept.reserved
+      (subst (λ t. IsGivenBy t o) (ap (λ l. machine_committed m (record_ordered l)) is) g))),
+)
+
+acts : (before : List Gear) (w : World) (q c : ℕ) (m : Machine) (out : Option Record) (last : Option Order) (told : Option Input) (i : Input) (o : Order)
+    (left : ℕ) → Moment w q c m out last told → m.last ≡ last → IsDueOf last told i → Succeeds false i → IsGivenBy (machine_told m i) o → IsKept m.kept
+    → Holds before m last told w.gear left → ActsTo before (machine_after m i o) o w.gear left last told
+acts before w q c m out last told i o left at is due good g kept holds =
+    acts_by false (λ l t j. Moment w q c m out l t → m.last ≡ l → IsGivenBy (machine_told m j) o → Holds before m l t w.gear left
+    → ActsTo before (machine_after m j o) o w.gear left l t) (λ at is g holds. first_acts before m o w.gear left is g holds)
+    (λ p f h at is g holds. (heard_next before m p f h o w.gear left is g kept holds, one_more (slack (Some o) None) (slack_one o)))
+    (λ x at is g holds. kept_acts before m x o w.gear left is g kept at.1 holds) w q c m out last told i at due good at is g holds
+  where
+    one_more : (x : ℕ) → x ≤ 1 → x + 1 ≤ 2
+    one_more x less = omega (arith, less)
 
 abbrev pub slack_in : World → ℕ → ℕ
 slack_in w c = slack (controller_at w c).last (controller_at w c).told
-
-pub acted_less : (before : List Gear) (w : World) (q c : ℕ) (m : Machine) (i : Input) (o : Order) (left : ℕ) → Goes before w q c m left → Succeeds i
-    → Allowed w (event.Acted c i o) → IsGiven m i o → IsKept (controller_at w c).records
-    → slack_in (happens w (event.Acted c i o)) c + 1 ≤ slack_in w c
-acted_less before w q c m i o left goes good here given kept =
-    let less = acts_less before w q c m (controller_at w c).outstanding (controller_at w c).last
-    (controller_at w c).told i o left goes.lone.moment goes.lone.last (due_of (controller_at w c) i here.due) good
-    (given_by m i o (not_failed i good) given) (subst IsKept (sym goes.lone.kept) kept) goes.holds in
-    rw (acted_last w c i o goes.lone.up, acted_told w c i o goes.lone.up) less
-
-pub addresses_by : (o : Order) → IsAddressing o → Addresses (Some o)
-addresses_by (Put p f) addressing = go (command_of f) refl where
-  go : (d : Command) → command_of f ≡ d → is_arc d ≡ false
-  go (Arc x) e = absurd (addressing x e)
-  go _ e = refl
-addresses_by (Commit x) addressing = tt
-addresses_by (Done e) addressing = tt
-addresses_by (Halt why) addressing = tt
 
 holds_next : (before : List Gear) (m : Machine) (o : Order) (gs : List Gear) (left : ℕ) → IsNext before m o gs left → Holds before m (Some o) None gs left
 holds_next before m (Put p f) gs left next = next
@@ -224,20 +159,19 @@ next_holds before m (Commit x) gs left next = next
 next_holds before m (Done e) gs left next = next
 next_holds before m (Halt why) gs left next = next
 
-pub goes_acted : (before : List Gear) (w : World) (q c : ℕ) (m : Machine) (i : Input) (o : Order) (left : ℕ) → Goes before w q c m left → Succeeds i
+pub goes_acted : (before : List Gear) (w : World) (q c : ℕ) (m : Machine) (i : Input) (o : Order) (left : ℕ) → Goes before w q c m left → Succeeds false i
     → Allowed w (event.Acted c i o) → IsGiven m i o → IsKept (controller_at w c).records
-    → Goes before (happens w (event.Acted c i o)) q c (machine_after m i o) left
+    → Goes before (happens w (event.Acted c i o)) q c (machine_after m i o) left × (slack_in (happens w (event.Acted c i o)) c + 1 ≤ slack_in w c)
 goes_acted before w q c m i o left goes good here given kept =
-    let by : IsGivenBy (machine_told m i) o = given_by m i o (not_failed i good) given in
-    let lone = lone_acted w q c m i o goes.lone good (addresses_by o by.ordered.addressing) here in
-    let next = acts before w q c m (controller_at w c).outstanding (controller_at w c).last (controller_at w c).told i o left goes.lone.moment goes.lone.last
-    (due_of (controller_at w c) i here.due) good by
-    (subst IsKept (sym goes.lone.kept) kept) goes.holds in
-    record {
-      lone = lone;
-      holds = rw (acted_last w c i o goes.lone.up, acted_told w c i o goes.lone.up)
-          (holds_next before (machine_after m i o) o w.gear left next);
-    }
+    let by : IsGivenBy (machine_told m i) o = given_by m i o (not_failed false i good) given in
+    let out = acts before w q c m (controller_at w c).outstanding (controller_at w c).last (controller_at w c).told i o left goes.lone.moment goes.lone.last
+    (due_of (controller_at w c) i here.due) good by (subst IsKept (sym goes.lone.kept) kept) goes.holds in (
+      record {
+        lone = lone_acted false w q c m i o goes.lone good (addresses_by o by.ordered.addressing) here;
+        holds = rw (acted_last w c i o goes.lone.up, acted_told w c i o goes.lone.up) (holds_next before (machine_after m i o) o w.gear left out.0);
+      },
+      rw (acted_last w c i o goes.lone.up, acted_told w c i o goes.lone.up) out.1,
+    )
 
 -- ---------------------------------------------------------------- its frame is sent
 
@@ -250,28 +184,12 @@ never_silent Probing (stage.Unanswered r) k opened o x n gs left at = absurd at.
 never_silent Probing (stage.Inconclusive r other) k opened o x n gs left at = absurd at.1.stage_is
 never_silent Visiting (stage.Unanswered r) k opened o x n gs left at = absurd at.1.stage_is
 never_silent Visiting (stage.Inconclusive r other) k opened o x n gs left at = absurd at.1.stage_is
-never_silent (Resolving a) (stage.Unanswered r) k opened o x n gs left at = absurd at
-never_silent (Asking a) (stage.Unanswered r) k opened o x n gs left at = absurd at
-never_silent (Asking a) (stage.Inconclusive r other) k opened o x n gs left at = absurd at
-never_silent Waking (stage.Unanswered r) k opened o x n gs left at = absurd at
-never_silent Hunting (stage.Unanswered r) k opened o x n gs left at = absurd at
-never_silent Waking (stage.Inconclusive r other) k opened o x n gs left at = absurd at
-never_silent Hunting (stage.Inconclusive r other) k opened o x n gs left at = absurd at
-never_silent (Resolving a) (stage.Inconclusive r other) k opened o x n gs left at = absurd at
 never_silent (Closing e) (stage.Unanswered r) k opened o x n gs left at = absurd at.stage_is
 never_silent (Closing e) (stage.Inconclusive r other) k opened o x n gs left at = absurd at.stage_is
+never_silent _ (stage.Unanswered r) k opened o x n gs left at = absurd at
+never_silent _ (stage.Inconclusive r other) k opened o x n gs left at = absurd at
 never_silent p (stage.Withdrawn r a) k opened o x n gs left at = refl
 never_silent p _ k opened o x n gs left at = refl
-
-pub no_tries : (complete : Bool) (n : ℕ) → n ≡ 0 → tries_after complete n ≡ 0
-no_tries true n is = refl
-no_tries false n is = is
-
-pub not_free : (t : List Entry) (x : Entry) → stage_of (t ++ x ∷ []) ≡ stage.Free → ⊥
-not_free t x e = go t (free_is_empty (t ++ x ∷ []) e) where
-  go : (t : List Entry) → t ++ x ∷ [] ≡ [] → ⊥
-  go [] e = cc
-  go (y ∷ t) e = cc
 
 -- the machine stands so once it is told what was heard
 stands_heard : (before : List Gear) (m : Machine) (f : Forward) (h : Answer) (gs : List Gear) (numbers : List ℕ) (left l : ℕ) → Stands before m gs left
@@ -297,21 +215,6 @@ stands_heard before m f h gs numbers left l st lawful tabled at =
           (row_after Everyone (command_of f) 0 gs numbers) l) (sym (not_woken (next_stage (stage_of m.trace) (command_of f) h) m.course.purpose
           (opened_after (next_stage (stage_of m.trace) (command_of f) h) m.opened) unwoken)) at);
     }
-
--- what is known of a frame that is allowed, in a run
-pub record IsKnown (w : World) (c : ℕ) (f : Forward) (h : Answer) : Type 0 where
-  pub drawn : AreDrawn w
-  pub then : AreDrawn (happens w (event.Sent c f h))
-  pub seeks : (r : SearchAddress) → number_at (stage_of w.trace) ≡ Some r → Seek w.gear r
-
-pub taken_of : (w : World) (c : ℕ) (f : Forward) (h : Answer) → Allowed w (event.Sent c f h) → IsKnown w c f h
-    → h ≡ heard_of (answers_of Everyone (command_of f) 0 w.gear) → IsTaken (command_of f) w.gear w.left h
-taken_of w c f h here known heard = record {
-  heard = heard;
-  enough = here.draws;
-  below = λ x has. known.then.below x.0 x.1 (has_right w.drawn (drawn_of Everyone (command_of f) 0 w.gear w.left) x has);
-  apart = opened_apart w known.drawn;
-}
 
 pub goes_sent : (before : List Gear) (w : World) (q c : ℕ) (m : Machine) (r : Request) (h : Answer) (left : ℕ) → Goes before w q c m left → next w.bus ≡ Some r
     → Allowed w (event.Sent r.sender r.frame h) → IsKnown w r.sender r.frame h

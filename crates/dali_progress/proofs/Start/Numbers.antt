@@ -1,19 +1,12 @@
-use Rattle.std.proofs.Common.{◌≡◌, ℕ, ◌+◌, ◌*◌, ◌<◌, ◌≤◌, Bool, true, false, suc, List, [], ◌∷◌, ◌++◌, refl, sym, ap, subst, ◌∙◌, arith, length, Option, Some}
-use Rattle.std.proofs.Common.{None}
-use Rattle.std.specs.Prelude.{if◌then◌else◌, ◌&&◌}
-use Rattle.std.specs.List.{count_by}
+use Rattle.std.proofs.Common.{◌≡◌, ℕ, ◌+◌, ◌*◌, ◌<◌, ◌≤◌, Bool, false, List, [], ◌∷◌, ◌++◌, refl, sym, ap, subst, ◌∙◌, arith, length, Option, Some, None}
 use Rattle.dali_frame.specs.declared.frames.Forward.{Forward}
 use Rattle.dali_frame.specs.declared.frames.Answer.{Answer}
 use Rattle.dali_frame.specs.declared.numbers.SearchAddress.{SearchAddress}
 use Rattle.dali_special.specs.declared.command.Command.{Command}
-use Rattle.dali_special.specs.declared.command.Command.TheVariants.{Terminate, Initialise, Randomise}
-use Rattle.dali_special.specs.declared.command.Target.TheVariants.{Unaddressed}
 use Rattle.dali_special.specs.Command.{command_of}
-use Rattle.dali_gear.specs.declared.row.Reach.{Reach}
 use Rattle.dali_gear.specs.declared.row.Reach.TheVariants.{Everyone}
-use Rattle.dali_gear.specs.Gear.{Gear, draws_a_number}
-use Rattle.dali_gear.specs.Row.{takes, left_after, row_after, row_left, draws_needed}
-use Rattle.dali_gear.proofs.RowLemmas.{needs_none}
+use Rattle.dali_gear.specs.Gear.{Gear}
+use Rattle.dali_gear.specs.Row.{row_after, row_left, draws_needed}
 use Rattle.dali_script.specs.Records.{Kept}
 use Rattle.dali_script.specs.declared.stage.Stage.{Stage}
 use Rattle.dali_script.specs.declared.stage.Stage.TheVariants as stage
@@ -24,8 +17,7 @@ use Rattle.dali_script.specs.declared.records.Record.{Record}
 use Rattle.dali_script.specs.declared.orders.Input.{Input}
 use Rattle.dali_script.specs.declared.orders.Input.TheVariants as input
 use Rattle.dali_script.specs.declared.orders.Order.{Order}
-use Rattle.dali_script.specs.declared.orders.Order.TheVariants.{Put, Commit, Done, Halt}
-use Rattle.dali_script.specs.declared.orders.End.{End}
+use Rattle.dali_script.specs.declared.orders.Order.TheVariants.{Put}
 use Rattle.dali_search.specs.Least.{Search}
 use Rattle.dali_controller.specs.declared.purpose.Purpose.{Purpose}
 use Rattle.dali_controller.specs.declared.purpose.Purpose.TheVariants.{Opening, Probing, Visiting, Resolving, Closing, Asking, Waking, Hunting}
@@ -36,85 +28,32 @@ use Rattle.dali_events.specs.declared.event.Event.{Event}
 use Rattle.dali_events.specs.declared.event.Event.TheVariants as event
 use Rattle.dali_events.specs.World.{World, controller_at}
 use Rattle.dali_events.specs.Happens.{happens, entry}
-use Rattle.dali_events.specs.Allowed.{Allowed, IsUp, IsDue, IsCommit}
-use Rattle.dali_events.specs.Wanted.{is_bare}
-use Rattle.dali_events.proofs.Search.Opened.{AreOpening}
+use Rattle.dali_events.specs.Allowed.{Allowed, IsUp, IsDue}
 use Rattle.dali_events.proofs.Invariant.Takes.{row_length}
 use Rattle.dali_standing.specs.declared.refusal.Refusal.TheVariants as refusal
 use Rattle.dali_events.specs.declared.trouble.Trouble.TheVariants as trouble
 use Rattle.dali_standing.specs.Seats.{informed_by}
 use Rattle.dali_standing.specs.Standing.{machine_in}
 use Rattle.dali_world.specs.Site.{SiteState, world, machine_at, site_logged, IsPumpRefused}
-use Rattle.dali_progress.specs.Rounds.{StartsAlone, Succeeds, IsOfRound, Rounds, site_after}
-use Rattle.dali_progress.proofs.Lone.{Moment, acted_told, lone_next, lone_sent}
+use Rattle.dali_progress.specs.Rounds.{Succeeds, IsOfRound, Rounds, site_after, ByStart, bare, BeginsAlone}
+use Rattle.dali_progress.proofs.Lone.{due_of, Moment, acted_told, lone_next, lone_sent, acts_by}
 use Rattle.dali_progress.proofs.Stands.{Opens, At, Sends}
-use Rattle.dali_progress.proofs.Turns.{IsNext}
-use Rattle.dali_progress.proofs.Goes.{Goes, next_holds}
-use Rattle.dali_progress.proofs.Bounded.{Runs, runs_on, world_logged, machines_logged, acted_machine, starts, runs_after}
+use Rattle.dali_progress.proofs.Start.Turns.{IsNext}
+use Rattle.dali_progress.proofs.Start.Goes.{Goes, next_holds}
+use Rattle.dali_progress.proofs.Start.Bounded.{Runs, runs_on, starts, runs_after}
+use Rattle.dali_progress.proofs.Logged.{world_logged, machines_logged, acted_machine, same_some}
+use Rattle.dali_progress.proofs.Both.{closing_never, none_apart, enough_left, visiting_never, probing_never, left_same, opening_none}
 
 -- THE NUMBERS THAT GEAR DRAW: where there is one for each gear at the start, they are never spent. Gear draw once, at the
 -- last frame of the one opening.
 
 -- ---------------------------------------------------------------- a row of gear
 
--- no more numbers than gear
-pub needs_few : (reach : Reach) (c : Command) (k : ℕ) (gs : List Gear) → draws_needed reach c k gs ≤ length gs
-needs_few reach c k [] = omega arith
-needs_few reach c k (g ∷ gs) = go (takes reach k g && draws_a_number c g) (draws_needed reach c (k + 1) gs) (needs_few reach c (k + 1) gs) where
-  go : (b : Bool) (n : ℕ) → n ≤ length gs → (if b then 1 else 0) + n ≤ suc (length gs)
-  go true n less = omega (arith, less)
-  go false n less = omega (arith, less)
-
--- and where none is drawn, all are left
-pub left_same : (reach : Reach) (c : Command) (k : ℕ) (gs : List Gear) (left : List ℕ) → draws_needed reach c k gs ≡ 0 → row_left reach c k gs left ≡ left
-left_same reach c k [] left none = refl
-left_same reach c k (g ∷ gs) left none = go (takes reach k g && draws_a_number c g) none (λ more. left_same reach c (k + 1) gs left more) where
-  go : (b : Bool) → (if b then 1 else 0) + draws_needed reach c (k + 1) gs ≡ 0 → (draws_needed reach c (k + 1) gs ≡ 0 → row_left reach c (k + 1) gs left ≡ left)
-      → row_left reach c (k + 1) gs (left_after b left) ≡ left
-  go true none same = absurd (omega (arith, none))
-  go false none same = same (omega (arith, none))
-
--- no gear draws at a first RANDOMISE
-one_first : (k : ℕ) (g : Gear) → (g.powered ≡ true → g.half ≡ None) → (takes Everyone k g && draws_a_number Randomise g) ≡ false
-one_first k g half = go (g.powered) refl where
-  go : (b : Bool) → g.powered ≡ b → (takes Everyone k g && draws_a_number Randomise g) ≡ false
-  go true on = rw (on, half on) refl
-  go false off = rw off refl
-
-none_first : (k : ℕ) (gs : List Gear) → AreOpening stage.Initialised gs → draws_needed Everyone Randomise k gs ≡ 0
-none_first k [] all = refl
-none_first k (g ∷ gs) all =
-    sum (takes Everyone k g && draws_a_number Randomise g) (draws_needed Everyone Randomise (k + 1) gs) (one_first k g (λ on. (all 0 (omega arith) on).0))
-    (none_first (k + 1) gs (λ j in_row on. all (suc j) (omega (arith, in_row)) on)) where
-      sum : (b : Bool) (n : ℕ) → b ≡ false → n ≡ 0 → (if b then 1 else 0) + n ≡ 0
-      sum true n first more = absurd (cc)
-      sum false n first more = omega (arith, more)
-
 -- ---------------------------------------------------------------- the frame that is to be sent
 
 -- before the opening is complete there is a number for each gear
 abbrev pub HasDraws : Bool → List Gear → List ℕ → Type 0
 HasDraws opened gs numbers = opened ≡ false → length gs ≤ length numbers
-
-pub probing_never : (n : SearchAddress) (k : Kept) (s : Stage) → Sends Probing n k s Randomise → ⊥
-probing_never n k (stage.Unnamed r) (a, small, has, is) = cc
-probing_never n k _ is = cc
-
-pub visiting_never : (n : SearchAddress) (k : Kept) (s : Stage) → Sends Visiting n k s Randomise → ⊥
-visiting_never n k (stage.Unnamed r) (a, small, has, is) = cc
-visiting_never n k _ is = cc
-
-pub closing_never : (e : End) (n : SearchAddress) (k : Kept) (s : Stage) → Sends (Closing e) n k s Randomise → ⊥
-closing_never e n k (stage.Unnamed r) (a, small, has, is) = cc
-closing_never e n k _ is = cc
-
--- only an opening draws
-pub none_apart : (p : Purpose) (n : SearchAddress) (k : Kept) (s : Stage) (gs : List Gear) (c : Command) → (Sends p n k s Randomise → ⊥) → Sends p n k s c
-    → draws_needed Everyone c 0 gs ≡ 0
-none_apart p n k s gs c never is = needs_none Everyone c 0 gs (λ e. never (subst (λ d. Sends p n k s d) e is))
-
-pub enough_left : (gs : List Gear) (numbers : List ℕ) (c : Command) → length gs ≤ length numbers → draws_needed Everyone c 0 gs ≤ length numbers
-enough_left gs numbers c enough = let few = needs_few Everyone c 0 gs in omega (arith, few, enough)
 
 enough_none : (x y : ℕ) → x ≡ 0 → x ≤ y
 enough_none x y none = omega (arith, none)
@@ -144,27 +83,6 @@ draws_enough Waking s k opened x n gs numbers left c at is has = absurd at
 draws_enough Hunting s k opened x n gs numbers left c at is has = absurd at
 draws_enough (Closing e) s k opened x n gs numbers left c at is has =
     enough_none (draws_needed Everyone c 0 gs) (length numbers) (none_apart (Closing e) n k s gs c (closing_never e n k s) is)
-
--- where the opening is still not complete, none was drawn
-pub opening_none : (s : Stage) (k : Kept) (opened : Bool) (n : SearchAddress) (gs : List Gear) (left : ℕ) (c : Command) (h : Answer) → Opens s opened gs left
-    → Sends Opening n k s c → opened_after (next_stage s c h) opened ≡ false
-    → draws_needed Everyone c 0 gs ≡ 0
-opening_none stage.Free k opened n gs left c h o is closed = needs_none Everyone c 0 gs (λ e. (let other : Terminate ≡ Randomise = sym is ∙ e in cc))
-opening_none stage.Terminated k opened n gs left c h o is closed =
-    needs_none Everyone c 0 gs (λ e. (let other : Some (Initialise Unaddressed) ≡ Some Randomise = subst (λ d. Some (Initialise Unaddressed) ≡ Some d) e is in
-    cc))
-opening_none stage.InitialisedOnce k opened n gs left c h o is closed =
-    needs_none Everyone c 0 gs (λ e. (let other : Some (Initialise Unaddressed) ≡ Some Randomise = subst (λ d. Some (Initialise Unaddressed) ≡ Some d) e is in
-    cc))
-opening_none stage.Initialised k opened n gs left c h o is closed =
-    let same : Randomise ≡ c = cc in
-    subst (λ d. draws_needed Everyone d 0 gs ≡ 0) same (none_first 0 gs o.gear)
-opening_none stage.RandomisedOnce k opened n gs left c h o is closed =
-    let same : Randomise ≡ c = cc in
-    let both : true ≡ false = subst (λ d. opened_after (next_stage stage.RandomisedOnce d h) opened ≡ false) (sym same) closed in
-    absurd (cc)
-opening_none stage.Opened k opened n gs left c h o is closed = absurd (cc)
-opening_none _ k opened n gs left c h o is closed = absurd o.stage_is
 
 none_drawn : (p : Purpose) (s : Stage) (k : Kept) (opened : Bool) (x : Search) (n : SearchAddress) (gs : List Gear) (left : ℕ) (c : Command) (h : Answer)
     → At p s k opened x n gs left → Sends p n k s c → opened_after (next_stage s c h) opened ≡ false
@@ -204,29 +122,17 @@ sent_has before w q c m p f h left goes last told has =
     rw (lone.1) (has_heard m p f h before w.gear w.left left last next has)
 
 -- what the controller acts on
-told_none : (w : World) (q c : ℕ) (m : Machine) (out : Option Record) (last : Option Order) (told : Option Input) → Moment w q c m out last told → IsCommit last
-    → told ≡ None
-told_none w q c m out (Some (Commit x)) None at commits = refl
-told_none w q c m out (Some (Commit x)) (Some i) at commits = absurd at
-told_none w q c m out None told at commits = absurd commits
-told_none w q c m out (Some (Put p f)) told at commits = absurd commits
-told_none w q c m out (Some (Done e)) told at commits = absurd commits
-told_none w q c m out (Some (Halt why)) told at commits = absurd commits
-
 committed_opened : (m : Machine) (x : Option Record) → (machine_committed m x).opened ≡ m.opened
 committed_opened m None = refl
 committed_opened m (Some x) = refl
 
 told_has : (w : World) (q c : ℕ) (m : Machine) (i : Input) → Moment w q c m (controller_at w c).outstanding (controller_at w c).last (controller_at w c).told
-    → Succeeds i → IsDue (controller_at w c) i
+    → Succeeds false i → IsDue (controller_at w c) i
     → HasDraws (informed_by m (controller_at w c).told).opened w.gear w.left → HasDraws (machine_told m i).opened w.gear w.left
-told_has w q c m input.CommitFailed at good due has = absurd good
-told_has w q c m input.Committed at good due has =
-    let none = told_none w q c m (controller_at w c).outstanding (controller_at w c).last (controller_at w c).told at due in
-    let before : HasDraws m.opened w.gear w.left = subst (λ t. HasDraws (informed_by m t).opened w.gear w.left) none has in
-    subst (λ b. HasDraws b w.gear w.left) (sym (committed_opened m (record_ordered m.last))) before
-told_has w q c m input.Survey at good due has = absurd good
-told_has w q c m _ at good due has = subst (λ t. HasDraws (informed_by m t).opened w.gear w.left) due has
+told_has w q c m i at good due has =
+    acts_by false (λ l t j. HasDraws (informed_by m t).opened w.gear w.left → HasDraws (machine_told m j).opened w.gear w.left) (λ has. has) (λ p f h has. has)
+    (λ x has. subst (λ b. HasDraws b w.gear w.left) (sym (committed_opened m (record_ordered m.last))) has) w q c m (controller_at w c).outstanding
+    (controller_at w c).last (controller_at w c).told i at (due_of (controller_at w c) i due) good has
 
 acted_has : (w : World) (c : ℕ) (m : Machine) (i : Input) (o : Order) → IsUp w c → HasDraws (machine_told m i).opened w.gear w.left
     → HasDraws (informed_by (machine_after m i o) (controller_at (happens w (event.Acted c i o)) c).told).opened (happens w (event.Acted c i o)).gear
@@ -240,9 +146,6 @@ DrawsBy c w m = HasDraws (informed_by m (controller_at w c).told).opened w.gear 
 abbrev pub DrawsAt : SiteState → ℕ → Type 0
 DrawsAt s c = (m : Machine) → machine_at s c ≡ Some m → DrawsBy c (world s) m
 
-pub same_some : (x : Option Machine) (m n : Machine) → x ≡ Some m → x ≡ Some n → m ≡ n
-same_some x m n one two = cc
-
 draws_logged : (s : SiteState) (c : ℕ) (e : Event) (m : Machine) → machine_at (site_logged s e) c ≡ Some m → DrawsBy c (happens (world s) e) m
     → DrawsAt (site_logged s e) c
 draws_logged s c e m there has n at =
@@ -250,7 +153,7 @@ draws_logged s c e m there has n at =
     (subst (λ w. DrawsBy c w m) (sym (world_logged s e)) has)
 
 acted_draws : (before : List Gear) (s : SiteState) (c left : ℕ) (i : Input) (o : Order) → Runs before s c left → Allowed (world s) (event.Acted c i o)
-    → Succeeds i → DrawsAt s c → DrawsAt (site_logged s (event.Acted c i o)) c
+    → Succeeds false i → DrawsAt s c → DrawsAt (site_logged s (event.Acted c i o)) c
 acted_draws before s c left i o r here good has =
     draws_logged s c (event.Acted c i o) (machine_after r.machine i o) (acted_machine s c i o r.machine r.there)
     (acted_has (world s) c r.machine i o r.goes.lone.up (told_has (world s) s.queue c r.machine i r.goes.lone.moment good here.due (has r.machine r.there)))
@@ -262,7 +165,7 @@ sent_draws before s c left p f h r last told has =
     (sent_has before (world s) s.queue c r.machine p f h left r.goes last told
     (subst (λ t. HasDraws (informed_by r.machine t).opened (world s).gear (world s).left) told (has r.machine r.there)))
 
-draws_on : (before : List Gear) (s : SiteState) (c left : ℕ) (e : Event) → Runs before s c left → Allowed (world s) e → IsOfRound s c e → DrawsAt s c
+draws_on : (before : List Gear) (s : SiteState) (c left : ℕ) (e : Event) → Runs before s c left → Allowed (world s) e → IsOfRound false s c e → DrawsAt s c
     → DrawsAt (site_logged s e) c
 draws_on before s c left (event.Acted d i o) r here of has =
     subst (λ n. Allowed (world s) (event.Acted n i o) → DrawsAt (site_logged s (event.Acted n i o)) c) (sym of.0)
@@ -273,14 +176,14 @@ draws_on before s c left (event.Sent d f h) r here of has =
     (sent_draws before s c left put.0 f h r (subst (λ g. r.machine.last ≡ Some (Put put.0 g)) (sym of.3) put.1) put.2 has)
 draws_on before s c left _ r here of has = absurd of
 
-draws_all : (before : List Gear) (s : SiteState) (c left : ℕ) (es : List Event) → Runs before s c left → Rounds s c es → DrawsAt s c
+draws_all : (before : List Gear) (s : SiteState) (c left : ℕ) (es : List Event) → Runs before s c left → Rounds false s c es → DrawsAt s c
     → DrawsAt (site_after s es) c
 draws_all before s c left [] r rounds has = has
 draws_all before s c left (e ∷ es) r rounds has =
     let on = runs_on before s c left e r rounds.0 rounds.1 in
     draws_all before (site_logged s e) c on.rest es on.runs rounds.2 (draws_on before s c left e r rounds.0 rounds.1 has)
 
-starts_draws : (s : SiteState) (c : ℕ) → StartsAlone s c → length (world s).gear ≤ length (world s).left → DrawsAt s c
+starts_draws : (s : SiteState) (c : ℕ) → BeginsAlone ByStart s c → length (world s).gear ≤ length (world s).left → DrawsAt s c
 starts_draws s c alone enough m there closed = enough
 
 -- so the numbers are never spent
@@ -300,9 +203,9 @@ spent_never before s c left u has (r, is, spent) =
     never : (x y : ℕ) → x ≤ y → y < x → ⊥
     never x y enough less = omega (arith, enough, less)
 
-pub never_spent : (s : SiteState) (c : ℕ) (es : List Event) → StartsAlone s c → length (world s).gear ≤ length (world s).left → Rounds s c es
+pub never_spent : (s : SiteState) (c : ℕ) (es : List Event) → BeginsAlone ByStart s c → length (world s).gear ≤ length (world s).left → Rounds false s c es
     → IsPumpRefused (site_after s es) trouble.None refusal.DrawsSpent → ⊥
 never_spent s c es alone enough rounds =
     let all = runs_after s c es alone rounds in
     spent_never (world s).gear (site_after s es) c all.rest all.runs
-    (draws_all (world s).gear s c (111 * count_by is_bare (world s).gear + 10) es (starts s c alone) rounds (starts_draws s c alone enough))
+    (draws_all (world s).gear s c (111 * bare s + 10) es (starts s c alone) rounds (starts_draws s c alone enough))
