@@ -5,6 +5,7 @@ mod Stands
 mod Frames
 mod Tables
 mod Both
+mod Along
 mod Start
 mod Giving
 mod Session

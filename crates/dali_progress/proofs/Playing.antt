@@ -26,7 +26,7 @@ use Rattle.dali_standing.specs.Standing.{machine_in, machines_at, machines_after
 use Rattle.dali_world.specs.Site.{SiteState, world, site_logged, machines}
 use Rattle.dali_world.proofs.Logs.{machines_more}
 use Rattle.dali_progress.specs.Rounds.{Succeeds, IsOfRound, Rounds, site_after, HasEnded, ByStart, BeginsAlone}
-use Rattle.dali_progress.proofs.Start.Bounded.{ended_by}
+use Rattle.dali_progress.proofs.Beginnings.{ends}
 use Rattle.dali_progress.specs.Ends.{IsTrueEnd}
 
 -- WHAT A SHORT HISTORY SHOWS that breaks what is proved of one controller alone.
@@ -171,5 +171,5 @@ pub is_of_no_round : (s : SiteState) (c : ℕ) (front : List Event) (e : Event) 
     → IsOfRound false (site_after s front) c e → ⊥
 is_of_no_round s c front e back b of =
     b.untrue (subst (λ t. IsTrueEnd ByStart t c AllFound) (after_joined s front e back)
-    (ended_by s c (front ++ e ∷ back) AllFound b.starts (joined s c front e back b.before b.allowed of b.afterwards)
-    (subst (λ t. HasEnded t c AllFound) (sym (after_joined s front e back)) b.ended)).0)
+    (ends ByStart s c (front ++ e ∷ back) AllFound b.starts (joined s c front e back b.before b.allowed of b.afterwards)
+    (subst (λ t. HasEnded t c AllFound) (sym (after_joined s front e back)) b.ended)))

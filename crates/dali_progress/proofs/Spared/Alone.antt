@@ -22,13 +22,15 @@ use Rattle.dali_events.specs.Allowed.{Allowed, IsDue}
 use Rattle.dali_events.specs.Wanted.{gear_of}
 use Rattle.dali_standing.specs.Seats.{Waits}
 use Rattle.dali_world.specs.Site.{SiteState, world, site_logged, WasOrdered}
-use Rattle.dali_progress.specs.Rounds.{IsAlone, IsOfRound, Succeeds, Rounds}
+use Rattle.dali_progress.specs.Rounds.{IsAlone, IsOfRound, Succeeds, Rounds, most_frames, Any, bare}
 use Rattle.dali_progress.specs.Spared.{IsOfCall, AreOfCalls, HasJustBegun, AsksInPeace, HavePower, AllAskInPeace}
 use Rattle.dali_world.proofs.Logs.{records_now}
 use Rattle.dali_progress.proofs.Lone.{due_of, Moment, lone_next, acts_by}
 use Rattle.dali_progress.proofs.Logged.{world_logged}
 use Rattle.dali_progress.proofs.Survey.Stands.{Begun}
-use Rattle.dali_progress.proofs.Survey.Bounded.{Runs, began_at, runs_on, starts, left_before, unsettled}
+use Rattle.dali_progress.proofs.Along.{Runs, runs_on}
+use Rattle.dali_progress.proofs.Survey.Goes.{of_survey}
+use Rattle.dali_progress.proofs.Survey.Bounded.{argument, began_at, starts_any}
 
 -- A SURVEY THAT NOTHING DISTURBS asks in peace, where all used gear have power.
 
@@ -64,7 +66,7 @@ due_waits w q c m k i at good due =
 
 -- ---------------------------------------------------------------- each event
 
-acted_call : (start : Begun) (s : SiteState) (c left d : ℕ) (i : Input) (o : Order) → Runs start s c left → Allowed (world s) (event.Acted d i o)
+acted_call : (start : Begun) (s : SiteState) (c left d : ℕ) (i : Input) (o : Order) → Runs (of_survey start) s c left → Allowed (world s) (event.Acted d i o)
     → IsOfRound true s c (event.Acted d i o) → IsOfCall s (event.Acted d i o)
 acted_call start s c left d i o u here of =
     subst (λ n. Allowed (world s) (event.Acted n i o) → IsOfCall s (event.Acted n i o)) (sym of.0)
@@ -76,14 +78,14 @@ acted_call start s c left d i o u here of =
       of.3 refl,
     )) here
 
-sent_call : (start : Begun) (s : SiteState) (c left d : ℕ) (f : Forward) (h : Answer) → Runs start s c left → IsOfRound true s c (event.Sent d f h)
+sent_call : (start : Begun) (s : SiteState) (c left d : ℕ) (f : Forward) (h : Answer) → Runs (of_survey start) s c left → IsOfRound true s c (event.Sent d f h)
     → IsOfCall s (event.Sent d f h)
 sent_call start s c left d f h u of =
     let put = lone_next (world s) s.queue c u.machine of.0 u.goes.lone of.1 in
     subst (λ n. WasOrdered s n f) (sym (of.2 ∙ put.3))
     (inr (ap frame_put (sym u.goes.lone.last ∙ put.1) ∙ ap (λ g. Some g) (sym of.3)))
 
-call_of : (start : Begun) (s : SiteState) (c left : ℕ) (e : Event) → Runs start s c left → Allowed (world s) e → IsOfRound true s c e → IsOfCall s e
+call_of : (start : Begun) (s : SiteState) (c left : ℕ) (e : Event) → Runs (of_survey start) s c left → Allowed (world s) e → IsOfRound true s c e → IsOfCall s e
 call_of start s c left (event.Acted d i o) u here of = acted_call start s c left d i o u here of
 call_of start s c left (event.Sent d f h) u here of = sent_call start s c left d f h u of
 call_of start s c left _ u here of = absurd of
@@ -93,11 +95,11 @@ peace_of s c (event.Acted d i o) power of = λ same start. subst (Succeeds true)
 peace_of s c (event.Sent d f h) power of = λ u same has within asks. (power u has, of.4)
 peace_of s c _ power of = absurd of
 
-all_in_peace : (start : Begun) (s : SiteState) (c left : ℕ) (es : List Event) → Runs start s c left → HavePower s → Rounds true s c es
+all_in_peace : (start : Begun) (s : SiteState) (c left : ℕ) (es : List Event) → Runs (of_survey start) s c left → HavePower s → Rounds true s c es
     → AreOfCalls s es × AllAskInPeace s c es
 all_in_peace start s c left [] u power rounds = (tt, tt)
 all_in_peace start s c left (e ∷ es) u power rounds =
-    let on = runs_on start s c left e u rounds.0 rounds.1 in
+    let on = runs_on (of_survey start) (argument start) s c left e u rounds.0 rounds.1 in
     let rest = all_in_peace start (site_logged s e) c on.rest es on.runs (power_on s c e rounds.1 power) rounds.2 in (
       (rounds.0, call_of start s c left e u rounds.0 rounds.1, rest.0),
       (peace_of s c e power rounds.1, rest.1),
@@ -107,5 +109,5 @@ all_in_peace start s c left (e ∷ es) u power rounds =
 pub alone_in_peace : (s : SiteState) (c : ℕ) (es : List Event) → IsAlone s c → HavePower s → Rounds true s c es
     → HasJustBegun s c × AreOfCalls s es × AllAskInPeace s c es
 alone_in_peace s c es a power rounds =
-    let all = all_in_peace (began_at true s) s c (left_before true s) es (starts true s c a (unsettled s c)) power rounds in
+    let all = all_in_peace (began_at true s) s c (most_frames Any (bare s)) es (starts_any s c a) power rounds in
     (record { told = a.told; last = a.last; machine = a.machine; block = (records_now s.plan s.queue s.log a.run).block c a.up.known }, all.0, all.1)

@@ -1,4 +1,4 @@
-use Rattle.std.proofs.Common.{◌≡◌, ℕ, ◌+◌, ◌≤◌, Bool, false, suc, List, [], ◌∷◌, ◌++◌, refl, sym, ap, subst, ◌∙◌, arith, Option, Some, None}
+use Rattle.std.proofs.Common.{◌≡◌, ℕ, ◌+◌, ◌*◌, ◌≤◌, Bool, false, suc, List, [], ◌∷◌, ◌++◌, refl, sym, ap, subst, ◌∙◌, arith, Option, Some, None}
 use Rattle.std.specs.List.{count_by}
 use Rattle.dali_frame.specs.declared.frames.Forward.{Forward}
 use Rattle.dali_frame.specs.declared.frames.Answer.{Answer}
@@ -7,7 +7,6 @@ use Rattle.dali_special.specs.Command.{command_of}
 use Rattle.dali_gear.specs.declared.row.Reach.TheVariants.{Everyone}
 use Rattle.dali_gear.specs.Gear.{Gear}
 use Rattle.dali_gear.specs.Row.{row_after, answers_of, heard_of}
-use Rattle.dali_arbiter.specs.declared.request.Request.{Request}
 use Rattle.dali_arbiter.specs.Arbiter.{next}
 use Rattle.dali_script.specs.declared.records.Record.{Record}
 use Rattle.dali_script.specs.Records.{Kept, IsKept}
@@ -27,24 +26,25 @@ use Rattle.dali_controller.specs.declared.purpose.Purpose.{Purpose}
 use Rattle.dali_controller.specs.declared.purpose.Purpose.TheVariants.{Opening, Probing, Visiting, Closing, Waking}
 use Rattle.dali_controller.proofs.Courses.{not_woken}
 use Rattle.dali_controller.specs.Machine.{Machine, machine_heard, machine_committed, machine_told, silent_after, opened_after}
-use Rattle.dali_controller.specs.Orders.{IsGiven, machine_ordered, machine_after}
+use Rattle.dali_controller.specs.Orders.{machine_ordered, machine_after}
 use Rattle.dali_controller.specs.Course.{Course}
 use Rattle.dali_controller.specs.Next.{next_course, beginning}
-use Rattle.dali_controller.proofs.Given.{IsGivenBy, given_by}
+use Rattle.dali_controller.proofs.Given.{IsGivenBy}
 use Rattle.dali_events.specs.declared.event.Event.TheVariants as event
 use Rattle.dali_events.specs.World.{World, controller_at}
-use Rattle.dali_events.specs.Happens.{happens, entry}
+use Rattle.dali_events.specs.Happens.{entry}
 use Rattle.dali_events.specs.Allowed.{Allowed}
 use Rattle.dali_events.specs.Wanted.{is_bare}
 use Rattle.dali_events.proofs.Invariant.Sending.{lawful_of}
 use Rattle.dali_progress.specs.Rounds.{Succeeds}
 use Rattle.dali_progress.specs.Ends.{AreTabled}
-use Rattle.dali_progress.proofs.Lone.{IsLone, Moment, IsDueOf, due_of, acted_last, acted_told, lone_acted, lone_next, sent_last, lone_sent, acts_by}
+use Rattle.dali_progress.proofs.Lone.{Moment, IsDueOf, due_of, lone_sent, acts_by}
 use Rattle.dali_progress.proofs.Stands.{search_frames, to_come, At, Stands}
 use Rattle.dali_progress.proofs.Frames.{Seeks, at_sent}
 use Rattle.dali_progress.proofs.Tables.{IsTabledTo, at_tabled}
 use Rattle.dali_progress.proofs.Start.Turns.{IsUndisturbed, CommitsTo, IsNext, turned, started, started_begins, committed, committed_begins}
-use Rattle.dali_progress.proofs.Both.{with_kept, not_free, IsKnown, taken_of, not_failed, no_tries, addresses_by, put_no_enrolment}
+use Rattle.dali_progress.proofs.Both.{with_kept, not_free, IsKnown, taken_of, no_tries, put_no_enrolment}
+use Rattle.dali_progress.proofs.Along.{Measure, Goes, slack_at}
 
 -- COMMISSIONING GOES ON, event by event.
 
@@ -68,10 +68,6 @@ Holds before m None (Some input.Start) gs left = IsFresh before m gs left
 Holds before m (Some (Put p f)) (Some (input.Heard h)) gs left = Hears before m f h gs left
 Holds before m (Some o) None gs left = IsNext before m o gs left
 Holds before m _ _ gs left = ⊥
-
-pub record Goes (before : List Gear) (w : World) (q c : ℕ) (m : Machine) (left : ℕ) : Type 0 where
-  pub lone : IsLone w q c m
-  pub holds : Holds before m (controller_at w c).last (controller_at w c).told w.gear left
 
 -- ---------------------------------------------------------------- the controller acts
 
@@ -144,9 +140,6 @@ acts before w q c m out last told i o left at is due good g kept holds =
     one_more : (x : ℕ) → x ≤ 1 → x + 1 ≤ 2
     one_more x less = omega (arith, less)
 
-abbrev pub slack_in : World → ℕ → ℕ
-slack_in w c = slack (controller_at w c).last (controller_at w c).told
-
 holds_next : (before : List Gear) (m : Machine) (o : Order) (gs : List Gear) (left : ℕ) → IsNext before m o gs left → Holds before m (Some o) None gs left
 holds_next before m (Put p f) gs left next = next
 holds_next before m (Commit x) gs left next = next
@@ -159,19 +152,17 @@ next_holds before m (Commit x) gs left next = next
 next_holds before m (Done e) gs left next = next
 next_holds before m (Halt why) gs left next = next
 
-pub goes_acted : (before : List Gear) (w : World) (q c : ℕ) (m : Machine) (i : Input) (o : Order) (left : ℕ) → Goes before w q c m left → Succeeds false i
-    → Allowed w (event.Acted c i o) → IsGiven m i o → IsKept (controller_at w c).records
-    → Goes before (happens w (event.Acted c i o)) q c (machine_after m i o) left × (slack_in (happens w (event.Acted c i o)) c + 1 ≤ slack_in w c)
-goes_acted before w q c m i o left goes good here given kept =
-    let by : IsGivenBy (machine_told m i) o = given_by m i o (not_failed false i good) given in
+-- that it does, and with how many frames left
+abbrev pub of_start : List Gear → Measure
+of_start before = record { by = false; known = λ k m. Unit {0}; holds = Holds before; slack = slack; events = λ left. 3 * left }
+
+pub start_acts : (before : List Gear) (w : World) (q c : ℕ) (m : Machine) (i : Input) (o : Order) (left : ℕ) → Goes (of_start before) w q c m left
+    → Succeeds false i → Allowed w (event.Acted c i o) → IsGivenBy (machine_told m i) o → IsKept (controller_at w c).records
+    → Unit {0} × Holds before (machine_after m i o) (Some o) None w.gear left × (slack (Some o) None + 1 ≤ slack_at (of_start before) w c)
+start_acts before w q c m i o left goes good here given kept =
     let out = acts before w q c m (controller_at w c).outstanding (controller_at w c).last (controller_at w c).told i o left goes.lone.moment goes.lone.last
-    (due_of (controller_at w c) i here.due) good by (subst IsKept (sym goes.lone.kept) kept) goes.holds in (
-      record {
-        lone = lone_acted false w q c m i o goes.lone good (addresses_by o by.ordered.addressing) here;
-        holds = rw (acted_last w c i o goes.lone.up, acted_told w c i o goes.lone.up) (holds_next before (machine_after m i o) o w.gear left out.0);
-      },
-      rw (acted_last w c i o goes.lone.up, acted_told w c i o goes.lone.up) out.1,
-    )
+    (due_of (controller_at w c) i here.due) good given (subst IsKept (sym goes.lone.kept) kept) goes.holds in
+    (tt, holds_next before (machine_after m i o) o w.gear left out.0, out.1)
 
 -- ---------------------------------------------------------------- its frame is sent
 
@@ -216,53 +207,28 @@ stands_heard before m f h gs numbers left l st lawful tabled at =
           (opened_after (next_stage (stage_of m.trace) (command_of f) h) m.opened) unwoken)) at);
     }
 
-pub goes_sent : (before : List Gear) (w : World) (q c : ℕ) (m : Machine) (r : Request) (h : Answer) (left : ℕ) → Goes before w q c m left → next w.bus ≡ Some r
-    → Allowed w (event.Sent r.sender r.frame h) → IsKnown w r.sender r.frame h
-    → h ≡ heard_of (answers_of Everyone (command_of r.frame) 0 w.gear)
-    → (l : ℕ) × (left ≡ suc l) × Goes before (happens w (event.Sent r.sender r.frame h)) q c m l
-goes_sent before w q c m r h left goes is here known heard =
-    let put = lone_next w q c m r goes.lone is in
-    let at : r.sender ≡ c = put.3 in
-    subst (λ d. Allowed w (event.Sent d r.frame h) → IsKnown w d r.frame h → (l : ℕ) × (left ≡ suc l)
-    × Goes before (happens w (event.Sent d r.frame h)) q c m l) (sym at)
-    (λ here known. go put.0 put.1 put.2 here known) here known
-  where
-    go : (p : ℕ) → m.last ≡ Some (Put p r.frame) → (controller_at w c).told ≡ None → Allowed w (event.Sent c r.frame h) → IsKnown w c r.frame h
-        → (l : ℕ) × (left ≡ suc l) × Goes before (happens w (event.Sent c r.frame h)) q c m l
-    go p last told here known =
-        let lone = lone_sent w q c m p r.frame h goes.lone last told in
-        let holds : IsNext before m (Put p r.frame) w.gear left =
-        next_holds before m (Put p r.frame) w.gear left (rw (sym goes.lone.last ∙ last, told) at goes.holds) in
-        let same : w.trace ≡ m.trace = lone.3 in
-        let sent = at_sent m.course.purpose (stage_of m.trace) m.kept m.opened m.course.search m.course.number w.gear w.left left
-        (command_of r.frame) h holds.0.at holds.1
-        (taken_of w c r.frame h here known heard) (subst (λ t. Seeks (stage_of t) w.gear) same known.seeks) in
-        let tabled = at_tabled before m.course.purpose (stage_of m.trace) m.kept m.opened _ m.course.search m.course.number w.gear w.left left sent.0
-        (command_of r.frame) h holds.0.at holds.1
-        (subst (λ t. Seeks (stage_of t) w.gear) same known.seeks) sent.2 holds.0.tabled in
-        let lawful : IsLawful m.trace r.frame = (
-          (controller_at w c).records.block,
-          (controller_at w c).records.reserved,
-          subst (λ t. Lawful (controller_at w c).records.block (controller_at w c).records.reserved t r.frame) lone.2 (lawful_of w c r.frame here.may),
-        ) in (
-          sent.0,
-          sent.1,
-          record {
-            lone = lone.0;
-            holds = rw (sent_last w c r.frame h goes.lone.up ∙ sym goes.lone.last ∙ last, lone.1)
-                (record {
-                  stands = stands_heard before m r.frame h w.gear w.left left sent.0 holds.0 lawful tabled sent.2;
-                  running = not_free m.trace (entry r.frame h);
-                });
-          },
-        )
-
-pub sent_less : (before : List Gear) (w : World) (q c : ℕ) (m : Machine) (r : Request) (h : Answer) (left : ℕ) → Goes before w q c m left → next w.bus ≡ Some r
-    → (slack_in (happens w (event.Sent r.sender r.frame h)) c ≡ 2) × (slack_in w c ≡ 0)
-sent_less before w q c m r h left goes is =
-    let put = lone_next w q c m r goes.lone is in
-    let last : (controller_at w c).last ≡ Some (Put put.0 r.frame) = sym goes.lone.last ∙ put.1 in
-    let lone = lone_sent w q c m put.0 r.frame h goes.lone put.1 put.2 in (
-      subst (λ d. slack_in (happens w (event.Sent d r.frame h)) c ≡ 2) (sym put.3) (rw (sent_last w c r.frame h goes.lone.up, lone.1, last) refl),
-      rw (last, put.2) refl,
+pub start_sends : (before : List Gear) (w : World) (q c : ℕ) (m : Machine) (p : ℕ) (f : Forward) (h : Answer) (left : ℕ) → Goes (of_start before) w q c m left
+    → m.last ≡ Some (Put p f) → (controller_at w c).told ≡ None → Allowed w (event.Sent c f h) → IsKnown w c f h
+    → h ≡ heard_of (answers_of Everyone (command_of f) 0 w.gear)
+    → (l : ℕ) × (left ≡ suc l) × Unit {0} × Hears before m f h (row_after Everyone (command_of f) 0 w.gear w.left) l
+start_sends before w q c m p f h left goes last told here known heard =
+    let lone = lone_sent w q c m p f h goes.lone last told in
+    let holds : IsNext before m (Put p f) w.gear left = next_holds before m (Put p f) w.gear left (rw (sym goes.lone.last ∙ last, told) at goes.holds) in
+    let same : w.trace ≡ m.trace = lone.3 in
+    let sent = at_sent m.course.purpose (stage_of m.trace) m.kept m.opened m.course.search m.course.number w.gear w.left left
+    (command_of f) h holds.0.at holds.1 (taken_of w c f h here known heard) (subst (λ t. Seeks (stage_of t) w.gear) same known.seeks) in
+    let tabled = at_tabled before m.course.purpose (stage_of m.trace) m.kept m.opened _ m.course.search m.course.number w.gear w.left left sent.0
+    (command_of f) h holds.0.at holds.1 (subst (λ t. Seeks (stage_of t) w.gear) same known.seeks) sent.2 holds.0.tabled in
+    let lawful : IsLawful m.trace f = (
+      (controller_at w c).records.block,
+      (controller_at w c).records.reserved,
+      subst (λ t. Lawful (controller_at w c).records.block (controller_at w c).records.reserved t f) lone.2 (lawful_of w c f here.may),
+    ) in (
+      sent.0,
+      sent.1,
+      tt,
+      record {
+        stands = stands_heard before m f h w.gear w.left left sent.0 holds.0 lawful tabled sent.2;
+        running = not_free m.trace (entry f h);
+      },
     )

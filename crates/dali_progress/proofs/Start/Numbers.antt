@@ -39,10 +39,11 @@ use Rattle.dali_progress.specs.Rounds.{Succeeds, IsOfRound, Rounds, site_after, 
 use Rattle.dali_progress.proofs.Lone.{due_of, Moment, acted_told, lone_next, lone_sent, acts_by}
 use Rattle.dali_progress.proofs.Stands.{Opens, At, Sends}
 use Rattle.dali_progress.proofs.Start.Turns.{IsNext}
-use Rattle.dali_progress.proofs.Start.Goes.{Goes, next_holds}
-use Rattle.dali_progress.proofs.Start.Bounded.{Runs, runs_on, starts, runs_after}
+use Rattle.dali_progress.proofs.Start.Goes.{next_holds, of_start}
+use Rattle.dali_progress.proofs.Start.Bounded.{starts, argument}
 use Rattle.dali_progress.proofs.Logged.{world_logged, machines_logged, acted_machine, same_some}
 use Rattle.dali_progress.proofs.Both.{closing_never, none_apart, enough_left, visiting_never, probing_never, left_same, opening_none}
+use Rattle.dali_progress.proofs.Along.{Goes, Runs, runs_on, runs_all}
 
 -- THE NUMBERS THAT GEAR DRAW: where there is one for each gear at the start, they are never spent. Gear draw once, at the
 -- last frame of the one opening.
@@ -112,7 +113,7 @@ has_heard m p f h before gs numbers left last next has closed =
     let none = none_drawn m.course.purpose (stage_of m.trace) m.kept m.opened m.course.search m.course.number gs left (command_of f) h next.0.at next.1 after in
     rw (row_length Everyone (command_of f) 0 gs numbers, left_same Everyone (command_of f) 0 gs numbers none) (has (was_closed _ m.opened after))
 
-sent_has : (before : List Gear) (w : World) (q c : ℕ) (m : Machine) (p : ℕ) (f : Forward) (h : Answer) (left : ℕ) → Goes before w q c m left
+sent_has : (before : List Gear) (w : World) (q c : ℕ) (m : Machine) (p : ℕ) (f : Forward) (h : Answer) (left : ℕ) → Goes (of_start before) w q c m left
     → m.last ≡ Some (Put p f) → (controller_at w c).told ≡ None → HasDraws m.opened w.gear w.left
     → HasDraws (informed_by m (controller_at (happens w (event.Sent c f h)) c).told).opened (happens w (event.Sent c f h)).gear
     (happens w (event.Sent c f h)).left
@@ -152,20 +153,23 @@ draws_logged s c e m there has n at =
     subst (λ (t : Machine). DrawsBy c (world (site_logged s e)) t) (same_some (machine_at (site_logged s e) c) m n there at)
     (subst (λ w. DrawsBy c w m) (sym (world_logged s e)) has)
 
-acted_draws : (before : List Gear) (s : SiteState) (c left : ℕ) (i : Input) (o : Order) → Runs before s c left → Allowed (world s) (event.Acted c i o)
+acted_draws : (before : List Gear) (s : SiteState) (c left : ℕ) (i : Input) (o : Order) → Runs (of_start before) s c left
+    → Allowed (world s) (event.Acted c i o)
     → Succeeds false i → DrawsAt s c → DrawsAt (site_logged s (event.Acted c i o)) c
 acted_draws before s c left i o r here good has =
     draws_logged s c (event.Acted c i o) (machine_after r.machine i o) (acted_machine s c i o r.machine r.there)
     (acted_has (world s) c r.machine i o r.goes.lone.up (told_has (world s) s.queue c r.machine i r.goes.lone.moment good here.due (has r.machine r.there)))
 
-sent_draws : (before : List Gear) (s : SiteState) (c left p : ℕ) (f : Forward) (h : Answer) → (r : Runs before s c left) → r.machine.last ≡ Some (Put p f)
+sent_draws : (before : List Gear) (s : SiteState) (c left p : ℕ) (f : Forward) (h : Answer) → (r : Runs (of_start before) s c left)
+    → r.machine.last ≡ Some (Put p f)
     → (controller_at (world s) c).told ≡ None → DrawsAt s c → DrawsAt (site_logged s (event.Sent c f h)) c
 sent_draws before s c left p f h r last told has =
     draws_logged s c (event.Sent c f h) r.machine (ap (λ ms. machine_in ms c) (machines_logged s (event.Sent c f h)) ∙ r.there)
     (sent_has before (world s) s.queue c r.machine p f h left r.goes last told
     (subst (λ t. HasDraws (informed_by r.machine t).opened (world s).gear (world s).left) told (has r.machine r.there)))
 
-draws_on : (before : List Gear) (s : SiteState) (c left : ℕ) (e : Event) → Runs before s c left → Allowed (world s) e → IsOfRound false s c e → DrawsAt s c
+draws_on : (before : List Gear) (s : SiteState) (c left : ℕ) (e : Event) → Runs (of_start before) s c left → Allowed (world s) e → IsOfRound false s c e
+    → DrawsAt s c
     → DrawsAt (site_logged s e) c
 draws_on before s c left (event.Acted d i o) r here of has =
     subst (λ n. Allowed (world s) (event.Acted n i o) → DrawsAt (site_logged s (event.Acted n i o)) c) (sym of.0)
@@ -176,18 +180,19 @@ draws_on before s c left (event.Sent d f h) r here of has =
     (sent_draws before s c left put.0 f h r (subst (λ g. r.machine.last ≡ Some (Put put.0 g)) (sym of.3) put.1) put.2 has)
 draws_on before s c left _ r here of has = absurd of
 
-draws_all : (before : List Gear) (s : SiteState) (c left : ℕ) (es : List Event) → Runs before s c left → Rounds false s c es → DrawsAt s c
+draws_all : (before : List Gear) (s : SiteState) (c left : ℕ) (es : List Event) → Runs (of_start before) s c left → Rounds false s c es → DrawsAt s c
     → DrawsAt (site_after s es) c
 draws_all before s c left [] r rounds has = has
 draws_all before s c left (e ∷ es) r rounds has =
-    let on = runs_on before s c left e r rounds.0 rounds.1 in
+    let on = runs_on (of_start before) (argument before) s c left e r rounds.0 rounds.1 in
     draws_all before (site_logged s e) c on.rest es on.runs rounds.2 (draws_on before s c left e r rounds.0 rounds.1 has)
 
 starts_draws : (s : SiteState) (c : ℕ) → BeginsAlone ByStart s c → length (world s).gear ≤ length (world s).left → DrawsAt s c
 starts_draws s c alone enough m there closed = enough
 
 -- so the numbers are never spent
-spent_never : (before : List Gear) (s : SiteState) (c left : ℕ) → Runs before s c left → DrawsAt s c → IsPumpRefused s trouble.None refusal.DrawsSpent → ⊥
+spent_never : (before : List Gear) (s : SiteState) (c left : ℕ) → Runs (of_start before) s c left → DrawsAt s c
+    → IsPumpRefused s trouble.None refusal.DrawsSpent → ⊥
 spent_never before s c left u has (r, is, spent) =
     let w : World = world s in
     let put = lone_next (world s) s.queue c u.machine r u.goes.lone is in
@@ -206,6 +211,6 @@ spent_never before s c left u has (r, is, spent) =
 pub never_spent : (s : SiteState) (c : ℕ) (es : List Event) → BeginsAlone ByStart s c → length (world s).gear ≤ length (world s).left → Rounds false s c es
     → IsPumpRefused (site_after s es) trouble.None refusal.DrawsSpent → ⊥
 never_spent s c es alone enough rounds =
-    let all = runs_after s c es alone rounds in
+    let all = runs_all (of_start (world s).gear) (argument (world s).gear) s c (111 * bare s + 10) es (starts s c alone) rounds in
     spent_never (world s).gear (site_after s es) c all.rest all.runs
     (draws_all (world s).gear s c (111 * bare s + 10) es (starts s c alone) rounds (starts_draws s c alone enough))

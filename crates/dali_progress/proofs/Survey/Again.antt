@@ -11,10 +11,11 @@ use Rattle.dali_events.specs.Allowed.{IsUp, IsDown}
 use Rattle.dali_events.specs.Runs.{IsRun}
 use Rattle.dali_standing.specs.Standing.{machine_in}
 use Rattle.dali_world.specs.Site.{SiteState, world, site_logged, machines, machine_at}
-use Rattle.dali_progress.specs.Rounds.{site_after, HasEnded, IsSettledAt, IsAlone, IsSettled, restarted, Rounds, Settled, BeginsAlone}
+use Rattle.dali_progress.specs.Rounds.{site_after, HasEnded, IsSettledAt, IsAlone, IsSettled, restarted, Rounds, Settled, BeginsAlone, Any}
 use Rattle.dali_progress.proofs.Lone.{still, Rests}
 use Rattle.dali_progress.proofs.Logged.{world_logged, run_logged, machines_logged, some_within}
-use Rattle.dali_progress.proofs.Survey.Bounded.{EndsBy, ended_by, unsettled}
+use Rattle.dali_progress.proofs.Survey.Bounded.{EndsBy, ended_by}
+use Rattle.dali_progress.proofs.Beginnings.{runs_after}
 
 -- A CONTROLLER THAT ENDED A SURVEY, and comes up again, surveys alone once more.
 
@@ -91,15 +92,18 @@ again_by s after c e by =
       trace = ap (λ (w : World). w.trace) (world_again after c) ∙ trace_again (world after) after.queue c by.rests;
     }
 
+ended_any : (s : SiteState) (c : ℕ) (es : List Event) (e : End) → IsAlone s c → Rounds true s c es → HasEnded (site_after s es) c e
+    → EndsBy true s (site_after s es) c e
+ended_any s c es e a rounds ended = let all = runs_after Any s c es a rounds in ended_by true s (site_after s es) c all.rest e all.runs ended
+
 pub surveys_again : (s : SiteState) (c : ℕ) (es : List Event) (e : End) → IsAlone s c → Rounds true s c es → HasEnded (site_after s es) c e
     → IsAlone (restarted (site_after s es) c) c
-surveys_again s c es e a rounds ended = again_by s (site_after s es) c e (ended_by true s c es e a (unsettled s c) rounds ended)
+surveys_again s c es e a rounds ended = again_by s (site_after s es) c e (ended_any s c es e a rounds ended)
 
 -- with the records that it kept
 pub settled_again : (s : SiteState) (c : ℕ) (es : List Event) (e : End) → IsAlone s c → Rounds true s c es → HasEnded (site_after s es) c e
     → IsSettledAt (site_after s es) c → BeginsAlone Settled (restarted (site_after s es) c) c
 settled_again s c es e a rounds ended settled = (
   surveys_again s c es e a rounds ended,
-  subst (λ (k : Controller). IsSettled k.records)
-      (sym (again_there (site_after s es) c (ended_by true s c es e a (unsettled s c) rounds ended).up)) settled,
+  subst (λ (k : Controller). IsSettled k.records) (sym (again_there (site_after s es) c (ended_any s c es e a rounds ended).up)) settled,
 )

@@ -21,14 +21,15 @@ use Rattle.dali_events.specs.declared.trouble.Trouble.TheVariants as trouble
 use Rattle.dali_standing.specs.Seats.{MayAnswer, informed_by}
 use Rattle.dali_standing.specs.Standing.{machine_in}
 use Rattle.dali_world.specs.Site.{SiteState, world, machine_at, site_logged, IsPumpRefused}
-use Rattle.dali_progress.specs.Rounds.{site_after, IsAlone, IsOfRound, Succeeds, Rounds}
+use Rattle.dali_progress.specs.Rounds.{site_after, IsAlone, IsOfRound, Succeeds, Rounds, most_frames, Any, bare}
 use Rattle.dali_progress.proofs.Lone.{due_of, acted_last, acted_told, lone_next, lone_sent}
 use Rattle.dali_progress.proofs.Logged.{world_logged, machines_logged, acted_machine, same_some}
 use Rattle.dali_progress.proofs.Survey.Stands.{Begun}
 use Rattle.dali_progress.proofs.Survey.Begins.{IsNext}
-use Rattle.dali_progress.proofs.Survey.Goes.{Holds, next_holds}
+use Rattle.dali_progress.proofs.Survey.Goes.{Holds, next_holds, of_survey}
 use Rattle.dali_progress.proofs.Both.{not_failed}
-use Rattle.dali_progress.proofs.Survey.Bounded.{Runs, began_at, runs_on, starts, runs_after, unsettled, left_before}
+use Rattle.dali_progress.proofs.Along.{Runs, runs_on, runs_all}
+use Rattle.dali_progress.proofs.Survey.Bounded.{argument, began_at, starts_any}
 use Rattle.dali_progress.proofs.Survey.Numbers.{HasNumbers, acts_has, heard_has, draws_enough, undrawn_last}
 
 -- THE NUMBERS OF THE GEAR, event by event.
@@ -46,8 +47,8 @@ draws_logged s c e m there has n at =
     (subst (λ w. DrawsBy c w m) (sym (world_logged s e)) has)
 
 -- what it ordered last
-ordered : (start : Begun) (s : SiteState) (c left l : ℕ) (i : Input) (o : Order) → (u : Runs start s c left)
-    → Runs start (site_logged s (event.Acted c i o)) c l
+ordered : (start : Begun) (s : SiteState) (c left l : ℕ) (i : Input) (o : Order) → (u : Runs (of_survey start) s c left)
+    → Runs (of_survey start) (site_logged s (event.Acted c i o)) c l
     → IsNext start (machine_after u.machine i o) o (world (site_logged s (event.Acted c i o))).gear l
 ordered start s c left l i o u v =
     let t : SiteState = site_logged s (event.Acted c i o) in
@@ -62,7 +63,8 @@ ordered start s c left l i o u v =
     (subst (λ x. Holds start (machine_after u.machine i o) x (controller_at (world t) c).told (world t).gear l) last
     (subst (λ m. Holds start m (controller_at (world t) c).last (controller_at (world t) c).told (world t).gear l) same v.goes.holds)))
 
-acted_draws : (start : Begun) (s : SiteState) (c left l : ℕ) (i : Input) (o : Order) → Runs start s c left → Runs start (site_logged s (event.Acted c i o)) c l
+acted_draws : (start : Begun) (s : SiteState) (c left l : ℕ) (i : Input) (o : Order) → Runs (of_survey start) s c left
+    → Runs (of_survey start) (site_logged s (event.Acted c i o)) c l
     → Allowed (world s) (event.Acted c i o) → Succeeds true i → MayAnswer (machine_at s c) i o → DrawsAt s c → DrawsAt (site_logged s (event.Acted c i o)) c
 acted_draws start s c left l i o u v here surveys may has =
     let w : World = world s in
@@ -75,7 +77,7 @@ acted_draws start s c left l i o u v here surveys may has =
     draws_logged s c (event.Acted c i o) (machine_after u.machine i o) (acted_machine s c i o u.machine u.there)
     (rw (acted_told w c i o u.goes.lone.up) now)
 
-sent_draws : (start : Begun) (s : SiteState) (c left p : ℕ) (f : Forward) (h : Answer) → (u : Runs start s c left) → u.machine.last ≡ Some (Put p f)
+sent_draws : (start : Begun) (s : SiteState) (c left p : ℕ) (f : Forward) (h : Answer) → (u : Runs (of_survey start) s c left) → u.machine.last ≡ Some (Put p f)
     → (controller_at (world s) c).told ≡ None → DrawsAt s c → DrawsAt (site_logged s (event.Sent c f h)) c
 sent_draws start s c left p f h u last told has =
     let w : World = world s in
@@ -86,10 +88,12 @@ sent_draws start s c left p f h u last told has =
     draws_logged s c (event.Sent c f h) u.machine (ap (λ ms. machine_in ms c) (machines_logged s (event.Sent c f h)) ∙ u.there)
     (rw (lone.1) (heard_has start u.machine p f h w.gear w.left left last next before))
 
-draws_on : (start : Begun) (s : SiteState) (c left l : ℕ) (e : Event) → Runs start s c left → Runs start (site_logged s e) c l → Allowed (world s) e
+draws_on : (start : Begun) (s : SiteState) (c left l : ℕ) (e : Event) → Runs (of_survey start) s c left → Runs (of_survey start) (site_logged s e) c l
+    → Allowed (world s) e
     → IsOfRound true s c e → DrawsAt s c → DrawsAt (site_logged s e) c
 draws_on start s c left l (event.Acted d i o) u v here of has =
-    subst (λ n. Runs start (site_logged s (event.Acted n i o)) c l → Allowed (world s) (event.Acted n i o) → DrawsAt (site_logged s (event.Acted n i o)) c)
+    subst (λ n. Runs (of_survey start) (site_logged s (event.Acted n i o)) c l → Allowed (world s) (event.Acted n i o)
+    → DrawsAt (site_logged s (event.Acted n i o)) c)
     (sym of.0) (λ v now. acted_draws start s c left l i o u v now of.1 of.2 has) v here
 draws_on start s c left l (event.Sent d f h) u v here of has =
     let put = lone_next (world s) s.queue c u.machine of.0 u.goes.lone of.1 in
@@ -97,15 +101,15 @@ draws_on start s c left l (event.Sent d f h) u v here of has =
     (sent_draws start s c left put.0 f h u (subst (λ g. u.machine.last ≡ Some (Put put.0 g)) (sym of.3) put.1) put.2 has)
 draws_on start s c left l _ u v here of has = absurd of
 
-draws_all : (start : Begun) (s : SiteState) (c left : ℕ) (es : List Event) → Runs start s c left → Rounds true s c es → DrawsAt s c
+draws_all : (start : Begun) (s : SiteState) (c left : ℕ) (es : List Event) → Runs (of_survey start) s c left → Rounds true s c es → DrawsAt s c
     → DrawsAt (site_after s es) c
 draws_all start s c left [] u rounds has = has
 draws_all start s c left (e ∷ es) u rounds has =
-    let on = runs_on start s c left e u rounds.0 rounds.1 in
+    let on = runs_on (of_survey start) (argument start) s c left e u rounds.0 rounds.1 in
     draws_all start (site_logged s e) c on.rest es on.runs rounds.2 (draws_on start s c left on.rest e u on.runs rounds.0 rounds.1 has)
 
 -- so the numbers are never spent
-spent_never : (start : Begun) (s : SiteState) (c left : ℕ) → Runs start s c left → DrawsAt s c → IsPumpRefused s trouble.None refusal.DrawsSpent → ⊥
+spent_never : (start : Begun) (s : SiteState) (c left : ℕ) → Runs (of_survey start) s c left → DrawsAt s c → IsPumpRefused s trouble.None refusal.DrawsSpent → ⊥
 spent_never start s c left u has (r, is, spent) =
     let w : World = world s in
     let put = lone_next w s.queue c u.machine r u.goes.lone is in
@@ -125,7 +129,6 @@ spent_never start s c left u has (r, is, spent) =
 pub never_spent : (s : SiteState) (c : ℕ) (es : List Event) → IsAlone s c → length (world s).gear ≤ length (world s).left → Rounds true s c es
     → IsPumpRefused (site_after s es) trouble.None refusal.DrawsSpent → ⊥
 never_spent s c es alone enough rounds =
-    let all = runs_after true s c es alone (unsettled s c) rounds in
+    let all = runs_all (of_survey (began_at true s)) (argument (began_at true s)) s c (most_frames Any (bare s)) es (starts_any s c alone) rounds in
     spent_never (began_at true s) (site_after s es) c all.rest all.runs
-    (draws_all (began_at true s) s c (left_before true s) es (starts true s c alone (unsettled s c)) rounds
-    (λ m there undrawn. enough))
+    (draws_all (began_at true s) s c (most_frames Any (bare s)) es (starts_any s c alone) rounds (λ m there undrawn. enough))

@@ -15,11 +15,14 @@ use Rattle.dali_events.specs.World.{World, Controller, controller_at}
 use Rattle.dali_events.specs.Happens.{happens, kept_after}
 use Rattle.dali_events.specs.Allowed.{Allowed, IsUp, IsDue, IsCommit}
 use Rattle.dali_world.specs.Site.{SiteState, world, site_logged}
-use Rattle.dali_progress.specs.Rounds.{site_after, HasEnded, IsAlone, IsOfRound, Rounds}
+use Rattle.dali_progress.specs.Rounds.{site_after, HasEnded, IsAlone, IsOfRound, Rounds, most_frames, Any, bare}
 use Rattle.dali_progress.specs.Ends.{CommitsNothing, NamesAll, table_at}
 use Rattle.dali_progress.proofs.Lone.{acted_there, sent_there, lone_next}
 use Rattle.dali_progress.proofs.Logged.{world_logged}
-use Rattle.dali_progress.proofs.Survey.Bounded.{Runs, began_at, runs_on, starts, tabled, left_before, unsettled, ended_by}
+use Rattle.dali_progress.proofs.Beginnings.{named}
+use Rattle.dali_progress.proofs.Along.{Runs, runs_on}
+use Rattle.dali_progress.proofs.Survey.Goes.{of_survey}
+use Rattle.dali_progress.proofs.Survey.Bounded.{argument, began_at, starts_any}
 use Rattle.dali_progress.proofs.Survey.Stands.{Begun}
 
 -- A SURVEY THAT COMMITS NOTHING keeps the records that it began with.
@@ -58,7 +61,8 @@ sent_keeps w c f h up none = (
   λ x e. none x (sym (ap (λ (k : Controller). k.last) (sent_there w c f h up)) ∙ e),
 )
 
-event_keeps : (start : Begun) (s : SiteState) (c left : ℕ) (e : Event) → Runs start s c left → Allowed (world s) e → IsOfRound true s c e → CommitsNothing e
+event_keeps : (start : Begun) (s : SiteState) (c left : ℕ) (e : Event) → Runs (of_survey start) s c left → Allowed (world s) e → IsOfRound true s c e
+    → CommitsNothing e
     → IsNone (controller_at (world s) c).last → Keeps (world s) (happens (world s) e) c
 event_keeps start s c left (event.Acted d i o) u here of quiet none =
     subst (λ n. Allowed (world s) (event.Acted n i o) → Keeps (world s) (happens (world s) (event.Acted n i o)) c) (sym of.0)
@@ -68,11 +72,12 @@ event_keeps start s c left (event.Sent d f h) u here of quiet none =
     subst (λ n. Keeps (world s) (happens (world s) (event.Sent n f h)) c) (sym (of.2 ∙ put.3)) (sent_keeps (world s) c f h u.goes.lone.up none)
 event_keeps start s c left _ u here of quiet none = absurd of
 
-all_keep : (start : Begun) (s : SiteState) (c left : ℕ) (es : List Event) → Runs start s c left → Rounds true s c es → AllByRecursion CommitsNothing es
+all_keep : (start : Begun) (s : SiteState) (c left : ℕ) (es : List Event) → Runs (of_survey start) s c left → Rounds true s c es
+    → AllByRecursion CommitsNothing es
     → IsNone (controller_at (world s) c).last → (controller_at (world (site_after s es)) c).records ≡ (controller_at (world s) c).records
 all_keep start s c left [] u rounds quiet none = refl
 all_keep start s c left (e ∷ es) u rounds quiet none =
-    let on = runs_on start s c left e u rounds.0 rounds.1 in
+    let on = runs_on (of_survey start) (argument start) s c left e u rounds.0 rounds.1 in
     let keeps : Keeps (world s) (world (site_logged s e)) c =
     subst (λ w. Keeps (world s) w c) (sym (world_logged s e)) (event_keeps start s c left e u rounds.0 rounds.1 quiet.0 none) in
     all_keep start (site_logged s e) c on.rest es on.runs rounds.2 quiet.1 keeps.1 ∙ keeps.0
@@ -81,6 +86,6 @@ pub quiet_tabled : (s : SiteState) (c : ℕ) (es : List Event) (e : End) → IsA
     → HasEnded (site_after s es) c e → NamesAll true s (table_at s c) (site_after s es)
 quiet_tabled s c es e a rounds quiet ended =
     subst (λ (k : Kept). NamesAll true s k.enrolled (site_after s es))
-    (all_keep (began_at true s) s c (left_before true s) es (starts true s c a (unsettled s c)) rounds quiet
+    (all_keep (began_at true s) s c (most_frames Any (bare s)) es (starts_any s c a) rounds quiet
     (λ x is. (let never : None ≡ Some (Commit x) = sym a.last ∙ is in cc)))
-    (tabled true s (site_after s es) c e (ended_by true s c es e a (unsettled s c) rounds ended))
+    (named Any s c es e a rounds ended)

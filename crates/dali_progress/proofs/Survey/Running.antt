@@ -13,12 +13,14 @@ use Rattle.dali_events.specs.Allowed.{Allowed, IsDue}
 use Rattle.dali_world.specs.Site.{SiteState, world, site_logged}
 use Rattle.dali_replay.specs.Installation.{Installation}
 use Rattle.dali_replay.specs.Installation as replayed
-use Rattle.dali_progress.specs.Rounds.{Succeeds, IsOfRound, Rounds, site_after, frames, IsAlone}
+use Rattle.dali_progress.specs.Rounds.{Succeeds, IsOfRound, Rounds, site_after, frames, IsAlone, most_frames, Any, bare}
 use Rattle.dali_progress.proofs.Lone.{Moment, acted_last, sent_last, lone_next}
 use Rattle.dali_progress.proofs.Logged.{world_logged}
 use Rattle.dali_progress.proofs.Running.{IsLeft, AreLeft, Comes, Came}
 use Rattle.dali_progress.proofs.Survey.Stands.{Begun}
-use Rattle.dali_progress.proofs.Survey.Bounded.{Runs, began_at, runs_on, starts, unsettled, left_before}
+use Rattle.dali_progress.proofs.Along.{Runs, runs_on}
+use Rattle.dali_progress.proofs.Survey.Goes.{of_survey}
+use Rattle.dali_progress.proofs.Survey.Bounded.{argument, began_at, starts_any}
 
 -- A RUN OF ROUNDS after a survey began, on an installation with one controller.
 
@@ -43,16 +45,16 @@ surveys_by _ good begun = tt
 due_start : (k : Controller) (i : Input) → IsDue k i → i ≡ input.Start → k.told ≡ Some input.Start
 due_start k i due is = subst (λ j. IsDue k j) is due
 
-no_start : (start : Begun) (s : SiteState) (c left : ℕ) → Runs start s c left → begun_last (world s) c
+no_start : (start : Begun) (s : SiteState) (c left : ℕ) → Runs (of_survey start) s c left → begun_last (world s) c
     → (controller_at (world s) c).told ≡ Some input.Start → ⊥
 no_start start s c left u begun told =
     never_starts (world s) s.queue c u.machine (controller_at (world s) c).outstanding begun.0 (controller_at (world s) c).told
     (subst (λ l. Moment (world s) s.queue c u.machine (controller_at (world s) c).outstanding l (controller_at (world s) c).told) begun.1 u.goes.lone.moment)
     told
 
-of_survey : (start : Begun) (s : SiteState) (c left : ℕ) (e : Event) → Runs start s c left → begun_last (world s) c → Allowed (world s) e
+is_of_survey : (start : Begun) (s : SiteState) (c left : ℕ) (e : Event) → Runs (of_survey start) s c left → begun_last (world s) c → Allowed (world s) e
     → IsOfRound false s c e → IsLeft s c e → IsOfRound true s c e
-of_survey start s c left (event.Acted d i o) u begun here of whole = (
+is_of_survey start s c left (event.Acted d i o) u begun here of whole = (
   of.0,
   surveys_by i of.1 (λ is. no_start start s c left u begun
       (due_start (controller_at (world s) c) i (subst (λ n. IsDue (controller_at (world s) n) i) of.0 here.due) is)),
@@ -60,11 +62,11 @@ of_survey start s c left (event.Acted d i o) u begun here of whole = (
   λ e. whole,
   of.4,
 )
-of_survey start s c left (event.Sent d f h) u begun here of whole = of
-of_survey start s c left _ u begun here of whole = absurd of
+is_of_survey start s c left (event.Sent d f h) u begun here of whole = of
+is_of_survey start s c left _ u begun here of whole = absurd of
 
 -- it has ordered something afterwards, too
-still_begun : (start : Begun) (s : SiteState) (c left : ℕ) (e : Event) → Runs start s c left → begun_last (world s) c → IsOfRound false s c e
+still_begun : (start : Begun) (s : SiteState) (c left : ℕ) (e : Event) → Runs (of_survey start) s c left → begun_last (world s) c → IsOfRound false s c e
     → begun_last (happens (world s) e) c
 still_begun start s c left (event.Acted d i o) u begun of =
     subst (λ n. begun_last (happens (world s) (event.Acted n i o)) c) (sym of.0) (o, acted_last (world s) c i o u.goes.lone.up)
@@ -74,12 +76,12 @@ still_begun start s c left (event.Sent d f h) u begun of =
     (begun.0, sent_last (world s) c f h u.goes.lone.up ∙ begun.1)
 still_begun start s c left _ u begun of = absurd of
 
-are_of_survey : (start : Begun) (s : SiteState) (c left : ℕ) (es : List Event) → Runs start s c left → begun_last (world s) c → Rounds false s c es
+are_of_survey : (start : Begun) (s : SiteState) (c left : ℕ) (es : List Event) → Runs (of_survey start) s c left → begun_last (world s) c → Rounds false s c es
     → AreLeft s c es → Rounds true s c es
 are_of_survey start s c left [] u begun rounds whole = tt
 are_of_survey start s c left (e ∷ es) u begun rounds whole =
-    let of : IsOfRound true s c e = of_survey start s c left e u begun rounds.0 rounds.1 whole.0 in
-    let on = runs_on start s c left e u rounds.0 of in (
+    let of : IsOfRound true s c e = is_of_survey start s c left e u begun rounds.0 rounds.1 whole.0 in
+    let on = runs_on (of_survey start) (argument start) s c left e u rounds.0 of in (
       rounds.0,
       of,
       are_of_survey start (site_logged s e) c on.rest es on.runs
@@ -90,8 +92,8 @@ are_of_survey start s c left (e ∷ es) u begun rounds whole =
 events_of_run : (s between t : SiteState) (o : Order) (k f : ℕ) → IsAlone s 0 → between ≡ site_logged s (event.Acted 0 input.Survey o)
     → Allowed (world s) (event.Acted 0 input.Survey o) → IsOfRound true s 0 (event.Acted 0 input.Survey o) → Comes between t k f → Came true s t k f
 events_of_run s between t o k f alone logged here of comes =
-    let on = runs_on (began_at true s) s 0 (left_before true s) (event.Acted 0 input.Survey o)
-    (starts true s 0 alone (unsettled s 0)) here of in
+    let on = runs_on (of_survey (began_at true s)) (argument (began_at true s)) s 0 (most_frames Any (bare s)) (event.Acted 0 input.Survey o)
+    (starts_any s 0 alone) here of in
     let begun : begun_last (world (site_logged s (event.Acted 0 input.Survey o))) 0 =
     subst (λ w. begun_last w 0) (sym (world_logged s (event.Acted 0 input.Survey o))) (o, acted_last (world s) 0 input.Survey o here.up) in
     record {
