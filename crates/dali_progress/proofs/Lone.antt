@@ -151,12 +151,7 @@ IsDueOf last told input.Lapsed = told ≡ Some input.Lapsed
 
 pub due_of : (k : Controller) (i : Input) → IsDue k i → IsDueOf k.last k.told i
 due_of k input.Committed due = due
-due_of k input.CommitFailed due = due
-due_of k input.Start due = due
-due_of k input.Survey due = due
-due_of k (input.Heard h) due = due
-due_of k input.Destroyed due = due
-due_of k input.Lapsed due = due
+due_of k _ due = due
 
 -- WHAT A CONTROLLER ACTS ON: its start, what was heard of its frame, or that its commit is kept
 abbrev pub first_input : Bool → Input

@@ -78,11 +78,8 @@ due_last : (k : Controller) → k.up ≡ true → due_of k ≡ due_after k.last
 due_last k up = rw up refl
 
 has_by : (k : Controller) (last : Option Order) → has_turn_by (due_after last) k ≡ true → (is_some k.told ≡ true) ⊎ IsCommit last
-has_by k None has = inl has
-has_by k (Some (Put p f)) has = inl has
 has_by k (Some (Commit x)) has = inr tt
-has_by k (Some (Done e)) has = inl has
-has_by k (Some (Halt why)) has = inl has
+has_by k _ has = inl has
 
 turn_free : (s : SiteState) → IsWell s → has_turn (controller_at (world s) 0) ≡ true → total (world s).bus ≡ 0
 turn_free s well has =
@@ -94,13 +91,7 @@ given_by : (n : Installation) (i : Input) (m : Installation) (last : Option Orde
     → IsGivenBy (due_after last) n 0 i m → IsDue (controller n 0) i × (m.site ≡ n.site)
 given_by n i m (Some (Commit x)) well is given =
     (subst (λ j. IsDue (controller n 0) j) (sym given.0) (subst IsCommit (sym is) tt), ap (λ (y : Installation). y.site) given.1)
-given_by n i m None well is given =
-    (told_due (world n.site) n.site.queue 0 well.machine (controller n 0) i well.moment given.0, ap (λ (y : Installation). y.site) given.1)
-given_by n i m (Some (Put p f)) well is given =
-    (told_due (world n.site) n.site.queue 0 well.machine (controller n 0) i well.moment given.0, ap (λ (y : Installation). y.site) given.1)
-given_by n i m (Some (Done e)) well is given =
-    (told_due (world n.site) n.site.queue 0 well.machine (controller n 0) i well.moment given.0, ap (λ (y : Installation). y.site) given.1)
-given_by n i m (Some (Halt why)) well is given =
+given_by n i m _ well is given =
     (told_due (world n.site) n.site.queue 0 well.machine (controller n 0) i well.moment given.0, ap (λ (y : Installation). y.site) given.1)
 
 given_due : (n : Installation) (i : Input) (m : Installation) → IsWell n.site → IsGiven n 0 i m → IsDue (controller n 0) i × (m.site ≡ n.site)

@@ -139,9 +139,7 @@ due_commit k i due is = subst (λ x. IsDue k x) is due
 
 given_site : (d : Due) (n : Installation) (c : ℕ) (i : Input) (m : Installation) → IsGivenBy d n c i m → m.site ≡ n.site
 given_site due.Store n c i m given = ap (λ (x : Installation). x.site) given.1
-given_site due.Start n c i m given = ap (λ (x : Installation). x.site) given.1
-given_site due.Bus n c i m given = ap (λ (x : Installation). x.site) given.1
-given_site due.Nothing n c i m given = ap (λ (x : Installation). x.site) given.1
+given_site _ n c i m given = ap (λ (x : Installation). x.site) given.1
 
 went : (n m : Installation) (o : Order) → Goes n 0 (Ok o) m → Comes n.site m.site 1 0
 went n m o goes = by goes.1 goes.2 goes.3 goes.4 where

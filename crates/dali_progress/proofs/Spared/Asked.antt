@@ -54,14 +54,7 @@ opened_moved w ms c (event.Down d) stays wide =
 opened_moved w ms c (event.Up d kept) stays wide =
     by_place _ d c (λ same. absurd (stays same))
     (λ other m there. wide m (sym (get_or-set_other ms d c (Some (at_first d (come_up kept (controller_at w d)).records)) None other) ∙ there))
-opened_moved w ms c (event.Sent d f h) stays wide = wide
-opened_moved w ms c (event.Offered d f) stays wide = wide
-opened_moved w ms c (event.Destroyed d f some) stays wide = wide
-opened_moved w ms c (event.Collided d f e g) stays wide = wide
-opened_moved w ms c event.Lapsed stays wide = wide
-opened_moved w ms c event.Quiet stays wide = wide
-opened_moved w ms c (event.Power g on) stays wide = wide
-opened_moved w ms c (event.Expired g) stays wide = wide
+opened_moved w ms c _ stays wide = wide
 
 -- a machine that has ordered nothing has not opened
 unstarted_unopened : (m : Machine) → m.last ≡ None → IsWhole m → m.opened ≡ true → ⊥

@@ -128,16 +128,7 @@ event_leaves : (s : SiteState) (e : Event) (v : ℕ → ℕ → ℕ) → IsPlan 
     → LeavesUsed s.plan.used e
 event_leaves s (event.Acted c i o) v plan l here of =
     leaves_acted s.plan.used c i o (λ used. lived_leaves s c (v c) i o plan (l c) here of.1 used)
-event_leaves s (event.Sent d f h) v plan l here of = λ c i a r is used. cc
-event_leaves s (event.Offered d f) v plan l here of = λ c i a r is used. cc
-event_leaves s (event.Destroyed d f set) v plan l here of = λ c i a r is used. cc
-event_leaves s (event.Collided d f e g) v plan l here of = λ c i a r is used. cc
-event_leaves s event.Lapsed v plan l here of = λ c i a r is used. cc
-event_leaves s event.Quiet v plan l here of = λ c i a r is used. cc
-event_leaves s (event.Power g on) v plan l here of = λ c i a r is used. cc
-event_leaves s (event.Expired g) v plan l here of = λ c i a r is used. cc
-event_leaves s (event.Down d) v plan l here of = λ c i a r is used. cc
-event_leaves s (event.Up d kept) v plan l here of = λ c i a r is used. cc
+event_leaves s _ v plan l here of = λ c i a r is used. cc
 
 peaceful : (s : SiteState) (c : ℕ) (e : Event) → IsPlan s.plan → IsRun s.plan s.queue (s.log ++ []) → Allowed (world s) e → IsOfCall s e → AsksInPeace s c e
     → IsLivedAt s c none_yet → IsLivedAt (site_logged s e) c none_yet

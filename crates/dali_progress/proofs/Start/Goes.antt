@@ -101,9 +101,7 @@ slack_first o c is = rw is refl
 
 pub slack_one : (o : Order) → slack (Some o) None ≤ 1
 slack_one (Put p f) = omega arith
-slack_one (Commit x) = omega arith
-slack_one (Done e) = omega arith
-slack_one (Halt why) = omega arith
+slack_one _ = omega arith
 
 -- what is to come of its order, and that events before the next frame are one less
 abbrev ActsTo : List Gear → Machine → Order → List Gear → ℕ → Option Order → Option Input → Type 0
@@ -142,15 +140,11 @@ acts before w q c m out last told i o left at is due good g kept holds =
 
 holds_next : (before : List Gear) (m : Machine) (o : Order) (gs : List Gear) (left : ℕ) → IsNext before m o gs left → Holds before m (Some o) None gs left
 holds_next before m (Put p f) gs left next = next
-holds_next before m (Commit x) gs left next = next
-holds_next before m (Done e) gs left next = next
-holds_next before m (Halt why) gs left next = next
+holds_next before m _ gs left next = next
 
 pub next_holds : (before : List Gear) (m : Machine) (o : Order) (gs : List Gear) (left : ℕ) → Holds before m (Some o) None gs left → IsNext before m o gs left
 next_holds before m (Put p f) gs left next = next
-next_holds before m (Commit x) gs left next = next
-next_holds before m (Done e) gs left next = next
-next_holds before m (Halt why) gs left next = next
+next_holds before m _ gs left next = next
 
 -- that it does, and with how many frames left
 abbrev pub of_start : List Gear → Measure

@@ -219,15 +219,11 @@ acts start w q c m out last told i o left at is due surveys g kept numbered one 
 
 holds_next : (start : Begun) (m : Machine) (o : Order) (gs : List Gear) (left : ℕ) → IsNext start m o gs left → Holds start m (Some o) None gs left
 holds_next start m (Put p f) gs left next = next
-holds_next start m (Commit x) gs left next = next
-holds_next start m (Done e) gs left next = next
-holds_next start m (Halt why) gs left next = next
+holds_next start m _ gs left next = next
 
 pub next_holds : (start : Begun) (m : Machine) (o : Order) (gs : List Gear) (left : ℕ) → Holds start m (Some o) None gs left → IsNext start m o gs left
 next_holds start m (Put p f) gs left next = next
-next_holds start m (Commit x) gs left next = next
-next_holds start m (Done e) gs left next = next
-next_holds start m (Halt why) gs left next = next
+next_holds start m _ gs left next = next
 
 -- what is known of the world of a run
 pub record IsSurveyed (w : World) (c : ℕ) : Type 0 where

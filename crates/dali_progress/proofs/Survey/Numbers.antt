@@ -304,13 +304,7 @@ surveying_undrawn : (start : Begun) (p : Purpose) (y : Way) (s : Stage) (k : Kep
 surveying_undrawn start Opening y s k heard opened asked x n from gs left v is =
     let both : Surveying ≡ Drawing = sym is ∙ v.way in
     absurd (cc)
-surveying_undrawn start Probing y s k heard opened asked x n from gs left v is = is
-surveying_undrawn start Hunting y s k heard opened asked x n from gs left v is = is
-surveying_undrawn start Visiting y s k heard opened asked x n from gs left v is = is
-surveying_undrawn start (Resolving a) y s k heard opened asked x n from gs left v is = is
-surveying_undrawn start (Asking a) y s k heard opened asked x n from gs left v is = is
-surveying_undrawn start Waking y s k heard opened asked x n from gs left v is = is
-surveying_undrawn start (Closing e) y s k heard opened asked x n from gs left v is = is
+surveying_undrawn start _ y s k heard opened asked x n from gs left v is = is
 
 -- an opening stands open
 opening_open : (start : Begun) (p : Purpose) (y : Way) (s : Stage) (k : Kept) (heard : Shorts) (opened : Bool) (asked : ℕ) (x : Ascent) (n : SearchAddress)

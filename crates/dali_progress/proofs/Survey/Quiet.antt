@@ -35,12 +35,7 @@ none_due k input.Committed none due = go k.last none due where
   go : (last : Option Order) → IsNone last → IsCommit last → kept_after k input.Committed ≡ k.records
   go (Some (Commit x)) none commit = absurd (none x refl)
   go _ none commit = absurd commit
-none_due k input.Start none due = refl
-none_due k input.Survey none due = refl
-none_due k (input.Heard h) none due = refl
-none_due k input.Destroyed none due = refl
-none_due k input.Lapsed none due = refl
-none_due k input.CommitFailed none due = refl
+none_due k _ none due = refl
 
 -- one event more
 abbrev Keeps : World → World → ℕ → Type 0

@@ -292,11 +292,7 @@ told_small m input.Committed small = go (record_ordered m.last) where
   go : (x : Option Record) → (machine_committed m x).asked ≤ 2
   go None = small
   go (Some x) = small
-told_small m input.Start small = small
-told_small m input.Survey small = small
-told_small m input.Destroyed small = small
-told_small m input.Lapsed small = small
-told_small m input.CommitFailed small = small
+told_small m _ small = small
 
 -- no stage of a question is one after MASK was answered
 hears_no_mask : (m t : Machine) (b : ℕ) (h : Answer) (c r : ℕ) → Hearing m t b h → MayCommit t (Reserve c r) → ⊥
