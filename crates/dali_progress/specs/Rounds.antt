@@ -29,7 +29,7 @@ pub data Beginning : Type 0 where
   Settled : Beginning
   Any : Beginning
 
--- whether it surveys; what depends on no more than this is said by `surveys`
+-- whether it surveys: what depends on no more than this takes it as `surveys`
 abbrev pub by_survey : Beginning → Bool
 by_survey ByStart = false
 by_survey Settled = true
