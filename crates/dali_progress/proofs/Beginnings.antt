@@ -17,9 +17,10 @@ use Rattle.dali_progress.proofs.Along.{Measure, Argument, RunsAll, runs_all, few
 use Rattle.dali_progress.proofs.Start.Goes.{of_start}
 use Rattle.dali_progress.proofs.Survey.Goes.{of_survey}
 use Rattle.dali_progress.proofs.Start.Bounded as start
-use Rattle.dali_progress.proofs.Start.Numbers as start_numbers
 use Rattle.dali_progress.proofs.Survey.Bounded as survey
-use Rattle.dali_progress.proofs.Survey.Numbered as survey_numbers
+use Rattle.dali_progress.proofs.Drawing as drawing
+use Rattle.dali_progress.proofs.Start.Numbers.{LeavesDraws, start_draws}
+use Rattle.dali_progress.proofs.Survey.Numbers.{HasNumbers, survey_draws}
 
 -- THE LAWS BY CASES, over what is proved of a start and of a survey.
 
@@ -128,8 +129,16 @@ named Any s c es e a rounds ended =
 
 -- ---------------------------------------------------------------- its numbers
 
+survey_spent : (s : SiteState) (c : ℕ) (es : List Event) → IsAlone s c → length (world s).gear ≤ length (world s).left → Rounds true s c es
+    → IsPumpRefused (site_after s es) trouble.None refusal.DrawsSpent → ⊥
+survey_spent s c es a enough rounds =
+    drawing.never_spent (measure Any s) (argues Any s) HasNumbers (survey_draws (survey.began_at true s)) s c (most_frames Any (bare s)) es
+    (survey.starts_any s c a) rounds (λ m there undrawn. enough)
+
 pub never_spent : (b : Beginning) (s : SiteState) (c : ℕ) (es : List Event) → BeginsAlone b s c → length (world s).gear ≤ length (world s).left
     → Rounds (by_survey b) s c es → IsPumpRefused (site_after s es) trouble.None refusal.DrawsSpent → ⊥
-never_spent ByStart s c es a enough rounds = start_numbers.never_spent s c es a enough rounds
-never_spent Settled s c es a enough rounds = survey_numbers.never_spent s c es a.0 enough rounds
-never_spent Any s c es a enough rounds = survey_numbers.never_spent s c es a enough rounds
+never_spent ByStart s c es a enough rounds =
+    drawing.never_spent (measure ByStart s) (argues ByStart s) LeavesDraws (start_draws (world s).gear) s c (most_frames ByStart (bare s)) es
+    (start.starts s c a) rounds (λ m there closed. enough)
+never_spent Settled s c es a enough rounds = survey_spent s c es a.0 enough rounds
+never_spent Any s c es a enough rounds = survey_spent s c es a enough rounds

@@ -6,6 +6,7 @@ mod Frames
 mod Tables
 mod Both
 mod Along
+mod Drawing
 mod Start
 mod Giving
 mod Session

@@ -15,4 +15,3 @@ pub mod Again
 pub mod Quiet
 pub mod Running
 pub mod Numbers
-pub mod Numbered

@@ -39,17 +39,21 @@ use Rattle.dali_controller.specs.Next.{course_on, goes_on_anew}
 use Rattle.dali_progress.proofs.Sweep.Others.{way_on, way_first}
 use Rattle.dali_controller.specs.Machine.{Machine, machine_heard, machine_told, machine_committed, opened_after}
 use Rattle.dali_controller.specs.Orders.{machine_after, machine_ordered, IsAllowed}
-use Rattle.dali_events.specs.World.{World}
+use Rattle.dali_events.specs.World.{World, controller_at}
 use Rattle.dali_events.specs.Happens.{entry}
 use Rattle.dali_standing.specs.Seats.{informed_by}
 use Rattle.dali_events.proofs.Invariant.Takes.{row_length}
-use Rattle.dali_progress.proofs.Lone.{Moment, IsDueOf, acts_by}
+use Rattle.dali_progress.proofs.Lone.{Moment, IsDueOf, acts_by, due_of}
 use Rattle.dali_progress.proofs.Stands.{Opens, Sends}
-use Rattle.dali_progress.proofs.Both.{left_same, none_apart, enough_left, opening_none, probing_never, visiting_never, closing_never}
+use Rattle.dali_progress.proofs.Both.{left_same, none_apart, enough_left, opening_none, probing_never, visiting_never, closing_never, not_failed}
 use Rattle.dali_progress.proofs.Survey.Stands.{Begun, Hunts, SurveyAt, SurveyStands, searched_by}
 use Rattle.dali_progress.proofs.Survey.Begins.{IsNext}
-use Rattle.dali_progress.proofs.Survey.Goes.{Holds, Hears}
+use Rattle.dali_progress.proofs.Survey.Goes.{Holds, Hears, of_survey, next_holds}
 use Rattle.dali_progress.specs.Rounds.{Succeeds}
+use Rattle.dali_progress.proofs.Drawing.{Draws}
+use Rattle.dali_events.specs.declared.event.Event.TheVariants as event
+use Rattle.dali_world.specs.Site.{world, site_logged}
+use Rattle.dali_controller.proofs.Given.{given_by}
 
 -- THE NUMBERS THAT GEAR DRAW in a survey: where there is one for each gear at its start, they are never spent. Gear draw once, at
 -- the last frame of the one opening.
@@ -441,3 +445,19 @@ heard_has start m p f h gs numbers left last next has =
         m.course.from gs left (command_of f) h next.0.at next.1 now in
         rw (row_length Everyone (command_of f) 0 gs numbers, left_same Everyone (command_of f) 0 gs numbers none.0)
         (has (undrawn_last m (Some (Put p f)) last none.1))
+
+-- so they are never spent
+pub survey_draws : (start : Begun) → Draws (of_survey start) HasNumbers
+survey_draws start = record {
+  acts = λ s c left l i o u here surveys given holds has.
+      acts_has start (world s) s.queue c u.machine (controller_at (world s) c).outstanding (controller_at (world s) c).last (controller_at (world s) c).told i o
+      (world s).gear (world (site_logged s (event.Acted c i o))).gear (world s).left left l u.goes.lone.moment u.goes.lone.last
+      (due_of (controller_at (world s) c) i here.due) surveys (given_by u.machine i o (not_failed true i surveys) given).ordered.allowed u.goes.holds
+      (next_holds start (machine_after u.machine i o) o (world (site_logged s (event.Acted c i o))).gear l holds) has;
+  sends = λ m p f h gs numbers left last holds has. heard_has start m p f h gs numbers left last (next_holds start m (Put p f) gs left holds) has;
+  enough = λ m p f gs numbers left last holds has.
+      let next = next_holds start m (Put p f) gs left holds in
+      draws_enough start m.course.purpose m.course.way
+      (stage_of m.trace) m.kept m.heard m.opened m.asked m.course.ascent m.course.number m.course.from gs numbers
+      left (command_of f) next.0.at next.1 (λ undrawn. has (undrawn_last m (Some (Put p f)) last undrawn));
+}
