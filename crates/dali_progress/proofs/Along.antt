@@ -9,9 +9,10 @@ use Rattle.dali_gear.specs.Row.{row_after, answers_of, heard_of}
 use Rattle.dali_arbiter.specs.declared.request.Request.{Request}
 use Rattle.dali_script.specs.declared.orders.Input.{Input}
 use Rattle.dali_script.specs.declared.orders.Input.TheVariants as input
+use Rattle.dali_script.specs.declared.orders.End.{End}
 use Rattle.dali_script.specs.declared.orders.Fault.{Fault}
 use Rattle.dali_script.specs.declared.orders.Order.{Order}
-use Rattle.dali_script.specs.declared.orders.Order.TheVariants.{Put, Halt}
+use Rattle.dali_script.specs.declared.orders.Order.TheVariants.{Put, Done, Halt}
 use Rattle.dali_controller.specs.Machine.{Machine, machine_told}
 use Rattle.dali_controller.specs.Orders.{machine_after}
 use Rattle.dali_controller.specs.Whole.{IsWhole}
@@ -25,9 +26,9 @@ use Rattle.dali_events.specs.Runs.{IsRun, LeavesUsed}
 use Rattle.dali_standing.specs.Seats.{MayAnswer, LeavesWhole}
 use Rattle.dali_standing.specs.Standing.{machine_in}
 use Rattle.dali_world.specs.Site.{SiteState, world, site_logged, machine_at, next_request}
-use Rattle.dali_progress.specs.Rounds.{IsAlone, Succeeds, IsOfRound, Rounds, site_after, is_frame, frames}
-use Rattle.dali_progress.proofs.Lone.{IsLone, acted_last, acted_told, lone_acted, lone_next, lone_sent, sent_last}
-use Rattle.dali_progress.proofs.Logged.{world_logged, run_logged, machines_logged, acted_machine}
+use Rattle.dali_progress.specs.Rounds.{HasEnded, IsAlone, Succeeds, IsOfRound, Rounds, site_after, is_frame, frames}
+use Rattle.dali_progress.proofs.Lone.{IsLone, Rests, ended_rests, acted_last, acted_told, lone_acted, lone_next, lone_sent, sent_last}
+use Rattle.dali_progress.proofs.Logged.{same_some, world_logged, run_logged, machines_logged, acted_machine}
 use Rattle.dali_progress.proofs.Both.{not_failed, addresses_by, IsKnown, known_sent, sent_by}
 
 -- ALONG ROUNDS, one event after the other: what both arguments are.
@@ -66,6 +67,23 @@ holds_of : (M : Measure) (m : Machine) (w : World) (c : ℕ) (last : Option Orde
 holds_of M m w c last told gs left is so holds =
     subst (λ l. M.holds m l (controller_at w c).told gs left) (sym is) (subst (λ t. M.holds m last t gs left) (sym so) holds)
 
+-- how far it is, by its last order
+pub held : (M : Measure) (s : SiteState) (c left : ℕ) (m : Machine) (last : Option Order) (told : Option Input) → (r : Runs M s c left)
+    → machine_at s c ≡ Some m → (controller_at (world s) c).last ≡ last → (controller_at (world s) c).told ≡ told → M.holds m last told (world s).gear left
+held M s c left m last told r there is so =
+    subst (λ n. M.holds n last told (world s).gear left) (same_some (machine_at s c) r.machine m r.there there)
+    (subst (λ t. M.holds r.machine last t (world s).gear left) so
+    (subst (λ l. M.holds r.machine l (controller_at (world s) c).told (world s).gear left) is r.goes.holds))
+
+-- and at its end, where nothing runs any more
+pub held_ended : (M : Measure) (s : SiteState) (c left : ℕ) (e : End) → (r : Runs M s c left) → HasEnded s c e
+    → M.holds r.machine (Some (Done e)) None (world s).gear left × Rests (world s) s.queue
+held_ended M s c left e r ended =
+    let w : World = world s in
+    let k : Controller = controller_at w c in
+    let rests = ended_rests w s.queue c r.machine k.outstanding k.last k.told e ended r.goes.lone.moment in
+    (held M s c left r.machine (Some (Done e)) None r r.there ended rests.1, rests.0)
+
 -- frames that were sent are frames that are no longer left; after one event, and after all
 pub record RunsOn (M : Measure) (s : SiteState) (c left : ℕ) (e : Event) : Type 0 where
   pub rest : ℕ
@@ -93,7 +111,7 @@ pub record Argument (M : Measure) : Type 0 where
       × M.holds m (Some (Put p f)) (Some (input.Heard h)) (row_after Everyone (command_of f) 0 (world s).gear (world s).left) rest
   pub spends : (p : ℕ) (f : Forward) (h : Answer) (rest left : ℕ) → left ≡ suc rest
       → M.events rest + M.slack (Some (Put p f)) (Some (input.Heard h)) + 1 ≤ M.events left + M.slack (Some (Put p f)) None
-  pub halts : (m : Machine) (why : Fault) (told : Option Input) (gs : List Gear) (left : ℕ) → M.holds m (Some (Halt why)) told gs left → ⊥
+  pub halts : (m : Machine) (why : Fault) (gs : List Gear) (left : ℕ) → M.holds m (Some (Halt why)) None gs left → ⊥
   pub first : M.slack None (Some input.Start) ≡ 1
 
 module _ (M : Measure) (a : Argument M) where
@@ -201,7 +219,6 @@ module _ (M : Measure) (a : Argument M) where
       few : (rest x y : ℕ) → y ≡ 1 → rest + x + length es ≤ M.events left + y → length es ≤ M.events left + 1
       few rest x y one less = omega (arith, one, less)
 
-  pub never_halts : (s : SiteState) (c left : ℕ) → Runs M s c left → (why : Fault) → (controller_at (world s) c).last ≡ Some (Halt why) → ⊥
-  never_halts s c left r why is =
-      a.halts r.machine why (controller_at (world s) c).told (world s).gear left
-      (subst (λ l. M.holds r.machine l (controller_at (world s) c).told (world s).gear left) is r.goes.holds)
+  pub never_halts : (s : SiteState) (c left : ℕ) → Runs M s c left → (why : Fault) → (controller_at (world s) c).last ≡ Some (Halt why)
+      → (controller_at (world s) c).told ≡ None → ⊥
+  never_halts s c left r why is none = a.halts r.machine why (world s).gear left (held M s c left r.machine (Some (Halt why)) None r r.there is none)

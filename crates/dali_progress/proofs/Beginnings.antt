@@ -2,7 +2,7 @@ use Rattle.dali_progress.specs.Rounds.{most_events, Beginning, most_frames, Any,
 use Rattle.dali_progress.specs.Rounds.{HasNext, IsSettled, site_after, BeginsAlone}
 use Rattle.dali_progress.specs.Ends.{NamesAll, IsTrueEnd, table_at}
 use Rattle.dali_progress.proofs.Lone.{due_by, IsDueIn, IsLone}
-use Rattle.std.proofs.Common.{◌≡◌, ℕ, ◌+◌, ◌≤◌, ◌⊎◌, inl, inr, List, refl, sym, subst, arith, length, Some, true, false}
+use Rattle.std.proofs.Common.{◌≡◌, ℕ, ◌+◌, ◌≤◌, ◌⊎◌, None, inl, inr, List, refl, sym, subst, arith, length, Some, true, false}
 use Rattle.dali_arbiter.specs.Arbiter.{next}
 use Rattle.dali_script.specs.declared.orders.Order.TheVariants.{Halt}
 use Rattle.dali_script.specs.declared.orders.End.{End}
@@ -77,7 +77,7 @@ few_events b s c es a rounds =
 pub record IsAfter (s : SiteState) (c : ℕ) : Type 0 where
   pub machine : Machine
   pub lone : IsLone (world s) s.queue c machine
-  pub halts : (why : Fault) → (controller_at (world s) c).last ≡ Some (Halt why) → ⊥
+  pub halts : (why : Fault) → (controller_at (world s) c).last ≡ Some (Halt why) → (controller_at (world s) c).told ≡ None → ⊥
 
 pub after : (b : Beginning) (s : SiteState) (c : ℕ) (es : List Event) → BeginsAlone b s c → Rounds (by_survey b) s c es → IsAfter (site_after s es) c
 after b s c es a rounds =

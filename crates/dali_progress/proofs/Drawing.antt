@@ -2,10 +2,10 @@ use Rattle.dali_controller.specs.Orders.{IsGiven, machine_after}
 use Rattle.dali_gear.specs.Row.{row_after, row_left, draws_needed}
 use Rattle.dali_standing.specs.Seats.{MayAnswer, informed_by}
 use Rattle.dali_world.specs.Site.{SiteState, world, site_logged, machine_at, IsPumpRefused}
-use Rattle.std.proofs.Common.{◌≡◌, ℕ, ◌<◌, ◌≤◌, List, [], ◌∷◌, sym, ap, subst, ◌∙◌, arith, length, Option, Some, None}
+use Rattle.std.proofs.Common.{◌≡◌, ℕ, ◌<◌, ◌≤◌, List, [], ◌∷◌, sym, ap, subst, ◌∙◌, arith, length, Some, None}
 use Rattle.dali_progress.proofs.Lone.{acted_last, acted_told, lone_next, lone_sent}
 use Rattle.dali_progress.proofs.Logged.{world_logged, machines_logged, acted_machine, same_some}
-use Rattle.dali_progress.proofs.Along.{Measure, Argument, Runs, runs_on, runs_all}
+use Rattle.dali_progress.proofs.Along.{Measure, Argument, Runs, held, runs_on, runs_all}
 use Rattle.dali_progress.specs.Rounds.{Succeeds, IsOfRound, Rounds, site_after}
 use Rattle.dali_frame.specs.declared.frames.Forward.{Forward}
 use Rattle.dali_frame.specs.declared.frames.Answer.{Answer}
@@ -51,14 +51,6 @@ draws_logged P s c e m there has n at =
     subst (λ (t : Machine). P (informed_by t (controller_at (world (site_logged s e)) c).told) (world (site_logged s e)).gear (world (site_logged s e)).left)
     (same_some (machine_at (site_logged s e) c) m n there at)
     (subst (λ (w : World). P (informed_by m (controller_at w c).told) w.gear w.left) (sym (world_logged s e)) has)
-
--- how far it is, by its last order
-held : (M : Measure) (s : SiteState) (c left : ℕ) (m : Machine) (last : Option Order) (told : Option Input) → (r : Runs M s c left) → machine_at s c ≡ Some m
-    → (controller_at (world s) c).last ≡ last → (controller_at (world s) c).told ≡ told → M.holds m last told (world s).gear left
-held M s c left m last told r there is so =
-    subst (λ n. M.holds n last told (world s).gear left) (same_some (machine_at s c) r.machine m r.there there)
-    (subst (λ t. M.holds r.machine last t (world s).gear left) so
-    (subst (λ l. M.holds r.machine l (controller_at (world s) c).told (world s).gear left) is r.goes.holds))
 
 module _ (M : Measure) (a : Argument M) (P : Machine → List Gear → List ℕ → Type 0) (d : Draws M P) where
   acted_draws : (s : SiteState) (c left l : ℕ) (i : Input) (o : Order) → Runs M s c left → Runs M (site_logged s (event.Acted c i o)) c l

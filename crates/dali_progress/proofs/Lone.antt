@@ -92,7 +92,7 @@ abbrev pub IsDueIn : Bool → World → ℕ → Type 0
 IsDueIn by w c = (i : Input) × Succeeds by i × IsDue (controller_at w c) i × (total w.bus ≡ 0)
 
 pub due_by : (by : Bool) (w : World) (q c : ℕ) (m : Machine) (last : Option Order) (told : Option Input) → (controller_at w c).last ≡ last
-    → (controller_at w c).told ≡ told → Moment w q c m (controller_at w c).outstanding last told → ((why : Fault) → last ≡ Some (Halt why) → ⊥)
+    → (controller_at w c).told ≡ told → Moment w q c m (controller_at w c).outstanding last told → ((why : Fault) → last ≡ Some (Halt why) → told ≡ None → ⊥)
     → ((e : End) × (last ≡ Some (Done e))) ⊎ (IsDueIn by w c ⊎ ((r : Request) × (next w.bus ≡ Some r)))
 due_by false w q c m None (Some input.Start) is told at halts = inr (inl (input.Start, tt, told, ap total at.0.0))
 due_by true w q c m None (Some input.Start) is told at halts = inr (inl (input.Survey, tt, told, ap total at.0.0))
@@ -101,8 +101,15 @@ due_by by w q c m (Some (Put p f)) None is told (inl later) halts = inr (inr (re
 due_by by w q c m (Some (Put p f)) None is told (inr first) halts = inr (inr (request_of c FIRST f, ap next first.1))
 due_by by w q c m (Some (Commit x)) None is told at halts = inr (inl (input.Committed, tt, rw is tt, ap total at.0.0))
 due_by by w q c m (Some (Done e)) None is told at halts = inl (e, refl)
-due_by by w q c m (Some (Halt why)) None is told at halts = absurd (halts why refl)
+due_by by w q c m (Some (Halt why)) None is told at halts = absurd (halts why refl refl)
 due_by by w q c m _ _ is told at halts = absurd at
+
+-- once it has ended
+pub ended_rests : (w : World) (q c : ℕ) (m : Machine) (out : Option Record) (last : Option Order) (told : Option Input) (e : End) → last ≡ Some (Done e)
+    → Moment w q c m out last told → Rests w q × (told ≡ None)
+ended_rests w q c m out (Some (Done x)) None e is at = (at, refl)
+ended_rests w q c m out (Some (Done x)) (Some i) e is at = absurd at
+ended_rests w q c m out _ told e is at = absurd (cc)
 
 -- ---------------------------------------------------------------- the controller acts
 

@@ -1,26 +1,17 @@
-use Rattle.std.proofs.Common.{◌≡◌, ℕ, ◌+◌, ◌*◌, inl, List, refl, sym, ap, subst, ◌∙◌, arith, Option, Some, None, false}
+use Rattle.std.proofs.Common.{ℕ, ◌+◌, ◌*◌, inl, List, refl, sym, ap, subst, ◌∙◌, arith, Some, false}
 use Rattle.dali_gear.specs.Gear.{Gear}
 use Rattle.dali_script.specs.Records.{Kept, without_records}
-use Rattle.dali_script.specs.declared.orders.Input.{Input}
-use Rattle.dali_script.specs.declared.orders.Order.{Order}
-use Rattle.dali_script.specs.declared.orders.Order.TheVariants.{Done, Halt}
 use Rattle.dali_script.specs.declared.orders.End.{End}
-use Rattle.dali_controller.specs.Machine.{Machine, at_first}
+use Rattle.dali_controller.specs.Machine.{at_first}
 use Rattle.dali_events.specs.World.{controller_at}
 use Rattle.dali_world.specs.Site.{SiteState, world}
 use Rattle.dali_progress.specs.Rounds.{HasEnded, ByStart, bare, BeginsAlone}
 use Rattle.dali_progress.specs.Ends.{EndsWell, AreTabled, NamesAll, IsTrueEnd, table_at}
-use Rattle.dali_progress.proofs.Start.Goes.{Holds, of_start, start_acts, start_sends}
+use Rattle.dali_progress.proofs.Start.Goes.{of_start, start_acts, start_sends}
 use Rattle.dali_progress.proofs.Logged.{kept_now}
-use Rattle.dali_script.specs.declared.orders.Fault.{Fault}
-use Rattle.dali_progress.proofs.Along.{Argument, Runs}
+use Rattle.dali_progress.proofs.Along.{Argument, Runs, held_ended}
 
--- A LIST OF EVENTS OF ROUNDS, one after the other.
-
-never_halts : (before : List Gear) (m : Machine) (why : Fault) (told : Option Input) (gs : List Gear) (left : ℕ) → Holds before m (Some (Halt why)) told gs left
-    → ⊥
-never_halts before m why None gs left holds = holds
-never_halts before m why (Some i) gs left holds = holds
+-- THE FIRST ARGUMENT, its start, and its end.
 
 pub argument : (before : List Gear) → Argument (of_start before)
 argument before = record {
@@ -28,7 +19,7 @@ argument before = record {
       start_acts before (world s) s.queue c m i o left goes good here given (kept_now s c run goes.lone.up);
   sends = λ s c m p f h left run goes last told here known heard. start_sends before (world s) s.queue c m p f h left goes last told here known heard;
   spends = λ p f h rest left is. omega (arith, is);
-  halts = never_halts before;
+  halts = λ m why gs left holds. holds;
   first = refl;
 }
 
@@ -59,16 +50,9 @@ starts s c a = record {
   };
 }
 
--- an end says what is true
-well_by : (before : List Gear) (m : Machine) (last : Option Order) (told : Option Input) (e : End) (gs : List Gear) (left : ℕ) → last ≡ Some (Done e)
-    → Holds before m last told gs left → EndsWell e m.kept gs × AreTabled before m.kept.enrolled gs
-well_by before m (Some (Done x)) None e gs left is holds = (subst (λ y. EndsWell y m.kept gs) (let same : x ≡ e = cc in same) holds.0, holds.1)
-well_by before m (Some (Done x)) (Some i) e gs left is holds = absurd holds
-well_by before m _ told e gs left is holds = absurd (cc)
-
 -- what an end leaves, where the site was once as s
 pub ended_by : (s after : SiteState) (c left : ℕ) (e : End) → Runs (of_start (world s).gear) after c left → HasEnded after c e
     → IsTrueEnd ByStart after c e × NamesAll false s (table_at after c) after
 ended_by s after c left e r ended =
     subst (λ (k : Kept). EndsWell e k (world after).gear × AreTabled (world s).gear k.enrolled (world after).gear) r.goes.lone.kept
-    (well_by (world s).gear r.machine (controller_at (world after) c).last (controller_at (world after) c).told e (world after).gear left ended r.goes.holds)
+    (held_ended (of_start (world s).gear) after c left e r ended).0

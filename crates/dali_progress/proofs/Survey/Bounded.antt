@@ -1,19 +1,15 @@
-use Rattle.std.proofs.Common.{Bool, true, false, ◌≡◌, ℕ, ◌+◌, ◌*◌, ◌≤◌, ◌⊎◌, inl, inr, suc, List, [], refl, sym, ap, subst, ◌∙◌, arith, Option, Some, None}
+use Rattle.std.proofs.Common.{Bool, true, false, ◌≡◌, ℕ, ◌+◌, ◌*◌, ◌≤◌, ◌⊎◌, inl, inr, suc, List, [], refl, sym, ap, subst, ◌∙◌, arith, Some}
 use Rattle.std.specs.Prelude.{◌==◌}
 use Rattle.std.proofs.lemmas.Nat.Bits.{bit_at-zero}
 use Rattle.dali_events.specs.Promise.{KeepsPromiseNow}
 use Rattle.std.proofs.lemmas.List.{append-nil}
 use Rattle.dali_gear.specs.Gear.{Gear}
-use Rattle.dali_script.specs.declared.records.Record.{Record}
 use Rattle.dali_script.specs.Records.{Has}
-use Rattle.dali_script.specs.declared.orders.Input.{Input}
-use Rattle.dali_script.specs.declared.orders.Order.{Order}
-use Rattle.dali_script.specs.declared.orders.Order.TheVariants.{Done, Halt}
 use Rattle.dali_script.specs.declared.orders.End.{End}
 use Rattle.dali_script.specs.declared.orders.End.TheVariants.{AllFound, BlockFull, GaveUp}
 use Rattle.dali_controller.specs.Machine.{Machine, at_first}
 use Rattle.dali_events.specs.declared.event.Event.TheVariants as event
-use Rattle.dali_events.specs.World.{World, controller_at}
+use Rattle.dali_events.specs.World.{controller_at}
 use Rattle.dali_events.specs.Allowed.{IsUp}
 use Rattle.dali_events.specs.Laws.{FindingsAgree}
 use Rattle.dali_events.specs.Runs.{IsRun}
@@ -23,17 +19,16 @@ use Rattle.dali_events.proofs.Invariant.Safe.{keeps_promise}
 use Rattle.dali_world.specs.Site.{SiteState, world, site_logged, machine_at}
 use Rattle.dali_progress.specs.Rounds.{HasEnded, IsAlone, IsSettled, IsSettledAt, bare, most_frames, Any}
 use Rattle.dali_progress.specs.Ends.{AreTabled, IsAllTaken, IsBlockTaken, SurveyEndsWell, IsSurveyDone, IsUnseen, NamesAll, table_at}
-use Rattle.dali_progress.proofs.Lone.{Rests, Moment}
+use Rattle.dali_progress.proofs.Lone.{Rests}
 use Rattle.dali_progress.proofs.Logged.{world_logged, drawn_now, kept_now}
 use Rattle.dali_progress.proofs.Survey.Drawn.{numbered_of}
 use Rattle.dali_progress.proofs.Survey.Queried.{OneShort, IsTrue, IsPassed, core_self, unseen, unseen_was}
 use Rattle.dali_progress.proofs.Survey.Stands.{Begun, spare, SurveyEnds}
 use Rattle.dali_progress.proofs.Survey.Kept.{enrol_slack}
-use Rattle.dali_progress.proofs.Survey.Goes.{Holds, IsSurveyed, of_survey, events_of, survey_acts, survey_sends}
-use Rattle.dali_script.specs.declared.orders.Fault.{Fault}
-use Rattle.dali_progress.proofs.Along.{Argument, Runs}
+use Rattle.dali_progress.proofs.Survey.Goes.{IsSurveyed, of_survey, events_of, survey_acts, survey_sends}
+use Rattle.dali_progress.proofs.Along.{Argument, Runs, held_ended}
 
--- A LIST OF EVENTS OF A SURVEY, one after the other.
+-- THE SECOND ARGUMENT, its start, and its end.
 
 -- with these gear, and with any records or settled ones
 abbrev pub began_at : Bool → SiteState → Begun
@@ -66,10 +61,6 @@ spends : (any : Bool) (rest left : ℕ) → left ≡ suc rest → events_of any 
 spends true rest left is = omega (arith, is)
 spends false rest left is = omega (arith, is)
 
-never_halts : (start : Begun) (m : Machine) (why : Fault) (told : Option Input) (gs : List Gear) (left : ℕ) → Holds start m (Some (Halt why)) told gs left → ⊥
-never_halts start m why None gs left holds = holds
-never_halts start m why (Some i) gs left holds = holds
-
 pub argument : (start : Begun) → Argument (of_survey start)
 argument start = record {
   acts = λ s c m i o left run now goes surveys here given whole.
@@ -78,7 +69,7 @@ argument start = record {
   sends = λ s c m p f h left run goes last told here known heard.
       survey_sends start (world s) s.queue c m p f h left goes last told here known (surveyed_now s c run goes.lone.up) heard;
   spends = λ p f h rest left is. spends start.any rest left is;
-  halts = never_halts start;
+  halts = λ m why gs left holds. holds;
   first = refl;
 }
 
@@ -118,14 +109,6 @@ starts_any s c a = starts true s c (most_frames Any (bare s)) (omega arith) a (�
 
 -- ---------------------------------------------------------------- an end says what is true
 
-well_by : (start : Begun) (m : Machine) (last : Option Order) (told : Option Input) (e : End) (gs : List Gear) (left : ℕ) → last ≡ Some (Done e)
-    → Holds start m last told gs left
-    → SurveyEnds start.any e m.kept m.heard gs × AreTabled (unseen start.gear) m.kept.enrolled gs × (start.any ≡ false → IsSettled m.kept)
-well_by start m (Some (Done x)) None e gs left is holds =
-    (subst (λ y. SurveyEnds start.any y m.kept m.heard gs) (let same : x ≡ e = cc in same) holds.0, holds.1, holds.2)
-well_by start m (Some (Done x)) (Some i) e gs left is holds = absurd holds
-well_by start m _ told e gs left is holds = absurd (cc)
-
 -- what an end leaves
 pub record EndsBy (any : Bool) (s after : SiteState) (c : ℕ) (e : End) : Type 0 where
   pub machine : Machine
@@ -138,27 +121,20 @@ pub record EndsBy (any : Bool) (s after : SiteState) (c : ℕ) (e : End) : Type 
   pub up : IsUp (world after) c
   pub rests : Rests (world after) after.queue
 
-rests_by : (w : World) (q c : ℕ) (m : Machine) (out : Option Record) (last : Option Order) (told : Option Input) (e : End) → last ≡ Some (Done e)
-    → Moment w q c m out last told → Rests w q
-rests_by w q c m out (Some (Done x)) None e is at = at
-rests_by w q c m out (Some (Done x)) (Some i) e is at = absurd at
-rests_by w q c m out _ told e is at = absurd (cc)
-
 pub ended_by : (any : Bool) (s after : SiteState) (c left : ℕ) (e : End) → Runs (of_survey (began_at any s)) after c left → HasEnded after c e
     → EndsBy any s after c e
 ended_by any s after c left e r ended =
-    let w : World = world after in
-    let well = well_by (began_at any s) r.machine (controller_at w c).last (controller_at w c).told e w.gear left ended r.goes.holds in
+    let at = held_ended (of_survey (began_at any s)) after c left e r ended in
     record {
       machine = r.machine;
       there = r.there;
       kept = r.goes.lone.kept;
-      well = well.0;
-      tabled = well.1;
-      settled = well.2;
+      well = at.0.0;
+      tabled = at.0.1;
+      settled = at.0.2;
       run = r.run;
       up = r.goes.lone.up;
-      rests = rests_by w after.queue c r.machine (controller_at w c).outstanding (controller_at w c).last (controller_at w c).told e ended r.goes.lone.moment;
+      rests = at.1;
     }
 
 ends_so : (any : Bool) (e : End) (m : Machine) (gs : List Gear) → SurveyEnds any e m.kept m.heard gs → SurveyEndsWell e m gs
