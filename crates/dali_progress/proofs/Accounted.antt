@@ -1,5 +1,5 @@
-use Rattle.std.proofs.Common.{◌≡◌, ℕ, ◌+◌, ◌*◌, ◌%◌, ◌^◌, ◌<◌, ◌≤◌, ◌⊎◌, inl, inr, Bool, true, false, List, [], ◌∷◌, refl, sym, ap, subst, ◌∙◌, arith}
-use Rattle.std.proofs.Common.{Option, Some, None, w64}
+use Rattle.std.proofs.Common.{◌≡◌, ℕ, ◌+◌, ◌*◌, ◌%◌, ◌^◌, ◌<◌, ◌≤◌, ◌⊎◌, inl, inr, Bool, true, false, List, [], ◌∷◌, refl, sym, ap, subst, ◌∙◌, arith, Option}
+use Rattle.std.proofs.Common.{Some, None, w64}
 use Rattle.std.specs.Prelude.{◌==◌, ◌&&◌, ◌||◌, ◌-◌, nat_eq, max, not, is_some, zero, suc, MatchOption, if◌then◌else◌, bit_or}
 use Rattle.dali_script.specs.declared.orders.Due.TheVariants as due
 use Rattle.std.specs.Int.{bit_at}
@@ -37,8 +37,7 @@ use Rattle.dali_frame.specs.Priority.{FIRST, LATER}
 use Rattle.dali_special.specs.Command.{frame_of}
 use Rattle.dali_controller.proofs.Courses.{found_number}
 use Rattle.dali_controller.specs.Orders.{IsGiven, IsSought, IsAnswered, IsOrdered, AfterFinding, AfterReserved, AfterMaskBy, AfterMaskOn, AfterMaskSurveyed}
-use Rattle.dali_controller.specs.Orders.{machine_after}
-use Rattle.dali_controller.specs.Orders.{machine_ordered}
+use Rattle.dali_controller.specs.Orders.{machine_after, machine_ordered}
 use Rattle.dali_progress.proofs.Later.{later_leaves}
 use Rattle.dali_progress.specs.Surveyed.{Step, IsTaken, IsCourse, stage_told, heard_at, heard_by, WasHeard, IsPlain, ArePlain, IsAccounted}
 
@@ -155,19 +154,15 @@ committed_heard m None = refl
 committed_heard m (Some x) = refl
 
 pub told_enrolled : (m : Machine) (i : Input) (y : Assignment) → Has m.kept.enrolled y → Has (machine_told m i).kept.enrolled y
-told_enrolled m input.Start y has = has
-told_enrolled m input.Survey y has = has
 told_enrolled m (input.Heard h) y has = go (frame_put m.last) where
   go : (f : Option Forward) → Has (machine_heard m f h).kept.enrolled y
   go None = has
   go (Some f) = has
-told_enrolled m input.Destroyed y has = has
-told_enrolled m input.Lapsed y has = has
 told_enrolled m input.Committed y has = go (record_ordered m.last) where
   go : (x : Option Record) → Has (machine_committed m x).kept.enrolled y
   go None = has
   go (Some x) = enrolled_stays m.kept x y has
-told_enrolled m input.CommitFailed y has = has
+told_enrolled m _ y has = has
 
 -- an enrolment that is ordered is kept, or the machine halts
 enrolling_step : (m : Machine) (i : Input) (o : Order) (a r : ℕ) → m.last ≡ Some (Commit (Enrol a r)) → accepts (due_after m.last) i ≡ true → IsGiven m i o
@@ -209,12 +204,7 @@ accounted_by m (input.Heard h) o a small plain due given e =
     heard_step m h o a due given
     (subst (λ p. Leaves p (stage_of (machine_told m (input.Heard h)).trace) (heard_after p (stage_of (machine_told m (input.Heard h)).trace) h m.heard) a)
     (sym is.1) (marks_made is.0 (stage_of (machine_told m (input.Heard h)).trace) h m.heard a small plain is.2))
-accounted_by m input.Start o a small plain due given e = absurd (cc)
-accounted_by m input.Survey o a small plain due given e = absurd (cc)
-accounted_by m input.Destroyed o a small plain due given e = absurd (cc)
-accounted_by m input.Lapsed o a small plain due given e = absurd (cc)
-accounted_by m input.Committed o a small plain due given e = absurd (cc)
-accounted_by m input.CommitFailed o a small plain due given e = absurd (cc)
+accounted_by m _ o a small plain due given e = absurd (cc)
 
 -- ---------------------------------------------------------------- a course
 

@@ -1,4 +1,4 @@
-use Rattle.std.proofs.Common.{◌≡◌, ℕ, ◌⊎◌, inl, inr, List, [], ◌∷◌, refl, lit<, lit≤, Some}
+use Rattle.std.proofs.Common.{◌≡◌, ℕ, ◌⊎◌, inl, inr, List, [], ◌∷◌, refl, lit<, lit≤, Some, false}
 use Rattle.dali_frame.specs.declared.frames.Answer.TheVariants.{Silence}
 use Rattle.dali_special.specs.Command.{command_of, frame}
 use Rattle.dali_special.specs.declared.command.Command.TheVariants.{Terminate}
@@ -23,7 +23,7 @@ use Rattle.dali_events.specs.Allowed.{Allowed, IsDue}
 use Rattle.dali_events.proofs.Invariant.Growing.{leaves_none}
 use Rattle.dali_events.proofs.Plans.{plan_is}
 use Rattle.dali_world.specs.Site.{SiteState, world, next_request, site_logged}
-use Rattle.dali_progress.specs.Rounds.{StartsAlone, IsOfRound, site_after, GoesOn, HasEnded}
+use Rattle.dali_progress.specs.Rounds.{IsOfRound, site_after, GoesOn, HasEnded, ByStart, BeginsAlone}
 use Rattle.dali_progress.proofs.Giving.{first_given}
 use Rattle.dali_progress.proofs.Session.{block, given_first}
 
@@ -35,12 +35,12 @@ use Rattle.dali_progress.proofs.Session.{block, given_first}
 -- events, each of a round of one of two controllers
 abbrev pub RoundsOfBoth : SiteState → ℕ → ℕ → List Event → Type 0
 RoundsOfBoth s c d [] = Unit {0}
-RoundsOfBoth s c d (e ∷ es) = Allowed (world s) e × (IsOfRound s c e ⊎ IsOfRound s d e) × RoundsOfBoth (site_logged s e) c d es
+RoundsOfBoth s c d (e ∷ es) = Allowed (world s) e × (IsOfRound false s c e ⊎ IsOfRound false s d e) × RoundsOfBoth (site_logged s e) c d es
 
 pub record BreaksGoing (s : SiteState) (c d : ℕ) (es : List Event) : Type 0 where
-  pub starts : StartsAlone s c
+  pub starts : BeginsAlone ByStart s c
   pub rounds : RoundsOfBoth s c d es
-  pub stops : GoesOn (site_after s es) c → ⊥
+  pub stops : GoesOn false (site_after s es) c → ⊥
 
 abbrev pub second_block : Block
 second_block = record { first = 4; last = 7 }
@@ -65,27 +65,28 @@ given_second = first_given (at_first 1 (without_records second_block)) input.Sta
     (record { stage = refl; plain = tt; tries = refl; silent = refl; last = tt }) refl refl (refl, inl refl)
     (Open, tt, refl) (λ g e. cc)
 
-pub starts : StartsAlone shared_site 0
-starts = record {
-  run = record { plan = plan_is 1 ((0, 3) ∷ (4, 7) ∷ []) (0x123456 ∷ []) refl; allowed = tt; leaves = tt };
-  up = record { known = lit< tt; up = refl };
-  told = refl;
-  last = refl;
-  block = block;
-  records = refl;
-  machine = refl;
-  bus = refl;
-  trace = refl;
-}
+pub starts : BeginsAlone ByStart shared_site 0
+starts = (
+  record {
+    run = record { plan = plan_is 1 ((0, 3) ∷ (4, 7) ∷ []) (0x123456 ∷ []) refl; allowed = tt; leaves = tt };
+    up = record { known = lit< tt; up = refl };
+    told = refl;
+    last = refl;
+    machine = refl;
+    bus = refl;
+    trace = refl;
+  },
+  refl,
+)
 
 rounds : RoundsOfBoth shared_site 0 1 taking_the_bus
 unfolding command_of stage_of
 rounds = (
   record { up = record { known = lit< tt; up = refl }; due = refl; order = inl (refl, (block, [], (Open, tt, refl))) },
-  inr (refl, tt, given_second, leaves_none two_controllers _ refl),
+  inr (refl, tt, given_second, λ e. absurd (cc), leaves_none two_controllers _ refl),
   (
     record { up = record { known = lit< tt; up = refl }; due = refl; order = inl (refl, (block, [], (Open, tt, refl))) },
-    inl (refl, tt, given_first, leaves_none two_controllers _ refl),
+    inl (refl, tt, given_first, λ e. absurd (cc), leaves_none two_controllers _ refl),
     (
       record { up = record { known = lit< tt; up = refl }; may = inr (refl, (block, [], (Open, tt, refl))); draws = lit≤ tt; heard = tt },
       inr (request_of 1 3 (frame 0xA1 0), refl, refl, refl, refl),
@@ -108,7 +109,7 @@ none_next : (r : Request) → next_request (site_after shared_site taking_the_bu
 unfolding command_of stage_of
 none_next r is = cc
 
-stops : GoesOn (site_after shared_site taking_the_bus) 0 → ⊥
+stops : GoesOn false (site_after shared_site taking_the_bus) 0 → ⊥
 stops (inl ended) = unended ended.0 ended.1
 stops (inr (inl due)) = not_due due.input due.due
 stops (inr (inr next)) = none_next next.0 next.1

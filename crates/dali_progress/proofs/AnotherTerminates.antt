@@ -1,4 +1,4 @@
-use Rattle.std.proofs.Common.{◌≡◌, ℕ, ◌⊎◌, inl, inr, List, [], ◌∷◌, ◌++◌, refl, lit<, lit≤, Some, None}
+use Rattle.std.proofs.Common.{◌≡◌, ℕ, ◌⊎◌, inl, inr, List, [], ◌∷◌, ◌++◌, refl, lit<, lit≤, Some, None, false}
 use Rattle.dali_frame.specs.declared.frames.Answer.TheVariants.{Silence}
 use Rattle.dali_special.specs.Command.{command_of, frame}
 use Rattle.dali_arbiter.specs.Arbiter.{request_of}
@@ -14,12 +14,12 @@ use Rattle.dali_events.specs.Allowed.{Allowed}
 use Rattle.dali_standing.specs.Standing.{machines_at}
 use Rattle.dali_world.specs.Site.{SiteState, world, machines, site_logged}
 use Rattle.dali_events.proofs.Invariant.Growing.{leaves_none}
-use Rattle.dali_progress.specs.Rounds.{StartsAlone, IsOfRound, Rounds, site_after, HasEnded, IsDone}
+use Rattle.dali_progress.specs.Rounds.{IsOfRound, Rounds, site_after, HasEnded, ByStart, BeginsAlone}
 use Rattle.dali_progress.proofs.Session.{block, opening, searching, compare, ending, given_first, given_initialise, given_initialise_again, given_randomise}
-use Rattle.dali_progress.proofs.Session.{given_randomise_again}
-use Rattle.dali_progress.proofs.Session.{given_high, given_middle, given_low, given_compare, given_close, given_done}
+use Rattle.dali_progress.proofs.Session.{given_randomise_again, given_high, given_middle, given_low, given_compare, given_close, given_done}
 use Rattle.dali_progress.proofs.Playing.{Plays, rounds_by, plays_by}
 use Rattle.dali_progress.proofs.Another.{second_block, two_controllers, shared_site, starts, given_second}
+use Rattle.dali_progress.specs.Ends.{IsTrueEnd}
 
 -- ALONE MATTERS for the end. One gear and two controllers. All events are of rounds of the first one, but
 -- those of the second one, between the opening and the search of the first: the second one sends the
@@ -29,19 +29,19 @@ use Rattle.dali_progress.proofs.Another.{second_block, two_controllers, shared_s
 -- events of controller d: those of its rounds, and that it goes down
 abbrev pub AreOfOther : SiteState → ℕ → List Event → Type 0
 AreOfOther s d [] = Unit {0}
-AreOfOther s d (e ∷ es) = Allowed (world s) e × (IsOfRound s d e ⊎ (e ≡ event.Down d)) × AreOfOther (site_logged s e) d es
+AreOfOther s d (e ∷ es) = Allowed (world s) e × (IsOfRound false s d e ⊎ (e ≡ event.Down d)) × AreOfOther (site_logged s e) d es
 
 abbrev pub after_three : SiteState → List Event → List Event → List Event → SiteState
 after_three s front others back = site_after (site_after (site_after s front) others) back
 
 pub record BreaksEndBeside (s : SiteState) (c d : ℕ) (front others back : List Event) : Type 0 where
-  pub starts : StartsAlone s c
+  pub starts : BeginsAlone ByStart s c
   pub apart : c ≡ d → ⊥
-  pub before : Rounds s c front
+  pub before : Rounds false s c front
   pub between : AreOfOther (site_after s front) d others
-  pub afterwards : Rounds (site_after (site_after s front) others) c back
+  pub afterwards : Rounds false (site_after (site_after s front) others) c back
   pub ended : HasEnded (after_three s front others back) c AllFound
-  pub untrue : IsDone (after_three s front others back) c AllFound → ⊥
+  pub untrue : IsTrueEnd ByStart (after_three s front others back) c AllFound → ⊥
 
 abbrev pub terminating_once : List Event
 terminating_once =
@@ -63,7 +63,7 @@ other_plays : AreOfOther (site_after shared_site opening) 1 terminating_once
 unfolding command_of stage_of
 other_plays = (
   record { up = record { known = lit< tt; up = refl }; due = refl; order = inl (refl, (block, [], (Open, tt, refl))) },
-  inl (refl, tt, given_second, leaves_none two_controllers _ refl),
+  inl (refl, tt, given_second, λ e. absurd (cc), leaves_none two_controllers _ refl),
   (
     record { up = record { known = lit< tt; up = refl }; may = inr (refl, (block, [], (Open, tt, refl))); draws = lit≤ tt; heard = tt },
     inl (request_of 1 3 (frame 0xA1 0), refl, refl, refl, refl),

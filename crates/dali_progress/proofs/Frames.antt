@@ -38,7 +38,7 @@ use Rattle.dali_events.proofs.Search.Heard as hearing
 use Rattle.dali_events.proofs.Search.Opened as opening
 use Rattle.dali_events.proofs.Search.Programming as programming
 use Rattle.dali_events.proofs.Search.Withdrawing as withdrawing
-use Rattle.dali_progress.specs.Rounds.{EndsWell}
+use Rattle.dali_progress.specs.Ends.{EndsWell}
 use Rattle.dali_progress.proofs.Stands.{sent_at, search_frames, probe_frames, Opens, ProbeStage, Probes, VisitStage, IsVisited, VisitFrames, Visits, HaveShort}
 use Rattle.dali_progress.proofs.Stands.{Names, VisitsAt, Closes, At, Sends}
 

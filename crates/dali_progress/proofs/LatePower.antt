@@ -8,11 +8,11 @@ use Rattle.dali_events.specs.Happens.{happens}
 use Rattle.dali_standing.specs.Standing.{machines_at}
 use Rattle.dali_world.specs.Site.{SiteState}
 use Rattle.dali_events.proofs.Invariant.Growing.{leaves_none}
-use Rattle.dali_progress.specs.Rounds.{StartsAlone}
 use Rattle.dali_progress.proofs.Session.{block, compare, ending, given_first, given_initialise, given_initialise_again, given_randomise, given_randomise_again}
 use Rattle.dali_progress.proofs.Session.{given_high, given_middle, given_low, given_compare, given_close, given_done}
 use Rattle.dali_progress.proofs.Playing.{Plays, rounds_by, plays_by, BreaksEnd}
 use Rattle.dali_progress.proofs.Needed.{plan, is_plan, up_to_compare}
+use Rattle.dali_progress.specs.Rounds.{ByStart, BeginsAlone}
 
 -- POWER MATTERS. One gear, which has no power when the controller starts alone, and one controller. All
 -- events are of rounds, up to the end with all-found; then the gear gets power, and it has no short
@@ -21,18 +21,19 @@ use Rattle.dali_progress.proofs.Needed.{plan, is_plan, up_to_compare}
 abbrev pub dark_site : SiteState
 dark_site = record { plan = plan; queue = 8; room = 64; log = event.Power 0 false ∷ [] }
 
-starts : StartsAlone dark_site 0
-starts = record {
-  run = record { plan = is_plan; allowed = (tt, tt); leaves = (leaves_none plan (event.Power 0 false) refl, tt) };
-  up = record { known = lit< tt; up = refl };
-  told = refl;
-  last = refl;
-  block = block;
-  records = refl;
-  machine = refl;
-  bus = refl;
-  trace = refl;
-}
+starts : BeginsAlone ByStart dark_site 0
+starts = (
+  record {
+    run = record { plan = is_plan; allowed = (tt, tt); leaves = (leaves_none plan (event.Power 0 false) refl, tt) };
+    up = record { known = lit< tt; up = refl };
+    told = refl;
+    last = refl;
+    machine = refl;
+    bus = refl;
+    trace = refl;
+  },
+  refl,
+)
 
 -- an opening, a COMPARE under FFFFFE, and a close
 abbrev pub whole_session : List Event

@@ -7,20 +7,22 @@ use Rattle.dali_frame.specs.declared.frames.Answer.{Answer}
 use Rattle.dali_frame.specs.Priority.{FIRST, LATER}
 use Rattle.dali_special.specs.Command.{command_of}
 use Rattle.dali_arbiter.specs.declared.request.Request.{Request}
-use Rattle.dali_arbiter.specs.Arbiter.{Arbiter, idle, next, request_of}
+use Rattle.dali_arbiter.specs.Arbiter.{Arbiter, idle, total, next, request_of}
 use Rattle.dali_script.specs.declared.trace.Entry.{Entry}
 use Rattle.dali_script.specs.declared.records.Record.{Record}
 use Rattle.dali_script.specs.declared.orders.Input.{Input}
 use Rattle.dali_script.specs.declared.orders.Input.TheVariants as input
+use Rattle.dali_script.specs.declared.orders.End.{End}
+use Rattle.dali_script.specs.declared.orders.Fault.{Fault}
 use Rattle.dali_script.specs.declared.orders.Order.{Order}
 use Rattle.dali_script.specs.declared.orders.Order.TheVariants.{Put, Commit, Done, Halt}
-use Rattle.dali_script.specs.Due.{frame_put, record_ordered}
-use Rattle.dali_controller.specs.Machine.{Machine, machine_heard, machine_committed, machine_told}
+use Rattle.dali_script.specs.Due.{frame_put}
+use Rattle.dali_controller.specs.Machine.{Machine, machine_heard, machine_told}
 use Rattle.dali_controller.specs.Orders.{machine_after}
 use Rattle.dali_events.specs.declared.event.Event.TheVariants as event
 use Rattle.dali_events.specs.World.{World, Controller, controller_at, nobody}
-use Rattle.dali_events.specs.Happens.{happens, entry, controller_informed, controller_acted, outstanding_told, outstanding_after, with_outstanding, kept_after}
-use Rattle.dali_events.specs.Happens.{bus_acted, gives_up, told_sent, trace_running, goes_on, sent_by, is_arc}
+use Rattle.dali_events.specs.Happens.{happens, entry, controller_informed, controller_acted, outstanding_told, outstanding_after, kept_after, bus_acted}
+use Rattle.dali_events.specs.Happens.{gives_up, told_sent, trace_running, goes_on, sent_by, is_arc}
 use Rattle.dali_events.specs.Allowed.{Allowed, IsUp, IsDue, IsCommit, MayOrder}
 use Rattle.dali_progress.specs.Rounds.{Succeeds}
 
@@ -61,22 +63,7 @@ Moment w q c m outstanding (Some (Put p f)) (Some (input.Heard h)) = Heard w q c
 Moment w q c m outstanding (Some (Commit x)) None = Rests w q × (m.trace ≡ []) × (outstanding ≡ Some x)
 Moment w q c m outstanding (Some (Done e)) None = Rests w q
 Moment w q c m outstanding (Some (Halt why)) None = Rests w q
-Moment w q c m outstanding None None = ⊥
-Moment w q c m outstanding None (Some input.Survey) = ⊥
-Moment w q c m outstanding None (Some (input.Heard h)) = ⊥
-Moment w q c m outstanding None (Some input.Destroyed) = ⊥
-Moment w q c m outstanding None (Some input.Lapsed) = ⊥
-Moment w q c m outstanding None (Some input.Committed) = ⊥
-Moment w q c m outstanding None (Some input.CommitFailed) = ⊥
-Moment w q c m outstanding (Some (Put p f)) (Some input.Start) = ⊥
-Moment w q c m outstanding (Some (Put p f)) (Some input.Survey) = ⊥
-Moment w q c m outstanding (Some (Put p f)) (Some input.Destroyed) = ⊥
-Moment w q c m outstanding (Some (Put p f)) (Some input.Lapsed) = ⊥
-Moment w q c m outstanding (Some (Put p f)) (Some input.Committed) = ⊥
-Moment w q c m outstanding (Some (Put p f)) (Some input.CommitFailed) = ⊥
-Moment w q c m outstanding (Some (Commit x)) (Some i) = ⊥
-Moment w q c m outstanding (Some (Done e)) (Some i) = ⊥
-Moment w q c m outstanding (Some (Halt why)) (Some i) = ⊥
+Moment w q c m outstanding _ _ = ⊥
 
 abbrev no_input : Option Input
 no_input = None
@@ -92,6 +79,37 @@ pub record IsLone (w : World) (q c : ℕ) (m : Machine) : Type 0 where
   pub last : m.last ≡ (controller_at w c).last
   pub addresses : Addresses (controller_at w c).last
   pub moment : Moment w q c m (controller_at w c).outstanding (controller_at w c).last (controller_at w c).told
+
+-- ---------------------------------------------------------------- what is due
+
+-- where a frame was heard no request waits
+pub heard_free : (w : World) (q c : ℕ) (m : Machine) (f : Forward) (h : Answer) → Heard w q c m f h → total w.bus ≡ 0
+heard_free w q c m f h (inl own) = ap total own.0
+heard_free w q c m f h (inr free) = ap total free.0
+
+-- what is due or next, by the last order and by what was told
+abbrev pub IsDueIn : Bool → World → ℕ → Type 0
+IsDueIn by w c = (i : Input) × Succeeds by i × IsDue (controller_at w c) i × (total w.bus ≡ 0)
+
+pub due_by : (by : Bool) (w : World) (q c : ℕ) (m : Machine) (last : Option Order) (told : Option Input) → (controller_at w c).last ≡ last
+    → (controller_at w c).told ≡ told → Moment w q c m (controller_at w c).outstanding last told → ((why : Fault) → last ≡ Some (Halt why) → told ≡ None → ⊥)
+    → ((e : End) × (last ≡ Some (Done e))) ⊎ (IsDueIn by w c ⊎ ((r : Request) × (next w.bus ≡ Some r)))
+due_by false w q c m None (Some input.Start) is told at halts = inr (inl (input.Start, tt, told, ap total at.0.0))
+due_by true w q c m None (Some input.Start) is told at halts = inr (inl (input.Survey, tt, told, ap total at.0.0))
+due_by by w q c m (Some (Put p f)) (Some (input.Heard h)) is told at halts = inr (inl (input.Heard h, tt, told, heard_free w q c m f h at))
+due_by by w q c m (Some (Put p f)) None is told (inl later) halts = inr (inr (request_of c LATER f, ap next later.1))
+due_by by w q c m (Some (Put p f)) None is told (inr first) halts = inr (inr (request_of c FIRST f, ap next first.1))
+due_by by w q c m (Some (Commit x)) None is told at halts = inr (inl (input.Committed, tt, rw is tt, ap total at.0.0))
+due_by by w q c m (Some (Done e)) None is told at halts = inl (e, refl)
+due_by by w q c m (Some (Halt why)) None is told at halts = absurd (halts why refl refl)
+due_by by w q c m _ _ is told at halts = absurd at
+
+-- once it has ended
+pub ended_rests : (w : World) (q c : ℕ) (m : Machine) (out : Option Record) (last : Option Order) (told : Option Input) (e : End) → last ≡ Some (Done e)
+    → Moment w q c m out last told → Rests w q × (told ≡ None)
+ended_rests w q c m out (Some (Done x)) None e is at = (at, refl)
+ended_rests w q c m out (Some (Done x)) (Some i) e is at = absurd at
+ended_rests w q c m out _ told e is at = absurd (cc)
 
 -- ---------------------------------------------------------------- the controller acts
 
@@ -140,60 +158,63 @@ IsDueOf last told input.Lapsed = told ≡ Some input.Lapsed
 
 pub due_of : (k : Controller) (i : Input) → IsDue k i → IsDueOf k.last k.told i
 due_of k input.Committed due = due
-due_of k input.CommitFailed due = due
-due_of k input.Start due = due
-due_of k input.Survey due = due
-due_of k (input.Heard h) due = due
-due_of k input.Destroyed due = due
-due_of k input.Lapsed due = due
+due_of k _ due = due
 
-before : (w : World) (q c : ℕ) (m : Machine) (out : Option Record) (last : Option Order) (told : Option Input) (i : Input) → m.last ≡ last → Succeeds i
-    → IsDueOf last told i
-    → Moment w q c m out last told → Before w q c (machine_told m i).trace
-before w q c m out last told input.Survey is good due at = absurd good
-before w q c m out None (Some input.Start) input.Start is good due at = inr at.0
-before w q c m out (Some (Put p f)) (Some (input.Heard h)) (input.Heard g) is good due at = rw is (go at) where
-  same_answer : h ≡ g
-  same_answer = cc
+-- WHAT A CONTROLLER ACTS ON: its start, what was heard of its frame, or that its commit is kept
+abbrev pub first_input : Bool → Input
+first_input false = input.Start
+first_input true = input.Survey
 
-  go : Heard w q c m f h → Before w q c (m.trace ++ entry f g ∷ [])
-  go (inl own) = inl (own.0, own.1 ∙ ap (λ a. m.trace ++ entry f a ∷ []) same_answer)
-  go (inr free) = inr free
-before w q c m out (Some (Commit x)) None input.Committed is good due at = rw is (inr at.0)
-before w q c m out last told input.CommitFailed is good due at = absurd good
-before w q c m out None told input.Committed is good due at = absurd due
-before w q c m out (Some (Put p f)) told input.Committed is good due at = absurd due
-before w q c m out (Some (Done e)) told input.Committed is good due at = absurd due
-before w q c m out (Some (Halt why)) told input.Committed is good due at = absurd due
-before w q c m out None None i is good due at = absurd at
-before w q c m out None (Some input.Start) i is good due at = absurd (cc)
-before w q c m out None (Some j) i is good due at = absurd at
-before w q c m out (Some (Put p f)) (Some (input.Heard h)) i is good due at = absurd (cc)
-before w q c m out (Some (Put p f)) (Some j) i is good due at = absurd at
-before w q c m out (Some o) (Some j) i is good due at = absurd at
-before w q c m out (Some o) None i is good due at = absurd (cc)
+pub acts_by : (by : Bool) (P : Option Order → Option Input → Input → Type 0) → P None (Some input.Start) (first_input by)
+    → ((p : ℕ) (f : Forward) (h : Answer) → P (Some (Put p f)) (Some (input.Heard h)) (input.Heard h))
+    → ((x : Record) → P (Some (Commit x)) None input.Committed)
+    → (w : World) (q c : ℕ) (m : Machine) (out : Option Record) (last : Option Order) (told : Option Input) (i : Input)
+    → Moment w q c m out last told → IsDueOf last told i → Succeeds by i → P last told i
+acts_by false P first heard keeps w q c m out None (Some input.Start) input.Start at due good = first
+acts_by true P first heard keeps w q c m out None (Some input.Start) input.Survey at due good = first
+acts_by by P first heard keeps w q c m out (Some (Put p f)) (Some (input.Heard h)) (input.Heard a) at due good =
+    subst (λ b. P (Some (Put p f)) (Some (input.Heard h)) (input.Heard b)) (let same : h ≡ a = cc in same) (heard p f h)
+acts_by by P first heard keeps w q c m out (Some (Commit x)) None input.Committed at due good = keeps x
+acts_by by P first heard keeps w q c m out last told input.CommitFailed at due good = absurd good
+acts_by false P first heard keeps w q c m out last told input.Survey at due good = absurd good
+acts_by true P first heard keeps w q c m out last told input.Start at due good = absurd good
+acts_by by P first heard keeps w q c m out None told input.Committed at due good = absurd due
+acts_by by P first heard keeps w q c m out (Some (Put p f)) told input.Committed at due good = absurd due
+acts_by by P first heard keeps w q c m out (Some (Done e)) told input.Committed at due good = absurd due
+acts_by by P first heard keeps w q c m out (Some (Halt why)) told input.Committed at due good = absurd due
+acts_by by P first heard keeps w q c m out None None i at due good = absurd at
+acts_by by P first heard keeps w q c m out None (Some input.Start) i at due good = absurd (cc)
+acts_by by P first heard keeps w q c m out None (Some j) i at due good = absurd at
+acts_by by P first heard keeps w q c m out (Some (Put p f)) (Some (input.Heard h)) i at due good = absurd (cc)
+acts_by by P first heard keeps w q c m out (Some (Put p f)) (Some j) i at due good = absurd at
+acts_by by P first heard keeps w q c m out (Some o) (Some j) i at due good = absurd at
+acts_by by P first heard keeps w q c m out (Some o) None i at due good = absurd (cc)
+
+before : (by : Bool) (w : World) (q c : ℕ) (m : Machine) (out : Option Record) (last : Option Order) (told : Option Input) (i : Input) → m.last ≡ last
+    → Succeeds by i → IsDueOf last told i → Moment w q c m out last told → Before w q c (machine_told m i).trace
+before by w q c m out last told i is good due at =
+    acts_by by (λ l t j. m.last ≡ l → Moment w q c m out l t → Before w q c (machine_told m j).trace) (λ is at. inr at.0)
+    (λ p f h is at. rw is (heard p f h at)) (λ x is at. inr at.0) w q c m out last told i at due good is at
+  where
+    heard : (p : ℕ) (f : Forward) (h : Answer) → Heard w q c m f h → Before w q c (m.trace ++ entry f h ∷ [])
+    heard p f h (inl own) = inl own
+    heard p f h (inr free) = inr free
 
 pub heard_kept : (m : Machine) (o : Option Forward) (h : Answer) → (machine_heard m o h).kept ≡ m.kept
 heard_kept m (Some f) h = refl
 heard_kept m None h = refl
 
-committed_kept : (w : World) (q c : ℕ) (m : Machine) (k : Controller) (last : Option Order) (told : Option Input) → k.last ≡ last → k.told ≡ told
-    → m.last ≡ last → IsCommit last → m.kept ≡ k.records
-    → Moment w q c m k.outstanding last told → (machine_committed m (record_ordered m.last)).kept ≡ with_outstanding k.records k.outstanding
-committed_kept w q c m k (Some (Commit x)) None at_last at_told is commit kept at = rw (is, at.2, kept) refl
-committed_kept w q c m k (Some (Commit x)) (Some i) at_last at_told is commit kept at = absurd at
-committed_kept w q c m k (Some (Put p f)) told at_last at_told is commit kept at = absurd commit
-committed_kept w q c m k (Some (Done e)) told at_last at_told is commit kept at = absurd commit
-committed_kept w q c m k (Some (Halt why)) told at_last at_told is commit kept at = absurd commit
-committed_kept w q c m k None told at_last at_told is commit kept at = absurd commit
-
-told_kept : (w : World) (q c : ℕ) (m : Machine) (k : Controller) (i : Input) → IsDue k i → Succeeds i → m.last ≡ k.last → m.kept ≡ k.records
+told_kept : (by : Bool) (w : World) (q c : ℕ) (m : Machine) (k : Controller) (i : Input) → IsDue k i → Succeeds by i → m.last ≡ k.last → m.kept ≡ k.records
     → Moment w q c m k.outstanding k.last k.told → (machine_told m i).kept ≡ kept_after k i
-told_kept w q c m k input.Committed due good last kept at = committed_kept w q c m k k.last k.told refl refl last due kept at
-told_kept w q c m k input.CommitFailed due good last kept at = absurd good
-told_kept w q c m k input.Survey due good last kept at = absurd good
-told_kept w q c m k (input.Heard h) due good last kept at = heard_kept m (frame_put m.last) h ∙ kept
-told_kept w q c m k _ due good last kept at = kept
+told_kept by w q c m k i due good last kept at =
+    acts_by by (λ l t j. m.last ≡ l → Moment w q c m k.outstanding l t → (machine_told m j).kept ≡ kept_after k j) (first by)
+    (λ p f h is at. heard_kept m (frame_put m.last) h ∙ kept) (λ x is at. rw (is, at.2, kept) refl) w q c m k.outstanding k.last k.told i at
+    (due_of k i due) good last at
+  where
+    first : (b : Bool) → m.last ≡ None → Moment w q c m k.outstanding None (Some input.Start)
+        → (machine_told m (first_input b)).kept ≡ kept_after k (first_input b)
+    first false is at = kept
+    first true is at = kept
 
 -- what an order that is allowed asks of the bus
 puts : (w : World) (c : ℕ) (k : Controller) (o : Order) → MayOrder w c k o → Puts w c o
@@ -221,22 +242,22 @@ acted_last w c i o up = ap (λ (k : Controller). k.last) (acted_there w c i o up
 pub acted_told : (w : World) (c : ℕ) (i : Input) (o : Order) → IsUp w c → (controller_at (happens w (event.Acted c i o)) c).told ≡ None
 acted_told w c i o up = ap (λ (k : Controller). k.told) (acted_there w c i o up)
 
-pub lone_acted : (w : World) (q c : ℕ) (m : Machine) (i : Input) (o : Order) → IsLone w q c m → Succeeds i → Addresses (Some o) → Allowed w (event.Acted c i o)
-    → IsLone (happens w (event.Acted c i o)) q c (machine_after m i o)
-lone_acted w q c m i o l good addresses here =
+pub lone_acted : (by : Bool) (w : World) (q c : ℕ) (m : Machine) (i : Input) (o : Order) → IsLone w q c m → Succeeds by i → Addresses (Some o)
+    → Allowed w (event.Acted c i o) → IsLone (happens w (event.Acted c i o)) q c (machine_after m i o)
+lone_acted by w q c m i o l good addresses here =
     let there : controller_at (happens w (event.Acted c i o)) c ≡ controller_acted (controller_at w c) i o = acted_there w c i o l.up in
     record {
       up = record {
         known = subst (λ n. c < n) (sym (length-set w.controllers c (controller_acted (controller_at w c) i o))) l.up.known;
         up = ap (λ (k : Controller). k.up) there ∙ l.up.up;
       };
-      kept = told_kept w q c m (controller_at w c) i here.due good l.last l.kept l.moment ∙ sym (ap (λ (k : Controller). k.records) there);
+      kept = told_kept by w q c m (controller_at w c) i here.due good l.last l.kept l.moment ∙ sym (ap (λ (k : Controller). k.records) there);
       last = sym (ap (λ (k : Controller). k.last) there);
       addresses = subst Addresses (sym (ap (λ (k : Controller). k.last) there)) addresses;
       moment = subst (λ (k : Controller). Moment (happens w (event.Acted c i o)) q c (machine_after m i o) k.outstanding k.last k.told) (sym there)
           (came w q c m i o (outstanding_told (controller_at w c).outstanding i)
           (comes w q c (machine_told m i).trace o (puts w c (controller_informed (controller_at w c) i) o here.order)
-          (before w q c m (controller_at w c).outstanding (controller_at w c).last (controller_at w c).told i l.last good
+          (before by w q c m (controller_at w c).outstanding (controller_at w c).last (controller_at w c).told i l.last good
           (due_of (controller_at w c) i here.due) l.moment)));
     }
 
@@ -260,12 +281,7 @@ next_at w q c m out (Some (Put p f)) (Some (input.Heard h)) r (inr free) is = ab
 next_at w q c m out (Some (Commit x)) None r at is = absurd (let none : None ≡ Some r = sym (ap next at.0.0) ∙ is in cc)
 next_at w q c m out (Some (Done e)) None r at is = absurd (let none : None ≡ Some r = sym (ap next at.0) ∙ is in cc)
 next_at w q c m out (Some (Halt why)) None r at is = absurd (let none : None ≡ Some r = sym (ap next at.0) ∙ is in cc)
-next_at w q c m out None None r at is = absurd at
-next_at w q c m out None (Some i) r at is = absurd at
-next_at w q c m out (Some (Put p f)) (Some i) r at is = absurd at
-next_at w q c m out (Some (Commit x)) (Some i) r at is = absurd at
-next_at w q c m out (Some (Done e)) (Some i) r at is = absurd at
-next_at w q c m out (Some (Halt why)) (Some i) r at is = absurd at
+next_at w q c m out _ _ r at is = absurd at
 
 pub lone_next : (w : World) (q c : ℕ) (m : Machine) (r : Request) → IsLone w q c m → next w.bus ≡ Some r
     → (p : ℕ) × (m.last ≡ Some (Put p r.frame)) × ((controller_at w c).told ≡ None) × (r.sender ≡ c)

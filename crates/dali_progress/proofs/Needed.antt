@@ -1,4 +1,4 @@
-use Rattle.std.proofs.Common.{◌≡◌, ℕ, List, [], ◌∷◌, ◌++◌, refl, lit<, Some, None}
+use Rattle.std.proofs.Common.{◌≡◌, ℕ, List, [], ◌∷◌, ◌++◌, refl, lit<, Some, None, false}
 use Rattle.dali_special.specs.Command.{command_of, frame}
 use Rattle.dali_gear.specs.declared.row.Reach.TheVariants.{Everyone}
 use Rattle.dali_gear.specs.Row.{answers_of}
@@ -11,11 +11,11 @@ use Rattle.dali_events.proofs.Plans.{plan_is}
 use Rattle.dali_events.proofs.Histories.Tested.{allowed_by}
 use Rattle.dali_standing.specs.Standing.{machines_at}
 use Rattle.dali_world.specs.Site.{SiteState, world, site_logged, machines}
-use Rattle.dali_progress.specs.Rounds.{StartsAlone, Rounds, site_after}
+use Rattle.dali_progress.specs.Rounds.{Rounds, site_after, ByStart, BeginsAlone}
 use Rattle.dali_progress.proofs.Session.{block, opening, searching, compare, ending, given_first, given_initialise, given_initialise_again, given_randomise}
-use Rattle.dali_progress.proofs.Session.{given_randomise_again}
-use Rattle.dali_progress.proofs.Session.{given_high, given_middle, given_low, given_compare, given_close, given_done}
+use Rattle.dali_progress.proofs.Session.{given_randomise_again, given_high, given_middle, given_low, given_compare, given_close, given_done}
 use Rattle.dali_progress.proofs.Playing.{Plays, rounds_by, plays_by, BreaksEnd}
+use Rattle.dali_progress.proofs.Logged.{begins_new}
 
 -- UNDISTURBED MATTERS. Short histories of one controller that starts alone, in which all events but
 -- one are of rounds; it ends with all-found, and a gear that has power has no short address. The gear
@@ -31,18 +31,8 @@ is_plan = plan_is 1 ((0, 3) ∷ []) (0x123456 ∷ []) refl
 abbrev pub site : SiteState
 site = record { plan = plan; queue = 8; room = 64; log = [] }
 
-pub starts : StartsAlone site 0
-starts = record {
-  run = record { plan = is_plan; allowed = tt; leaves = tt };
-  up = record { known = lit< tt; up = refl };
-  told = refl;
-  last = refl;
-  block = block;
-  records = refl;
-  machine = refl;
-  bus = refl;
-  trace = refl;
-}
+pub starts : BeginsAlone ByStart site 0
+starts = begins_new plan 8 64 block is_plan refl
 
 -- an opening, and the order to send COMPARE under FFFFFE
 abbrev pub up_to_compare : List Event
@@ -58,7 +48,7 @@ before_compare = plays_by (start plan 8) (machines_at 0 (block ∷ [])) 0 up_to_
   ),
 )
 
-before_compare_rounds : Rounds site 0 up_to_compare
+before_compare_rounds : Rounds false site 0 up_to_compare
 before_compare_rounds = rounds_by site 0 up_to_compare refl before_compare
 
 no_short : (a : ℕ) → None ≡ Some a → ⊥

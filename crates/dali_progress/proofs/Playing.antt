@@ -25,8 +25,9 @@ use Rattle.dali_standing.specs.Seats.{MayAnswer}
 use Rattle.dali_standing.specs.Standing.{machine_in, machines_at, machines_after}
 use Rattle.dali_world.specs.Site.{SiteState, world, site_logged, machines}
 use Rattle.dali_world.proofs.Logs.{machines_more}
-use Rattle.dali_progress.specs.Rounds.{StartsAlone, Succeeds, IsOfRound, Rounds, site_after, HasEnded, IsDone}
-use Rattle.dali_progress.proofs.Bounded.{ends}
+use Rattle.dali_progress.specs.Rounds.{Succeeds, IsOfRound, Rounds, site_after, HasEnded, ByStart, BeginsAlone}
+use Rattle.dali_progress.proofs.Beginnings.{ends}
+use Rattle.dali_progress.specs.Ends.{IsTrueEnd}
 
 -- WHAT A SHORT HISTORY SHOWS that breaks what is proved of one controller alone.
 
@@ -35,7 +36,7 @@ use Rattle.dali_progress.proofs.Bounded.{ends}
 -- Rounds as a site's log has them begin with the whole log at each event. Here the world and the
 -- machines go along, so that a concrete history is computed once; and there are no used gear.
 abbrev pub OfRound : World → List (Option Machine) → ℕ → Event → Type 0
-OfRound w ms c (event.Acted d i o) = (d ≡ c) × Succeeds i × MayAnswer (machine_in ms c) i o
+OfRound w ms c (event.Acted d i o) = (d ≡ c) × Succeeds false i × MayAnswer (machine_in ms c) i o
 OfRound w ms c (event.Sent d f h) =
     (r : Request) × (next w.bus ≡ Some r) × (d ≡ r.sender) × (f ≡ r.frame) × (h ≡ heard_of (answers_of Everyone (command_of f) 0 w.gear))
 OfRound w ms c _ = ⊥
@@ -44,12 +45,12 @@ abbrev pub Plays : World → List (Option Machine) → ℕ → List Event → Ty
 Plays w ms c [] = Unit {0}
 Plays w ms c (e ∷ es) = Allowed w e × OfRound w ms c e × Plays (happens w e) (machines_after w ms e) c es
 
-of_round : (s : SiteState) (c : ℕ) (e : Event) → s.plan.used ≡ [] → OfRound (world s) (machines s) c e → IsOfRound s c e
-of_round s c (event.Acted d i o) none of = (of.0, of.1, of.2, leaves_none s.plan (event.Acted d i o) none)
+of_round : (s : SiteState) (c : ℕ) (e : Event) → s.plan.used ≡ [] → OfRound (world s) (machines s) c e → IsOfRound false s c e
+of_round s c (event.Acted d i o) none of = (of.0, of.1, of.2, λ never. absurd (cc), leaves_none s.plan (event.Acted d i o) none)
 of_round s c (event.Sent d f h) none of = of
 of_round s c _ none of = absurd of
 
-pub rounds_by : (s : SiteState) (c : ℕ) (es : List Event) → s.plan.used ≡ [] → Plays (world s) (machines s) c es → Rounds s c es
+pub rounds_by : (s : SiteState) (c : ℕ) (es : List Event) → s.plan.used ≡ [] → Plays (world s) (machines s) c es → Rounds false s c es
 rounds_by s c [] none plays = tt
 rounds_by s c (e ∷ es) none plays = (
   plays.0,
@@ -74,7 +75,7 @@ succeeds input.CommitFailed = false
 succeeds input.Survey = false
 succeeds _ = true
 
-succeeds_by : (i : Input) → succeeds i ≡ true → Succeeds i
+succeeds_by : (i : Input) → succeeds i ≡ true → Succeeds false i
 succeeds_by input.CommitFailed e = absurd (cc)
 succeeds_by input.Survey e = absurd (cc)
 succeeds_by _ e = tt
@@ -148,17 +149,17 @@ after_both s front e back = site_after (site_logged (site_after s front) e) back
 
 -- ONE EVENT that is allowed, among events that are all of rounds; and an untrue end.
 pub record BreaksEnd (s : SiteState) (c : ℕ) (front : List Event) (e : Event) (back : List Event) : Type 0 where
-  pub starts : StartsAlone s c
-  pub before : Rounds s c front
+  pub starts : BeginsAlone ByStart s c
+  pub before : Rounds false s c front
   pub allowed : Allowed (world (site_after s front)) e
-  pub afterwards : Rounds (site_logged (site_after s front) e) c back
+  pub afterwards : Rounds false (site_logged (site_after s front) e) c back
   pub ended : HasEnded (after_both s front e back) c AllFound
-  pub untrue : IsDone (after_both s front e back) c AllFound → ⊥
+  pub untrue : IsTrueEnd ByStart (after_both s front e back) c AllFound → ⊥
 
 -- then that event is of no round
-joined : (s : SiteState) (c : ℕ) (front : List Event) (e : Event) (back : List Event) → Rounds s c front → Allowed (world (site_after s front)) e
-    → IsOfRound (site_after s front) c e
-    → Rounds (site_logged (site_after s front) e) c back → Rounds s c (front ++ e ∷ back)
+joined : (s : SiteState) (c : ℕ) (front : List Event) (e : Event) (back : List Event) → Rounds false s c front → Allowed (world (site_after s front)) e
+    → IsOfRound false (site_after s front) c e
+    → Rounds false (site_logged (site_after s front) e) c back → Rounds false s c (front ++ e ∷ back)
 joined s c [] e back before allowed of afterwards = (allowed, of, afterwards)
 joined s c (x ∷ front) e back before allowed of afterwards = (before.0, before.1, joined (site_logged s x) c front e back before.2 allowed of afterwards)
 
@@ -167,8 +168,8 @@ after_joined s [] e back = refl
 after_joined s (x ∷ front) e back = after_joined (site_logged s x) front e back
 
 pub is_of_no_round : (s : SiteState) (c : ℕ) (front : List Event) (e : Event) (back : List Event) → BreaksEnd s c front e back
-    → IsOfRound (site_after s front) c e → ⊥
+    → IsOfRound false (site_after s front) c e → ⊥
 is_of_no_round s c front e back b of =
-    b.untrue (subst (λ t. IsDone t c AllFound) (after_joined s front e back)
-    (ends s c (front ++ e ∷ back) AllFound b.starts (joined s c front e back b.before b.allowed of b.afterwards)
+    b.untrue (subst (λ t. IsTrueEnd ByStart t c AllFound) (after_joined s front e back)
+    (ends ByStart s c (front ++ e ∷ back) AllFound b.starts (joined s c front e back b.before b.allowed of b.afterwards)
     (subst (λ t. HasEnded t c AllFound) (sym (after_joined s front e back)) b.ended)))

@@ -1,7 +1,6 @@
-use Rattle.std.proofs.Common.{◌≡◌, ℕ, ◌+◌, ◌*◌, ◌<◌, ◌≤◌, ◌⊎◌, inl, inr, Bool, true, false, zero, suc, List, [], ◌∷◌, ◌++◌, refl, sym, ap, subst, ◌∙◌, arith}
-use Rattle.std.proofs.Common.{length, Option, Some, None}
+use Rattle.std.proofs.Common.{◌≡◌, ℕ, ◌+◌, ◌<◌, ◌≤◌, ◌⊎◌, inl, inr, Bool, true, false, zero, suc, List, [], ◌∷◌, ◌++◌, refl, sym, ap, subst, ◌∙◌, arith, length}
+use Rattle.std.proofs.Common.{Option, Some, None}
 use Rattle.std.specs.Prelude.{if◌then◌else◌, is_some}
-use Rattle.std.specs.List.{count_by}
 use Rattle.std.proofs.lemmas.List.{length_push}
 use Rattle.std.proofs.lemmas.List.Sums.{count_by-le-length}
 use Rattle.dali_arbiter.specs.Arbiter.{total}
@@ -33,12 +32,13 @@ use Rattle.dali_world.specs.Site.{SiteState, world, site_logged, opened_site, Is
 use Rattle.dali_replay.specs.declared.rounds.Round.TheVariants as round
 use Rattle.dali_replay.specs.Installation.{Installation, installation_of, IsGiven, IsGivenBy, HasNoneBy, IsGoRefused, controller}
 use Rattle.dali_replay.specs.Rounds.{has_turn, has_turn_by, IsTurn, Turns, IsTurnRefused, IsRoundOf, controllers, Ran}
-use Rattle.dali_progress.specs.Rounds.{StartsAlone, site_after}
-use Rattle.dali_progress.specs.Running.{HasCommissioned, WasRefused}
-use Rattle.dali_progress.proofs.Lone.{Moment}
-use Rattle.dali_progress.proofs.Bounded.{RunsAll, few_events, nothing_waits, heard_free, runs_after, begins_alone}
-use Rattle.dali_progress.proofs.Numbers.{never_spent}
-use Rattle.dali_progress.proofs.Running.{Comes, comes_both, turn, turns_of, all_played, one_more, run_ends}
+use Rattle.dali_progress.specs.Rounds.{site_after, most_events, Beginning, Any, Rounds, by_survey, ByStart, Settled, bare, BeginsAlone}
+use Rattle.dali_progress.specs.Running.{WasRefused, HasEndedBy, HasBegun, begun, HasRoom, RanAlone}
+use Rattle.dali_progress.proofs.Lone.{Moment, heard_free}
+use Rattle.dali_progress.proofs.Running.{Comes, comes_both, turn, turns_of, all_played, one_more, plan_after, Came}
+use Rattle.dali_progress.proofs.Logged.{begins_new}
+use Rattle.dali_progress.proofs.Beginnings.{IsAfter, after, few_events, never_spent, begins_so}
+use Rattle.dali_progress.proofs.Ended.{one_begun, came_so, run_ends}
 
 -- WHAT MAY BE REFUSED in a run of rounds on an installation with one controller.
 
@@ -47,51 +47,23 @@ use Rattle.dali_progress.proofs.Running.{Comes, comes_both, turn, turns_of, all_
 -- where something is due for the controller, no request waits
 free_by : (w : World) (q c : ℕ) (m : Machine) (out : Option Record) (last : Option Order) (told : Option Input) → Moment w q c m out last told
     → (is_some told ≡ true) ⊎ IsCommit last → total w.bus ≡ 0
-free_by w q c m out None (Some input.Start) at has = ap total at.0.0 ∙ nothing_waits q None
+free_by w q c m out None (Some input.Start) at has = ap total at.0.0
 free_by w q c m out (Some (Put p f)) (Some (input.Heard h)) at has = heard_free w q c m f h at
 free_by w q c m out (Some (Put p f)) None at (inl told) = absurd (cc)
 free_by w q c m out (Some (Put p f)) None at (inr commits) = absurd commits
-free_by w q c m out (Some (Commit x)) None at has = ap total at.0.0 ∙ nothing_waits q None
-free_by w q c m out (Some (Done e)) None at has = ap total at.0 ∙ nothing_waits q None
-free_by w q c m out (Some (Halt why)) None at has = ap total at.0 ∙ nothing_waits q None
-free_by w q c m out None None at has = absurd at
-free_by w q c m out None (Some i) at has = absurd at
-free_by w q c m out (Some (Put p f)) (Some i) at has = absurd at
-free_by w q c m out (Some (Commit x)) (Some i) at has = absurd at
-free_by w q c m out (Some (Done e)) (Some i) at has = absurd at
-free_by w q c m out (Some (Halt why)) (Some i) at has = absurd at
+free_by w q c m out (Some (Commit x)) None at has = ap total at.0.0
+free_by w q c m out (Some (Done e)) None at has = ap total at.0
+free_by w q c m out (Some (Halt why)) None at has = ap total at.0
+free_by w q c m out _ _ at has = absurd at
 
--- nothing of a commit is ever told by the bus
-never_told : (w : World) (q c : ℕ) (m : Machine) (out : Option Record) (last : Option Order) (told : Option Input) → Moment w q c m out last told
-    → (told ≡ Some input.Committed) ⊎ (told ≡ Some input.CommitFailed) → ⊥
-never_told w q c m out last None at (inl is) = cc
-never_told w q c m out last None at (inr is) = cc
-never_told w q c m out None (Some input.Start) at (inl is) = cc
-never_told w q c m out None (Some input.Start) at (inr is) = cc
-never_told w q c m out (Some (Put p f)) (Some (input.Heard h)) at (inl is) = cc
-never_told w q c m out (Some (Put p f)) (Some (input.Heard h)) at (inr is) = cc
-never_told w q c m out None (Some i) at is = absurd at
-never_told w q c m out (Some (Put p f)) (Some i) at is = absurd at
-never_told w q c m out (Some (Commit x)) (Some i) at is = absurd at
-never_told w q c m out (Some (Done e)) (Some i) at is = absurd at
-never_told w q c m out (Some (Halt why)) (Some i) at is = absurd at
-
-never_surveys : (w : World) (q c : ℕ) (m : Machine) (out : Option Record) (last : Option Order) (told : Option Input) → Moment w q c m out last told
-    → told ≡ Some input.Survey → ⊥
-never_surveys w q c m out last None at is = cc
-never_surveys w q c m out None (Some input.Start) at is = cc
-never_surveys w q c m out (Some (Put p f)) (Some (input.Heard h)) at is = cc
-never_surveys w q c m out None (Some i) at is = absurd at
-never_surveys w q c m out (Some (Put p f)) (Some i) at is = absurd at
-never_surveys w q c m out (Some (Commit x)) (Some i) at is = absurd at
-never_surveys w q c m out (Some (Done e)) (Some i) at is = absurd at
-never_surveys w q c m out (Some (Halt why)) (Some i) at is = absurd at
-
+-- what it was told is due for it
 told_due : (w : World) (q c : ℕ) (m : Machine) (k : Controller) (i : Input) → Moment w q c m k.outstanding k.last k.told → k.told ≡ Some i → IsDue k i
-told_due w q c m k input.Survey at told = absurd (never_surveys w q c m k.outstanding k.last k.told at told)
-told_due w q c m k input.Committed at told = absurd (never_told w q c m k.outstanding k.last k.told at (inl told))
-told_due w q c m k input.CommitFailed at told = absurd (never_told w q c m k.outstanding k.last k.told at (inr told))
-told_due w q c m k _ at told = told
+told_due w q c m k i at told = go k.last k.told at refl told where
+  go : (last : Option Order) (t : Option Input) → Moment w q c m k.outstanding last t → k.told ≡ t → t ≡ Some i → IsDue k i
+  go None (Some input.Start) at is same = subst (IsDue k) (let now : input.Start ≡ i = cc in now) is
+  go (Some (Put p f)) (Some (input.Heard h)) at is same = subst (IsDue k) (let now : input.Heard h ≡ i = cc in now) is
+  go last None at is same = absurd (cc)
+  go _ _ at is same = absurd at
 
 -- what holds of the site of such an installation, of which controller 0 is alone
 pub record IsWell (s : SiteState) : Type 0 where
@@ -106,11 +78,8 @@ due_last : (k : Controller) → k.up ≡ true → due_of k ≡ due_after k.last
 due_last k up = rw up refl
 
 has_by : (k : Controller) (last : Option Order) → has_turn_by (due_after last) k ≡ true → (is_some k.told ≡ true) ⊎ IsCommit last
-has_by k None has = inl has
-has_by k (Some (Put p f)) has = inl has
 has_by k (Some (Commit x)) has = inr tt
-has_by k (Some (Done e)) has = inl has
-has_by k (Some (Halt why)) has = inl has
+has_by k _ has = inl has
 
 turn_free : (s : SiteState) → IsWell s → has_turn (controller_at (world s) 0) ≡ true → total (world s).bus ≡ 0
 turn_free s well has =
@@ -122,13 +91,7 @@ given_by : (n : Installation) (i : Input) (m : Installation) (last : Option Orde
     → IsGivenBy (due_after last) n 0 i m → IsDue (controller n 0) i × (m.site ≡ n.site)
 given_by n i m (Some (Commit x)) well is given =
     (subst (λ j. IsDue (controller n 0) j) (sym given.0) (subst IsCommit (sym is) tt), ap (λ (y : Installation). y.site) given.1)
-given_by n i m None well is given =
-    (told_due (world n.site) n.site.queue 0 well.machine (controller n 0) i well.moment given.0, ap (λ (y : Installation). y.site) given.1)
-given_by n i m (Some (Put p f)) well is given =
-    (told_due (world n.site) n.site.queue 0 well.machine (controller n 0) i well.moment given.0, ap (λ (y : Installation). y.site) given.1)
-given_by n i m (Some (Done e)) well is given =
-    (told_due (world n.site) n.site.queue 0 well.machine (controller n 0) i well.moment given.0, ap (λ (y : Installation). y.site) given.1)
-given_by n i m (Some (Halt why)) well is given =
+given_by n i m _ well is given =
     (told_due (world n.site) n.site.queue 0 well.machine (controller n 0) i well.moment given.0, ap (λ (y : Installation). y.site) given.1)
 
 given_due : (n : Installation) (i : Input) (m : Installation) → IsWell n.site → IsGiven n 0 i m → IsDue (controller n 0) i × (m.site ≡ n.site)
@@ -210,111 +173,138 @@ pub queue_after : (s : SiteState) (es : List Event) → (site_after s es).queue 
 queue_after s [] = refl
 queue_after s (e ∷ es) = queue_after (site_logged s e) es
 
-pub plan_after : (s : SiteState) (es : List Event) → (site_after s es).plan ≡ s.plan
-plan_after s [] = refl
-plan_after s (e ∷ es) = plan_after (site_logged s e) es
-
-well_after : (s t : SiteState) (k f : ℕ) → StartsAlone s 0 → s.plan.used ≡ [] → 0 < s.queue → length s.log + 333 * count_by is_bare (world s).gear + 31 < s.room
-    → Comes s t k f
-    → IsWell t
-well_after s t k f alone none waits fits comes = subst IsWell (sym comes.is) (record {
-  up = all.runs.goes.lone.up.up;
-  machine = all.runs.machine;
-  moment = all.runs.goes.lone.moment;
-  factory = ap (λ (p : Plan). p.used) (plan_after s comes.events) ∙ none;
-  waits = subst (λ x. 0 < x) (sym (queue_after s comes.events)) waits;
-  fits = less (length (site_after s comes.events).log) (length s.log) (length comes.events) (count_by is_bare (world s).gear)
-      (site_after s comes.events).room s.room
-      (log_after s comes.events) (few_events s 0 comes.events alone comes.rounds) (room_after s comes.events) fits;
+well_after : (b : Beginning) (s t : SiteState) (k f : ℕ) → BeginsAlone b s 0 → HasRoom b s → Came (by_survey b) s t k f → IsWell t
+well_after b s t k f alone room comes = subst IsWell (sym comes.is) (record {
+  up = now.lone.up.up;
+  machine = now.machine;
+  moment = now.lone.moment;
+  factory = ap (λ (p : Plan). p.used) (plan_after s comes.events) ∙ room.factory;
+  waits = subst (λ x. 0 < x) (sym (queue_after s comes.events)) room.waits;
+  fits = less (length (site_after s comes.events).log) (length s.log) (length comes.events) (most_events b (bare s)) (site_after s comes.events).room s.room
+      (log_after s comes.events) (few_events b s 0 comes.events alone comes.rounds) (room_after s comes.events) room.fits;
 }) where
-  all : RunsAll (world s).gear s 0 (111 * count_by is_bare (world s).gear + 10) comes.events
-  all = runs_after s 0 comes.events alone comes.rounds
+  now : IsAfter (site_after s comes.events) 0
+  now = after b s 0 comes.events alone comes.rounds
 
-  less : (x y n g r q : ℕ) → x ≡ y + n → n ≤ 333 * g + 31 → r ≡ q → y + 333 * g + 31 < q → x < r
-  less x y n g r q log few same room = omega (arith, log, few, same, room)
+  less : (x y n most r q : ℕ) → x ≡ y + n → n ≤ most → r ≡ q → y + most < q → x < r
+  less x y n most r q log few same room = omega (arith, log, few, same, room)
 
 -- the site after such rounds, where the numbers are spent
-pub record IsSpentOut (s t : SiteState) : Type 0 where
-  pub rounds : ℕ
-  pub sent : ℕ
-  pub comes : Comes s t rounds sent
+record IsSpentOut (by : Bool) (s t : SiteState) : Type 0 where
+  pub events : List Event
+  pub rounds : Rounds by s 0 events
+  pub is : t ≡ site_after s events
   pub spent : IsPumpRefused t trouble.None refusal.DrawsSpent
 
-pub run_to : (limit : ℕ) (n : Installation) (sent : ℕ) (text : List ℕ) (m : Installation) → StartsAlone n.site 0 → n.site.plan.used ≡ [] → controllers n ≡ 1
-    → 333 * count_by is_bare (world n.site).gear + 31 < limit → 0 < n.site.queue
-    → length n.site.log + 333 * count_by is_bare (world n.site).gear + 31 < n.site.room → Ran limit n sent text m
-    → HasCommissioned n.site m.site 0 ⊎ IsSpentOut n.site m.site
-run_to limit n sent text m alone none one enough waits fits ran = go (run_ends limit n sent text m alone one enough ran) where
-  at : (u v : Installation) (k f g : ℕ) (last : List ℕ) → Comes n.site u.site k f → controllers u ≡ 1 → IsRoundOf u round.Refused last v
-      → IsSpentOut n.site v.site
-  at u v k f g last comes only (inl refused) = absurd (turns_never u v last (well_after n.site u.site k f alone none waits fits comes) only refused)
-  at u v k f g last comes only (inr r) =
-      let turns = turns_of u r.between r.acted r.front only r.turns in
-      let acted = comes_both n.site u.site r.between.site k (if r.acted then 1 else 0) f 0 comes (turn u r.between r.acted turns.last turns.turn) in
-      let well = well_after n.site r.between.site (k + (if r.acted then 1 else 0)) (f + 0) alone none waits fits acted in
-      subst (λ (x : Installation). IsSpentOut n.site x.site) (sym r.refused.1)
-      (record { rounds = k + (if r.acted then 1 else 0); sent = f + 0; comes = acted; spent = pump_refused r.between.site r.refusal well.fits r.refused.0 })
+-- in such a run nothing is refused but the bus, for want of numbers
+refused_so : (b : Beginning) (limit : ℕ) (n between : Installation) (sent : ℕ) (text : List ℕ) (m : Installation)
+    → RanAlone b limit n between sent text m → HasRoom b n.site → WasRefused between sent text m → IsSpentOut (by_survey b) n.site m.site
+refused_so b limit n between sent text m ran room r =
+    let comes = all_played between r.between r.rounds sent r.front only r.played in
+    at r.between m r.rounds sent r.last comes (one_more between r.between r.rounds sent only comes) r.refused
+  where
+    only : controllers between ≡ 1
+    only = one_begun (by_survey b) n between ran.one ran.has_begun
 
-  go : HasCommissioned n.site m.site 0 ⊎ WasRefused n sent text m → HasCommissioned n.site m.site 0 ⊎ IsSpentOut n.site m.site
+    all : (t : SiteState) (k f : ℕ) → Comes between.site t k f → Came (by_survey b) n.site t k f
+    all t k f comes = came_so b n between t k f ran.alone ran.has_begun comes
+
+    well : (t : SiteState) (k f : ℕ) → Comes between.site t k f → IsWell t
+    well t k f comes = well_after b n.site t k f ran.alone room (all t k f comes)
+
+    at : (u v : Installation) (k f : ℕ) (last : List ℕ) → Comes between.site u.site k f → controllers u ≡ 1 → IsRoundOf u round.Refused last v
+        → IsSpentOut (by_survey b) n.site v.site
+    at u v k f last comes alone_there (inl refused) = absurd (turns_never u v last (well u.site k f comes) alone_there refused)
+    at u v k f last comes alone_there (inr r) =
+        let turns = turns_of u r.between r.acted r.front alone_there r.turns in
+        let acted = comes_both between.site u.site r.between.site k (if r.acted then 1 else 0) f 0 comes (turn u r.between r.acted turns.last turns.turn) in
+        let now = well r.between.site (k + (if r.acted then 1 else 0)) (f + 0) acted in
+        let events = all r.between.site (k + (if r.acted then 1 else 0)) (f + 0) acted in
+        subst (λ (x : Installation). IsSpentOut (by_survey b) n.site x.site) (sym r.refused.1)
+        (record { events = events.events; rounds = events.rounds; is = events.is; spent = pump_refused r.between.site r.refusal now.fits r.refused.0 })
+
+run_to : (b : Beginning) (limit : ℕ) (n between : Installation) (sent : ℕ) (text : List ℕ) (m : Installation) → RanAlone b limit n between sent text m
+    → most_events b (bare n.site) < limit + begun (by_survey b) → HasRoom b n.site → HasEndedBy b n.site m.site 0 ⊎ IsSpentOut (by_survey b) n.site m.site
+run_to b limit n between sent text m ran enough room = go (run_ends b limit n between sent text m ran enough) where
+  go : HasEndedBy b n.site m.site 0 ⊎ WasRefused between sent text m → HasEndedBy b n.site m.site 0 ⊎ IsSpentOut (by_survey b) n.site m.site
   go (inl ended) = inl ended
-  go (inr r) =
-      let comes = all_played n r.between r.rounds sent r.front one r.played in
-      inr (at r.between m r.rounds sent 0 r.last comes (one_more n r.between r.rounds sent one comes) r.refused)
+  go (inr refused) = inr (refused_so b limit n between sent text m ran room refused)
 
 -- A RUN WITH ROOM ENDS, but where the numbers are spent
-pub run_with_room : (limit : ℕ) (n : Installation) (sent : ℕ) (text : List ℕ) (m : Installation) → StartsAlone n.site 0 → n.site.plan.used ≡ []
-    → controllers n ≡ 1
-    → 333 * count_by is_bare (world n.site).gear + 31 < limit → 0 < n.site.queue
-    → length n.site.log + 333 * count_by is_bare (world n.site).gear + 31 < n.site.room → Ran limit n sent text m
-    → HasCommissioned n.site m.site 0 ⊎ IsPumpRefused m.site trouble.None refusal.DrawsSpent
-run_with_room limit n sent text m alone none one enough waits fits ran = go (run_to limit n sent text m alone none one enough waits fits ran) where
-  go : HasCommissioned n.site m.site 0 ⊎ IsSpentOut n.site m.site → HasCommissioned n.site m.site 0 ⊎ IsPumpRefused m.site trouble.None refusal.DrawsSpent
+pub run_with_room : (b : Beginning) (limit : ℕ) (n between : Installation) (sent : ℕ) (text : List ℕ) (m : Installation)
+    → RanAlone b limit n between sent text m → most_events b (bare n.site) < limit + begun (by_survey b) → HasRoom b n.site
+    → HasEndedBy b n.site m.site 0 ⊎ IsPumpRefused m.site trouble.None refusal.DrawsSpent
+run_with_room b limit n between sent text m ran enough room = go (run_to b limit n between sent text m ran enough room) where
+  go : HasEndedBy b n.site m.site 0 ⊎ IsSpentOut (by_survey b) n.site m.site
+      → HasEndedBy b n.site m.site 0 ⊎ IsPumpRefused m.site trouble.None refusal.DrawsSpent
   go (inl ended) = inl ended
   go (inr out) = inr out.spent
 
--- the gear of a new installation
-pub bare_few : (p : Plan) → count_by is_bare (world (opened_site p 64 65536)).gear ≤ p.gear
-bare_few p = subst (λ x. count_by is_bare (world (opened_site p 64 65536)).gear ≤ x) (start_count p)
-    (count_by-le-length is_bare (world (opened_site p 64 65536)).gear)
-
-bare_enough : (p : Plan) (limit : ℕ) → 333 * p.gear + 31 < limit → 333 * count_by is_bare (world (opened_site p 64 65536)).gear + 31 < limit
-bare_enough p limit enough = more (count_by is_bare (world (opened_site p 64 65536)).gear) (bare_few p) where
-  more : (g : ℕ) → g ≤ p.gear → 333 * g + 31 < limit
-  more g less = omega (arith, less, enough)
-
-bare_fits : (p : Plan) → p.gear ≤ 128 → 0 + 333 * count_by is_bare (world (opened_site p 64 65536)).gear + 31 < 65536
-bare_fits p few = fits (count_by is_bare (world (opened_site p 64 65536)).gear) (bare_few p) where
-  fits : (g : ℕ) → g ≤ p.gear → 0 + 333 * g + 31 < 65536
-  fits g less = omega (arith, less, few)
-
--- and so does a run of a new installation
-pub new_runs : (limit : ℕ) (p : Plan) (b : Block) (sent : ℕ) (text : List ℕ) (m : Installation) → IsPlan p → p.used ≡ [] → p.blocks ≡ b ∷ [] → p.gear ≤ 128
-    → 333 * p.gear + 31 < limit → Ran limit (installation_of p) sent text m
-    → HasCommissioned (installation_of p).site m.site 0 ⊎ IsPumpRefused m.site trouble.None refusal.DrawsSpent
-new_runs limit p b sent text m plan none blocks few enough ran =
-    run_with_room limit (installation_of p) sent text m (begins_alone p 64 65536 b plan blocks) none (ap length blocks) (bare_enough p limit enough)
-    (omega arith)
-    (bare_fits p few) ran
-
 -- A RUN WITH ROOM AND NUMBERS COMMISSIONS
-pub run_commissions : (limit : ℕ) (n : Installation) (sent : ℕ) (text : List ℕ) (m : Installation) → StartsAlone n.site 0 → n.site.plan.used ≡ []
-    → controllers n ≡ 1
-    → 333 * count_by is_bare (world n.site).gear + 31 < limit → 0 < n.site.queue
-    → length n.site.log + 333 * count_by is_bare (world n.site).gear + 31 < n.site.room → length (world n.site).gear ≤ length (world n.site).left
-    → Ran limit n sent text m → HasCommissioned n.site m.site 0
-run_commissions limit n sent text m alone none one enough waits fits numbers ran = go (run_to limit n sent text m alone none one enough waits fits ran) where
-  go : HasCommissioned n.site m.site 0 ⊎ IsSpentOut n.site m.site → HasCommissioned n.site m.site 0
+pub run_commissions : (b : Beginning) (limit : ℕ) (n between : Installation) (sent : ℕ) (text : List ℕ) (m : Installation)
+    → RanAlone b limit n between sent text m → most_events b (bare n.site) < limit + begun (by_survey b) → HasRoom b n.site
+    → length (world n.site).gear ≤ length (world n.site).left → HasEndedBy b n.site m.site 0
+run_commissions b limit n between sent text m ran enough room numbers = go (run_to b limit n between sent text m ran enough room) where
+  go : HasEndedBy b n.site m.site 0 ⊎ IsSpentOut (by_survey b) n.site m.site → HasEndedBy b n.site m.site 0
   go (inl ended) = ended
   go (inr out) =
-      absurd (never_spent n.site 0 out.comes.events alone numbers out.comes.rounds
-      (subst (λ s. IsPumpRefused s trouble.None refusal.DrawsSpent) out.comes.is out.spent))
+      absurd (never_spent b n.site 0 out.events ran.alone numbers out.rounds
+      (subst (λ s. IsPumpRefused s trouble.None refusal.DrawsSpent) out.is out.spent))
 
-pub new_commissions : (limit : ℕ) (p : Plan) (b : Block) (sent : ℕ) (text : List ℕ) (m : Installation) → IsPlan p → p.used ≡ [] → p.blocks ≡ b ∷ []
-    → p.gear ≤ 128
-    → p.gear ≤ length p.draws → 333 * p.gear + 31 < limit
-    → Ran limit (installation_of p) sent text m → HasCommissioned (installation_of p).site m.site 0
-new_commissions limit p b sent text m plan none blocks few numbers enough ran =
-    run_commissions limit (installation_of p) sent text m (begins_alone p 64 65536 b plan blocks) none (ap length blocks) (bare_enough p limit enough)
-    (omega arith)
-    (bare_fits p few)
-    (subst (λ x. x ≤ length p.draws) (sym (start_count p)) numbers) ran
+-- ---------------------------------------------------------------- a run of a new installation
+
+-- its gear
+bare_few : (p : Plan) → bare (opened_site p 64 65536) ≤ p.gear
+bare_few p = subst (λ x. bare (opened_site p 64 65536) ≤ x) (start_count p) (count_by-le-length is_bare (world (opened_site p 64 65536)).gear)
+
+grows : (b : Beginning) (g h : ℕ) → g ≤ h → most_events b g ≤ most_events b h
+grows ByStart g h less = omega (arith, less)
+grows Settled g h less = omega (arith, less)
+grows Any g h less = omega (arith, less)
+
+few_in_room : (b : Beginning) (g : ℕ) → g ≤ 128 → 0 + most_events b g < 65536
+few_in_room ByStart g few = omega (arith, few)
+few_in_room Settled g few = omega (arith, few)
+few_in_room Any g few = omega (arith, few)
+
+-- it begins alone, and has room
+ran_new : (b : Beginning) (limit : ℕ) (p : Plan) (k : Block) (between : Installation) (sent : ℕ) (text : List ℕ) (m : Installation) → IsPlan p
+    → p.blocks ≡ k ∷ [] → HasBegun (by_survey b) (installation_of p) between → Ran limit between sent text m
+    → RanAlone b limit (installation_of p) between sent text m
+ran_new b limit p k between sent text m plan blocks begins ran = record {
+  alone = begins_so b (installation_of p).site 0 (begins_new p 64 65536 k plan blocks);
+  one = ap length blocks;
+  has_begun = begins;
+  ran = ran;
+}
+
+room_new : (b : Beginning) (p : Plan) → p.used ≡ [] → p.gear ≤ 128 → HasRoom b (installation_of p).site
+room_new b p none few = record {
+  factory = none;
+  waits = omega arith;
+  fits = few_in_room b (bare (opened_site p 64 65536)) (fewer (bare (opened_site p 64 65536)) (bare_few p));
+} where
+  fewer : (g : ℕ) → g ≤ p.gear → g ≤ 128
+  fewer g less = omega (arith, less, few)
+
+enough_new : (b : Beginning) (p : Plan) (rounds : ℕ) → most_events b p.gear < rounds → most_events b (bare (opened_site p 64 65536)) < rounds
+enough_new b p rounds enough =
+    more (most_events b (bare (opened_site p 64 65536))) (most_events b p.gear) (grows b (bare (opened_site p 64 65536)) p.gear (bare_few p)) enough
+  where
+    more : (x y : ℕ) → x ≤ y → y < rounds → x < rounds
+    more x y less enough = omega (arith, less, enough)
+
+pub new_runs : (b : Beginning) (limit : ℕ) (p : Plan) (k : Block) (between : Installation) (sent : ℕ) (text : List ℕ) (m : Installation) → IsPlan p
+    → p.used ≡ [] → p.blocks ≡ k ∷ [] → p.gear ≤ 128 → most_events b p.gear < limit + begun (by_survey b)
+    → HasBegun (by_survey b) (installation_of p) between → Ran limit between sent text m
+    → HasEndedBy b (installation_of p).site m.site 0 ⊎ IsPumpRefused m.site trouble.None refusal.DrawsSpent
+new_runs b limit p k between sent text m plan none blocks few enough begins ran =
+    run_with_room b limit (installation_of p) between sent text m (ran_new b limit p k between sent text m plan blocks begins ran)
+    (enough_new b p (limit + begun (by_survey b)) enough) (room_new b p none few)
+
+pub new_commissions : (b : Beginning) (limit : ℕ) (p : Plan) (k : Block) (between : Installation) (sent : ℕ) (text : List ℕ) (m : Installation) → IsPlan p
+    → p.used ≡ [] → p.blocks ≡ k ∷ [] → p.gear ≤ 128 → p.gear ≤ length p.draws → most_events b p.gear < limit + begun (by_survey b)
+    → HasBegun (by_survey b) (installation_of p) between → Ran limit between sent text m → HasEndedBy b (installation_of p).site m.site 0
+new_commissions b limit p k between sent text m plan none blocks few numbers enough begins ran =
+    run_commissions b limit (installation_of p) between sent text m (ran_new b limit p k between sent text m plan blocks begins ran)
+    (enough_new b p (limit + begun (by_survey b)) enough) (room_new b p none few) (subst (λ x. x ≤ length p.draws) (sym (start_count p)) numbers)

@@ -1,7 +1,6 @@
-use Rattle.std.proofs.Common.{◌≡◌, ℕ, ◌+◌, ◌*◌, ◌<◌, ◌≤◌, ◌⊎◌, inl, inr, Bool, true, false, zero, suc, List, [], ◌∷◌, ◌++◌, refl, sym, ap, subst, ◌∙◌, arith}
-use Rattle.std.proofs.Common.{length, Option, Some, None, Ok}
+use Rattle.std.proofs.Common.{◌≡◌, ℕ, ◌+◌, ◌≤◌, ◌⊎◌, inl, inr, Bool, true, false, zero, suc, List, [], ◌∷◌, ◌++◌, refl, sym, ap, subst, ◌∙◌, arith, length}
+use Rattle.std.proofs.Common.{Option, Some, None, Ok}
 use Rattle.std.specs.Prelude.{if◌then◌else◌, ◌||◌}
-use Rattle.std.specs.List.{count_by}
 use Rattle.dali_special.specs.Command.{command_of}
 use Rattle.dali_gear.specs.declared.gear_set.GearSet.{GearSet}
 use Rattle.dali_gear.specs.declared.row.Reach.TheVariants.{Everyone}
@@ -10,7 +9,7 @@ use Rattle.dali_arbiter.specs.Arbiter.{collision}
 use Rattle.dali_script.specs.declared.orders.Input.{Input}
 use Rattle.dali_script.specs.declared.orders.Input.TheVariants as input
 use Rattle.dali_script.specs.declared.orders.Order.{Order}
-use Rattle.dali_script.specs.declared.orders.Order.TheVariants.{Put, Commit, Done, Halt}
+use Rattle.dali_script.specs.declared.orders.Order.TheVariants.{Commit}
 use Rattle.dali_script.specs.declared.orders.Due.{Due}
 use Rattle.dali_script.specs.declared.orders.Due.TheVariants as due
 use Rattle.dali_script.specs.Due.{due_after}
@@ -19,7 +18,6 @@ use Rattle.dali_events.specs.declared.event.Event.TheVariants as event
 use Rattle.dali_events.specs.Plan.{Plan}
 use Rattle.dali_events.specs.World.{Controller, controller_at}
 use Rattle.dali_events.specs.Allowed.{IsDue, IsCommit}
-use Rattle.dali_events.specs.Wanted.{is_bare}
 use Rattle.dali_events.specs.declared.trouble.Trouble.TheVariants as trouble
 use Rattle.dali_standing.specs.declared.report.Report.{Report}
 use Rattle.dali_standing.specs.declared.report.Report.TheVariants as report
@@ -28,17 +26,16 @@ use Rattle.dali_standing.specs.Seats.{LeavesWhole, due_of}
 use Rattle.dali_world.specs.Site.{SiteState, HasActed, Pumps, machine_at, world, site_logged, next_request}
 use Rattle.dali_replay.specs.declared.rounds.Round.TheVariants as round
 use Rattle.dali_replay.specs.Installation.{Installation, Goes, HasStepped, IsGiven, IsGivenBy, controller}
-use Rattle.dali_replay.specs.Rounds.{has_turn, has_turn_by, IsTurn, Turns, controllers, is_sent, came_of, IsRound, Ran}
+use Rattle.dali_replay.specs.Rounds.{has_turn, has_turn_by, IsTurn, Turns, controllers, is_sent, came_of, IsRound}
 use Rattle.dali_replay.specs.Rounds as replay
-use Rattle.dali_progress.specs.Rounds.{StartsAlone, Succeeds, Rounds, site_after, frames, GoesOn}
-use Rattle.dali_progress.specs.Running.{HasCommissioned, WasRefused}
-use Rattle.dali_progress.proofs.Bounded.{bounded, few_events, goes_on, runs_after, ends, tabled}
+use Rattle.dali_progress.specs.Rounds.{Succeeds, Rounds, site_after, frames}
+use Rattle.dali_progress.specs.Running.{begun}
 
 -- A RUN OF ROUNDS on an installation with one controller is a list of events of rounds.
 
 -- ---------------------------------------------------------------- lists of events
 
-rounds_both : (s : SiteState) (c : ℕ) (es fs : List Event) → Rounds s c es → Rounds (site_after s es) c fs → Rounds s c (es ++ fs)
+rounds_both : (s : SiteState) (c : ℕ) (es fs : List Event) → Rounds false s c es → Rounds false (site_after s es) c fs → Rounds false s c (es ++ fs)
 rounds_both s c [] fs one two = two
 rounds_both s c (e ∷ es) fs one two = (one.0, one.1, rounds_both (site_logged s e) c es fs one.2 two)
 
@@ -54,7 +51,7 @@ length_both : (es fs : List Event) → length (es ++ fs) ≡ length es + length 
 length_both [] fs = omega arith
 length_both (e ∷ es) fs = let both = length_both es fs in omega (arith, both)
 
-plan_after : (s : SiteState) (es : List Event) → (site_after s es).plan ≡ s.plan
+pub plan_after : (s : SiteState) (es : List Event) → (site_after s es).plan ≡ s.plan
 plan_after s [] = refl
 plan_after s (e ∷ es) = plan_after (site_logged s e) es
 
@@ -74,7 +71,7 @@ left_both s c (e ∷ es) fs one two = (one.0, left_both (site_logged s e) c es f
 -- at least k events of rounds, f of them frames, after which the site is t
 pub record Comes (s t : SiteState) (k f : ℕ) : Type 0 where
   pub events : List Event
-  pub rounds : Rounds s 0 events
+  pub rounds : Rounds false s 0 events
   pub left : AreLeft s 0 events
   pub is : t ≡ site_after s events
   pub many : k ≤ length events
@@ -86,7 +83,7 @@ comes_none s t is = record { events = []; rounds = tt; left = tt; is = is; many 
 pub comes_both : (s t u : SiteState) (k l f g : ℕ) → Comes s t k f → Comes t u l g → Comes s u (k + l) (f + g)
 comes_both s t u k l f g one two = record {
   events = one.events ++ two.events;
-  rounds = rounds_both s 0 one.events two.events one.rounds (subst (λ x. Rounds x 0 two.events) one.is two.rounds);
+  rounds = rounds_both s 0 one.events two.events one.rounds (subst (λ x. Rounds false x 0 two.events) one.is two.rounds);
   left = left_both s 0 one.events two.events one.left (subst (λ x. AreLeft x 0 two.events) one.is two.left);
   is = two.is ∙ ap (λ x. site_after x two.events) one.is ∙ after_both s one.events two.events;
   many = enough (length one.events) (length two.events) (length (one.events ++ two.events)) one.many two.many (length_both one.events two.events);
@@ -116,11 +113,8 @@ comes_as s t k l f g less same comes =
 -- ---------------------------------------------------------------- a turn
 
 stored_by : (last : Option Order) → IsCommit last → due_after last ≡ due.Store
-stored_by None is = absurd is
-stored_by (Some (Put p f)) is = absurd is
 stored_by (Some (Commit x)) is = refl
-stored_by (Some (Done e)) is = absurd is
-stored_by (Some (Halt w)) is = absurd is
+stored_by _ is = absurd is
 
 -- a controller that is up and has ordered a commit waits for its store
 pub stored : (k : Controller) → k.up ≡ true → IsCommit k.last → due_of k ≡ due.Store
@@ -132,7 +126,7 @@ given_survey due.Store n c m told given = let is : input.Survey ≡ input.Commit
 given_survey _ n c m told given = let both : Some input.Start ≡ Some input.Survey = sym told ∙ given.0 in cc
 
 given_well : (d : Due) (n : Installation) (c : ℕ) (i : Input) (m : Installation) → IsDue (controller n c) i → (i ≡ input.CommitFailed → d ≡ due.Store)
-    → IsGivenBy d n c i m → Succeeds i
+    → IsGivenBy d n c i m → Succeeds false i
 given_well d n c input.CommitFailed m told waits given =
     let at : IsGivenBy due.Store n c input.CommitFailed m = subst (λ x. IsGivenBy x n c input.CommitFailed m) (waits refl) given in
     let is : input.CommitFailed ≡ input.Committed = at.0 in
@@ -145,9 +139,7 @@ due_commit k i due is = subst (λ x. IsDue k x) is due
 
 given_site : (d : Due) (n : Installation) (c : ℕ) (i : Input) (m : Installation) → IsGivenBy d n c i m → m.site ≡ n.site
 given_site due.Store n c i m given = ap (λ (x : Installation). x.site) given.1
-given_site due.Start n c i m given = ap (λ (x : Installation). x.site) given.1
-given_site due.Bus n c i m given = ap (λ (x : Installation). x.site) given.1
-given_site due.Nothing n c i m given = ap (λ (x : Installation). x.site) given.1
+given_site _ n c i m given = ap (λ (x : Installation). x.site) given.1
 
 went : (n m : Installation) (o : Order) → Goes n 0 (Ok o) m → Comes n.site m.site 1 0
 went n m o goes = by goes.1 goes.2 goes.3 goes.4 where
@@ -165,6 +157,7 @@ went n m o goes = by goes.1 goes.2 goes.3 goes.4 where
             given_well (due_of (controller n 0)) n 0 i given logs.allowed.due
                 (λ failed. stored (controller n 0) logs.allowed.up.up (due_commit (controller n 0) i logs.allowed.due failed)) is,
             acted.ordered,
+            λ e. acted.whole,
             acted.leaves,
           ),
           tt,
@@ -257,29 +250,19 @@ all_played n m (suc k) f text one (before, front, between, rounds, sent, last, i
 
 -- ---------------------------------------------------------------- the end of a run
 
--- NO MORE FRAMES are sent
-pub run_frames : (limit : ℕ) (n : Installation) (sent : ℕ) (text : List ℕ) (m : Installation) → StartsAlone n.site 0 → controllers n ≡ 1
-    → Ran limit n sent text m → sent ≤ 111 * count_by is_bare (world n.site).gear + 10
-run_frames limit n sent text m alone one ran =
-    let comes = all_played n ran.between ran.rounds sent ran.front one ran.played in
-    few (count_by is_bare (world n.site).gear) (frames comes.events) comes.sent (bounded n.site 0 comes.events alone comes.rounds)
-  where
-    few : (g x : ℕ) → x ≡ sent → x ≤ 111 * g + 10 → sent ≤ 111 * g + 10
-    few g x same less = omega (arith, same, less)
-
 -- what is due for a controller gives it a turn
 pub told_turn : (d : Due) (k : Controller) (i : Input) → k.told ≡ Some i → has_turn_by d k ≡ true
 told_turn due.Store k i told = refl
 told_turn _ k i told = rw told refl
 
-due_turn : (k : Controller) (i : Input) → k.up ≡ true → Succeeds i → IsDue k i → has_turn k ≡ true
-due_turn k input.CommitFailed up good due = absurd good
-due_turn k input.Committed up good due = subst (λ d. has_turn_by d k ≡ true) (sym (stored k up due)) refl
-due_turn k input.Survey up good due = absurd good
-due_turn k input.Start up good due = told_turn (due_of k) k input.Start due
-due_turn k (input.Heard h) up good due = told_turn (due_of k) k (input.Heard h) due
-due_turn k input.Destroyed up good due = told_turn (due_of k) k input.Destroyed due
-due_turn k input.Lapsed up good due = told_turn (due_of k) k input.Lapsed due
+pub due_turn : (by : Bool) (k : Controller) (i : Input) → k.up ≡ true → Succeeds by i → IsDue k i → has_turn k ≡ true
+due_turn by k input.CommitFailed up good due = absurd good
+due_turn by k input.Committed up good due = subst (λ d. has_turn_by d k ≡ true) (sym (stored k up due)) refl
+due_turn by k input.Survey up good due = told_turn (due_of k) k input.Start due
+due_turn by k input.Start up good due = told_turn (due_of k) k input.Start due
+due_turn by k (input.Heard h) up good due = told_turn (due_of k) k (input.Heard h) due
+due_turn by k input.Destroyed up good due = told_turn (due_of k) k input.Destroyed due
+due_turn by k input.Lapsed up good due = told_turn (due_of k) k input.Lapsed due
 
 -- a round after which a run is over changes nothing: nobody had a turn, and no request was next
 pub record IsOver (s t : SiteState) : Type 0 where
@@ -292,54 +275,19 @@ over_by : (n between m : Installation) (acted : Bool) (x : Report) (text : List 
 over_by n between m false report.Idle text is turn pump =
     let same : between.site ≡ n.site = ap (λ (y : Installation). y.site) turn.2 in
     record { same = pump.1 ∙ same; turn = turn.0; next = subst (λ s. next_request s ≡ None) same pump.0 }
-over_by n between m true report.Idle text is turn pump = absurd (cc)
-over_by n between m false (report.Sent c f h) text is turn pump = absurd (cc)
-over_by n between m true (report.Sent c f h) text is turn pump = absurd (cc)
-over_by n between m false (report.Destroyed c f) text is turn pump = absurd (cc)
-over_by n between m true (report.Destroyed c f) text is turn pump = absurd (cc)
-over_by n between m false (report.Collided c f d g) text is turn pump = absurd (cc)
-over_by n between m true (report.Collided c f d g) text is turn pump = absurd (cc)
+over_by n between m _ _ text is turn pump = absurd (cc)
 
 pub over : (n m : Installation) (text : List ℕ) → controllers n ≡ 1 → IsRound n round.Over text m → IsOver n.site m.site
 over n m text one is =
     let turns = turns_of n is.between is.acted text one is.turns in
     over_by n is.between m is.acted is.report turns.last is.ended turns.turn is.pump.0
 
--- and then the controller has ended
-over_ended : (s t : SiteState) (es : List Event) → StartsAlone s 0 → Rounds s 0 es → t ≡ site_after s es → has_turn (controller_at (world t) 0) ≡ false
-    → next_request t ≡ None → HasCommissioned s t 0
-over_ended s t es alone rounds is turn next = subst (λ x. HasCommissioned s x 0) (sym is) (go (goes_on s 0 es alone rounds)) where
-  go : GoesOn (site_after s es) 0 → HasCommissioned s (site_after s es) 0
-  go (inl (e, ended)) = record { outcome = e; ended = ended; done = ends s 0 es e alone rounds ended; tabled = tabled s 0 es e alone rounds ended }
-  go (inr (inl due)) =
-      let none : has_turn (controller_at (world (site_after s es)) 0) ≡ false =
-      subst (λ (x : SiteState). has_turn (controller_at (world x) 0) ≡ false) is turn in
-      let some : has_turn (controller_at (world (site_after s es)) 0) ≡ true =
-      due_turn (controller_at (world (site_after s es)) 0) due.input (runs_after s 0 es alone rounds).runs.goes.lone.up.up due.succeeds due.due in
-      let both : true ≡ false = sym some ∙ none in
-      absurd (cc)
-  go (inr (inr (r, waits))) =
-      let both : Some r ≡ None = sym waits ∙ subst (λ (x : SiteState). next_request x ≡ None) is next in
-      absurd (cc)
+-- ---------------------------------------------------------------- its events
 
--- A RUN OF ENOUGH ROUNDS ENDS
-pub run_ends : (limit : ℕ) (n : Installation) (sent : ℕ) (text : List ℕ) (m : Installation) → StartsAlone n.site 0 → controllers n ≡ 1
-    → 333 * count_by is_bare (world n.site).gear + 31 < limit → Ran limit n sent text m
-    → HasCommissioned n.site m.site 0 ⊎ WasRefused n sent text m
-run_ends limit n sent text m alone one enough ran = go ran.ends where
-  comes : Comes n.site ran.between.site ran.rounds sent
-  comes = all_played n ran.between ran.rounds sent ran.front one ran.played
-
-  fewer : (g k x : ℕ) → 333 * g + 31 < limit → k ≤ x → x ≤ 333 * g + 31 → k ≡ limit → ⊥
-  fewer g k x more many few is = omega (arith, more, many, few, is)
-
-  go : replay.Ends limit ran.rounds ran.between ran.last m → HasCommissioned n.site m.site 0 ⊎ WasRefused n sent text m
-  go (inl (is, empty, same)) =
-      absurd (fewer (count_by is_bare (world n.site).gear) ran.rounds (length comes.events) enough comes.many
-      (few_events n.site 0 comes.events alone comes.rounds) is)
-  go (inr (below, inl last)) =
-      let ended = over ran.between m ran.last (one_more n ran.between ran.rounds sent one comes) last in
-      inl (subst (λ t. HasCommissioned n.site t 0) (sym ended.same)
-      (over_ended n.site ran.between.site comes.events alone comes.rounds comes.is ended.turn ended.next))
-  go (inr (below, inr refused)) =
-      inr (record { rounds = ran.rounds; front = ran.front; between = ran.between; last = ran.last; played = ran.played; refused = refused; whole = ran.whole })
+-- those of the rounds, and the survey before them
+pub record Came (by : Bool) (s t : SiteState) (k f : ℕ) : Type 0 where
+  pub events : List Event
+  pub rounds : Rounds by s 0 events
+  pub is : t ≡ site_after s events
+  pub many : k + begun by ≤ length events
+  pub sent : frames events ≡ f

@@ -20,7 +20,7 @@ use Rattle.dali_controller.specs.Course.{first_of, turn_of, sought, is_yes, byte
 use Rattle.dali_controller.specs.Machine.{Machine}
 use Rattle.dali_events.specs.Wanted.{is_wanted, wants, is_bare, OfPowered, IsOpened, NoneNamed, NoneNamedBut}
 use Rattle.dali_events.proofs.Search.Opened.{AreOpening}
-use Rattle.dali_progress.specs.Rounds.{EndsWell, AreTabled}
+use Rattle.dali_progress.specs.Ends.{EndsWell, AreTabled}
 
 -- HOW FAR COMMISSIONING IS, where nothing is disturbed: what is true of gear, records and search at each stage of the
 -- running transaction, and how many frames are left to be sent, at the most.

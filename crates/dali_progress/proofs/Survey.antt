@@ -14,6 +14,4 @@ pub mod Bounded
 pub mod Again
 pub mod Quiet
 pub mod Running
-pub mod Refused
 pub mod Numbers
-pub mod Numbered

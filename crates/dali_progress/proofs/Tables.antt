@@ -25,7 +25,7 @@ use Rattle.dali_events.proofs.Invariant.Takes.{row_length}
 use Rattle.dali_events.proofs.Search.Wanted.{after_at, same_number, number_same}
 use Rattle.dali_events.proofs.Search.Opened.{AreOpening}
 use Rattle.dali_events.proofs.Search.Programming as programming
-use Rattle.dali_progress.specs.Rounds.{AreTabled}
+use Rattle.dali_progress.specs.Ends.{AreTabled}
 use Rattle.dali_progress.proofs.Stands.{to_come, Opens, VisitsAt, Probes, Closes, At, Sends}
 use Rattle.dali_progress.proofs.Frames.{Seeks}
 

@@ -3,4 +3,4 @@ pub mod Running
 pub mod Surveyed
 pub mod Spared
 pub mod Swept
-pub mod Surveys
+pub mod Ends

@@ -1,23 +1,49 @@
-use Rattle.std.specs.Prelude.{◌≡◌, ℕ, List, ◌++◌}
+use Rattle.std.specs.Prelude.{◌≡◌, ℕ, ◌+◌, ◌<◌, Bool, true, false, List, [], ◌++◌, length, Ok}
+use Rattle.dali_script.specs.declared.orders.Order.{Order}
 use Rattle.dali_script.specs.declared.orders.End.{End}
 use Rattle.dali_world.specs.Site.{SiteState}
 use Rattle.dali_replay.specs.declared.rounds.Round.TheVariants as round
 use Rattle.dali_replay.specs.Installation.{Installation}
-use Rattle.dali_replay.specs.Rounds.{IsRoundOf}
+use Rattle.dali_replay.specs.Installation as replayed
+use Rattle.dali_replay.specs.Rounds.{IsRoundOf, controllers, Ran}
 use Rattle.dali_replay.specs.Rounds as replay
-use Rattle.dali_progress.specs.Rounds.{HasEnded, IsDone, IsTabled}
-use Rattle.dali_progress.specs.Surveys.{IsSurveyDone, IsSurveyTabled}
+use Rattle.dali_progress.specs.Rounds.{Beginning, by_survey, BeginsAlone, bare, most_events}
+use Rattle.dali_progress.specs.Rounds.{HasEnded}
+use Rattle.dali_progress.specs.Ends.{IsTrueEnd, table_at, NamesAll}
 
--- HOW A RUN OF ROUNDS ENDS, on an installation with one controller.
+-- A RUN OF ROUNDS of an installation with one controller, which is alone. As the run begins, a
+-- controller that is to start has done nothing, and one that is to survey has begun so (`survey 0`
+-- of a script), which is one event.
+abbrev pub HasBegun : Bool → Installation → Installation → Type 0
+HasBegun false n between = between ≡ n
+HasBegun true n between = (o : Order) × replayed.Surveys n 0 (Ok o) between
 
--- the controller has ended, and what it says is true; where the site was once as `before`
-pub record HasCommissioned (before s : SiteState) (c : ℕ) : Type 0 where
+abbrev pub begun : Bool → ℕ
+begun false = 0
+begun true = 1
+
+pub record RanAlone (b : Beginning) (limit : ℕ) (n between : Installation) (sent : ℕ)
+    (text : List ℕ) (m : Installation) : Type 0 where
+  pub alone : BeginsAlone b n.site 0
+  pub one : controllers n ≡ 1
+  pub has_begun : HasBegun (by_survey b) n between
+  pub ran : Ran limit between sent text m
+
+-- room for it: no gear is used, a request may wait, and all events find room in the log
+pub record HasRoom (b : Beginning) (s : SiteState) : Type 0 where
+  pub factory : s.plan.used ≡ []
+  pub waits : 0 < s.queue
+  pub fits : length s.log + most_events b (bare s) < s.room
+
+-- HOW IT ENDS: the controller has ended, and what it says is true; where the site was once as
+-- `before`
+pub record HasEndedBy (b : Beginning) (before s : SiteState) (c : ℕ) : Type 0 where
   pub outcome : End
   pub ended : HasEnded s c outcome
-  pub done : IsDone s c outcome
-  pub tabled : IsTabled before s c
+  pub is_true : IsTrueEnd b s c outcome
+  pub named : NamesAll (by_survey b) before (table_at s c) s
 
--- after some rounds, which sent these frames, a call of the next round was refused
+-- or, after some rounds, which sent these frames, a call of the next round was refused
 pub record WasRefused (n : Installation) (frames : ℕ) (text : List ℕ)
     (m : Installation) : Type 0 where
   pub rounds : ℕ
@@ -27,10 +53,3 @@ pub record WasRefused (n : Installation) (frames : ℕ) (text : List ℕ)
   pub played : replay.Rounds n rounds frames front between
   pub refused : IsRoundOf between round.Refused last m
   pub whole : text ≡ front ++ last
-
--- the same of a controller that surveyed
-pub record SurveyHasEnded (before s : SiteState) (c : ℕ) : Type 0 where
-  pub outcome : End
-  pub ended : HasEnded s c outcome
-  pub done : IsSurveyDone s c outcome
-  pub tabled : IsSurveyTabled before s c

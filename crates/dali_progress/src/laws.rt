@@ -1,18 +1,19 @@
 //! What is proved of commissioning that nothing disturbs. Programs don't call these.
 //!
-//! They speak of a site on which a controller starts alone, with nothing kept and nothing on the bus (`StartsAlone`),
-//! and of a list of events that rounds add to its log (`Rounds`): the controller acts on what is due, and its commits
-//! succeed; frames that are next are sent, and what the gear answer is heard. So no other controller acts meanwhile, no
-//! frame is destroyed, no answer is lost or damaged, the bus never lapses, and no gear's power comes or goes.
+//! They speak of a site on which a controller begins alone, with nothing on the bus (`BeginsAlone`), in one of three
+//! ways: by Start, with nothing kept (`ByStart`); by a survey, with settled records, in which each address that is
+//! reserved is enrolled so (`Settled`); or by a survey, with any records (`Any`). And of a list of events that rounds
+//! add to its log (`Rounds`): the controller acts on what is due, and its commits succeed; frames that are next are
+//! sent, and what the gear answer is heard. So no other controller acts meanwhile, no frame is destroyed, no answer is
+//! lost or damaged, the bus never lapses, and no gear's power comes or goes.
 //!
-//! Three speak of the runs of rounds that a replay makes of an installation with one controller (`Ran`): each is such a
-//! list of events.
+//! Two speak of the runs of rounds that a replay makes of an installation with one controller (`RanAlone`): each is
+//! such a list of events.
 //!
-//! Others speak of such a controller that begins by a survey (`SurveysAlone`, `SurveyRounds`), and of what a survey
-//! promises of a machine on any bus (`IsCourse`).
+//! Others speak of what a survey promises of a machine on any bus (`IsCourse`).
 
-ghost use Rattle.std.specs.Prelude.{◌≡◌, ◌⊎◌, ℕ, ◌+◌, ◌*◌, ◌<◌, ◌≤◌, true, List, [], ◌∷◌, length, Some, Ok};
-ghost use Rattle.std.specs.List.{count_by, AllByRecursion};
+ghost use Rattle.std.specs.Prelude.{◌≡◌, ◌⊎◌, ℕ, ◌+◌, ◌*◌, ◌<◌, ◌≤◌, true, List, [], ◌∷◌, length, Some};
+ghost use Rattle.std.specs.List.{AllByRecursion};
 ghost use Rattle.dali_frame.specs.declared.frames.Forward.{Forward};
 ghost use Rattle.dali_frame.specs.declared.numbers.SearchAddress.{SearchAddress};
 ghost use Rattle.dali_frame.specs.Random.{value_of, MASK24};
@@ -21,53 +22,70 @@ ghost use Rattle.dali_script.specs.declared.block.Block.{Block};
 ghost use Rattle.dali_script.specs.declared.records.Record.TheVariants.{Reserve};
 ghost use Rattle.dali_script.specs.declared.stage.Stage.TheVariants.{Unnamed};
 ghost use Rattle.dali_script.specs.declared.orders.Input.{Input};
-ghost use Rattle.dali_script.specs.declared.orders.Order.{Order};
 ghost use Rattle.dali_script.specs.declared.orders.Order.TheVariants.{Put, Commit};
 ghost use Rattle.dali_script.specs.Records.{Has};
 ghost use Rattle.dali_controller.specs.Course.{address_for};
 ghost use Rattle.dali_controller.specs.Machine.{Machine};
 ghost use Rattle.dali_controller.specs.Whole.{IsWhole};
 ghost use Rattle.dali_script.specs.declared.orders.End.{End};
-ghost use Rattle.dali_script.specs.declared.orders.End.TheVariants.{BlockFull};
 ghost use Rattle.dali_events.specs.declared.event.Event.{Event};
 ghost use Rattle.dali_events.specs.Plan.{Plan, IsPlan};
 ghost use Rattle.dali_events.specs.Runs.{IsRun};
 ghost use Rattle.dali_events.specs.Promise.{KeepsPromise};
-ghost use Rattle.dali_events.specs.Wanted.{is_bare};
 ghost use Rattle.dali_standing.specs.declared.refusal.Refusal.TheVariants as refusal;
 ghost use Rattle.dali_events.specs.declared.trouble.Trouble.TheVariants as trouble;
 ghost use Rattle.dali_world.specs.Site.{SiteState, opened_site, world, IsActRefused, IsPumpRefused};
 ghost use Rattle.dali_replay.specs.Installation.{Installation, installation_of};
-ghost use Rattle.dali_replay.specs.Installation as replayed;
-ghost use Rattle.dali_replay.specs.Rounds.{controllers, Ran};
-ghost use Rattle.dali_progress.specs.Rounds.{StartsAlone, Rounds, site_after, frames, GoesOn, HasEnded, IsDone};
-ghost use Rattle.dali_progress.specs.Rounds.{IsTabled};
+ghost use Rattle.dali_replay.specs.Rounds.{Ran};
+ghost use Rattle.dali_progress.specs.Rounds.{Beginning, ByStart, Settled, Any, by_survey, BeginsAlone, IsSettledAt};
+ghost use Rattle.dali_progress.specs.Rounds.{restarted, Rounds, site_after, frames, bare, most_frames, most_events};
+ghost use Rattle.dali_progress.specs.Rounds.{GoesOn, HasEnded};
+ghost use Rattle.dali_progress.specs.Ends.{IsTrueEnd, table_at, NamesAll, CommitsNothing};
+ghost use Rattle.dali_progress.specs.Running.{RanAlone, HasBegun, begun, HasRoom, HasEndedBy, WasRefused};
 ghost use Rattle.dali_progress.specs.Surveyed.{Step, IsCourse, ArePlain, WasHeard, IsAccounted, HasSurveyed};
 ghost use Rattle.dali_progress.specs.Surveyed.{stage_told};
 ghost use Rattle.dali_progress.specs.Spared.{AreOfCalls, HasJustBegun, HearsUsed, HasAsked, StaysBegun};
 ghost use Rattle.dali_progress.specs.Spared.{HavePower, AllAskInPeace};
-ghost use Rattle.dali_progress.specs.Surveys.{SurveysAlone, SurveyRounds, SurveyGoesOn, IsSurveyDone, IsSurveyTabled};
-ghost use Rattle.dali_progress.specs.Surveys.{IsSettledAt, IsAllTaken, restarted, CommitsNothing, WasTabled};
 ghost use Rattle.dali_progress.specs.Swept.{BeginsBySurvey, AreWhole, AreSteady, frames_asked, frames_lost, WasSilent};
 ghost use Rattle.dali_progress.specs.Swept.{WasSpelled, IsNamed, IsClean, IsSwept};
-ghost use Rattle.dali_progress.specs.Running.{HasCommissioned, SurveyHasEnded, WasRefused};
 
-/// A new site with one controller is one on which it starts alone.
-pub fn one_controller_starts_alone()
-    ensures { (p : Plan) (queue room : ℕ) (b : Block) → IsPlan p → p.blocks ≡ b ∷ []
-        → StartsAlone (opened_site p queue room) 0 }
+/// WHO BEGINS ALONE. On a new site with one controller it may start alone (`new`). Where it may start, it may begin by
+/// a survey as well: it has nothing reserved, so its records are settled (`starts`).
+///
+/// A controller that ended a survey, went down and came up again begins alone once more, by a survey (`again`), with
+/// the records that it kept: with settled ones where they are (`kept`). So what is said of one survey is said of each
+/// that follows.
+pub fn who_begins_alone()
+    ensures new { (p : Plan) (queue room : ℕ) (k : Block) → IsPlan p → p.blocks ≡ k ∷ []
+        → BeginsAlone ByStart (opened_site p queue room) 0 }
+    ensures starts { (b : Beginning) (s : SiteState) (c : ℕ) → BeginsAlone ByStart s c → BeginsAlone b s c }
+    ensures again { (s : SiteState) (c : ℕ) (es : List Event) (e : End) → BeginsAlone Any s c → Rounds true s c es
+        → HasEnded (site_after s es) c e → BeginsAlone Any (restarted (site_after s es) c) c }
+    ensures kept { (s : SiteState) (c : ℕ) (es : List Event) (e : End) → BeginsAlone Any s c → Rounds true s c es
+        → HasEnded (site_after s es) c e → IsSettledAt (site_after s es) c
+        → BeginsAlone Settled (restarted (site_after s es) c) c }
 {}
 
-/// FRAMES ARE BOUNDED. With n gear that have power and no short address, a controller that starts alone sends at most
-/// 111 n + 10 frames: for each gear at most 25 probes of four frames, and 11 frames of visits; and the opening of five
-/// frames, a last probe of four, and the close.
+/// IT IS BOUNDED. With n gear that have power and no short address (`bare`), a controller that begins alone sends at
+/// most so many frames (`frames`):
 ///
-/// No more than 333 n + 31 events come, so a log with room for these never fills.
-pub fn frames_are_bounded()
-    ensures frames { (s : SiteState) (c : ℕ) (es : List Event) → StartsAlone s c → Rounds s c es
-        → frames es ≤ 111 * count_by is_bare (world s).gear + 10 }
-    ensures events { (s : SiteState) (c : ℕ) (es : List Event) → StartsAlone s c → Rounds s c es
-        → length es ≤ 333 * count_by is_bare (world s).gear + 31 }
+/// - By Start 111 n + 10: for each gear at most 25 probes of four frames, and 11 frames of visits; and the opening of
+///   five frames, a last probe of four, and the close.
+/// - By a survey with settled records 106 n + 219. Three go to each of the 64 short addresses at the most: three
+///   questions where nobody answers, and the three queries of a random address where a gear does. Three wake gear. Then
+///   come two searches that go up, under the old numbers and, after an opening of five, under new ones: for each of the
+///   n at most 95 frames of questions and 11 of visits, and 19 more for both, with the close. The gear may have short
+///   addresses from before, whoever gave them, and numbers that they drew or none.
+/// - By a survey with any records 106 n + 291: a gear may be found whose reservation is another's, and then all draw
+///   new numbers.
+///
+/// No more than 333 n + 31, 318 n + 658 or 424 n + 1165 events come (`events`), so a log with room for these never
+/// fills.
+pub fn it_is_bounded()
+    ensures frames { (b : Beginning) (s : SiteState) (c : ℕ) (es : List Event) → BeginsAlone b s c
+        → Rounds (by_survey b) s c es → frames es ≤ most_frames b (bare s) }
+    ensures events { (b : Beginning) (s : SiteState) (c : ℕ) (es : List Event) → BeginsAlone b s c
+        → Rounds (by_survey b) s c es → length es ≤ most_events b (bare s) }
 {}
 
 /// IT GOES ON OR HAS ENDED. At each moment the controller has ended; or something is due for it that may be done, with
@@ -75,213 +93,77 @@ pub fn frames_are_bounded()
 ///
 /// So `SiteState::act` adds one more event of a round, or `SiteState::pump` does, where the log has room, the queue
 /// takes one request, the numbers are there that gear draw, and no order would reserve an address that used gear have.
-pub fn commissioning_goes_on()
-    ensures { (s : SiteState) (c : ℕ) (es : List Event) → StartsAlone s c → Rounds s c es → GoesOn (site_after s es) c }
+pub fn it_goes_on()
+    ensures { (b : Beginning) (s : SiteState) (c : ℕ) (es : List Event) → BeginsAlone b s c
+        → Rounds (by_survey b) s c es → GoesOn (by_survey b) (site_after s es) c }
 {}
 
-/// ITS END IS TRUE. Where it ends with all-found, every gear with power has a short address; where it ends with
-/// block-full, every address of its block is reserved; and it never gives up. Either way its table has each gear that
-/// has a short address, but one that had it before.
-pub fn ends_are_true()
-    ensures done { (s : SiteState) (c : ℕ) (es : List Event) (e : End) → StartsAlone s c → Rounds s c es
-        → HasEnded (site_after s es) c e → IsDone (site_after s es) c e }
-    ensures table { (s : SiteState) (c : ℕ) (es : List Event) (e : End) → StartsAlone s c → Rounds s c es
-        → HasEnded (site_after s es) c e → IsTabled s (site_after s es) c }
-{}
-
-/// A RUN OF ENOUGH ROUNDS ENDS. On an installation with one controller that starts alone, with n gear that have power
-/// and no short address, a run of more than 333 n + 31 rounds ends with the end of the controller, which is true; or at
-/// a call that was refused.
+/// ITS END IS TRUE (`done`). After a start: where it ends with all-found, every gear with power has a short address;
+/// where it ends with block-full, every address of its block is reserved; and it never gives up. Its table has each
+/// gear that has a short address, but one that had it before (`table`).
 ///
-/// And a run of any length sends at most 111 n + 10 frames.
-pub fn a_run_ends()
-    ensures ends { (limit : ℕ) (n : Installation) (sent : ℕ) (text : List ℕ) (m : Installation) → StartsAlone n.site 0
-        → controllers n ≡ 1 → 333 * count_by is_bare (world n.site).gear + 31 < limit → Ran limit n sent text m
-        → HasCommissioned n.site m.site 0 ⊎ WasRefused n sent text m }
-    ensures frames { (limit : ℕ) (n : Installation) (sent : ℕ) (text : List ℕ) (m : Installation) → StartsAlone n.site 0
-        → controllers n ≡ 1 → Ran limit n sent text m → sent ≤ 111 * count_by is_bare (world n.site).gear + 10 }
-{}
-
-/// WITH ROOM IT ENDS UNLESS THE NUMBERS ARE SPENT. Where a request may wait, and the log has room for so many events
-/// more, and no gear is used, the one call that may be refused is that of the bus, where the gear would draw more
-/// numbers than are left. A new installation has that room.
-pub fn a_run_with_room_ends()
-    ensures room { (limit : ℕ) (n : Installation) (sent : ℕ) (text : List ℕ) (m : Installation) → StartsAlone n.site 0
-        → n.site.plan.used ≡ [] → controllers n ≡ 1
-        → 333 * count_by is_bare (world n.site).gear + 31 < limit → 0 < n.site.queue
-        → length n.site.log + 333 * count_by is_bare (world n.site).gear + 31 < n.site.room → Ran limit n sent text m
-        → HasCommissioned n.site m.site 0 ⊎ IsPumpRefused m.site trouble.None refusal.DrawsSpent }
-    ensures fresh { (limit : ℕ) (p : Plan) (b : Block) (sent : ℕ) (text : List ℕ) (m : Installation) → IsPlan p
-        → p.used ≡ [] → p.blocks ≡ b ∷ [] → p.gear ≤ 128 → 333 * p.gear + 31 < limit
-        → Ran limit (installation_of p) sent text m
-        → HasCommissioned (installation_of p).site m.site 0 ⊎ IsPumpRefused m.site trouble.None refusal.DrawsSpent }
-{}
-
-/// AND WITH NUMBERS IT COMMISSIONS. Where there also is a number to be drawn for each gear, no call is refused, and the
-/// run ends with the end of the controller, which is true. So it does on a new installation of a plan with one
-/// controller and with no fewer numbers than gear.
-pub fn a_run_commissions()
-    ensures alone { (limit : ℕ) (n : Installation) (sent : ℕ) (text : List ℕ) (m : Installation) → StartsAlone n.site 0
-        → n.site.plan.used ≡ [] → controllers n ≡ 1
-        → 333 * count_by is_bare (world n.site).gear + 31 < limit → 0 < n.site.queue
-        → length n.site.log + 333 * count_by is_bare (world n.site).gear + 31 < n.site.room
-        → length (world n.site).gear ≤ length (world n.site).left → Ran limit n sent text m
-        → HasCommissioned n.site m.site 0 }
-    ensures fresh { (limit : ℕ) (p : Plan) (b : Block) (sent : ℕ) (text : List ℕ) (m : Installation) → IsPlan p
-        → p.used ≡ [] → p.blocks ≡ b ∷ [] → p.gear ≤ 128 → p.gear ≤ length p.draws → 333 * p.gear + 31 < limit
-        → Ran limit (installation_of p) sent text m → HasCommissioned (installation_of p).site m.site 0 }
-{}
-
-/// WHO STARTS ALONE SURVEYS ALONE. A survey may begin with nothing kept, as a start does (`starts`), and with any
-/// records. A controller that ended a survey, went down and came up again surveys alone once more (`again`), with the
-/// records that it kept (`kept`). So what is said of one survey is said of each that follows.
-pub fn who_starts_alone_surveys_alone()
-    ensures starts { (s : SiteState) (c : ℕ) → StartsAlone s c → SurveysAlone s c × IsSettledAt s c }
-    ensures again { (s : SiteState) (c : ℕ) (es : List Event) (e : End) → SurveysAlone s c → SurveyRounds s c es
-        → HasEnded (site_after s es) c e → SurveysAlone (restarted (site_after s es) c) c }
-    ensures kept { (s : SiteState) (c : ℕ) (es : List Event) (e : End) → SurveysAlone s c → SurveyRounds s c es
-        → HasEnded (site_after s es) c e → IsSettledAt (site_after s es) c
-        → IsSettledAt (restarted (site_after s es) c) c }
-{}
-
-/// A WHOLE SURVEY IS BOUNDED. On a site on which a controller is alone, with nothing on the bus, and nothing disturbs
-/// it: with n gear that have power and no short address, its survey sends at most 106 n + 219 frames, where each
-/// address that it has reserved is enrolled so (`settled_frames`). Three go to each of the 64 short addresses at the
-/// most: three questions where nobody answers, and the three queries of a random address where a gear does. Three wake
-/// gear. Then come two searches that go up, under the old numbers and, after an opening of five, under new ones: for
-/// each of the n at most 95 frames of questions and 11 of visits, and 19 more for both, with the close.
+/// After a survey: where it ends with all-found, every gear with power has a short address; or each address of its
+/// block is taken, and gear with power and without short address never drew a number. Where it ends with block-full,
+/// each address of its block is taken: reserved, or in the table, or one under which somebody was heard whose number it
+/// does not know; or one that it has reserved is another's. It never gives up. Its table names each gear that has a
+/// short address, with its random address, whoever gave it; but one that had it before the survey, and then had no
+/// power or no number that gear draw.
 ///
-/// With any records it sends at most 72 more (`frames`): a gear may be found whose reservation is another's, and then
-/// all draw new numbers. The gear may have short addresses from before, whoever gave them, and numbers that they drew
-/// or none. Events are no more than the other clauses say.
-pub fn a_survey_is_bounded()
-    ensures frames { (s : SiteState) (c : ℕ) (es : List Event) → SurveysAlone s c → SurveyRounds s c es
-        → frames es ≤ 106 * count_by is_bare (world s).gear + 291 }
-    ensures events { (s : SiteState) (c : ℕ) (es : List Event) → SurveysAlone s c → SurveyRounds s c es
-        → length es ≤ 424 * count_by is_bare (world s).gear + 1165 }
-    ensures settled_frames { (s : SiteState) (c : ℕ) (es : List Event) → SurveysAlone s c → IsSettledAt s c
-        → SurveyRounds s c es → frames es ≤ 106 * count_by is_bare (world s).gear + 219 }
-    ensures settled_events { (s : SiteState) (c : ℕ) (es : List Event) → SurveysAlone s c → IsSettledAt s c
-        → SurveyRounds s c es → length es ≤ 318 * count_by is_bare (world s).gear + 658 }
-{}
-
-/// A SURVEY GOES ON OR HAS ENDED. At each moment of such a survey the controller has ended; or something is due for it
-/// that may be done, with no request waiting; or a request is next on the bus. It never halts.
-pub fn a_survey_goes_on()
-    ensures { (s : SiteState) (c : ℕ) (es : List Event) → SurveysAlone s c → SurveyRounds s c es
-        → SurveyGoesOn (site_after s es) c }
-{}
-
-/// ENDS OF SURVEYS ARE TRUE. Where such a survey ends with all-found, every gear with power has a short address; or
-/// each address of its block is taken, and gear with power and without short address never drew a number. Where it
-/// ends with block-full, each address of its block is taken: reserved, or in the table, or one under which somebody was
-/// heard whose number it does not know; or one that it has reserved is another's. It never gives up (`done`).
-///
-/// Either way its table names each gear that has a short address, with its random address, whoever gave it; but one
-/// that had it before the survey, and then had no power or no number that gear draw (`table`).
-///
-/// Where each address that it had reserved was enrolled so, nothing is another's (`taken`), and it is so at the end
-/// (`settled`).
+/// With settled records nothing is another's, and they are settled at the end.
 ///
 /// So one survey that nothing disturbs says all this at its end. Where it committed nothing, it was the table that it
 /// began with that names them (`quiet`). That three runs in a row be quiet is asked where the bus may lose answers.
-pub fn ends_of_surveys_are_true()
-    ensures done { (s : SiteState) (c : ℕ) (es : List Event) (e : End) → SurveysAlone s c → SurveyRounds s c es
-        → HasEnded (site_after s es) c e → IsSurveyDone (site_after s es) c e }
-    ensures table { (s : SiteState) (c : ℕ) (es : List Event) (e : End) → SurveysAlone s c → SurveyRounds s c es
-        → HasEnded (site_after s es) c e → IsSurveyTabled s (site_after s es) c }
-    ensures taken { (s : SiteState) (c : ℕ) (es : List Event) → SurveysAlone s c → IsSettledAt s c
-        → SurveyRounds s c es → HasEnded (site_after s es) c BlockFull → IsAllTaken (site_after s es) c }
-    ensures settled { (s : SiteState) (c : ℕ) (es : List Event) (e : End) → SurveysAlone s c → IsSettledAt s c
-        → SurveyRounds s c es → HasEnded (site_after s es) c e → IsSettledAt (site_after s es) c }
-    ensures quiet { (s : SiteState) (c : ℕ) (es : List Event) (e : End) → SurveysAlone s c → SurveyRounds s c es
-        → AllByRecursion CommitsNothing es → HasEnded (site_after s es) c e → WasTabled s (site_after s es) c }
+pub fn its_end_is_true()
+    ensures done { (b : Beginning) (s : SiteState) (c : ℕ) (es : List Event) (e : End) → BeginsAlone b s c
+        → Rounds (by_survey b) s c es → HasEnded (site_after s es) c e → IsTrueEnd b (site_after s es) c e }
+    ensures table { (b : Beginning) (s : SiteState) (c : ℕ) (es : List Event) (e : End) → BeginsAlone b s c
+        → Rounds (by_survey b) s c es → HasEnded (site_after s es) c e
+        → NamesAll (by_survey b) s (table_at (site_after s es) c) (site_after s es) }
+    ensures quiet { (s : SiteState) (c : ℕ) (es : List Event) (e : End) → BeginsAlone Any s c → Rounds true s c es
+        → AllByRecursion CommitsNothing es → HasEnded (site_after s es) c e
+        → NamesAll true s (table_at s c) (site_after s es) }
 {}
 
-/// A RUN AFTER A SURVEY BEGAN ENDS. On an installation with one controller that surveys alone, and that began so
-/// (`survey 0` of a script), with n gear that have power and no short address, a run of more than 424 n + 1164 rounds
-/// ends with the end of the controller, which is true; or at a call that was refused. With settled records more than
-/// 318 n + 657 are enough. A run of any length sends no more frames than the survey.
-pub fn a_run_of_a_survey_ends()
-    ensures ends { (limit : ℕ) (n between : Installation) (o : Order) (sent : ℕ) (text : List ℕ) (m : Installation)
-        → SurveysAlone n.site 0 → controllers n ≡ 1 → replayed.Surveys n 0 (Ok o) between
-        → 424 * count_by is_bare (world n.site).gear + 1164 < limit → Ran limit between sent text m
-        → SurveyHasEnded n.site m.site 0 ⊎ WasRefused between sent text m }
-    ensures frames { (limit : ℕ) (n between : Installation) (o : Order) (sent : ℕ) (text : List ℕ) (m : Installation)
-        → SurveysAlone n.site 0 → controllers n ≡ 1 → replayed.Surveys n 0 (Ok o) between
-        → Ran limit between sent text m → sent ≤ 106 * count_by is_bare (world n.site).gear + 291 }
-    ensures settled_ends { (limit : ℕ) (n between : Installation) (o : Order) (sent : ℕ) (text : List ℕ)
-        (m : Installation) → SurveysAlone n.site 0 → IsSettledAt n.site 0 → controllers n ≡ 1
-        → replayed.Surveys n 0 (Ok o) between → 318 * count_by is_bare (world n.site).gear + 657 < limit
-        → Ran limit between sent text m → SurveyHasEnded n.site m.site 0 ⊎ WasRefused between sent text m }
-    ensures settled_frames { (limit : ℕ) (n between : Installation) (o : Order) (sent : ℕ) (text : List ℕ)
-        (m : Installation) → SurveysAlone n.site 0 → IsSettledAt n.site 0 → controllers n ≡ 1
-        → replayed.Surveys n 0 (Ok o) between → Ran limit between sent text m
-        → sent ≤ 106 * count_by is_bare (world n.site).gear + 219 }
-{}
-
-/// WITH ROOM SUCH A RUN ENDS UNLESS THE NUMBERS ARE SPENT, where no gear is used, as a run of a controller that starts.
-pub fn a_run_of_a_survey_with_room_ends()
-    ensures room { (limit : ℕ) (n between : Installation) (o : Order) (sent : ℕ) (text : List ℕ) (m : Installation)
-        → SurveysAlone n.site 0 → n.site.plan.used ≡ [] → controllers n ≡ 1
-        → replayed.Surveys n 0 (Ok o) between
-        → 424 * count_by is_bare (world n.site).gear + 1164 < limit → 0 < n.site.queue
-        → length n.site.log + 424 * count_by is_bare (world n.site).gear + 1165 < n.site.room
-        → Ran limit between sent text m
-        → SurveyHasEnded n.site m.site 0 ⊎ IsPumpRefused m.site trouble.None refusal.DrawsSpent }
-    ensures settled_room { (limit : ℕ) (n between : Installation) (o : Order) (sent : ℕ) (text : List ℕ)
-        (m : Installation) → SurveysAlone n.site 0 → n.site.plan.used ≡ []
-        → IsSettledAt n.site 0 → controllers n ≡ 1 → replayed.Surveys n 0 (Ok o) between
-        → 318 * count_by is_bare (world n.site).gear + 657 < limit
-        → 0 < n.site.queue → length n.site.log + 318 * count_by is_bare (world n.site).gear + 658 < n.site.room
-        → Ran limit between sent text m
-        → SurveyHasEnded n.site m.site 0 ⊎ IsPumpRefused m.site trouble.None refusal.DrawsSpent }
-    ensures fresh { (limit : ℕ) (p : Plan) (b : Block) (between : Installation) (o : Order) (sent : ℕ) (text : List ℕ)
-        (m : Installation) → IsPlan p → p.used ≡ [] → p.blocks ≡ b ∷ [] → p.gear ≤ 128 → 318 * p.gear + 657 < limit
-        → replayed.Surveys (installation_of p) 0 (Ok o) between → Ran limit between sent text m
-        → SurveyHasEnded (installation_of p).site m.site 0 ⊎ IsPumpRefused m.site trouble.None refusal.DrawsSpent }
-{}
-
-/// AND WITH NUMBERS IT SURVEYS. Where there also is a number to be drawn for each gear, no call is refused, and the run
-/// ends with the end of the controller, which is true. So it does on a new installation of a plan with one controller
-/// and no fewer numbers than gear.
-pub fn a_run_surveys()
-    ensures alone { (limit : ℕ) (n between : Installation) (o : Order) (sent : ℕ) (text : List ℕ) (m : Installation)
-        → SurveysAlone n.site 0 → n.site.plan.used ≡ [] → controllers n ≡ 1
-        → replayed.Surveys n 0 (Ok o) between
-        → 424 * count_by is_bare (world n.site).gear + 1164 < limit → 0 < n.site.queue
-        → length n.site.log + 424 * count_by is_bare (world n.site).gear + 1165 < n.site.room
-        → length (world n.site).gear ≤ length (world n.site).left → Ran limit between sent text m
-        → SurveyHasEnded n.site m.site 0 }
-    ensures settled { (limit : ℕ) (n between : Installation) (o : Order) (sent : ℕ) (text : List ℕ) (m : Installation)
-        → SurveysAlone n.site 0 → n.site.plan.used ≡ [] → IsSettledAt n.site 0 → controllers n ≡ 1
-        → replayed.Surveys n 0 (Ok o) between
-        → 318 * count_by is_bare (world n.site).gear + 657 < limit → 0 < n.site.queue
-        → length n.site.log + 318 * count_by is_bare (world n.site).gear + 658 < n.site.room
-        → length (world n.site).gear ≤ length (world n.site).left → Ran limit between sent text m
-        → SurveyHasEnded n.site m.site 0 }
-    ensures fresh { (limit : ℕ) (p : Plan) (b : Block) (between : Installation) (o : Order) (sent : ℕ) (text : List ℕ)
-        (m : Installation) → IsPlan p → p.used ≡ [] → p.blocks ≡ b ∷ [] → p.gear ≤ 128 → p.gear ≤ length p.draws
-        → 318 * p.gear + 657 < limit → replayed.Surveys (installation_of p) 0 (Ok o) between
-        → Ran limit between sent text m → SurveyHasEnded (installation_of p).site m.site 0 }
-{}
-
-/// A SURVEY GIVES NOTHING AWAY WHERE IT HEARD SOMEBODY. Where a machine that began by a survey heard somebody under a
-/// short address, that address is marked, or enrolled, or about to be enrolled, from then on, or the machine has
-/// halted. So it reserves the address for nobody. And what is reserved from before it gives only to the gear that is
-/// enrolled there.
+/// A RUN OF ENOUGH ROUNDS ENDS. On an installation with one controller that begins alone, with n gear that have power
+/// and no short address, a run ends with the end of the controller, which is true, or at a call that was refused
+/// (`ends`): a run of more than 333 n + 31 rounds where it starts; and, once it began by a survey (`survey 0` of a
+/// script), one of more than 318 n + 657 with settled records, and of more than 424 n + 1164 with any. A run of any
+/// length sends no more frames than `it_is_bounded` says (`frames`).
 ///
-/// It says so of every list of inputs that are due, whatever bus, store and other controllers do; it takes for granted
-/// that short addresses are below 64, and that three bytes are a number to `FFFFFF`.
-pub fn nothing_is_given_where_somebody_was_heard()
-    ensures accounted { (steps : List Step) (n : Machine) (a : ℕ) → a < 64 → IsCourse steps n → ArePlain steps
-        → WasHeard steps a → IsAccounted n a }
-    ensures reserved { (s : Step) (earlier : List Step) (n : Machine) (a r : ℕ) → a < 64 → IsCourse (s ∷ earlier) n
-        → ArePlain (s ∷ earlier) → s.order ≡ Commit (Reserve a r) → HasSurveyed n → WasHeard (s ∷ earlier) a → ⊥ }
-    ensures given { (s : Step) (earlier : List Step) (n : Machine) (a : ℕ) (q : SearchAddress) (f : Forward) → a < 64
-        → IsCourse (s ∷ earlier) n → ArePlain (s ∷ earlier) → s.order ≡ Put LATER f → HasSurveyed n → n.opened ≡ true
-        → stage_told s ≡ Unnamed q → address_for n.kept.reserved (value_of q) ≡ Some a → WasHeard (s ∷ earlier) a
-        → Has n.kept.enrolled (a, value_of q) }
+/// Where a request may wait, and the log has room for all events to come, and no gear is used, the one call that may be
+/// refused is that of the bus, where the gear would draw more numbers than are left (`room`). So it is on a new
+/// installation of a plan with one controller and at most 128 gear, all from the factory (`new`).
+pub fn a_run_ends()
+    ensures frames { (b : Beginning) (limit : ℕ) (n between : Installation) (sent : ℕ) (text : List ℕ)
+        (m : Installation) → RanAlone b limit n between sent text m → sent ≤ most_frames b (bare n.site) }
+    ensures ends { (b : Beginning) (limit : ℕ) (n between : Installation) (sent : ℕ) (text : List ℕ)
+        (m : Installation) → RanAlone b limit n between sent text m
+        → most_events b (bare n.site) < limit + begun (by_survey b)
+        → HasEndedBy b n.site m.site 0 ⊎ WasRefused between sent text m }
+    ensures room { (b : Beginning) (limit : ℕ) (n between : Installation) (sent : ℕ) (text : List ℕ)
+        (m : Installation) → RanAlone b limit n between sent text m
+        → most_events b (bare n.site) < limit + begun (by_survey b) → HasRoom b n.site
+        → HasEndedBy b n.site m.site 0 ⊎ IsPumpRefused m.site trouble.None refusal.DrawsSpent }
+    ensures new { (b : Beginning) (limit : ℕ) (p : Plan) (k : Block) (between : Installation) (sent : ℕ)
+        (text : List ℕ) (m : Installation) → IsPlan p → p.used ≡ [] → p.blocks ≡ k ∷ [] → p.gear ≤ 128
+        → most_events b p.gear < limit + begun (by_survey b) → HasBegun (by_survey b) (installation_of p) between
+        → Ran limit between sent text m
+        → HasEndedBy b (installation_of p).site m.site 0 ⊎ IsPumpRefused m.site trouble.None refusal.DrawsSpent }
+{}
+
+/// AND WITH NUMBERS IT COMMISSIONS. Where there also is a number to be drawn for each gear, no call is refused, and the
+/// run ends with the end of the controller, which is true (`alone`). So it does on a new installation of such a plan
+/// with no fewer numbers than gear (`new`).
+pub fn a_run_commissions()
+    ensures alone { (b : Beginning) (limit : ℕ) (n between : Installation) (sent : ℕ) (text : List ℕ)
+        (m : Installation) → RanAlone b limit n between sent text m
+        → most_events b (bare n.site) < limit + begun (by_survey b) → HasRoom b n.site
+        → length (world n.site).gear ≤ length (world n.site).left → HasEndedBy b n.site m.site 0 }
+    ensures new { (b : Beginning) (limit : ℕ) (p : Plan) (k : Block) (between : Installation) (sent : ℕ)
+        (text : List ℕ) (m : Installation) → IsPlan p → p.used ≡ [] → p.blocks ≡ k ∷ [] → p.gear ≤ 128
+        → p.gear ≤ length p.draws → most_events b p.gear < limit + begun (by_survey b)
+        → HasBegun (by_survey b) (installation_of p) between → Ran limit between sent text m
+        → HasEndedBy b (installation_of p).site m.site 0 }
 {}
 
 /// A SWEEP IS BOUNDED. Of every list of inputs that are due, from a survey on, whatever bus, store and other
@@ -298,11 +180,25 @@ pub fn a_sweep_is_bounded()
         → IsWhole n → AreSteady steps → frames_asked steps ≤ 192 + 3 * frames_lost steps }
 {}
 
-/// WHAT A SURVEY RESERVES WAS SILENT. Where a machine that began by a survey orders to reserve a short address, it has
-/// asked that address, and heard silence three times in a row. It says so of every list of inputs that are due,
-/// whatever bus, store and other controllers do.
-pub fn what_is_reserved_was_silent()
-    ensures { (s : Step) (earlier : List Step) (n : Machine) (a r : ℕ) → a < 64 → IsCourse (s ∷ earlier) n
+/// A SURVEY GIVES NOTHING AWAY WHERE IT HEARD SOMEBODY. Where a machine that began by a survey heard somebody under a
+/// short address, that address is marked, or enrolled, or about to be enrolled, from then on, or the machine has
+/// halted. So it reserves the address for nobody. And what is reserved from before it gives only to the gear that is
+/// enrolled there.
+///
+/// What it reserves was silent: it asked that address, and heard silence three times in a row (`silent`).
+///
+/// It says so of every list of inputs that are due, whatever bus, store and other controllers do; it takes for granted
+/// that short addresses are below 64, and that three bytes are a number to `FFFFFF`.
+pub fn nothing_is_given_where_somebody_was_heard()
+    ensures accounted { (steps : List Step) (n : Machine) (a : ℕ) → a < 64 → IsCourse steps n → ArePlain steps
+        → WasHeard steps a → IsAccounted n a }
+    ensures reserved { (s : Step) (earlier : List Step) (n : Machine) (a r : ℕ) → a < 64 → IsCourse (s ∷ earlier) n
+        → ArePlain (s ∷ earlier) → s.order ≡ Commit (Reserve a r) → HasSurveyed n → WasHeard (s ∷ earlier) a → ⊥ }
+    ensures given { (s : Step) (earlier : List Step) (n : Machine) (a : ℕ) (q : SearchAddress) (f : Forward) → a < 64
+        → IsCourse (s ∷ earlier) n → ArePlain (s ∷ earlier) → s.order ≡ Put LATER f → HasSurveyed n → n.opened ≡ true
+        → stage_told s ≡ Unnamed q → address_for n.kept.reserved (value_of q) ≡ Some a → WasHeard (s ∷ earlier) a
+        → Has n.kept.enrolled (a, value_of q) }
+    ensures silent { (s : Step) (earlier : List Step) (n : Machine) (a r : ℕ) → a < 64 → IsCourse (s ∷ earlier) n
         → BeginsBySurvey (s ∷ earlier) → ArePlain (s ∷ earlier) → AreWhole (s ∷ earlier) → IsWhole n
         → s.order ≡ Commit (Reserve a r) → HasSurveyed n → WasSilent (s ∷ earlier) a }
 {}
@@ -351,8 +247,8 @@ pub fn used_gear_that_were_heard_are_left_alone()
     ensures powered { (s : SiteState) (c : ℕ) (es : List Event) (i : Input) → HasJustBegun s c → AreOfCalls s es
         → IsRun s.plan s.queue (site_after s es).log → AllAskInPeace s c es
         → IsActRefused (site_after s es) c i refusal.AddressInUse → ⊥ }
-    ensures undisturbed { (s : SiteState) (c : ℕ) (es : List Event) → SurveysAlone s c → HavePower s
-        → SurveyRounds s c es → HasJustBegun s c × AreOfCalls s es × AllAskInPeace s c es }
+    ensures undisturbed { (s : SiteState) (c : ℕ) (es : List Event) → BeginsAlone Any s c → HavePower s
+        → Rounds true s c es → HasJustBegun s c × AreOfCalls s es × AllAskInPeace s c es }
     ensures run { (p : Plan) (queue room : ℕ) (es : List Event) → IsPlan p → AreOfCalls (opened_site p queue room) es
         → ((c : ℕ) → HearsUsed p c es) → IsRun p queue es }
     ensures promise { (p : Plan) (queue room : ℕ) (es : List Event) → IsPlan p

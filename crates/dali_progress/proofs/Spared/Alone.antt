@@ -1,4 +1,4 @@
-use Rattle.std.proofs.Common.{◌≡◌, ℕ, ◌+◌, ◌*◌, Bool, true, false, List, [], ◌∷◌, inr, refl, sym, ap, subst, ◌∙◌, zero, suc, Option, Some, None}
+use Rattle.std.proofs.Common.{◌≡◌, ℕ, ◌+◌, Bool, true, false, List, [], ◌∷◌, inr, refl, sym, ap, subst, ◌∙◌, zero, suc, Some}
 use Rattle.std.specs.Prelude.{◌&&◌}
 use Rattle.dali_frame.specs.declared.frames.Answer.{Answer}
 use Rattle.dali_frame.specs.declared.frames.Forward.{Forward}
@@ -8,12 +8,9 @@ use Rattle.dali_gear.specs.declared.row.Reach.{Reach}
 use Rattle.dali_gear.specs.declared.row.Reach.TheVariants.{Everyone}
 use Rattle.dali_gear.specs.Gear.{Gear, draws_a_number}
 use Rattle.dali_gear.specs.Row.{takes, one_after, left_after, row_after}
-use Rattle.dali_script.specs.declared.records.Record.{Record}
 use Rattle.dali_script.specs.Records.{Has}
 use Rattle.dali_script.specs.declared.orders.Input.{Input}
-use Rattle.dali_script.specs.declared.orders.Input.TheVariants as input
 use Rattle.dali_script.specs.declared.orders.Order.{Order}
-use Rattle.dali_script.specs.declared.orders.Order.TheVariants.{Put, Commit}
 use Rattle.dali_script.specs.Due.{due_after, accepts, frame_put}
 use Rattle.dali_controller.specs.Machine.{Machine}
 use Rattle.dali_events.specs.declared.event.Event.{Event}
@@ -21,19 +18,19 @@ use Rattle.dali_events.specs.declared.event.Event.TheVariants as event
 use Rattle.dali_events.specs.declared.used.Used.{Used}
 use Rattle.dali_events.specs.World.{World, Controller, controller_at, gear_at}
 use Rattle.dali_events.specs.Happens.{happens}
-use Rattle.dali_events.specs.Allowed.{Allowed, IsDue, IsCommit}
-use Rattle.dali_events.specs.Wanted.{gear_of, is_bare}
-use Rattle.std.specs.List.{count_by}
-use Rattle.dali_standing.specs.Seats.{IsTold, Waits}
+use Rattle.dali_events.specs.Allowed.{Allowed, IsDue}
+use Rattle.dali_events.specs.Wanted.{gear_of}
+use Rattle.dali_standing.specs.Seats.{Waits}
 use Rattle.dali_world.specs.Site.{SiteState, world, site_logged, WasOrdered}
-use Rattle.dali_progress.specs.Surveys.{SurveysAlone, Surveys, IsOfSurvey, SurveyRounds, IsSettledAt}
+use Rattle.dali_progress.specs.Rounds.{IsAlone, IsOfRound, Succeeds, Rounds, most_frames, Any, bare}
 use Rattle.dali_progress.specs.Spared.{IsOfCall, AreOfCalls, HasJustBegun, AsksInPeace, HavePower, AllAskInPeace}
 use Rattle.dali_world.proofs.Logs.{records_now}
-use Rattle.dali_progress.proofs.Lone.{Moment, lone_next}
-use Rattle.dali_progress.proofs.Bounded.{world_logged}
-use Rattle.dali_progress.proofs.Sweep.Course.{started}
-use Rattle.dali_progress.proofs.Survey.Stands.{Begun, spare}
-use Rattle.dali_progress.proofs.Survey.Bounded.{Runs, began_at, runs_on, starts}
+use Rattle.dali_progress.proofs.Lone.{due_of, Moment, lone_next, acts_by}
+use Rattle.dali_progress.proofs.Logged.{world_logged}
+use Rattle.dali_progress.proofs.Survey.Stands.{Begun}
+use Rattle.dali_progress.proofs.Along.{Runs, runs_on}
+use Rattle.dali_progress.proofs.Survey.Goes.{of_survey}
+use Rattle.dali_progress.proofs.Survey.Bounded.{argument, began_at, starts_any}
 
 -- A SURVEY THAT NOTHING DISTURBS asks in peace, where all used gear have power.
 
@@ -49,50 +46,28 @@ power_taken reach x k (g ∷ gs) left zero = go (takes reach k g) where
 power_taken reach x k (g ∷ gs) left (suc j) =
     power_taken reach x (k + 1) gs (left_after (takes reach k g && draws_a_number x g) left) j
 
-power_moved : (s : SiteState) (c : ℕ) (e : Event) → IsOfSurvey s c e → HavePower s → (u : Used) → Has s.plan.used u
+power_moved : (s : SiteState) (c : ℕ) (e : Event) → IsOfRound true s c e → HavePower s → (u : Used) → Has s.plan.used u
     → (gear_at (happens (world s) e) u.gear).powered ≡ true
 power_moved s c (event.Acted d i o) of power u has = power u has
 power_moved s c (event.Sent d f h) of power u has =
     power_taken Everyone (command_of f) 0 (world s).gear (world s).left u.gear ∙ power u has
 power_moved s c _ of power u has = absurd of
 
-power_on : (s : SiteState) (c : ℕ) (e : Event) → IsOfSurvey s c e → HavePower s → HavePower (site_logged s e)
+power_on : (s : SiteState) (c : ℕ) (e : Event) → IsOfRound true s c e → HavePower s → HavePower (site_logged s e)
 power_on s c e of power u has =
     subst (λ (w : World). (gear_at w u.gear).powered ≡ true) (sym (world_logged s e)) (power_moved s c e of power u has)
 
 -- ---------------------------------------------------------------- what it is due
 
-moment_told : (w : World) (q c : ℕ) (m : Machine) (out : Option Record) (last : Option Order) (told : Option Input) → Moment w q c m out last told
-    → IsTold last told
-moment_told w q c m out None (Some input.Start) at = refl
-moment_told w q c m out (Some (Put p f)) (Some (input.Heard h)) at = refl
-moment_told w q c m out _ None at = tt
-moment_told w q c m out _ _ at = absurd at
-
-told_waits : (w : World) (q c : ℕ) (m : Machine) (k : Controller) (i : Input) → Moment w q c m k.outstanding k.last k.told → k.told ≡ Some i
+due_waits : (w : World) (q c : ℕ) (m : Machine) (k : Controller) (i : Input) → Moment w q c m k.outstanding k.last k.told → Succeeds true i → IsDue k i
     → accepts (due_after k.last) i ≡ true
-told_waits w q c m k i at is = subst (IsTold k.last) is (moment_told w q c m k.outstanding k.last k.told at)
-
-commit_waits : (last : Option Order) → IsCommit last → accepts (due_after last) input.Committed ≡ true
-commit_waits (Some (Commit x)) commit = refl
-commit_waits _ commit = absurd commit
-
-due_waits : (w : World) (q c : ℕ) (m : Machine) (k : Controller) (i : Input) → Moment w q c m k.outstanding k.last k.told → Surveys i → IsDue k i
-    → accepts (due_after k.last) i ≡ true
-due_waits w q c m k (input.Heard h) at good due = told_waits w q c m k (input.Heard h) at due
-due_waits w q c m k input.Destroyed at good due = told_waits w q c m k input.Destroyed at due
-due_waits w q c m k input.Lapsed at good due = told_waits w q c m k input.Lapsed at due
-due_waits w q c m k input.Survey at good due =
-    let start : accepts (due_after k.last) input.Start ≡ true = told_waits w q c m k input.Start at due in
-    ap (λ l. accepts (due_after l) input.Survey) (started k.last input.Start refl start)
-due_waits w q c m k input.Committed at good due = commit_waits k.last due
-due_waits w q c m k input.Start at good due = absurd good
-due_waits w q c m k input.CommitFailed at good due = absurd good
+due_waits w q c m k i at good due =
+    acts_by true (λ l t j. accepts (due_after l) j ≡ true) refl (λ p f h. refl) (λ x. refl) w q c m k.outstanding k.last k.told i at (due_of k i due) good
 
 -- ---------------------------------------------------------------- each event
 
-acted_call : (start : Begun) (s : SiteState) (c left d : ℕ) (i : Input) (o : Order) → Runs start s c left → Allowed (world s) (event.Acted d i o)
-    → IsOfSurvey s c (event.Acted d i o) → IsOfCall s (event.Acted d i o)
+acted_call : (start : Begun) (s : SiteState) (c left d : ℕ) (i : Input) (o : Order) → Runs (of_survey start) s c left → Allowed (world s) (event.Acted d i o)
+    → IsOfRound true s c (event.Acted d i o) → IsOfCall s (event.Acted d i o)
 acted_call start s c left d i o u here of =
     subst (λ n. Allowed (world s) (event.Acted n i o) → IsOfCall s (event.Acted n i o)) (sym of.0)
     (λ now. (
@@ -100,42 +75,39 @@ acted_call start s c left d i o u here of =
           (ap (λ l. accepts (due_after l) i) u.goes.lone.last
           ∙ due_waits (world s) s.queue c u.machine (controller_at (world s) c) i u.goes.lone.moment of.1 now.due),
       of.2,
-      of.3,
+      of.3 refl,
     )) here
 
-sent_call : (start : Begun) (s : SiteState) (c left d : ℕ) (f : Forward) (h : Answer) → Runs start s c left → IsOfSurvey s c (event.Sent d f h)
+sent_call : (start : Begun) (s : SiteState) (c left d : ℕ) (f : Forward) (h : Answer) → Runs (of_survey start) s c left → IsOfRound true s c (event.Sent d f h)
     → IsOfCall s (event.Sent d f h)
 sent_call start s c left d f h u of =
     let put = lone_next (world s) s.queue c u.machine of.0 u.goes.lone of.1 in
     subst (λ n. WasOrdered s n f) (sym (of.2 ∙ put.3))
     (inr (ap frame_put (sym u.goes.lone.last ∙ put.1) ∙ ap (λ g. Some g) (sym of.3)))
 
-call_of : (start : Begun) (s : SiteState) (c left : ℕ) (e : Event) → Runs start s c left → Allowed (world s) e → IsOfSurvey s c e → IsOfCall s e
+call_of : (start : Begun) (s : SiteState) (c left : ℕ) (e : Event) → Runs (of_survey start) s c left → Allowed (world s) e → IsOfRound true s c e → IsOfCall s e
 call_of start s c left (event.Acted d i o) u here of = acted_call start s c left d i o u here of
 call_of start s c left (event.Sent d f h) u here of = sent_call start s c left d f h u of
 call_of start s c left _ u here of = absurd of
 
-peace_of : (s : SiteState) (c : ℕ) (e : Event) → HavePower s → IsOfSurvey s c e → AsksInPeace s c e
-peace_of s c (event.Acted d i o) power of = λ same start. subst Surveys start of.1
+peace_of : (s : SiteState) (c : ℕ) (e : Event) → HavePower s → IsOfRound true s c e → AsksInPeace s c e
+peace_of s c (event.Acted d i o) power of = λ same start. subst (Succeeds true) start of.1
 peace_of s c (event.Sent d f h) power of = λ u same has within asks. (power u has, of.4)
 peace_of s c _ power of = absurd of
 
-all_in_peace : (start : Begun) (s : SiteState) (c left : ℕ) (es : List Event) → Runs start s c left → HavePower s → SurveyRounds s c es
+all_in_peace : (start : Begun) (s : SiteState) (c left : ℕ) (es : List Event) → Runs (of_survey start) s c left → HavePower s → Rounds true s c es
     → AreOfCalls s es × AllAskInPeace s c es
 all_in_peace start s c left [] u power rounds = (tt, tt)
 all_in_peace start s c left (e ∷ es) u power rounds =
-    let on = runs_on start s c left e u rounds.0 rounds.1 in
+    let on = runs_on (of_survey start) (argument start) s c left e u rounds.0 rounds.1 in
     let rest = all_in_peace start (site_logged s e) c on.rest es on.runs (power_on s c e rounds.1 power) rounds.2 in (
       (rounds.0, call_of start s c left e u rounds.0 rounds.1, rest.0),
       (peace_of s c e power rounds.1, rest.1),
     )
 
 -- ALONE AND UNDISTURBED it meets what is supposed of it
-pub alone_in_peace : (s : SiteState) (c : ℕ) (es : List Event) → SurveysAlone s c → HavePower s → SurveyRounds s c es
+pub alone_in_peace : (s : SiteState) (c : ℕ) (es : List Event) → IsAlone s c → HavePower s → Rounds true s c es
     → HasJustBegun s c × AreOfCalls s es × AllAskInPeace s c es
 alone_in_peace s c es a power rounds =
-    let all = all_in_peace (began_at true s) s c (106 * count_by is_bare (world s).gear + 219 + spare true) es (starts true s c a unsettled) power rounds in
+    let all = all_in_peace (began_at true s) s c (most_frames Any (bare s)) es (starts_any s c a) power rounds in
     (record { told = a.told; last = a.last; machine = a.machine; block = (records_now s.plan s.queue s.log a.run).block c a.up.known }, all.0, all.1)
-  where
-    unsettled : true ≡ false → IsSettledAt s c
-    unsettled never = absurd (cc)

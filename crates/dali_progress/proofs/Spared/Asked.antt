@@ -1,5 +1,4 @@
-use Rattle.std.proofs.Common.{◌≡◌, ℕ, true, false, List, [], ◌∷◌, refl, sym, ap, subst, ◌∙◌, Option, Some, None}
-use Rattle.std.proofs.Common.{set, get_or-set_same, get_or-set_other}
+use Rattle.std.proofs.Common.{◌≡◌, ℕ, true, false, List, [], ◌∷◌, refl, sym, ap, subst, ◌∙◌, Option, Some, None, set, get_or-set_same, get_or-set_other}
 use Rattle.std.specs.Option.{option_map}
 use Rattle.std.specs.List.{AllByRecursion}
 use Rattle.dali_script.specs.declared.orders.Input.{Input}
@@ -21,7 +20,7 @@ use Rattle.dali_standing.specs.Standing.{machine_in, machines_after}
 use Rattle.dali_world.specs.Site.{SiteState, world, machines, machine_at, site_logged, IsActRefused}
 use Rattle.dali_progress.specs.Rounds.{site_after}
 use Rattle.dali_progress.specs.Spared.{IsOfCall, AreOfCalls, HasJustBegun, IsUsedOf, HearsUsed, HasAsked, StaysBegun}
-use Rattle.dali_progress.proofs.Bounded.{machines_logged, some_within}
+use Rattle.dali_progress.proofs.Logged.{machines_logged, some_within}
 use Rattle.dali_progress.proofs.Spared.Lives.{IsFair, told_opened}
 use Rattle.dali_progress.proofs.Spared.Calls.{IsLivedAt, Heeds, counts_after, heeded_on, none_yet, just_lived, lived_all, unrefused_now, none_set, some_same}
 use Rattle.dali_progress.proofs.Spared.Calls.{by_place}
@@ -55,14 +54,7 @@ opened_moved w ms c (event.Down d) stays wide =
 opened_moved w ms c (event.Up d kept) stays wide =
     by_place _ d c (λ same. absurd (stays same))
     (λ other m there. wide m (sym (get_or-set_other ms d c (Some (at_first d (come_up kept (controller_at w d)).records)) None other) ∙ there))
-opened_moved w ms c (event.Sent d f h) stays wide = wide
-opened_moved w ms c (event.Offered d f) stays wide = wide
-opened_moved w ms c (event.Destroyed d f some) stays wide = wide
-opened_moved w ms c (event.Collided d f e g) stays wide = wide
-opened_moved w ms c event.Lapsed stays wide = wide
-opened_moved w ms c event.Quiet stays wide = wide
-opened_moved w ms c (event.Power g on) stays wide = wide
-opened_moved w ms c (event.Expired g) stays wide = wide
+opened_moved w ms c _ stays wide = wide
 
 -- a machine that has ordered nothing has not opened
 unstarted_unopened : (m : Machine) → m.last ≡ None → IsWhole m → m.opened ≡ true → ⊥

@@ -1,6 +1,5 @@
 use Rattle.std.proofs.Common.{◌≡◌, ℕ, ◌+◌, ◌<◌, ◌≤◌, ◌⊎◌, inl, inr, Bool, true, false, List, [], ◌∷◌, refl, sym, ap, subst, ◌∙◌, arith, zero, suc, Option, Some}
-use Rattle.std.proofs.Common.{None}
-use Rattle.std.proofs.Common.{set, get_or, get_or-set_same, get_or-set_other, nat_eq, map}
+use Rattle.std.proofs.Common.{None, set, get_or, get_or-set_same, get_or-set_other, nat_eq, map}
 use Rattle.std.specs.Prelude.{◌==◌, ◌&&◌, if◌then◌else◌}
 use Rattle.std.specs.Option.{option_map}
 use Rattle.std.specs.List.{AllByRecursion}
@@ -26,8 +25,8 @@ use Rattle.dali_events.specs.declared.event.Event.{Event}
 use Rattle.dali_events.specs.declared.event.Event.TheVariants as event
 use Rattle.dali_events.specs.Plan.{Plan, IsPlan, block_at, no_block}
 use Rattle.dali_events.specs.World.{World, Controller, controller_at, controllers_changed, controller_begun, nobody}
-use Rattle.dali_events.specs.Happens.{happens, controller_acted, told_of, told_sent, told_destroyed, told_lapsed, owner_told, trace_running, is_arc}
-use Rattle.dali_events.specs.Happens.{gone_down, come_up, kept_after, with_outstanding}
+use Rattle.dali_events.specs.Happens.{happens, controller_acted, told_of, told_sent, told_destroyed, told_lapsed, owner_told, trace_running, is_arc, gone_down}
+use Rattle.dali_events.specs.Happens.{come_up, kept_after, with_outstanding}
 use Rattle.dali_events.specs.Allowed.{Allowed, IsActed, IsSent, IsDown, IsArc, IsDue}
 use Rattle.dali_events.proofs.Invariant.Drawn.{are_drawn, draws_after}
 use Rattle.dali_standing.specs.declared.refusal.Refusal.TheVariants as refusal
@@ -35,10 +34,10 @@ use Rattle.dali_standing.specs.Seats.{Waits, MayAnswer, LeavesWhole, ReservesUse
 use Rattle.dali_standing.specs.Standing.{machine_in, machines_at, machines_after}
 use Rattle.dali_world.specs.Site.{SiteState, opened_site, world, machines, machine_at, site_logged, IsActRefused}
 use Rattle.dali_progress.specs.Rounds.{site_after}
-use Rattle.dali_progress.specs.Spared.{IsOfCall, AreOfCalls, HasJustBegun, IsUsedOf, BeginsBySurveys, asks_first, is_silence, silences_after}
-use Rattle.dali_progress.specs.Spared.{IsHeardInTime, HearsUsed}
+use Rattle.dali_progress.specs.Spared.{IsOfCall, AreOfCalls, HasJustBegun, IsUsedOf, BeginsBySurveys, asks_first, is_silence, silences_after, IsHeardInTime}
+use Rattle.dali_progress.specs.Spared.{HearsUsed}
 use Rattle.dali_progress.proofs.Lone.{acted_there}
-use Rattle.dali_progress.proofs.Bounded.{world_logged, machines_logged, some_within}
+use Rattle.dali_progress.proofs.Logged.{world_logged, machines_logged, some_within}
 use Rattle.dali_progress.proofs.Spared.Bytes.{AreSmall, drawn_small, IsByteOf, byte_heard_of}
 use Rattle.dali_progress.proofs.Spared.Lives.{IsWellHeard, IsFair, Lives, lives_first, lives_told, lives_more, counted_asked, lives_acted, leaves_used}
 

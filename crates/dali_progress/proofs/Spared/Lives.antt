@@ -215,19 +215,16 @@ ordered_read t (Halt w) read = free_read
 -- ---------------------------------------------------------------- who surveyed has surveyed
 
 told_surveyed : (m : Machine) (i : Input) → (m.course.way ≡ Fresh → ⊥) → (machine_told m i).course.way ≡ Fresh → ⊥
-told_surveyed m input.Start other = other
 told_surveyed m input.Survey other = λ e. cc
 told_surveyed m (input.Heard h) other = go (frame_put m.last) where
   go : (f : Option Forward) → (machine_heard m f h).course.way ≡ Fresh → ⊥
   go None = other
   go (Some f) = other
-told_surveyed m input.Destroyed other = other
-told_surveyed m input.Lapsed other = other
 told_surveyed m input.Committed other = go (record_ordered m.last) where
   go : (x : Option Record) → (machine_committed m x).course.way ≡ Fresh → ⊥
   go None = other
   go (Some x) = other
-told_surveyed m input.CommitFailed other = other
+told_surveyed m _ other = other
 
 ordered_way : (t : Machine) (o : Order) → KeepsWay t.course (course_by t o)
 ordered_way t (Put p f) = go (p == FIRST) where
@@ -277,15 +274,11 @@ told_opened m (input.Heard h) opened = go (frame_put m.last) where
       let s : Stage = stage_of (machine_heard m (Some f) h).trace in
       ap (λ b. woken_after s m.course.purpose (opened_after s b)) opened ∙ ap (woken_after s m.course.purpose) (opened_stays s)
       ∙ woken_stays s m.course.purpose
-told_opened m input.Start opened = opened
-told_opened m input.Survey opened = opened
-told_opened m input.Destroyed opened = opened
-told_opened m input.Lapsed opened = opened
 told_opened m input.Committed opened = go (record_ordered m.last) where
   go : (x : Option Record) → (machine_committed m x).opened ≡ true
   go None = opened
   go (Some x) = opened
-told_opened m input.CommitFailed opened = opened
+told_opened m _ opened = opened
 
 -- ---------------------------------------------------------------- it acts
 
@@ -370,11 +363,7 @@ told_block m input.Committed = go (record_ordered m.last) where
   go : (x : Option Record) → (machine_committed m x).kept.block ≡ m.kept.block
   go None = refl
   go (Some x) = block_stays m.kept x
-told_block m input.Start = refl
-told_block m input.Survey = refl
-told_block m input.Destroyed = refl
-told_block m input.Lapsed = refl
-told_block m input.CommitFailed = refl
+told_block m _ = refl
 
 pub lives_acted : (U : ℕ → Type 0) (z : Block) (n : ℕ → ℕ) (k : Controller) (m : Machine) (i : Input) (o : Order) → Lives U z n k m → IsDue k i
     → (i ≡ input.Start → ⊥)

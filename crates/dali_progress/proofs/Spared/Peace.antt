@@ -1,6 +1,5 @@
 use Rattle.std.proofs.Common.{◌≡◌, ℕ, ◌+◌, ◌<◌, Bool, true, false, List, [], ◌∷◌, ◌++◌, append-nil, append_assoc, refl, sym, ap, subst, ◌∙◌, length, arith}
-use Rattle.std.proofs.Common.{zero, suc, Some, None}
-use Rattle.std.proofs.Common.{map, get_or}
+use Rattle.std.proofs.Common.{zero, suc, Some, None, map, get_or}
 use Rattle.std.specs.Prelude.{◌==◌, ◌&&◌, if◌then◌else◌}
 use Rattle.std.specs.List.{AllByRecursion}
 use Rattle.std.proofs.lemmas.Bool.Decides.{nat_tests}
@@ -35,9 +34,8 @@ use Rattle.dali_standing.proofs.InUse.{leaves_acted}
 use Rattle.dali_world.specs.Site.{SiteState, opened_site, world, site_logged, IsActRefused}
 use Rattle.dali_progress.specs.Rounds.{site_after}
 use Rattle.dali_progress.specs.Spared.{HearsUsed, IsOfCall, AreOfCalls, HasJustBegun, IsUsedOf, BeginsBySurveys, asks_first, is_silence, silences_after}
-use Rattle.dali_progress.specs.Spared.{IsHeardInTime}
-use Rattle.dali_progress.specs.Spared.{AsksInPeace, AllAskInPeace}
-use Rattle.dali_progress.proofs.Bounded.{run_logged}
+use Rattle.dali_progress.specs.Spared.{IsHeardInTime, AsksInPeace, AllAskInPeace}
+use Rattle.dali_progress.proofs.Logged.{run_logged}
 use Rattle.dali_progress.proofs.Spared.Lives.{lives_more}
 use Rattle.dali_progress.proofs.Spared.Calls.{IsLivedAt, counts_after, none_yet, lived_on, opened_lived, start_block, lived_leaves, unrefused}
 
@@ -130,16 +128,7 @@ event_leaves : (s : SiteState) (e : Event) (v : ℕ → ℕ → ℕ) → IsPlan 
     → LeavesUsed s.plan.used e
 event_leaves s (event.Acted c i o) v plan l here of =
     leaves_acted s.plan.used c i o (λ used. lived_leaves s c (v c) i o plan (l c) here of.1 used)
-event_leaves s (event.Sent d f h) v plan l here of = λ c i a r is used. cc
-event_leaves s (event.Offered d f) v plan l here of = λ c i a r is used. cc
-event_leaves s (event.Destroyed d f set) v plan l here of = λ c i a r is used. cc
-event_leaves s (event.Collided d f e g) v plan l here of = λ c i a r is used. cc
-event_leaves s event.Lapsed v plan l here of = λ c i a r is used. cc
-event_leaves s event.Quiet v plan l here of = λ c i a r is used. cc
-event_leaves s (event.Power g on) v plan l here of = λ c i a r is used. cc
-event_leaves s (event.Expired g) v plan l here of = λ c i a r is used. cc
-event_leaves s (event.Down d) v plan l here of = λ c i a r is used. cc
-event_leaves s (event.Up d kept) v plan l here of = λ c i a r is used. cc
+event_leaves s _ v plan l here of = λ c i a r is used. cc
 
 peaceful : (s : SiteState) (c : ℕ) (e : Event) → IsPlan s.plan → IsRun s.plan s.queue (s.log ++ []) → Allowed (world s) e → IsOfCall s e → AsksInPeace s c e
     → IsLivedAt s c none_yet → IsLivedAt (site_logged s e) c none_yet

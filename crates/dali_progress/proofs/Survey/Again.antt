@@ -1,6 +1,4 @@
-use Rattle.std.proofs.Common.{true, false}
-use Rattle.std.proofs.Common.{◌≡◌, ℕ, ◌<◌, List, [], refl, sym, ap, subst, ◌∙◌, length, length-set, get_or-set_same, Some}
-use Rattle.std.proofs.Common.{None}
+use Rattle.std.proofs.Common.{true, false, ◌≡◌, ℕ, ◌<◌, List, [], refl, sym, ap, subst, ◌∙◌, length, length-set, get_or-set_same, Some, None}
 use Rattle.dali_arbiter.specs.Arbiter.{Arbiter, idle, bus_silenced, owns}
 use Rattle.std.specs.Prelude.{if◌then◌else◌}
 use Rattle.dali_script.specs.declared.orders.End.{End}
@@ -13,11 +11,11 @@ use Rattle.dali_events.specs.Allowed.{IsUp, IsDown}
 use Rattle.dali_events.specs.Runs.{IsRun}
 use Rattle.dali_standing.specs.Standing.{machine_in}
 use Rattle.dali_world.specs.Site.{SiteState, world, site_logged, machines, machine_at}
-use Rattle.dali_progress.specs.Rounds.{site_after, HasEnded}
-use Rattle.dali_progress.specs.Surveys.{IsSettledAt, SurveysAlone, SurveyRounds, IsSettled, restarted}
+use Rattle.dali_progress.specs.Rounds.{site_after, HasEnded, IsSettledAt, IsAlone, IsSettled, restarted, Rounds, Settled, BeginsAlone, Any}
 use Rattle.dali_progress.proofs.Lone.{still, Rests}
-use Rattle.dali_progress.proofs.Bounded.{world_logged, run_logged, machines_logged, some_within}
+use Rattle.dali_progress.proofs.Logged.{world_logged, run_logged, machines_logged, some_within}
 use Rattle.dali_progress.proofs.Survey.Bounded.{EndsBy, ended_by}
+use Rattle.dali_progress.proofs.Beginnings.{runs_after}
 
 -- A CONTROLLER THAT ENDED A SURVEY, and comes up again, surveys alone once more.
 
@@ -74,7 +72,7 @@ machine_again s c m there up =
     kept : controller_at (world (site_logged s (event.Down c))) c ≡ gone_down (controller_at (world s) c)
     kept = ap (λ w. controller_at w c) (world_logged s (event.Down c)) ∙ down_there (world s) c up
 
-again_by : (s after : SiteState) (c : ℕ) (e : End) → EndsBy true s after c e → SurveysAlone (restarted after c) c
+again_by : (s after : SiteState) (c : ℕ) (e : End) → EndsBy true s after c e → IsAlone (restarted after c) c
 again_by s after c e by =
     let down : IsRun after.plan after.queue (site_logged after (event.Down c)).log = run_logged after (event.Down c) by.run by.up (λ d i a n e has. cc) in
     let there : controller_at (world (restarted after c)) c ≡ come_up false (gone_down (controller_at (world after) c)) = again_there after c by.up in
@@ -94,18 +92,18 @@ again_by s after c e by =
       trace = ap (λ (w : World). w.trace) (world_again after c) ∙ trace_again (world after) after.queue c by.rests;
     }
 
-pub surveys_again : (s : SiteState) (c : ℕ) (es : List Event) (e : End) → SurveysAlone s c → SurveyRounds s c es → HasEnded (site_after s es) c e
-    → SurveysAlone (restarted (site_after s es) c) c
-surveys_again s c es e a rounds ended = again_by s (site_after s es) c e (ended_by true s c es e a unsettled rounds ended) where
-  unsettled : true ≡ false → IsSettledAt s c
-  unsettled never = absurd (cc)
+ended_any : (s : SiteState) (c : ℕ) (es : List Event) (e : End) → IsAlone s c → Rounds true s c es → HasEnded (site_after s es) c e
+    → EndsBy true s (site_after s es) c e
+ended_any s c es e a rounds ended = let all = runs_after Any s c es a rounds in ended_by true s (site_after s es) c all.rest e all.runs ended
+
+pub surveys_again : (s : SiteState) (c : ℕ) (es : List Event) (e : End) → IsAlone s c → Rounds true s c es → HasEnded (site_after s es) c e
+    → IsAlone (restarted (site_after s es) c) c
+surveys_again s c es e a rounds ended = again_by s (site_after s es) c e (ended_any s c es e a rounds ended)
 
 -- with the records that it kept
-pub keeps_again : (s : SiteState) (c : ℕ) (es : List Event) (e : End) → SurveysAlone s c → SurveyRounds s c es → HasEnded (site_after s es) c e
-    → IsSettledAt (site_after s es) c → IsSettledAt (restarted (site_after s es) c) c
-keeps_again s c es e a rounds ended settled =
-    let by = ended_by true s c es e a unsettled rounds ended in
-    subst (λ (k : Controller). IsSettled k.records) (sym (again_there (site_after s es) c by.up)) settled
-  where
-    unsettled : true ≡ false → IsSettledAt s c
-    unsettled never = absurd (cc)
+pub settled_again : (s : SiteState) (c : ℕ) (es : List Event) (e : End) → IsAlone s c → Rounds true s c es → HasEnded (site_after s es) c e
+    → IsSettledAt (site_after s es) c → BeginsAlone Settled (restarted (site_after s es) c) c
+settled_again s c es e a rounds ended settled = (
+  surveys_again s c es e a rounds ended,
+  subst (λ (k : Controller). IsSettled k.records) (sym (again_there (site_after s es) c (ended_any s c es e a rounds ended).up)) settled,
+)

@@ -1,6 +1,5 @@
 use Rattle.std.proofs.Common.{◌≡◌, ℕ, ◌+◌, ◌-◌, ◌*◌, ◌<◌, ◌≤◌, ◌⊎◌, inl, inr, Bool, true, false, zero, suc, List, [], ◌∷◌, ◌++◌, refl, sym, ap, subst, ◌∙◌}
-use Rattle.std.proofs.Common.{arith}
-use Rattle.std.proofs.Common.{Option, Some, None}
+use Rattle.std.proofs.Common.{arith, Option, Some, None}
 use Rattle.std.specs.Prelude.{◌==◌, ◌&&◌, ◌||◌, not, is_some, MatchOption, if◌then◌else◌}
 use Rattle.std.specs.List.{count_by}
 use Rattle.std.proofs.lemmas.Bool.Decides.{nat_tests}
@@ -33,9 +32,9 @@ use Rattle.dali_controller.specs.declared.shorts.Shorts.{Shorts}
 use Rattle.dali_controller.specs.declared.way.Way.{Way}
 use Rattle.dali_controller.specs.declared.way.Way.TheVariants.{Fresh, Surveying, Drawing}
 use Rattle.dali_controller.specs.Shorts.{has_short}
-use Rattle.dali_controller.specs.Course.{Course, first_of, turn_of, number_at, is_open, open_among, least_open, is_another, is_anothers}
-use Rattle.dali_controller.specs.Course.{is_asked, asked_among, next_asked, ask_or_wake, asking, waking, going_on, going_on_early, sought}
-use Rattle.dali_controller.specs.Course.{hunting, hunting_first, hunting_on, searching_first, searching_on}
+use Rattle.dali_controller.specs.Course.{Course, first_of, turn_of, number_at, is_open, open_among, least_open, is_another, is_anothers, is_asked, asked_among}
+use Rattle.dali_controller.specs.Course.{next_asked, ask_or_wake, asking, waking, going_on, going_on_early, sought, hunting, hunting_first, hunting_on}
+use Rattle.dali_controller.specs.Course.{searching_first, searching_on}
 use Rattle.dali_controller.specs.Machine.{Machine}
 use Rattle.dali_controller.specs.Next.{next_course, course_by, beginning, goes_on_to, BeginsWith}
 use Rattle.dali_controller.specs.Orders.{machine_ordered, IsAllowed, IsCaused}
@@ -45,17 +44,16 @@ use Rattle.dali_controller.proofs.Given as given
 use Rattle.dali_controller.proofs.Given.{IsGivenBy, IsNoEnrolment}
 use Rattle.dali_events.specs.Wanted.{is_wanted, wants, IsOpened, NoneNamed}
 use Rattle.dali_events.proofs.Search.Leaving.{SameCore}
-use Rattle.dali_progress.specs.Rounds.{AreTabled}
-use Rattle.dali_progress.specs.Surveys.{IsSettled}
+use Rattle.dali_progress.specs.Ends.{AreTabled}
+use Rattle.dali_progress.specs.Rounds.{IsSettled}
 use Rattle.dali_progress.proofs.Sweep.Coming.{asked_later, asked_before, unasked_enrolled}
 use Rattle.dali_script.proofs.Members.{same_member}
 use Rattle.dali_progress.proofs.Stands.{Sends}
 use Rattle.dali_progress.proofs.Later.{IsUnasked, later_leaves, turn_unasked}
 use Rattle.dali_progress.proofs.Survey.Queried.{OneShort, IsTrue, TabledBelow, unseen, below_all, below_named}
 use Rattle.dali_progress.proofs.Survey.Stands.{Begun, IsClear, wake_frames, IsOwn, searched_by, frames_after, Rises, HuntAt, Hunts, AreTaken, SurveyEnds}
-use Rattle.dali_progress.proofs.Survey.Stands.{opened_at}
+use Rattle.dali_progress.proofs.Survey.Stands.{opened_at, SurveyAt, SurveyStands}
 use Rattle.dali_progress.proofs.Survey.Rising.{rises_so, rises_first, rises_above}
-use Rattle.dali_progress.proofs.Survey.Stands.{SurveyAt, SurveyStands}
 
 -- A TRANSACTION OF A SURVEY BEGINS, or goes on; and what is to come of an order.
 

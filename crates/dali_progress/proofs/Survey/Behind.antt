@@ -1,5 +1,4 @@
-use Rattle.std.proofs.Common.{◌≡◌, ℕ, ◌+◌, ◌*◌, ◌<◌, ◌≤◌, inl, inr, Bool, true, false, suc, List, refl, sym, ap, subst, ◌∙◌, arith}
-use Rattle.std.proofs.Common.{Option, Some, None}
+use Rattle.std.proofs.Common.{◌≡◌, ℕ, ◌+◌, ◌*◌, ◌<◌, ◌≤◌, inl, inr, Bool, true, false, suc, List, refl, sym, ap, subst, ◌∙◌, arith, Option, Some, None}
 use Rattle.std.specs.List.{count_by}
 use Rattle.std.specs.Prelude.{◌==◌, if◌then◌else◌}
 use Rattle.dali_frame.specs.declared.frames.Answer.{Answer}
@@ -7,8 +6,7 @@ use Rattle.dali_frame.specs.declared.frames.Answer.TheVariants.{Silence, Byte, D
 use Rattle.dali_frame.specs.declared.numbers.SearchAddress.{SearchAddress}
 use Rattle.dali_frame.specs.Random.{value_of}
 use Rattle.dali_special.specs.declared.command.Command.{Command}
-use Rattle.dali_special.specs.declared.command.Command.TheVariants.{Initialise, Withdraw, SearchHigh, SearchMiddle, SearchLow, Randomise}
-use Rattle.dali_special.specs.declared.command.Command.TheVariants.{QueryShort}
+use Rattle.dali_special.specs.declared.command.Command.TheVariants.{Initialise, Withdraw, SearchHigh, SearchMiddle, SearchLow, Randomise, QueryShort}
 use Rattle.dali_frame.specs.Short.{short_of}
 use Rattle.dali_special.specs.Command.{MASK}
 use Rattle.dali_special.specs.declared.command.Target.TheVariants.{Unaddressed}

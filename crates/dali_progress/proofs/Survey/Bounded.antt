@@ -1,79 +1,38 @@
-use Rattle.std.proofs.Common.{Bool, true, false}
-use Rattle.std.proofs.Common.{◌≡◌, ℕ, ◌+◌, ◌*◌, ◌≤◌, ◌⊎◌, inl, inr, suc, List, [], ◌∷◌, refl, sym, ap, subst, ◌∙◌, arith, length}
-use Rattle.std.proofs.Common.{Option, Some, None}
-use Rattle.std.specs.Prelude.{◌==◌, if◌then◌else◌}
+use Rattle.std.proofs.Common.{Bool, true, false, ◌≡◌, ℕ, ◌+◌, ◌*◌, ◌≤◌, ◌⊎◌, inl, inr, suc, List, [], refl, sym, ap, subst, ◌∙◌, arith, Some}
+use Rattle.std.specs.Prelude.{◌==◌}
 use Rattle.std.proofs.lemmas.Nat.Bits.{bit_at-zero}
 use Rattle.dali_events.specs.Promise.{KeepsPromiseNow}
 use Rattle.std.proofs.lemmas.List.{append-nil}
-use Rattle.std.specs.List.{count_by}
-use Rattle.dali_frame.specs.declared.frames.Forward.{Forward}
-use Rattle.dali_frame.specs.declared.frames.Answer.{Answer}
-use Rattle.dali_special.specs.Command.{command_of}
-use Rattle.dali_gear.specs.declared.row.Reach.TheVariants.{Everyone}
 use Rattle.dali_gear.specs.Gear.{Gear}
-use Rattle.dali_gear.specs.Row.{answers_of, heard_of}
-use Rattle.dali_arbiter.specs.declared.request.Request.{Request}
-use Rattle.dali_arbiter.specs.Arbiter.{total, next, request_of}
-use Rattle.dali_frame.specs.Priority.{FIRST, LATER}
-use Rattle.dali_script.specs.declared.records.Record.{Record}
 use Rattle.dali_script.specs.Records.{Has}
-use Rattle.dali_script.specs.declared.orders.Input.{Input}
-use Rattle.dali_script.specs.declared.orders.Input.TheVariants as input
-use Rattle.dali_script.specs.declared.orders.Order.{Order}
-use Rattle.dali_script.specs.declared.orders.Order.TheVariants.{Put, Commit, Done, Halt}
 use Rattle.dali_script.specs.declared.orders.End.{End}
 use Rattle.dali_script.specs.declared.orders.End.TheVariants.{AllFound, BlockFull, GaveUp}
 use Rattle.dali_controller.specs.Machine.{Machine, at_first}
-use Rattle.dali_controller.specs.Orders.{machine_after}
-use Rattle.dali_events.specs.declared.event.Event.{Event}
 use Rattle.dali_events.specs.declared.event.Event.TheVariants as event
-use Rattle.dali_events.specs.World.{World, controller_at}
-use Rattle.dali_events.specs.Happens.{happens}
-use Rattle.dali_events.specs.Allowed.{Allowed, IsUp, IsDue}
+use Rattle.dali_events.specs.World.{controller_at}
+use Rattle.dali_events.specs.Allowed.{IsUp}
 use Rattle.dali_events.specs.Laws.{FindingsAgree}
-use Rattle.dali_events.specs.Runs.{IsRun, AreDrawn, LeavesUsed}
-use Rattle.dali_events.specs.Wanted.{gear_of, is_bare}
+use Rattle.dali_events.specs.Runs.{IsRun}
+use Rattle.dali_events.specs.Wanted.{gear_of}
 use Rattle.dali_events.proofs.Invariant.Agreeing.{findings_agree_in}
 use Rattle.dali_events.proofs.Invariant.Safe.{keeps_promise}
-use Rattle.dali_events.proofs.Search.Halves.{gear_are_searched}
-use Rattle.dali_standing.specs.Seats.{MayAnswer, LeavesWhole}
-use Rattle.dali_standing.specs.Standing.{machine_in}
-use Rattle.dali_world.specs.Site.{SiteState, world, site_logged, machine_at, next_request}
-use Rattle.dali_progress.specs.Rounds.{StartsAlone, IsOfRound, site_after, is_frame, frames, HasEnded, HasNext, AreTabled}
-use Rattle.dali_progress.specs.Surveys.{IsAllTaken, IsBlockTaken, SurveysAlone, IsSettled, IsSettledAt, Surveys, IsOfSurvey, SurveyRounds}
-use Rattle.dali_progress.specs.Surveys.{SurveyGoesOn, SurveyEndsWell}
-use Rattle.dali_progress.specs.Surveys.{IsSurveyDone, IsUnseen}
-use Rattle.dali_progress.specs.Surveys.{IsSurveyTabled}
-use Rattle.dali_progress.proofs.Lone.{Rests, Moment}
-use Rattle.dali_progress.proofs.Goes.{IsKnown}
-use Rattle.dali_progress.proofs.Bounded.{world_logged, run_logged, machines_logged, acted_machine, drawn_now, kept_now, nothing_waits, heard_free}
+use Rattle.dali_world.specs.Site.{SiteState, world, site_logged, machine_at}
+use Rattle.dali_progress.specs.Rounds.{HasEnded, IsAlone, IsSettled, IsSettledAt, bare, most_frames, Any}
+use Rattle.dali_progress.specs.Ends.{AreTabled, IsAllTaken, IsBlockTaken, SurveyEndsWell, IsSurveyDone, IsUnseen, NamesAll, table_at}
+use Rattle.dali_progress.proofs.Lone.{Rests}
+use Rattle.dali_progress.proofs.Logged.{world_logged, drawn_now, kept_now}
 use Rattle.dali_progress.proofs.Survey.Drawn.{numbered_of}
 use Rattle.dali_progress.proofs.Survey.Queried.{OneShort, IsTrue, IsPassed, core_self, unseen, unseen_was}
 use Rattle.dali_progress.proofs.Survey.Stands.{Begun, spare, SurveyEnds}
 use Rattle.dali_progress.proofs.Survey.Kept.{enrol_slack}
-use Rattle.dali_progress.proofs.Survey.Goes.{slack_now, Goes, Holds, IsSurveyed, goes_acted, goes_sent, sent_less}
+use Rattle.dali_progress.proofs.Survey.Goes.{IsSurveyed, of_survey, events_of, survey_acts, survey_sends}
+use Rattle.dali_progress.proofs.Along.{Argument, Runs, held_ended}
 
--- A LIST OF EVENTS OF A SURVEY, one after the other.
-
--- a site on which a survey goes on
-pub record Runs (start : Begun) (s : SiteState) (c left : ℕ) : Type 0 where
-  pub run : IsRun s.plan s.queue s.log
-  pub machine : Machine
-  pub there : machine_at s c ≡ Some machine
-  pub goes : Goes start (world s) s.queue c machine left
+-- THE SECOND ARGUMENT, its start, and its end.
 
 -- with these gear, and with any records or settled ones
 abbrev pub began_at : Bool → SiteState → Begun
 began_at any s = record { gear = (world s).gear; any = any }
-
--- events before the end, at the most, of so many frames
-abbrev pub events_of : Bool → ℕ → ℕ
-events_of true left = 4 * left
-events_of false left = 3 * left
-
-events_more : (any : Bool) (left rest : ℕ) → left ≡ suc rest → events_of any rest + (enrol_slack any + 1) + 1 ≤ events_of any left + 0
-events_more true left rest is = omega (arith, is)
-events_more false left rest is = omega (arith, is)
 
 -- what is known of it, since its log is a run
 promise_now : (s : SiteState) → IsRun s.plan s.queue s.log → KeepsPromiseNow (world s)
@@ -98,115 +57,26 @@ surveyed_now s c run up =
       agree = agree_now s run;
     }
 
--- frames that were sent are frames that are no longer left
-pub record RunsOn (start : Begun) (s : SiteState) (c left : ℕ) (e : Event) : Type 0 where
-  pub rest : ℕ
-  pub sum : left ≡ (if is_frame e then 1 else 0) + rest
-  pub less : events_of start.any rest + slack_now start.any (world (site_logged s e)) c + 1 ≤ events_of start.any left + slack_now start.any (world s) c
-  pub runs : Runs start (site_logged s e) c rest
+spends : (any : Bool) (rest left : ℕ) → left ≡ suc rest → events_of any rest + (enrol_slack any + 1) + 1 ≤ events_of any left + 0
+spends true rest left is = omega (arith, is)
+spends false rest left is = omega (arith, is)
 
-acted_on : (start : Begun) (s : SiteState) (c left : ℕ) (i : Input) (o : Order) → Runs start s c left → Allowed (world s) (event.Acted c i o) → Surveys i
-    → MayAnswer (machine_at s c) i o → LeavesWhole (machine_at s c) i o → LeavesUsed s.plan.used (event.Acted c i o) → RunsOn start s c left (event.Acted c i o)
-acted_on start s c left i o r here surveys may whole leaves = record {
-  rest = left;
-  sum = omega arith;
-  less = less_acted (slack_now start.any (world (site_logged s (event.Acted c i o))) c) (events_of start.any left)
-      (subst (λ w. slack_now start.any w c + 1 ≤ slack_now start.any (world s) c) (sym (world_logged s (event.Acted c i o))) on.1);
-  runs = record {
-    run = run_logged s (event.Acted c i o) r.run here leaves;
-    machine = machine_after r.machine i o;
-    there = acted_machine s c i o r.machine r.there;
-    goes = subst (λ w. Goes start w s.queue c (machine_after r.machine i o) left) (sym (world_logged s (event.Acted c i o))) on.0;
-  };
-} where
-  on : Goes start (happens (world s) (event.Acted c i o)) s.queue c (machine_after r.machine i o) left
-      × (slack_now start.any (happens (world s) (event.Acted c i o)) c + 1 ≤ slack_now start.any (world s) c)
-  on =
-      goes_acted start (world s) s.queue c r.machine i o left r.goes surveys here (subst (λ n. MayAnswer n i o) r.there may)
-      (subst (λ n. LeavesWhole n i o) r.there whole) (surveyed_now s c r.run r.goes.lone.up)
-      (subst KeepsPromiseNow (world_logged s (event.Acted c i o))
-      (promise_now (site_logged s (event.Acted c i o)) (run_logged s (event.Acted c i o) r.run here leaves)))
-
-  less_acted : (x y : ℕ) → x + 1 ≤ slack_now start.any (world s) c → y + x + 1 ≤ y + slack_now start.any (world s) c
-  less_acted x y less = omega (arith, less)
-
-sent_on : (start : Begun) (s : SiteState) (c left : ℕ) (r : Request) (h : Answer) → Runs start s c left
-    → Allowed (world s) (event.Sent r.sender r.frame h) → next_request s ≡ Some r
-    → h ≡ heard_of (answers_of Everyone (command_of r.frame) 0 (world s).gear) → RunsOn start s c left (event.Sent r.sender r.frame h)
-sent_on start s c left r h u here is heard =
-    let run : IsRun s.plan s.queue (site_logged s (event.Sent r.sender r.frame h)).log =
-    run_logged s (event.Sent r.sender r.frame h) u.run here (λ d i a n e has. cc) in
-    let known : IsKnown (world s) r.sender r.frame h = record {
-      drawn = drawn_now s u.run;
-      then = subst AreDrawn (world_logged s (event.Sent r.sender r.frame h)) (drawn_now (site_logged s (event.Sent r.sender r.frame h)) run);
-      seeks = λ n at. gear_are_searched s.plan s.queue s.log n u.run at;
-    } in
-    let slacks = sent_less start (world s) s.queue c u.machine r h left u.goes is in
-    let sent = goes_sent start (world s) s.queue c u.machine r h left u.goes is here known (surveyed_now s c u.run u.goes.lone.up) heard in
-    record {
-      rest = sent.0;
-      sum = sent.1 ∙ omega arith;
-      less = less_sent sent.0 (slack_now start.any (world (site_logged s (event.Sent r.sender r.frame h))) c) (slack_now start.any (world s) c)
-          (events_more start.any left sent.0 sent.1)
-          (ap (λ w. slack_now start.any w c) (world_logged s (event.Sent r.sender r.frame h)) ∙ slacks.0) slacks.1;
-      runs = record {
-        run = run;
-        machine = u.machine;
-        there = ap (λ ms. machine_in ms c) (machines_logged s (event.Sent r.sender r.frame h)) ∙ u.there;
-        goes = subst (λ w. Goes start w s.queue c u.machine sent.0) (sym (world_logged s (event.Sent r.sender r.frame h))) sent.2;
-      };
-    }
-  where
-    less_sent : (rest x y : ℕ) → events_of start.any rest + (enrol_slack start.any + 1) + 1 ≤ events_of start.any left + 0 → x ≡ enrol_slack start.any + 1
-        → y ≡ 0 → events_of start.any rest + x + 1 ≤ events_of start.any left + y
-    less_sent rest x y less some none = rw (some, none) less
-
-sent_by : (start : Begun) (s : SiteState) (c left d : ℕ) (f : Forward) (h : Answer) → Runs start s c left → Allowed (world s) (event.Sent d f h)
-    → IsOfRound s c (event.Sent d f h) → RunsOn start s c left (event.Sent d f h)
-sent_by start s c left d f h u here of =
-    subst (λ e. Allowed (world s) e → RunsOn start s c left e) (sym (ap (λ n. event.Sent n f h) of.2 ∙ ap (λ g. event.Sent of.0.sender g h) of.3))
-    (λ now. sent_on start s c left of.0 h u now of.1 (of.4 ∙ ap (λ g. heard_of (answers_of Everyone (command_of g) 0 (world s).gear)) of.3)) here
-
-pub runs_on : (start : Begun) (s : SiteState) (c left : ℕ) (e : Event) → Runs start s c left → Allowed (world s) e → IsOfSurvey s c e
-    → RunsOn start s c left e
-runs_on start s c left (event.Acted d i o) u here of =
-    subst (λ n. Allowed (world s) (event.Acted n i o) → LeavesUsed s.plan.used (event.Acted n i o) → RunsOn start s c left (event.Acted n i o)) (sym of.0)
-    (λ now leaves. acted_on start s c left i o u now of.1 of.2 of.3 leaves) here of.4
-runs_on start s c left (event.Sent d f h) u here of = sent_by start s c left d f h u here of
-runs_on start s c left _ u here of = absurd of
-
--- ALL ROUNDS
-pub record RunsAll (start : Begun) (s : SiteState) (c left : ℕ) (es : List Event) : Type 0 where
-  pub rest : ℕ
-  pub sum : left ≡ frames es + rest
-  pub less : events_of start.any rest + slack_now start.any (world (site_after s es)) c + length es
-      ≤ events_of start.any left + slack_now start.any (world s) c
-  pub runs : Runs start (site_after s es) c rest
-
-runs_all : (start : Begun) (s : SiteState) (c left : ℕ) (es : List Event) → Runs start s c left → SurveyRounds s c es → RunsAll start s c left es
-runs_all start s c left [] u rounds = record { rest = left; sum = omega arith; less = omega arith; runs = u }
-runs_all start s c left (e ∷ es) u rounds =
-    let on = runs_on start s c left e u rounds.0 rounds.1 in
-    let all = runs_all start (site_logged s e) c on.rest es on.runs rounds.2 in
-    record {
-      rest = all.rest;
-      sum = both (if is_frame e then 1 else 0) (frames es) left on.rest all.rest on.sum all.sum;
-      less = fewer (events_of start.any all.rest) (events_of start.any on.rest) (events_of start.any left)
-          (slack_now start.any (world (site_after (site_logged s e) es)) c) (slack_now start.any (world (site_logged s e)) c)
-          (slack_now start.any (world s) c) (length es) on.less all.less;
-      runs = all.runs;
-    }
-  where
-    both : (x more left rest last : ℕ) → left ≡ x + rest → rest ≡ more + last → left ≡ x + more + last
-    both x more left rest last one two = omega (arith, one, two)
-
-    fewer : (last rest left x y z n : ℕ) → rest + y + 1 ≤ left + z → last + x + n ≤ rest + y → last + x + suc n ≤ left + z
-    fewer last rest left x y z n one two = omega (arith, one, two)
+pub argument : (start : Begun) → Argument (of_survey start)
+argument start = record {
+  acts = λ s c m i o left run now goes surveys here given whole.
+      survey_acts start (world s) s.queue c m i o left goes surveys here given (whole refl) (surveyed_now s c run goes.lone.up)
+      (subst KeepsPromiseNow (world_logged s (event.Acted c i o)) (promise_now (site_logged s (event.Acted c i o)) now));
+  sends = λ s c m p f h left run goes last told here known heard.
+      survey_sends start (world s) s.queue c m p f h left goes last told here known (surveyed_now s c run goes.lone.up) heard;
+  spends = λ p f h rest left is. spends start.any rest left is;
+  halts = λ m why gs left holds. holds;
+  first = refl;
+}
 
 -- THE START
-pub starts : (any : Bool) (s : SiteState) (c : ℕ) → SurveysAlone s c → (any ≡ false → IsSettledAt s c)
-    → Runs (began_at any s) s c (106 * count_by is_bare (world s).gear + 219 + spare any)
-starts any s c a settled = record {
+pub starts : (any : Bool) (s : SiteState) (c left : ℕ) → 106 * bare s + 219 + spare any ≤ left → IsAlone s c → (any ≡ false → IsSettledAt s c)
+    → Runs (of_survey (began_at any s)) s c left
+starts any s c left enough a settled = record {
   run = a.run;
   machine = at_first c (controller_at (world s) c).records;
   there = a.machine;
@@ -218,7 +88,7 @@ starts any s c a settled = record {
       addresses = rw a.last tt;
       moment = rw (a.last, a.told) ((a.bus, a.trace), refl);
     };
-    found = rw a.told refl;
+    known = rw a.told refl;
     holds = rw (a.last, a.told) (record {
       calm = record { tries = refl; silent = refl };
       free = refl;
@@ -228,114 +98,16 @@ starts any s c a settled = record {
       unasked = refl;
       first = refl;
       same = core_self (world s).gear;
-      frames = omega arith;
+      frames = omega (arith, enough);
     });
   };
 }
 
--- one that starts alone surveys alone, with nothing kept
-pub starts_so : (s : SiteState) (c : ℕ) → StartsAlone s c → SurveysAlone s c × IsSettledAt s c
-starts_so s c a = (
-  record {
-    run = a.run;
-    up = a.up;
-    told = a.told;
-    last = a.last;
-    machine = a.machine ∙ ap (λ k. Some (at_first c k)) (sym a.records);
-    bus = a.bus;
-    trace = a.trace;
-  },
-  subst IsSettled (sym a.records) (λ x has. absurd has),
-)
-
-pub runs_after : (any : Bool) (s : SiteState) (c : ℕ) (es : List Event) → SurveysAlone s c → (any ≡ false → IsSettledAt s c) → SurveyRounds s c es
-    → RunsAll (began_at any s) s c (106 * count_by is_bare (world s).gear + 219 + spare any) es
-runs_after any s c es a settled rounds =
-    runs_all (began_at any s) s c (106 * count_by is_bare (world s).gear + 219 + spare any) es (starts any s c a settled) rounds
-
--- of any records
-pub unsettled : (s : SiteState) (c : ℕ) → true ≡ false → IsSettledAt s c
-unsettled s c e = absurd (cc)
-
--- NO MORE FRAMES than these are sent
-pub bounded : (s : SiteState) (c : ℕ) (es : List Event) → SurveysAlone s c → SurveyRounds s c es → frames es ≤ 106 * count_by is_bare (world s).gear + 291
-bounded s c es a rounds = let all = runs_after true s c es a (unsettled s c) rounds in omega (arith, all.sum)
-
-pub settled_bounded : (s : SiteState) (c : ℕ) (es : List Event) → SurveysAlone s c → IsSettledAt s c → SurveyRounds s c es
-    → frames es ≤ 106 * count_by is_bare (world s).gear + 219
-settled_bounded s c es a settled rounds = let all = runs_after false s c es a (λ e. settled) rounds in omega (arith, all.sum)
-
--- and no more events come
-first_slack : (any : Bool) (s : SiteState) (c : ℕ) → SurveysAlone s c → slack_now any (world s) c ≡ 1
-first_slack any s c a = rw (a.last) refl
-
-pub few_events : (s : SiteState) (c : ℕ) (es : List Event) → SurveysAlone s c → SurveyRounds s c es → length es ≤ 424 * count_by is_bare (world s).gear + 1165
-few_events s c es a rounds =
-    let all = runs_after true s c es a (unsettled s c) rounds in
-    few (count_by is_bare (world s).gear) all.rest (slack_now true (world (site_after s es)) c) (slack_now true (world s) c) (length es)
-    (first_slack true s c a)
-    all.less
-  where
-    few : (n rest x y k : ℕ) → y ≡ 1 → 4 * rest + x + k ≤ 4 * (106 * n + 219 + 72) + y → k ≤ 424 * n + 1165
-    few n rest x y k one less = omega (arith, one, less)
-
-pub settled_events : (s : SiteState) (c : ℕ) (es : List Event) → SurveysAlone s c → IsSettledAt s c → SurveyRounds s c es
-    → length es ≤ 318 * count_by is_bare (world s).gear + 658
-settled_events s c es a settled rounds =
-    let all = runs_after false s c es a (λ e. settled) rounds in
-    few (count_by is_bare (world s).gear) all.rest (slack_now false (world (site_after s es)) c) (slack_now false (world s) c) (length es)
-    (first_slack false s c a) all.less
-  where
-    few : (n rest x y k : ℕ) → y ≡ 1 → 3 * rest + x + k ≤ 3 * (106 * n + 219 + 0) + y → k ≤ 318 * n + 658
-    few n rest x y k one less = omega (arith, one, less)
-
--- ---------------------------------------------------------------- it ends, or goes on
-
--- what is due or next, by the last order and by what was told
-abbrev IsDueIn : World → ℕ → Type 0
-IsDueIn w c = (i : Input) × Surveys i × IsDue (controller_at w c) i × (total w.bus ≡ 0)
-
-due_by : (start : Begun) (w : World) (q c : ℕ) (m : Machine) (last : Option Order) (told : Option Input) (left : ℕ) → (controller_at w c).last ≡ last
-    → (controller_at w c).told ≡ told → Moment w q c m (controller_at w c).outstanding last told → Holds start m last told w.gear left
-    → ((e : End) × (last ≡ Some (Done e))) ⊎ (IsDueIn w c ⊎ ((r : Request) × (next w.bus ≡ Some r)))
-due_by start w q c m None (Some input.Start) left is told at holds = inr (inl (input.Survey, tt, told, ap total at.0.0 ∙ nothing_waits q None))
-due_by start w q c m (Some (Put p f)) (Some (input.Heard h)) left is told at holds = inr (inl (input.Heard h, tt, told, heard_free w q c m f h at))
-due_by start w q c m (Some (Put p f)) None left is told (inl later) holds = inr (inr (request_of c LATER f, ap next later.1))
-due_by start w q c m (Some (Put p f)) None left is told (inr first) holds = inr (inr (request_of c FIRST f, ap next first.1))
-due_by start w q c m (Some (Commit x)) None left is told at holds = inr (inl (input.Committed, tt, rw is tt, ap total at.0.0 ∙ nothing_waits q None))
-due_by start w q c m (Some (Done e)) None left is told at holds = inl (e, refl)
-due_by start w q c m (Some (Halt why)) None left is told at holds = absurd holds
-due_by start w q c m None None left is told at holds = absurd at
-due_by start w q c m None (Some i) left is told at holds = absurd at
-due_by start w q c m (Some (Put p f)) (Some i) left is told at holds = absurd at
-due_by start w q c m (Some (Commit x)) (Some i) left is told at holds = absurd at
-due_by start w q c m (Some (Done e)) (Some i) left is told at holds = absurd at
-due_by start w q c m (Some (Halt why)) (Some i) left is told at holds = absurd at
-
-pub goes_on : (s : SiteState) (c : ℕ) (es : List Event) → SurveysAlone s c → SurveyRounds s c es → SurveyGoesOn (site_after s es) c
-goes_on s c es a rounds =
-    go (due_by (began_at true s) (world (site_after s es)) _ c all.runs.machine (controller_at (world (site_after s es)) c).last
-    (controller_at (world (site_after s es)) c).told all.rest refl refl all.runs.goes.lone.moment all.runs.goes.holds) where
-      all : RunsAll (began_at true s) s c (106 * count_by is_bare (world s).gear + 219 + spare true) es
-      all = runs_after true s c es a (unsettled s c) rounds
-
-      go : ((e : End) × HasEnded (site_after s es) c e) ⊎ (IsDueIn (world (site_after s es)) c ⊎ HasNext (site_after s es)) → SurveyGoesOn (site_after s es) c
-      go (inl ended) = inl ended
-      go (inr (inl due)) = inr (inl (record { input = due.0; surveys = due.1; due = due.2; free = due.3 }))
-      go (inr (inr next)) = inr (inr next)
+-- with any records
+pub starts_any : (s : SiteState) (c : ℕ) → IsAlone s c → Runs (of_survey (began_at true s)) s c (most_frames Any (bare s))
+starts_any s c a = starts true s c (most_frames Any (bare s)) (omega arith) a (λ never. absurd (cc))
 
 -- ---------------------------------------------------------------- an end says what is true
-
-well_by : (start : Begun) (m : Machine) (last : Option Order) (told : Option Input) (e : End) (gs : List Gear) (left : ℕ) → last ≡ Some (Done e)
-    → Holds start m last told gs left
-    → SurveyEnds start.any e m.kept m.heard gs × AreTabled (unseen start.gear) m.kept.enrolled gs × (start.any ≡ false → IsSettled m.kept)
-well_by start m (Some (Done x)) None e gs left is holds =
-    (subst (λ y. SurveyEnds start.any y m.kept m.heard gs) (let same : x ≡ e = cc in same) holds.0, holds.1, holds.2)
-well_by start m (Some (Done x)) (Some i) e gs left is holds = absurd holds
-well_by start m None told e gs left is holds = absurd (cc)
-well_by start m (Some (Put p f)) told e gs left is holds = absurd (cc)
-well_by start m (Some (Commit x)) told e gs left is holds = absurd (cc)
-well_by start m (Some (Halt why)) told e gs left is holds = absurd (cc)
 
 -- what an end leaves
 pub record EndsBy (any : Bool) (s after : SiteState) (c : ℕ) (e : End) : Type 0 where
@@ -349,33 +121,20 @@ pub record EndsBy (any : Bool) (s after : SiteState) (c : ℕ) (e : End) : Type 
   pub up : IsUp (world after) c
   pub rests : Rests (world after) after.queue
 
-rests_by : (w : World) (q c : ℕ) (m : Machine) (out : Option Record) (last : Option Order) (told : Option Input) (e : End) → last ≡ Some (Done e)
-    → Moment w q c m out last told → Rests w q
-rests_by w q c m out (Some (Done x)) None e is at = at
-rests_by w q c m out (Some (Done x)) (Some i) e is at = absurd at
-rests_by w q c m out None told e is at = absurd (cc)
-rests_by w q c m out (Some (Put p f)) told e is at = absurd (cc)
-rests_by w q c m out (Some (Commit x)) told e is at = absurd (cc)
-rests_by w q c m out (Some (Halt why)) told e is at = absurd (cc)
-
-pub ended_by : (any : Bool) (s : SiteState) (c : ℕ) (es : List Event) (e : End) → SurveysAlone s c → (any ≡ false → IsSettledAt s c) → SurveyRounds s c es
-    → HasEnded (site_after s es) c e → EndsBy any s (site_after s es) c e
-ended_by any s c es e a settled rounds ended =
-    let all = runs_after any s c es a settled rounds in
-    let g = all.runs.goes in
-    let well = well_by (began_at any s) all.runs.machine (controller_at (world (site_after s es)) c).last (controller_at (world (site_after s es)) c).told e
-    (world (site_after s es)).gear all.rest ended g.holds in
+pub ended_by : (any : Bool) (s after : SiteState) (c left : ℕ) (e : End) → Runs (of_survey (began_at any s)) after c left → HasEnded after c e
+    → EndsBy any s after c e
+ended_by any s after c left e r ended =
+    let at = held_ended (of_survey (began_at any s)) after c left e r ended in
     record {
-      machine = all.runs.machine;
-      there = all.runs.there;
-      kept = g.lone.kept;
-      well = well.0;
-      tabled = well.1;
-      settled = well.2;
-      run = all.runs.run;
-      up = g.lone.up;
-      rests = rests_by (world (site_after s es)) _ c all.runs.machine (controller_at (world (site_after s es)) c).outstanding
-          (controller_at (world (site_after s es)) c).last (controller_at (world (site_after s es)) c).told e ended g.lone.moment;
+      machine = r.machine;
+      there = r.there;
+      kept = r.goes.lone.kept;
+      well = at.0.0;
+      tabled = at.0.1;
+      settled = at.0.2;
+      run = r.run;
+      up = r.goes.lone.up;
+      rests = at.1;
     }
 
 ends_so : (any : Bool) (e : End) (m : Machine) (gs : List Gear) → SurveyEnds any e m.kept m.heard gs → SurveyEndsWell e m gs
@@ -387,39 +146,28 @@ ends_so any GaveUp m gs well = well
 one_machine : (x y : Machine) → Some x ≡ Some y → x ≡ y
 one_machine x y e = cc
 
-pub ends : (s : SiteState) (c : ℕ) (es : List Event) (e : End) → SurveysAlone s c → SurveyRounds s c es → HasEnded (site_after s es) c e
-    → IsSurveyDone (site_after s es) c e
-ends s c es e a rounds ended m there =
-    let by = ended_by true s c es e a (unsettled s c) rounds ended in
-    subst (λ n. SurveyEndsWell e n (world (site_after s es)).gear) (one_machine by.machine m (sym by.there ∙ there))
-    (ends_so true e by.machine (world (site_after s es)).gear by.well)
+pub ends : (any : Bool) (s after : SiteState) (c : ℕ) (e : End) → EndsBy any s after c e → IsSurveyDone after c e
+ends any s after c e by m there = subst (λ n. SurveyEndsWell e n (world after).gear) (one_machine by.machine m (sym by.there ∙ there))
+    (ends_so any e by.machine (world after).gear by.well)
 
 -- with settled records each address of the block is taken
-pub ends_taken : (s : SiteState) (c : ℕ) (es : List Event) → SurveysAlone s c → IsSettledAt s c → SurveyRounds s c es
-    → HasEnded (site_after s es) c BlockFull → IsAllTaken (site_after s es) c
-ends_taken s c es a settled rounds ended m there =
-    let by = ended_by false s c es BlockFull a (λ e. settled) rounds ended in
-    subst IsBlockTaken (one_machine by.machine m (sym by.there ∙ there)) (go by.machine by.well) where
-      go : (n : Machine) → SurveyEnds false BlockFull n.kept n.heard (world (site_after s es)).gear → IsBlockTaken n
+pub ends_taken : (s after : SiteState) (c : ℕ) (e : End) → EndsBy false s after c e → e ≡ BlockFull → IsAllTaken after c
+ends_taken s after c e by full m there =
+    subst IsBlockTaken (one_machine by.machine m (sym by.there ∙ there))
+    (go by.machine (subst (λ x. SurveyEnds false x by.machine.kept by.machine.heard (world after).gear) full by.well)) where
+      go : (n : Machine) → SurveyEnds false BlockFull n.kept n.heard (world after).gear → IsBlockTaken n
       go n (inl taken) = taken
       go n (inr other) = absurd (let never : false ≡ true = other.0 in cc)
 
-pub tabled : (s : SiteState) (c : ℕ) (es : List Event) (e : End) → SurveysAlone s c → SurveyRounds s c es → HasEnded (site_after s es) c e
-    → IsSurveyTabled s (site_after s es) c
-tabled s c es e a rounds ended g short in_row small is =
-    let by = ended_by true s c es e a (unsettled s c) rounds ended in go by (by.tabled g short in_row is) where
-      go : (by : EndsBy true s (site_after s es) c e) → ((gear_of (unseen (world s).gear) g).short ≡ Some short)
-          ⊎ Has by.machine.kept.enrolled (short, (gear_of (world (site_after s es)).gear g).random)
-          → Has (controller_at (world (site_after s es)) c).records.enrolled (short, (gear_of (world (site_after s es)).gear g).random)
-          ⊎ (((gear_of (world s).gear g).short ≡ Some short) × IsUnseen (gear_of (world s).gear g))
-      go by (inr has) = inl (subst (λ k. Has k.enrolled (short, (gear_of (world (site_after s es)).gear g).random)) by.kept has)
-      go by (inl had) = let was = unseen_was (world s).gear g short had in inr (was.0, passed was.1) where
-        passed : IsPassed (gear_of (world s).gear g) short → IsUnseen (gear_of (world s).gear g)
-        passed (inl off) = inl off
-        passed (inr (inl mask)) = inr mask
-        passed (inr (inr large)) = absurd (omega (arith, small, large))
+pub tabled : (any : Bool) (s after : SiteState) (c : ℕ) (e : End) → EndsBy any s after c e → NamesAll true s (table_at after c) after
+tabled any s after c e by g short in_row small is = go (by.tabled g short in_row is) where
+  passed : IsPassed (gear_of (world s).gear g) short → IsUnseen (gear_of (world s).gear g)
+  passed (inl off) = inl off
+  passed (inr (inl mask)) = inr mask
+  passed (inr (inr large)) = absurd (omega (arith, small, large))
 
-pub settled : (s : SiteState) (c : ℕ) (es : List Event) (e : End) → SurveysAlone s c → IsSettledAt s c → SurveyRounds s c es
-    → HasEnded (site_after s es) c e → IsSettledAt (site_after s es) c
-settled s c es e a before rounds ended =
-    let by = ended_by false s c es e a (λ f. before) rounds ended in subst IsSettled by.kept (by.settled refl)
+  go : ((gear_of (unseen (world s).gear) g).short ≡ Some short) ⊎ Has by.machine.kept.enrolled (short, (gear_of (world after).gear g).random)
+      → Has (table_at after c) (short, (gear_of (world after).gear g).random)
+      ⊎ (((gear_of (world s).gear g).short ≡ Some short) × IsUnseen (gear_of (world s).gear g))
+  go (inr has) = inl (subst (λ k. Has k.enrolled (short, (gear_of (world after).gear g).random)) by.kept has)
+  go (inl had) = let was = unseen_was (world s).gear g short had in inr (was.0, passed was.1)

@@ -1,5 +1,4 @@
-use Rattle.std.proofs.Common.{◌≡◌, ℕ, ◌-◌, ◌+◌, ◌*◌, ◌<◌, ◌≤◌, inl, inr, Bool, true, false, suc, List, [], ◌∷◌, ◌++◌, refl, sym, ap, subst, ◌∙◌, arith}
-use Rattle.std.proofs.Common.{length}
+use Rattle.std.proofs.Common.{◌≡◌, ℕ, ◌-◌, ◌+◌, ◌*◌, ◌<◌, ◌≤◌, inl, inr, Bool, true, false, suc, List, [], ◌∷◌, ◌++◌, refl, sym, ap, subst, ◌∙◌, arith, length}
 use Rattle.std.proofs.Common.{Option, Some, None}
 use Rattle.std.specs.Prelude.{◌==◌, if◌then◌else◌}
 use Rattle.dali_frame.specs.Priority.{LATER}
@@ -10,15 +9,13 @@ use Rattle.dali_gear.specs.declared.row.Reach.TheVariants.{Everyone}
 use Rattle.dali_gear.specs.Gear.{Gear}
 use Rattle.dali_gear.specs.Row.{row_after, answers_of, heard_of}
 use Rattle.dali_controller.specs.declared.shorts.Shorts.{Shorts}
-use Rattle.dali_script.specs.Records.{Kept}
+use Rattle.dali_script.specs.Records.{Kept, Assignment, Has, IsKept}
 use Rattle.dali_search.specs.Ascending.{Ascent}
 use Rattle.dali_frame.specs.declared.numbers.SearchAddress.{SearchAddress}
-use Rattle.dali_arbiter.specs.declared.request.Request.{Request}
 use Rattle.dali_arbiter.specs.Arbiter.{next}
 use Rattle.dali_script.specs.declared.finding.Finding.{Finding}
 use Rattle.dali_script.specs.declared.records.Record.{Record}
 use Rattle.dali_script.specs.declared.records.Record.TheVariants.{Reserve, Enrol, Release}
-use Rattle.dali_script.specs.Records.{Assignment, Has, IsKept}
 use Rattle.dali_script.specs.Findings.{assigned, search_of, asked_of, found_by, later, finding_of}
 use Rattle.dali_script.specs.Scripts.{Lawful, IsLawful}
 use Rattle.dali_script.specs.declared.stage.Stage.{Stage}
@@ -37,10 +34,10 @@ use Rattle.dali_controller.specs.declared.way.Way.{Way}
 use Rattle.dali_controller.specs.Machine.{Machine, machine_heard, machine_committed, machine_surveying, machine_told, silent_after, heard_after, asked_after}
 use Rattle.dali_controller.specs.Machine.{opened_after, woken_after}
 use Rattle.dali_controller.specs.Next.{next_course, begins_at, at_rest, beginning}
-use Rattle.dali_controller.specs.Orders.{IsGiven, Contradicts, machine_ordered, machine_after}
+use Rattle.dali_controller.specs.Orders.{Contradicts, machine_ordered, machine_after}
 use Rattle.dali_controller.specs.Whole.{IsWhole}
 use Rattle.dali_controller.proofs.Given as given
-use Rattle.dali_controller.proofs.Given.{IsGivenBy, given_by, IsNoEnrolment}
+use Rattle.dali_controller.proofs.Given.{IsGivenBy, IsNoEnrolment}
 use Rattle.dali_events.specs.declared.event.Event.TheVariants as event
 use Rattle.dali_events.specs.World.{World, Controller, controller_at}
 use Rattle.dali_events.specs.Happens.{happens, entry, trace_running}
@@ -49,15 +46,12 @@ use Rattle.dali_events.specs.Laws.{FindingsAgree, HasFound}
 use Rattle.dali_events.proofs.Invariant.Sending.{lawful_of}
 use Rattle.dali_events.proofs.Search.Leaving.{SameCore}
 use Rattle.dali_standing.specs.Seats.{IsFound, informed_by}
-use Rattle.dali_progress.specs.Surveys.{Surveys, IsSettled}
+use Rattle.dali_progress.specs.Rounds.{IsSettled, Succeeds}
 use Rattle.dali_controller.specs.Shorts.{has_short}
 use Rattle.dali_events.specs.Promise.{KeepsPromiseNow}
-use Rattle.dali_progress.proofs.Lone.{IsLone, Moment, IsDueOf, due_of, Addresses, heard_kept, acted_there, sent_there, acted_last, acted_told, lone_acted}
-use Rattle.dali_progress.proofs.Lone.{lone_next, lone_sent}
-use Rattle.dali_progress.proofs.Lone.{sent_last}
+use Rattle.dali_progress.proofs.Lone.{IsLone, Moment, IsDueOf, due_of, heard_kept, acted_there, sent_there, lone_acted, lone_sent, acts_by}
 use Rattle.dali_progress.proofs.Frames.{Seeks}
-use Rattle.dali_progress.proofs.Turns.{never_eight, with_kept}
-use Rattle.dali_progress.proofs.Goes.{not_free, no_tries, addresses_by, put_no_enrolment, IsKnown, taken_of}
+use Rattle.dali_progress.proofs.Both.{never_eight, with_kept, not_free, no_tries, addresses_by, put_no_enrolment, IsKnown, taken_of}
 use Rattle.dali_progress.proofs.Survey.Drawn.{AreNumbered, apart_drawn}
 use Rattle.dali_progress.proofs.Survey.Queried.{OneShort, IsTrue, below_none}
 use Rattle.dali_progress.proofs.Survey.Stands.{Begun, wake_frames, SurveyAt, SurveyStands}
@@ -66,6 +60,7 @@ use Rattle.dali_progress.proofs.Survey.Begins.{Calm, SurveyCommits, IsNext, asks
 use Rattle.dali_progress.proofs.Survey.Turns.{IsUncontradicted}
 use Rattle.dali_progress.proofs.Survey.Hunting.{turned}
 use Rattle.dali_progress.proofs.Survey.Kept.{committed, begins_less, enrol_slack, enrol_one, survey_slack}
+use Rattle.dali_progress.proofs.Along.{Measure, Goes, slack_at}
 
 -- A SURVEY GOES ON, event by event.
 
@@ -92,38 +87,22 @@ Holds start m (Some (Put p f)) (Some (input.Heard h)) gs left = Hears start m f 
 Holds start m (Some o) None gs left = IsNext start m o gs left
 Holds start m _ _ gs left = ⊥
 
-pub record Goes (start : Begun) (w : World) (q c : ℕ) (m : Machine) (left : ℕ) : Type 0 where
-  pub lone : IsLone w q c m
-  pub found : IsFound (controller_at w c) m
-  pub holds : Holds start m (controller_at w c).last (controller_at w c).told w.gear left
-
 -- ---------------------------------------------------------------- what it found
 
 -- the finding of its transaction is that of the controller
 found_told : (w : World) (q c : ℕ) (m : Machine) (out : Option Record) (k : Controller) (last : Option Order) (told : Option Input) (i : Input)
-    → Moment w q c m out last told → IsDueOf last told i → Surveys i → k.told ≡ told → IsFound k m
+    → Moment w q c m out last told → IsDueOf last told i → Succeeds true i → k.told ≡ told → IsFound k m
     → later k.finding (finding_of (machine_told m i).trace) ≡ k.finding
-found_told w q c m out k last told (input.Heard h) at due surveys is found =
-    subst (λ t. later k.finding (finding_of (informed_by m t).trace) ≡ k.finding) (is ∙ due) found
-found_told w q c m out k last told input.Destroyed at due surveys is found =
-    subst (λ t. later k.finding (finding_of (informed_by m t).trace) ≡ k.finding) (is ∙ due) found
-found_told w q c m out k last told input.Lapsed at due surveys is found =
-    subst (λ t. later k.finding (finding_of (informed_by m t).trace) ≡ k.finding) (is ∙ due) found
-found_told w q c m out k last told input.Survey at due surveys is found =
-    subst (λ t. later k.finding (finding_of (informed_by m t).trace) ≡ k.finding) (is ∙ due) found
-found_told w q c m out k last told input.Start at due surveys is found = absurd surveys
-found_told w q c m out k last told input.CommitFailed at due surveys is found = absurd surveys
-found_told w q c m out k (Some (Commit x)) None input.Committed at due surveys is found =
-    ap (λ t. later k.finding (finding_of t)) (stays (record_ordered m.last))
-    ∙ subst (λ t. later k.finding (finding_of (informed_by m t).trace) ≡ k.finding) is found where
-      stays : (x : Option Record) → (machine_committed m x).trace ≡ m.trace
-      stays None = refl
-      stays (Some x) = refl
-found_told w q c m out k (Some (Commit x)) (Some i) input.Committed at due surveys is found = absurd at
-found_told w q c m out k (Some (Put p f)) told input.Committed at due surveys is found = absurd due
-found_told w q c m out k (Some (Done e)) told input.Committed at due surveys is found = absurd due
-found_told w q c m out k (Some (Halt why)) told input.Committed at due surveys is found = absurd due
-found_told w q c m out k None told input.Committed at due surveys is found = absurd due
+found_told w q c m out k last told i at due surveys is found =
+    acts_by true (λ l t j. k.told ≡ t → later k.finding (finding_of (machine_told m j).trace) ≡ k.finding) so (λ p f h. so)
+    (λ x is. ap (λ t. later k.finding (finding_of t)) (stays (record_ordered m.last)) ∙ so is) w q c m out last told i at due surveys is
+  where
+    so : {t : Option Input} → k.told ≡ t → later k.finding (finding_of (informed_by m t).trace) ≡ k.finding
+    so is = subst (λ t. later k.finding (finding_of (informed_by m t).trace) ≡ k.finding) is found
+
+    stays : (x : Option Record) → (machine_committed m x).trace ≡ m.trace
+    stays None = refl
+    stays (Some x) = refl
 
 ordered_found : (found : Option Finding) (t : Machine) (o : Order) → later found (finding_of t.trace) ≡ found
     → later found (finding_of (machine_ordered t o).trace) ≡ found
@@ -177,10 +156,10 @@ commit_slack any (Release a r) told = refl
 no_enrolment_yet : IsNoEnrolment None
 no_enrolment_yet b n e = cc
 
-survey_acts : (start : Begun) (m : Machine) (o : Order) (gs : List Gear) (left : ℕ) (told : Option Input) → m.last ≡ None
+first_acts : (start : Begun) (m : Machine) (o : Order) (gs : List Gear) (left : ℕ) (told : Option Input) → m.last ≡ None
     → IsGivenBy (machine_surveying m) o → OneShort gs → IsTrue m.kept.enrolled gs → IsUnsurveyed start m gs left
     → ActsTo start (machine_ordered (machine_surveying m) o) o gs left None told
-survey_acts start m o gs left told last g one holds v =
+first_acts start m o gs left told last g one holds v =
     let at : stage_of m.trace ≡ stage.Free = ap stage_of v.free ∙ stage_none in
     let begins : o ≡ beginning (next_course (machine_surveying m)) =
     given.begins_free (machine_surveying m) o g v.free (subst IsNoEnrolment (sym last) no_enrolment_yet) (never_eight m.tries v.calm.tries) in (
@@ -223,78 +202,28 @@ kept_acts start m x o gs left told is g kept one holds free commits =
     same = ap (λ l. machine_committed m (record_ordered l)) is
 
 acts : (start : Begun) (w : World) (q c : ℕ) (m : Machine) (out : Option Record) (last : Option Order) (told : Option Input) (i : Input) (o : Order)
-    (left : ℕ) → Moment w q c m out last told → m.last ≡ last → IsDueOf last told i → Surveys i → IsGivenBy (machine_told m i) o → IsKept m.kept
+    (left : ℕ) → Moment w q c m out last told → m.last ≡ last → IsDueOf last told i → Succeeds true i → IsGivenBy (machine_told m i) o → IsKept m.kept
     → AreNumbered w.gear → OneShort w.gear → IsTrue (machine_told m i).kept.enrolled w.gear
     → ((b : Answer) → i ≡ input.Heard b → IsUncontradicted (machine_told m i)) → IsWhole (machine_after m i o)
     → Holds start m last told w.gear left → ActsTo start (machine_after m i o) o w.gear left last told
-acts start w q c m out None (Some input.Start) input.Survey o left at is due surveys g kept numbered one true_table agreed whole holds =
-    survey_acts start m o w.gear left (Some input.Start) is g one true_table holds
-acts start w q c m out (Some (Put p f)) (Some (input.Heard h)) (input.Heard a) o left at is due surveys g kept numbered one true_table agreed whole holds =
-    let same : h ≡ a = cc in
-    subst (λ b. ActsTo start (machine_after m (input.Heard a) o) o w.gear left (Some (Put p f)) (Some (input.Heard b))) (sym same)
-    (heard_acts start m p f a o w.gear left is g kept numbered one true_table (agreed a refl) whole (subst (λ b. Hears start m f b w.gear left) same holds))
-acts start w q c m out (Some (Commit x)) None input.Committed o left at is due surveys g kept numbered one true_table agreed whole holds =
-    kept_acts start m x o w.gear left None is g kept one true_table at.1 holds
-acts start w q c m out last told input.CommitFailed o left at is due surveys g kept numbered one true_table agreed whole holds = absurd surveys
-acts start w q c m out last told input.Start o left at is due surveys g kept numbered one true_table agreed whole holds = absurd surveys
-acts start w q c m out None told input.Committed o left at is due surveys g kept numbered one true_table agreed whole holds = absurd due
-acts start w q c m out (Some (Put p f)) told input.Committed o left at is due surveys g kept numbered one true_table agreed whole holds = absurd due
-acts start w q c m out (Some (Done e)) told input.Committed o left at is due surveys g kept numbered one true_table agreed whole holds = absurd due
-acts start w q c m out (Some (Halt why)) told input.Committed o left at is due surveys g kept numbered one true_table agreed whole holds = absurd due
-acts start w q c m out None None i o left at is due surveys g kept numbered one true_table agreed whole holds = absurd at
-acts start w q c m out None (Some input.Start) i o left at is due surveys g kept numbered one true_table agreed whole holds = absurd (cc)
-acts start w q c m out None (Some j) i o left at is due surveys g kept numbered one true_table agreed whole holds = absurd at
-acts start w q c m out (Some (Put p f)) (Some (input.Heard h)) i o left at is due surveys g kept numbered one true_table agreed whole holds = absurd (cc)
-acts start w q c m out (Some (Put p f)) (Some j) i o left at is due surveys g kept numbered one true_table agreed whole holds = absurd at
-acts start w q c m out (Some l) (Some j) i o left at is due surveys g kept numbered one true_table agreed whole holds = absurd at
-acts start w q c m out (Some l) None i o left at is due surveys g kept numbered one true_table agreed whole holds = absurd (cc)
+acts start w q c m out last told i o left at is due surveys g kept numbered one true_table agreed whole holds =
+    acts_by true (λ l t j. Moment w q c m out l t → m.last ≡ l → IsGivenBy (machine_told m j) o → IsTrue (machine_told m j).kept.enrolled w.gear
+    → ((b : Answer) → j ≡ input.Heard b → IsUncontradicted (machine_told m j)) → IsWhole (machine_after m j o) → Holds start m l t w.gear left
+    → ActsTo start (machine_after m j o) o w.gear left l t)
+    (λ at is g true_table agreed whole holds. first_acts start m o w.gear left (Some input.Start) is g one true_table holds)
+    (λ p f h at is g true_table agreed whole holds. heard_acts start m p f h o w.gear left is g kept numbered one true_table (agreed h refl) whole holds)
+    (λ x at is g true_table agreed whole holds. kept_acts start m x o w.gear left None is g kept one true_table at.1 holds)
+    w q c m out last told i at due surveys at is g true_table agreed whole holds
 
 -- ---------------------------------------------------------------- one event more of the controller
 
-moment_surveys : (w : World) (q c : ℕ) (m : Machine) (out : Option Record) (last : Option Order) (told : Option Input) → Moment w q c m out last told
-    → told ≡ Some input.Start → Moment w q c (machine_surveying m) out last told
-moment_surveys w q c m out None (Some input.Start) at is = at
-moment_surveys w q c m out last None at is = absurd (cc)
-moment_surveys w q c m out None (Some j) at is = absurd at
-moment_surveys w q c m out (Some (Put p f)) (Some (input.Heard h)) at is = absurd (cc)
-moment_surveys w q c m out (Some o) (Some j) at is = absurd at
-
--- a survey is a start of the machine that surveys
-lone_acts : (w : World) (q c : ℕ) (m : Machine) (i : Input) (o : Order) → IsLone w q c m → Surveys i → Addresses (Some o) → Allowed w (event.Acted c i o)
-    → IsLone (happens w (event.Acted c i o)) q c (machine_after m i o)
-lone_acts w q c m input.Survey o l surveys addresses here =
-    lone_acted w q c (machine_surveying m) input.Start o
-    (record {
-      up = l.up;
-      kept = l.kept;
-      last = l.last;
-      addresses = l.addresses;
-      moment = moment_surveys w q c m (controller_at w c).outstanding (controller_at w c).last (controller_at w c).told l.moment here.due;
-    }) tt addresses (record { up = here.up; due = here.due; order = here.order })
-lone_acts w q c m input.Start o l surveys addresses here = absurd surveys
-lone_acts w q c m input.CommitFailed o l surveys addresses here = absurd surveys
-lone_acts w q c m (input.Heard h) o l surveys addresses here = lone_acted w q c m (input.Heard h) o l tt addresses here
-lone_acts w q c m input.Destroyed o l surveys addresses here = lone_acted w q c m input.Destroyed o l tt addresses here
-lone_acts w q c m input.Lapsed o l surveys addresses here = lone_acted w q c m input.Lapsed o l tt addresses here
-lone_acts w q c m input.Committed o l surveys addresses here = lone_acted w q c m input.Committed o l tt addresses here
-
-abbrev pub slack_now : Bool → World → ℕ → ℕ
-slack_now any w c = survey_slack any (controller_at w c).last (controller_at w c).told
-
-pub not_failed : (i : Input) → Surveys i → i ≡ input.CommitFailed → ⊥
-not_failed i surveys e = subst Surveys e surveys
-
 holds_next : (start : Begun) (m : Machine) (o : Order) (gs : List Gear) (left : ℕ) → IsNext start m o gs left → Holds start m (Some o) None gs left
 holds_next start m (Put p f) gs left next = next
-holds_next start m (Commit x) gs left next = next
-holds_next start m (Done e) gs left next = next
-holds_next start m (Halt why) gs left next = next
+holds_next start m _ gs left next = next
 
 pub next_holds : (start : Begun) (m : Machine) (o : Order) (gs : List Gear) (left : ℕ) → Holds start m (Some o) None gs left → IsNext start m o gs left
 next_holds start m (Put p f) gs left next = next
-next_holds start m (Commit x) gs left next = next
-next_holds start m (Done e) gs left next = next
-next_holds start m (Halt why) gs left next = next
+next_holds start m _ gs left next = next
 
 -- what is known of the world of a run
 pub record IsSurveyed (w : World) (c : ℕ) : Type 0 where
@@ -304,25 +233,28 @@ pub record IsSurveyed (w : World) (c : ℕ) : Type 0 where
   pub holds : IsTrue (controller_at w c).records.enrolled w.gear
   pub agree : FindingsAgree w
 
-pub goes_acted : (start : Begun) (w : World) (q c : ℕ) (m : Machine) (i : Input) (o : Order) (left : ℕ) → Goes start w q c m left → Surveys i
-    → Allowed w (event.Acted c i o) → IsGiven m i o → IsWhole (machine_after m i o) → IsSurveyed w c → KeepsPromiseNow (happens w (event.Acted c i o))
-    → Goes start (happens w (event.Acted c i o)) q c (machine_after m i o) left
-    × (slack_now start.any (happens w (event.Acted c i o)) c + 1 ≤ slack_now start.any w c)
-goes_acted start w q c m i o left goes surveys here given whole known promise = (
-  record {
-    lone = lone;
-    found = subst (λ k. IsFound k (machine_after m i o)) (sym (acted_there w c i o goes.lone.up))
-        (ordered_found (controller_at w c).finding (machine_told m i) o found);
-    holds = rw (acted_last w c i o goes.lone.up, acted_told w c i o goes.lone.up)
-        (holds_next start (machine_after m i o) o w.gear left out.0);
-  },
-  rw (acted_last w c i o goes.lone.up, acted_told w c i o goes.lone.up) out.1,
-) where
-  by : IsGivenBy (machine_told m i) o
-  by = given_by m i o (not_failed i surveys) given
+-- events before the end, at the most, of so many frames
+abbrev pub events_of : Bool → ℕ → ℕ
+events_of true left = 4 * left
+events_of false left = 3 * left
 
+-- that it goes on, and with how many frames left
+abbrev pub of_survey : Begun → Measure
+of_survey start = record { by = true; known = IsFound; holds = Holds start; slack = survey_slack start.any; events = events_of start.any }
+
+pub survey_acts : (start : Begun) (w : World) (q c : ℕ) (m : Machine) (i : Input) (o : Order) (left : ℕ) → Goes (of_survey start) w q c m left
+    → Succeeds true i → Allowed w (event.Acted c i o) → IsGivenBy (machine_told m i) o → IsWhole (machine_after m i o) → IsSurveyed w c
+    → KeepsPromiseNow (happens w (event.Acted c i o))
+    → IsFound (controller_at (happens w (event.Acted c i o)) c) (machine_after m i o) × Holds start (machine_after m i o) (Some o) None w.gear left
+    × (survey_slack start.any (Some o) None + 1 ≤ slack_at (of_survey start) w c)
+survey_acts start w q c m i o left goes surveys here by whole known promise = (
+  subst (λ k. IsFound k (machine_after m i o)) (sym (acted_there w c i o goes.lone.up))
+      (ordered_found (controller_at w c).finding (machine_told m i) o found),
+  holds_next start (machine_after m i o) o w.gear left out.0,
+  out.1,
+) where
   lone : IsLone (happens w (event.Acted c i o)) q c (machine_after m i o)
-  lone = lone_acts w q c m i o goes.lone surveys (addresses_by o by.ordered.addressing) here
+  lone = lone_acted true w q c m i o goes.lone surveys (addresses_by o by.ordered.addressing) here
 
   -- its table, with what was kept now
   holds : IsTrue (machine_told m i).kept.enrolled w.gear
@@ -333,7 +265,7 @@ goes_acted start w q c m i o left goes surveys here given whole known promise = 
   found : later (controller_at w c).finding (finding_of (machine_told m i).trace) ≡ (controller_at w c).finding
   found =
       found_told w q c m (controller_at w c).outstanding (controller_at w c) (controller_at w c).last (controller_at w c).told i goes.lone.moment
-      (due_of (controller_at w c) i here.due) surveys refl goes.found
+      (due_of (controller_at w c) i here.due) surveys refl goes.known
 
   agreed : (b : Answer) → i ≡ input.Heard b → IsUncontradicted (machine_told m i)
   agreed b is =
@@ -416,66 +348,33 @@ found_sent w q c m p f h l last untold told running found =
     was : later (controller_at w c).finding (finding_of m.trace) ≡ (controller_at w c).finding
     was = subst (λ t. later (controller_at w c).finding (finding_of (informed_by m t).trace) ≡ (controller_at w c).finding) untold found
 
-pub goes_sent : (start : Begun) (w : World) (q c : ℕ) (m : Machine) (r : Request) (h : Answer) (left : ℕ) → Goes start w q c m left
-    → next w.bus ≡ Some r → Allowed w (event.Sent r.sender r.frame h) → IsKnown w r.sender r.frame h → IsSurveyed w c
-    → h ≡ heard_of (answers_of Everyone (command_of r.frame) 0 w.gear)
-    → (l : ℕ) × (left ≡ suc l) × Goes start (happens w (event.Sent r.sender r.frame h)) q c m l
-goes_sent start w q c m r h left goes is here known surveyed heard =
-    let put = lone_next w q c m r goes.lone is in
-    let at : r.sender ≡ c = put.3 in
-    subst (λ d. Allowed w (event.Sent d r.frame h) → IsKnown w d r.frame h → (l : ℕ) × (left ≡ suc l)
-    × Goes start (happens w (event.Sent d r.frame h)) q c m l) (sym at)
-    (λ here known. go put.0 put.1 put.2 here known) here known
-  where
-    go : (p : ℕ) → m.last ≡ Some (Put p r.frame) → (controller_at w c).told ≡ None → Allowed w (event.Sent c r.frame h) → IsKnown w c r.frame h
-        → (l : ℕ) × (left ≡ suc l) × Goes start (happens w (event.Sent c r.frame h)) q c m l
-    go p last told here known =
-        let lone = lone_sent w q c m p r.frame h goes.lone last told in
-        let holds : IsNext start m (Put p r.frame) w.gear left =
-        next_holds start m (Put p r.frame) w.gear left (rw (sym goes.lone.last ∙ last, told) at goes.holds) in
-        let same : w.trace ≡ m.trace = lone.3 in
-        let taken : IsSurveyTaken (command_of r.frame) w.gear w.left h =
-        record {
-          taken = taken_of w c r.frame h here known heard;
-          one = surveyed.one;
-          numbered = surveyed.numbered;
-          apart = apart_drawn w known.drawn;
-        } in
-        let told_so : IsTold m.kept w.gear =
-        record {
-          kept = subst IsKept (sym goes.lone.kept) surveyed.kept;
-          holds = subst (λ k. IsTrue k.enrolled w.gear) (sym goes.lone.kept) surveyed.holds;
-        } in
-        let sent : SurveySent m.course.purpose m.course.way
-        (stage_of m.trace) m.kept m.heard m.opened m.asked m.course.ascent m.course.number m.course.from start
-        w.gear w.left left (command_of r.frame) h =
-        survey_sent m.course.purpose m.course.way (stage_of m.trace) m.kept m.heard m.opened m.asked m.course.ascent m.course.number m.course.from start w.gear
-        w.left left (command_of r.frame) h holds.0.at holds.1 taken told_so (subst (λ t. Seeks (stage_of t) w.gear) same known.seeks) in
-        let lawful : IsLawful m.trace r.frame = (
-          (controller_at w c).records.block,
-          (controller_at w c).records.reserved,
-          subst (λ t. Lawful (controller_at w c).records.block (controller_at w c).records.reserved t r.frame) lone.2 (lawful_of w c r.frame here.may),
-        ) in (
-          sent.0,
-          sent.1,
-          record {
-            lone = lone.0;
-            found = found_sent w q c m p r.frame h goes.lone last told lone.1 lone.2 goes.found;
-            holds = rw (sent_last w c r.frame h goes.lone.up ∙ sym goes.lone.last ∙ last, lone.1)
-                (record {
-                  stands = stands_heard start m r.frame h w.gear w.left left holds.0 lawful sent;
-                  running = not_free m.trace (entry r.frame h);
-                });
-          },
-        )
-
-pub sent_less : (start : Begun) (w : World) (q c : ℕ) (m : Machine) (r : Request) (h : Answer) (left : ℕ) → Goes start w q c m left
-    → next w.bus ≡ Some r → (slack_now start.any (happens w (event.Sent r.sender r.frame h)) c ≡ enrol_slack start.any + 1) × (slack_now start.any w c ≡ 0)
-sent_less start w q c m r h left goes is =
-    let put = lone_next w q c m r goes.lone is in
-    let last : (controller_at w c).last ≡ Some (Put put.0 r.frame) = sym goes.lone.last ∙ put.1 in
-    let lone = lone_sent w q c m put.0 r.frame h goes.lone put.1 put.2 in (
-      subst (λ d. slack_now start.any (happens w (event.Sent d r.frame h)) c ≡ enrol_slack start.any + 1) (sym put.3)
-          (rw (sent_last w c r.frame h goes.lone.up, lone.1, last) refl),
-      rw (last, put.2) refl,
+pub survey_sends : (start : Begun) (w : World) (q c : ℕ) (m : Machine) (p : ℕ) (f : Forward) (h : Answer) (left : ℕ) → Goes (of_survey start) w q c m left
+    → m.last ≡ Some (Put p f) → (controller_at w c).told ≡ None → Allowed w (event.Sent c f h) → IsKnown w c f h → IsSurveyed w c
+    → h ≡ heard_of (answers_of Everyone (command_of f) 0 w.gear)
+    → (l : ℕ) × (left ≡ suc l) × IsFound (controller_at (happens w (event.Sent c f h)) c) m
+    × Hears start m f h (row_after Everyone (command_of f) 0 w.gear w.left) l
+survey_sends start w q c m p f h left goes last told here known surveyed heard =
+    let lone = lone_sent w q c m p f h goes.lone last told in
+    let holds : IsNext start m (Put p f) w.gear left = next_holds start m (Put p f) w.gear left (rw (sym goes.lone.last ∙ last, told) at goes.holds) in
+    let same : w.trace ≡ m.trace = lone.3 in
+    let taken : IsSurveyTaken (command_of f) w.gear w.left h =
+    record { taken = taken_of w c f h here known heard; one = surveyed.one; numbered = surveyed.numbered; apart = apart_drawn w known.drawn } in
+    let told_so : IsTold m.kept w.gear =
+    record {
+      kept = subst IsKept (sym goes.lone.kept) surveyed.kept;
+      holds = subst (λ k. IsTrue k.enrolled w.gear) (sym goes.lone.kept) surveyed.holds;
+    } in
+    let sent : SurveySent m.course.purpose m.course.way
+    (stage_of m.trace) m.kept m.heard m.opened m.asked m.course.ascent m.course.number m.course.from start w.gear w.left left (command_of f) h =
+    survey_sent m.course.purpose m.course.way (stage_of m.trace) m.kept m.heard m.opened m.asked m.course.ascent m.course.number m.course.from start w.gear
+    w.left left (command_of f) h holds.0.at holds.1 taken told_so (subst (λ t. Seeks (stage_of t) w.gear) same known.seeks) in
+    let lawful : IsLawful m.trace f = (
+      (controller_at w c).records.block,
+      (controller_at w c).records.reserved,
+      subst (λ t. Lawful (controller_at w c).records.block (controller_at w c).records.reserved t f) lone.2 (lawful_of w c f here.may),
+    ) in (
+      sent.0,
+      sent.1,
+      found_sent w q c m p f h goes.lone last told lone.1 lone.2 goes.known,
+      record { stands = stands_heard start m f h w.gear w.left left holds.0 lawful sent; running = not_free m.trace (entry f h) },
     )

@@ -1,5 +1,5 @@
-use Rattle.std.proofs.Common.{◌≡◌, ℕ, ◌+◌, ◌-◌, ◌*◌, ◌<◌, ◌≤◌, ◌⊎◌, inl, inr, Bool, true, false, suc, List, [], ◌∷◌, refl, sym, ap, subst, ◌∙◌, arith}
-use Rattle.std.proofs.Common.{Option, Some, None}
+use Rattle.std.proofs.Common.{◌≡◌, ℕ, ◌+◌, ◌-◌, ◌*◌, ◌<◌, ◌≤◌, ◌⊎◌, inl, inr, Bool, true, false, suc, List, [], ◌∷◌, refl, sym, ap, subst, ◌∙◌, arith, Option}
+use Rattle.std.proofs.Common.{Some, None}
 use Rattle.std.specs.Prelude.{◌==◌, ◌&&◌, nat_lt, if◌then◌else◌, is_some, MatchOption}
 use Rattle.std.specs.List.{count_by}
 use Rattle.dali_frame.specs.declared.frames.Answer.{Answer}
@@ -28,16 +28,14 @@ use Rattle.dali_search.specs.Ascending.{Ascent, asked_next, ascended, leads_to}
 use Rattle.dali_search.specs.Questions as questions
 use Rattle.dali_search.specs.Questions.{Asking, asking_next, room_left}
 use Rattle.dali_controller.specs.declared.purpose.Purpose.{Purpose}
-use Rattle.dali_controller.specs.declared.purpose.Purpose.TheVariants.{Opening, Probing, Hunting, Visiting, Resolving, Closing, Waking}
-use Rattle.dali_controller.specs.declared.purpose.Purpose.TheVariants.{Asking as Sweeping}
+use Rattle.dali_controller.specs.declared.purpose.Purpose.TheVariants.{Opening, Probing, Hunting, Visiting, Resolving, Closing, Waking, Asking as Sweeping}
 use Rattle.dali_controller.specs.declared.way.Way.{Way}
 use Rattle.dali_controller.specs.declared.way.Way.TheVariants.{Fresh, Surveying, Drawing}
-use Rattle.dali_controller.specs.Course.{Course, is_yes, closing_of, address_for, least_open, is_open, is_anothers, drawing}
-use Rattle.dali_controller.specs.Course.{sought, byte_to_send, bytes_to_send, hunting, hunted, visiting}
-use Rattle.dali_controller.specs.Course.{closing as closing_by}
+use Rattle.dali_controller.specs.Course.{Course, is_yes, closing_of, address_for, least_open, is_open, is_anothers, drawing, sought, byte_to_send}
+use Rattle.dali_controller.specs.Course.{bytes_to_send, hunting, hunted, visiting, closing as closing_by}
 use Rattle.dali_controller.specs.Machine.{Machine, is_withheld, is_withheld_by}
-use Rattle.dali_controller.specs.Next.{next_course, begins_at, beginning, course_by, draw_or_close, draws, draws_by, has_open}
-use Rattle.dali_controller.specs.Next.{hunted_to, is_hunting, question, course_on}
+use Rattle.dali_controller.specs.Next.{next_course, begins_at, beginning, course_by, draw_or_close, draws, draws_by, has_open, hunted_to, is_hunting, question}
+use Rattle.dali_controller.specs.Next.{course_on}
 use Rattle.dali_controller.specs.Orders.{machine_ordered, AfterFinding, AfterMaskBy, AfterReserved}
 use Rattle.dali_controller.specs.Whole.{IsWhole}
 use Rattle.dali_controller.proofs.Given as given
@@ -46,14 +44,14 @@ use Rattle.dali_events.specs.Searching.{HasShort}
 use Rattle.dali_events.specs.Wanted.{IsOpened, NoneNamed, gear_of, is_wanted, wants, is_bare, OfPowered}
 use Rattle.dali_events.proofs.Search.Wanted as wanted
 use Rattle.dali_events.proofs.Search.Opened as opening
-use Rattle.dali_progress.specs.Rounds.{AreTabled}
-use Rattle.dali_progress.specs.Surveys.{NoneButUndrawn, IsSettled}
+use Rattle.dali_progress.specs.Ends.{AreTabled, NoneButUndrawn}
+use Rattle.dali_progress.specs.Rounds.{IsSettled}
 use Rattle.dali_script.proofs.Lists.{has_map}
 use Rattle.dali_script.proofs.Members.{same_member}
 use Rattle.dali_progress.proofs.Stands.{to_come, search_frames, Opens, VisitFrames, Visits, Leaves, Sends}
 use Rattle.dali_progress.proofs.Frames.{value_sought}
 use Rattle.dali_progress.proofs.Tables.{tabled_over}
-use Rattle.dali_progress.proofs.Turns.{never_eight, has_address, drawn_of}
+use Rattle.dali_progress.proofs.Both.{never_eight, has_address, drawn_number}
 use Rattle.dali_progress.proofs.Accounted.{surveyed_mask, open_is}
 use Rattle.dali_progress.proofs.Survey.Drawn.{those_drawn, is_undrawn, is_lost, AreNumbered, bare_split, drawn_tabled, kept_at, drawn_length, undrawn_random}
 use Rattle.dali_progress.proofs.Survey.Drawn.{count_nothing}
@@ -492,7 +490,7 @@ unnamed_turns start t o r gs left g st kept purpose is v =
           reached = v.at.2.reached ∙ ap Found (sym same);
           least = λ k has. subst (λ m. m ≤ k) (sym same) (v.at.2.least k has);
           wanted = subst (λ m. wants (searched_by t.course.way gs) m ≡ true) (sym same) w.visited.wanted;
-          drawn = subst (λ m. m < MASK24) (sym same) (drawn_of t.course.number w.visited.number w.visited.number_is w.visited.drawn);
+          drawn = subst (λ m. m < MASK24) (sym same) (drawn_number t.course.number w.visited.number w.visited.number_is w.visited.drawn);
           more = w.more;
           count = w.visited.count;
           tabled = v.tabled;
@@ -570,7 +568,7 @@ withdrawn_turns start t o r a gs left g st kept purpose is v agreed = go o g (g.
   up = record {
     is = v.at.2.is;
     reached = v.at.2.reached ∙ ap Found same;
-    drawn = subst (λ m. m < MASK24) same (drawn_of t.course.number w.number w.number_is w.drawn);
+    drawn = subst (λ m. m < MASK24) same (drawn_number t.course.number w.number w.number_is w.drawn);
     past = λ k has. subst (λ m. m < k) same (v.at.2.least k has);
   }
 

@@ -1,5 +1,5 @@
-use Rattle.std.proofs.Common.{◌≡◌, ℕ, ◌+◌, ◌-◌, ◌*◌, ◌<◌, ◌≤◌, ◌⊎◌, inl, inr, Bool, true, false, List, [], ◌∷◌, ◌++◌, refl, sym, ap, subst, ◌∙◌, arith}
-use Rattle.std.proofs.Common.{Option, Some, None}
+use Rattle.std.proofs.Common.{◌≡◌, ℕ, ◌+◌, ◌-◌, ◌*◌, ◌<◌, ◌≤◌, ◌⊎◌, inl, inr, Bool, true, false, List, [], ◌∷◌, ◌++◌, refl, sym, ap, subst, ◌∙◌, arith, Option}
+use Rattle.std.proofs.Common.{Some, None}
 use Rattle.std.specs.List.{count_by}
 use Rattle.dali_frame.specs.Random.{value_of}
 use Rattle.dali_gear.specs.Gear.{Gear}
@@ -25,12 +25,11 @@ use Rattle.dali_events.specs.Wanted.{is_wanted, wants}
 use Rattle.dali_progress.proofs.Stands.{search_frames}
 use Rattle.dali_progress.proofs.Frames.{value_sought}
 use Rattle.dali_progress.proofs.Tables.{tabled_over}
-use Rattle.dali_progress.proofs.Turns.{never_eight, no_enrolment, has_random, entry_last, with_kept}
+use Rattle.dali_progress.proofs.Both.{never_eight, no_enrolment, has_random, entry_last, with_kept}
 use Rattle.dali_progress.proofs.Survey.Queried.{OneShort, IsTrue, unseen}
 use Rattle.dali_progress.proofs.Survey.Stands.{Begun, wake_frames, searched_by, frames_after}
 use Rattle.dali_progress.proofs.Survey.Begins.{Calm, EnrolsSwept, ReleasesSwept, EnrolsHunted, ReservesHunted, SurveyCommits, IsNext, first_by, asks_on}
-use Rattle.dali_progress.proofs.Survey.Begins.{hunts_on}
-use Rattle.dali_progress.proofs.Survey.Begins.{own_enrolled, own_reserved}
+use Rattle.dali_progress.proofs.Survey.Begins.{hunts_on, own_enrolled, own_reserved}
 
 -- A RECORD OF A SURVEY IS KEPT, and the next transaction begins.
 

@@ -1,5 +1,4 @@
-use Rattle.std.proofs.Common.{◌≡◌, ℕ, ◌≤◌, ◌⊎◌, inl, inr, Bool, true, false, List, [], ◌∷◌, ◌++◌, refl, sym, ap, subst, ◌∙◌, arith, length}
-use Rattle.std.proofs.Common.{Option, Some, None}
+use Rattle.std.proofs.Common.{◌≡◌, ℕ, ◌≤◌, ◌⊎◌, inl, inr, Bool, true, false, List, [], ◌∷◌, ◌++◌, refl, sym, ap, subst, ◌∙◌, arith, length, Option, Some, None}
 use Rattle.std.specs.Prelude.{if◌then◌else◌, ◌==◌}
 use Rattle.dali_frame.specs.Priority.{FIRST}
 use Rattle.dali_frame.specs.declared.frames.Forward.{Forward}
@@ -33,24 +32,28 @@ use Rattle.dali_controller.specs.declared.purpose.Purpose.{Purpose}
 use Rattle.dali_controller.specs.declared.purpose.Purpose.TheVariants.{Opening, Probing, Hunting, Visiting, Resolving, Closing, Asking, Waking}
 use Rattle.dali_controller.specs.declared.way.Way.{Way}
 use Rattle.dali_controller.specs.declared.way.Way.TheVariants.{Fresh, Surveying, Drawing}
-use Rattle.dali_controller.specs.Course.{Course, going_on, going_on_early, visit_or_opening, ask_or_wake, next_unfinished, next_asked, closing}
-use Rattle.dali_controller.specs.Next.{next_course, begins_at, at_rest, draws, draws_by, draw_or_close, silenced, unanswered, probed_to}
-use Rattle.dali_controller.specs.Course.{searching_first, searching_on, hunted, missed, byte_to_send}
-use Rattle.dali_controller.specs.Next.{asked_once, hunted_to, course_on, goes_on_anew}
+use Rattle.dali_controller.specs.Course.{Course, going_on, going_on_early, visit_or_opening, ask_or_wake, next_unfinished, next_asked, closing, searching_first}
+use Rattle.dali_controller.specs.Course.{searching_on, hunted, missed, byte_to_send}
+use Rattle.dali_controller.specs.Next.{next_course, begins_at, at_rest, draws, draws_by, draw_or_close, silenced, unanswered, probed_to, asked_once, hunted_to}
+use Rattle.dali_controller.specs.Next.{course_on, goes_on_anew}
 use Rattle.dali_progress.proofs.Sweep.Others.{way_on, way_first}
 use Rattle.dali_controller.specs.Machine.{Machine, machine_heard, machine_told, machine_committed, opened_after}
 use Rattle.dali_controller.specs.Orders.{machine_after, machine_ordered, IsAllowed}
-use Rattle.dali_events.specs.World.{World}
+use Rattle.dali_events.specs.World.{World, controller_at}
 use Rattle.dali_events.specs.Happens.{entry}
 use Rattle.dali_standing.specs.Seats.{informed_by}
 use Rattle.dali_events.proofs.Invariant.Takes.{row_length}
-use Rattle.dali_progress.specs.Surveys.{Surveys}
-use Rattle.dali_progress.proofs.Lone.{Moment, IsDueOf}
+use Rattle.dali_progress.proofs.Lone.{Moment, IsDueOf, acts_by, due_of}
 use Rattle.dali_progress.proofs.Stands.{Opens, Sends}
-use Rattle.dali_progress.proofs.Numbers.{left_same, none_apart, enough_left, opening_none, probing_never, visiting_never, closing_never}
+use Rattle.dali_progress.proofs.Both.{left_same, none_apart, enough_left, opening_none, probing_never, visiting_never, closing_never, not_failed}
 use Rattle.dali_progress.proofs.Survey.Stands.{Begun, Hunts, SurveyAt, SurveyStands, searched_by}
 use Rattle.dali_progress.proofs.Survey.Begins.{IsNext}
-use Rattle.dali_progress.proofs.Survey.Goes.{Holds}
+use Rattle.dali_progress.proofs.Survey.Goes.{Holds, Hears, of_survey, next_holds}
+use Rattle.dali_progress.specs.Rounds.{Succeeds}
+use Rattle.dali_progress.proofs.Drawing.{Draws}
+use Rattle.dali_events.specs.declared.event.Event.TheVariants as event
+use Rattle.dali_world.specs.Site.{world, site_logged}
+use Rattle.dali_controller.proofs.Given.{given_by}
 
 -- THE NUMBERS THAT GEAR DRAW in a survey: where there is one for each gear at its start, they are never spent. Gear draw once, at
 -- the last frame of the one opening.
@@ -305,13 +308,7 @@ surveying_undrawn : (start : Begun) (p : Purpose) (y : Way) (s : Stage) (k : Kep
 surveying_undrawn start Opening y s k heard opened asked x n from gs left v is =
     let both : Surveying ≡ Drawing = sym is ∙ v.way in
     absurd (cc)
-surveying_undrawn start Probing y s k heard opened asked x n from gs left v is = is
-surveying_undrawn start Hunting y s k heard opened asked x n from gs left v is = is
-surveying_undrawn start Visiting y s k heard opened asked x n from gs left v is = is
-surveying_undrawn start (Resolving a) y s k heard opened asked x n from gs left v is = is
-surveying_undrawn start (Asking a) y s k heard opened asked x n from gs left v is = is
-surveying_undrawn start Waking y s k heard opened asked x n from gs left v is = is
-surveying_undrawn start (Closing e) y s k heard opened asked x n from gs left v is = is
+surveying_undrawn start _ y s k heard opened asked x n from gs left v is = is
 
 -- an opening stands open
 opening_open : (start : Begun) (p : Purpose) (y : Way) (s : Stage) (k : Kept) (heard : Shorts) (opened : Bool) (asked : ℕ) (x : Ascent) (n : SearchAddress)
@@ -402,37 +399,33 @@ kept_last m None = (refl, refl)
 kept_last m (Some x) = (refl, refl)
 
 pub acts_has : (start : Begun) (w : World) (q c : ℕ) (m : Machine) (out : Option Record) (last : Option Order) (told : Option Input) (i : Input) (o : Order)
-    (gs hs : List Gear) (numbers : List ℕ) (left l : ℕ) → Moment w q c m out last told → m.last ≡ last → IsDueOf last told i → Surveys i
+    (gs hs : List Gear) (numbers : List ℕ) (left l : ℕ) → Moment w q c m out last told → m.last ≡ last → IsDueOf last told i → Succeeds true i
     → IsAllowed (machine_told m i) o → Holds start m last told gs left → IsNext start (machine_after m i o) o hs l
     → HasNumbers (informed_by m told) gs numbers → HasNumbers (machine_after m i o) gs numbers
-acts_has start w q c m out None (Some input.Start) input.Survey o gs hs numbers left l at is due surveys allowed holds next has =
-    λ undrawn. has (undrawn_last m None is tt)
-acts_has start w q c m out (Some (Put p f)) (Some (input.Heard h)) (input.Heard a) o gs hs numbers left l at is due surveys allowed holds next has =
-    let same : h ≡ a = cc in
-    let told : machine_told m (input.Heard a) ≡ machine_heard m (Some f) a = ap (λ x. machine_heard m (frame_put x) a) is in
-    let stands : SurveyStands true start (machine_told m (input.Heard a)) gs left =
-    subst (λ t. SurveyStands true start t gs left) (sym told) (subst (λ b. SurveyStands true start (machine_heard m (Some f) b) gs left) same holds.stands) in
-    λ undrawn. subst (λ b. HasNumbers (machine_told m (input.Heard b)) gs numbers) same has
-    (undrawn_last (machine_told m (input.Heard a)) (Some (Put p f)) (ap (λ (t : Machine). t.last) told ∙ is)
-    (put_undrawn start (machine_told m (input.Heard a)) o gs hs left l stands allowed next undrawn))
-acts_has start w q c m out (Some (Commit x)) None input.Committed o gs hs numbers left l at is due surveys allowed holds next has =
-    let t : Machine = machine_told m input.Committed in
-    let same = kept_last m (record_ordered m.last) in
-    λ undrawn. kept_same m (record_ordered m.last) gs numbers has
-    (undrawn_last t (Some (Commit x)) (same.0 ∙ is) (commit_undrawn start t o x hs l (same.1 ∙ at.1) (same.0 ∙ is) allowed next undrawn))
-acts_has start w q c m out last told input.CommitFailed o gs hs numbers left l at is due surveys allowed holds next has = absurd surveys
-acts_has start w q c m out last told input.Start o gs hs numbers left l at is due surveys allowed holds next has = absurd surveys
-acts_has start w q c m out None told input.Committed o gs hs numbers left l at is due surveys allowed holds next has = absurd due
-acts_has start w q c m out (Some (Put p f)) told input.Committed o gs hs numbers left l at is due surveys allowed holds next has = absurd due
-acts_has start w q c m out (Some (Done e)) told input.Committed o gs hs numbers left l at is due surveys allowed holds next has = absurd due
-acts_has start w q c m out (Some (Halt why)) told input.Committed o gs hs numbers left l at is due surveys allowed holds next has = absurd due
-acts_has start w q c m out None None i o gs hs numbers left l at is due surveys allowed holds next has = absurd at
-acts_has start w q c m out None (Some input.Start) i o gs hs numbers left l at is due surveys allowed holds next has = absurd (cc)
-acts_has start w q c m out None (Some j) i o gs hs numbers left l at is due surveys allowed holds next has = absurd at
-acts_has start w q c m out (Some (Put p f)) (Some (input.Heard h)) i o gs hs numbers left l at is due surveys allowed holds next has = absurd (cc)
-acts_has start w q c m out (Some (Put p f)) (Some j) i o gs hs numbers left l at is due surveys allowed holds next has = absurd at
-acts_has start w q c m out (Some k) (Some j) i o gs hs numbers left l at is due surveys allowed holds next has = absurd at
-acts_has start w q c m out (Some k) None i o gs hs numbers left l at is due surveys allowed holds next has = absurd (cc)
+acts_has start w q c m out last told i o gs hs numbers left l at is due surveys allowed holds next has =
+    acts_by true (λ k t j. Moment w q c m out k t → m.last ≡ k → IsAllowed (machine_told m j) o → Holds start m k t gs left
+    → IsNext start (machine_after m j o) o hs l → HasNumbers (informed_by m t) gs numbers → HasNumbers (machine_after m j o) gs numbers)
+    (λ at is allowed holds next has undrawn. has (undrawn_last m None is tt))
+    heard keeps w q c m out last told i at due surveys at is allowed holds next has
+  where
+    heard : (p : ℕ) (f : Forward) (h : Answer) → Moment w q c m out (Some (Put p f)) (Some (input.Heard h)) → m.last ≡ Some (Put p f)
+        → IsAllowed (machine_told m (input.Heard h)) o → Hears start m f h gs left → IsNext start (machine_after m (input.Heard h) o) o hs l
+        → HasNumbers (informed_by m (Some (input.Heard h))) gs numbers → HasNumbers (machine_after m (input.Heard h) o) gs numbers
+    heard p f h at is allowed holds next has undrawn =
+        let told : machine_told m (input.Heard h) ≡ machine_heard m (Some f) h = ap (λ x. machine_heard m (frame_put x) h) is in
+        let stands : SurveyStands true start (machine_told m (input.Heard h)) gs left =
+        subst (λ t. SurveyStands true start t gs left) (sym told) holds.stands in
+        has (undrawn_last (machine_told m (input.Heard h)) (Some (Put p f)) (ap (λ (t : Machine). t.last) told ∙ is)
+        (put_undrawn start (machine_told m (input.Heard h)) o gs hs left l stands allowed next undrawn))
+
+    keeps : (x : Record) → Moment w q c m out (Some (Commit x)) None → m.last ≡ Some (Commit x) → IsAllowed (machine_told m input.Committed) o
+        → Holds start m (Some (Commit x)) None gs left → IsNext start (machine_after m input.Committed o) o hs l
+        → HasNumbers (informed_by m None) gs numbers → HasNumbers (machine_after m input.Committed o) gs numbers
+    keeps x at is allowed holds next has undrawn =
+        let t : Machine = machine_told m input.Committed in
+        let same = kept_last m (record_ordered m.last) in
+        kept_same m (record_ordered m.last) gs numbers has
+        (undrawn_last t (Some (Commit x)) (same.0 ∙ is) (commit_undrawn start t o x hs l (same.1 ∙ at.1) (same.0 ∙ is) allowed next undrawn))
 
 -- ---------------------------------------------------------------- its frame is sent
 
@@ -452,3 +445,19 @@ heard_has start m p f h gs numbers left last next has =
         m.course.from gs left (command_of f) h next.0.at next.1 now in
         rw (row_length Everyone (command_of f) 0 gs numbers, left_same Everyone (command_of f) 0 gs numbers none.0)
         (has (undrawn_last m (Some (Put p f)) last none.1))
+
+-- so they are never spent
+pub survey_draws : (start : Begun) → Draws (of_survey start) HasNumbers
+survey_draws start = record {
+  acts = λ s c left l i o u here surveys given holds has.
+      acts_has start (world s) s.queue c u.machine (controller_at (world s) c).outstanding (controller_at (world s) c).last (controller_at (world s) c).told i o
+      (world s).gear (world (site_logged s (event.Acted c i o))).gear (world s).left left l u.goes.lone.moment u.goes.lone.last
+      (due_of (controller_at (world s) c) i here.due) surveys (given_by u.machine i o (not_failed true i surveys) given).ordered.allowed u.goes.holds
+      (next_holds start (machine_after u.machine i o) o (world (site_logged s (event.Acted c i o))).gear l holds) has;
+  sends = λ m p f h gs numbers left last holds has. heard_has start m p f h gs numbers left last (next_holds start m (Put p f) gs left holds) has;
+  enough = λ m p f gs numbers left last holds has.
+      let next = next_holds start m (Put p f) gs left holds in
+      draws_enough start m.course.purpose m.course.way
+      (stage_of m.trace) m.kept m.heard m.opened m.asked m.course.ascent m.course.number m.course.from gs numbers
+      left (command_of f) next.0.at next.1 (λ undrawn. has (undrawn_last m (Some (Put p f)) last undrawn));
+}

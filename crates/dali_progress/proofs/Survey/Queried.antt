@@ -15,7 +15,7 @@ use Rattle.dali_script.specs.Records.{Assignment, Has}
 use Rattle.dali_events.specs.Wanted.{gear_of}
 use Rattle.dali_events.proofs.Search.Wanted.{both_pass, same_number, number_same, at_any}
 use Rattle.dali_events.proofs.Search.Leaving.{SameGear, SameCore}
-use Rattle.dali_progress.specs.Rounds.{AreTabled}
+use Rattle.dali_progress.specs.Ends.{AreTabled}
 
 -- A SHORT ADDRESS IS ASKED FOR ITS RANDOM ADDRESS, of gear no two of which have one short address.
 

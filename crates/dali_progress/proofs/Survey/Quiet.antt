@@ -1,5 +1,5 @@
-use Rattle.std.proofs.Common.{◌≡◌, ℕ, ◌+◌, ◌*◌, List, [], ◌∷◌, refl, sym, ap, subst, ◌∙◌, true, false, Option, Some, None}
-use Rattle.std.specs.List.{AllByRecursion, count_by}
+use Rattle.std.proofs.Common.{◌≡◌, ℕ, List, [], ◌∷◌, refl, sym, ap, subst, ◌∙◌, true, Option, Some, None}
+use Rattle.std.specs.List.{AllByRecursion}
 use Rattle.dali_frame.specs.declared.frames.Forward.{Forward}
 use Rattle.dali_frame.specs.declared.frames.Answer.{Answer}
 use Rattle.dali_script.specs.declared.records.Record.{Record}
@@ -14,14 +14,16 @@ use Rattle.dali_events.specs.declared.event.Event.TheVariants as event
 use Rattle.dali_events.specs.World.{World, Controller, controller_at}
 use Rattle.dali_events.specs.Happens.{happens, kept_after}
 use Rattle.dali_events.specs.Allowed.{Allowed, IsUp, IsDue, IsCommit}
-use Rattle.dali_events.specs.Wanted.{is_bare}
 use Rattle.dali_world.specs.Site.{SiteState, world, site_logged}
-use Rattle.dali_progress.specs.Rounds.{site_after, HasEnded}
-use Rattle.dali_progress.specs.Surveys.{IsSettledAt, SurveysAlone, IsOfSurvey, SurveyRounds, CommitsNothing, WasTabled, AreSurveyed}
+use Rattle.dali_progress.specs.Rounds.{site_after, HasEnded, IsAlone, IsOfRound, Rounds, most_frames, Any, bare}
+use Rattle.dali_progress.specs.Ends.{CommitsNothing, NamesAll, table_at}
 use Rattle.dali_progress.proofs.Lone.{acted_there, sent_there, lone_next}
-use Rattle.dali_progress.proofs.Bounded.{world_logged}
-use Rattle.dali_progress.proofs.Survey.Bounded.{Runs, began_at, runs_on, starts, tabled}
-use Rattle.dali_progress.proofs.Survey.Stands.{Begun, spare}
+use Rattle.dali_progress.proofs.Logged.{world_logged}
+use Rattle.dali_progress.proofs.Beginnings.{named}
+use Rattle.dali_progress.proofs.Along.{Runs, runs_on}
+use Rattle.dali_progress.proofs.Survey.Goes.{of_survey}
+use Rattle.dali_progress.proofs.Survey.Bounded.{argument, began_at, starts_any}
+use Rattle.dali_progress.proofs.Survey.Stands.{Begun}
 
 -- A SURVEY THAT COMMITS NOTHING keeps the records that it began with.
 
@@ -33,12 +35,7 @@ none_due k input.Committed none due = go k.last none due where
   go : (last : Option Order) → IsNone last → IsCommit last → kept_after k input.Committed ≡ k.records
   go (Some (Commit x)) none commit = absurd (none x refl)
   go _ none commit = absurd commit
-none_due k input.Start none due = refl
-none_due k input.Survey none due = refl
-none_due k (input.Heard h) none due = refl
-none_due k input.Destroyed none due = refl
-none_due k input.Lapsed none due = refl
-none_due k input.CommitFailed none due = refl
+none_due k _ none due = refl
 
 -- one event more
 abbrev Keeps : World → World → ℕ → Type 0
@@ -59,7 +56,8 @@ sent_keeps w c f h up none = (
   λ x e. none x (sym (ap (λ (k : Controller). k.last) (sent_there w c f h up)) ∙ e),
 )
 
-event_keeps : (start : Begun) (s : SiteState) (c left : ℕ) (e : Event) → Runs start s c left → Allowed (world s) e → IsOfSurvey s c e → CommitsNothing e
+event_keeps : (start : Begun) (s : SiteState) (c left : ℕ) (e : Event) → Runs (of_survey start) s c left → Allowed (world s) e → IsOfRound true s c e
+    → CommitsNothing e
     → IsNone (controller_at (world s) c).last → Keeps (world s) (happens (world s) e) c
 event_keeps start s c left (event.Acted d i o) u here of quiet none =
     subst (λ n. Allowed (world s) (event.Acted n i o) → Keeps (world s) (happens (world s) (event.Acted n i o)) c) (sym of.0)
@@ -69,22 +67,20 @@ event_keeps start s c left (event.Sent d f h) u here of quiet none =
     subst (λ n. Keeps (world s) (happens (world s) (event.Sent n f h)) c) (sym (of.2 ∙ put.3)) (sent_keeps (world s) c f h u.goes.lone.up none)
 event_keeps start s c left _ u here of quiet none = absurd of
 
-all_keep : (start : Begun) (s : SiteState) (c left : ℕ) (es : List Event) → Runs start s c left → SurveyRounds s c es → AllByRecursion CommitsNothing es
+all_keep : (start : Begun) (s : SiteState) (c left : ℕ) (es : List Event) → Runs (of_survey start) s c left → Rounds true s c es
+    → AllByRecursion CommitsNothing es
     → IsNone (controller_at (world s) c).last → (controller_at (world (site_after s es)) c).records ≡ (controller_at (world s) c).records
 all_keep start s c left [] u rounds quiet none = refl
 all_keep start s c left (e ∷ es) u rounds quiet none =
-    let on = runs_on start s c left e u rounds.0 rounds.1 in
+    let on = runs_on (of_survey start) (argument start) s c left e u rounds.0 rounds.1 in
     let keeps : Keeps (world s) (world (site_logged s e)) c =
     subst (λ w. Keeps (world s) w c) (sym (world_logged s e)) (event_keeps start s c left e u rounds.0 rounds.1 quiet.0 none) in
     all_keep start (site_logged s e) c on.rest es on.runs rounds.2 quiet.1 keeps.1 ∙ keeps.0
 
-pub quiet_tabled : (s : SiteState) (c : ℕ) (es : List Event) (e : End) → SurveysAlone s c → SurveyRounds s c es → AllByRecursion CommitsNothing es
-    → HasEnded (site_after s es) c e → WasTabled s (site_after s es) c
+pub quiet_tabled : (s : SiteState) (c : ℕ) (es : List Event) (e : End) → IsAlone s c → Rounds true s c es → AllByRecursion CommitsNothing es
+    → HasEnded (site_after s es) c e → NamesAll true s (table_at s c) (site_after s es)
 quiet_tabled s c es e a rounds quiet ended =
-    subst (λ (k : Kept). AreSurveyed (world s).gear k.enrolled (world (site_after s es)).gear)
-    (all_keep (began_at true s) s c (106 * count_by is_bare (world s).gear + 219 + spare true) es (starts true s c a unsettled) rounds quiet
+    subst (λ (k : Kept). NamesAll true s k.enrolled (site_after s es))
+    (all_keep (began_at true s) s c (most_frames Any (bare s)) es (starts_any s c a) rounds quiet
     (λ x is. (let never : None ≡ Some (Commit x) = sym a.last ∙ is in cc)))
-    (tabled s c es e a rounds ended)
-  where
-    unsettled : true ≡ false → IsSettledAt s c
-    unsettled never = absurd (cc)
+    (named Any s c es e a rounds ended)

@@ -19,8 +19,7 @@ use Rattle.dali_script.proofs.Transactions.{self, equal}
 use Rattle.dali_search.specs.declared.step.Step.TheVariants.{Again, Found, Nobody}
 use Rattle.dali_search.specs.Least.{Gives, Says}
 use Rattle.dali_search.specs.Ascending.{Ascent, IsAscent, Knows, is_bounded, asked_next, leads_to, ascended, ascent_at_first, above}
-use Rattle.dali_search.specs.Questions.{bytes_apart, Asking, has_room, frames_to_ask, room_left, asking_next, IsTrueWay}
-use Rattle.dali_search.specs.Questions.{no_question}
+use Rattle.dali_search.specs.Questions.{bytes_apart, Asking, has_room, frames_to_ask, room_left, asking_next, IsTrueWay, no_question}
 use Rattle.dali_search.proofs.Ascents.{asked_drawn, says_found}
 use Rattle.dali_search.proofs.TrueAnswers.{somebody_costs, nobody_costs, first_true, above_true}
 use Rattle.dali_controller.specs.declared.purpose.Purpose.TheVariants.{Hunting}
@@ -30,7 +29,7 @@ use Rattle.dali_events.specs.Wanted.{gear_of, is_wanted, wants, OfPowered, IsOpe
 use Rattle.dali_events.proofs.Search.Leaving as leaving
 use Rattle.dali_events.proofs.Search.Leaving.{SameCore}
 use Rattle.dali_events.proofs.Search.Wanted as wanted
-use Rattle.dali_progress.specs.Rounds.{AreTabled}
+use Rattle.dali_progress.specs.Ends.{AreTabled}
 use Rattle.dali_progress.proofs.Stands.{to_come, Sends}
 use Rattle.dali_progress.proofs.Frames.{IsTaken, Seeks, probe_says, value_sought, gives_same}
 use Rattle.dali_progress.proofs.Tables.{LeavesNames, tabled_left}

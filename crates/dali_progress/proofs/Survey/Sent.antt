@@ -1,6 +1,5 @@
 use Rattle.std.proofs.Common.{◌≡◌, ℕ, ◌+◌, ◌-◌, ◌*◌, ◌<◌, ◌≤◌, ◌⊎◌, inl, inr, Bool, true, false, zero, suc, List, [], ◌∷◌, refl, sym, ap, subst, ◌∙◌, arith}
-use Rattle.std.proofs.Common.{length}
-use Rattle.std.proofs.Common.{Some, None}
+use Rattle.std.proofs.Common.{length, Some, None, w64}
 use Rattle.std.specs.Prelude.{◌==◌, nat_lt, ◌&&◌, if◌then◌else◌}
 use Rattle.std.proofs.lemmas.Bool.Decides.{nat_tests}
 use Rattle.dali_frame.specs.declared.frames.Answer.{Answer}
@@ -8,8 +7,7 @@ use Rattle.dali_frame.specs.declared.frames.Answer.TheVariants.{Silence, Byte}
 use Rattle.dali_frame.specs.declared.numbers.SearchAddress.{SearchAddress}
 use Rattle.dali_frame.specs.Random.{value_of, number_of, high_of, middle_of, low_of, MASK24}
 use Rattle.dali_special.specs.declared.command.Command.{Command}
-use Rattle.dali_special.specs.declared.command.Command.TheVariants.{Terminate, Initialise, Withdraw, SearchMiddle, SearchLow}
-use Rattle.dali_special.specs.declared.command.Command.TheVariants.{QueryShort, RandomByte}
+use Rattle.dali_special.specs.declared.command.Command.TheVariants.{Terminate, Initialise, Withdraw, SearchMiddle, SearchLow, QueryShort, RandomByte}
 use Rattle.dali_special.specs.declared.command.Part.{Part}
 use Rattle.dali_special.specs.declared.command.Part.TheVariants.{High, Middle, Low}
 use Rattle.dali_special.specs.declared.command.Target.TheVariants.{Unaddressed}
@@ -19,10 +17,9 @@ use Rattle.dali_gear.specs.Row.{takes, left_after, row_after, drawn_one, drawn_o
 use Rattle.dali_gear.proofs.RowLemmas.{needs_none}
 use Rattle.dali_script.proofs.Lists.{has_map}
 use Rattle.std.proofs.lemmas.Nat.Bits.{bit_at_set_other, bit_at_clear_same, bit_at_clear_other}
-use Rattle.std.proofs.Common.{w64}
 use Rattle.dali_controller.specs.Shorts.{has_short, with_short, without_short}
-use Rattle.dali_events.proofs.Search.Wanted.{number_same, same_number}
-use Rattle.dali_progress.specs.Surveys.{IsSettled}
+use Rattle.dali_events.proofs.Search.Wanted.{number_same, same_number, after_at}
+use Rattle.dali_progress.specs.Rounds.{IsSettled}
 use Rattle.dali_script.specs.Records.{Assignment, IsKept, Kept, Has}
 use Rattle.dali_script.specs.declared.stage.Stage.{Stage}
 use Rattle.dali_script.specs.declared.stage.Stage.TheVariants as stage
@@ -43,25 +40,22 @@ use Rattle.dali_controller.proofs.Courses.{not_woken}
 use Rattle.dali_events.specs.Wanted.{gear_of, AreApart, IsOpened}
 use Rattle.dali_events.proofs.Invariant.Takes.{row_length}
 use Rattle.dali_events.proofs.Invariant.Resolving.{whole_number}
-use Rattle.dali_events.proofs.Search.Wanted.{after_at}
 use Rattle.dali_events.proofs.Search.Leaving as leaving
 use Rattle.dali_events.proofs.Search.Leaving.{SameCore, LeavesShort}
 use Rattle.dali_events.proofs.Search.Opened as opening
-use Rattle.dali_progress.specs.Rounds.{AreTabled}
+use Rattle.dali_progress.specs.Ends.{AreTabled}
 use Rattle.dali_progress.proofs.Stands.{to_come, VisitsAt, Sends}
 use Rattle.dali_progress.proofs.Survey.Behind.{IsHunt, least_sent, behind_sent, hunt_deep}
 use Rattle.dali_progress.proofs.Survey.Rising.{rises_sent, rising_tabled, rising_sought}
 use Rattle.dali_progress.proofs.Frames.{IsTaken, Seeks, at_sent, one_less, value_sought}
 use Rattle.dali_progress.proofs.Tables.{IsTabledTo, at_tabled, tabled_left}
-use Rattle.dali_progress.proofs.Survey.Drawn.{those_drawn, IsSearching, IsSoughtBy, AreNumbered, not_randomise, row_drawn, answers_drawn, searching_of}
-use Rattle.dali_progress.proofs.Survey.Drawn.{no_draw}
+use Rattle.dali_progress.proofs.Survey.Drawn.{those_drawn, IsSearching, IsSoughtBy, AreNumbered, not_randomise, row_drawn, answers_drawn, searching_of, no_draw}
 use Rattle.dali_progress.proofs.Survey.Drawn.{still_of, lost_same, seek_drawn}
 use Rattle.dali_progress.proofs.Survey.Queried.{Holds, OneGear, OneShort, one_gear, IsTrue, Nobody, HasAnswered, asked_gear, core_then, holds_on, holds_back}
 use Rattle.dali_progress.proofs.Survey.Queried.{unseen, below_on}
 use Rattle.dali_progress.proofs.Survey.Stands.{Begun, spare, IsClear, IsClearBut, IsClearAt, wake_frames, silent_left, asked_left, Tells, AskStage, Sweeps}
-use Rattle.dali_progress.proofs.Survey.Stands.{Wakes}
-use Rattle.dali_progress.proofs.Survey.Stands.{searched_by, frames_after}
-use Rattle.dali_progress.proofs.Survey.Stands.{IsOnWay, opened_at, surplus, IsBehind, HuntAt, Hunts, SurveyEnds, SurveyCloses, SurveyAt}
+use Rattle.dali_progress.proofs.Survey.Stands.{Wakes, searched_by, frames_after, IsOnWay, opened_at, surplus, IsBehind, HuntAt, Hunts, SurveyEnds, SurveyCloses}
+use Rattle.dali_progress.proofs.Survey.Stands.{SurveyAt}
 
 -- A FRAME OF A SURVEY IS SENT, and one frame less is left.
 

@@ -14,8 +14,7 @@ use Rattle.dali_search.specs.Least.{Gives}
 use Rattle.dali_search.specs.Ascending.{Ascent, IsAscent, Knows, asked_next, leads_to}
 use Rattle.dali_search.specs.Questions.{Asking, has_room, frames_to_ask, room_left, thirds_to_somebody, thirds_to_nobody, IsTrueWay}
 use Rattle.dali_controller.specs.declared.purpose.Purpose.{Purpose}
-use Rattle.dali_controller.specs.declared.purpose.Purpose.TheVariants.{Opening, Probing, Visiting, Resolving, Closing, Waking, Hunting}
-use Rattle.dali_controller.specs.declared.purpose.Purpose.TheVariants.{Asking as Sweeping}
+use Rattle.dali_controller.specs.declared.purpose.Purpose.TheVariants.{Opening, Probing, Visiting, Resolving, Closing, Waking, Hunting, Asking as Sweeping}
 use Rattle.dali_controller.specs.declared.shorts.Shorts.{Shorts}
 use Rattle.dali_controller.specs.declared.way.Way.{Way}
 use Rattle.dali_controller.specs.declared.way.Way.TheVariants.{Fresh, Surveying, Drawing}
@@ -26,8 +25,8 @@ use Rattle.dali_events.specs.Searching.{HasShort}
 use Rattle.dali_events.specs.Wanted.{gear_of, is_bare, is_wanted, wants, OfPowered, IsOpened, NoneNamed}
 use Rattle.dali_events.proofs.Search.Leaving.{SameCore}
 use Rattle.dali_events.proofs.Search.Opened.{AreOpening}
-use Rattle.dali_progress.specs.Rounds.{AreTabled}
-use Rattle.dali_progress.specs.Surveys.{NoneButUndrawn, IsSettled}
+use Rattle.dali_progress.specs.Ends.{AreTabled, NoneButUndrawn}
+use Rattle.dali_progress.specs.Rounds.{IsSettled}
 use Rattle.dali_progress.proofs.Stands.{to_come, search_frames, Opens, VisitsAt, CloseStage, sent_at}
 use Rattle.dali_progress.proofs.Survey.Drawn.{those_drawn, is_lost}
 use Rattle.dali_progress.proofs.Survey.Queried.{Holds, Nobody, TabledBelow, unseen}

@@ -1,6 +1,5 @@
 use Rattle.std.proofs.Common.{◌≡◌, ℕ, ◌+◌, ◌-◌, ◌*◌, ◌<◌, ◌≤◌, ◌⊎◌, inl, inr, Bool, true, false, zero, suc, List, [], ◌∷◌, ◌++◌, refl, sym, ap, subst, ◌∙◌}
-use Rattle.std.proofs.Common.{arith}
-use Rattle.std.proofs.Common.{Some, None}
+use Rattle.std.proofs.Common.{arith, Some, None}
 use Rattle.std.specs.Prelude.{◌==◌, nat_lt}
 use Rattle.std.specs.List.{count_by}
 use Rattle.std.proofs.lemmas.Bool.Decides.{nat_tests}
@@ -34,15 +33,13 @@ use Rattle.dali_controller.proofs.Given as given
 use Rattle.dali_controller.proofs.Given.{IsGivenBy, IsNoEnrolment}
 use Rattle.dali_events.specs.Wanted.{gear_of, is_wanted, is_bare, IsOpened, NoneNamed}
 use Rattle.dali_events.proofs.Search.Wanted as wanted
-use Rattle.dali_progress.proofs.Turns.{never_eight, has_random}
+use Rattle.dali_progress.proofs.Both.{never_eight, has_random}
 use Rattle.dali_progress.proofs.Later.{course_stays}
 use Rattle.dali_progress.proofs.Sweep.Asked.{sending_of}
 use Rattle.dali_progress.proofs.Survey.Drawn.{those_drawn, is_lost, AreNumbered, bare_split, woken_opened, woken_none_named, tabled_drawn}
 use Rattle.dali_progress.proofs.Survey.Queried.{Holds, OneShort, IsTrue, unseen, below_next}
-use Rattle.dali_progress.proofs.Survey.Stands.{Begun, spare, wake_frames, silent_left, Sweeps, Wakes}
-use Rattle.dali_progress.proofs.Survey.Stands.{SurveyStands}
-use Rattle.dali_progress.proofs.Survey.Begins.{IsNext, calm_of, calm_ordered, turns_by, first_by}
-use Rattle.dali_progress.proofs.Survey.Begins.{begins_whole, asks_on, hunts_first, own_settled}
+use Rattle.dali_progress.proofs.Survey.Stands.{Begun, spare, wake_frames, silent_left, Sweeps, Wakes, SurveyStands}
+use Rattle.dali_progress.proofs.Survey.Begins.{IsNext, calm_of, calm_ordered, turns_by, first_by, begins_whole, asks_on, hunts_first, own_settled}
 
 -- A CONTROLLER THAT SURVEYS ACTS on what it was told, and what it orders goes on with the survey.
 

@@ -1,5 +1,4 @@
-use Rattle.std.proofs.Common.{◌≡◌, ℕ, ◌+◌, ◌<◌, ◌≤◌, ◌⊎◌, inl, inr, Bool, true, false, List, [], ◌∷◌, refl, sym, ap, subst, ◌∙◌, arith}
-use Rattle.std.proofs.Common.{Option, Some, None}
+use Rattle.std.proofs.Common.{◌≡◌, ℕ, ◌+◌, ◌<◌, ◌≤◌, ◌⊎◌, inl, inr, Bool, true, false, List, [], ◌∷◌, refl, sym, ap, subst, ◌∙◌, arith, Option, Some, None}
 use Rattle.std.specs.Prelude.{◌==◌, ◌-◌, ◌||◌, nat_lt, not, zero, suc, is_some, MatchOption, if◌then◌else◌}
 use Rattle.std.proofs.lemmas.Bool.Decides.{nat_tests}
 use Rattle.std.specs.List.{AllByRecursion}
@@ -293,11 +292,7 @@ told_small m input.Committed small = go (record_ordered m.last) where
   go : (x : Option Record) → (machine_committed m x).asked ≤ 2
   go None = small
   go (Some x) = small
-told_small m input.Start small = small
-told_small m input.Survey small = small
-told_small m input.Destroyed small = small
-told_small m input.Lapsed small = small
-told_small m input.CommitFailed small = small
+told_small m _ small = small
 
 -- no stage of a question is one after MASK was answered
 hears_no_mask : (m t : Machine) (b : ℕ) (h : Answer) (c r : ℕ) → Hearing m t b h → MayCommit t (Reserve c r) → ⊥

@@ -1,5 +1,4 @@
-use Rattle.std.proofs.Common.{◌≡◌, ℕ, ◌+◌, ◌*◌, ◌≤◌, ◌⊎◌, inl, inr, true, List, [], ◌∷◌, refl, sym, ap, subst, ◌∙◌, arith}
-use Rattle.std.proofs.Common.{Option, Some, None}
+use Rattle.std.proofs.Common.{◌≡◌, ℕ, ◌+◌, ◌*◌, ◌≤◌, ◌⊎◌, inl, inr, true, List, [], ◌∷◌, refl, sym, ap, subst, ◌∙◌, arith, Option, Some, None}
 use Rattle.std.specs.Prelude.{zero, suc}
 use Rattle.dali_frame.specs.declared.frames.Answer.{Answer}
 use Rattle.dali_frame.specs.declared.frames.Answer.TheVariants.{Silence}
@@ -9,7 +8,7 @@ use Rattle.dali_script.specs.Records.{Kept}
 use Rattle.dali_script.specs.declared.orders.Input.{Input}
 use Rattle.dali_script.specs.declared.orders.Input.TheVariants as input
 use Rattle.dali_script.specs.declared.orders.Order.{Order}
-use Rattle.dali_script.specs.declared.orders.Order.TheVariants.{Put, Commit, Done, Halt}
+use Rattle.dali_script.specs.declared.orders.Order.TheVariants.{Put, Commit, Halt}
 use Rattle.dali_script.specs.declared.orders.Fault.{Fault}
 use Rattle.dali_script.specs.declared.orders.Fault.TheVariants as fault
 use Rattle.dali_script.specs.declared.orders.Due.TheVariants as due
@@ -42,38 +41,18 @@ pub put_is : (last : Option Order) (i : Input) → accepts due.Bus i ≡ true �
     → (p : ℕ) × (f : Forward) × (last ≡ Some (Put p f))
 put_is (Some (Put p f)) i bus e = (p, f, refl)
 put_is None (input.Heard h) bus e = absurd (cc)
-put_is None input.Destroyed bus e = absurd (cc)
-put_is None input.Lapsed bus e = absurd (cc)
 put_is (Some (Commit x)) (input.Heard h) bus e = absurd (cc)
-put_is (Some (Commit x)) input.Destroyed bus e = absurd (cc)
-put_is (Some (Commit x)) input.Lapsed bus e = absurd (cc)
-put_is (Some (Done x)) i bus e = absurd (cc)
-put_is (Some (Halt w)) i bus e = absurd (cc)
-put_is last input.Start bus e = absurd (cc)
-put_is last input.Survey bus e = absurd (cc)
-put_is last input.Committed bus e = absurd (cc)
-put_is last input.CommitFailed bus e = absurd (cc)
+put_is _ _ bus e = absurd (cc)
 
 pub commit_is : (last : Option Order) → accepts (due_after last) input.Committed ≡ true → (x : Record) × (last ≡ Some (Commit x))
-commit_is None e = absurd (cc)
-commit_is (Some (Put p f)) e = absurd (cc)
 commit_is (Some (Commit x)) e = (x, refl)
-commit_is (Some (Done e)) due = absurd (cc)
-commit_is (Some (Halt w)) due = absurd (cc)
+commit_is _ e = absurd (cc)
 
 pub started : (last : Option Order) (i : Input) → accepts due.Start i ≡ true → accepts (due_after last) i ≡ true → last ≡ None
 started None i start e = refl
 started (Some (Put p f)) input.Start start e = absurd (cc)
-started (Some (Put p f)) input.Survey start e = absurd (cc)
 started (Some (Commit x)) input.Start start e = absurd (cc)
-started (Some (Commit x)) input.Survey start e = absurd (cc)
-started (Some (Done x)) i start e = absurd (cc)
-started (Some (Halt w)) i start e = absurd (cc)
-started (Some o) (input.Heard h) start e = absurd (cc)
-started (Some o) input.Destroyed start e = absurd (cc)
-started (Some o) input.Lapsed start e = absurd (cc)
-started (Some o) input.Committed start e = absurd (cc)
-started (Some o) input.CommitFailed start e = absurd (cc)
+started _ _ start e = absurd (cc)
 
 -- an answer that is counted: silence, or one for which enough frames are left
 abbrev IsCounted : ℕ → Machine → Input → Type 0

@@ -1,5 +1,4 @@
-use Rattle.std.proofs.Common.{◌≡◌, ℕ, ◌+◌, ◌*◌, ◌<◌, ◌≤◌, ◌⊎◌, inl, inr, Bool, true, false, refl, sym, subst, ◌∙◌, arith}
-use Rattle.std.proofs.Common.{Option, Some, None}
+use Rattle.std.proofs.Common.{◌≡◌, ℕ, ◌+◌, ◌*◌, ◌<◌, ◌≤◌, ◌⊎◌, inl, inr, Bool, true, false, refl, sym, subst, ◌∙◌, arith, Option, Some, None}
 use Rattle.std.specs.Prelude.{◌==◌, ◌-◌, zero, suc, if◌then◌else◌}
 use Rattle.std.proofs.Math.Nat.{mul-le-mul_left}
 use Rattle.dali_frame.specs.declared.frames.Answer.{Answer}
@@ -22,11 +21,11 @@ use Rattle.dali_controller.specs.declared.purpose.Purpose.{Purpose}
 use Rattle.dali_controller.specs.declared.purpose.Purpose.TheVariants.{Asking}
 use Rattle.dali_controller.specs.declared.way.Way.{Way}
 use Rattle.dali_controller.specs.declared.way.Way.TheVariants.{Fresh, Surveying, Drawing}
-use Rattle.dali_controller.specs.Course.{Course, address_for, is_asked, asked_among, next_asked, is_yes, closing, going_on, going_on_early}
-use Rattle.dali_controller.specs.Course.{ask_or_wake, hunting_first, hunting_on, searching_first, searching_on, hunted, missed}
+use Rattle.dali_controller.specs.Course.{Course, address_for, is_asked, asked_among, next_asked, is_yes, closing, going_on, going_on_early, ask_or_wake}
+use Rattle.dali_controller.specs.Course.{hunting_first, hunting_on, searching_first, searching_on, hunted, missed}
 use Rattle.dali_controller.specs.Machine.{Machine}
-use Rattle.dali_controller.specs.Next.{begins_at, goes_on_to, at_rest, asked_once, probed_to, draw_or_close, draws, silenced}
-use Rattle.dali_controller.specs.Next.{unanswered, hunted_in, hunted_to, goes_on_anew}
+use Rattle.dali_controller.specs.Next.{begins_at, goes_on_to, at_rest, asked_once, probed_to, draw_or_close, draws, silenced, unanswered, hunted_in, hunted_to}
+use Rattle.dali_controller.specs.Next.{goes_on_anew}
 
 -- A SWEEP IS BOUNDED: by how many of its frames may still be sent, which each of them makes fewer. What may still be sent, and
 -- that a transaction that begins never makes it more. `u` is 3 where whoever is there may be silent twice and answer then, and 1

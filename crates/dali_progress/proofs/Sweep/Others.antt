@@ -1,5 +1,4 @@
-use Rattle.std.proofs.Common.{◌≡◌, ℕ, ◌+◌, ◌≤◌, ◌⊎◌, inl, inr, Bool, true, false, [], refl, sym, ap, ◌∙◌, arith}
-use Rattle.std.proofs.Common.{Option, Some, None}
+use Rattle.std.proofs.Common.{◌≡◌, ℕ, ◌+◌, ◌≤◌, ◌⊎◌, inl, inr, Bool, true, false, [], refl, sym, ap, ◌∙◌, arith, Option, Some, None}
 use Rattle.std.specs.Prelude.{◌==◌, if◌then◌else◌}
 use Rattle.dali_frame.specs.declared.frames.Answer.{Answer}
 use Rattle.dali_frame.specs.declared.frames.Forward.{Forward}
@@ -26,17 +25,15 @@ use Rattle.dali_controller.specs.declared.purpose.Purpose.{Purpose}
 use Rattle.dali_controller.specs.declared.purpose.Purpose.TheVariants.{Asking}
 use Rattle.dali_controller.specs.declared.way.Way.{Way}
 use Rattle.dali_controller.specs.declared.way.Way.TheVariants.{Fresh, Surveying, Drawing}
-use Rattle.dali_controller.specs.Course.{Course, address_for, next_asked, is_yes, closing, going_on, going_on_early}
-use Rattle.dali_controller.specs.Course.{ask_or_wake, searching_on, searching_first, hunted, missed}
-use Rattle.dali_controller.specs.Course.{next_unfinished, visit_or_opening}
+use Rattle.dali_controller.specs.Course.{Course, address_for, next_asked, is_yes, closing, going_on, going_on_early, ask_or_wake, searching_on, searching_first}
+use Rattle.dali_controller.specs.Course.{hunted, missed, next_unfinished, visit_or_opening}
 use Rattle.dali_controller.specs.Machine.{Machine}
-use Rattle.dali_controller.specs.Next.{next_course, begins_at, goes_on_to, at_rest, asked_once, probed_to, draw_or_close, draws, silenced}
-use Rattle.dali_controller.specs.Next.{unanswered, course_on, hunted_in, hunted_to, goes_on_anew}
+use Rattle.dali_controller.specs.Next.{next_course, begins_at, goes_on_to, at_rest, asked_once, probed_to, draw_or_close, draws, silenced, unanswered}
+use Rattle.dali_controller.specs.Next.{course_on, hunted_in, hunted_to, goes_on_anew}
 use Rattle.dali_controller.specs.Orders.{IsAllowed, machine_ordered}
 use Rattle.dali_progress.specs.Swept.{was_sent, was_lost}
 use Rattle.dali_progress.proofs.Sweep.Left.{at_stage, of_purpose, of_last, beyond, left_on, left, waits_most, quiet, goes_moves, StaysOrMoves, begins_moves}
-use Rattle.dali_progress.proofs.Sweep.Left.{IsQuiet, hunted_quiet}
-use Rattle.dali_progress.proofs.Sweep.Left.{Moves}
+use Rattle.dali_progress.proofs.Sweep.Left.{IsQuiet, hunted_quiet, Moves}
 use Rattle.dali_progress.proofs.Sweep.Asked.{quiet_left, by_order, moved_left, same_left}
 
 -- A SWEEP IS BOUNDED: what an order leaves at every other step, and where no survey sweeps.

@@ -1,5 +1,6 @@
-use Rattle.dali_progress.proofs.Running.{run_ends, run_frames}
+use Rattle.dali_progress.proofs.Ended.{run_frames, run_ends}
+use Rattle.dali_progress.proofs.Refused.{run_with_room, new_runs}
 use Rattle.dali_progress.proofs.laws.a_run_ends.Goals as goal
 
 pub returns : goal.returns
-returns c = record { ends = run_ends; frames = run_frames }
+returns c = record { frames = run_frames; ends = run_ends; room = run_with_room; new = new_runs }

@@ -1,4 +1,5 @@
 use Rattle.dali_progress.proofs.Accounted.{accounted, never_reserved, never_given}
+use Rattle.dali_progress.proofs.Sweep.Silent.{reserved_silent}
 use Rattle.dali_progress.proofs.laws.nothing_is_given_where_somebody_was_heard.Goals as goal
 
 pub returns-clause-accounted : goal.returns-clause-accounted
@@ -9,3 +10,6 @@ returns-clause-reserved c = never_reserved
 
 pub returns-clause-given : goal.returns-clause-given
 returns-clause-given c = never_given
+
+pub returns-clause-silent : goal.returns-clause-silent
+returns-clause-silent c = reserved_silent

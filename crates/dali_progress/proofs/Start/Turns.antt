@@ -13,12 +13,12 @@ use Rattle.dali_special.proofs.Table.{read_written}
 use Rattle.dali_gear.specs.Gear.{Gear, fresh}
 use Rattle.dali_script.specs.declared.records.Record.{Record}
 use Rattle.dali_script.specs.declared.records.Record.TheVariants.{Reserve, Enrol}
-use Rattle.dali_script.specs.Records.{Assignment, Kept, Has, HasAddress, HasRandom, IsKept, IsMap, with_record}
+use Rattle.dali_script.specs.Records.{Assignment, Kept, Has, HasRandom, IsKept, IsMap, with_record}
 use Rattle.dali_script.specs.declared.stage.Stage.{Stage}
 use Rattle.dali_script.specs.declared.stage.Stage.TheVariants as stage
 use Rattle.dali_script.specs.Findings.{finding_of}
 use Rattle.dali_script.specs.Stages.{IsTrace, stage_of, finding_at}
-use Rattle.dali_script.proofs.Lists.{has_map, has_cases, has_last}
+use Rattle.dali_script.proofs.Lists.{has_cases, has_last}
 use Rattle.dali_script.proofs.Members.{has_left, same_member}
 use Rattle.dali_script.proofs.Transactions.{stage_none}
 use Rattle.dali_script.proofs.Found.{trace_none}
@@ -34,10 +34,8 @@ use Rattle.dali_search.proofs.Agreement.{agrees_more}
 use Rattle.dali_search.proofs.Answered as searching
 use Rattle.dali_controller.specs.declared.purpose.Purpose.{Purpose}
 use Rattle.dali_controller.specs.declared.purpose.Purpose.TheVariants.{Opening, Probing, Visiting, Closing}
-use Rattle.dali_controller.specs.Course.{Course, first_of, turn_of, sought, is_yes, closing_of, searching_anew, visiting, probed, after_step}
-use Rattle.dali_controller.specs.Course.{closing as closing_by}
-use Rattle.dali_controller.specs.Course.{opening as opening_of}
-use Rattle.dali_controller.specs.Course.{unfinished_at, unfinished_among, visit_or_opening, going_on, searching_first, searching_on}
+use Rattle.dali_controller.specs.Course.{Course, first_of, turn_of, is_yes, closing_of, searching_anew, visiting, probed, after_step, closing as closing_by}
+use Rattle.dali_controller.specs.Course.{opening as opening_of, unfinished_at, unfinished_among, visit_or_opening, going_on, searching_first, searching_on}
 use Rattle.dali_controller.specs.Machine.{Machine}
 use Rattle.dali_controller.specs.Next.{next_course, begins_at, at_rest, beginning, goes_on_to, draw_or_close}
 use Rattle.dali_controller.specs.declared.way.Way.TheVariants.{Fresh}
@@ -49,12 +47,13 @@ use Rattle.dali_events.specs.Searching.{HasShort}
 use Rattle.dali_events.specs.Wanted.{is_wanted, wants, is_bare, OfPowered, IsOpened, NoneNamed}
 use Rattle.dali_events.proofs.Search.Wanted as wanted
 use Rattle.dali_events.proofs.Search.Opened as opening
-use Rattle.dali_progress.specs.Rounds.{EndsWell, AreTabled}
-use Rattle.dali_progress.proofs.Stands.{to_come, search_frames, probe_frames, Opens, Probes, VisitFrames, Visits, Leaves, VisitsAt, Closes, At}
-use Rattle.dali_progress.proofs.Stands.{IsWithin, Stands, Sends}
+use Rattle.dali_progress.specs.Ends.{EndsWell, AreTabled}
+use Rattle.dali_progress.proofs.Stands.{to_come, search_frames, probe_frames, Opens, Probes, VisitFrames, Visits, Leaves, VisitsAt, Closes, At, IsWithin}
+use Rattle.dali_progress.proofs.Stands.{Stands, Sends}
 use Rattle.dali_progress.proofs.Frames.{value_sought}
 use Rattle.dali_progress.proofs.Later.{IsUnasked, later_leaves, turn_unasked}
 use Rattle.dali_progress.proofs.Tables.{tabled_over}
+use Rattle.dali_progress.proofs.Both.{no_enrolment, has_random, with_kept, never_eight, drawn_number, has_address, entry_last}
 
 -- A CONTROLLER ACTS on what it was told, and what it orders goes on with the commissioning.
 
@@ -100,9 +99,6 @@ IsNext before m (Halt why) gs left = ⊥
 
 calm_of : (before : List Gear) (t : Machine) (gs : List Gear) (left : ℕ) → Stands before t gs left → IsUndisturbed t
 calm_of before t gs left st = record { tries = st.tries; fresh = st.fresh; silent = st.silent; within = st.within }
-
-pub never_eight : (n : ℕ) → n ≡ 0 → n ≡ 8 → ⊥
-never_eight n none e = omega (arith, none, e)
 
 -- ---------------------------------------------------------------- a later frame, and a first one
 
@@ -375,16 +371,6 @@ probing_turns before t o _ gs left g st last purpose is running opened p = absur
 
 -- ---------------------------------------------------------------- a visit
 
--- the number of a search address that is a random address
-pub drawn_of : (n : SearchAddress) (r : ℕ) → n ≡ sought r → r < MASK24 → value_of n < MASK24
-drawn_of n r is drawn = subst (λ m. m < MASK24) (sym (ap value_of is ∙ value_sought r)) drawn
-
-pub has_random : (xs : List Assignment) (a n : ℕ) → Has xs (a, n) → HasRandom xs n
-has_random xs a n has = has_map (λ (q : Assignment). q.1) xs (a, n) has
-
-pub has_address : (xs : List Assignment) (a n : ℕ) → Has xs (a, n) → HasAddress xs a
-has_address xs a n has = has_map (λ (q : Assignment). q.0) xs (a, n) has
-
 unnamed_turns : (before : List Gear) (t : Machine) (o : Order) (r : SearchAddress) (gs : List Gear) (left : ℕ) → IsGivenBy t o → Stands before t gs left
     → IsKept t.kept → t.course.purpose ≡ Visiting → stage_of t.trace ≡ stage.Unnamed r
     → t.opened ≡ true → Visits (stage.Unnamed r) t.kept t.course.number gs left → IsNext before (machine_ordered t o) o gs left
@@ -411,7 +397,7 @@ unnamed_turns before t o r gs left g st kept purpose is opened v = go (given.unn
       ready = v.ready;
       unnamed = v.unnamed;
       wanted = subst (λ m. wants gs m ≡ true) (sym same) v.visited.wanted;
-      drawn = subst (λ m. m < MASK24) (sym same) (drawn_of t.course.number v.visited.number v.visited.number_is v.visited.drawn);
+      drawn = subst (λ m. m < MASK24) (sym same) (drawn_number t.course.number v.visited.number v.visited.number_is v.visited.drawn);
       more = v.more;
       count = v.visited.count;
       tabled = tabled_at before t gs left (stage.Unnamed r) st is;
@@ -541,17 +527,6 @@ within_enrolled k b r within reserved x has = go (has_cases k.enrolled (b, r) x 
   go : Has k.enrolled x ⊎ ((b, r) ≡ x) → Has k.reserved x
   go (inl e) = within x e
   go (inr e) = subst (Has k.reserved) e reserved
-
-pub no_enrolment : (a r : ℕ) (last : Option Order) → last ≡ Some (Commit (Reserve a r)) → IsNoEnrolment last
-no_enrolment a r last is b n e = let other : Some (Commit (Reserve a r)) ≡ Some (Commit (Enrol b n)) = sym is ∙ e in cc
-
--- with its record
-abbrev pub with_kept : Machine → Record → Machine
-with_kept m x = record m { kept = with_record m.kept x }
-
-pub entry_last : (xs : List Assignment) (y x : Assignment) → Has (y ∷ xs) x → Has (xs ++ y ∷ []) x
-entry_last xs y x (inl same) = subst (Has (xs ++ y ∷ [])) same (has_last xs y)
-entry_last xs y x (inr has) = has_left xs (y ∷ []) x has
 
 reserved_begins : (m : Machine) (a r : ℕ) (o : Order) → IsUndisturbed m → m.trace ≡ [] → m.last ≡ Some (Commit (Reserve a r))
     → IsGivenBy (with_kept m (Reserve a r)) o

@@ -1,0 +1,144 @@
+use Rattle.dali_progress.specs.Rounds.{most_events, Beginning, most_frames, Any, Rounds, GoesOn, by_survey, IsAlone, HasEnded, ByStart, frames, Settled, bare}
+use Rattle.dali_progress.specs.Rounds.{HasNext, IsSettled, site_after, BeginsAlone}
+use Rattle.dali_progress.specs.Ends.{NamesAll, IsTrueEnd, table_at}
+use Rattle.dali_progress.proofs.Lone.{due_by, IsDueIn, IsLone}
+use Rattle.std.proofs.Common.{◌≡◌, ℕ, ◌+◌, ◌≤◌, ◌⊎◌, None, inl, inr, List, refl, sym, subst, arith, length, Some, true, false}
+use Rattle.dali_arbiter.specs.Arbiter.{next}
+use Rattle.dali_script.specs.declared.orders.Order.TheVariants.{Halt}
+use Rattle.dali_script.specs.declared.orders.End.{End}
+use Rattle.dali_controller.specs.Machine.{Machine}
+use Rattle.dali_events.specs.declared.event.Event.{Event}
+use Rattle.dali_events.specs.World.{controller_at}
+use Rattle.dali_world.specs.Site.{SiteState, world, IsPumpRefused}
+use Rattle.dali_standing.specs.declared.refusal.Refusal.TheVariants as refusal
+use Rattle.dali_events.specs.declared.trouble.Trouble.TheVariants as trouble
+use Rattle.dali_script.specs.declared.orders.Fault.{Fault}
+use Rattle.dali_progress.proofs.Along.{Measure, Argument, RunsAll, runs_all, few_all, never_halts}
+use Rattle.dali_progress.proofs.Start.Goes.{of_start}
+use Rattle.dali_progress.proofs.Survey.Goes.{of_survey}
+use Rattle.dali_progress.proofs.Start.Bounded as start
+use Rattle.dali_progress.proofs.Survey.Bounded as survey
+use Rattle.dali_progress.proofs.Drawing as drawing
+use Rattle.dali_progress.proofs.Start.Numbers.{LeavesDraws, start_draws}
+use Rattle.dali_progress.proofs.Survey.Numbers.{HasNumbers, survey_draws}
+
+-- THE LAWS BY CASES, over what is proved of a start and of a survey.
+
+pub alone_of : (b : Beginning) (s : SiteState) (c : ℕ) → BeginsAlone b s c → IsAlone s c
+alone_of ByStart s c a = a.0
+alone_of Settled s c a = a.0
+alone_of Any s c a = a
+
+-- one that may start may begin in each way
+pub begins_so : (b : Beginning) (s : SiteState) (c : ℕ) → BeginsAlone ByStart s c → BeginsAlone b s c
+begins_so ByStart s c a = a
+begins_so Settled s c a = (a.0, subst IsSettled (sym a.1) (λ x has. absurd has))
+begins_so Any s c a = a.0
+
+-- ---------------------------------------------------------------- the two arguments
+
+abbrev pub measure : Beginning → SiteState → Measure
+measure ByStart s = of_start (world s).gear
+measure Settled s = of_survey (survey.began_at false s)
+measure Any s = of_survey (survey.began_at true s)
+
+argues : (b : Beginning) (s : SiteState) → Argument (measure b s)
+argues ByStart s = start.argument (world s).gear
+argues Settled s = survey.argument (survey.began_at false s)
+argues Any s = survey.argument (survey.began_at true s)
+
+pub runs_after : (b : Beginning) (s : SiteState) (c : ℕ) (es : List Event) → BeginsAlone b s c → Rounds (by_survey b) s c es
+    → RunsAll (measure b s) s c (most_frames b (bare s)) es
+runs_after ByStart s c es a rounds = runs_all (measure ByStart s) (argues ByStart s) s c (most_frames ByStart (bare s)) es (start.starts s c a) rounds
+runs_after Settled s c es a rounds =
+    runs_all (measure Settled s) (argues Settled s) s c (most_frames Settled (bare s)) es
+    (survey.starts false s c (most_frames Settled (bare s)) (omega arith) a.0 (λ e. a.1)) rounds
+runs_after Any s c es a rounds = runs_all (measure Any s) (argues Any s) s c (most_frames Any (bare s)) es (survey.starts_any s c a) rounds
+
+-- NO MORE FRAMES are sent than these, and no more events come
+pub bounded : (b : Beginning) (s : SiteState) (c : ℕ) (es : List Event) → BeginsAlone b s c → Rounds (by_survey b) s c es
+    → frames es ≤ most_frames b (bare s)
+bounded b s c es a rounds = let all = runs_after b s c es a rounds in omega (arith, all.sum)
+
+events_most : (b : Beginning) (s : SiteState) (k : ℕ) → k ≤ (measure b s).events (most_frames b (bare s)) + 1 → k ≤ most_events b (bare s)
+events_most ByStart s k few = omega (arith, few)
+events_most Settled s k few = omega (arith, few)
+events_most Any s k few = omega (arith, few)
+
+pub few_events : (b : Beginning) (s : SiteState) (c : ℕ) (es : List Event) → BeginsAlone b s c → Rounds (by_survey b) s c es
+    → length es ≤ most_events b (bare s)
+few_events b s c es a rounds =
+    events_most b s (length es)
+    (few_all (measure b s) (argues b s) s c (most_frames b (bare s)) es (alone_of b s c a) (runs_after b s c es a rounds))
+
+-- ---------------------------------------------------------------- it goes on
+
+-- what is so after rounds: it goes together with its bus, and did not halt
+pub record IsAfter (s : SiteState) (c : ℕ) : Type 0 where
+  pub machine : Machine
+  pub lone : IsLone (world s) s.queue c machine
+  pub halts : (why : Fault) → (controller_at (world s) c).last ≡ Some (Halt why) → (controller_at (world s) c).told ≡ None → ⊥
+
+pub after : (b : Beginning) (s : SiteState) (c : ℕ) (es : List Event) → BeginsAlone b s c → Rounds (by_survey b) s c es → IsAfter (site_after s es) c
+after b s c es a rounds =
+    let all = runs_after b s c es a rounds in
+    record {
+      machine = all.runs.machine;
+      lone = all.runs.goes.lone;
+      halts = never_halts (measure b s) (argues b s) (site_after s es) c all.rest all.runs;
+    }
+
+pub goes_on : (b : Beginning) (s : SiteState) (c : ℕ) (es : List Event) → BeginsAlone b s c → Rounds (by_survey b) s c es
+    → GoesOn (by_survey b) (site_after s es) c
+goes_on b s c es a rounds =
+    go (due_by (by_survey b) (world (site_after s es)) (site_after s es).queue c now.machine (controller_at (world (site_after s es)) c).last
+    (controller_at (world (site_after s es)) c).told refl refl now.lone.moment now.halts) where
+      now : IsAfter (site_after s es) c
+      now = after b s c es a rounds
+
+      go : ((e : End) × HasEnded (site_after s es) c e) ⊎ (IsDueIn (by_survey b) (world (site_after s es)) c ⊎ HasNext (site_after s es))
+          → GoesOn (by_survey b) (site_after s es) c
+      go (inl ended) = inl ended
+      go (inr (inl due)) = inr (inl (record { input = due.0; succeeds = due.1; due = due.2; free = due.3 }))
+      go (inr (inr next)) = inr (inr next)
+
+-- ---------------------------------------------------------------- its end
+
+pub ends : (b : Beginning) (s : SiteState) (c : ℕ) (es : List Event) (e : End) → BeginsAlone b s c → Rounds (by_survey b) s c es
+    → HasEnded (site_after s es) c e → IsTrueEnd b (site_after s es) c e
+ends ByStart s c es e a rounds ended =
+    let all = runs_after ByStart s c es a rounds in (start.ended_by s (site_after s es) c all.rest e all.runs ended).0
+ends Settled s c es e a rounds ended =
+    let all = runs_after Settled s c es a rounds in
+    let by = survey.ended_by false s (site_after s es) c all.rest e all.runs ended in
+    (survey.ends false s (site_after s es) c e by, survey.ends_taken s (site_after s es) c e by, subst IsSettled by.kept (by.settled refl))
+ends Any s c es e a rounds ended =
+    let all = runs_after Any s c es a rounds in
+    survey.ends true s (site_after s es) c e (survey.ended_by true s (site_after s es) c all.rest e all.runs ended)
+
+pub named : (b : Beginning) (s : SiteState) (c : ℕ) (es : List Event) (e : End) → BeginsAlone b s c → Rounds (by_survey b) s c es
+    → HasEnded (site_after s es) c e → NamesAll (by_survey b) s (table_at (site_after s es) c) (site_after s es)
+named ByStart s c es e a rounds ended =
+    let all = runs_after ByStart s c es a rounds in (start.ended_by s (site_after s es) c all.rest e all.runs ended).1
+named Settled s c es e a rounds ended =
+    let all = runs_after Settled s c es a rounds in
+    survey.tabled false s (site_after s es) c e (survey.ended_by false s (site_after s es) c all.rest e all.runs ended)
+named Any s c es e a rounds ended =
+    let all = runs_after Any s c es a rounds in
+    survey.tabled true s (site_after s es) c e (survey.ended_by true s (site_after s es) c all.rest e all.runs ended)
+
+-- ---------------------------------------------------------------- its numbers
+
+survey_spent : (s : SiteState) (c : ℕ) (es : List Event) → IsAlone s c → length (world s).gear ≤ length (world s).left → Rounds true s c es
+    → IsPumpRefused (site_after s es) trouble.None refusal.DrawsSpent → ⊥
+survey_spent s c es a enough rounds =
+    drawing.never_spent (measure Any s) (argues Any s) HasNumbers (survey_draws (survey.began_at true s)) s c (most_frames Any (bare s)) es
+    (survey.starts_any s c a) rounds (λ m there undrawn. enough)
+
+pub never_spent : (b : Beginning) (s : SiteState) (c : ℕ) (es : List Event) → BeginsAlone b s c → length (world s).gear ≤ length (world s).left
+    → Rounds (by_survey b) s c es → IsPumpRefused (site_after s es) trouble.None refusal.DrawsSpent → ⊥
+never_spent ByStart s c es a enough rounds =
+    drawing.never_spent (measure ByStart s) (argues ByStart s) LeavesDraws (start_draws (world s).gear) s c (most_frames ByStart (bare s)) es
+    (start.starts s c a) rounds (λ m there closed. enough)
+never_spent Settled s c es a enough rounds = survey_spent s c es a.0 enough rounds
+never_spent Any s c es a enough rounds = survey_spent s c es a enough rounds

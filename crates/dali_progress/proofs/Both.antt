@@ -1,0 +1,222 @@
+use Rattle.dali_progress.specs.Rounds.{Succeeds, IsOfRound}
+use Rattle.std.proofs.Common.{◌≡◌, ℕ, ◌+◌, ◌<◌, ◌≤◌, inl, inr, Bool, true, false, suc, List, [], ◌∷◌, ◌++◌, refl, sym, ap, subst, ◌∙◌, arith, length, Option}
+use Rattle.std.proofs.Common.{Some, None}
+use Rattle.std.specs.Prelude.{if◌then◌else◌, ◌&&◌}
+use Rattle.dali_frame.specs.declared.numbers.SearchAddress.{SearchAddress}
+use Rattle.dali_frame.specs.Random.{value_of, MASK24}
+use Rattle.dali_special.specs.declared.command.Command.{Command}
+use Rattle.dali_special.specs.Command.{command_of}
+use Rattle.dali_gear.specs.Gear.{Gear, draws_a_number}
+use Rattle.dali_script.specs.declared.records.Record.{Record}
+use Rattle.dali_script.specs.declared.records.Record.TheVariants.{Reserve, Enrol}
+use Rattle.dali_script.specs.Records.{Assignment, Kept, Has, HasAddress, HasRandom, with_record}
+use Rattle.dali_script.specs.declared.stage.Stage.{Stage}
+use Rattle.dali_script.specs.declared.stage.Stage.TheVariants as stage
+use Rattle.dali_script.specs.Stages.{stage_of, next_stage}
+use Rattle.dali_script.proofs.Lists.{has_map, has_last}
+use Rattle.dali_script.proofs.Members.{has_left, has_right}
+use Rattle.dali_script.specs.declared.orders.Order.{Order}
+use Rattle.dali_script.specs.declared.orders.Order.TheVariants.{Put, Commit, Done, Halt}
+use Rattle.dali_script.specs.declared.orders.End.{End}
+use Rattle.dali_controller.specs.declared.purpose.Purpose.{Purpose}
+use Rattle.dali_controller.specs.declared.purpose.Purpose.TheVariants.{Opening, Probing, Visiting, Closing}
+use Rattle.dali_controller.specs.Course.{sought}
+use Rattle.dali_controller.specs.Machine.{Machine, tries_after, opened_after}
+use Rattle.dali_controller.proofs.Given.{IsNoEnrolment}
+use Rattle.dali_frame.specs.declared.frames.Forward.{Forward}
+use Rattle.dali_frame.specs.declared.frames.Answer.{Answer}
+use Rattle.dali_special.specs.declared.command.Command.TheVariants.{Arc, Terminate, Initialise, Randomise}
+use Rattle.dali_gear.specs.declared.row.Reach.TheVariants.{Everyone}
+use Rattle.dali_gear.specs.Row.{answers_of, heard_of, drawn_of, takes, left_after, row_left, draws_needed}
+use Rattle.dali_script.specs.declared.trace.Entry.{Entry}
+use Rattle.dali_script.proofs.Firsts.{free_is_empty}
+use Rattle.dali_script.specs.declared.orders.Input.{Input}
+use Rattle.dali_script.specs.declared.orders.Input.TheVariants as input
+use Rattle.dali_controller.specs.Orders.{IsAddressing}
+use Rattle.dali_events.specs.declared.event.Event.TheVariants as event
+use Rattle.dali_events.specs.World.{World}
+use Rattle.dali_events.specs.Happens.{happens, is_arc}
+use Rattle.dali_events.specs.Allowed.{Allowed}
+use Rattle.dali_events.specs.Runs.{AreDrawn, IsRun}
+use Rattle.dali_events.specs.Searching.{number_at}
+use Rattle.dali_events.specs.Wanted.{Seek}
+use Rattle.dali_events.proofs.Search.Heard.{opened_apart}
+use Rattle.dali_special.specs.declared.command.Target.TheVariants.{Unaddressed}
+use Rattle.dali_gear.specs.declared.row.Reach.{Reach}
+use Rattle.dali_gear.proofs.RowLemmas.{needs_none}
+use Rattle.dali_events.proofs.Search.Opened.{AreOpening}
+use Rattle.dali_progress.proofs.Lone.{Addresses}
+use Rattle.dali_progress.proofs.Stands.{Opens, Sends}
+use Rattle.dali_progress.proofs.Frames.{IsTaken, value_sought}
+use Rattle.dali_progress.proofs.Logged.{drawn_now, world_logged, run_logged}
+use Rattle.dali_arbiter.specs.declared.request.Request.{Request}
+use Rattle.dali_events.specs.declared.event.Event.{Event}
+use Rattle.dali_world.specs.Site.{SiteState, world, site_logged, next_request}
+use Rattle.dali_events.proofs.Search.Halves.{gear_are_searched}
+
+-- WHAT BOTH ARGUMENTS USE, of a start and of a survey.
+
+-- ---------------------------------------------------------------- records and orders
+
+pub never_eight : (n : ℕ) → n ≡ 0 → n ≡ 8 → ⊥
+never_eight n none e = omega (arith, none, e)
+
+-- the number of a search address that is a random address
+pub drawn_number : (n : SearchAddress) (r : ℕ) → n ≡ sought r → r < MASK24 → value_of n < MASK24
+drawn_number n r is drawn = subst (λ m. m < MASK24) (sym (ap value_of is ∙ value_sought r)) drawn
+
+pub has_random : (xs : List Assignment) (a n : ℕ) → Has xs (a, n) → HasRandom xs n
+has_random xs a n has = has_map (λ (q : Assignment). q.1) xs (a, n) has
+
+pub has_address : (xs : List Assignment) (a n : ℕ) → Has xs (a, n) → HasAddress xs a
+has_address xs a n has = has_map (λ (q : Assignment). q.0) xs (a, n) has
+
+pub no_enrolment : (a r : ℕ) (last : Option Order) → last ≡ Some (Commit (Reserve a r)) → IsNoEnrolment last
+no_enrolment a r last is b n e = let other : Some (Commit (Reserve a r)) ≡ Some (Commit (Enrol b n)) = sym is ∙ e in cc
+
+-- with its record
+abbrev pub with_kept : Machine → Record → Machine
+with_kept m x = record m { kept = with_record m.kept x }
+
+pub entry_last : (xs : List Assignment) (y x : Assignment) → Has (y ∷ xs) x → Has (xs ++ y ∷ []) x
+entry_last xs y x (inl same) = subst (Has (xs ++ y ∷ [])) same (has_last xs y)
+entry_last xs y x (inr has) = has_left xs (y ∷ []) x has
+
+pub put_no_enrolment : (p : ℕ) (f : Forward) (last : Option Order) → last ≡ Some (Put p f) → IsNoEnrolment last
+put_no_enrolment p f last is b n e = let other : Some (Put p f) ≡ Some (Commit (Enrol b n)) = sym is ∙ e in cc
+
+pub addresses_by : (o : Order) → IsAddressing o → Addresses (Some o)
+addresses_by (Put p f) addressing = go (command_of f) refl where
+  go : (d : Command) → command_of f ≡ d → is_arc d ≡ false
+  go (Arc x) e = absurd (addressing x e)
+  go _ e = refl
+addresses_by (Commit x) addressing = tt
+addresses_by (Done e) addressing = tt
+addresses_by (Halt why) addressing = tt
+
+pub not_failed : (by : Bool) (i : Input) → Succeeds by i → i ≡ input.CommitFailed → ⊥
+not_failed by i good e = subst (Succeeds by) e good
+
+pub no_tries : (complete : Bool) (n : ℕ) → n ≡ 0 → tries_after complete n ≡ 0
+no_tries true n is = refl
+no_tries false n is = is
+
+pub not_free : (t : List Entry) (x : Entry) → stage_of (t ++ x ∷ []) ≡ stage.Free → ⊥
+not_free t x e = go t (free_is_empty (t ++ x ∷ []) e) where
+  go : (t : List Entry) → t ++ x ∷ [] ≡ [] → ⊥
+  go [] e = cc
+  go (y ∷ t) e = cc
+
+-- ---------------------------------------------------------------- a frame that is sent
+
+-- what is known of a frame that is allowed, in a run
+pub record IsKnown (w : World) (c : ℕ) (f : Forward) (h : Answer) : Type 0 where
+  pub drawn : AreDrawn w
+  pub after : AreDrawn (happens w (event.Sent c f h))
+  pub seeks : (r : SearchAddress) → number_at (stage_of w.trace) ≡ Some r → Seek w.gear r
+
+pub known_sent : (s : SiteState) (d : ℕ) (f : Forward) (h : Answer) → IsRun s.plan s.queue s.log → Allowed (world s) (event.Sent d f h)
+    → IsRun s.plan s.queue (site_logged s (event.Sent d f h)).log × IsKnown (world s) d f h
+known_sent s d f h run here =
+    let now = run_logged s (event.Sent d f h) run here (λ e i a n has. cc) in (
+      now,
+      record {
+        drawn = drawn_now s run;
+        after = subst AreDrawn (world_logged s (event.Sent d f h)) (drawn_now (site_logged s (event.Sent d f h)) now);
+        seeks = λ n at. gear_are_searched s.plan s.queue s.log n run at;
+      },
+    )
+
+-- what is sent in a round is the request that is next
+pub sent_by : (by : Bool) (P : Event → Type 0) (s : SiteState) (c d : ℕ) (f : Forward) (h : Answer)
+    → ((r : Request) → Allowed (world s) (event.Sent r.sender r.frame h) → next_request s ≡ Some r
+    → h ≡ heard_of (answers_of Everyone (command_of r.frame) 0 (world s).gear) → P (event.Sent r.sender r.frame h))
+    → Allowed (world s) (event.Sent d f h) → IsOfRound by s c (event.Sent d f h) → P (event.Sent d f h)
+sent_by by P s c d f h sent here of =
+    subst (λ e. Allowed (world s) e → P e) (sym (ap (λ n. event.Sent n f h) of.2 ∙ ap (λ g. event.Sent of.0.sender g h) of.3))
+    (λ now. sent of.0 now of.1 (of.4 ∙ ap (λ g. heard_of (answers_of Everyone (command_of g) 0 (world s).gear)) of.3)) here
+
+pub taken_of : (w : World) (c : ℕ) (f : Forward) (h : Answer) → Allowed w (event.Sent c f h) → IsKnown w c f h
+    → h ≡ heard_of (answers_of Everyone (command_of f) 0 w.gear) → IsTaken (command_of f) w.gear w.left h
+taken_of w c f h here known heard = record {
+  heard = heard;
+  enough = here.draws;
+  below = λ x has. known.after.below x.0 x.1 (has_right w.drawn (drawn_of Everyone (command_of f) 0 w.gear w.left) x has);
+  apart = opened_apart w known.drawn;
+}
+
+-- ---------------------------------------------------------------- the numbers that gear draw
+
+-- no more numbers than gear
+pub needs_few : (reach : Reach) (c : Command) (k : ℕ) (gs : List Gear) → draws_needed reach c k gs ≤ length gs
+needs_few reach c k [] = omega arith
+needs_few reach c k (g ∷ gs) = go (takes reach k g && draws_a_number c g) (draws_needed reach c (k + 1) gs) (needs_few reach c (k + 1) gs) where
+  go : (b : Bool) (n : ℕ) → n ≤ length gs → (if b then 1 else 0) + n ≤ suc (length gs)
+  go true n less = omega (arith, less)
+  go false n less = omega (arith, less)
+
+-- and where none is drawn, all are left
+pub left_same : (reach : Reach) (c : Command) (k : ℕ) (gs : List Gear) (left : List ℕ) → draws_needed reach c k gs ≡ 0 → row_left reach c k gs left ≡ left
+left_same reach c k [] left none = refl
+left_same reach c k (g ∷ gs) left none = go (takes reach k g && draws_a_number c g) none (λ more. left_same reach c (k + 1) gs left more) where
+  go : (b : Bool) → (if b then 1 else 0) + draws_needed reach c (k + 1) gs ≡ 0 → (draws_needed reach c (k + 1) gs ≡ 0 → row_left reach c (k + 1) gs left ≡ left)
+      → row_left reach c (k + 1) gs (left_after b left) ≡ left
+  go true none same = absurd (omega (arith, none))
+  go false none same = same (omega (arith, none))
+
+-- no gear draws at a first RANDOMISE
+one_first : (k : ℕ) (g : Gear) → (g.powered ≡ true → g.half ≡ None) → (takes Everyone k g && draws_a_number Randomise g) ≡ false
+one_first k g half = go (g.powered) refl where
+  go : (b : Bool) → g.powered ≡ b → (takes Everyone k g && draws_a_number Randomise g) ≡ false
+  go true on = rw (on, half on) refl
+  go false off = rw off refl
+
+none_first : (k : ℕ) (gs : List Gear) → AreOpening stage.Initialised gs → draws_needed Everyone Randomise k gs ≡ 0
+none_first k [] all = refl
+none_first k (g ∷ gs) all =
+    sum (takes Everyone k g && draws_a_number Randomise g) (draws_needed Everyone Randomise (k + 1) gs) (one_first k g (λ on. (all 0 (omega arith) on).0))
+    (none_first (k + 1) gs (λ j in_row on. all (suc j) (omega (arith, in_row)) on)) where
+      sum : (b : Bool) (n : ℕ) → b ≡ false → n ≡ 0 → (if b then 1 else 0) + n ≡ 0
+      sum true n first more = absurd (cc)
+      sum false n first more = omega (arith, more)
+
+pub probing_never : (n : SearchAddress) (k : Kept) (s : Stage) → Sends Probing n k s Randomise → ⊥
+probing_never n k (stage.Unnamed r) (a, small, has, is) = cc
+probing_never n k _ is = cc
+
+pub visiting_never : (n : SearchAddress) (k : Kept) (s : Stage) → Sends Visiting n k s Randomise → ⊥
+visiting_never n k (stage.Unnamed r) (a, small, has, is) = cc
+visiting_never n k _ is = cc
+
+pub closing_never : (e : End) (n : SearchAddress) (k : Kept) (s : Stage) → Sends (Closing e) n k s Randomise → ⊥
+closing_never e n k (stage.Unnamed r) (a, small, has, is) = cc
+closing_never e n k _ is = cc
+
+-- only an opening draws
+pub none_apart : (p : Purpose) (n : SearchAddress) (k : Kept) (s : Stage) (gs : List Gear) (c : Command) → (Sends p n k s Randomise → ⊥) → Sends p n k s c
+    → draws_needed Everyone c 0 gs ≡ 0
+none_apart p n k s gs c never is = needs_none Everyone c 0 gs (λ e. never (subst (λ d. Sends p n k s d) e is))
+
+pub enough_left : (gs : List Gear) (numbers : List ℕ) (c : Command) → length gs ≤ length numbers → draws_needed Everyone c 0 gs ≤ length numbers
+enough_left gs numbers c enough = let few = needs_few Everyone c 0 gs in omega (arith, few, enough)
+
+-- where the opening is still not complete, none was drawn
+pub opening_none : (s : Stage) (k : Kept) (opened : Bool) (n : SearchAddress) (gs : List Gear) (left : ℕ) (c : Command) (h : Answer) → Opens s opened gs left
+    → Sends Opening n k s c → opened_after (next_stage s c h) opened ≡ false
+    → draws_needed Everyone c 0 gs ≡ 0
+opening_none stage.Free k opened n gs left c h o is closed = needs_none Everyone c 0 gs (λ e. (let other : Terminate ≡ Randomise = sym is ∙ e in cc))
+opening_none stage.Terminated k opened n gs left c h o is closed =
+    needs_none Everyone c 0 gs (λ e. (let other : Some (Initialise Unaddressed) ≡ Some Randomise = subst (λ d. Some (Initialise Unaddressed) ≡ Some d) e is in
+    cc))
+opening_none stage.InitialisedOnce k opened n gs left c h o is closed =
+    needs_none Everyone c 0 gs (λ e. (let other : Some (Initialise Unaddressed) ≡ Some Randomise = subst (λ d. Some (Initialise Unaddressed) ≡ Some d) e is in
+    cc))
+opening_none stage.Initialised k opened n gs left c h o is closed =
+    let same : Randomise ≡ c = cc in
+    subst (λ d. draws_needed Everyone d 0 gs ≡ 0) same (none_first 0 gs o.gear)
+opening_none stage.RandomisedOnce k opened n gs left c h o is closed =
+    let same : Randomise ≡ c = cc in
+    let both : true ≡ false = subst (λ d. opened_after (next_stage stage.RandomisedOnce d h) opened ≡ false) (sym same) closed in
+    absurd (cc)
+opening_none stage.Opened k opened n gs left c h o is closed = absurd (cc)
+opening_none _ k opened n gs left c h o is closed = absurd o.stage_is

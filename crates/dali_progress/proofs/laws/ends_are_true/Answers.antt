@@ -1,5 +1,0 @@
-use Rattle.dali_progress.proofs.Bounded.{ends, tabled}
-use Rattle.dali_progress.proofs.laws.ends_are_true.Goals as goal
-
-pub returns : goal.returns
-returns c = record { done = ends; table = tabled }

@@ -1,0 +1,102 @@
+use Rattle.std.specs.Prelude.{◌≡◌, ◌⊎◌, ℕ, ◌<◌, Bool, true, false, List, length, Some, None}
+use Rattle.dali_frame.specs.Random.{MASK24}
+use Rattle.dali_gear.specs.Gear.{Gear}
+use Rattle.dali_script.specs.Records.{Assignment, Kept, Has, HasAddress, InBlock, IsFull}
+use Rattle.dali_script.specs.declared.orders.Input.{Input}
+use Rattle.dali_script.specs.declared.records.Record.{Record}
+use Rattle.dali_script.specs.declared.orders.Order.TheVariants.{Commit}
+use Rattle.dali_script.specs.declared.orders.End.{End}
+use Rattle.dali_script.specs.declared.orders.End.TheVariants.{AllFound, BlockFull, GaveUp}
+use Rattle.dali_controller.specs.Shorts.{has_short}
+use Rattle.dali_controller.specs.Course.{is_anothers}
+use Rattle.dali_controller.specs.Machine.{Machine}
+use Rattle.dali_events.specs.declared.event.Event.{Event}
+use Rattle.dali_events.specs.declared.event.Event.TheVariants as event
+use Rattle.dali_events.specs.World.{controller_at}
+use Rattle.dali_events.specs.Searching.{HasShort}
+use Rattle.dali_events.specs.Wanted.{gear_of, OfPowered}
+use Rattle.dali_world.specs.Site.{SiteState, world, machine_at}
+use Rattle.dali_progress.specs.Rounds.{Beginning, ByStart, Settled, Any, IsSettledAt}
+
+-- WHAT AN END SAYS, of a controller that is alone on a bus that nothing disturbs.
+
+-- OF A START: that each gear with power has a short address, or that each address of the block is
+-- reserved; it never gives up.
+abbrev pub EndsWell : End → Kept → List Gear → Type 0
+EndsWell AllFound k gs = OfPowered gs HasShort
+EndsWell BlockFull k gs = IsFull k.block k.reserved
+EndsWell GaveUp k gs = ⊥
+
+-- of a survey: an address is taken, where it is reserved, or in the table, or somebody was heard
+-- under it who told no number that gear draw
+abbrev pub IsTaken : Machine → ℕ → Type 0
+IsTaken m a =
+    HasAddress m.kept.reserved a
+    ⊎ (HasAddress m.kept.enrolled a ⊎ (has_short m.heard a ≡ true))
+
+abbrev pub IsBlockTaken : Machine → Type 0
+IsBlockTaken m = (a : ℕ) → InBlock m.kept.block a → IsTaken m a
+
+-- an address that it has reserved is another's: somebody else was heard under it, or is enrolled
+abbrev pub HoldsAnothers : Machine → Type 0
+HoldsAnothers m =
+    (a : ℕ) × (r : ℕ) × Has m.kept.reserved (a, r) × (is_anothers m.kept m.heard a r ≡ true)
+
+-- OF A SURVEY. With all-found, each gear with power has a short address; or each address of the
+-- block is taken, and gear with power and without short address have no number yet. With
+-- block-full, each address of the block is taken, or one that it has reserved is another's. It
+-- never gives up.
+abbrev pub NoneButUndrawn : List Gear → Type 0
+NoneButUndrawn gs = OfPowered gs (λ g. g.short ≡ None → g.random ≡ MASK24)
+
+abbrev pub SurveyEndsWell : End → Machine → List Gear → Type 0
+SurveyEndsWell AllFound m gs = OfPowered gs HasShort ⊎ (IsBlockTaken m × NoneButUndrawn gs)
+SurveyEndsWell BlockFull m gs = IsBlockTaken m ⊎ HoldsAnothers m
+SurveyEndsWell GaveUp m gs = ⊥
+
+abbrev pub IsSurveyDone : SiteState → ℕ → End → Type 0
+IsSurveyDone s c e =
+    (m : Machine) → machine_at s c ≡ Some m → SurveyEndsWell e m (world s).gear
+
+-- with settled records nothing is another's
+abbrev pub IsAllTaken : SiteState → ℕ → Type 0
+IsAllTaken s c = (m : Machine) → machine_at s c ≡ Some m → IsBlockTaken m
+
+-- AN END IS TRUE, by how the controller began. With settled records they are settled at the end.
+abbrev pub IsTrueEnd : Beginning → SiteState → ℕ → End → Type 0
+IsTrueEnd ByStart s c e = EndsWell e (controller_at (world s) c).records (world s).gear
+IsTrueEnd Settled s c e =
+    IsSurveyDone s c e × (e ≡ BlockFull → IsAllTaken s c) × IsSettledAt s c
+IsTrueEnd Any s c e = IsSurveyDone s c e
+
+-- ---------------------------------------------------------------- the table
+
+-- THE TABLE of a controller: entries of short and random address
+abbrev pub table_at : SiteState → ℕ → List Assignment
+table_at s c = (controller_at (world s) c).records.enrolled
+
+-- after a start it names each gear that has a short address, but one that had it before
+abbrev pub AreTabled : List Gear → List Assignment → List Gear → Type 0
+AreTabled before entries gs =
+    (g a : ℕ) → g < length gs → (gear_of gs g).short ≡ Some a
+    → ((gear_of before g).short ≡ Some a) ⊎ Has entries (a, (gear_of gs g).random)
+
+-- after a survey it names each gear that has a short address, whoever gave it; but one that had it
+-- at the start and was not to be seen then: it had no power, or no number that gear draw
+abbrev pub IsUnseen : Gear → Type 0
+IsUnseen g = (g.powered ≡ false) ⊎ (g.random ≡ MASK24)
+
+abbrev pub AreSurveyed : List Gear → List Assignment → List Gear → Type 0
+AreSurveyed before entries gs =
+    (g a : ℕ) → g < length gs → a < 64 → (gear_of gs g).short ≡ Some a
+    → Has entries (a, (gear_of gs g).random)
+    ⊎ (((gear_of before g).short ≡ Some a) × IsUnseen (gear_of before g))
+
+-- such a table does so, where the site was once as `before`
+abbrev pub NamesAll : Bool → SiteState → List Assignment → SiteState → Type 0
+NamesAll false before entries s = AreTabled (world before).gear entries (world s).gear
+NamesAll true before entries s = AreSurveyed (world before).gear entries (world s).gear
+
+-- A QUIET SURVEY commits nothing.
+abbrev pub CommitsNothing : Event → Type 0
+CommitsNothing e = (c : ℕ) (i : Input) (x : Record) → e ≡ event.Acted c i (Commit x) → ⊥
