@@ -18,7 +18,7 @@ mod Another
 mod AnotherTerminates
 mod Accounted
 mod Spared
-mod Sweep
+mod Census
 mod Survey
 mod Beginnings
 mod Running

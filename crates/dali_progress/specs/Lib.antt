@@ -2,5 +2,5 @@ pub mod Rounds
 pub mod Running
 pub mod Surveyed
 pub mod Spared
-pub mod Swept
+pub mod Census
 pub mod Ends

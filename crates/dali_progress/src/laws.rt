@@ -46,8 +46,8 @@ ghost use Rattle.dali_progress.specs.Surveyed.{Step, IsCourse, ArePlain, WasHear
 ghost use Rattle.dali_progress.specs.Surveyed.{stage_told};
 ghost use Rattle.dali_progress.specs.Spared.{AreOfCalls, HasJustBegun, HearsUsed, HasAsked, StaysBegun};
 ghost use Rattle.dali_progress.specs.Spared.{HavePower, AllAskInPeace};
-ghost use Rattle.dali_progress.specs.Swept.{BeginsBySurvey, AreWhole, AreSteady, frames_asked, frames_lost, WasSilent};
-ghost use Rattle.dali_progress.specs.Swept.{WasSpelled, IsNamed, IsClean, IsSwept};
+ghost use Rattle.dali_progress.specs.Census.{BeginsBySurvey, AreWhole, AreSteady, frames_asked, frames_lost, WasSilent};
+ghost use Rattle.dali_progress.specs.Census.{WasSpelled, IsNamed, IsClean, HasTakenCensus};
 
 /// WHO BEGINS ALONE. On a new site with one controller it may start alone (`new`). Where it may start, it may begin by
 /// a survey as well: it has nothing reserved, so its records are settled (`starts`).
@@ -166,14 +166,14 @@ pub fn a_run_commissions()
         → HasEndedBy b (installation_of p).site m.site 0 }
 {}
 
-/// A SWEEP IS BOUNDED. Of every list of inputs that are due, from a survey on, whatever bus, store and other
+/// A CENSUS IS BOUNDED. Of every list of inputs that are due, from a survey on, whatever bus, store and other
 /// controllers do: while a machine asks short addresses for their random addresses, at most 320 of its frames are sent
 /// and heard, five for each short address, and at most five more for each that was destroyed or not sent. Where whoever
 /// is there answers at once, so that no answer follows a silence, they are at most 192, and three more for each that
 /// was lost.
 ///
-/// So the sweep ends: after so many answers the machine asks no more.
-pub fn a_sweep_is_bounded()
+/// So the census ends: after so many answers the machine asks no more.
+pub fn a_census_is_bounded()
     ensures any { (steps : List Step) (n : Machine) → IsCourse steps n → BeginsBySurvey steps → AreWhole steps
         → IsWhole n → frames_asked steps ≤ 320 + 5 * frames_lost steps }
     ensures steady { (steps : List Step) (n : Machine) → IsCourse steps n → BeginsBySurvey steps → AreWhole steps
@@ -207,13 +207,13 @@ pub fn nothing_is_given_where_somebody_was_heard()
 /// number that gear draw, that address is enrolled with that number from then on, or about to be, or the machine has
 /// halted; whoever gave the gear its address (`told`).
 ///
-/// Once the sweep of a survey is over, each short address under which every answer was a byte is in the table so, or
-/// told `FFFFFF`, which is no number that gear draw (`swept`).
+/// Once the census of a survey is over, each short address under which every answer was a byte is in the table so, or
+/// told `FFFFFF`, which is no number that gear draw (`taken`).
 pub fn who_tells_its_number_is_enrolled()
     ensures told { (steps : List Step) (n : Machine) (a r : ℕ) → IsCourse steps n → r < MASK24
         → WasSpelled steps a r → IsNamed n a r }
-    ensures swept { (steps : List Step) (n : Machine) (a : ℕ) → a < 64 → IsCourse steps n → BeginsBySurvey steps
-        → ArePlain steps → AreWhole steps → IsWhole n → AllByRecursion (IsClean a) steps → IsSwept n
+    ensures taken { (steps : List Step) (n : Machine) (a : ℕ) → a < 64 → IsCourse steps n → BeginsBySurvey steps
+        → ArePlain steps → AreWhole steps → IsWhole n → AllByRecursion (IsClean a) steps → HasTakenCensus n
         → ((r : ℕ) × IsNamed n a r) ⊎ WasSpelled steps a MASK24 }
 {}
 

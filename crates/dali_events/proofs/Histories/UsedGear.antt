@@ -32,11 +32,11 @@ one_used = record {
 abbrev asks : Forward
 asks = frame 0x01 0xC2
 
--- ---------------------------------------------------------------- a gear without power during the sweep
+-- ---------------------------------------------------------------- a gear without power during the census
 
 -- gear 0 has no power while a survey asks three times who is there, and hears silence
-abbrev sweeping : List Event
-sweeping =
+abbrev counting : List Event
+counting =
     event.Power 0 false ∷
     event.Acted 0 input.Survey (Put 3 asks) ∷ silent 0 0x01 0xC2 ∷
     event.Acted 0 (input.Heard Silence) (Put 3 asks) ∷ silent 0 0x01 0xC2 ∷
@@ -45,7 +45,7 @@ sweeping =
 
 -- so gear 1 is given the address 0; and gear 0 has power again
 abbrev off_while_asked : List Event
-off_while_asked = sweeping ++ (opening 0 ++ (visit 0 (input.Heard Silence) at_123456 0 ++ (event.Power 0 true ∷ [])))
+off_while_asked = counting ++ (opening 0 ++ (visit 0 (input.Heard Silence) at_123456 0 ++ (event.Power 0 true ∷ [])))
 
 off_allowed : AllAllowed (start one_used 8) off_while_asked
 unfolding command_of stage_of

@@ -23,8 +23,8 @@ use Rattle.dali_controller.specs.Next.{next_course, begins_at, at_rest, asked_on
 use Rattle.dali_controller.specs.Orders.{IsGiven, IsAllowed, machine_after, machine_ordered}
 use Rattle.dali_controller.specs.Whole.{IsWhole}
 use Rattle.dali_progress.proofs.Later.{IsUnasked, course_stays}
-use Rattle.dali_progress.proofs.Sweep.Course.{put_is}
-use Rattle.dali_progress.proofs.Sweep.Coming.{IsEnded, Hearing, hearing_of, none_found, no_record, by_kind, over_ends}
+use Rattle.dali_progress.proofs.Census.Course.{put_is}
+use Rattle.dali_progress.proofs.Census.Coming.{IsEnded, Hearing, hearing_of, none_found, no_record, by_kind, over_ends}
 
 -- HOW OFTEN IN A ROW the address that is asked was silent is at most how often it was silent at all, by a count that only grows.
 

@@ -37,12 +37,12 @@ use Rattle.dali_events.specs.Happens.{controller_acted, entry}
 use Rattle.dali_events.specs.Allowed.{IsDue, IsCommit}
 use Rattle.dali_standing.specs.Seats.{ReservesUsed}
 use Rattle.dali_progress.specs.Surveyed.{Step, IsTaken, IsCourse, ArePlain, stage_told}
-use Rattle.dali_progress.specs.Swept.{BeginsBySurvey, AreWhole, FallsSilent, WasSilent}
+use Rattle.dali_progress.specs.Census.{BeginsBySurvey, AreWhole, FallsSilent, WasSilent}
 use Rattle.dali_progress.proofs.Accounted.{accounted_stays, unreserved}
-use Rattle.dali_progress.proofs.Sweep.Asked.{Asks, asks_of, self, sending_of}
-use Rattle.dali_progress.proofs.Sweep.Others.{KeepsWay, begins_way, on_way}
-use Rattle.dali_progress.proofs.Sweep.Coming.{IsToCome, IsEnded, Watched, no_reservation, sweeping_ready, unreserved_on, over_ends}
-use Rattle.dali_progress.proofs.Sweep.Silent.{IsLooked, watched_looked}
+use Rattle.dali_progress.proofs.Census.Asked.{Asks, asks_of, self, sending_of}
+use Rattle.dali_progress.proofs.Census.Others.{KeepsWay, begins_way, on_way}
+use Rattle.dali_progress.proofs.Census.Coming.{IsToCome, IsEnded, Watched, no_reservation, counting_ready, unreserved_on, over_ends}
+use Rattle.dali_progress.proofs.Census.Silent.{IsLooked, watched_looked}
 use Rattle.dali_progress.proofs.Spared.Counted.{IsCounted, counted_more, counted_on}
 use Rattle.dali_progress.proofs.Spared.Bytes.{IsByteOf, IsRead, read_plain, next_read}
 
@@ -311,7 +311,7 @@ answered U z n k m h f l due put a purpose at silent used =
     let last = put_of_frame m.last heard.0 heard.1 in
     let next : next_stage (stage_of m.trace) (command_of heard.0) h ≡ stage.HighAsked a None =
     sym (stage_more m.trace (entry heard.0 h)) ∙ subst (λ g. stage_of (machine_heard m (Some g) h).trace ≡ stage.HighAsked a None) same at in
-    heard.2.0 (sweeping_ready m a purpose (sending_of m last.0 heard.0 last.1 l.whole).ready).opened a used
+    heard.2.0 (counting_ready m a purpose (sending_of m last.0 heard.0 last.1 l.whole).ready).opened a used
     (question_is m last.0 heard.0 h a purpose last.1 l.whole next) silent
 
 -- how often the address that is asked was silent in a row, where it is asked now
@@ -348,7 +348,7 @@ asked_silent U z n k m i o a l due used falls =
     ap (λ (t : Machine). stage_of t.trace) (sym (heard_is m Silence heard.0 heard.1)) ∙ ap (λ j. stage_of (machine_told m j).trace) (sym falls.told)
     ∙ falls.question in
     let more : m.asked + 1 ≤ n a = answered U z n k m Silence heard.0 l now heard.1 a falls.asking at refl used in
-    let early : m.opened ≡ false = (sweeping_ready m a falls.asking (sending_of m last.0 heard.0 last.1 l.whole).ready).opened in
+    let early : m.opened ≡ false = (counting_ready m a falls.asking (sending_of m last.0 heard.0 last.1 l.whole).ready).opened in
     let few : n a < 3 = l.few early a used in
     let two : m.asked ≡ 2 = falls.twice in
     omega (arith, more, few, two)

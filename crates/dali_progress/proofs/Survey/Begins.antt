@@ -46,7 +46,7 @@ use Rattle.dali_events.specs.Wanted.{is_wanted, wants, IsOpened, NoneNamed}
 use Rattle.dali_events.proofs.Search.Leaving.{SameCore}
 use Rattle.dali_progress.specs.Ends.{AreTabled}
 use Rattle.dali_progress.specs.Rounds.{IsSettled}
-use Rattle.dali_progress.proofs.Sweep.Coming.{asked_later, asked_before, unasked_enrolled}
+use Rattle.dali_progress.proofs.Census.Coming.{asked_later, asked_before, unasked_enrolled}
 use Rattle.dali_script.proofs.Members.{same_member}
 use Rattle.dali_progress.proofs.Stands.{Sends}
 use Rattle.dali_progress.proofs.Later.{IsUnasked, later_leaves, turn_unasked}
@@ -63,7 +63,7 @@ pub record Calm (m : Machine) : Type 0 where
   pub silent : m.silent ≡ 0
 
 -- a gear that told its number is to be enrolled, and then the next short address is asked
-pub record EnrolsSwept (start : Begun) (m : Machine) (a r : ℕ) (gs : List Gear) (left : ℕ) : Type 0 where
+pub record EnrolsCounted (start : Begun) (m : Machine) (a r : ℕ) (gs : List Gear) (left : ℕ) : Type 0 where
   pub way : m.course.way ≡ Surveying
   pub opened : m.opened ≡ false
   pub asked : m.asked ≡ 0
@@ -77,7 +77,7 @@ pub record EnrolsSwept (start : Begun) (m : Machine) (a r : ℕ) (gs : List Gear
   pub frames : 3 * (63 - a) + wake_frames start gs ≤ left
 
 -- what was reserved for it is to be released, and then the next short address is asked
-pub record ReleasesSwept (start : Begun) (m : Machine) (a : ℕ) (gs : List Gear) (left : ℕ) : Type 0 where
+pub record ReleasesCounted (start : Begun) (m : Machine) (a : ℕ) (gs : List Gear) (left : ℕ) : Type 0 where
   pub any : start.any ≡ true
   pub way : m.course.way ≡ Surveying
   pub opened : m.opened ≡ false
@@ -128,9 +128,9 @@ pub record ReservesHunted (start : Begun) (m : Machine) (a r : ℕ) (gs : List G
   pub frames : 39 + 106 * more + frames_after m.course.way start gs ≤ left
 
 abbrev pub SurveyCommits : Begun → Machine → Record → List Gear → ℕ → Type 0
-SurveyCommits start m (Enrol a r) gs left = EnrolsSwept start m a r gs left ⊎ EnrolsHunted start m a r gs left
+SurveyCommits start m (Enrol a r) gs left = EnrolsCounted start m a r gs left ⊎ EnrolsHunted start m a r gs left
 SurveyCommits start m (Reserve a r) gs left = ReservesHunted start m a r gs left
-SurveyCommits start m (Release c r) gs left = (a : ℕ) × ReleasesSwept start m a gs left
+SurveyCommits start m (Release c r) gs left = (a : ℕ) × ReleasesCounted start m a gs left
 
 -- what is to come of an order
 abbrev pub IsNext : Begun → Machine → Order → List Gear → ℕ → Type 0

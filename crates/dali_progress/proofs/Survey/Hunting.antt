@@ -28,7 +28,7 @@ use Rattle.dali_search.specs.Ascending.{Ascent, asked_next, ascended, leads_to}
 use Rattle.dali_search.specs.Questions as questions
 use Rattle.dali_search.specs.Questions.{Asking, asking_next, room_left}
 use Rattle.dali_controller.specs.declared.purpose.Purpose.{Purpose}
-use Rattle.dali_controller.specs.declared.purpose.Purpose.TheVariants.{Opening, Probing, Hunting, Visiting, Resolving, Closing, Waking, Asking as Sweeping}
+use Rattle.dali_controller.specs.declared.purpose.Purpose.TheVariants.{Opening, Probing, Hunting, Visiting, Resolving, Closing, Waking, Asking as Counting}
 use Rattle.dali_controller.specs.declared.way.Way.{Way}
 use Rattle.dali_controller.specs.declared.way.Way.TheVariants.{Fresh, Surveying, Drawing}
 use Rattle.dali_controller.specs.Course.{Course, is_yes, closing_of, address_for, least_open, is_open, is_anothers, drawing, sought, byte_to_send}
@@ -60,7 +60,7 @@ use Rattle.dali_progress.proofs.Survey.Stands.{Begun, spare, IsOwn, searched_by,
 use Rattle.dali_progress.proofs.Survey.Rising.{bytes_same, Answered, answered_rise, rises_new, rises_in, IsReachedAt, rise_found, rise_nobody}
 use Rattle.dali_progress.proofs.Survey.Begins.{Calm, IsNext, Above, calm_of, calm_ordered, later_by, turns_by, first_by, hunts_by, hunts_first, hunts_on}
 use Rattle.dali_progress.proofs.Survey.Begins.{all_taken}
-use Rattle.dali_progress.proofs.Survey.Turns.{IsUncontradicted, found_at, sweep_turns, wake_turns}
+use Rattle.dali_progress.proofs.Survey.Turns.{IsUncontradicted, found_at, census_turns, wake_turns}
 
 -- A CONTROLLER THAT SURVEYS ACTS, while it searches, and at its close.
 
@@ -654,8 +654,8 @@ pub turned : (start : Begun) (t : Machine) (o : Order) (gs : List Gear) (left : 
 turned start t o gs left g st kept numbered one holds agreed whole last running = go t.course.purpose refl st.at where
   go : (p : Purpose) → t.course.purpose ≡ p → SurveyAt true p t.course.way (stage_of t.trace) t.kept t.heard t.opened t.asked t.course.ascent t.course.number
       t.course.from start gs left → IsNext start (machine_ordered t o) o gs left
-  go (Sweeping a) purpose at =
-      sweep_turns start t o a (stage_of t.trace) gs left g st last purpose refl running at.0 at.1 at.2 kept numbered one holds agreed whole
+  go (Counting a) purpose at =
+      census_turns start t o a (stage_of t.trace) gs left g st last purpose refl running at.0 at.1 at.2 kept numbered one holds agreed whole
   go Waking purpose at = wake_turns start t o (stage_of t.trace) gs left g st last purpose refl running at.0 at.2 kept numbered whole
   go Opening purpose at = opening_turns start t o (stage_of t.trace) gs left g st last purpose refl running at
   go Hunting purpose at = hunting_turns start t o (stage_of t.trace) gs left g st purpose refl running at

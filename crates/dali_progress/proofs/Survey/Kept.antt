@@ -28,7 +28,7 @@ use Rattle.dali_progress.proofs.Tables.{tabled_over}
 use Rattle.dali_progress.proofs.Both.{never_eight, no_enrolment, has_random, entry_last, with_kept}
 use Rattle.dali_progress.proofs.Survey.Queried.{OneShort, IsTrue, unseen}
 use Rattle.dali_progress.proofs.Survey.Stands.{Begun, wake_frames, searched_by, frames_after}
-use Rattle.dali_progress.proofs.Survey.Begins.{Calm, EnrolsSwept, ReleasesSwept, EnrolsHunted, ReservesHunted, SurveyCommits, IsNext, first_by, asks_on}
+use Rattle.dali_progress.proofs.Survey.Begins.{Calm, EnrolsCounted, ReleasesCounted, EnrolsHunted, ReservesHunted, SurveyCommits, IsNext, first_by, asks_on}
 use Rattle.dali_progress.proofs.Survey.Begins.{hunts_on, own_enrolled, own_reserved}
 
 -- A RECORD OF A SURVEY IS KEPT, and the next transaction begins.
@@ -55,16 +55,16 @@ enrol_some : (any : Bool) → 0 + 1 ≤ enrol_slack any
 enrol_some true = omega arith
 enrol_some false = omega arith
 
--- ---------------------------------------------------------------- of the sweep
+-- ---------------------------------------------------------------- of the census
 
-swept_count : (a wake left : ℕ) → a < 64 → 3 * (63 - a) + wake ≤ left → 3 * (64 - (a + 1)) + wake ≤ left
-swept_count a wake left small enough = omega (arith, small, enough)
+counted_count : (a wake left : ℕ) → a < 64 → 3 * (63 - a) + wake ≤ left → 3 * (64 - (a + 1)) + wake ≤ left
+counted_count a wake left small enough = omega (arith, small, enough)
 
 -- it is enrolled: what else is reserved for it is released, or the next short address is asked
-swept_next : (start : Begun) (m : Machine) (a r : ℕ) (o : Order) (gs : List Gear) (left : ℕ) → Calm m → EnrolsSwept start m a r gs left → m.trace ≡ []
+counted_next : (start : Begun) (m : Machine) (a r : ℕ) (o : Order) (gs : List Gear) (left : ℕ) → Calm m → EnrolsCounted start m a r gs left → m.trace ≡ []
     → m.last ≡ Some (Commit (Enrol a r)) → IsGivenBy (with_kept m (Enrol a r)) o → OneShort gs → IsTrue (m.kept.enrolled ++ (a, r) ∷ []) gs
     → IsNext start (machine_ordered (with_kept m (Enrol a r)) o) o gs left × (survey_slack start.any (Some o) None + 1 ≤ enrol_slack start.any)
-swept_next start m a r o gs left calm v free last g one holds = go o g (g.followed.enrolled a r last) where
+counted_next start m a r o gs left calm v free last g one holds = go o g (g.followed.enrolled a r last) where
   goes : (q : Order) → IsGivenBy (with_kept m (Enrol a r)) q → ((c : ℕ) → Has m.kept.reserved (c, r) → c ≡ a)
       → IsNext start (machine_ordered (with_kept m (Enrol a r)) q) q gs left
   goes q g own =
@@ -73,7 +73,7 @@ swept_next start m a r o gs left calm v free last g one holds = go o g (g.follow
       (given.enrolled (with_kept m (Enrol a r)) q a r g last free own)
       (ap (begins_at (with_kept m (Enrol a r))) at ∙ ap (at_rest (with_kept m (Enrol a r))) last) v.way v.opened v.asked v.from_is
       (let small : a < 64 = v.small in omega (arith, small)) (λ e x has. has_before m.kept.enrolled (a, r) x (v.settled e x has)) v.clear one holds v.same
-      v.tabled (swept_count a (wake_frames start gs) left v.small v.frames)
+      v.tabled (counted_count a (wake_frames start gs) left v.small v.frames)
 
   go : (q : Order) → IsGivenBy (with_kept m (Enrol a r)) q → AfterEnrolled (with_kept m (Enrol a r)) a r q
       → IsNext start (machine_ordered (with_kept m (Enrol a r)) q) q gs left × (survey_slack start.any (Some q) None + 1 ≤ enrol_slack start.any)
@@ -117,7 +117,7 @@ released_begins m c r o calm free last g =
       no_enrolment_of : (l : Option Order) → l ≡ Some (Commit (Release c r)) → IsNoEnrolment l
       no_enrolment_of l is b n e = let other : Some (Commit (Release c r)) ≡ Some (Commit (Enrol b n)) = sym is ∙ e in cc
 
-released_next : (start : Begun) (m : Machine) (c r a : ℕ) (o : Order) (gs : List Gear) (left : ℕ) → Calm m → ReleasesSwept start m a gs left → m.trace ≡ []
+released_next : (start : Begun) (m : Machine) (c r a : ℕ) (o : Order) (gs : List Gear) (left : ℕ) → Calm m → ReleasesCounted start m a gs left → m.trace ≡ []
     → m.last ≡ Some (Commit (Release c r)) → IsGivenBy (with_kept m (Release c r)) o → OneShort gs → IsTrue m.kept.enrolled gs
     → IsNext start (machine_ordered (with_kept m (Release c r)) o) o gs left
 released_next start m c r a o gs left calm v free last g one holds =
@@ -126,7 +126,7 @@ released_next start m c r a o gs left calm v free last g one holds =
     (released_begins m c r o calm free last g)
     (ap (begins_at (with_kept m (Release c r))) at ∙ ap (at_rest (with_kept m (Release c r))) last) v.way v.opened v.asked v.from_is
     (let small : a < 64 = v.small in omega (arith, small)) (λ e. absurd (never e)) (λ e. absurd (never e)) one holds v.same v.tabled
-    (swept_count a (wake_frames start gs) left v.small v.frames)
+    (counted_count a (wake_frames start gs) left v.small v.frames)
   where
     never : start.any ≡ false → ⊥
     never e = let both : true ≡ false = sym v.any ∙ e in cc
@@ -237,7 +237,7 @@ committed start m (Reserve a r) o gs left calm v free last map g one holds = (
   reserved_next start m a r o gs left calm v free last g,
   begins_less o (with_kept m (Reserve a r)) start.any 1 (reserved_begins m a r o calm free last g) (omega arith),
 )
-committed start m (Enrol b r) o gs left calm (inl v) free last map g one holds = swept_next start m b r o gs left calm v free last g one holds
+committed start m (Enrol b r) o gs left calm (inl v) free last map g one holds = counted_next start m b r o gs left calm v free last g one holds
 committed start m (Enrol b r) o gs left calm (inr v) free last map g one holds = (
   hunted_next start m b r o gs left calm v free last map g,
   begins_less o (with_kept m (Enrol b r)) start.any (enrol_slack start.any) (hunted_begins start m b r o gs left v free last map g) (enrol_one start.any),

@@ -36,7 +36,7 @@ use Rattle.dali_controller.specs.Course.{Course, going_on, going_on_early, visit
 use Rattle.dali_controller.specs.Course.{searching_on, hunted, missed, byte_to_send}
 use Rattle.dali_controller.specs.Next.{next_course, begins_at, at_rest, draws, draws_by, draw_or_close, silenced, unanswered, probed_to, asked_once, hunted_to}
 use Rattle.dali_controller.specs.Next.{course_on, goes_on_anew}
-use Rattle.dali_progress.proofs.Sweep.Others.{way_on, way_first}
+use Rattle.dali_progress.proofs.Census.Others.{way_on, way_first}
 use Rattle.dali_controller.specs.Machine.{Machine, machine_heard, machine_told, machine_committed, opened_after}
 use Rattle.dali_controller.specs.Orders.{machine_after, machine_ordered, IsAllowed}
 use Rattle.dali_events.specs.World.{World, controller_at}

@@ -230,7 +230,7 @@ unseen_was (g ∷ gs) zero a short = go (is_seen g) refl where
   go true is = absurd (let none : None ≡ Some a = ap (λ b. (leave_one b g).short) (sym is) ∙ short in cc)
   go false is = let same : g.short ≡ Some a = ap (λ b. (leave_one b g).short) (sym is) ∙ short in (same, passed_by g a same is)
 
--- ---------------------------------------------------------------- the table, as far as the sweep is
+-- ---------------------------------------------------------------- the table, as far as the census is
 
 -- it names each gear that has a short address below this one
 abbrev pub TabledBelow : ℕ → List Gear → List Assignment → List Gear → Type 0

@@ -53,7 +53,7 @@ use Rattle.dali_progress.proofs.Survey.Drawn.{those_drawn, IsSearching, IsSought
 use Rattle.dali_progress.proofs.Survey.Drawn.{still_of, lost_same, seek_drawn}
 use Rattle.dali_progress.proofs.Survey.Queried.{Holds, OneGear, OneShort, one_gear, IsTrue, Nobody, HasAnswered, asked_gear, core_then, holds_on, holds_back}
 use Rattle.dali_progress.proofs.Survey.Queried.{unseen, below_on}
-use Rattle.dali_progress.proofs.Survey.Stands.{Begun, spare, IsClear, IsClearBut, IsClearAt, wake_frames, silent_left, asked_left, Tells, AskStage, Sweeps}
+use Rattle.dali_progress.proofs.Survey.Stands.{Begun, spare, IsClear, IsClearBut, IsClearAt, wake_frames, silent_left, asked_left, Tells, AskStage, Counts}
 use Rattle.dali_progress.proofs.Survey.Stands.{Wakes, searched_by, frames_after, IsOnWay, opened_at, surplus, IsBehind, HuntAt, Hunts, SurveyEnds, SurveyCloses}
 use Rattle.dali_progress.proofs.Survey.Stands.{SurveyAt}
 
@@ -106,11 +106,11 @@ tells_on gs hs a g P same holds told = (g, holds_on gs hs g a same holds, subst 
 nobody_on : (gs hs : List Gear) (a : ℕ) → SameCore gs hs → Nobody gs a → Nobody hs a
 nobody_on gs hs a same none g holds = none g (holds_back gs hs g a same holds)
 
--- the same sweep, one frame later
-sweeps_on : (a : ℕ) (s t : Stage) (k : Kept) (marks after : Shorts) (asked now from : ℕ) (start : Begun) (gs hs : List Gear) (left l : ℕ)
-    → Sweeps a s k marks asked from start gs left → SameCore gs hs → AskStage t a now hs → (start.any ≡ false → IsClearAt t a k after)
-    → 3 * (63 - a) + asked_left t now + wake_frames start gs ≤ l → Sweeps a t k after now from start hs l
-sweeps_on a s t k marks after asked now from start gs hs left l v same stage clear enough = record {
+-- the same census, one frame later
+counts_on : (a : ℕ) (s t : Stage) (k : Kept) (marks after : Shorts) (asked now from : ℕ) (start : Begun) (gs hs : List Gear) (left l : ℕ)
+    → Counts a s k marks asked from start gs left → SameCore gs hs → AskStage t a now hs → (start.any ≡ false → IsClearAt t a k after)
+    → 3 * (63 - a) + asked_left t now + wake_frames start gs ≤ l → Counts a t k after now from start hs l
+counts_on a s t k marks after asked now from start gs hs left l v same stage clear enough = record {
   small = v.small;
   from_is = v.from_is;
   settled = v.settled;
@@ -132,60 +132,60 @@ spend : (base need now wake left : ℕ) → base + need + wake ≤ left → now 
 spend base need now wake zero enough less = absurd (omega (arith, enough, less))
 spend base need now wake (suc l) enough less = (l, refl, omega (arith, enough, less))
 
-abbrev SweptTo : ℕ → Stage → Kept → Shorts → ℕ → ℕ → Begun → List Gear → List ℕ → ℕ → Command → Answer → Type 0
-SweptTo a s k marks asked from start gs numbers left c h =
+abbrev CountedTo : ℕ → Stage → Kept → Shorts → ℕ → ℕ → Begun → List Gear → List ℕ → ℕ → Command → Answer → Type 0
+CountedTo a s k marks asked from start gs numbers left c h =
     (l : ℕ) × (left ≡ suc l)
-    × Sweeps a (next_stage s c h) k (marked_at (next_stage s c h) h marks) (asked_at (next_stage s c h) h asked) from start
+    × Counts a (next_stage s c h) k (marked_at (next_stage s c h) h marks) (asked_at (next_stage s c h) h asked) from start
     (row_after Everyone c 0 gs numbers) l
 
 first_asked : (a : ℕ) (k : Kept) (marks : Shorts) (asked from : ℕ) (start : Begun) (gs : List Gear) (numbers : List ℕ) (left : ℕ) (h : Answer)
-    → Sweeps a stage.Free k marks asked from start gs left → OneGear gs → h ≡ heard_of (answers_of Everyone (RandomByte a High) 0 gs)
-    → SweptTo a stage.Free k marks asked from start gs numbers left (RandomByte a High) h
+    → Counts a stage.Free k marks asked from start gs left → OneGear gs → h ≡ heard_of (answers_of Everyone (RandomByte a High) 0 gs)
+    → CountedTo a stage.Free k marks asked from start gs numbers left (RandomByte a High) h
 first_asked a k marks asked from start gs numbers left h v one heard = go (heard_high a High gs h one heard) where
   same : SameCore gs (row_after Everyone (RandomByte a High) 0 gs numbers)
   same = leaving.core_after (RandomByte a High) gs numbers tt
 
   go : ((g : ℕ) × Holds gs g a × (h ≡ Byte (high_of (gear_of gs g).random))) ⊎ (Nobody gs a × (h ≡ Silence))
-      → SweptTo a stage.Free k marks asked from start gs numbers left (RandomByte a High) h
+      → CountedTo a stage.Free k marks asked from start gs numbers left (RandomByte a High) h
   go (inl (g, holds, is)) =
-      subst (λ b. SweptTo a stage.Free k marks asked from start gs numbers left (RandomByte a High) b) (sym is) (by v.stage_is) where
+      subst (λ b. CountedTo a stage.Free k marks asked from start gs numbers left (RandomByte a High) b) (sym is) (by v.stage_is) where
         by : (asked ≡ 0) ⊎ (Nobody gs a × (asked ≤ 2))
-            → SweptTo a stage.Free k marks asked from start gs numbers left (RandomByte a High) (Byte (high_of (gear_of gs g).random))
+            → CountedTo a stage.Free k marks asked from start gs numbers left (RandomByte a High) (Byte (high_of (gear_of gs g).random))
         by (inr nobody) = absurd (nobody.0 g holds)
         by (inl none) =
             let less = spend (3 * (63 - a)) (3 - asked) 2 (wake_frames start gs) left v.frames (omega (arith, none)) in (
               less.0,
               less.1,
-              sweeps_on a stage.Free (stage.HighAsked a (Some (high_of (gear_of gs g).random))) k marks (with_short marks a) asked 0 from start gs _ left less.0
+              counts_on a stage.Free (stage.HighAsked a (Some (high_of (gear_of gs g).random))) k marks (with_short marks a) asked 0 from start gs _ left less.0
                   v same (refl, tells_on gs _ a g (λ r. high_of (gear_of gs g).random ≡ high_of r) same holds refl)
                   (λ e. clear_with k marks a a refl v.small (λ c q has apart. v.clear e c q has)) less.2,
             )
   go (inr (none, is)) =
-      subst (λ b. SweptTo a stage.Free k marks asked from start gs numbers left (RandomByte a High) b) (sym is) (by (few v.stage_is)) where
+      subst (λ b. CountedTo a stage.Free k marks asked from start gs numbers left (RandomByte a High) b) (sym is) (by (few v.stage_is)) where
         few : (asked ≡ 0) ⊎ (Nobody gs a × (asked ≤ 2)) → asked ≤ 2
         few (inl zero_is) = omega (arith, zero_is)
         few (inr nobody) = nobody.1
 
-        by : asked ≤ 2 → SweptTo a stage.Free k marks asked from start gs numbers left (RandomByte a High) Silence
+        by : asked ≤ 2 → CountedTo a stage.Free k marks asked from start gs numbers left (RandomByte a High) Silence
         by small =
             let again = silence_again asked small in
             let less = spend (3 * (63 - a)) (3 - asked) (silent_left (asked_after_silence asked)) (wake_frames start gs) left v.frames again.1 in (
               less.0,
               less.1,
-              sweeps_on a stage.Free (stage.HighAsked a None) k marks marks asked (asked_after_silence asked) from start gs _ left less.0 v same
+              counts_on a stage.Free (stage.HighAsked a None) k marks marks asked (asked_after_silence asked) from start gs _ left less.0 v same
                   (refl, nobody_on gs _ a same none, again.0) v.clear less.2,
             )
 
 second_asked : (a b u : ℕ) (k : Kept) (marks : Shorts) (asked from : ℕ) (start : Begun) (gs : List Gear) (numbers : List ℕ) (left : ℕ) (h : Answer)
-    → Sweeps a (stage.HighAsked b (Some u)) k marks asked from start gs left → OneGear gs → h ≡ heard_of (answers_of Everyone (RandomByte b Middle) 0 gs)
-    → SweptTo a (stage.HighAsked b (Some u)) k marks asked from start gs numbers left (RandomByte b Middle) h
+    → Counts a (stage.HighAsked b (Some u)) k marks asked from start gs left → OneGear gs → h ≡ heard_of (answers_of Everyone (RandomByte b Middle) 0 gs)
+    → CountedTo a (stage.HighAsked b (Some u)) k marks asked from start gs numbers left (RandomByte b Middle) h
 second_asked a b u k marks asked from start gs numbers left h v one heard =
     go (heard_high a Middle gs h one (subst (λ d. h ≡ heard_of (answers_of Everyone (RandomByte d Middle) 0 gs)) v.stage_is.0 heard)) where
       same : SameCore gs (row_after Everyone (RandomByte b Middle) 0 gs numbers)
       same = leaving.core_after (RandomByte b Middle) gs numbers tt
 
       go : ((g : ℕ) × Holds gs g a × (h ≡ Byte (middle_of (gear_of gs g).random))) ⊎ (Nobody gs a × (h ≡ Silence))
-          → SweptTo a (stage.HighAsked b (Some u)) k marks asked from start gs numbers left (RandomByte b Middle) h
+          → CountedTo a (stage.HighAsked b (Some u)) k marks asked from start gs numbers left (RandomByte b Middle) h
       go (inr (none, is)) = absurd (none v.stage_is.1.0 v.stage_is.1.1)
       go (inl (g, holds, is)) =
           let at : g ≡ v.stage_is.1.0 = one g v.stage_is.1.0 a holds v.stage_is.1.1 in
@@ -195,7 +195,7 @@ second_asked a b u k marks asked from start gs numbers left h v one heard =
           let less = spend (3 * (63 - a)) 2 1 (wake_frames start gs) left v.frames (omega arith) in (
             less.0,
             less.1,
-            rw there (sweeps_on a (stage.HighAsked b (Some u)) (stage.MiddleAsked b (Some (u, middle_of (gear_of gs g).random))) k marks (with_short marks b)
+            rw there (counts_on a (stage.HighAsked b (Some u)) (stage.MiddleAsked b (Some (u, middle_of (gear_of gs g).random))) k marks (with_short marks b)
                 asked 0 from start gs _ left less.0 v same
                 (v.stage_is.0, tells_on gs _ a g (λ r. (u ≡ high_of r) × (middle_of (gear_of gs g).random ≡ middle_of r)) same holds (high, refl))
                 (λ e. clear_with k marks b a v.stage_is.0 v.small (v.clear e)) less.2),
@@ -228,9 +228,9 @@ told_clear a b n k marks gs g same small settled told one holds number clear c q
       absurd (let top : n ≡ MASK24 = same_number n MASK24 mask in omega (arith, below, random, top))
 
 third_asked : (a b : ℕ) (x : ℕ × ℕ) (k : Kept) (marks : Shorts) (asked from : ℕ) (start : Begun) (gs : List Gear) (numbers : List ℕ) (left : ℕ) (h : Answer)
-    → Sweeps a (stage.MiddleAsked b (Some x)) k marks asked from start gs left → OneShort gs → IsTold k gs
+    → Counts a (stage.MiddleAsked b (Some x)) k marks asked from start gs left → OneShort gs → IsTold k gs
     → h ≡ heard_of (answers_of Everyone (RandomByte b Low) 0 gs)
-    → SweptTo a (stage.MiddleAsked b (Some x)) k marks asked from start gs numbers left (RandomByte b Low) h
+    → CountedTo a (stage.MiddleAsked b (Some x)) k marks asked from start gs numbers left (RandomByte b Low) h
 third_asked a b x k marks asked from start gs numbers left h v one told heard =
     go (heard_high a Low gs h (one_gear gs one) (subst (λ d. h ≡ heard_of (answers_of Everyone (RandomByte d Low) 0 gs)) v.stage_is.0 heard)) where
       same : SameCore gs (row_after Everyone (RandomByte b Low) 0 gs numbers)
@@ -244,7 +244,7 @@ third_asked a b x k marks asked from start gs numbers left h v one told heard =
           ap (λ j. (gear_of gs j).random) at ∙ sym (same.each i back.there).same_random
 
       go : ((g : ℕ) × Holds gs g a × (h ≡ Byte (low_of (gear_of gs g).random))) ⊎ (Nobody gs a × (h ≡ Silence))
-          → SweptTo a (stage.MiddleAsked b (Some x)) k marks asked from start gs numbers left (RandomByte b Low) h
+          → CountedTo a (stage.MiddleAsked b (Some x)) k marks asked from start gs numbers left (RandomByte b Low) h
       go (inr (none, is)) = absurd (none v.stage_is.1.0 v.stage_is.1.1)
       go (inl (g, holds, is)) =
           let at : g ≡ v.stage_is.1.0 = one_gear gs one g v.stage_is.1.0 a holds v.stage_is.1.1 in
@@ -257,30 +257,30 @@ third_asked a b x k marks asked from start gs numbers left h v one told heard =
           let less = spend (3 * (63 - a)) 1 0 (wake_frames start gs) left v.frames (omega arith) in (
             less.0,
             less.1,
-            rw there (sweeps_on a (stage.MiddleAsked b (Some x)) (stage.Spelled b (Some (gear_of gs g).random)) k marks
+            rw there (counts_on a (stage.MiddleAsked b (Some x)) (stage.Spelled b (Some (gear_of gs g).random)) k marks
                 (if (gear_of gs g).random == MASK24 then with_short marks b else without_short marks b) asked 0 from start gs _ left less.0 v same
                 (v.stage_is.0, tells g holds, refl)
                 (λ e. told_clear a b (gear_of gs g).random k marks gs g v.stage_is.0 v.small (v.settled e) told one holds refl (v.clear e)) less.2),
           )
 
-sweeps_sent : (a : ℕ) (s : Stage) (k : Kept) (marks : Shorts) (asked from : ℕ) (n : SearchAddress) (start : Begun) (gs : List Gear) (numbers : List ℕ)
+counts_sent : (a : ℕ) (s : Stage) (k : Kept) (marks : Shorts) (asked from : ℕ) (n : SearchAddress) (start : Begun) (gs : List Gear) (numbers : List ℕ)
     (left : ℕ)
-    (c : Command) (h : Answer) → Sweeps a s k marks asked from start gs left → Sends (Asking a) n k s c → OneShort gs → IsTold k gs
-    → h ≡ heard_of (answers_of Everyone c 0 gs) → SweptTo a s k marks asked from start gs numbers left c h
-sweeps_sent a stage.Free k marks asked from n start gs numbers left c h v is one told heard =
-    subst (λ d. h ≡ heard_of (answers_of Everyone d 0 gs) → SweptTo a stage.Free k marks asked from start gs numbers left d h) (sym is)
+    (c : Command) (h : Answer) → Counts a s k marks asked from start gs left → Sends (Asking a) n k s c → OneShort gs → IsTold k gs
+    → h ≡ heard_of (answers_of Everyone c 0 gs) → CountedTo a s k marks asked from start gs numbers left c h
+counts_sent a stage.Free k marks asked from n start gs numbers left c h v is one told heard =
+    subst (λ d. h ≡ heard_of (answers_of Everyone d 0 gs) → CountedTo a stage.Free k marks asked from start gs numbers left d h) (sym is)
     (first_asked a k marks asked from start gs numbers left h v (one_gear gs one)) heard
-sweeps_sent a (stage.HighAsked b (Some u)) k marks asked from n start gs numbers left c h v is one told heard =
-    subst (λ d. h ≡ heard_of (answers_of Everyone d 0 gs) → SweptTo a (stage.HighAsked b (Some u)) k marks asked from start gs numbers left d h)
+counts_sent a (stage.HighAsked b (Some u)) k marks asked from n start gs numbers left c h v is one told heard =
+    subst (λ d. h ≡ heard_of (answers_of Everyone d 0 gs) → CountedTo a (stage.HighAsked b (Some u)) k marks asked from start gs numbers left d h)
     (some_is (RandomByte b Middle) c is)
     (second_asked a b u k marks asked from start gs numbers left h v (one_gear gs one)) heard
-sweeps_sent a (stage.HighAsked b None) k marks asked from n start gs numbers left c h v is one told heard = absurd (cc)
-sweeps_sent a (stage.MiddleAsked b (Some x)) k marks asked from n start gs numbers left c h v is one told heard =
-    subst (λ d. h ≡ heard_of (answers_of Everyone d 0 gs) → SweptTo a (stage.MiddleAsked b (Some x)) k marks asked from start gs numbers left d h)
+counts_sent a (stage.HighAsked b None) k marks asked from n start gs numbers left c h v is one told heard = absurd (cc)
+counts_sent a (stage.MiddleAsked b (Some x)) k marks asked from n start gs numbers left c h v is one told heard =
+    subst (λ d. h ≡ heard_of (answers_of Everyone d 0 gs) → CountedTo a (stage.MiddleAsked b (Some x)) k marks asked from start gs numbers left d h)
     (some_is (RandomByte b Low) c is)
     (third_asked a b x k marks asked from start gs numbers left h v one told) heard
-sweeps_sent a (stage.Spelled b (Some m)) k marks asked from n start gs numbers left c h v is one told heard = absurd (cc)
-sweeps_sent a _ k marks asked from n start gs numbers left c h v is one told heard = absurd v.stage_is
+counts_sent a (stage.Spelled b (Some m)) k marks asked from n start gs numbers left c h v is one told heard = absurd (cc)
+counts_sent a _ k marks asked from n start gs numbers left c h v is one told heard = absurd v.stage_is
 
 -- ---------------------------------------------------------------- the wake
 
@@ -616,7 +616,7 @@ pub survey_sent : (p : Purpose) (y : Way) (s : Stage) (k : Kept) (heard : Shorts
     (start : Begun) (gs : List Gear) (numbers : List ℕ) (left : ℕ) (c : Command) (h : Answer) → SurveyAt false p y s k heard opened asked x n from start gs left
     → Sends p n k s c → IsSurveyTaken c gs numbers h → IsTold k gs → Seeks s gs → SurveySent p y s k heard opened asked x n from start gs numbers left c h
 survey_sent (Asking a) y s k heard opened asked x n from start gs numbers left c h at is t told seek =
-    let sent = sweeps_sent a s k heard asked from n start gs numbers left c h at.2 is t.one told t.taken.heard in
+    let sent = counts_sent a s k heard asked from n start gs numbers left c h at.2 is t.one told t.taken.heard in
     let unwoken : woken_after (next_stage s c h) (Asking a) (opened_after (next_stage s c h) opened) ≡ false =
     not_woken (next_stage s c h) (Asking a) (opened_after (next_stage s c h) opened) (λ e. cc)
     ∙ ap (opened_after (next_stage s c h)) at.1 ∙ asked_unopened (next_stage s c h) a _ (row_after Everyone c 0 gs numbers) sent.2.stage_is in

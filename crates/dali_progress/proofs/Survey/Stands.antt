@@ -14,7 +14,7 @@ use Rattle.dali_search.specs.Least.{Gives}
 use Rattle.dali_search.specs.Ascending.{Ascent, IsAscent, Knows, asked_next, leads_to}
 use Rattle.dali_search.specs.Questions.{Asking, has_room, frames_to_ask, room_left, thirds_to_somebody, thirds_to_nobody, IsTrueWay}
 use Rattle.dali_controller.specs.declared.purpose.Purpose.{Purpose}
-use Rattle.dali_controller.specs.declared.purpose.Purpose.TheVariants.{Opening, Probing, Visiting, Resolving, Closing, Waking, Hunting, Asking as Sweeping}
+use Rattle.dali_controller.specs.declared.purpose.Purpose.TheVariants.{Opening, Probing, Visiting, Resolving, Closing, Waking, Hunting, Asking as Counting}
 use Rattle.dali_controller.specs.declared.shorts.Shorts.{Shorts}
 use Rattle.dali_controller.specs.declared.way.Way.{Way}
 use Rattle.dali_controller.specs.declared.way.Way.TheVariants.{Fresh, Surveying, Drawing}
@@ -38,7 +38,7 @@ pub record Begun : Type 0 where
   pub gear : List Gear
   pub any : Bool
 
--- ---------------------------------------------------------------- the sweep
+-- ---------------------------------------------------------------- the census
 
 -- of any records what is reserved may be another's: then the search under the old numbers may be left off in a visit
 abbrev pub spare : Bool → ℕ
@@ -85,7 +85,7 @@ IsClearAt (stage.HighAsked b (Some v)) a k heard = IsClearBut k heard a
 IsClearAt (stage.MiddleAsked b x) a k heard = IsClearBut k heard a
 IsClearAt _ a k heard = IsClear k heard
 
-pub record Sweeps (a : ℕ) (s : Stage) (k : Kept) (heard : Shorts) (asked from : ℕ) (start : Begun) (gs : List Gear) (left : ℕ) : Type 0 where
+pub record Counts (a : ℕ) (s : Stage) (k : Kept) (heard : Shorts) (asked from : ℕ) (start : Begun) (gs : List Gear) (left : ℕ) : Type 0 where
   pub small : a < 64
   pub from_is : from ≡ a + 1
   pub settled : start.any ≡ false → IsSettled k
@@ -259,8 +259,8 @@ pub record SurveyCloses (e : End) (s : Stage) (k : Kept) (heard : Shorts) (start
 -- ---------------------------------------------------------------- of whatever transaction
 
 abbrev pub SurveyAt : Bool → Purpose → Way → Stage → Kept → Shorts → Bool → ℕ → Ascent → SearchAddress → ℕ → Begun → List Gear → ℕ → Type 0
-SurveyAt told (Sweeping a) y s k heard opened asked x n from start gs left =
-    (y ≡ Surveying) × (opened ≡ false) × Sweeps a s k heard asked from start gs left
+SurveyAt told (Counting a) y s k heard opened asked x n from start gs left =
+    (y ≡ Surveying) × (opened ≡ false) × Counts a s k heard asked from start gs left
 SurveyAt told Waking y s k heard opened asked x n from start gs left = (y ≡ Surveying) × (asked ≡ 0) × Wakes s k heard opened start gs left
 SurveyAt told Opening y s k heard opened asked x n from start gs left = Hunts told Opening y s k heard opened x n start gs left
 SurveyAt told Hunting y s k heard opened asked x n from start gs left = Hunts told Hunting y s k heard opened x n start gs left

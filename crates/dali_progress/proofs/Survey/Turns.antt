@@ -35,10 +35,10 @@ use Rattle.dali_events.specs.Wanted.{gear_of, is_wanted, is_bare, IsOpened, None
 use Rattle.dali_events.proofs.Search.Wanted as wanted
 use Rattle.dali_progress.proofs.Both.{never_eight, has_random}
 use Rattle.dali_progress.proofs.Later.{course_stays}
-use Rattle.dali_progress.proofs.Sweep.Asked.{sending_of}
+use Rattle.dali_progress.proofs.Census.Asked.{sending_of}
 use Rattle.dali_progress.proofs.Survey.Drawn.{those_drawn, is_lost, AreNumbered, bare_split, woken_opened, woken_none_named, tabled_drawn}
 use Rattle.dali_progress.proofs.Survey.Queried.{Holds, OneShort, IsTrue, unseen, below_next}
-use Rattle.dali_progress.proofs.Survey.Stands.{Begun, spare, wake_frames, silent_left, Sweeps, Wakes, SurveyStands}
+use Rattle.dali_progress.proofs.Survey.Stands.{Begun, spare, wake_frames, silent_left, Counts, Wakes, SurveyStands}
 use Rattle.dali_progress.proofs.Survey.Begins.{IsNext, calm_of, calm_ordered, turns_by, first_by, begins_whole, asks_on, hunts_first, own_settled}
 
 -- A CONTROLLER THAT SURVEYS ACTS on what it was told, and what it orders goes on with the survey.
@@ -52,7 +52,7 @@ pub found_at : {told : Bool} (start : Begun) (t : Machine) (gs : List Gear) (lef
     → finding_of t.trace ≡ finding_at s
 found_at start t gs left s st is = st.trace.finding ∙ ap finding_at is
 
--- ---------------------------------------------------------------- the sweep
+-- ---------------------------------------------------------------- the census
 
 -- a whole machine asks nothing more after silence
 silent_over : (t : Machine) (a b : ℕ) → t.course.purpose ≡ Asking a → stage_of t.trace ≡ stage.HighAsked b None → (f : Forward)
@@ -71,7 +71,7 @@ again_left (suc k) e = omega arith
 
 silent_turns : (start : Begun) (t : Machine) (o : Order) (a b : ℕ) (gs : List Gear) (left : ℕ) → IsGivenBy t o → SurveyStands true start t gs left
     → IsNoEnrolment t.last → t.course.purpose ≡ Asking a → stage_of t.trace ≡ stage.HighAsked b None → t.course.way ≡ Surveying → t.opened ≡ false
-    → Sweeps a (stage.HighAsked b None) t.kept t.heard t.asked t.course.from start gs left → IsWhole (machine_ordered t o)
+    → Counts a (stage.HighAsked b None) t.kept t.heard t.asked t.course.from start gs left → IsWhole (machine_ordered t o)
     → OneShort gs → IsTrue t.kept.enrolled gs → IsNext start (machine_ordered t o) o gs left
 silent_turns start t o a b gs left g st last purpose is surveys opened v whole one holds = go (t.asked == 0) refl where
   begins : o ≡ beginning (next_course t)
@@ -113,7 +113,7 @@ silent_turns start t o a b gs left g st last purpose is surveys opened v whole o
 -- three bytes told a number
 told_turns : (start : Begun) (t : Machine) (o : Order) (a b n : ℕ) (gs : List Gear) (left : ℕ) → IsGivenBy t o → SurveyStands true start t gs left
     → t.course.purpose ≡ Asking a → stage_of t.trace ≡ stage.Spelled b (Some n) → t.course.way ≡ Surveying → t.opened ≡ false
-    → Sweeps a (stage.Spelled b (Some n)) t.kept t.heard t.asked t.course.from start gs left → IsKept t.kept → AreNumbered gs → OneShort gs
+    → Counts a (stage.Spelled b (Some n)) t.kept t.heard t.asked t.course.from start gs left → IsKept t.kept → AreNumbered gs → OneShort gs
     → IsTrue t.kept.enrolled gs → IsUncontradicted t → IsNext start (machine_ordered t o) o gs left
 told_turns start t o a b n gs left g st purpose is surveys opened v kept numbered one holds agrees = go (nat_lt n MASK24) refl where
   count : (wake : ℕ) → a < 64 → 3 * (63 - a) + 0 + wake ≤ left → 3 * (64 - (a + 1)) + wake ≤ left
@@ -181,23 +181,23 @@ told_turns start t o a b n gs left g st purpose is surveys opened v kept numbere
       let large : n < MASK24 → ⊥ = grind (arith, nat_tests, over) in
       goes o (g.followed.another b n is (λ s. large (subst (λ p. IsSought p t.course.number n) purpose s))) (none_drawn large)
 
-pub sweep_turns : (start : Begun) (t : Machine) (o : Order) (a : ℕ) (s : Stage) (gs : List Gear) (left : ℕ) → IsGivenBy t o → SurveyStands true start t gs left
+pub census_turns : (start : Begun) (t : Machine) (o : Order) (a : ℕ) (s : Stage) (gs : List Gear) (left : ℕ) → IsGivenBy t o → SurveyStands true start t gs left
     → IsNoEnrolment t.last → t.course.purpose ≡ Asking a → stage_of t.trace ≡ s → (s ≡ stage.Free → ⊥) → t.course.way ≡ Surveying → t.opened ≡ false
-    → Sweeps a s t.kept t.heard t.asked t.course.from start gs left → IsKept t.kept → AreNumbered gs → OneShort gs → IsTrue t.kept.enrolled gs
+    → Counts a s t.kept t.heard t.asked t.course.from start gs left → IsKept t.kept → AreNumbered gs → OneShort gs → IsTrue t.kept.enrolled gs
     → IsUncontradicted t → IsWhole (machine_ordered t o)
     → IsNext start (machine_ordered t o) o gs left
-sweep_turns start t o a stage.Free gs left g st last purpose is running surveys opened v kept numbered one holds agrees whole = absurd (running refl)
-sweep_turns start t o a (stage.HighAsked b None) gs left g st last purpose is running surveys opened v kept numbered one holds agrees whole =
+census_turns start t o a stage.Free gs left g st last purpose is running surveys opened v kept numbered one holds agrees whole = absurd (running refl)
+census_turns start t o a (stage.HighAsked b None) gs left g st last purpose is running surveys opened v kept numbered one holds agrees whole =
     silent_turns start t o a b gs left g st last purpose is surveys opened v whole one holds
-sweep_turns start t o a (stage.HighAsked b (Some u)) gs left g st last purpose is running surveys opened v kept numbered one holds agrees whole =
+census_turns start t o a (stage.HighAsked b (Some u)) gs left g st last purpose is running surveys opened v kept numbered one holds agrees whole =
     turns_by start t o (Asking a) (stage.HighAsked b (Some u)) (RandomByte b Middle) gs left g st purpose is refl
     (subst (λ c. c < 64) (sym v.stage_is.0) v.small) refl
-sweep_turns start t o a (stage.MiddleAsked b (Some x)) gs left g st last purpose is running surveys opened v kept numbered one holds agrees whole =
+census_turns start t o a (stage.MiddleAsked b (Some x)) gs left g st last purpose is running surveys opened v kept numbered one holds agrees whole =
     turns_by start t o (Asking a) (stage.MiddleAsked b (Some x)) (RandomByte b Low) gs left g st purpose is refl
     (subst (λ c. c < 64) (sym v.stage_is.0) v.small) refl
-sweep_turns start t o a (stage.Spelled b (Some n)) gs left g st last purpose is running surveys opened v kept numbered one holds agrees whole =
+census_turns start t o a (stage.Spelled b (Some n)) gs left g st last purpose is running surveys opened v kept numbered one holds agrees whole =
     told_turns start t o a b n gs left g st purpose is surveys opened v kept numbered one holds agrees
-sweep_turns start t o a _ gs left g st last purpose is running surveys opened v kept numbered one holds agrees whole = absurd v.stage_is
+census_turns start t o a _ gs left g st last purpose is running surveys opened v kept numbered one holds agrees whole = absurd v.stage_is
 
 -- ---------------------------------------------------------------- the wake
 

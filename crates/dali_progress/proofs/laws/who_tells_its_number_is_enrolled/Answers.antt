@@ -1,6 +1,6 @@
-use Rattle.dali_progress.proofs.Sweep.Told.{who_told}
-use Rattle.dali_progress.proofs.Sweep.Spelled.{who_answers}
+use Rattle.dali_progress.proofs.Census.Told.{who_told}
+use Rattle.dali_progress.proofs.Census.Spelled.{who_answers}
 use Rattle.dali_progress.proofs.laws.who_tells_its_number_is_enrolled.Goals as goal
 
 pub returns : goal.returns
-returns c = record { told = who_told; swept = who_answers }
+returns c = record { told = who_told; taken = who_answers }

@@ -31,12 +31,12 @@ use Rattle.dali_controller.specs.Machine.{Machine}
 use Rattle.dali_controller.specs.Next.{next_course, begins_at, goes_on_to, at_rest, asked_once, probed_to, draw_or_close, draws, silenced, unanswered}
 use Rattle.dali_controller.specs.Next.{course_on, hunted_in, hunted_to, goes_on_anew}
 use Rattle.dali_controller.specs.Orders.{IsAllowed, machine_ordered}
-use Rattle.dali_progress.specs.Swept.{was_sent, was_lost}
-use Rattle.dali_progress.proofs.Sweep.Left.{at_stage, of_purpose, of_last, beyond, left_on, left, waits_most, quiet, goes_moves, StaysOrMoves, begins_moves}
-use Rattle.dali_progress.proofs.Sweep.Left.{IsQuiet, hunted_quiet, Moves}
-use Rattle.dali_progress.proofs.Sweep.Asked.{quiet_left, by_order, moved_left, same_left}
+use Rattle.dali_progress.specs.Census.{was_sent, was_lost}
+use Rattle.dali_progress.proofs.Census.Left.{at_stage, of_purpose, of_last, beyond, left_on, left, waits_most, quiet, goes_moves, StaysOrMoves, begins_moves}
+use Rattle.dali_progress.proofs.Census.Left.{IsQuiet, hunted_quiet, Moves}
+use Rattle.dali_progress.proofs.Census.Asked.{quiet_left, by_order, moved_left, same_left}
 
--- A SWEEP IS BOUNDED: what an order leaves at every other step, and where no survey sweeps.
+-- A CENSUS IS BOUNDED: what an order leaves at every other step, and where no survey counts.
 
 -- ---------------------------------------------------------------- every other step
 
@@ -231,7 +231,7 @@ none_left u n Fresh other = refl
 none_left u n Surveying other = absurd (other refl)
 none_left u n Drawing other = refl
 
--- where no survey sweeps, none will
+-- where no survey counts, none will
 pub other_left : (u : ℕ) (t : Machine) → (t.course.way ≡ Surveying → ⊥) → (o : Order) → IsAllowed t o → left u (machine_ordered t o) ≡ 0
 other_left u t other =
     by_order t (λ o. left u (machine_ordered t o) ≡ 0) first later

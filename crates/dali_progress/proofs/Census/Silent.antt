@@ -19,12 +19,12 @@ use Rattle.dali_controller.specs.Next.{begins_at, asked_once}
 use Rattle.dali_controller.specs.Orders.{IsGiven, IsAllowed, machine_after, machine_ordered}
 use Rattle.dali_controller.specs.Whole.{IsWhole}
 use Rattle.dali_progress.specs.Surveyed.{Step, IsTaken, IsCourse, IsPlain, ArePlain, IsAccounted, stage_told, heard_at, heard_by}
-use Rattle.dali_progress.specs.Swept.{BeginsBySurvey, AreWhole, WasSilent}
+use Rattle.dali_progress.specs.Census.{BeginsBySurvey, AreWhole, WasSilent}
 use Rattle.dali_progress.proofs.Accounted.{accounted_by, accounted_stays, unreserved}
-use Rattle.dali_progress.proofs.Sweep.Asked.{Asks, later_asks}
-use Rattle.dali_progress.proofs.Sweep.Coming.{IsToCome, IsEnded, Hearing, hearing_of, again, Looks, Watched, watched}
+use Rattle.dali_progress.proofs.Census.Asked.{Asks, later_asks}
+use Rattle.dali_progress.proofs.Census.Coming.{IsToCome, IsEnded, Hearing, hearing_of, again, Looks, Watched, watched}
 
--- WHAT IS GIVEN WAS SILENT: once a sweep is over, each short address was silent or is accounted for.
+-- WHAT IS GIVEN WAS SILENT: once a census is over, each short address was silent or is accounted for.
 
 -- what came of a question: it was silent for the third time, or somebody was heard, or it is asked again
 abbrev Third : Machine → Machine → Answer → ℕ → Type 0

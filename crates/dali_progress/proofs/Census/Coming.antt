@@ -36,13 +36,13 @@ use Rattle.dali_controller.specs.Next.{next_course, begins_at, goes_on_to, at_re
 use Rattle.dali_controller.specs.Orders.{IsGiven, IsAllowed, MayCommit, machine_after, machine_ordered}
 use Rattle.dali_controller.specs.Whole.{IsWhole, IsReady, IsSending, Pending, Sends, Knows}
 use Rattle.dali_progress.specs.Surveyed.{Step, IsTaken, IsCourse, IsPlain, ArePlain, stage_told}
-use Rattle.dali_progress.specs.Swept.{IsSurveyed, BeginsBySurvey, AreWhole}
+use Rattle.dali_progress.specs.Census.{IsSurveyed, BeginsBySurvey, AreWhole}
 use Rattle.dali_progress.proofs.Accounted.{unreserved}
 use Rattle.dali_progress.proofs.Later.{IsUnasked, stays_at}
-use Rattle.dali_progress.proofs.Sweep.Asked.{by_order, Asks, asks_of, self, sending_of}
-use Rattle.dali_progress.proofs.Sweep.Course.{IsAlone, alone_after, put_is, commit_is, started, runs_after}
+use Rattle.dali_progress.proofs.Census.Asked.{by_order, Asks, asks_of, self, sending_of}
+use Rattle.dali_progress.proofs.Census.Course.{IsAlone, alone_after, put_is, commit_is, started, runs_after}
 
--- WHAT A SWEEP SEES of a short address: until it was asked, or the table names it, it is still to come.
+-- WHAT A CENSUS SEES of a short address: until it was asked, or the table names it, it is still to come.
 
 -- ---------------------------------------------------------------- which address is asked next
 
@@ -143,12 +143,12 @@ pub record Hearing (m t : Machine) (b : ℕ) (h : Answer) : Type 0 where
       → (stage_of t.trace ≡ stage.HighAsked b (Some v))
       ⊎ (((y : ℕ × ℕ) × (stage_of t.trace ≡ stage.MiddleAsked b (Some y))) ⊎ ((r : ℕ) × (stage_of t.trace ≡ stage.Spelled b (Some r))))
 
-pub record Sweeping (m : Machine) (b : ℕ) : Type 0 where
+pub record Counting (m : Machine) (b : ℕ) : Type 0 where
   pub way : m.course.way ≡ Surveying
   pub opened : m.opened ≡ false
 
-pub sweeping_ready : (m : Machine) (b : ℕ) → m.course.purpose ≡ Asking b → IsReady m → Sweeping m b
-sweeping_ready m b purpose ready =
+pub counting_ready : (m : Machine) (b : ℕ) → m.course.purpose ≡ Asking b → IsReady m → Counting m b
+counting_ready m b purpose ready =
     let knows = subst (λ q. Knows m.course.way m.kept m.course.number m.course.search m.course.ascent m.opened q) purpose ready.knows in
     record { way = knows.1; opened = knows.0 }
 
@@ -167,8 +167,8 @@ hearing_of m h p f b purpose last whole = go (asks_of m.kept m.course.number b (
   sending : IsSending m f
   sending = sending_of m p f last whole
 
-  sweeping : Sweeping m b
-  sweeping = sweeping_ready m b purpose sending.ready
+  counting : Counting m b
+  counting = counting_ready m b purpose sending.ready
 
   sends : Sends m.kept m.course.number (Asking b) (stage_of m.trace) (command_of f)
   sends = subst (λ q. Sends m.kept m.course.number q (stage_of m.trace) (command_of f)) purpose sending.sends
@@ -188,7 +188,7 @@ hearing_of m h p f b purpose last whole = go (asks_of m.kept m.course.number b (
       record {
         course = refl;
         last = refl;
-        opened = rw (purpose, at ∙ next) sweeping.opened;
+        opened = rw (purpose, at ∙ next) counting.opened;
         finding = found (rw (free, high) refl) (rw free refl);
         at = inl (at ∙ next, rw (purpose, at ∙ next) refl);
         clean = λ v is. inl (at ∙ next ∙ ap (λ k. stage.HighAsked b (byte_heard k)) is);
@@ -198,7 +198,7 @@ hearing_of m h p f b purpose last whole = go (asks_of m.kept m.course.number b (
       record {
         course = refl;
         last = refl;
-        opened = rw (purpose, at ∙ next) sweeping.opened;
+        opened = rw (purpose, at ∙ next) counting.opened;
         finding = found (rw (same, middle, self c) refl) (rw same refl);
         at = inr (inl (bytes_heard (Some x) h, at ∙ next));
         clean = λ v is. inr (inl ((x, v), at ∙ next ∙ ap (λ k. stage.MiddleAsked b (bytes_heard (Some x) k)) is));
@@ -208,13 +208,13 @@ hearing_of m h p f b purpose last whole = go (asks_of m.kept m.course.number b (
       record {
         course = refl;
         last = refl;
-        opened = rw (purpose, at ∙ next) sweeping.opened;
+        opened = rw (purpose, at ∙ next) counting.opened;
         finding = found (rw (same, low, self c) refl) (rw same refl);
         at = inr (inr (number_heard (Some x) h, at ∙ next));
         clean = λ v is. inr (inr (number_of x.0 x.1 v, at ∙ next ∙ ap (λ k. stage.Spelled b (number_heard (Some x) k)) is));
       }
 
--- ---------------------------------------------------------------- a step while it sweeps
+-- ---------------------------------------------------------------- a step while it counts
 
 -- the next course is the same, or that of the next short address
 abbrev pub StaysOrGoes : Machine → Type 0
@@ -374,7 +374,7 @@ heard_next : (m : Machine) (h : Answer) (o : Order) (a b p : ℕ) (f : Forward) 
 heard_next m h o a b p f small purpose last given whole (inr (here, none)) = inl (h, refl, here)
 heard_next m h o a b p f small purpose last given whole (inl low) =
     inr (subst (λ t. IsEnded (machine_ordered t o) ⊎ (IsTabled (machine_ordered t o) a ⊎ IsToCome (machine_ordered t o) a)) (sym told)
-    (ahead (machine_heard m (Some f) h) a b small purpose sweeps.way hears.opened low (hears_unasked m (machine_heard m (Some f) h) b h hears)
+    (ahead (machine_heard m (Some f) h) a b small purpose counts.way hears.opened low (hears_unasked m (machine_heard m (Some f) h) b h hears)
     (begins_by_stage (machine_heard m (Some f) h) b h m hears) o
     (subst (λ t. IsAllowed t o) told given.answered.allowed))) where
       told : machine_told m (input.Heard h) ≡ machine_heard m (Some f) h
@@ -383,8 +383,8 @@ heard_next m h o a b p f small purpose last given whole (inl low) =
       hears : Hearing m (machine_heard m (Some f) h) b h
       hears = hearing_of m h p f b purpose last whole
 
-      sweeps : Sweeping m b
-      sweeps = sweeping_ready m b purpose (sending_of m p f last whole).ready
+      counts : Counting m b
+      counts = counting_ready m b purpose (sending_of m p f last whole).ready
 
 -- a question that was lost is put again
 lost_next : (m t : Machine) (o : Order) (a b p : ℕ) (f : Forward) → a < 64 → m.course.purpose ≡ Asking b → m.last ≡ Some (Put p f) → IsWhole m
@@ -392,8 +392,8 @@ lost_next : (m t : Machine) (o : Order) (a b p : ℕ) (f : Forward) → a < 64 �
     → ((m.course.from ≤ a) ⊎ ((b ≡ a) × ((x : Record) → m.last ≡ Some (Commit x) → ⊥)))
     → IsEnded (machine_ordered t o) ⊎ (IsTabled (machine_ordered t o) a ⊎ IsToCome (machine_ordered t o) a)
 lost_next m t o a b p f small purpose last whole course same_last opened free may after which = go which where
-  sweeps : Sweeping m b
-  sweeps = sweeping_ready m b purpose (sending_of m p f last whole).ready
+  counts : Counting m b
+  counts = counting_ready m b purpose (sending_of m p f last whole).ready
 
   at : stage_of t.trace ≡ stage.Free
   at = ap stage_of free ∙ stage_none
@@ -407,7 +407,7 @@ lost_next m t o a b p f small purpose last whole course same_last opened free ma
   go : (m.course.from ≤ a) ⊎ ((b ≡ a) × ((x : Record) → m.last ≡ Some (Commit x) → ⊥))
       → IsEnded (machine_ordered t o) ⊎ (IsTabled (machine_ordered t o) a ⊎ IsToCome (machine_ordered t o) a)
   go (inl low) =
-      ahead t a b small asks (ap (λ c. c.way) course ∙ sweeps.way) (opened ∙ sweeps.opened) (subst (λ (c : Course). c.from ≤ a) (sym course) low)
+      ahead t a b small asks (ap (λ c. c.way) course ∙ counts.way) (opened ∙ counts.opened) (subst (λ (c : Course). c.from ≤ a) (sym course) low)
       (subst IsUnasked (sym at) tt) (inl same) o may
   go (inr (here, none)) =
       by (again t a b stage.Free asks here same at (λ n e. cc) (ap finding_of free ∙ none_found)
@@ -427,11 +427,11 @@ kept_next : (m : Machine) (x : Record) (o : Order) (a b : ℕ) → a < 64 → m.
     ⊎ (IsTabled (machine_ordered (machine_committed m (Some x)) o) a ⊎ IsToCome (machine_ordered (machine_committed m (Some x)) o) a)
 kept_next m x o a b small purpose last whole free unreserved may (inr (here, none)) = absurd (none x last)
 kept_next m x o a b small purpose last whole free unreserved may (inl low) =
-    ahead (machine_committed m (Some x)) a b small purpose sweeps.way sweeps.opened low (subst IsUnasked (sym at) tt)
+    ahead (machine_committed m (Some x)) a b small purpose counts.way counts.opened low (subst IsUnasked (sym at) tt)
     (inr (ap (begins_at (machine_committed m (Some x))) at
     ∙ ap (at_rest (machine_committed m (Some x))) last ∙ goes x unreserved)) o may where
-      sweeps : Sweeping m b
-      sweeps = sweeping_ready m b purpose (storing_of m x last whole)
+      counts : Counting m b
+      counts = counting_ready m b purpose (storing_of m x last whole)
 
       at : stage_of m.trace ≡ stage.Free
       at = ap stage_of free ∙ stage_none

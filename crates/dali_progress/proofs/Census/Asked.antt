@@ -29,10 +29,10 @@ use Rattle.dali_controller.specs.Next.{next_course, begins_at, goes_on_to, asked
 use Rattle.dali_controller.specs.Orders.{IsAllowed, machine_ordered}
 use Rattle.dali_controller.specs.Whole.{IsWhole, IsSending, Pending, Sends}
 use Rattle.dali_progress.proofs.Later.{IsUnasked, course_stays}
-use Rattle.dali_progress.proofs.Sweep.Left.{waits, at_stage, of_purpose, of_last, beyond, left, beyond_less, waits_most, waits_least, goes_moves, Moves}
-use Rattle.dali_progress.proofs.Sweep.Left.{IsQuiet}
+use Rattle.dali_progress.proofs.Census.Left.{waits, at_stage, of_purpose, of_last, beyond, left, beyond_less, waits_most, waits_least, goes_moves, Moves}
+use Rattle.dali_progress.proofs.Census.Left.{IsQuiet}
 
--- A SWEEP IS BOUNDED: what each order leaves once a frame of it was heard.
+-- A CENSUS IS BOUNDED: what each order leaves once a frame of it was heard.
 
 -- ---------------------------------------------------------------- what an order leaves
 
@@ -99,7 +99,7 @@ same_left u t n is surveys =
     let from : n.course.from ≡ t.course.from = ap (λ c. c.from) is in
     rw (way, from) refl
 
--- ---------------------------------------------------------------- a frame of the sweep
+-- ---------------------------------------------------------------- a frame of the census
 
 -- WHERE the transaction of a question is: which frame is sent after which
 abbrev pub Asks : ℕ → Stage → Command → Type 0
@@ -226,7 +226,7 @@ sending_of m p f = go m.last where
   go (Some (Put q g)) e w = subst (IsSending m) (let same : g ≡ f = cc in same) w
   go _ e w = absurd (cc)
 
--- a frame of the sweep that was heard
+-- a frame of the census that was heard
 pub sent_left : (u : ℕ) (m : Machine) (h : Answer) (p : ℕ) (f : Forward) (a : ℕ) → 1 ≤ u → m.course.way ≡ Surveying → m.course.purpose ≡ Asking a
     → m.last ≡ Some (Put p f) → IsWhole m → (h ≡ Silence) ⊎ (3 ≤ waits u m.asked) → (o : Order) → IsAllowed (machine_heard m (Some f) h) o
     → IsWhole (machine_ordered (machine_heard m (Some f) h) o) → 1 + left u (machine_ordered (machine_heard m (Some f) h) o) ≤ left u m

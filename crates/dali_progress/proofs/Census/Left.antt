@@ -27,7 +27,7 @@ use Rattle.dali_controller.specs.Machine.{Machine}
 use Rattle.dali_controller.specs.Next.{begins_at, goes_on_to, at_rest, asked_once, probed_to, draw_or_close, draws, silenced, unanswered, hunted_in, hunted_to}
 use Rattle.dali_controller.specs.Next.{goes_on_anew}
 
--- A SWEEP IS BOUNDED: by how many of its frames may still be sent, which each of them makes fewer. What may still be sent, and
+-- A CENSUS IS BOUNDED: by how many of its frames may still be sent, which each of them makes fewer. What may still be sent, and
 -- that a transaction that begins never makes it more. `u` is 3 where whoever is there may be silent twice and answer then, and 1
 -- where nobody answers who was silent: so many frames and two more may be sent to one short address.
 

@@ -20,12 +20,12 @@ use Rattle.dali_controller.specs.Machine.{Machine, at_first, machine_told, machi
 use Rattle.dali_controller.specs.Orders.{IsGiven, IsAllowed, machine_after, machine_ordered}
 use Rattle.dali_controller.specs.Whole.{IsWhole, Knows}
 use Rattle.dali_progress.specs.Surveyed.{Step, IsTaken, IsCourse}
-use Rattle.dali_progress.specs.Swept.{IsSurveyed, BeginsBySurvey, AreWhole, was_sent, was_lost, frames_asked, frames_lost, IsSteady, AreSteady}
-use Rattle.dali_progress.proofs.Sweep.Left.{waits, of_purpose, of_last, beyond, left, beyond_most}
-use Rattle.dali_progress.proofs.Sweep.Asked.{same_left, sent_left, sending_of}
-use Rattle.dali_progress.proofs.Sweep.Others.{Rests, asking_or, any_left, calm_left, kept_left, other_left}
+use Rattle.dali_progress.specs.Census.{IsSurveyed, BeginsBySurvey, AreWhole, was_sent, was_lost, frames_asked, frames_lost, IsSteady, AreSteady}
+use Rattle.dali_progress.proofs.Census.Left.{waits, of_purpose, of_last, beyond, left, beyond_most}
+use Rattle.dali_progress.proofs.Census.Asked.{same_left, sent_left, sending_of}
+use Rattle.dali_progress.proofs.Census.Others.{Rests, asking_or, any_left, calm_left, kept_left, other_left}
 
--- A SWEEP IS BOUNDED: each step, and all of a course.
+-- A CENSUS IS BOUNDED: each step, and all of a course.
 
 -- ---------------------------------------------------------------- a step
 
@@ -58,7 +58,7 @@ started _ _ start e = absurd (cc)
 abbrev IsCounted : ℕ → Machine → Input → Type 0
 IsCounted u m i = (h : Answer) → i ≡ input.Heard h → (h ≡ Silence) ⊎ (3 ≤ waits u m.asked)
 
--- WHAT A STEP SENDS of a sweep it makes fewer
+-- WHAT A STEP SENDS of a census it makes fewer
 abbrev Counts : ℕ → Machine → Input → Machine → Type 0
 Counts u m i n = was_sent i m.course.purpose + left u n ≤ left u m + (u + 2) * was_lost i m.course.purpose
 
@@ -127,7 +127,7 @@ failed_counts u m w surveys =
     let here : left u m ≡ beyond u m.course.from + of_last u m m.last = same_left u m m refl surveys in
     rw no_more (omega (arith, there, here))
 
--- while it sweeps
+-- while it counts
 survey_counts : (u : ℕ) (m : Machine) (i : Input) (o : Order) → 1 ≤ u → m.course.way ≡ Surveying → (m.last ≡ None → ⊥) → accepts (due_after m.last) i ≡ true
     → IsGiven m i o → IsWhole m → IsAlone m → IsWhole (machine_after m i o) → IsCounted u m i → Counts u m i (machine_after m i o)
 survey_counts u m input.Start o one surveys running due given whole alone after counted = absurd (running (started m.last input.Start refl due))
@@ -150,7 +150,7 @@ survey_counts u m input.Committed o one surveys running due given whole alone af
 survey_counts u m input.CommitFailed o one surveys running due given whole alone after counted =
     subst (λ q. Counts u m input.CommitFailed (machine_ordered m q)) (sym given.answered) (failed_counts u m fault.Store surveys)
 
--- where no survey sweeps nobody is asked
+-- where no survey counts nobody is asked
 nothing_counts : (u : ℕ) (m t : Machine) (i : Input) (o : Order) → t.course ≡ m.course → (m.course.way ≡ Surveying → ⊥) → was_sent i m.course.purpose ≡ 0
     → IsAllowed t o → Counts u m i (machine_ordered t o)
 nothing_counts u m t i o same other sent may =

@@ -16,7 +16,7 @@ use Rattle.dali_controller.specs.declared.purpose.Purpose.TheVariants.{Asking}
 use Rattle.dali_controller.specs.Machine.{Machine, machine_told}
 use Rattle.dali_controller.specs.Orders.{IsGiven, IsSought, AfterFinding, machine_after, machine_ordered}
 use Rattle.dali_progress.specs.Surveyed.{Step, IsTaken, IsCourse}
-use Rattle.dali_progress.specs.Swept.{Spells, WasSpelled, IsNamed}
+use Rattle.dali_progress.specs.Census.{Spells, WasSpelled, IsNamed}
 use Rattle.dali_progress.proofs.Accounted.{told_enrolled, put_of, told_course, never_due}
 
 -- WHO TOLD ITS RANDOM ADDRESS IS IN THE TABLE.

@@ -15,7 +15,7 @@ use Rattle.dali_controller.specs.Whole.{IsWhole}
 use Rattle.dali_script.specs.declared.stage.Stage.TheVariants as stage
 use Rattle.dali_progress.specs.Surveyed.{Step, stage_told}
 
--- THE SWEEP of a survey: the frames that ask short addresses for their random addresses.
+-- THE CENSUS of a survey: the frames that ask short addresses for their random addresses.
 
 -- The course begins with a machine before its start, which is told to survey.
 abbrev pub IsSurveyed : Step → Type 0
@@ -31,7 +31,7 @@ abbrev pub AreWhole : List Step → Type 0
 AreWhole [] = Unit {0}
 AreWhole (s ∷ earlier) = IsWhole s.before × AreWhole earlier
 
--- the frames of the sweep that were sent, and those that were destroyed or not sent
+-- the frames of the census that were sent, and those that were destroyed or not sent
 abbrev pub was_sent : Input → Purpose → ℕ
 was_sent (input.Heard h) (Asking a) = 1
 was_sent _ p = 0
@@ -93,8 +93,8 @@ IsClean a s =
     (h : Answer) → s.told ≡ input.Heard h → s.before.course.purpose ≡ Asking a
     → (v : ℕ) × (h ≡ Byte v)
 
--- The sweep is over: no short address is asked any more, and the machine has not ended.
-pub record IsSwept (n : Machine) : Type 0 where
+-- The census is over: no short address is asked any more, and the machine has not ended.
+pub record HasTakenCensus (n : Machine) : Type 0 where
   pub quiet : (b : ℕ) → n.course.purpose ≡ Asking b → ⊥
   pub runs : (e : End) → n.last ≡ Some (Done e) → ⊥
   pub whole : (w : Fault) → n.last ≡ Some (Halt w) → ⊥

@@ -17,17 +17,17 @@ use Rattle.dali_controller.specs.Machine.{Machine, machine_told, machine_heard}
 use Rattle.dali_controller.specs.Orders.{IsGiven, machine_after, machine_ordered}
 use Rattle.dali_controller.specs.Whole.{IsWhole}
 use Rattle.dali_progress.specs.Surveyed.{Step, IsTaken, IsCourse, IsPlain, ArePlain}
-use Rattle.dali_progress.specs.Swept.{IsClean, WasSpelled, IsSwept, IsNamed, BeginsBySurvey, AreWhole}
+use Rattle.dali_progress.specs.Census.{IsClean, WasSpelled, HasTakenCensus, IsNamed, BeginsBySurvey, AreWhole}
 use Rattle.dali_progress.proofs.Later.{course_stays, turn_unasked}
-use Rattle.dali_progress.proofs.Sweep.Coming.{IsTabled, IsToCome, IsEnded, Hearing, hearing_of, Looks, watched}
-use Rattle.dali_progress.proofs.Sweep.Told.{who_told}
+use Rattle.dali_progress.proofs.Census.Coming.{IsTabled, IsToCome, IsEnded, Hearing, hearing_of, Looks, watched}
+use Rattle.dali_progress.proofs.Census.Told.{who_told}
 use Rattle.dali_progress.proofs.Accounted.{told_enrolled}
 use Rattle.dali_frame.specs.Random.{MASK24}
 use Rattle.dali_special.specs.declared.command.Command.TheVariants.{RandomByte}
 use Rattle.dali_special.specs.declared.command.Part.TheVariants.{Middle, Low}
 use Rattle.dali_controller.specs.Course.{turn_of}
 
--- WHO ANSWERS IS NAMED: once a sweep is over, an address under which each answer was a byte is in the table, or told FFFFFF.
+-- WHO ANSWERS IS NAMED: once a census is over, an address under which each answer was a byte is in the table, or told FFFFFF.
 
 abbrev IsSpelled : ℕ → List Step → Machine → ℕ → Type 0
 IsSpelled a steps n b = ((r : ℕ) × WasSpelled steps a r) ⊎ IsTabled n b
@@ -102,7 +102,7 @@ plain_number (s ∷ earlier) a r plain (inl here) = (subst IsPlain here.number p
 plain_number (s ∷ earlier) a r plain (inr before) = plain_number earlier a r plain.1 before
 
 pub who_answers : (steps : List Step) (n : Machine) (a : ℕ) → a < 64 → IsCourse steps n → BeginsBySurvey steps → ArePlain steps → AreWhole steps → IsWhole n
-    → AllByRecursion (IsClean a) steps → IsSwept n → ((r : ℕ) × IsNamed n a r) ⊎ WasSpelled steps a MASK24
+    → AllByRecursion (IsClean a) steps → HasTakenCensus n → ((r : ℕ) × IsNamed n a r) ⊎ WasSpelled steps a MASK24
 who_answers steps n a small course begins plain are whole clean swept =
     go (watched (IsClean a) (IsSpelled a) a small (looks a) steps n course begins plain clean are whole).seen where
       go : IsEnded n ⊎ (IsSpelled a steps n a ⊎ IsToCome n a) → ((r : ℕ) × IsNamed n a r) ⊎ WasSpelled steps a MASK24

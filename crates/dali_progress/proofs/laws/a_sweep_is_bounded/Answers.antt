@@ -1,5 +1,0 @@
-use Rattle.dali_progress.proofs.Sweep.Course.{any_bounded, steady_bounded}
-use Rattle.dali_progress.proofs.laws.a_sweep_is_bounded.Goals as goal
-
-pub returns : goal.returns
-returns c = record { any = any_bounded; steady = steady_bounded }
