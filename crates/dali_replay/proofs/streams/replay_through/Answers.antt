@@ -1,3 +1,4 @@
+use Rattle.dali_grammar.specs.ReplayFault.{fault_of}
 use Rattle.dali_replay.proofs.ReplayLemmas.{tells_some}
 use Rattle.dali_replay.proofs.StreamLemmas.{explains_unread, explains_fault}
 use Rattle.dali_replay.proofs.streams.replay_through.Goals as goal
@@ -10,6 +11,6 @@ returns-in-Err-clause-told g c =
 pub returns-clause-told : goal.returns-clause-told
 returns-clause-told g c =
     tells_some (g.R.Read.remaining c.args.reader.now) c.in-Ok.input.items _ c.in-Ok.ensures.whole
-    (explains_fault _ c.in-Ok.input.items _ _ c.in-Err-replay_and_pass_on.fault c.of.result
+    (explains_fault _ c.in-Ok.input.items _ _ (fault_of c.in-Err-replay_and_pass_on.stop) c.of.result
     (rw c.deref.ensures.value at c.in-Err-replay_and_pass_on.ensures.told) c.of.ensures.fault
-    (rw c.deref-in-Err-replay_and_pass_on.ensures.value at c.of.ensures.given))
+    c.of.ensures.given)
