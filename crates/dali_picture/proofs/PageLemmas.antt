@@ -16,8 +16,8 @@ keeps_same (Some xs) = refl
 -- the input was not read: nothing was written, and there is no reason
 unread : (input : List ℕ) (a : Option (List ℕ)) (e : ReplayFault) (r : Option Reason) → r ≡ None → (e ≡ Memory) ⊎ (e ≡ Read)
     → DrawsNot (setting_of input) a a e × Gives e r
-unread input a e r none (inl is) = rw (is, none) (keeps_same a, tt)
-unread input a e r none (inr is) = rw (is, none) (keeps_same a, tt)
+unread input a e r none (inl is) = rw (is, none) (keeps_same a, refl)
+unread input a e r none (inr is) = rw (is, none) (keeps_same a, refl)
 
 pub draws_unread : (left a : Option (List ℕ)) (e : ReplayFault) (x : Explained) → x.fault ≡ e → x.reason ≡ None → (e ≡ Memory) ⊎ (e ≡ Read)
     → IfSome left (λ input. Draws input a a (Err x))

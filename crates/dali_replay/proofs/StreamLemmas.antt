@@ -1,4 +1,4 @@
-use Rattle.std.proofs.Common.{◌≡◌, ℕ, List, ◌⊎◌, inl, inr, Bool, true, false, Option, Some, None, Result, Ok, Err}
+use Rattle.std.proofs.Common.{◌≡◌, ℕ, List, ◌⊎◌, inl, inr, Bool, true, false, Option, Some, None, Result, Ok, Err, refl}
 use Rattle.std.specs.Prelude.{IfSome}
 use Rattle.dali_grammar.specs.declared.fault.ReplayFault.{ReplayFault}
 use Rattle.dali_grammar.specs.declared.fault.ReplayFault.TheVariants.{Memory, Read, Write}
@@ -21,8 +21,8 @@ replays_write form (Ok s) a b = go s.0.0 where
 
 -- the input was not read: then there is no reason
 unread_gives : (e : ReplayFault) (r : Option Reason) → r ≡ None → (e ≡ Memory) ⊎ (e ≡ Read) → Gives e r
-unread_gives e r none (inl is) = rw (none, is) tt
-unread_gives e r none (inr is) = rw (none, is) tt
+unread_gives e r none (inl is) = rw (none, is) refl
+unread_gives e r none (inr is) = rw (none, is) refl
 
 pub explains_unread : (form : Form) (left a : Option (List ℕ)) (e : ReplayFault) (x : Explained) → x.fault ≡ e → x.reason ≡ None
     → (e ≡ Memory) ⊎ (e ≡ Read) → IfSome left (λ input. Explains form input a a (Err x))
