@@ -7,6 +7,7 @@ import os
 import pathlib
 import re
 
+import line_forms
 import spelled
 
 WIDTHS = {"src": (".rt", 120), "specs": (".antt", 100), "proofs": (".antt", 160)}
@@ -232,7 +233,12 @@ def spellings(root):
         yield from spelled.missing(root, place)
 
 
-RULES = (widths, lengths, imports, docs, crates, links, paths, clauses, kit, handles, spellings)
+def forms(root):
+    """docs/FORMAT.md has the forms of lines that the program's table has, and tools/script_forms.py each kind of word."""
+    yield from line_forms.missing(root)
+
+
+RULES = (widths, lengths, imports, docs, crates, links, paths, clauses, kit, handles, spellings, forms)
 
 
 def offences(root):

@@ -1,8 +1,11 @@
 """Scripts of `dali_sim replay`, as docs/FORMAT.md has them: their limits, how their first lines are written, and what a
-script says: its plan, its lines, and the fault it ends in."""
+script says: its plan, its lines, and the fault it ends in. The forms of lines are those of the program's table."""
 
 import dataclasses
+import pathlib
 import re
+
+import line_forms
 
 MOST_BYTES = 1_048_576
 MOST_GEAR = 128
@@ -14,18 +17,37 @@ TOO_LONG = "replay: the input cannot be read, or is longer than 1,048,576 bytes\
 NUMBER = "(?:0|[1-9][0-9]{0,5}|1000000)"
 ADDRESS = "(?:0|[1-9][0-9]?|1[0-9][0-9]|2[0-4][0-9]|25[0-5])"
 TAKER = "(?:0|[1-9][0-9]?|1[01][0-9]|12[0-7])"
-FRAME = "[0-9A-Fa-f]{4}"
-HEADING = re.compile(f"bench ({NUMBER})|site ({NUMBER})((?: {ADDRESS}-{ADDRESS})*)")
 BLOCK = re.compile(f"({ADDRESS})-({ADDRESS})")
-DRAWS = re.compile(f"draws((?: [0-9A-Fa-f]{{6}}){{0,{MOST_DRAWS}}})")
-SHORT = "(?:[0-9]|[1-5][0-9]|6[0-3])"
-USED = re.compile(f"used ({NUMBER}) ({SHORT}) ([0-9A-Fa-f]{{6}})")
-BOTH = f"(?:off|on|expire) {NUMBER}|quiet|show"
-BENCH_LINE = re.compile(f"frame {FRAME}|{BOTH}")
-SITE_LINE = re.compile(
-    f"(?:go|survey|store|fail|down|up|run) {NUMBER}|lapse|arc {NUMBER} {FRAME}|{BOTH}"
-    f"|pump(?: lost| noise| collision| destroyed (?:-|{TAKER}(?:,{TAKER})*))?"
-)
+# What stands for a word in the forms of lines, and how often where `..` follows.
+KINDS = {
+    "N": NUMBER,
+    "g": NUMBER,
+    "c": NUMBER,
+    "n": NUMBER,
+    "A": "(?:[0-9]|[1-5][0-9]|6[0-3])",
+    "HHHH": "[0-9A-Fa-f]{4}",
+    "RRRRRR": "[0-9A-Fa-f]{6}",
+    "BLOCK": f"{ADDRESS}-{ADDRESS}",
+    "L": f"(?:-|{TAKER}(?:,{TAKER})*)",
+}
+REPEATED = {"BLOCK": "*", "RRRRRR": f"{{0,{MOST_DRAWS}}}"}
+ROOT = pathlib.Path(__file__).resolve().parent.parent
+
+
+def pattern_of(form):
+    """What a line of a form looks like, with a group for each word that stands for others, and for a list of such."""
+    text = re.sub(r" (\w+) \.\.$", lambda it: f"((?: {KINDS[it[1]]}){REPEATED[it[1]]})", form)
+    begin, rest = text.partition("(")[::2]
+    words = [f"({KINDS[it]})" if line_forms.is_kind(it) else it for it in begin.split(" ")]
+    return " ".join(words) + (f"({rest}" if rest else "")
+
+
+def lines_of(name):
+    """What a line looks like that has a form of this list of the program."""
+    return re.compile("|".join(pattern_of(form) for form in line_forms.forms(ROOT, name)))
+
+
+HEADING, DRAWS, USED, BENCH_LINE, SITE_LINE = map(lines_of, ("FIRST", "SECOND", "USED", "BENCH", "SITE"))
 
 
 @dataclasses.dataclass

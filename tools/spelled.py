@@ -130,11 +130,9 @@ PLACES = (
     Place(FORMAT, section("Refusals"), "Refusal", "`refused {code} {name}`", "NoMemory"),
     Place(FORMAT, WHOLE, "Refusal", "{code} {name}"),
     # The forms of lines, by which bad ones are explained. `Power` is `off` and `on`.
-    Place(LINES, WHOLE, "BenchLine", 'name: "{kebab}"'),
-    Place(LINES, WHOLE, "SiteLine", 'name: "{kebab}"', "Power"),
-    Place(LINES, block("const BENCH_NAMES", ";"), "BenchLine", "`{kebab}`"),
-    Place(LINES, block("const SITE_NAMES", ";"), "SiteLine", "`{kebab}`", "Power"),
-    Place(LINES, line('        text: "pump ['), "Trouble", "{word}", "None"),
+    Place(LINES, block("const BENCH:", "];"), "BenchLine", 'LineForm("{kebab}",'),
+    Place(LINES, block("const SITE:", "];"), "SiteLine", 'LineForm("{kebab}",', "Power"),
+    Place(LINES, line('    LineForm("pump", "['), "Trouble", "{word}", "None"),
     Place(MISTAKES, line("            Mistake::NoTrouble"), "Trouble", "`{word}", "None"),
     # What programs end with.
     Place(FORMAT, table("| END |"), "End", "`{name}`"),
@@ -199,7 +197,6 @@ PLACES = (
     Place(THREADS, block("ENDS = {", "}"), "Fault", '"halt {name}"'),
     Place(THREADS, block("ENDS = {", "}"), "Outcome", '"{name}"', "Ended Halted"),
     Place(THREADS, line("GEAR ="), "InitialisationState", "{kebab}"),
-    Place(FORMS, block("SITE_LINE =", "\n)"), "Trouble", "{word}", "None"),
     Place(FORMS, block("causes = (", "\n    )"), "PlanError", '("{name}",', "NoMemory"),
     Place("tools/site_script.py", block("FRAME_TROUBLES = {", "\n}"), "Trouble", '"{word}":', "None"),
     Place("tools/troubles", line("TROUBLES ="), "Trouble", '"{word}', "None"),

@@ -4,7 +4,7 @@ use arrayvec::ArrayVec;
 use dali_events::PlanError;
 use dali_replay::{Form, block_of, plan_limit};
 use dali_threads::Setup;
-use dali_words::{WordKind, Line, Program, Subcommand, Value, Word, Wrong};
+use dali_words::{Line, Program, Subcommand, Value, Word, WordKind, Wrong};
 use std::alloc::Global;
 
 /// What a command line asks for.

@@ -135,9 +135,7 @@ impl Came<'_> {
                 }
                 Err(Failure::AddressedBefore)
             }
-            Begun::Commissioned(pass) => {
-                self.say_ended(system, store, driver, progress, pass)
-            }
+            Begun::Commissioned(pass) => { self.say_ended(system, store, driver, progress, pass) }
         }
     }
 }

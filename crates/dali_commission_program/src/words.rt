@@ -1,9 +1,9 @@
 //! The command line, and what it asks for.
 
-use crate::tasks::{Bounds, TableForm, Setup, Start, Task};
+use crate::tasks::{Bounds, Setup, Start, TableForm, Task};
 use dali_frame::Short;
 use dali_script::Block;
-use dali_words::{WordKind, Line, Program, Subcommand, Value, Word, Wrong};
+use dali_words::{Line, Program, Subcommand, Value, Word, WordKind, Wrong};
 use std::alloc::Global;
 
 const LONG_ABOUT: &str = "\

@@ -1,11 +1,7 @@
 use Rattle.std.proofs.Common.{◌≡◌, ◌≢◌, ℕ, zero, suc, ◌+◌, ◌<◌, ◌≤◌, true, false, List, [], ◌∷◌, length, get_or, take, drop, None, refl, arith, add-one}
 use Rattle.std.proofs.lemmas.Bool.Decides.{nat_tests}
 use Rattle.std.specs.Prelude.{◌==◌}
-use Rattle.dali_grammar.specs.Lines.{lines_of, parts_of}
-use Rattle.dali_grammar.specs.Numbers.{block_of_parts}
-use Rattle.dali_grammar.specs.Heading.{used_words_of}
-use Rattle.dali_grammar.specs.SiteLine.{site_line_of}
-use Rattle.dali_grammar.specs.BenchLine.{bench_line_of}
+use Rattle.dali_grammar.specs.Lines.{lines_of, parts_of, none_of}
 use Rattle.std.specs.List.{count_by}
 use Rattle.std.proofs.lemmas.List.Splits.{length-slice_split}
 
@@ -58,36 +54,9 @@ parts_none mark (b ∷ bs) before =
     let first : b ≢ mark = before 0 (omega arith) in
     rw (is_not b mark first, parts_none mark bs (λ k below. before (suc k) (omega arith))) refl
 
--- a list of another length is no block, and no line of a site
-pub no_block_below : (parts : List (List ℕ)) → length parts < 2 → None ≡ block_of_parts parts
-no_block_below [] few = refl
-no_block_below (first ∷ []) few = refl
-no_block_below (first ∷ second ∷ parts) few = absurd (omega arith)
-
-pub no_site_line_above : (words : List (List ℕ)) → 4 ≤ length words → None ≡ site_line_of words
-no_site_line_above [] many = absurd (omega arith)
-no_site_line_above (a ∷ []) many = absurd (omega arith)
-no_site_line_above (a ∷ b ∷ []) many = absurd (omega arith)
-no_site_line_above (a ∷ b ∷ c ∷ []) many = absurd (omega arith)
-no_site_line_above (a ∷ b ∷ c ∷ d ∷ words) many = refl
-
--- a line of three words or more asks for nothing on a bench
-pub no_bench_line_above : (name word text : List ℕ) → None ≡ bench_line_of (name ∷ word ∷ parts_of 32 text)
-no_bench_line_above name word text = go (parts_of 32 text) (length-slice_split (λ b. b == 32) text) where
-  go : (words : List (List ℕ)) → length words ≡ count_by (λ b. b == 32) text + 1 → None ≡ bench_line_of (name ∷ word ∷ words)
+-- what stands behind a mark is a part at least, so none ends there
+pub none_of_more : {A : Type 0} (a : A) (mark : ℕ) (text : List ℕ) → None ≡ none_of a (parts_of mark text)
+none_of_more {A} a mark text = go (parts_of mark text) (length-slice_split (λ b. b == mark) text) where
+  go : (parts : List (List ℕ)) → length parts ≡ count_by (λ b. b == mark) text + 1 → None ≡ none_of a parts
   go [] len = absurd (omega arith)
-  go (more ∷ words) len = refl
-
--- the words of a used gear are three
-pub no_used_below : (words : List (List ℕ)) → length words < 3 → None ≡ used_words_of words
-no_used_below [] few = refl
-no_used_below (a ∷ []) few = refl
-no_used_below (a ∷ b ∷ []) few = refl
-no_used_below (a ∷ b ∷ c ∷ words) few = absurd (omega arith)
-
-pub no_used_above : (words : List (List ℕ)) → 4 ≤ length words → None ≡ used_words_of words
-no_used_above [] many = absurd (omega arith)
-no_used_above (a ∷ []) many = absurd (omega arith)
-no_used_above (a ∷ b ∷ []) many = absurd (omega arith)
-no_used_above (a ∷ b ∷ c ∷ []) many = absurd (omega arith)
-no_used_above (a ∷ b ∷ c ∷ d ∷ words) many = refl
+  go (part ∷ parts) len = refl

@@ -1,8 +1,9 @@
-use Rattle.std.specs.Prelude.{ℕ, List, [], ◌∷◌, length, Bool, true, false, Option, Some, None}
+use Rattle.std.specs.Prelude.{ℕ, List, [], ◌∷◌, length, Bool, true, false, Option, None}
 use Rattle.std.specs.Prelude.{bytes_eq, codes, nat_le, if◌then◌else◌, option_map, option_and_then}
 use Rattle.dali_frame.specs.Hex.{random_of}
 use Rattle.dali_events.specs.declared.used.Used.{Used}
 use Rattle.dali_grammar.specs.declared.heading.Heading as code
+use Rattle.dali_grammar.specs.Lines.{one_of, two_of}
 use Rattle.dali_grammar.specs.Numbers.{number_in, number_to, randoms_of, blocks_of}
 
 -- THE FIRST LINE: a bench of so many gear, or a site of so many gear and with a block for each
@@ -22,26 +23,19 @@ bench_heading gear = record { is_bench = true; gear = gear; blocks = (0, 0) ∷ 
 abbrev pub site_heading : ℕ → List (ℕ × ℕ) → Heading
 site_heading gear blocks = record { is_bench = false; gear = gear; blocks = blocks }
 
--- `bench N`
-abbrev pub bench_of : List (List ℕ) → Option ℕ
-bench_of (name ∷ word ∷ []) = if bytes_eq name (codes "bench") then number_in word else None
-bench_of _ = None
-
 -- `site N BLOCK..`
-abbrev pub site_from : Option ℕ → Option (List (ℕ × ℕ)) → Option Heading
-site_from gear blocks = option_and_then (λ n. option_map (site_heading n) blocks) gear
-
 abbrev pub site_of : List (List ℕ) → Option Heading
-site_of (name ∷ word ∷ words) =
-    if bytes_eq name (codes "site") then site_from (number_in word) (blocks_of words) else None
-site_of _ = None
+site_of [] = None
+site_of (word ∷ words) =
+    option_and_then (λ n. option_map (site_heading n) (blocks_of words)) (number_in word)
 
-abbrev pub or_site : Option ℕ → Option Heading → Option Heading
-or_site (Some gear) site = Some (bench_heading gear)
-or_site None site = site
-
+-- `bench N`, or a site
 abbrev pub heading_of : List (List ℕ) → Option Heading
-heading_of words = or_site (bench_of words) (site_of words)
+heading_of [] = None
+heading_of (name ∷ words) =
+    if bytes_eq name (codes "bench") then option_map bench_heading (one_of number_in words)
+    else if bytes_eq name (codes "site") then site_of words
+    else None
 
 -- THE SECOND LINE: `draws HHHHHH ..`, at most 1,024 of them
 abbrev pub drawn_of : List (List ℕ) → Option (List ℕ)
@@ -56,17 +50,12 @@ abbrev pub is_used_line : List (List ℕ) → Bool
 is_used_line [] = false
 is_used_line (name ∷ words) = bytes_eq name (codes "used")
 
-abbrev pub used_by : Option ℕ → Option ℕ → Option ℕ → Option Used
-used_by (Some g) (Some a) (Some r) = Some (record { gear = g; short = a; random = r })
-used_by None short random = None
-used_by (Some g) None random = None
-used_by (Some g) (Some a) None = None
-
-abbrev pub used_words_of : List (List ℕ) → Option Used
-used_words_of (gear ∷ short ∷ random ∷ []) =
-    used_by (number_in gear) (number_to 63 short) (random_of random)
-used_words_of _ = None
+abbrev pub used_words : List (List ℕ) → Option Used
+used_words [] = None
+used_words (word ∷ words) =
+    option_and_then (λ g. option_map (λ x. record { gear = g; short = x.0; random = x.1 })
+    (two_of (number_to 63) random_of words)) (number_in word)
 
 abbrev pub used_line_of : List (List ℕ) → Option Used
 used_line_of [] = None
-used_line_of (name ∷ words) = used_words_of words
+used_line_of (name ∷ words) = used_words words

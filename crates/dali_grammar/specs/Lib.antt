@@ -1,5 +1,6 @@
 pub mod Lines
 pub mod Numbers
+pub mod Words
 pub mod Heading
 pub mod BenchLine
 pub mod SiteLine

@@ -1,5 +1,5 @@
 use Rattle.std.specs.Prelude.{ℕ, ◌+◌, List, [], ◌∷◌, Bool, true, Option, Some, None, ◌==◌}
-use Rattle.std.specs.Prelude.{if◌then◌else◌}
+use Rattle.std.specs.Prelude.{if◌then◌else◌, option_map, option_and_then}
 use Rattle.std.specs.List.{onto_first, slice_split}
 
 -- The lines of an input: each ends at its line feed, which the last line may lack.
@@ -34,3 +34,18 @@ parts_after mark (Some rest) = parts_of mark rest
 -- The words of a line stand between single spaces: no form accepts an empty word.
 abbrev pub words_of : List ℕ → List (List ℕ)
 words_of line = parts_of 32 line
+
+-- Parts that are read from left to right: none; one, which is read so; or two.
+abbrev pub none_of : {A : Type 0} → A → List (List ℕ) → Option A
+none_of a [] = Some a
+none_of a (part ∷ parts) = None
+
+abbrev pub one_of : {A : Type 0} → (List ℕ → Option A) → List (List ℕ) → Option A
+one_of reads [] = None
+one_of reads (part ∷ parts) = option_and_then (λ a. none_of a parts) (reads part)
+
+abbrev pub two_of : {A B : Type 0} → (List ℕ → Option A) → (List ℕ → Option B) → List (List ℕ)
+    → Option (A × B)
+two_of reads next [] = None
+two_of reads next (part ∷ parts) =
+    option_and_then (λ a. option_map (λ b. (a, b)) (one_of next parts)) (reads part)

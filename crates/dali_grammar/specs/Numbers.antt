@@ -4,7 +4,7 @@ use Rattle.std.specs.Prelude.{option_and_then}
 use Rattle.std.specs.Str.{all_ascii_digits}
 use Rattle.std.specs.Str.Parse.{digits_value}
 use Rattle.dali_frame.specs.Hex.{random_of}
-use Rattle.dali_grammar.specs.Lines.{parts_of}
+use Rattle.dali_grammar.specs.Lines.{parts_of, two_of}
 
 -- no sign, and no leading zero other than 0 itself
 abbrev pub starts_plain : List ℕ → Bool
@@ -37,15 +37,8 @@ abbrev pub randoms_of : List (List ℕ) → Option (List ℕ)
 randoms_of words = each_of random_of words
 
 -- `a-b`, the first and the last address of a block
-abbrev pub pair_of : Option ℕ → Option ℕ → Option (ℕ × ℕ)
-pair_of first last = option_and_then (λ a. option_map (λ b. (a, b)) last) first
-
-abbrev pub block_of_parts : List (List ℕ) → Option (ℕ × ℕ)
-block_of_parts (first ∷ last ∷ []) = pair_of (number_to 255 first) (number_to 255 last)
-block_of_parts _ = None
-
 abbrev pub block_of : List ℕ → Option (ℕ × ℕ)
-block_of word = block_of_parts (parts_of 45 word)
+block_of word = two_of (number_to 255) (number_to 255) (parts_of 45 word)
 
 abbrev pub blocks_of : List (List ℕ) → Option (List (ℕ × ℕ))
 blocks_of words = each_of block_of words

@@ -1,11 +1,12 @@
 //! What a line asks for on a bench.
 
-ghost use Rattle.std.specs.Prelude.{◌≡◌};
-ghost use Rattle.dali_grammar.specs.Lines.{words_of};
-ghost use Rattle.dali_grammar.specs.BenchLine.{alone_of, one_word_of, bench_line_of};
+ghost use Rattle.std.specs.Prelude.{◌≡◌, option_map};
+ghost use Rattle.std.specs.Result.{result_ok};
+ghost use Rattle.dali_grammar.specs.Lines.{words_of, parts_after};
+ghost use Rattle.dali_grammar.specs.BenchLine.{bench_line, bench_line_of};
 
 use crate::lines::cut;
-use crate::numbers::number_in;
+use crate::words::{Wanted, Wrong, ended, frame, number};
 use dali_frame::Forward;
 
 /// A line of a bench, after the two of its plan.
@@ -25,45 +26,31 @@ pub enum BenchLine {
     Show,
 }
 
-fn alone(name: &[u8]) -> Option<BenchLine>
-    ensures { result ≡ alone_of name.now }
-{
-    if name == b"show".as_slice() {
-        Some(BenchLine::Show)
-    } else if name == b"quiet".as_slice() {
-        Some(BenchLine::Quiet)
-    } else {
-        None
-    }
-}
-
-fn one_word(name: &[u8], word: &[u8]) -> Option<BenchLine>
-    ensures { result ≡ one_word_of name.now word.now }
+fn bench_line(name: &[u8], rest: Option<&[u8]>) -> Result<BenchLine, Wrong>
+    ensures { result_ok result
+        ≡ bench_line name.now (parts_after 32 (option_map (λ rest. rest.now) rest.entry)) }
 {
     if name == b"frame".as_slice() {
-        Some(BenchLine::Frame(Forward::read_hex(word).ok()?))
+        Ok(BenchLine::Frame(frame(rest, 2)?))
     } else if name == b"off".as_slice() {
-        Some(BenchLine::Off(number_in(word)?))
+        Ok(BenchLine::Off(number(rest)?))
     } else if name == b"on".as_slice() {
-        Some(BenchLine::On(number_in(word)?))
+        Ok(BenchLine::On(number(rest)?))
     } else if name == b"expire".as_slice() {
-        Some(BenchLine::Expire(number_in(word)?))
+        Ok(BenchLine::Expire(number(rest)?))
+    } else if name == b"quiet".as_slice() {
+        ended(BenchLine::Quiet, rest, 2)
+    } else if name == b"show".as_slice() {
+        ended(BenchLine::Show, rest, 2)
     } else {
-        None
+        Err(Wrong::at(1, Wanted::Name))
     }
 }
 
-/// What a line asks for on a bench; `None` where it is a bad line.
-#[tactic(auto, using(crate::proofs::LineLemmas::no_bench_line_above))]
-pub fn bench_line_of(line: &[u8]) -> Option<BenchLine>
-    ensures { result ≡ bench_line_of (words_of line.now) }
+/// What a line asks for on a bench, or its first wrong word.
+pub fn bench_line_of(line: &[u8]) -> Result<BenchLine, Wrong>
+    ensures { result_ok result ≡ bench_line_of (words_of line.now) }
 {
     let (name, rest) = cut(line, b' ');
-    let Some(rest) = rest else {
-        return alone(name);
-    };
-    match cut(rest, b' ') {
-        (word, None) => one_word(name, word),
-        (_, Some(_)) => None,
-    }
+    bench_line(name, rest)
 }

@@ -2,8 +2,8 @@
 
 ghost use Rattle.std.specs.Prelude.{◌≡◌};
 
-use crate::reason::Explained;
-use dali_console::Failed;
+use crate::reason::{Clue, Place};
+use crate::words::Wrong;
 use dali_events::PlanError;
 use std::alloc::AllocError;
 use thiserror::Error;
@@ -52,12 +52,51 @@ impl From<AllocError> for ReplayFault {
     }
 }
 
-impl Failed for Explained {
-    ghost use Rattle.dali_grammar.specs.ReplayFault.{status_of};
+/// Why a run stops before the end of its input: its fault, with what is wrong in the script.
+#[derive(Clone, Copy)]
+pub enum Stop {
+    /// The line of this number, which stands at this place, has a wrong word.
+    Line(u32, Place, Wrong),
+    /// The plan is refused, for the words that the clue names.
+    Plan(PlanError, Option<Clue>),
+    Memory,
+    Read,
+    Write,
+}
 
-    ghost status_of = { λ e. status_of e.fault };
+impl Stop {
+    ghost use Rattle.dali_grammar.specs.ReplayFault.{fault_of};
 
-    fn status(&self) -> u8 {
-        self.fault.status()
+    /// The fault alone.
+    pub fn fault(&self) -> ReplayFault
+        ensures { result ≡ fault_of self.now }
+    {
+        match self {
+            Stop::Line(number, _, _) => ReplayFault::BadLine(*number),
+            Stop::Plan(error, _) => ReplayFault::BadPlan(*error),
+            Stop::Memory => ReplayFault::Memory,
+            Stop::Read => ReplayFault::Read,
+            Stop::Write => ReplayFault::Write,
+        }
+    }
+}
+
+impl From<AllocError> for Stop {
+    ghost use Rattle.dali_grammar.specs.declared.fault.Stop.TheVariants.{Memory};
+
+    ghost from_gives = { λ _ s. s ≡ Memory };
+
+    fn from(_error: AllocError) -> Stop {
+        Stop::Memory
+    }
+}
+
+impl From<Stop> for ReplayFault {
+    ghost use Rattle.dali_grammar.specs.ReplayFault.{fault_of};
+
+    ghost from_gives = { λ s e. e ≡ fault_of s };
+
+    fn from(stop: Stop) -> ReplayFault {
+        stop.fault()
     }
 }

@@ -10,11 +10,15 @@ mod numbers;
 mod reason;
 mod setting;
 mod site_line;
+mod words;
 
 pub use bench_line::{BenchLine, bench_line_of};
-pub use fault::ReplayFault;
+pub use fault::{ReplayFault, Stop};
 pub use lines::{INPUT_LIMIT, Script};
 pub use numbers::block_of;
-pub use reason::{Excerpt, Explained, Hint, Mistake, Place, Quote, Reason, plan_limit, reason_of};
+pub use reason::{
+    Clue, Excerpt, Explained, Hint, LineForm, Mistake, Place, Quote, Reason, Spot, plan_limit,
+};
 pub use setting::plan;
 pub use site_line::{SiteLine, site_line_of};
+pub use words::{Wanted, Wrong};

@@ -1,10 +1,8 @@
 //! An input's lines and their numbers, and the parts of a line: words between spaces, numbers between other marks.
 
-ghost use Rattle.std.specs.Prelude.{◌≡◌, ◌≢◌, ℕ, ◌+◌, ◌<◌, ◌≤◌, List, [], ◌∷◌, length, map, slice_index, true};
+ghost use Rattle.std.specs.Prelude.{◌≡◌, ◌≢◌, ℕ, ◌+◌, ◌<◌, ◌≤◌, List, [], ◌∷◌, length, slice_index, true};
 ghost use Rattle.std.specs.Prelude.{IfSome, IfNone, MatchOption, option_map};
-ghost use Rattle.dali_grammar.specs.Lines.{lines_of, is_skipped, numbered_after, parts_of, parts_after, words_of};
-
-use arrayvec::ArrayVec;
+ghost use Rattle.dali_grammar.specs.Lines.{lines_of, is_skipped, numbered_after, parts_of, parts_after};
 
 /// The longest input that is read, in bytes.
 pub const INPUT_LIMIT: usize = 1_048_576;
@@ -48,33 +46,8 @@ pub fn cut(text: &[u8], mark: u8) -> (&[u8], Option<&[u8]>)
     (&text[..end], Some(&text[end + 1..]))
 }
 
-/// The parts of a text of at most three, between marks.
-pub fn parts(text: &[u8], mark: u8) -> Option<ArrayVec<&[u8], 3>>
-    ensures many { IfNone result (3 < length (parts_of mark text.now)) }
-    ensures parts { IfSome result (λ parts. map (λ part. part.now) parts.items ≡ parts_of mark text.now) }
-{
-    let mut parts = ArrayVec::new();
-    let mut rest = Some(text);
-    while let Some(text) = rest {
-        let (part, more) = cut(text, mark);
-        if parts.try_push(part).is_err() {
-            return None;
-        }
-        rest = more;
-    }
-    Some(parts)
-}
-
-/// The words of a line of at most three.
-pub fn words(line: &[u8]) -> Option<ArrayVec<&[u8], 3>>
-    ensures many { IfNone result (3 < length (words_of line.now)) }
-    ensures words { IfSome result (λ words. map (λ word. word.now) words.items ≡ words_of line.now) }
-{
-    parts(line, b' ')
-}
-
 /// Whether a line asks for nothing: an empty line or a comment.
-fn is_skipped(line: &[u8]) -> bool
+pub fn is_skipped(line: &[u8]) -> bool
     ensures { result ≡ is_skipped line.now }
 {
     match line {

@@ -1,9 +1,9 @@
 //! Decimal numbers, blocks of short addresses, and sets of gear.
 
-ghost use Rattle.std.specs.Prelude.{◌≡◌, [], ◌∷◌, map};
-ghost use Rattle.dali_grammar.specs.Numbers.{number_in, number_to, starts_plain, block_of, block_of_parts, set_of};
+ghost use Rattle.std.specs.Prelude.{◌≡◌};
+ghost use Rattle.dali_grammar.specs.Numbers.{number_in, number_to, starts_plain, block_of, set_of};
 
-use crate::lines::{cut, parts};
+use crate::lines::cut;
 use dali_events::GearSet;
 use dali_frame::Short;
 use std::str;
@@ -53,27 +53,19 @@ fn byte_of(word: &[u8]) -> Option<u8>
     Some(number as u8)
 }
 
-fn block_of_parts(parts: &[&[u8]]) -> Option<(u8, u8)>
-    ensures { result ≡ block_of_parts (map (λ part. part.now) parts.now) }
-{
-    match parts {
-        [first, last] => block_between(first, last),
-        _ => None,
-    }
-}
-
-/// The block from one address to another.
-fn block_between(first: &[u8], last: &[u8]) -> Option<(u8, u8)>
-    ensures { result ≡ block_of_parts (first.now ∷ last.now ∷ []) }
-{
-    Some((byte_of(first)?, byte_of(last)?))
-}
-
 /// A block `a-b`: the numbers of its first and its last address, each at most 255.
+#[tactic(auto, using(crate::proofs::LineLemmas::none_of_more))]
 pub fn block_of(word: &[u8]) -> Option<(u8, u8)>
     ensures { result ≡ block_of word.now }
 {
-    block_of_parts(parts(word, b'-')?.as_slice())
+    let (first, rest) = cut(word, b'-');
+    let first = byte_of(first)?;
+    let (last, rest) = cut(rest?, b'-');
+    let last = byte_of(last)?;
+    match rest {
+        Some(_) => None,
+        None => Some((first, last)),
+    }
 }
 
 /// A number of a gear, at most 127.

@@ -1,35 +1,29 @@
 //! Why a run ended at a bad line or a refused plan: which word, what is wrong with it, and the form that is wanted.
-//!
-//! A run answers the number of the line alone. What is said here is read from the script once more.
 
-ghost use Rattle.std.specs.Prelude.{◌≡◌, ◌≤◌, ◌+◌, Ok, None, length, IfOk, IfSome};
-ghost use Rattle.dali_grammar.specs.Lines.{numbered_after};
-ghost use Rattle.dali_grammar.specs.Setting.{setting_of};
-ghost use Rattle.dali_grammar.specs.Reason.{Quotes, StopsAt, Finds, Gives, IsOfLine, first_bad, is_bad};
+ghost use Rattle.std.specs.Prelude.{◌≡◌, None, IfSome};
+ghost use Rattle.dali_grammar.specs.Reason.{Quotes, Gives, IsOfLine};
+ghost use Rattle.dali_grammar.specs.ReplayFault.{fault_of};
 
+mod clue;
 mod excerpt;
 mod forms;
 mod line;
 mod mistake;
 mod names;
-mod planned;
 mod quote;
 mod words;
 
-use crate::bench_line::bench_line_of;
-use crate::fault::ReplayFault;
-use crate::lines::{INPUT_LIMIT, Script};
-use crate::setting::plan;
-use crate::site_line::site_line_of;
+use crate::fault::{ReplayFault, Stop};
+use crate::words::Wrong;
+pub use clue::{Clue, Spot};
+use dali_console::Failed;
 use dali_events::PlanError;
 pub use excerpt::Excerpt;
-pub use forms::{Hint, Place};
+pub use forms::{Hint, LineForm, Place};
 use line::line_mistake;
 pub use mistake::{Mistake, plan_limit};
-use planned::plan_clue;
 pub use quote::Quote;
-use quote::{part_at, quoted};
-use std::alloc::{AllocError, Global};
+use quote::{part_at, quoted, quoted_at};
 use std::fmt;
 
 /// Why a line is bad, or a plan refused.
@@ -63,79 +57,17 @@ impl fmt::Display for Reason {
     }
 }
 
-/// Whether a line is a bad one, on a bench or on a site.
-fn is_bad(is_bench: bool, line: &[u8]) -> bool
-    ensures { result ≡ is_bad is_bench line.now }
-{
-    if is_bench {
-        bench_line_of(line).is_none()
-    } else {
-        site_line_of(line).is_none()
-    }
-}
-
-/// The number of the first bad line among those that are left.
-fn first_bad(is_bench: bool, script: &mut Script) -> Option<u32>
-    requires { script.old.read + length script.old.rest.now ≤ 1048576 }
-    ensures { result ≡ first_bad is_bench (numbered_after script.old.read script.old.rest.now) }
-{
-    while let Some(line) = script.next() {
-        if is_bad(is_bench, line) {
-            return Some(script.number());
-        }
-    }
-    None
-}
-
-/// Where a bad line of the plan stands.
-fn place_of(input: &[u8], number: u32) -> Place
-    requires { length input.now ≤ 1048576 }
-{
-    let mut script = Script::new(input);
-    if script.next().is_none() || script.number() == number {
-        return Place::First;
-    }
-    if script.next().is_none() || script.number() == number {
-        return Place::Second;
-    }
-    Place::Used
-}
-
-/// At which bad line or refused plan a script stops, if at any, and where such a line stands.
-fn stop_of(alloc: Global, input: &[u8]) -> Result<Option<(ReplayFault, Place)>, AllocError>
-    requires { length input.now ≤ 1048576 }
-    ensures { IfOk result (Finds (setting_of input.now)) }
-{
-    let mut script = Script::new(input);
-    match plan(alloc, &mut script) {
-        Ok((is_bench, _)) => {
-            let place = if is_bench { Place::Bench } else { Place::Site };
-            match first_bad(is_bench, &mut script) {
-                Some(number) => Ok(Some((ReplayFault::BadLine(number), place))),
-                None => Ok(None),
-            }
-        }
-        Err(ReplayFault::BadLine(number)) => {
-            let place = place_of(input, number);
-            Ok(Some((ReplayFault::BadLine(number), place)))
-        }
-        Err(ReplayFault::BadPlan(error)) => Ok(Some((ReplayFault::BadPlan(error), Place::First))),
-        Err(ReplayFault::Memory) => Err(AllocError),
-        Err(ReplayFault::Read | ReplayFault::Write) => unreachable!(),
-    }
-}
-
-/// Why this line is bad.
-fn line_reason(input: &[u8], number: u32, place: Place) -> Reason
+/// Why this line is bad, of which this word is wrong.
+fn line_reason(input: &[u8], number: u32, place: Place, wrong: Wrong) -> Reason
     ensures word { IfSome result.word (Quotes input.now) }
     ensures line { IfSome result.word (λ quote. quote.line ≡ number) }
-    ensures beside { IfSome result.beside (Quotes input.now) }
+    ensures beside { result.beside ≡ None }
 {
     let line = match part_at(input, b'\n', number.saturating_sub(1) as usize) {
         Some(line) => line,
         None => &[],
     };
-    let ((mistake, word), hint) = line_mistake(place, line);
+    let ((mistake, word), hint) = line_mistake(place, line, wrong);
     Reason {
         mistake,
         word: quoted(input, number, word),
@@ -144,62 +76,28 @@ fn line_reason(input: &[u8], number: u32, place: Place) -> Reason
     }
 }
 
-/// Why this plan is refused; no word is named where none is found.
-fn plan_reason(alloc: Global, input: &[u8], error: PlanError) -> Result<Reason, AllocError>
-    requires { length input.now ≤ 1048576 }
-    ensures word { IfOk result (λ reason. IfSome reason.word (Quotes input.now)) }
-    ensures beside { IfOk result (λ reason. IfSome reason.beside (Quotes input.now)) }
+/// Why this plan is refused; no word is named where there is no clue.
+fn plan_reason(input: &[u8], error: PlanError, clue: Option<Clue>) -> Reason
+    ensures word { IfSome result.word (Quotes input.now) }
+    ensures beside { IfSome result.beside (Quotes input.now) }
 {
-    let Some(clue) = plan_clue(alloc, input, error)? else {
-        return Ok(Reason {
+    let Some(clue) = clue else {
+        return Reason {
             mistake: Mistake::Plan(error),
             word: None,
             beside: None,
             hint: Hint::Nothing,
-        });
+        };
     };
     let beside = match clue.beside {
-        Some(spot) => quoted(input, spot.line, spot.word),
+        Some(spot) => quoted_at(input, spot),
         None => None,
     };
-    Ok(Reason {
-        mistake: clue.mistake,
-        word: quoted(input, clue.at.line, clue.at.word),
+    Reason {
+        mistake: clue.mistake.unwrap_or(Mistake::Plan(error)),
+        word: quoted_at(input, clue.at),
         beside,
         hint: Hint::Nothing,
-    })
-}
-
-/// Why a script ends so. `Ok(None)` where it does not end so, or is longer than 1,048,576 bytes; `Err` where there is
-/// too little memory to find it out.
-pub fn reason_of(
-    alloc: Global,
-    input: &[u8],
-    fault: ReplayFault,
-) -> Result<Option<Reason>, AllocError>
-    // The script stops at just this line, or for just this refusal.
-    ensures stops { IfOk result (λ reason. IfSome reason (λ _. StopsAt (setting_of input.now) fault)) }
-    // And where it does, a reason is given.
-    ensures given { Gives input.now fault result }
-    // A word that is named stands there.
-    ensures word { IfOk result (λ reason. IfSome reason (λ reason. IfSome reason.word (Quotes input.now))) }
-    ensures beside { IfOk result (λ reason. IfSome reason (λ reason. IfSome reason.beside (Quotes input.now))) }
-    // Of a bad line a word of that line is named.
-    ensures line { IfOk result (λ reason. IfSome reason (λ reason. IfSome reason.word (IsOfLine fault))) }
-{
-    if input.len() > INPUT_LIMIT {
-        return Ok(None);
-    }
-    let Some((stop, place)) = stop_of(alloc, input)? else {
-        return Ok(None);
-    };
-    if stop != fault {
-        return Ok(None);
-    }
-    match fault {
-        ReplayFault::BadLine(number) => Ok(Some(line_reason(input, number, place))),
-        ReplayFault::BadPlan(error) => Ok(Some(plan_reason(alloc, input, error)?)),
-        ReplayFault::Memory | ReplayFault::Read | ReplayFault::Write => Ok(None),
     }
 }
 
@@ -207,31 +105,52 @@ pub fn reason_of(
 #[derive(Clone, Copy)]
 pub struct Explained {
     pub fault: ReplayFault,
-    /// Of a bad line and of a refused plan the reason; `Err` where there was too little memory to find it out.
-    pub reason: Result<Option<Reason>, AllocError>,
+    /// Why a line is bad, or a plan refused.
+    pub reason: Option<Reason>,
 }
 
 impl Explained {
-    /// The fault of a run over this input.
-    pub fn of(alloc: Global, input: &[u8], fault: ReplayFault) -> Explained
-        ensures fault { result.fault ≡ fault }
-        ensures given { Gives input.now fault result.reason }
+    /// What stopped a run over this input.
+    pub fn of(input: &[u8], stop: Stop) -> Explained
+        ensures fault { result.fault ≡ fault_of stop }
+        // A reason is given of each bad line and each refused plan.
+        ensures given { Gives result.fault result.reason }
+        // A word that is named stands there.
+        ensures word { IfSome result.reason (λ reason. IfSome reason.word (Quotes input.now)) }
+        ensures beside { IfSome result.reason (λ reason. IfSome reason.beside (Quotes input.now)) }
+        // Of a bad line a word of that line is named.
+        ensures line { IfSome result.reason (λ reason. IfSome reason.word (IsOfLine result.fault)) }
     {
+        let reason = match stop {
+            Stop::Line(number, place, wrong) => Some(line_reason(input, number, place, wrong)),
+            Stop::Plan(error, clue) => Some(plan_reason(input, error, clue)),
+            Stop::Memory | Stop::Read | Stop::Write => None,
+        };
         Explained {
-            fault,
-            reason: reason_of(alloc, input, fault),
+            fault: stop.fault(),
+            reason,
         }
     }
 
-    /// A fault that has no reason: it is none of the script.
+    /// A fault that is none of the script.
     pub fn without_reason(fault: ReplayFault) -> Explained
         ensures fault { result.fault ≡ fault }
-        ensures reason { result.reason ≡ Ok None }
+        ensures reason { result.reason ≡ None }
     {
         Explained {
             fault,
-            reason: Ok(None),
+            reason: None,
         }
+    }
+}
+
+impl Failed for Explained {
+    ghost use Rattle.dali_grammar.specs.ReplayFault.{status_of};
+
+    ghost status_of = { λ e. status_of e.fault };
+
+    fn status(&self) -> u8 {
+        self.fault.status()
     }
 }
 
@@ -239,10 +158,8 @@ impl fmt::Display for Explained {
     fn fmt<W: fmt::Write>(&self, f: &mut fmt::Formatter<W>) -> fmt::Result {
         let fault = self.fault;
         write!(f, "{fault}")?;
-        let reason = match self.reason {
-            Ok(Some(reason)) => reason,
-            Ok(None) => return Ok(()),
-            Err(_) => return f.write_str(": there is too little memory to say why"),
+        let Some(reason) = self.reason else {
+            return Ok(());
         };
         f.write_str(": ")?;
         if let (ReplayFault::BadPlan(_), Some(word)) = (fault, reason.word) {

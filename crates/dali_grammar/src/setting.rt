@@ -2,75 +2,92 @@
 
 ghost use Rattle.std.specs.Prelude.{◌≡◌, ◌+◌, ◌≤◌, [], ◌∷◌, ◌++◌, length, Ok, IfOk, IfErr};
 ghost use Rattle.dali_grammar.specs.Lines.{lines_of, numbered_after};
+ghost use Rattle.dali_grammar.specs.ReplayFault.{fault_of};
+ghost use Rattle.dali_grammar.specs.declared.fault.ReplayFault.TheVariants.{BadLine};
 ghost use Rattle.dali_grammar.specs.Setting.{PlansNot, planned, used_of, then_used};
 
-use crate::fault::ReplayFault;
-use crate::heading::{draws_of, heading_of, is_used_line, used_of};
+use crate::fault::Stop;
+use crate::heading::{Heading, draws_of, heading_of, is_used_line, used_of};
 use crate::lines::Script;
+use crate::reason::{Clue, Place};
+use crate::words::{Wanted, Wrong};
 use dali_events::{Plan, PlanError, Used};
 use std::alloc::{AllocError, Global};
 
 /// The first two lines, and those of used gear that follow: whether they set up a bench, and the plan.
-pub fn plan(alloc: Global, script: &mut Script) -> Result<(bool, Plan), ReplayFault>
+pub fn plan(alloc: Global, script: &mut Script) -> Result<(bool, Plan), Stop>
     requires { script.old.read + length script.old.rest.now ≤ 1048576 }
     ensures planned { IfOk result
         (λ setting. planned (script.old.read + length (lines_of script.old.rest.now)
         + 1) (numbered_after script.old.read script.old.rest.now)
         ≡ Ok (setting, numbered_after script.new.read script.new.rest.now)) }
     ensures refused { IfErr result
-        (PlansNot (planned (script.old.read + length (lines_of script.old.rest.now) + 1)
-        (numbered_after script.old.read script.old.rest.now))) }
+        (λ stop. PlansNot (planned (script.old.read + length (lines_of script.old.rest.now) + 1)
+        (numbered_after script.old.read script.old.rest.now)) (fault_of stop)) }
     ensures range { script.new.read + length script.new.rest.now ≤ 1048576 }
 {
     let Some(line) = script.next() else {
-        return Err(ReplayFault::BadLine(script.number() + 1));
+        return Err(missing(script.number(), Place::First));
     };
-    let Some(heading) = heading_of(alloc, line)? else {
-        return Err(ReplayFault::BadLine(script.number()));
+    let heading = match heading_of(alloc, line)? {
+        Ok(heading) => heading,
+        Err(wrong) => return Err(Stop::Line(script.number(), Place::First, wrong)),
     };
     let Some(line) = script.next() else {
-        return Err(ReplayFault::BadLine(script.number() + 1));
+        return Err(missing(script.number(), Place::Second));
     };
-    let Some(draws) = draws_of(alloc, line)? else {
-        return Err(ReplayFault::BadLine(script.number()));
+    let draws = match draws_of(alloc, line)? {
+        Ok(draws) => draws,
+        Err(wrong) => return Err(Stop::Line(script.number(), Place::Second, wrong)),
     };
     match Plan::new(alloc, heading.gear, &heading.blocks, &draws) {
-        Ok(plan) => with_used(alloc, heading.is_bench, plan, script),
-        Err(PlanError::NoMemory) => Err(ReplayFault::Memory),
-        Err(error) => Err(ReplayFault::BadPlan(error)),
+        Ok(plan) => with_used(alloc, &heading, &draws, plan, script),
+        Err(PlanError::NoMemory) => Err(Stop::Memory),
+        Err(error) => Err(Stop::Plan(error, Clue::of(error, &heading.blocks, &draws))),
     }
+}
+
+/// A line of the plan is missing, behind so many lines.
+fn missing(lines: u32, place: Place) -> Stop
+    requires { lines ≤ 1048576 }
+    ensures { fault_of result ≡ BadLine (lines + 1) }
+{
+    Stop::Line(lines + 1, place, Wrong::at(1, Wanted::Line))
 }
 
 /// The plan with the used gear that the next lines name.
 fn with_used(
     alloc: Global,
-    is_bench: bool,
+    heading: &Heading,
+    draws: &[u32],
     plan: Plan,
     script: &mut Script,
-) -> Result<(bool, Plan), ReplayFault>
+) -> Result<(bool, Plan), Stop>
     requires { script.old.read + length script.old.rest.now ≤ 1048576 }
     ensures planned { IfOk result
-        (λ setting. then_used is_bench plan (used_of [] (numbered_after script.old.read script.old.rest.now))
+        (λ setting. then_used heading.now.is_bench plan
+        (used_of [] (numbered_after script.old.read script.old.rest.now))
         ≡ Ok (setting, numbered_after script.new.read script.new.rest.now)) }
     ensures refused { IfErr result
-        (PlansNot (then_used is_bench plan (used_of [] (numbered_after script.old.read script.old.rest.now)))) }
+        (λ stop. PlansNot (then_used heading.now.is_bench plan
+        (used_of [] (numbered_after script.old.read script.old.rest.now))) (fault_of stop)) }
     ensures range { script.new.read + length script.new.rest.now ≤ 1048576 }
 {
     let used = used_gear(alloc, script)?;
     match plan.with_used(alloc, &used) {
-        Ok(plan) => Ok((is_bench, plan)),
-        Err(PlanError::NoMemory) => Err(ReplayFault::Memory),
-        Err(error) => Err(ReplayFault::BadPlan(error)),
+        Ok(plan) => Ok((heading.is_bench, plan)),
+        Err(PlanError::NoMemory) => Err(Stop::Memory),
+        Err(error) => Err(Stop::Plan(error, Clue::of_used(error, &used, heading.gear, draws))),
     }
 }
 
 /// The used gear that the next lines name.
-fn used_gear(alloc: Global, script: &mut Script) -> Result<Vec<Used>, ReplayFault>
+fn used_gear(alloc: Global, script: &mut Script) -> Result<Vec<Used>, Stop>
     requires { script.old.read + length script.old.rest.now ≤ 1048576 }
     ensures used { IfOk result (λ used. used_of [] (numbered_after script.old.read script.old.rest.now)
         ≡ Ok (used.items, numbered_after script.new.read script.new.rest.now)) }
     ensures refused { IfErr result
-        (PlansNot (used_of [] (numbered_after script.old.read script.old.rest.now))) }
+        (λ stop. PlansNot (used_of [] (numbered_after script.old.read script.old.rest.now)) (fault_of stop)) }
     ensures range { script.new.read + length script.new.rest.now ≤ 1048576 }
 {
     let mut used = Vec::new(alloc);
@@ -81,8 +98,9 @@ fn used_gear(alloc: Global, script: &mut Script) -> Result<Vec<Used>, ReplayFaul
         let Some(_) = script.next() else {
             return Ok(used);
         };
-        let Some(one) = used_of(line) else {
-            return Err(ReplayFault::BadLine(script.number()));
+        let one = match used_of(line) {
+            Ok(one) => one,
+            Err(wrong) => return Err(Stop::Line(script.number(), Place::Used, wrong)),
         };
         append(&mut used, one)?;
     }

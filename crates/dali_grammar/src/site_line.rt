@@ -1,12 +1,12 @@
 //! What a line asks for on a site.
 
-ghost use Rattle.std.specs.Prelude.{◌≡◌, map};
-ghost use Rattle.dali_grammar.specs.Lines.{words_of};
-ghost use Rattle.dali_grammar.specs.SiteLine.{alone_of, controller_line_of, numbered_line_of, one_word_of};
-ghost use Rattle.dali_grammar.specs.SiteLine.{two_words_of, destroyed_of, site_line_of};
+ghost use Rattle.std.specs.Prelude.{◌≡◌, option_map};
+ghost use Rattle.std.specs.Result.{result_ok};
+ghost use Rattle.dali_grammar.specs.Lines.{words_of, parts_after};
+ghost use Rattle.dali_grammar.specs.SiteLine.{controller_line, site_line, site_line_of};
 
-use crate::lines::words;
-use crate::numbers::{number_in, set_of};
+use crate::lines::cut;
+use crate::words::{Wanted, Wrong, ended, number, number_and_frame, trouble};
 use dali_events::Trouble;
 use dali_frame::Forward;
 
@@ -43,105 +43,60 @@ pub enum SiteLine {
     Show,
 }
 
-fn alone(name: &[u8]) -> Option<SiteLine>
-    ensures { result ≡ alone_of name.now }
-{
-    if name == b"pump".as_slice() {
-        Some(SiteLine::Pump(Trouble::None))
-    } else if name == b"lapse".as_slice() {
-        Some(SiteLine::Lapse)
-    } else if name == b"quiet".as_slice() {
-        Some(SiteLine::Quiet)
-    } else if name == b"show".as_slice() {
-        Some(SiteLine::Show)
-    } else {
-        None
-    }
-}
-
-fn controller_line(name: &[u8], c: u32) -> Option<SiteLine>
-    ensures { result ≡ controller_line_of name.now c }
+/// A line of a controller alone.
+fn controller_line(name: &[u8], rest: Option<&[u8]>) -> Result<SiteLine, Wrong>
+    ensures { result_ok result
+        ≡ controller_line name.now (parts_after 32 (option_map (λ rest. rest.now) rest.entry)) }
 {
     if name == b"go".as_slice() {
-        Some(SiteLine::Go(c))
-    } else if name == b"store".as_slice() {
-        Some(SiteLine::Store(c))
-    } else if name == b"fail".as_slice() {
-        Some(SiteLine::Fail(c))
+        Ok(SiteLine::Go(number(rest)?))
     } else if name == b"survey".as_slice() {
-        Some(SiteLine::Survey(c))
+        Ok(SiteLine::Survey(number(rest)?))
+    } else if name == b"store".as_slice() {
+        Ok(SiteLine::Store(number(rest)?))
+    } else if name == b"fail".as_slice() {
+        Ok(SiteLine::Fail(number(rest)?))
     } else if name == b"down".as_slice() {
-        Some(SiteLine::Down(c))
+        Ok(SiteLine::Down(number(rest)?))
     } else if name == b"up".as_slice() {
-        Some(SiteLine::Up(c))
+        Ok(SiteLine::Up(number(rest)?))
     } else {
-        None
+        Err(Wrong::at(1, Wanted::Name))
     }
 }
 
-fn numbered_line(name: &[u8], number: u32) -> Option<SiteLine>
-    ensures { result ≡ numbered_line_of name.now number }
-{
-    if name == b"off".as_slice() {
-        Some(SiteLine::Power(number, false))
-    } else if name == b"on".as_slice() {
-        Some(SiteLine::Power(number, true))
-    } else if name == b"expire".as_slice() {
-        Some(SiteLine::Expire(number))
-    } else if name == b"run".as_slice() {
-        Some(SiteLine::Run(number))
-    } else {
-        controller_line(name, number)
-    }
-}
-
-fn one_word(name: &[u8], word: &[u8]) -> Option<SiteLine>
-    ensures { result ≡ one_word_of name.now word.now }
+fn site_line(name: &[u8], rest: Option<&[u8]>) -> Result<SiteLine, Wrong>
+    ensures { result_ok result
+        ≡ site_line name.now (parts_after 32 (option_map (λ rest. rest.now) rest.entry)) }
 {
     if name == b"pump".as_slice() {
-        Some(SiteLine::Pump(Trouble::of_name(word)?))
+        Ok(SiteLine::Pump(trouble(rest)?))
+    } else if name == b"lapse".as_slice() {
+        ended(SiteLine::Lapse, rest, 2)
+    } else if name == b"arc".as_slice() {
+        let (c, frame) = number_and_frame(rest)?;
+        Ok(SiteLine::Arc(c, frame))
+    } else if name == b"run".as_slice() {
+        Ok(SiteLine::Run(number(rest)?))
+    } else if name == b"off".as_slice() {
+        Ok(SiteLine::Power(number(rest)?, false))
+    } else if name == b"on".as_slice() {
+        Ok(SiteLine::Power(number(rest)?, true))
+    } else if name == b"expire".as_slice() {
+        Ok(SiteLine::Expire(number(rest)?))
+    } else if name == b"quiet".as_slice() {
+        ended(SiteLine::Quiet, rest, 2)
+    } else if name == b"show".as_slice() {
+        ended(SiteLine::Show, rest, 2)
     } else {
-        numbered_line(name, number_in(word)?)
+        controller_line(name, rest)
     }
 }
 
-fn two_words(name: &[u8], first: &[u8], second: &[u8]) -> Option<SiteLine>
-    ensures { result ≡ two_words_of name.now first.now second.now }
+/// What a line asks for on a site, or its first wrong word.
+pub fn site_line_of(line: &[u8]) -> Result<SiteLine, Wrong>
+    ensures { result_ok result ≡ site_line_of (words_of line.now) }
 {
-    if name == b"arc".as_slice() {
-        match (number_in(first), Forward::read_hex(second)) {
-            (Some(c), Ok(frame)) => Some(SiteLine::Arc(c, frame)),
-            _ => None,
-        }
-    } else if name == b"pump".as_slice() {
-        destroyed(first, second)
-    } else {
-        None
-    }
-}
-
-fn destroyed(word: &[u8], set: &[u8]) -> Option<SiteLine>
-    ensures { result ≡ destroyed_of word.now set.now }
-{
-    let set = set_of(set)?;
-    Some(SiteLine::Pump(Trouble::of_name_and_set(word, set)?))
-}
-
-fn of_words(words: &[&[u8]]) -> Option<SiteLine>
-    ensures { result ≡ site_line_of (map (λ word. word.now) words.now) }
-{
-    match words {
-        [] => None,
-        [name] => alone(name),
-        [name, word] => one_word(name, word),
-        [name, first, second] => two_words(name, first, second),
-        _ => None,
-    }
-}
-
-/// What a line asks for on a site; `None` where it is a bad line.
-pub fn site_line_of(line: &[u8]) -> Option<SiteLine>
-    ensures { result ≡ site_line_of (words_of line.now) }
-{
-    of_words(words(line)?.as_slice())
+    let (name, rest) = cut(line, b' ');
+    site_line(name, rest)
 }

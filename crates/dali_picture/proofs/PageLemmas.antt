@@ -1,7 +1,6 @@
-use Rattle.std.proofs.Common.{◌≡◌, ℕ, List, ◌⊎◌, inl, inr, Option, Some, None, Result, Ok, Err, refl}
+use Rattle.std.proofs.Common.{◌≡◌, ℕ, List, ◌⊎◌, inl, inr, Option, Some, None, Err, refl}
 use Rattle.std.specs.Prelude.{IfSome}
 use Rattle.std.specs.Io.KnownBytes.{Keeps}
-use Rattle.std.specs.declared.alloc.AllocError.{AllocError}
 use Rattle.dali_grammar.specs.declared.fault.ReplayFault.{ReplayFault}
 use Rattle.dali_grammar.specs.declared.fault.ReplayFault.TheVariants.{Memory, Read}
 use Rattle.dali_grammar.specs.declared.reason.Explained.{Explained}
@@ -15,12 +14,12 @@ keeps_same None = tt
 keeps_same (Some xs) = refl
 
 -- the input was not read: nothing was written, and there is no reason
-unread : (input : List ℕ) (a : Option (List ℕ)) (e : ReplayFault) (r : Result (Option Reason) AllocError) → r ≡ Ok None → (e ≡ Memory) ⊎ (e ≡ Read)
-    → DrawsNot (setting_of input) a a e × Gives input e r
-unread input a e r none (inl is) = rw (is, none) (keeps_same a, λ h. absurd h)
-unread input a e r none (inr is) = rw (is, none) (keeps_same a, λ h. absurd h)
+unread : (input : List ℕ) (a : Option (List ℕ)) (e : ReplayFault) (r : Option Reason) → r ≡ None → (e ≡ Memory) ⊎ (e ≡ Read)
+    → DrawsNot (setting_of input) a a e × Gives e r
+unread input a e r none (inl is) = rw (is, none) (keeps_same a, refl)
+unread input a e r none (inr is) = rw (is, none) (keeps_same a, refl)
 
-pub draws_unread : (left a : Option (List ℕ)) (e : ReplayFault) (x : Explained) → x.fault ≡ e → x.reason ≡ Ok None → (e ≡ Memory) ⊎ (e ≡ Read)
+pub draws_unread : (left a : Option (List ℕ)) (e : ReplayFault) (x : Explained) → x.fault ≡ e → x.reason ≡ None → (e ≡ Memory) ⊎ (e ≡ Read)
     → IfSome left (λ input. Draws input a a (Err x))
 draws_unread None a e x fault reason cause = tt
 draws_unread (Some input) a e x fault reason cause = unread input a x.fault x.reason reason (rw fault cause)

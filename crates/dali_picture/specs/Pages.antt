@@ -34,4 +34,4 @@ abbrev pub Draws : List ℕ → Option (List ℕ) → Option (List ℕ) → Resu
     → Type 0
 Draws input old new (Ok x) = Shows (setting_of input) old new
 Draws input old new (Err e) =
-    DrawsNot (setting_of input) old new e.fault × Gives input e.fault e.reason
+    DrawsNot (setting_of input) old new e.fault × Gives e.fault e.reason

@@ -82,7 +82,7 @@ fn incident_of(event: Event) -> Option<Incident>
 fn disturbance_of(line: &[u8]) -> Option<Incident>
     ensures { result ≡ disturbance_of line.now }
 {
-    match site_line_of(line)? {
+    match site_line_of(line).ok()? {
         SiteLine::Pump(Trouble::AnswerLost) => Some(Incident::Lost),
         SiteLine::Pump(Trouble::Noise) => Some(Incident::Noise),
         SiteLine::Pump(Trouble::None | Trouble::Destroyed(_) | Trouble::Collision)

@@ -1,6 +1,7 @@
 //! A run as a picture: its marks, and the folds of a short picture.
 
 ghost use Rattle.std.specs.Prelude.{◌≡◌, ◌≤◌, length, map, IfOk, IfErr};
+ghost use Rattle.dali_grammar.specs.ReplayFault.{fault_of};
 ghost use Rattle.dali_grammar.specs.Setting.{setting_of};
 ghost use Rattle.dali_replay.specs.Played.{IsPlayedBy, StopsBy};
 ghost use Rattle.dali_picture.specs.Marks.{mark_of};
@@ -12,7 +13,7 @@ use crate::incidents::{Happened, incidents_of};
 use crate::mark::{Mark, marks_of};
 use crate::stays::{Watched, watch_over};
 use crate::transactions::{Transaction, transactions_of};
-use dali_replay::{Played, ReplayFault};
+use dali_replay::{Played, Stop};
 use dali_world::Event;
 use std::alloc::{AllocError, Global};
 
@@ -34,10 +35,10 @@ impl<'a> Picture<'a> {
     /// The picture of a script: a mark for each event of its log, in their order, and no other.
     ///
     /// Faults: a bad line or a plan that is refused, and memory.
-    pub fn of(alloc: Global, input: &'a [u8]) -> Result<Picture<'a>, ReplayFault>
+    pub fn of(alloc: Global, input: &'a [u8]) -> Result<Picture<'a>, Stop>
         requires { length input.now ≤ 1048576 }
         ensures played { IfOk result (λ picture. IsPlayedBy (setting_of input.entry.now) picture.played) }
-        ensures stops { IfErr result (StopsBy (setting_of input.entry.now)) }
+        ensures stops { IfErr result (λ stop. StopsBy (setting_of input.entry.now) (fault_of stop)) }
         ensures marks { IfOk result (λ picture. picture.marks.items ≡ map mark_of picture.played.log.items) }
         ensures folds { IfOk result (λ picture. AreFolds picture.folds.items (length picture.played.log.items)) }
         ensures frames { IfOk result (λ picture. HaveTheirFrames picture.marks.items picture.folds.items) }

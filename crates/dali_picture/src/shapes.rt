@@ -7,7 +7,7 @@ use crate::stances::{Stance, stance_by};
 use crate::stays::{Shown, Stay};
 use crate::transactions::{Purpose, Transaction};
 use crate::words::{
-    push_event, push_fold, push_stance, push_plain, push_short, push_shown, push_transaction,
+    push_event, push_fold, push_plain, push_short, push_shown, push_stance, push_transaction,
     push_unheard,
 };
 use dali_gear::InitialisationState;

@@ -1,12 +1,13 @@
 //! A page from the bytes of a script.
 
 ghost use Rattle.std.specs.Prelude.{◌≤◌, length, IfOk, IfErr, IfSome, string_bytes};
+ghost use Rattle.dali_grammar.specs.ReplayFault.{fault_of};
 ghost use Rattle.dali_grammar.specs.Setting.{setting_of};
 ghost use Rattle.dali_picture.specs.Pages.{IsPageOf, Draws, DrawsNot, Shows};
 
 use crate::page::{push_lower, push_upper};
 use crate::picture::Picture;
-use dali_replay::{Explained, ReplayFault, read_input};
+use dali_replay::{Explained, Stop, read_input};
 use std::alloc::{AllocError, Global};
 use std::io;
 use std::io::{Read, Write};
@@ -25,16 +26,18 @@ fn page_of(alloc: Global, picture: &Picture) -> Result<String, AllocError>
 }
 
 /// Writes the page of a script.
-fn draw<W: Write>(alloc: Global, input: &[u8], writer: &mut W) -> Result<(), ReplayFault>
+fn draw<W: Write>(alloc: Global, input: &[u8], writer: &mut W) -> Result<(), Stop>
     requires { length input.now ≤ 1048576 }
     ensures page { IfOk result (λ _. Shows (setting_of input.now) (W.contents writer.old) (W.contents writer.new)) }
-    ensures stops { IfErr result (DrawsNot (setting_of input.now) (W.contents writer.old) (W.contents writer.new)) }
+    ensures stops { IfErr result
+        (λ stop. DrawsNot (setting_of input.now) (W.contents writer.old) (W.contents writer.new)
+        (fault_of stop)) }
 {
     let picture = Picture::of(alloc, input)?;
     let page = page_of(alloc, &picture)?;
     match writer.write_all(page.as_bytes()) {
         Ok(()) => Ok(()),
-        Err(_) => Err(ReplayFault::Write),
+        Err(_) => Err(Stop::Write),
     }
 }
 
@@ -56,7 +59,7 @@ pub fn draw_run<R: Read, W: Write>(
     };
     match draw(alloc, &input, writer) {
         Ok(()) => Ok(()),
-        Err(fault) => Err(Explained::of(alloc, &input, fault)),
+        Err(stop) => Err(Explained::of(&input, stop)),
     }
 }
 

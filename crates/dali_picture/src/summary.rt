@@ -4,9 +4,9 @@
 use crate::clock::{frames_and_bits_of, milliseconds};
 use crate::gear_table::{addressed_in, at_end};
 use crate::incidents::{Happened, INCIDENTS, Incident, count_of};
-use crate::stances::{Stance, stance_of};
 use crate::picture::Picture;
-use crate::words::{stance_class, stance_meaning, push_event, push_stance, push_unheard};
+use crate::stances::{Stance, stance_of};
+use crate::words::{push_event, push_stance, push_unheard, stance_class, stance_meaning};
 use std::alloc::AllocError;
 
 /// How many incidents a page lists one by one.

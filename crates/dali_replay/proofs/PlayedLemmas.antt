@@ -106,6 +106,11 @@ pub stops_by : (s : Result (Setting × NumberedLines) End) (is_bench : Bool) (p 
 stops_by s is_bench p lines player e is begun stops =
     rw is (subst (λ (z : Player). StopsIn (record { player = z; left = lines }) e) begun stops)
 
+-- memory was wanting
+pub stops_want : (s : Result (Setting × NumberedLines) End) → StopsBy s Memory
+stops_want (Ok s) = tt
+stops_want (Err end) = tt
+
 -- the first lines set up nothing
 pub stops_unplanned : (s : Result (Setting × NumberedLines) End) (e : ReplayFault) → PlansNot s e → StopsBy s e
 stops_unplanned (Err end) e not = not

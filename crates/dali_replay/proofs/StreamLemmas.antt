@@ -1,6 +1,5 @@
-use Rattle.std.proofs.Common.{◌≡◌, ℕ, List, ◌⊎◌, inl, inr, Bool, true, false, Option, Some, None, Result, Ok, Err}
+use Rattle.std.proofs.Common.{◌≡◌, ℕ, List, ◌⊎◌, inl, inr, Bool, true, false, Option, Some, None, Result, Ok, Err, refl}
 use Rattle.std.specs.Prelude.{IfSome}
-use Rattle.std.specs.declared.alloc.AllocError.{AllocError}
 use Rattle.dali_grammar.specs.declared.fault.ReplayFault.{ReplayFault}
 use Rattle.dali_grammar.specs.declared.fault.ReplayFault.TheVariants.{Memory, Read, Write}
 use Rattle.dali_grammar.specs.declared.reason.Explained.{Explained}
@@ -21,17 +20,17 @@ replays_write form (Ok s) a b = go s.0.0 where
   go false = tt
 
 -- the input was not read: then there is no reason
-unread_gives : (input : List ℕ) (e : ReplayFault) (r : Result (Option Reason) AllocError) → r ≡ Ok None → (e ≡ Memory) ⊎ (e ≡ Read) → Gives input e r
-unread_gives input e r none (inl is) = rw (none, is) (λ h. absurd h)
-unread_gives input e r none (inr is) = rw (none, is) (λ h. absurd h)
+unread_gives : (e : ReplayFault) (r : Option Reason) → r ≡ None → (e ≡ Memory) ⊎ (e ≡ Read) → Gives e r
+unread_gives e r none (inl is) = rw (none, is) refl
+unread_gives e r none (inr is) = rw (none, is) refl
 
-pub explains_unread : (form : Form) (left a : Option (List ℕ)) (e : ReplayFault) (x : Explained) → x.fault ≡ e → x.reason ≡ Ok None
+pub explains_unread : (form : Form) (left a : Option (List ℕ)) (e : ReplayFault) (x : Explained) → x.fault ≡ e → x.reason ≡ None
     → (e ≡ Memory) ⊎ (e ≡ Read) → IfSome left (λ input. Explains form input a a (Err x))
 explains_unread form None a e x fault reason cause = tt
 explains_unread form (Some input) a e x fault reason cause =
-    (rw fault (tells_fault form a input e cause), unread_gives input x.fault x.reason reason (rw fault cause))
+    (rw fault (tells_fault form a input e cause), unread_gives x.fault x.reason reason (rw fault cause))
 
 -- what a run over bytes says, with the reason of its fault
 pub explains_fault : (form : Form) (input : List ℕ) (a b : Option (List ℕ)) (e : ReplayFault) (x : Explained)
-    → Replays {A = Unit {0}} form (setting_of input) a b (Err e) → x.fault ≡ e → Gives input e x.reason → Explains form input a b (Err x)
-explains_fault form input a b e x told fault gives = (rw fault (tells_of_replays form (setting_of input) a b (Err e) told), rw fault gives)
+    → Replays {A = Unit {0}} form (setting_of input) a b (Err e) → x.fault ≡ e → Gives x.fault x.reason → Explains form input a b (Err x)
+explains_fault form input a b e x told fault gives = (rw fault (tells_of_replays form (setting_of input) a b (Err e) told), gives)

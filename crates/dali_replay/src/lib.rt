@@ -16,8 +16,8 @@ mod streams;
 mod text;
 
 pub use dali_grammar::{
-    Excerpt, Explained, Hint, INPUT_LIMIT, Mistake, Place, Quote, Reason, ReplayFault, SiteLine,
-    block_of, plan_limit, reason_of, site_line_of,
+    Clue, Excerpt, Explained, Hint, INPUT_LIMIT, LineForm, Mistake, Place, Quote, Reason,
+    ReplayFault, SiteLine, Spot, Stop, Wanted, Wrong, block_of, plan_limit, site_line_of,
 };
 pub use form::Form;
 pub use json::{push_comma, push_json_gear, push_json_table};

@@ -1,6 +1,7 @@
 //! A script that was played to its end: its lines, what each caused and reported, and all that happened.
 
 ghost use Rattle.std.specs.Prelude.{◌≡◌, ◌+◌, ◌≤◌, ◌++◌, ◌∷◌, [], length, IfOk, IfErr, OnOk, string_bytes};
+ghost use Rattle.dali_grammar.specs.ReplayFault.{fault_of, with_fault};
 ghost use Rattle.dali_replay.specs.BenchReport.{with_event};
 ghost use Rattle.dali_replay.specs.Played.{stand, events_in, end_text, log_in, IsEmpty, IsOf, IsSame, PlaysAll};
 ghost use Rattle.dali_replay.specs.Played.{IsPlayed, IsPlayedBy, StopsIn, StopsBy};
@@ -10,7 +11,7 @@ use crate::player::Player;
 use crate::site_report::show;
 use crate::text::push_all_gear;
 use dali_frame::Random24;
-use dali_grammar::{ReplayFault, Script, plan};
+use dali_grammar::{Script, Stop, plan};
 use dali_world::{Event, Plan, Used};
 use std::alloc::{AllocError, Global};
 
@@ -92,10 +93,11 @@ fn play_all<'a>(
     lines: &mut Vec<PlayedLine<'a>>,
     reports: &mut String,
     log: &mut Vec<Event>,
-) -> Result<(), ReplayFault>
+) -> Result<(), Stop>
     requires { script.old.read + length script.old.rest.now ≤ 1048576 }
     ensures { PlaysAll (stand player.old script.old) player.new lines.old.items lines.new.items
-        (string_bytes reports.old) (string_bytes reports.new) log.old.items log.new.items result }
+        (string_bytes reports.old) (string_bytes reports.new) log.old.items log.new.items
+        (with_fault result) }
 {
     let mut first = events_in(player, log);
     while let Some(line) = script.next() {
@@ -171,12 +173,12 @@ impl<'a> Played<'a> {
     }
 
     /// Plays all lines.
-    fn play(&mut self, player: &mut Player, script: &mut Script<'a>) -> Result<(), ReplayFault>
+    fn play(&mut self, player: &mut Player, script: &mut Script<'a>) -> Result<(), Stop>
         requires empty { IsEmpty self.old }
         requires range { script.old.read + length script.old.rest.now ≤ 1048576 }
         ensures played { OnOk result (IsPlayed (stand player.old script.old) self.new) }
         ensures same { OnOk result (IsSame self.old self.new) }
-        ensures stops { IfErr result (StopsIn (stand player.old script.old)) }
+        ensures stops { IfErr result (λ stop. StopsIn (stand player.old script.old) (fault_of stop)) }
     {
         play_all(
             player,
@@ -192,12 +194,12 @@ impl<'a> Played<'a> {
 
     /// Plays a script to its end.
     ///
-    /// The faults are those of `run_replay`: 1 for a bad line or plan, 3 for memory.
-    pub fn of(alloc: Global, input: &'a [u8]) -> Result<Played<'a>, ReplayFault>
+    /// It stops where `run_replay` does: at a bad line or plan, or for want of memory.
+    pub fn of(alloc: Global, input: &'a [u8]) -> Result<Played<'a>, Stop>
         requires { length input.now ≤ 1048576 }
         ensures played { IfOk result (λ played. IsPlayedBy (setting_of input.now) played) }
         ensures input { IfOk result (λ played. played.input.now ≡ input.entry.now) }
-        ensures stops { IfErr result (StopsBy (setting_of input.now)) }
+        ensures stops { IfErr result (λ stop. StopsBy (setting_of input.now) (fault_of stop)) }
     {
         let mut script = Script::new(input);
         let (is_bench, plan) = plan(alloc, &mut script)?;

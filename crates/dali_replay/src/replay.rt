@@ -3,6 +3,7 @@
 ghost use Rattle.std.specs.Prelude.{◌≡◌, ℕ, ◌+◌, ◌<◌, ◌≤◌, ◌⊎◌, List, length, IfOk, IfErr, IfSome, IsErrOf, IsErrAnd};
 ghost use Rattle.std.specs.Io.KnownBytes.{Consumes};
 ghost use Rattle.dali_grammar.specs.Lines.{numbered_after};
+ghost use Rattle.dali_grammar.specs.ReplayFault.{with_fault};
 ghost use Rattle.dali_replay.specs.Player.{PlaysOn};
 ghost use Rattle.dali_grammar.specs.Setting.{setting_of};
 ghost use Rattle.dali_replay.specs.Replay.{Replays, Tells};
@@ -10,7 +11,7 @@ ghost use Rattle.dali_replay.specs.declared.form.Form.TheVariants as form;
 
 use crate::form::{Form, put_in_form};
 use crate::player::Player;
-use dali_grammar::{INPUT_LIMIT, ReplayFault, Script, plan};
+use dali_grammar::{INPUT_LIMIT, ReplayFault, Script, Stop, plan};
 use std::alloc::Global;
 use std::io::{Read, Write};
 
@@ -42,10 +43,10 @@ fn play<W: Write>(
     player: &mut Player,
     script: &mut Script,
     writer: &mut W,
-) -> Result<(), ReplayFault>
+) -> Result<(), Stop>
     requires { script.old.read + length script.old.rest.now ≤ 1048576 }
     ensures { PlaysOn form player.old (numbered_after script.old.read script.old.rest.now) (W.contents writer.old)
-        (W.contents writer.new) result }
+        (W.contents writer.new) (with_fault result) }
 {
     let mut text = String::new(alloc);
     while let Some(line) = script.next() {
@@ -54,7 +55,7 @@ fn play<W: Write>(
         put_in_form(&mut text, form, script.number(), line, player)?;
         match writer.write_all(text.as_bytes()) {
             Ok(()) => {}
-            Err(_) => return Err(ReplayFault::Write),
+            Err(_) => return Err(Stop::Write),
         }
     }
     Ok(())
@@ -66,9 +67,9 @@ pub(crate) fn replay<W: Write>(
     form: Form,
     input: &[u8],
     writer: &mut W,
-) -> Result<(), ReplayFault>
+) -> Result<(), Stop>
     requires { length input.now ≤ 1048576 }
-    ensures { Replays form (setting_of input.now) (W.contents writer.old) (W.contents writer.new) result }
+    ensures { Replays form (setting_of input.now) (W.contents writer.old) (W.contents writer.new) (with_fault result) }
 {
     let mut script = Script::new(input);
     let (is_bench, plan) = plan(alloc, &mut script)?;
@@ -97,5 +98,15 @@ pub fn run_replay<R: Read, W: Write>(
         → IsErrAnd result (λ e. (e ≡ ReplayFault.Memory) ⊎ (e ≡ ReplayFault.Read))) }
 {
     let input = read_input(alloc, reader)?;
-    replay(alloc, Form::Text, &input, writer)
+    fault_alone(replay(alloc, Form::Text, &input, writer))
+}
+
+/// How a run ended, without what is wrong in the script.
+fn fault_alone(ended: Result<(), Stop>) -> Result<(), ReplayFault>
+    ensures { result ≡ with_fault ended }
+{
+    match ended {
+        Ok(()) => Ok(()),
+        Err(stop) => Err(stop.fault()),
+    }
 }

@@ -2,13 +2,14 @@
 
 ghost use Rattle.std.specs.Prelude.{◌≡◌, ◌≤◌, [], OnOk, IfSome, length};
 ghost use Rattle.std.specs.Io.Buffered.{writer_buffer, writer_contents};
+ghost use Rattle.dali_grammar.specs.ReplayFault.{with_fault};
 ghost use Rattle.dali_grammar.specs.Setting.{setting_of};
 ghost use Rattle.dali_replay.specs.Replay.{Replays};
 ghost use Rattle.dali_replay.specs.Streams.{Explains};
 
 use crate::form::Form;
 use crate::replay::{read_input, replay};
-use dali_grammar::{Explained, ReplayFault};
+use dali_grammar::{Explained, ReplayFault, Stop};
 use std::alloc::Global;
 use std::io;
 use std::io::{BufWriter, Read, Write};
@@ -19,16 +20,16 @@ fn replay_and_pass_on<W: Write + Drop>(
     form: Form,
     input: &[u8],
     writer: &mut BufWriter<W>,
-) -> Result<(), ReplayFault>
+) -> Result<(), Stop>
     requires { length input.now ≤ 1048576 }
     ensures told { Replays form (setting_of input.now)
-        (writer_contents W.contents writer.old) (writer_contents W.contents writer.new) result }
+        (writer_contents W.contents writer.old) (writer_contents W.contents writer.new) (with_fault result) }
     ensures passed { OnOk result (writer_buffer writer.new ≡ []) }
 {
     let played = replay(alloc, form, input, writer);
     match writer.flush() {
         Ok(()) => played,
-        Err(_) => Err(ReplayFault::Write),
+        Err(_) => Err(Stop::Write),
     }
 }
 
@@ -53,7 +54,7 @@ pub fn replay_through<R: Read, W: Write + Drop>(
     };
     match replay_and_pass_on(alloc, form, &input, writer) {
         Ok(()) => Ok(()),
-        Err(fault) => Err(Explained::of(alloc, &input, fault)),
+        Err(stop) => Err(Explained::of(&input, stop)),
     }
 }
 

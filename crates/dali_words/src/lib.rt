@@ -8,5 +8,5 @@ mod program;
 mod reading;
 
 pub use line::{Line, Wrong};
-pub use program::{WordKind, Program, Subcommand, Value, Word};
+pub use program::{Program, Subcommand, Value, Word, WordKind};
 pub use reading::asked;

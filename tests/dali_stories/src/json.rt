@@ -43,7 +43,7 @@ const BAD: Shown = (
 fn fault_of(ended: Result<(), Explained>) -> Result<(), (ReplayFault, bool)> {
     match ended {
         Ok(()) => Ok(()),
-        Err(explained) => Err((explained.fault, matches!(explained.reason, Ok(Some(_))))),
+        Err(explained) => Err((explained.fault, explained.reason.is_some())),
     }
 }
 

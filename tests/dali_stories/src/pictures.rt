@@ -84,7 +84,7 @@ fn is_refused<R: Abort + AllocGlobal>(rt: &R, script: &str, line: u32) -> Result
     let input = read_input(rt.alloc(), &mut reader).ok().ok_or("a script")?;
     let was = match Picture::of(rt.alloc(), &input) {
         Ok(_) => Ok(()),
-        Err(fault) => Err(fault),
+        Err(stop) => Err(stop.fault()),
     };
     assert_eq!(rt; was, Err(ReplayFault::BadLine(line)));
     Ok(())

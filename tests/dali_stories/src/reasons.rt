@@ -1,9 +1,9 @@
 //! What is said of a script that is refused: of bad lines, and of plans.
 
-use super::story::played;
-use dali_replay::{Explained, ReplayFault};
+use dali_replay::{Form, ReplayFault, replay_through};
 use dali_world::PlanError;
 use std::alloc::Global;
+use std::io::BufWriter;
 use std::process::Abort;
 use std::test::Fail;
 
@@ -407,13 +407,13 @@ destroyed L`",
 
 /// What is said of the end of a script; nothing where it ends well.
 fn said(alloc: Global, input: &str) -> Result<String, Fail> {
-    let (end, _) = played(alloc, input.as_bytes())?;
-    match end {
+    let mut reader = input.as_bytes();
+    let mut writer = BufWriter::new(alloc, Vec::new(alloc))
+        .ok()
+        .ok_or("a buffer")?;
+    match replay_through(alloc, Form::Text, &mut reader, &mut writer) {
         Ok(()) => Ok(String::new(alloc)),
-        Err(fault) => {
-            let explained = Explained::of(alloc, input.as_bytes(), fault);
-            Ok(format!(in alloc; "{explained}")?)
-        }
+        Err(explained) => Ok(format!(in alloc; "{explained}")?),
     }
 }
 

@@ -1,4 +1,4 @@
-//! The forms of all lines, as words.
+//! The forms of all lines, as words: which line may stand where.
 
 use super::mistake::Mistake;
 use super::names::is_near;
@@ -19,231 +19,69 @@ pub enum Place {
     Site,
 }
 
-/// What a word after the name of a line is.
+/// The form of a line: what it begins with, and how the words after that are written.
 #[derive(Clone, Copy)]
-pub(super) enum Kind {
-    Number,
-    Short,
-    Random,
-    Frame,
-    Block,
-    Trouble,
-    GearList,
-}
-
-/// The form of a line: what it begins with, how it is written, and what the words after its first are.
-pub(super) struct Form {
-    pub name: &'static str,
-    pub text: &'static str,
-    pub kinds: &'static [Kind],
-    /// Whether more words of the last kind may follow.
-    pub repeats: bool,
-}
+pub struct LineForm(&'static str, &'static str);
 
 /// What is said beside a mistake.
 #[derive(Clone, Copy)]
 pub enum Hint {
     Nothing,
     /// How the line is written.
-    Form(&'static str),
+    Form(LineForm),
     /// The name that was probably meant.
     Meant(&'static str),
-    /// The names that there are, as a part of a sentence.
-    Names(&'static str),
+    /// The names that there are at this place.
+    Names(Place),
 }
 
-impl fmt::Display for Hint {
-    fn fmt<W: fmt::Write>(&self, f: &mut fmt::Formatter<W>) -> fmt::Result {
-        match self {
-            Hint::Nothing => Ok(()),
-            Hint::Form(text) => write!(f, "; the form is `{text}`"),
-            Hint::Meant(name) => write!(f, "; did you mean `{name}`?"),
-            Hint::Names(names) => write!(f, ": {names}"),
-        }
-    }
-}
+const FIRST: &[LineForm] = &[LineForm("bench", "N"), LineForm("site", "N BLOCK ..")];
 
-const OFF: Form = Form {
-    name: "off",
-    text: "off g",
-    kinds: &[Kind::Number],
-    repeats: false,
-};
+const SECOND: &[LineForm] = &[LineForm("draws", "RRRRRR ..")];
 
-const ON: Form = Form {
-    name: "on",
-    text: "on g",
-    kinds: &[Kind::Number],
-    repeats: false,
-};
+const USED: &[LineForm] = &[LineForm("used", "g A RRRRRR")];
 
-const EXPIRE: Form = Form {
-    name: "expire",
-    text: "expire g",
-    kinds: &[Kind::Number],
-    repeats: false,
-};
-
-const QUIET: Form = Form {
-    name: "quiet",
-    text: "quiet",
-    kinds: &[],
-    repeats: false,
-};
-
-const SHOW: Form = Form {
-    name: "show",
-    text: "show",
-    kinds: &[],
-    repeats: false,
-};
-
-const FIRST: &[Form] = &[
-    Form {
-        name: "bench",
-        text: "bench N",
-        kinds: &[Kind::Number],
-        repeats: false,
-    },
-    Form {
-        name: "site",
-        text: "site N BLOCK ..",
-        kinds: &[Kind::Number, Kind::Block],
-        repeats: true,
-    },
+const BENCH: &[LineForm] = &[
+    LineForm("frame", "HHHH"),
+    LineForm("off", "g"),
+    LineForm("on", "g"),
+    LineForm("expire", "g"),
+    LineForm("quiet", ""),
+    LineForm("show", ""),
 ];
 
-const SECOND: &[Form] = &[Form {
-    name: "draws",
-    text: "draws RRRRRR ..",
-    kinds: &[Kind::Random],
-    repeats: true,
-}];
-
-const USED: &[Form] = &[Form {
-    name: "used",
-    text: "used g A RRRRRR",
-    kinds: &[Kind::Number, Kind::Short, Kind::Random],
-    repeats: false,
-}];
-
-const BENCH: &[Form] = &[
-    Form {
-        name: "frame",
-        text: "frame HHHH",
-        kinds: &[Kind::Frame],
-        repeats: false,
-    },
-    OFF,
-    ON,
-    EXPIRE,
-    QUIET,
-    SHOW,
-];
-
-const SITE: &[Form] = &[
-    Form {
-        name: "go",
-        text: "go c",
-        kinds: &[Kind::Number],
-        repeats: false,
-    },
-    Form {
-        name: "survey",
-        text: "survey c",
-        kinds: &[Kind::Number],
-        repeats: false,
-    },
-    Form {
-        name: "store",
-        text: "store c",
-        kinds: &[Kind::Number],
-        repeats: false,
-    },
-    Form {
-        name: "fail",
-        text: "fail c",
-        kinds: &[Kind::Number],
-        repeats: false,
-    },
-    Form {
-        name: "down",
-        text: "down c",
-        kinds: &[Kind::Number],
-        repeats: false,
-    },
-    Form {
-        name: "up",
-        text: "up c",
-        kinds: &[Kind::Number],
-        repeats: false,
-    },
+const SITE: &[LineForm] = &[
+    LineForm("go", "c"),
+    LineForm("survey", "c"),
+    LineForm("store", "c"),
+    LineForm("fail", "c"),
     // Before `pump`, with which it begins.
-    Form {
-        name: "pump destroyed",
-        text: "pump destroyed L",
-        kinds: &[Kind::Trouble, Kind::GearList],
-        repeats: false,
-    },
-    Form {
-        name: "pump",
-        text: "pump [lost|noise|collision|destroyed L]",
-        kinds: &[Kind::Trouble],
-        repeats: false,
-    },
-    Form {
-        name: "lapse",
-        text: "lapse",
-        kinds: &[],
-        repeats: false,
-    },
-    Form {
-        name: "arc",
-        text: "arc c HHHH",
-        kinds: &[Kind::Number, Kind::Frame],
-        repeats: false,
-    },
-    Form {
-        name: "run",
-        text: "run n",
-        kinds: &[Kind::Number],
-        repeats: false,
-    },
-    OFF,
-    ON,
-    EXPIRE,
-    QUIET,
-    SHOW,
+    LineForm("pump destroyed", "L"),
+    LineForm("pump", "[lost|noise|collision|destroyed L]"),
+    LineForm("lapse", ""),
+    LineForm("arc", "c HHHH"),
+    LineForm("down", "c"),
+    LineForm("up", "c"),
+    LineForm("run", "n"),
+    LineForm("off", "g"),
+    LineForm("on", "g"),
+    LineForm("expire", "g"),
+    LineForm("quiet", ""),
+    LineForm("show", ""),
 ];
 
-const BENCH_NAMES: &str = "those are `frame`, `off`, `on`, `expire`, `quiet` and `show`";
-
-const SITE_NAMES: &str =
-    "those are `go`, `survey`, `store`, `fail`, `pump`, `lapse`, `arc`, `down`, `up`, `run`, `off`, \
-`on`, `expire`, `quiet` and `show`";
-
-impl Form {
-    /// Whether a line begins with the words of this form.
+impl LineForm {
+    /// Whether a line begins as this form does.
     fn begins(&self, line: &[u8]) -> bool {
-        let name = self.name.as_bytes();
-        match line.strip_prefix(name) {
+        match line.strip_prefix(self.0.as_bytes()) {
             Some([]) | Some([b' ', ..]) => true,
             _ => false,
-        }
-    }
-
-    /// What the word at this place after the first is; `None` where none may stand.
-    pub fn kind(&self, index: usize) -> Option<Kind> {
-        match self.kinds.get(index) {
-            Some(kind) => Some(*kind),
-            None if self.repeats => self.kinds.last().copied(),
-            None => None,
         }
     }
 }
 
 impl Place {
-    fn forms(self) -> &'static [Form] {
+    fn forms(self) -> &'static [LineForm] {
         match self {
             Place::First => FIRST,
             Place::Second => SECOND,
@@ -254,40 +92,37 @@ impl Place {
     }
 
     /// The form of lines here that begins as this line does.
-    pub(super) fn form_of(self, line: &[u8]) -> Option<&'static Form> {
+    pub(super) fn form_of(self, line: &[u8]) -> Hint {
         for form in self.forms() {
             if form.begins(line) {
-                return Some(form);
+                return Hint::Form(*form);
             }
         }
-        None
+        Hint::Nothing
     }
 
     /// What is said of a first word that no line here has, and of lines that begin with it elsewhere.
     pub(super) fn stranger(self, name: &[u8]) -> (Mistake, Hint) {
-        let (other, names) = match self {
-            Place::First => (
-                Mistake::OtherFirst,
-                "those are `bench N` and `site N BLOCK ..`",
-            ),
-            Place::Second => (Mistake::OtherSecond, "that is `draws RRRRRR ..`"),
-            Place::Used | Place::Bench => (Mistake::OtherOnBench, BENCH_NAMES),
-            Place::Site => (Mistake::OtherOnSite, SITE_NAMES),
-        };
         if let Some(home) = home_of(name) {
             return (home, Hint::Nothing);
         }
+        let other = match self {
+            Place::First => Mistake::OtherFirst,
+            Place::Second => Mistake::OtherSecond,
+            Place::Used | Place::Bench => Mistake::OtherOnBench,
+            Place::Site => Mistake::OtherOnSite,
+        };
         match nearest(self.forms(), name) {
             Some(meant) => (other, Hint::Meant(meant)),
-            None => (other, Hint::Names(names)),
+            None => (other, Hint::Names(self)),
         }
     }
 }
 
 /// Whether one of these forms has this name.
-fn has(forms: &[Form], name: &[u8]) -> bool {
+fn has(forms: &[LineForm], name: &[u8]) -> bool {
     for form in forms {
-        if form.name.as_bytes() == name {
+        if form.0.as_bytes() == name {
             return true;
         }
     }
@@ -313,11 +148,57 @@ fn home_of(name: &[u8]) -> Option<Mistake> {
 }
 
 /// The name of one of these forms that is nearly this one.
-fn nearest(forms: &[Form], name: &[u8]) -> Option<&'static str> {
+fn nearest(forms: &[LineForm], name: &[u8]) -> Option<&'static str> {
     for form in forms {
-        if is_near(name, form.name.as_bytes()) {
-            return Some(form.name);
+        if is_near(name, form.0.as_bytes()) {
+            return Some(form.0);
         }
     }
     None
+}
+
+impl fmt::Display for LineForm {
+    fn fmt<W: fmt::Write>(&self, f: &mut fmt::Formatter<W>) -> fmt::Result {
+        f.write_str(self.0)?;
+        if !self.1.is_empty() {
+            f.write_str(" ")?;
+        }
+        f.write_str(self.1)
+    }
+}
+
+/// Writes the names of these forms, but of two words.
+fn write_names<W: fmt::Write>(f: &mut fmt::Formatter<W>, forms: &[LineForm]) -> fmt::Result {
+    for (index, form) in forms.iter().enumerate() {
+        let name = form.0;
+        if !name.as_bytes().contains(&b' ') {
+            let mark = if index == 0 {
+                "those are "
+            } else if index + 1 == forms.len() {
+                " and "
+            } else {
+                ", "
+            };
+            write!(f, "{mark}`{name}`")?;
+        }
+    }
+    Ok(())
+}
+
+impl fmt::Display for Hint {
+    fn fmt<W: fmt::Write>(&self, f: &mut fmt::Formatter<W>) -> fmt::Result {
+        match self {
+            Hint::Nothing => Ok(()),
+            Hint::Form(form) => write!(f, "; the form is `{form}`"),
+            Hint::Meant(name) => write!(f, "; did you mean `{name}`?"),
+            Hint::Names(Place::First) => {
+                f.write_str(": those are `bench N` and `site N BLOCK ..`")
+            }
+            Hint::Names(Place::Second) => f.write_str(": that is `draws RRRRRR ..`"),
+            Hint::Names(place) => {
+                f.write_str(": ")?;
+                write_names(f, place.forms())
+            }
+        }
+    }
 }

@@ -1,19 +1,17 @@
 //! What is wrong with a line.
 
-use super::forms::{Form, Hint, Place};
+use super::forms::{Hint, Place};
 use super::mistake::Mistake;
+use super::quote::part_at;
 use super::words::word_mistake;
-use crate::lines::cut;
-
-/// Which word of the second line is the first number too many, where 1,024 stand before it.
-const FIRST_TOO_MANY: u32 = 1026;
+use crate::words::{Wanted, Wrong};
 
 /// What is wrong, and with which word, counted from 1; 0 where it is none.
-pub(super) type Wrong = (Mistake, u32);
+type Found = (Mistake, usize);
 
 /// The first byte that no line has.
-fn byte_mistake(line: &[u8]) -> Option<Wrong> {
-    let mut word = 1u32;
+fn byte_mistake(line: &[u8]) -> Option<Found> {
+    let mut word = 1usize;
     for byte in line {
         match byte {
             b' ' => word = word.saturating_add(1),
@@ -41,12 +39,12 @@ fn has_two_spaces(line: &[u8]) -> bool {
 }
 
 /// What is wrong with the bytes of a line, whatever its words say.
-fn bytes_mistake(line: &[u8]) -> Option<Wrong> {
+fn bytes_mistake(line: &[u8]) -> Option<Found> {
     if line.starts_with(b"\xEF\xBB\xBF") {
         return Some((Mistake::ByteOrderMark, 1));
     }
-    if let Some(wrong) = byte_mistake(line) {
-        return Some(wrong);
+    if let Some(found) = byte_mistake(line) {
+        return Some(found);
     }
     if line.starts_with(b" ") {
         return Some((Mistake::FirstSpace, 0));
@@ -60,42 +58,22 @@ fn bytes_mistake(line: &[u8]) -> Option<Wrong> {
     None
 }
 
-/// What is wrong with the words after the first of a line that begins as this form does. Where each is right and none
-/// is missing, there are more numbers to draw than there may be.
-fn words_mistake(form: &Form, line: &[u8]) -> Wrong {
-    let mut number = 1u32;
-    for word in line.split(|byte| *byte == b' ').skip(1) {
-        number = number.saturating_add(1);
-        let Some(kind) = form.kind(number.saturating_sub(2) as usize) else {
-            return (Mistake::WordTooMany, number);
-        };
-        if let Some(mistake) = word_mistake(kind, word) {
-            return (mistake, number);
+/// What is wrong with a bad line, of which this word is wrong, and what is said beside it.
+pub(super) fn line_mistake(place: Place, line: &[u8], wrong: Wrong) -> (Found, Hint) {
+    if let Some(found) = bytes_mistake(line) {
+        return (found, Hint::Nothing);
+    }
+    let word = part_at(line, b' ', wrong.word.saturating_sub(1));
+    match (wrong.wanted, place) {
+        (Wanted::Line, Place::First) => ((Mistake::NoFirstLine, 0), Hint::Nothing),
+        (Wanted::Line, _) => ((Mistake::NoSecondLine, 0), Hint::Nothing),
+        (Wanted::Name, _) => {
+            let (mistake, hint) = place.stranger(word.unwrap_or(&[]));
+            ((mistake, 1), hint)
         }
+        (wanted, _) => (
+            (word_mistake(wanted, word), wrong.word),
+            place.form_of(line),
+        ),
     }
-    if number as usize > form.kinds.len() {
-        (Mistake::DrawTooMany, FIRST_TOO_MANY)
-    } else {
-        (Mistake::WordMissing, 0)
-    }
-}
-
-/// What is wrong with a bad line, and what is said beside it. A line that is missing is an empty one.
-pub(super) fn line_mistake(place: Place, line: &[u8]) -> (Wrong, Hint) {
-    if line.is_empty() {
-        let mistake = match place {
-            Place::First => Mistake::NoFirstLine,
-            _ => Mistake::NoSecondLine,
-        };
-        return ((mistake, 0), Hint::Nothing);
-    }
-    if let Some(wrong) = bytes_mistake(line) {
-        return (wrong, Hint::Nothing);
-    }
-    if let Some(form) = place.form_of(line) {
-        return (words_mistake(form, line), Hint::Form(form.text));
-    }
-    let (name, _) = cut(line, b' ');
-    let (mistake, hint) = place.stranger(name);
-    ((mistake, 1), hint)
 }

@@ -4,8 +4,9 @@ ghost use Rattle.std.specs.Prelude.{◌≡◌, slice_get, option_map, IfSome};
 ghost use Rattle.dali_grammar.specs.Lines.{parts_of};
 ghost use Rattle.dali_grammar.specs.Reason.{Quotes};
 
+use super::clue::Spot;
 use super::excerpt::Excerpt;
-use crate::lines::cut;
+use crate::lines::{cut, is_skipped};
 use std::fmt;
 
 /// A word of a script: where it stands, and its first bytes.
@@ -14,7 +15,7 @@ pub struct Quote {
     /// The number of its line, from 1.
     pub line: u32,
     /// Its number in the line, from 1.
-    pub word: u32,
+    pub word: usize,
     pub excerpt: Excerpt,
 }
 
@@ -36,19 +37,42 @@ pub(super) fn part_at(text: &[u8], mark: u8, index: usize) -> Option<&[u8]>
 }
 
 /// The word of this number in the line of this number; `None` where it is not there.
-pub(super) fn quoted(input: &[u8], line: u32, word: u32) -> Option<Quote>
+pub(super) fn quoted(input: &[u8], line: u32, word: usize) -> Option<Quote>
     ensures line { IfSome result (λ quote. quote.line ≡ line) }
     ensures quotes { IfSome result (Quotes input.now) }
 {
     let row = line.checked_sub(1)?;
     let index = word.checked_sub(1)?;
     let text = part_at(input, b'\n', row as usize)?;
-    let text = part_at(text, b' ', index as usize)?;
+    let text = part_at(text, b' ', index)?;
     Some(Quote {
         line,
         word,
         excerpt: Excerpt::of(text),
     })
+}
+
+/// The number of the line that stands behind so many others which are not skipped.
+fn line_number(input: &[u8], before: usize) -> u32 {
+    let mut number = 0u32;
+    let mut left = before;
+    for line in input.split(|byte| *byte == b'\n') {
+        number = number.saturating_add(1);
+        if !is_skipped(line) {
+            if left == 0 {
+                return number;
+            }
+            left -= 1;
+        }
+    }
+    number
+}
+
+/// The word at this spot.
+pub(super) fn quoted_at(input: &[u8], spot: Spot) -> Option<Quote>
+    ensures { IfSome result (Quotes input.now) }
+{
+    quoted(input, line_number(input, spot.line), spot.word)
 }
 
 impl fmt::Display for Quote {

@@ -1,4 +1,5 @@
 use Rattle.std.proofs.Common.{◌≡◌, Err, rules}
+use Rattle.dali_grammar.specs.ReplayFault.{with_fault}
 use Rattle.dali_replay.proofs.ReplayLemmas.{tells_of_replays, tells_some, tells_unread, never_read}
 use Rattle.dali_replay.proofs.replay.run_replay.Goals as goal
 
@@ -9,12 +10,13 @@ returns-in_err-input-clause-told g c =
 
 pub returns-clause-some : goal.returns-clause-some
 returns-clause-some g c =
-    (c.in_ok-input.input.items, tells_of_replays _ _ _ _ c.replay.result (rw c.deref.ensures.value at c.replay.ensures))
+    rw c.fault_alone.ensures
+    (c.in_ok-input.input.items, tells_of_replays _ _ _ _ (with_fault c.replay.result) (rw c.deref.ensures.value at c.replay.ensures))
 
 pub returns-clause-unread : goal.returns-clause-unread
-returns-clause-unread g c is = absurd (never_read _ _ _ _ c.replay.result c.replay.ensures is)
+returns-clause-unread g c is = absurd (never_read _ _ _ _ (with_fault c.replay.result) c.replay.ensures (rw c.fault_alone.ensures at is))
 
 pub returns-clause-told : goal.returns-clause-told
 returns-clause-told g c =
-    tells_some (g.R.Read.remaining c.args.reader.now) c.in_ok-input.input.items _ c.in_ok-input.ensures.whole
-    (tells_of_replays _ _ _ _ c.replay.result (rw c.deref.ensures.value at c.replay.ensures))
+    rw c.fault_alone.ensures (tells_some (g.R.Read.remaining c.args.reader.now) c.in_ok-input.input.items _ c.in_ok-input.ensures.whole
+    (tells_of_replays _ _ _ _ (with_fault c.replay.result) (rw c.deref.ensures.value at c.replay.ensures)))
