@@ -7,7 +7,7 @@ ghost use Rattle.dali_command_line.specs.Failure.{status_of};
 
 use crate::failure::Failure;
 use crate::words::{PROGRAM, Task, task_of};
-use dali_console::{ConsoleFault, words};
+use dali_console::ConsoleFault;
 use dali_replay::{Form, replay_streams};
 use dali_threads::{Setup, run_threads};
 use dali_words::asked;
@@ -16,13 +16,6 @@ use std::io;
 use std::io::Eprint;
 use std::sync::Wait;
 use std::thread::Threads;
-
-/// What the words of the command line ask for. None where they ask for help, which is printed.
-fn asked_for<S: Env + Print + Eprint + AllocGlobal>(
-    system: &S,
-) -> Result<Option<Task>, ConsoleFault> {
-    asked(system, &PROGRAM, &words(system)?, task_of)
-}
 
 /// Plays a script from the system's input to its output.
 fn replay<S: Input + Print + AllocGlobal>(system: &S, form: Form) -> Result<(), Failure> {
@@ -52,7 +45,7 @@ where
     S: Env + Input + Print + Eprint + AllocGlobal,
     R: Threads + Wait + Sync,
 {
-    match asked_for(system) {
+    match asked(system, &PROGRAM, task_of) {
         Ok(Some(Task::Replay(form))) => replay(system, form),
         Ok(Some(Task::Threads(setup))) => threads(system, rt, setup),
         Ok(None) => Ok(()),

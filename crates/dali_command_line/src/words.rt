@@ -4,8 +4,9 @@ use arrayvec::ArrayVec;
 use dali_events::PlanError;
 use dali_replay::{Form, block_of, plan_limit};
 use dali_threads::Setup;
-use dali_words::{Line, Program, Subcommand, Value, Word, WordKind, Wrong};
+use dali_words::{CommandLine, LineFault, Program, Subcommand, Value, Word, WordKind, no_task};
 use std::alloc::Global;
+use std::str::FromStr;
 
 /// What a command line asks for.
 #[derive(Drop)]
@@ -121,26 +122,26 @@ pub const PROGRAM: Program = Program {
 };
 
 /// How many gear there are, as far as it is a number: a plan refuses one that is out of range, in the same words.
-fn gear_count(alloc: Global, line: &Line) -> Result<u32, Wrong> {
+fn gear_count(alloc: Global, line: &CommandLine) -> Result<u32, LineFault> {
     match line.number("gear") {
         Some(gear) => Ok(gear),
         None => {
             let text = line.value("gear").unwrap_or_default();
             let limit = plan_limit(PlanError::GearCount);
             let message = format!(in alloc; "invalid value '{text}' for '--gear <N>': {limit}")?;
-            Err(Wrong::Value(message))
+            Err(LineFault::Value(message))
         }
     }
 }
 
-fn not_a_block(alloc: Global, word: &str) -> Result<(u8, u8), Wrong> {
-    Err(Wrong::Value(format!(in alloc;
+fn not_a_block(alloc: Global, word: &str) -> Result<(u8, u8), LineFault> {
+    Err(LineFault::Value(format!(in alloc;
         "invalid value '{word}' for '<BLOCK>...': a block is first-last, as 0-15, and addresses end at 63"
     )?))
 }
 
 /// A block that a word is, spelled as in the line `site` of a script.
-fn block(alloc: Global, word: &str) -> Result<(u8, u8), Wrong> {
+fn block(alloc: Global, word: &str) -> Result<(u8, u8), LineFault> {
     match block_of(word.as_bytes()) {
         Some(block) => Ok(block),
         None => not_a_block(alloc, word),
@@ -148,7 +149,7 @@ fn block(alloc: Global, word: &str) -> Result<(u8, u8), Wrong> {
 }
 
 /// The blocks, one for each controller.
-fn blocks(alloc: Global, line: &Line) -> Result<ArrayVec<(u8, u8), 4>, Wrong> {
+fn blocks(alloc: Global, line: &CommandLine) -> Result<ArrayVec<(u8, u8), 4>, LineFault> {
     let mut blocks = ArrayVec::new();
     for (name, word) in line.values.iter() {
         if name.as_str() == "blocks" && blocks.try_push(block(alloc, word)?).is_err() {
@@ -156,18 +157,29 @@ fn blocks(alloc: Global, line: &Line) -> Result<ArrayVec<(u8, u8), 4>, Wrong> {
             let message = format!(in alloc;
                 "unexpected value '{word}' for '<BLOCK>...' found; no more were expected: {limit}"
             )?;
-            return Err(Wrong::TooMany(message));
+            return Err(LineFault::TooMany(message));
         }
     }
     Ok(blocks)
 }
 
+/// The number that an option has.
+fn number<T: FromStr>(alloc: Global, line: &CommandLine, name: &str) -> Result<T, LineFault>
+where
+    T::Err: Drop,
+{
+    match line.number(name) {
+        Some(number) => Ok(number),
+        None => Err(LineFault::Value(format!(in alloc; "a number is required for '--{name}'")?)),
+    }
+}
+
 /// What is to be run.
-fn setup(alloc: Global, line: &Line) -> Result<Setup, Wrong> {
+fn setup(alloc: Global, line: &CommandLine) -> Result<Setup, LineFault> {
     Ok(Setup {
         gear: gear_count(alloc, line)?,
-        seed: line.number("seed").unwrap_or(0),
-        turns: line.number("turns").unwrap_or(0),
+        seed: number(alloc, line, "seed")?,
+        turns: number(alloc, line, "turns")?,
         surveys: line.has("survey"),
         as_json: line.has("json"),
         blocks: blocks(alloc, line)?,
@@ -175,7 +187,7 @@ fn setup(alloc: Global, line: &Line) -> Result<Setup, Wrong> {
 }
 
 /// What a line asks for.
-pub fn task_of(alloc: Global, line: &Line) -> Result<Task, Wrong> {
+pub fn task_of(alloc: Global, line: &CommandLine) -> Result<Task, LineFault> {
     match line.subcommand.as_str() {
         "replay" => Ok(Task::Replay(if line.has("json") {
             Form::Json
@@ -183,6 +195,6 @@ pub fn task_of(alloc: Global, line: &Line) -> Result<Task, Wrong> {
             Form::Text
         })),
         "threads" => Ok(Task::Threads(setup(alloc, line)?)),
-        _ => Err(Wrong::Value(String::from_str(alloc, "no such subcommand")?)),
+        _ => no_task(alloc),
     }
 }

@@ -1,7 +1,7 @@
 //! What a task came to, as one object of JSON on a line.
 
 use crate::report::Report;
-use dali_commissioning::{Pass, Place};
+use dali_commissioning::{PassEnd, Place};
 use dali_frame::{Random24, Short};
 use std::alloc::{AllocError, Global};
 use std::io::Write;
@@ -34,7 +34,7 @@ fn push_table(text: &mut String, report: &Report) -> Result<(), AllocError> {
 }
 
 /// The short addresses that were left alone.
-fn push_left_alone(text: &mut String, pass: &Option<Pass>) -> Result<(), AllocError> {
+fn push_left_alone(text: &mut String, pass: &Option<PassEnd>) -> Result<(), AllocError> {
     text.push_str(",\"left_alone\":[")?;
     let mut is_first = true;
     for number in 0..64u8 {

@@ -15,7 +15,7 @@ use crate::stores::{Borrower, Stores};
 use crate::table::push_table;
 use crate::tasks::{TableForm, Task};
 use crate::words::{PROGRAM, task_of};
-use dali_console::{ConsoleFault, Failed, words};
+use dali_console::{ConsoleFault, Failed};
 use dali_reserve::Keep;
 use dali_script::Kept;
 use dali_words::asked;
@@ -27,13 +27,6 @@ use std::io::{Eprint, Write};
 use std::time::Clock;
 
 const REFUSED: Failure = Failure::Console(ConsoleFault::Refused);
-
-/// What the words of the command line ask for. None where they ask for help, which is printed.
-fn asked_for<S: Env + Print + Eprint + AllocGlobal>(
-    system: &S,
-) -> Result<Option<Task>, ConsoleFault> {
-    asked(system, &PROGRAM, &words(system)?, task_of)
-}
 
 /// Writes the table of the gear that are enrolled.
 fn write_table<W: Write>(
@@ -133,10 +126,10 @@ fn say_why<S: Eprint>(system: &S, failure: &Failure, records: Option<&str>) {
 }
 
 /// What the end of a task is called: of one whose machines have ended, of one that only asked, or why it ended before.
-fn end_name(ended: &Result<(), Failure>, has_outcome: bool) -> &'static str {
+fn end_name(ended: &Result<(), Failure>, has_ended: bool) -> &'static str {
     match ended {
         Ok(()) => {
-            if has_outcome {
+            if has_ended {
                 "all-found"
             } else {
                 "as-recorded"
@@ -214,7 +207,7 @@ where
     S: Env + Input + Print + Eprint + AllocGlobal + Clock,
     F: Stores,
 {
-    match asked_for(system) {
+    match asked(system, &PROGRAM, task_of) {
         Ok(Some(task)) => does_and_tells(system, stores, is_terminal, &task),
         Ok(None) => Ok(()),
         Err(fault) => {

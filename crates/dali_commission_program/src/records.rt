@@ -22,7 +22,7 @@ impl Borrower for Fitting {
 }
 
 /// Lends the records of a name, for a controller with this block, where a copy of them has shown that they are records
-/// of it. So nothing else is opened to be written.
+/// of it. So nothing else is opened to be written, unless somebody changes it in between.
 pub(crate) fn lend<F: Stores, B: Borrower>(
     stores: &F,
     name: &str,

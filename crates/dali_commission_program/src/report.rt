@@ -2,7 +2,7 @@
 
 use crate::table::rows;
 use arrayvec::ArrayVec;
-use dali_commissioning::{Pass, Place};
+use dali_commissioning::{PassEnd, Place};
 use dali_frame::{Random24, Short};
 use dali_script::Kept;
 
@@ -16,7 +16,7 @@ pub(crate) struct Report {
     /// The gear in the table, by their short addresses, each with whether this controller has reserved that for it.
     pub table: ArrayVec<(Short, Random24, bool), 64>,
     /// What came of the last machine, where one has run to its end.
-    pub pass: Option<Pass>,
+    pub pass: Option<PassEnd>,
     /// What stands under each short address, from 0 on; empty where not all were asked.
     pub places: ArrayVec<Place, 64>,
     /// Whether gear without short address are there, where that was asked.

@@ -3,7 +3,7 @@
 use crate::failure::Failure;
 use crate::progress::Aim;
 use arrayvec::ArrayVec;
-use dali_commissioning::{DriverFault, Ended, Pass, Place, Reply, places};
+use dali_commissioning::{DriverFault, Ended, PassEnd, Place, Reply, places};
 use dali_frame::{Random24, Short};
 use dali_script::{Block, End, Fault, Kept};
 use std::fmt;
@@ -112,7 +112,7 @@ pub fn say_addressed<S: Eprint>(
 
 /// The short addresses under which somebody was heard whose random address was not: to whom they belong is not known,
 /// so they are given to nobody.
-pub fn say_left_alone<S: Eprint>(system: &S, pass: &Pass) {
+pub fn say_left_alone<S: Eprint>(system: &S, pass: &PassEnd) {
     for number in 0..64u8 {
         let is_heard = match Short::of(number) {
             Some(short) => pass.heard.has(short),
@@ -127,7 +127,7 @@ pub fn say_left_alone<S: Eprint>(system: &S, pass: &Pass) {
 }
 
 /// How the gear that was found last contradicts the table.
-fn say_conflict<S: Eprint>(system: &S, pass: &Pass, kept: &Kept) {
+fn say_conflict<S: Eprint>(system: &S, pass: &PassEnd, kept: &Kept) {
     let Some(found) = pass.found else {
         return;
     };
@@ -151,7 +151,7 @@ fn say_conflict<S: Eprint>(system: &S, pass: &Pass, kept: &Kept) {
 }
 
 /// Why the last machine gave up.
-fn say_gave_up<S: Eprint>(system: &S, pass: &Pass, aim: Aim) {
+fn say_gave_up<S: Eprint>(system: &S, pass: &PassEnd, aim: Aim) {
     let _ = if pass.tries >= 8 {
         eprintln!(system;
             "a frame of one transaction was destroyed or not sent, eight times in a row: the frames {aim}"
@@ -164,7 +164,7 @@ fn say_gave_up<S: Eprint>(system: &S, pass: &Pass, aim: Aim) {
 }
 
 /// Why the last machine ended so, where that wants to be said.
-pub fn say_why_ended<S: Eprint>(system: &S, pass: &Pass, kept: &Kept, aim: Aim) {
+pub fn say_why_ended<S: Eprint>(system: &S, pass: &PassEnd, kept: &Kept, aim: Aim) {
     match pass.ended {
         Ended::Done(End::GaveUp) => say_gave_up(system, pass, aim),
         Ended::Halted(Fault::Conflict) => say_conflict(system, pass, kept),

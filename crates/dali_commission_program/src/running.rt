@@ -10,7 +10,7 @@ use crate::reports::{say_addressed, say_commissioned, say_left_alone, say_line, 
 use crate::stores::Borrower;
 use crate::tasks::{Setup, Start};
 use dali_commissioning::{
-    Begun, CommissionFault, DriverLink, Pass, Reply, Watch, ask, begin, commission,
+    Begun, CommissionFault, DriverLink, PassEnd, Reply, Watch, ask, begin, commission,
 };
 use dali_console::ConsoleFault;
 use dali_frame::Short;
@@ -87,7 +87,7 @@ struct Came<'a> {
 
 impl Came<'_> {
     /// Notes what the last machine came to, and the records.
-    fn note(&self, pass: Pass, after: &Kept, enrolled: usize) {
+    fn note(&self, pass: PassEnd, after: &Kept, enrolled: usize) {
         if let Ok(mut report) = self.report.try_borrow_mut() {
             report.pass = Some(pass);
             report.enrolled = enrolled;
@@ -102,7 +102,7 @@ impl Came<'_> {
         store: &mut K,
         driver: &mut DriverLink<R, W>,
         progress: &Progress<'_, S>,
-        pass: Pass,
+        pass: PassEnd,
     ) -> Result<(), Failure> {
         let after = kept(store)?;
         let has_heard = match is_anybody_there(driver, &after) {

@@ -54,7 +54,8 @@ pub trait Stores {
     fn has(&self, name: &str) -> bool;
 
     /// Opens the records of this name for a controller with this block, lends them, and closes them. They are made
-    /// where there are none. What the borrower ends with goes before why they could not be closed.
+    /// where there are none. The caller has seen by `lend_copy` that they are records of this block. What the borrower
+    /// ends with goes before why they could not be closed.
     fn lend<B: Borrower>(&self, name: &str, block: Block, borrower: &B) -> Result<(), Failure>;
 
     /// Lends a copy of the records of this name, as to a controller with all addresses; one with no records where they

@@ -3,7 +3,10 @@
 use crate::tasks::{Bounds, Setup, Start, TableForm, Task};
 use dali_frame::Short;
 use dali_script::Block;
-use dali_words::{Line, Program, Subcommand, Value, Word, WordKind, Wrong};
+use dali_words::{
+    CommandLine, LineFault, Program, Subcommand, Value, Word, WordKind, conflict, no_task,
+    wrong_value,
+};
 use std::alloc::Global;
 
 const LONG_ABOUT: &str = "\
@@ -196,21 +199,21 @@ fn block_of(word: &str) -> Option<Block> {
     }
 }
 
-fn block(alloc: Global, word: &str) -> Result<Block, Wrong> {
+fn block(alloc: Global, word: &str) -> Result<Block, LineFault> {
     match block_of(word) {
         Some(block) => Ok(block),
-        None => Err(Wrong::Value(format!(in alloc;
+        None => Err(LineFault::Value(format!(in alloc;
             "invalid value '{word}': not a block such as 0-63"
         )?)),
     }
 }
 
 /// The blocks of other controllers.
-fn blocks(alloc: Global, line: &Line) -> Result<Vec<Block>, Wrong> {
+fn blocks(alloc: Global, line: &CommandLine) -> Result<Vec<Block>, LineFault> {
     let mut blocks = Vec::new(alloc);
     for (word, value) in line.values.iter() {
         if word.as_str() == "others" && blocks.push(block(alloc, value)?).is_err() {
-            return Err(Wrong::Memory);
+            return Err(LineFault::Memory);
         }
     }
     Ok(blocks)
@@ -222,12 +225,8 @@ fn meets_any(own: Block, others: &[Block]) -> bool {
         .any(|other| own.first <= other.last && other.first <= own.last)
 }
 
-fn conflict<T>(alloc: Global, message: &str) -> Result<T, Wrong> {
-    Err(Wrong::Conflict(String::from_str(alloc, message)?))
-}
-
 /// The blocks of other controllers, none of which may have an address in common with the own one.
-fn other_blocks(alloc: Global, line: &Line, own: Block) -> Result<Vec<Block>, Wrong> {
+fn other_blocks(alloc: Global, line: &CommandLine, own: Block) -> Result<Vec<Block>, LineFault> {
     let others = blocks(alloc, line)?;
     if meets_any(own, &others) {
         conflict(
@@ -239,16 +238,12 @@ fn other_blocks(alloc: Global, line: &Line, own: Block) -> Result<Vec<Block>, Wr
     }
 }
 
-fn text(alloc: Global, line: &Line, name: &str) -> Result<String, Wrong> {
+fn text(alloc: Global, line: &CommandLine, name: &str) -> Result<String, LineFault> {
     Ok(String::from_str(alloc, line.value(name).unwrap_or_default())?)
 }
 
-fn wrong_value<T>(alloc: Global, message: &str) -> Result<T, Wrong> {
-    Err(Wrong::Value(String::from_str(alloc, message)?))
-}
-
 /// How a run starts. The table has no other word, so that a further one is told and not taken for these.
-fn start(alloc: Global, line: &Line) -> Result<Start, Wrong> {
+fn start(alloc: Global, line: &CommandLine) -> Result<Start, LineFault> {
     match line.value("start") {
         None | Some("survey") => Ok(Start::Survey),
         Some("fresh") => Ok(Start::Fresh),
@@ -257,7 +252,7 @@ fn start(alloc: Global, line: &Line) -> Result<Start, Wrong> {
 }
 
 /// What is asked for by `run`.
-fn setup(alloc: Global, line: &Line) -> Result<Setup, Wrong> {
+fn setup(alloc: Global, line: &CommandLine) -> Result<Setup, LineFault> {
     let block = block(alloc, line.value("block").unwrap_or_default())?;
     let others = other_blocks(alloc, line, block)?;
     Ok(Setup {
@@ -272,7 +267,7 @@ fn setup(alloc: Global, line: &Line) -> Result<Setup, Wrong> {
 }
 
 /// What is asked for by `check`.
-fn bounds(alloc: Global, line: &Line) -> Result<Bounds, Wrong> {
+fn bounds(alloc: Global, line: &CommandLine) -> Result<Bounds, LineFault> {
     let others = blocks(alloc, line)?;
     let records = match line.value("records") {
         Some(name) => Some(String::from_str(alloc, name)?),
@@ -286,14 +281,14 @@ fn bounds(alloc: Global, line: &Line) -> Result<Bounds, Wrong> {
 }
 
 /// The short address that is asked for by `identify`.
-fn short(alloc: Global, line: &Line) -> Result<Short, Wrong> {
+fn short(alloc: Global, line: &CommandLine) -> Result<Short, LineFault> {
     match Short::of(line.number("address").unwrap_or(64)) {
         Some(short) => Ok(short),
         None => wrong_value(alloc, "not a short address"),
     }
 }
 
-fn form(line: &Line) -> TableForm {
+fn form(line: &CommandLine) -> TableForm {
     if line.has("csv") {
         TableForm::Csv
     } else if line.has("json") {
@@ -304,7 +299,7 @@ fn form(line: &Line) -> TableForm {
 }
 
 /// What a line asks for.
-pub(crate) fn task_of(alloc: Global, line: &Line) -> Result<Task, Wrong> {
+pub(crate) fn task_of(alloc: Global, line: &CommandLine) -> Result<Task, LineFault> {
     if line.value("driver").is_some() || line.value("driver-timeout").is_some() {
         return conflict(
             alloc,
@@ -316,6 +311,6 @@ pub(crate) fn task_of(alloc: Global, line: &Line) -> Result<Task, Wrong> {
         "check" => Ok(Task::Check(bounds(alloc, line)?)),
         "identify" => Ok(Task::Identify(short(alloc, line)?)),
         "table" => Ok(Task::Table(text(alloc, line, "records")?, form(line))),
-        _ => wrong_value(alloc, "no such subcommand"),
+        _ => no_task(alloc),
     }
 }

@@ -12,7 +12,7 @@ use Rattle.dali_reserve.specs.Store.{IsReplay}
 use Rattle.dali_frame.specs.declared.frames.Forward.{Forward}
 use Rattle.dali_controller.specs.Machine.{Machine, at_first}
 use Rattle.dali_commissioning.specs.declared.conducting.Ended.TheVariants.{Done}
-use Rattle.dali_commissioning.specs.declared.conducting.Pass.{Pass}
+use Rattle.dali_commissioning.specs.declared.conducting.PassEnd.{PassEnd}
 use Rattle.dali_commissioning.specs.Drivers.{Talk}
 use Rattle.dali_commissioning.specs.Steps.{Step, last_order, record_told, committed_by, is_kept, has_committed}
 use Rattle.dali_commissioning.specs.Conducted.{Conducted, Commits, Stays, IsAt, IsLeft, order_of}
@@ -50,14 +50,14 @@ commits_grow is_up is_sound holds old new records commits = λ sound up xs held.
 
 -- one run, from one moment of the store and of the talk to another
 abbrev pub OneRun : {S : Type 0} (is_up is_sound : S → Type 0) (holds : S → List Record → Type 0) → Block
-    → Input → S → S → Talk → Talk → Pass → Type 0
+    → Input → S → S → Talk → Talk → PassEnd → Type 0
 OneRun is_up is_sound holds block first was keep x y pass =
     (run : Run) × IsRun is_up is_sound holds block first was keep x y run × (run.ended ≡ pass.ended)
     × (run.heard ≡ pass.heard) × (run.found ≡ pass.found) × (run.tries ≡ pass.tries)
     × (pass.committed ≡ has_committed run.steps)
 
 pub of_block : {S : Type 0} (is_up is_sound : S → Type 0) (holds : S → List Record → Type 0) (a b : Block)
-    (first : Input) (was keep : S) (x y : Talk) (pass : Pass) → a ≡ b
+    (first : Input) (was keep : S) (x y : Talk) (pass : PassEnd) → a ≡ b
     → OneRun is_up is_sound holds a first was keep x y pass
     → OneRun is_up is_sound holds b first was keep x y pass
 of_block is_up is_sound holds a b first was keep x y pass same =
@@ -95,7 +95,7 @@ quiet_more quiet false run before is so_far =
 
 -- one run more, that found no gear any more
 pub ran_more : {S : Type 0} (is_up is_sound : S → Type 0) (holds : S → List Record → Type 0) (block : Block)
-    (first : Input) (was mid keep : S) (x y z : Talk) (quiet more count : ℕ) (pass : Pass)
+    (first : Input) (was mid keep : S) (x y z : Talk) (quiet more count : ℕ) (pass : PassEnd)
     → HasRun is_up is_sound holds block first was mid x y quiet count
     → OneRun is_up is_sound holds block first mid keep y z pass
     → pass.ended ≡ Done AllFound → more ≡ quiet_after quiet pass.committed
@@ -114,7 +114,7 @@ ran_more is_up is_sound holds block first was mid keep x y z quiet more count pa
 
 -- the last run, which ended otherwise
 pub ended_otherwise : {S : Type 0} (is_up is_sound : S → Type 0) (holds : S → List Record → Type 0) (block : Block)
-    (first : Input) (was mid keep : S) (x y z : Talk) (quiet wanted count : ℕ) (pass : Pass)
+    (first : Input) (was mid keep : S) (x y z : Talk) (quiet wanted count : ℕ) (pass : PassEnd)
     → HasRun is_up is_sound holds block first was mid x y quiet count
     → OneRun is_up is_sound holds block first mid keep y z pass
     → (pass.ended ≡ Done AllFound → ⊥)
@@ -125,7 +125,7 @@ ended_otherwise is_up is_sound holds block first was mid keep x y z quiet wanted
 
 -- the last run, after which as many as are wanted were quiet
 pub ended_quiet : {S : Type 0} (is_up is_sound : S → Type 0) (holds : S → List Record → Type 0) (block : Block)
-    (first : Input) (was mid keep : S) (x y z : Talk) (quiet wanted count : ℕ) (pass : Pass)
+    (first : Input) (was mid keep : S) (x y z : Talk) (quiet wanted count : ℕ) (pass : PassEnd)
     → HasRun is_up is_sound holds block first was mid x y quiet count
     → OneRun is_up is_sound holds block first mid keep y z pass
     → quiet_after quiet pass.committed ≡ wanted
@@ -152,7 +152,7 @@ pub run_of : {S : Type 0} (is_up is_sound : S → Type 0) (holds : S → List Re
     (must_read : S → Bool) (block_of : S → Block)
     → ((s : S) (xs : List Record) → is_sound s → must_read s ≡ false → holds s xs → IsReplay (block_of s) xs (kept_of s))
     → (was mid keep : S) (m n : Machine) (x y : Talk) (first : Input) (k : Kept) (waiting : Option Forward)
-    (pass : Pass) (count : ℕ)
+    (pass : PassEnd) (count : ℕ)
     → k ≡ kept_of mid → must_read mid ≡ false → block_of mid ≡ block_of was → Stays is_up is_sound was mid
     → (is_sound was → is_up mid → (xs : List Record) → holds was xs → holds mid xs)
     → m ≡ at_first 0 k → IsAt is_up is_sound holds mid keep m n x y first waiting (order_of pass.ended) pass.committed count

@@ -13,7 +13,7 @@ use Rattle.dali_controller.specs.declared.shorts.Shorts.{Shorts}
 use Rattle.dali_controller.specs.Machine.{Machine, at_first}
 use Rattle.dali_commissioning.specs.declared.conducting.Ended.{Ended}
 use Rattle.dali_commissioning.specs.declared.conducting.Ended.TheVariants.{Done}
-use Rattle.dali_commissioning.specs.declared.conducting.Pass.{Pass}
+use Rattle.dali_commissioning.specs.declared.conducting.PassEnd.{PassEnd}
 use Rattle.dali_commissioning.specs.declared.census.Reply.{Reply}
 use Rattle.dali_commissioning.specs.declared.beginning.Begun.{Begun}
 use Rattle.dali_commissioning.specs.declared.beginning.Begun.TheVariants as begun
@@ -72,7 +72,7 @@ EndWith ended [] = ⊥
 EndWith ended (run ∷ before) = (run.ended ≡ ended) × AreAllFound before
 
 -- the last run came to this
-abbrev pub ComeTo : Pass → List Run → Type 0
+abbrev pub ComeTo : PassEnd → List Run → Type 0
 ComeTo pass [] = ⊥
 ComeTo pass (run ∷ before) =
     (run.heard ≡ pass.heard)

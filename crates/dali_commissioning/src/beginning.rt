@@ -8,7 +8,7 @@ ghost use Rattle.dali_commissioning.specs.Conducted.{Stays};
 ghost use Rattle.dali_commissioning.specs.Runs.{IsRead, IsBegun, IsChecked, IsCheckLost, Grows, outside};
 
 use crate::census::{Reply, is_addressed, take_census};
-use crate::conducting::Pass;
+use crate::conducting::PassEnd;
 use crate::driver::DriverLink;
 use crate::fault::CommissionFault;
 use crate::runs::commission;
@@ -27,7 +27,7 @@ pub enum Begun {
     /// address, from 0 on; those that are accounted for were not asked.
     Addressed(ArrayVec<Reply, 64>),
     /// Machines ran, and the last one came to this.
-    Commissioned(Pass),
+    Commissioned(PassEnd),
 }
 
 /// The records of a store.

@@ -34,7 +34,7 @@ pub enum Ended {
 
 /// What came of a machine that was conducted to its end.
 #[derive(Clone, Copy)]
-pub struct Pass {
+pub struct PassEnd {
     pub ended: Ended,
     /// Whether a record was committed.
     pub committed: bool,
@@ -221,7 +221,7 @@ pub fn conduct<K: Keep, R: Read, W: Write, P: Watch>(
     watch: &mut P,
     start: Input,
     steps: u32,
-) -> Result<Pass, CommissionFault>
+) -> Result<PassEnd, CommissionFault>
     requires start { machine.old.last ≡ None }
     requires begins { accepts due.Start start ≡ true }
     requires block { K.block keep.old ≡ machine.old.kept.block }
@@ -245,7 +245,7 @@ pub fn conduct<K: Keep, R: Read, W: Write, P: Watch>(
     for _ in 0..steps {
         watch.ordered(&order);
         if let Some(ended) = end_at(&order) {
-            return Ok(Pass {
+            return Ok(PassEnd {
                 ended,
                 committed,
                 heard: machine.heard(),

@@ -10,7 +10,7 @@ ghost use Rattle.dali_commissioning.specs.Conducted.{Stays};
 ghost use Rattle.dali_commissioning.specs.Runs.{Run, IsRun, AreRuns, HaveRun, AreQuiet, EndWith, ComeTo, Grows};
 ghost use Rattle.dali_commissioning.specs.Runs.{quiet_after};
 
-use crate::conducting::{Ended, Pass, conduct};
+use crate::conducting::{Ended, PassEnd, conduct};
 use crate::driver::DriverLink;
 use crate::fault::CommissionFault;
 use crate::watch::Watch;
@@ -45,7 +45,7 @@ fn run<K: Keep, R: Read, W: Write, P: Watch>(
     driver: &mut DriverLink<R, W>,
     watch: &mut P,
     start: Input,
-) -> Result<Pass, CommissionFault>
+) -> Result<PassEnd, CommissionFault>
     requires begins { accepts due.Start start ≡ true }
     ensures ran { IfOk result (λ pass. (run : Run) × IsRun K.is_up K.is_sound K.holds (K.block keep.old) start
         keep.old keep.new (talk_of R.remaining W.contents driver.old) (talk_of R.remaining W.contents driver.new) run
@@ -79,7 +79,7 @@ pub fn commission<K: Keep, R: Read, W: Write, P: Watch>(
     watch: &mut P,
     start: Input,
     quiet_runs: u8,
-) -> Result<Pass, CommissionFault>
+) -> Result<PassEnd, CommissionFault>
     requires begins { accepts due.Start start ≡ true }
     requires some { 0 < quiet_runs }
     ensures ran { IfOk result (λ pass. (runs : List Run) × AreRuns K.is_up K.is_sound K.holds (K.block keep.old)

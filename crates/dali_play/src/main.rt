@@ -3,7 +3,7 @@
 //! that whoever plays a script waits for the proofs of that alone. It takes one word, `--json`, or none.
 #![tactic(auto)]
 
-use dali_console::{exit_code, words};
+use dali_console::{ConsoleFault, exit_code, words};
 use dali_replay::{Explained, Form, replay_streams};
 use std::env::Env;
 use std::io::Eprint;
@@ -11,10 +11,15 @@ use std::process::ExitCode;
 
 fn main(rt: HostRuntime) -> ExitCode {
     match form_asked(&rt) {
-        Some(form) => exit_code(play_and_say(&rt, form)),
-        None => {
-            let _ = eprintln!(&rt; "replay: no word is taken but --json");
-            ExitCode::from(2)
+        Ok(form) => exit_code(play_and_say(&rt, form)),
+        Err(fault) => {
+            let _ = match fault {
+                ConsoleFault::BadCommandLine => {
+                    eprintln!(&rt; "replay: no word is taken but --json")
+                }
+                ConsoleFault::NotText | ConsoleFault::Refused => eprintln!(&rt; "{fault}"),
+            };
+            exit_code(Err(fault))
         }
     }
 }
@@ -28,9 +33,9 @@ fn form_of(words: &[String]) -> Option<Form> {
     }
 }
 
-/// What is to be written; `None` where the words ask for something else, or cannot be read.
-fn form_asked<R: Env + AllocGlobal>(rt: &R) -> Option<Form> {
-    form_of(&words(rt).ok()?)
+/// What the command line asks to be written.
+fn form_asked<R: Env + AllocGlobal>(rt: &R) -> Result<Form, ConsoleFault> {
+    form_of(&words(rt)?).ok_or(ConsoleFault::BadCommandLine)
 }
 
 /// Plays the script of standard input, and says on standard error why it ended before its end. What is said there

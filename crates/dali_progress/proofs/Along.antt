@@ -31,7 +31,7 @@ use Rattle.dali_progress.proofs.Lone.{IsLone, Rests, ended_rests, acted_last, ac
 use Rattle.dali_progress.proofs.Logged.{same_some, world_logged, run_logged, machines_logged, acted_machine}
 use Rattle.dali_progress.proofs.Both.{not_failed, addresses_by, IsKnown, known_sent, sent_by}
 
--- ALONG ROUNDS, one event after the other: what both arguments are.
+-- ALONG ROUNDS, one event after the other: what the argument for a start and the one for a survey have in common.
 
 -- what an argument says: of which beginning; what is known of the controller; how far its machine is, with how many frames
 -- left; how many events come before the next frame; and before the end, of so many frames

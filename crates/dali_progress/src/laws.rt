@@ -1,16 +1,18 @@
-//! What is proved of commissioning that nothing disturbs. Programs don't call these.
+//! What is proved of a whole commissioning. Programs don't call these.
 //!
-//! They speak of a site on which a controller begins alone, with nothing on the bus (`BeginsAlone`), in one of three
-//! ways: by Start, with nothing kept (`ByStart`); by a survey, with settled records, in which each address that is
-//! reserved is enrolled so (`Settled`); or by a survey, with any records (`Any`). And of a list of events that rounds
-//! add to its log (`Rounds`): the controller acts on what is due, and its commits succeed; frames that are next are
-//! sent, and what the gear answer is heard. So no other controller acts meanwhile, no frame is destroyed, no answer is
-//! lost or damaged, the bus never lapses, and no gear's power comes or goes.
+//! Six speak of commissioning that nothing disturbs: of a site on which a controller begins alone, with nothing on the
+//! bus (`BeginsAlone`), in one of three ways: by Start, with nothing kept (`ByStart`); by a survey, with settled
+//! records, in which each address that is reserved is enrolled so (`Settled`); or by a survey, with any records
+//! (`Any`). And of a list of events that rounds add to its log (`Rounds`): the controller acts on what is due, and its
+//! commits succeed; frames that are next are sent, and what the gear answer is heard. So no other controller acts
+//! meanwhile, no frame is destroyed, no answer is lost or damaged, the bus never lapses, and no gear's power comes or
+//! goes.
 //!
-//! Two speak of the runs of rounds that a replay makes of an installation with one controller (`RanAlone`): each is
-//! such a list of events.
+//! Two of the six speak of the runs of rounds that a replay makes of an installation with one controller (`RanAlone`):
+//! each is such a list of events.
 //!
-//! Others speak of what a survey promises of a machine on any bus (`IsCourse`).
+//! Three speak of what a survey promises of a machine on any bus (`IsCourse`), and one of used gear and the log of a
+//! site, whatever is disturbed.
 
 ghost use Rattle.std.specs.Prelude.{◌≡◌, ◌⊎◌, ℕ, ◌+◌, ◌*◌, ◌<◌, ◌≤◌, true, List, [], ◌∷◌, length, Some};
 ghost use Rattle.std.specs.List.{AllByRecursion};

@@ -7,6 +7,6 @@ mod line;
 mod program;
 mod reading;
 
-pub use line::{Line, Wrong};
+pub use line::{CommandLine, LineFault, conflict, no_task, wrong_value};
 pub use program::{Program, Subcommand, Value, Word, WordKind};
 pub use reading::asked;

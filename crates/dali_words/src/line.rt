@@ -5,9 +5,12 @@ use clap::ArgMatches;
 use std::alloc::{AllocError, Global};
 use std::str::FromStr;
 
+/// What is said where no subcommand is known.
+pub(crate) const NO_SUBCOMMAND: &str = "no such subcommand";
+
 /// What stands on a command line.
 #[derive(Drop)]
-pub struct Line {
+pub struct CommandLine {
     /// The name of the subcommand.
     pub subcommand: String,
     /// The values of its words, each with the name of the word, also those of defaults. That of a flag is `true` where
@@ -17,7 +20,7 @@ pub struct Line {
 
 /// Why a line asks for nothing although `clap` took it, in a sentence that is put before the usage.
 #[derive(Drop)]
-pub enum Wrong {
+pub enum LineFault {
     /// A value is none of its word.
     Value(String),
     /// There is a value too many.
@@ -28,13 +31,28 @@ pub enum Wrong {
     Memory,
 }
 
-impl From<AllocError> for Wrong {
-    fn from(_error: AllocError) -> Wrong {
-        Wrong::Memory
+impl From<AllocError> for LineFault {
+    fn from(_error: AllocError) -> LineFault {
+        LineFault::Memory
     }
 }
 
-impl Line {
+/// A value is none of its word, for this reason.
+pub fn wrong_value<T>(alloc: Global, message: &str) -> Result<T, LineFault> {
+    Err(LineFault::Value(String::from_str(alloc, message)?))
+}
+
+/// Words do not go together, for this reason.
+pub fn conflict<T>(alloc: Global, message: &str) -> Result<T, LineFault> {
+    Err(LineFault::Conflict(String::from_str(alloc, message)?))
+}
+
+/// A subcommand that no task is for. `clap` refuses it before.
+pub fn no_task<T>(alloc: Global) -> Result<T, LineFault> {
+    wrong_value(alloc, NO_SUBCOMMAND)
+}
+
+impl CommandLine {
     /// Adds what stands there of a word.
     fn take(
         &mut self,
@@ -54,8 +72,8 @@ impl Line {
         alloc: Global,
         from: &Subcommand,
         found: &ArgMatches<'_>,
-    ) -> Result<Line, AllocError> {
-        let mut line = Line {
+    ) -> Result<CommandLine, AllocError> {
+        let mut line = CommandLine {
             subcommand: String::from_str(alloc, from.name)?,
             values: Vec::new(alloc),
         };

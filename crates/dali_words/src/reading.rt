@@ -3,12 +3,13 @@
 ghost use Rattle.std.specs.Prelude.{◌≡◌};
 ghost use Rattle.dali_words.specs.Answered.{answered};
 
-use crate::line::{Line, Wrong};
+use crate::line::{CommandLine, LineFault, NO_SUBCOMMAND};
 use crate::program::{Program, Subcommand, command, command_of};
 use clap::error::ErrorKind;
 use clap::{ArgMatches, Error};
-use dali_console::{ConsoleFault, Plain};
+use dali_console::{ConsoleFault, Plain, words};
 use std::alloc::{AllocError, Global};
+use std::env::Env;
 use std::io;
 use std::io::Eprint;
 
@@ -22,13 +23,13 @@ fn refused(
     alloc: Global,
     program: &Program,
     name: &str,
-    wrong: Wrong,
+    wrong: LineFault,
 ) -> Result<Error, AllocError> {
     let (kind, message) = match wrong {
-        Wrong::Value(message) => (ErrorKind::ValueValidation, message),
-        Wrong::TooMany(message) => (ErrorKind::TooManyValues, message),
-        Wrong::Conflict(message) => (ErrorKind::ArgumentConflict, message),
-        Wrong::Memory => return Err(AllocError),
+        LineFault::Value(message) => (ErrorKind::ValueValidation, message),
+        LineFault::TooMany(message) => (ErrorKind::TooManyValues, message),
+        LineFault::Conflict(message) => (ErrorKind::ArgumentConflict, message),
+        LineFault::Memory => return Err(AllocError),
     };
     let program_name = program.name;
     let whole = format!(in alloc; "{program_name} {name}")?;
@@ -47,18 +48,17 @@ fn matches<'a>(
 }
 
 /// What stands on the line. A subcommand that the program does not know, or none, `clap` refuses before.
-fn line(alloc: Global, program: &Program, found: &ArgMatches<'_>) -> Result<Line, Error> {
+fn line(alloc: Global, program: &Program, found: &ArgMatches<'_>) -> Result<CommandLine, Error> {
     if let Some((name, found)) = found.subcommand() {
         if let Some(from) = named(program, name) {
-            return Ok(Line::of(alloc, from, found)?);
+            return Ok(CommandLine::of(alloc, from, found)?);
         }
     }
-    let message = "no such subcommand";
-    Err(command(alloc, program)?.error(ErrorKind::InvalidSubcommand, message)?)
+    Err(command(alloc, program)?.error(ErrorKind::InvalidSubcommand, NO_SUBCOMMAND)?)
 }
 
 /// Reads a command line, the program's name first.
-fn read<T, F: FnOnce(Global, &Line) -> Result<T, Wrong>>(
+fn read<T, F: FnOnce(Global, &CommandLine) -> Result<T, LineFault>>(
     alloc: Global,
     program: &Program,
     words: &[String],
@@ -95,20 +95,15 @@ fn print<S: Print + Eprint + AllocGlobal>(system: &S, error: &Error) -> io::Resu
     }
 }
 
-/// What the words of a command line ask for, the program's name first: what `task` makes of the line. None where they
-/// ask for help or the version, which is printed. What is wrong is said on standard error.
-pub fn asked<S, T, F>(
-    system: &S,
-    program: &Program,
-    words: &[String],
-    task: F,
-) -> Result<Option<T>, ConsoleFault>
+/// What the command line asks for: what `task` makes of what stands on it. None where it asks for help or the version,
+/// which is printed. What is wrong is said on standard error, but that a word is not UTF-8, or cannot be read.
+pub fn asked<S, T, F>(system: &S, program: &Program, task: F) -> Result<Option<T>, ConsoleFault>
 where
-    S: Print + Eprint + AllocGlobal,
-    F: FnOnce(Global, &Line) -> Result<T, Wrong>,
+    S: Env + Print + Eprint + AllocGlobal,
+    F: FnOnce(Global, &CommandLine) -> Result<T, LineFault>,
     requires { F.IsAlwaysCallable task }
 {
-    match read(system.alloc(), program, words, task) {
+    match read(system.alloc(), program, &words(system)?, task) {
         Ok(task) => Ok(Some(task)),
         Err(error) => answered(error.kind(), print(system, &error).is_ok()),
     }

@@ -16,7 +16,7 @@ fn ended<K: Keep, W: Write>(
     driver: &mut DriverLink<&[u8], W>,
 ) -> Result<Ended, CommissionFault> {
     match commission(keep, driver, &mut Unwatched, Input::Start, 1) {
-        Ok(outcome) => Ok(outcome.ended),
+        Ok(pass) => Ok(pass.ended),
         Err(fault) => Err(fault),
     }
 }
