@@ -54,6 +54,7 @@ impl Wrong {
 }
 
 /// The next word, and what follows it.
+#[inline(always)]
 pub fn next(rest: Option<&[u8]>, missing: Wrong) -> Result<(&[u8], Option<&[u8]>), Wrong>
     ensures next { IfOk result (λ next. parts_after 32 (option_map (λ rest. rest.now) rest.entry)
         ≡ next.0.now ∷ parts_after 32 (option_map (λ rest. rest.now) next.1)) }
@@ -66,6 +67,7 @@ pub fn next(rest: Option<&[u8]>, missing: Wrong) -> Result<(&[u8], Option<&[u8]>
 }
 
 /// What was read, where no word of this number follows.
+#[inline(always)]
 #[tactic(auto, using(crate::proofs::LineLemmas::none_of_more))]
 pub fn ended<T: Copy>(read: T, rest: Option<&[u8]>, word: usize) -> Result<T, Wrong>
     ensures { result_ok result ≡ none_of read (parts_after 32 (option_map (λ rest. rest.now) rest.entry)) }
@@ -87,6 +89,7 @@ pub fn number(rest: Option<&[u8]>) -> Result<u32, Wrong>
 }
 
 /// One frame, which is the word of this number, of at most 3.
+#[inline(always)]
 pub fn frame(rest: Option<&[u8]>, word: usize) -> Result<Forward, Wrong>
     ensures { result_ok result ≡ one_of frame_of (parts_after 32 (option_map (λ rest. rest.now) rest.entry)) }
 {

@@ -223,3 +223,8 @@ pub record IsTrace (s : Stage) (t : List Entry) : Type 0 where
   pub asked : IsAsked s (asked_of t)
   pub finding : finding_of t ≡ finding_at s
   pub sent : IsTransaction t
+
+-- the stage that these frames lead to, which says what they found
+pub record IsReached (s : Stage) (t : List Entry) : Type 0 where
+  pub stage : s ≡ stage_of t
+  pub finding : finding_of t ≡ finding_at s

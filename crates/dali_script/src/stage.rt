@@ -195,7 +195,7 @@ impl Stage {
     }
 
     /// Whether some command may come next, for a sender with these records.
-    pub(crate) fn goes_on(self, kept: &Records<'_>) -> bool
+    pub fn goes_on(self, kept: &Records<'_>) -> bool
         ensures { result ≡ may_follow kept.now.block kept.now.reserved self }
     {
         match self {
@@ -216,7 +216,7 @@ impl Stage {
     }
 
     /// The finding of a transaction at this stage.
-    pub(crate) fn finding(self) -> Option<Finding>
+    pub fn finding(self) -> Option<Finding>
         ensures { result ≡ finding_at self }
     {
         let (number, found) = match self {

@@ -62,7 +62,7 @@ impl Model for Trace {
 impl Trace {
     ghost use Rattle.dali_script.specs.Scripts.{Lawful, IsLawful, IsTransaction, IsComplete, GoesOn};
     ghost use Rattle.dali_script.specs.Findings.{assigned, finding_of};
-    ghost use Rattle.dali_script.specs.Stages.{stage_of, follows, may_follow};
+    ghost use Rattle.dali_script.specs.Stages.{stage_of, follows, may_follow, IsReached};
 
     /// No transaction yet.
     pub fn new() -> Trace
@@ -149,6 +149,17 @@ impl Trace {
     {
         self.entries.push(Entry { frame, heard });
         self.stage.advance(Command::read(frame), heard);
+    }
+
+    /// How far the transaction is once one more frame was sent, and this was heard after it. The frame must be one that
+    /// some records allow here.
+    pub fn after(&self, frame: Forward, heard: Answer) -> Stage
+        requires { IsLawful self.now frame }
+        ensures { IsReached result (self.now ++ (record { frame = frame; heard = heard }) ∷ []) }
+    {
+        let mut stage = self.stage;
+        stage.advance(Command::read(frame), heard);
+        stage
     }
 
     /// Whether no frame may follow, for a sender with these records.

@@ -1,4 +1,4 @@
-use Rattle.std.proofs.Common.{◌≡◌, ℕ, ◌<◌, ◌≤◌, ◌⊎◌, inl, inr, Bool, true, false, not, List, [], ◌∷◌, ◌++◌, refl, sym, ap, subst, ◌∙◌, length, length-set}
+use Rattle.std.proofs.Common.{◌≡◌, ℕ, ◌<◌, ◌≤◌, ◌⊎◌, inl, inr, Bool, true, false, List, [], ◌∷◌, ◌++◌, refl, sym, ap, subst, ◌∙◌, length, length-set}
 use Rattle.std.proofs.Common.{get_or, Option, Some, None, IfSome, ◌↔◌}
 use Rattle.std.specs.Prelude.{if◌then◌else◌}
 use Rattle.std.proofs.lemmas.List.{get_or_read_under, length-map}
@@ -13,7 +13,8 @@ use Rattle.dali_arbiter.specs.Arbiter.{Arbiter, owns, total, next, request_of, b
 use Rattle.dali_arbiter.specs.Arbiter.{bus_silenced, bus_freed, bus_muted}
 use Rattle.dali_script.specs.declared.trace.Entry.{Entry}
 use Rattle.dali_script.specs.Scripts.{IsLawful, IsFirst}
-use Rattle.dali_script.specs.Stages.{stage_of, may_follow}
+use Rattle.dali_script.specs.declared.stage.Stage.{Stage}
+use Rattle.dali_script.specs.Stages.{stage_of, may_follow, IsReached}
 use Rattle.dali_script.specs.declared.orders.Input.{Input}
 use Rattle.dali_script.specs.declared.orders.Input.TheVariants as input
 use Rattle.dali_script.specs.declared.orders.Order.{Order}
@@ -261,24 +262,26 @@ sender_runs s was r at t owned view settled first read owned_is t_is =
       go (inr k) = rw k.1 refl
 
 -- its sender waits for it
-pub sender_hears : (s : Seated) (was : Standing) (r : Request) (at : Seat) (h : Answer) (t u : List Entry) → flat s ≡ was → Settled s → next was.bus ≡ Some r
+pub sender_hears : (s : Seated) (was : Standing) (r : Request) (at : Seat) (h : Answer) (t : List Entry) (x : Stage)
+    → flat s ≡ was → Settled s → next was.bus ≡ Some r
     → at ≡ get_or s.seats r.sender at
-    → t ≡ (if owns s.bus.owner r.sender then s.trace else []) → u ≡ t ++ entry r.frame h ∷ [] → IsHearing at r.frame h u
-sender_hears s was r at h t u view settled first read t_is u_is scripted =
+    → t ≡ (if owns s.bus.owner r.sender then s.trace else []) → IsReached x (t ++ entry r.frame h ∷ []) → IsHearing at r.frame h x
+sender_hears s was r at h t x view settled first read t_is reached scripted =
     let n = next_at s r settled (next_here s was r view first) in
     let is : at ≡ seat_at s r.sender = place_read s.seats r.sender at read (up_there s.seats r.sender n.up) in
     let known : (frame_put (seat_at s r.sender).controller.last ≡ Some r.frame) × ((seat_at s r.sender).controller.told ≡ None)
-    × (u ≡ trace_of (seat_at s r.sender).machine ++ entry r.frame h ∷ []) = go n.kind in
-    subst (λ (p : Seat). (frame_put p.controller.last ≡ Some r.frame) × (p.controller.told ≡ None) × (u ≡ trace_of p.machine ++ entry r.frame h ∷ []))
+    × IsReached x (trace_of (seat_at s r.sender).machine ++ entry r.frame h ∷ []) = go n.kind in
+    subst (λ (p : Seat). (frame_put p.controller.last ≡ Some r.frame) × (p.controller.told ≡ None)
+    × IsReached x (trace_of p.machine ++ entry r.frame h ∷ []))
     (sym is) known where
       go : IsKind s r
           → (frame_put (seat_at s r.sender).controller.last ≡ Some r.frame) × ((seat_at s r.sender).controller.told ≡ None)
-          × (u ≡ trace_of (seat_at s r.sender).machine ++ entry r.frame h ∷ [])
+          × IsReached x (trace_of (seat_at s r.sender).machine ++ entry r.frame h ∷ [])
       go (inl k) = (
         rw k.2 refl,
         k.1,
-        u_is ∙ ap (λ v. v ++ entry r.frame h ∷ []) (t_is ∙ running_is (owns s.bus.owner r.sender) s.trace (seat_at s r.sender) r.priority r.frame k.1 k.2
-            (settled.places r.sender)),
+        subst (λ v. IsReached x (v ++ entry r.frame h ∷ []))
+            (t_is ∙ running_is (owns s.bus.owner r.sender) s.trace (seat_at s r.sender) r.priority r.frame k.1 k.2 (settled.places r.sender)) reached,
       )
       go (inr k) = absurd (let no = k.0 in cc)
 
@@ -309,51 +312,50 @@ sent_is : (b : Arbiter) (r : Request) (more : Bool) → next b ≡ Some r → bu
 sent_is b r true first = rw first refl
 sent_is b r false first = refl
 
-not_not : (b c : Bool) → c ≡ not b → not c ≡ b
-not_not true c e = rw e refl
-not_not false c e = rw e refl
-
-sent_done : (s : Seated) (was : Standing) (r : Request) (h : Answer) (at seat : Seat) (fitted : FittedGear) (bus : Arbiter) (t u v : List Entry) (done : Bool)
+sent_done : (s : Seated) (was : Standing) (r : Request) (h : Answer) (at seat : Seat) (fitted : FittedGear) (bus : Arbiter) (t u v : List Entry) (more : Bool)
     → flat s ≡ was → Settled s → next was.bus ≡ Some r
     → draws_needed Everyone (command_of r.frame) 0 was.gear ≤ length was.left → Hears (answers_of Everyone (command_of r.frame) 0 s.fitted.gear) h
     → at ≡ get_or s.seats r.sender at → fitted ≡ taken_at Everyone (command_of r.frame) s.fitted
     → t ≡ (if owns s.bus.owner r.sender then s.trace else []) → u ≡ t ++ entry r.frame h ∷ []
     → seat ≡ told_at (told_sent (trace_of at.machine) r.frame h) at
-    → done ≡ not (may_follow seat.controller.records.block seat.controller.records.reserved (stage_of u)) → v ≡ (if not done then u else [])
-    → bus ≡ bus_sent s.bus (not done)
+    → more ≡ may_follow seat.controller.records.block seat.controller.records.reserved (stage_of u) → v ≡ (if more then u else [])
+    → bus ≡ bus_sent s.bus more
     → IsDone was (event.Sent r.sender r.frame h) (record { fitted = fitted; bus = bus; trace = v; seats = with_seat s.seats r.sender seat })
-sent_done s was r h at seat fitted bus t u v done view settled first draws heard read fitted_is t_is u_is seat_is done_is v_is bus_is =
+sent_done s was r h at seat fitted bus t u v more view settled first draws heard read fitted_is t_is u_is seat_is more_is v_is bus_is =
     let here = next_here s was r view first in
     let n = next_at s r settled here in
     let is : at ≡ seat_at s r.sender = place_read s.seats r.sender at read (up_there s.seats r.sender n.up) in
     let seat_so : seat ≡ told_at (told_sent (running_in s r.sender) r.frame h) (seat_at s r.sender) =
     seat_is ∙ ap (λ (p : Seat). told_at (told_sent (trace_of p.machine) r.frame h) p) is ∙ told_running s r h settled here in
     let u_so : u ≡ running_in s r.sender ++ entry r.frame h ∷ [] = u_is ∙ ap (λ x. x ++ entry r.frame h ∷ []) t_is in
-    let more_so : not done ≡ goes_on_in s r.sender (running_in s r.sender ++ entry r.frame h ∷ []) =
-    not_not (goes_on_in s r.sender (running_in s r.sender ++ entry r.frame h ∷ [])) done
-    (done_is ∙ ap (λ (p : Seat). not (may_follow p.controller.records.block p.controller.records.reserved (stage_of u))) seat_so
-    ∙ ap (λ x. not (goes_on_in s r.sender x)) u_so) in
+    let more_so : more ≡ goes_on_in s r.sender (running_in s r.sender ++ entry r.frame h ∷ []) =
+    more_is ∙ ap (λ (p : Seat). may_follow p.controller.records.block p.controller.records.reserved (stage_of u)) seat_so
+    ∙ ap (λ x. goes_on_in s r.sender x) u_so in
     let draws_here = subst (λ (w : Standing). draws_needed Everyone (command_of r.frame) 0 w.gear ≤ length w.left) (sym view) draws in
     subst (λ (w : Standing). IsDone w (event.Sent r.sender r.frame h)
     (record { fitted = fitted; bus = bus; trace = v; seats = with_seat s.seats r.sender seat })) view
     (done_as (flat s) (event.Sent r.sender r.frame h) (has_sent s r.sender r.frame h) _
-    (rw (fitted_is, bus_is ∙ sent_is s.bus r (not done) here, v_is, u_so, seat_so, more_so) refl)
+    (rw (fitted_is, bus_is ∙ sent_is s.bus r more here, v_is, u_so, seat_so, more_so) refl)
     (record { moves = moved s _ _ (moves_sent s r.sender r.frame h n.up n.may draws_here heard); settled = settled_sent s r h settled here }))
 
-pub send_done : (s : Seated) (was : Standing) (r : Request) (h : Answer) (at seat : Seat) (fitted : FittedGear) (bus : Arbiter) (t u : List Entry) (done : Bool)
+pub send_done : (s : Seated) (was : Standing) (r : Request) (h : Answer) (at seat : Seat) (fitted : FittedGear) (bus : Arbiter) (t : List Entry) (x : Stage)
+    (more : Bool)
     → flat s ≡ was → Settled s → next was.bus ≡ Some r
     → draws_needed Everyone (command_of r.frame) 0 was.gear ≤ length was.left → Hears (answers_of Everyone (command_of r.frame) 0 s.fitted.gear) h
     → at ≡ get_or s.seats r.sender at → fitted ≡ taken_at Everyone (command_of r.frame) s.fitted
-    → t ≡ (if owns s.bus.owner r.sender then s.trace else []) → u ≡ t ++ entry r.frame h ∷ []
+    → t ≡ (if owns s.bus.owner r.sender then s.trace else []) → IsReached x (t ++ entry r.frame h ∷ [])
     → seat ≡ told_at (told_sent (trace_of at.machine) r.frame h) at
-    → done ≡ not (may_follow seat.controller.records.block seat.controller.records.reserved (stage_of u)) → bus ≡ bus_sent s.bus (not done)
+    → more ≡ may_follow seat.controller.records.block seat.controller.records.reserved x → bus ≡ bus_sent s.bus more
     → IsDone was (event.Sent r.sender r.frame h) (seated fitted bus (with_seat s.seats r.sender seat))
-send_done s was r h at seat fitted bus t u done view settled first draws heard read fitted_is t_is u_is seat_is done_is bus_is =
-    let owner : bus.owner ≡ (if not done then Some r.sender else None) =
-    ap (λ (b : Arbiter). b.owner) (bus_is ∙ sent_is s.bus r (not done) (next_here s was r view first)) in
-    done_running was (event.Sent r.sender r.frame h) fitted bus (if not done then u else []) (with_seat s.seats r.sender seat)
-    (λ e. idle_sent (not done) r.sender u (sym owner ∙ e))
-    (sent_done s was r h at seat fitted bus t u _ done view settled first draws heard read fitted_is t_is u_is seat_is done_is refl bus_is)
+send_done s was r h at seat fitted bus t x more view settled first draws heard read fitted_is t_is reached seat_is more_is bus_is =
+    let u : List Entry = t ++ entry r.frame h ∷ [] in
+    let owner : bus.owner ≡ (if more then Some r.sender else None) =
+    ap (λ (b : Arbiter). b.owner) (bus_is ∙ sent_is s.bus r more (next_here s was r view first)) in
+    let more_so : more ≡ may_follow seat.controller.records.block seat.controller.records.reserved (stage_of u) =
+    more_is ∙ ap (λ y. may_follow seat.controller.records.block seat.controller.records.reserved y) reached.stage in
+    done_running was (event.Sent r.sender r.frame h) fitted bus (if more then u else []) (with_seat s.seats r.sender seat)
+    (λ e. idle_sent more r.sender u (sym owner ∙ e))
+    (sent_done s was r h at seat fitted bus t u _ more view settled first draws heard read fitted_is t_is refl seat_is more_so refl bus_is)
 
 lost_done : (s : Seated) (was : Standing) (r : Request) (set : GearSet) (at seat : Seat) (fitted : FittedGear) (bus : Arbiter) (t : List Entry) → flat s ≡ was
     → Settled s → next was.bus ≡ Some r

@@ -171,6 +171,10 @@ abbrev pub trace_of : Option Machine → List Entry
 trace_of None = []
 trace_of (Some m) = m.trace
 
+-- those that it goes on with, where it owns the bus
+abbrev pub running_if : Bool → Option Machine → List Entry
+running_if owned m = if owned then trace_of m else []
+
 -- told that its frame was destroyed
 abbrev pub told_lost : Controller → Controller
 told_lost k = record k { told = Some input.Destroyed }

@@ -8,8 +8,9 @@ use Rattle.dali_special.specs.Command.{command_of}
 use Rattle.dali_arbiter.specs.declared.request.Request.{Request}
 use Rattle.dali_arbiter.specs.Arbiter.{Arbiter, owns, request_of, offer_refusal}
 use Rattle.dali_script.specs.declared.trace.Entry.{Entry}
+use Rattle.dali_script.specs.declared.stage.Stage.{Stage}
 use Rattle.dali_script.specs.Scripts.{Lawful, IsFirst}
-use Rattle.dali_script.specs.Stages.{stage_of, may_follow}
+use Rattle.dali_script.specs.Stages.{stage_of, may_follow, IsReached}
 use Rattle.dali_script.specs.declared.orders.Input.{Input}
 use Rattle.dali_script.specs.declared.orders.Input.TheVariants as input
 use Rattle.dali_script.specs.declared.orders.Order.{Order}
@@ -120,10 +121,10 @@ pub record IsSettled (bus : Arbiter) (trace : List Entry) (place : ℕ → Seat)
   pub up : AreUp bus.lists place
 
 -- the sender of a scripted frame waits for it, and its transaction runs with it
-abbrev pub IsHearing : Seat → Forward → Answer → List Entry → Type 0
-IsHearing p f h running = is_arc (command_of f) ≡ false
+abbrev pub IsHearing : Seat → Forward → Answer → Stage → Type 0
+IsHearing p f h reached = is_arc (command_of f) ≡ false
     → (frame_put p.controller.last ≡ Some f) × (p.controller.told ≡ None)
-    × (running ≡ trace_of p.machine ++ entry f h ∷ [])
+    × IsReached reached (trace_of p.machine ++ entry f h ∷ [])
 
 -- what is ordered on the bus is not refused
 abbrev pub IsAccepted : Arbiter → ℕ → Order → Type 0

@@ -1,7 +1,9 @@
 ghost use Rattle.std.specs.Prelude.{◌≡◌, ◌++◌, ◌∷◌, [], Bool, true, false, ◌↔◌, Some, None};
-ghost use Rattle.std.specs.Prelude.{IsTrue, IsSome, IfSome, MatchOption, if◌then◌else◌};
+ghost use Rattle.std.specs.Prelude.{IsTrue, IsSome, IfSome, MatchOption};
 ghost use Rattle.dali_special.specs.Command.{command_of};
 ghost use Rattle.dali_script.specs.Findings.{later};
+ghost use Rattle.dali_script.specs.Scripts.{IsLawful};
+ghost use Rattle.dali_script.specs.Stages.{IsReached, may_follow};
 ghost use Rattle.dali_script.specs.Due.{due_after, frame_put, record_ordered};
 ghost use Rattle.dali_script.specs.Table.{table_of};
 ghost use Rattle.dali_script.specs.declared.orders.Due.TheVariants as due;
@@ -13,7 +15,7 @@ ghost use Rattle.dali_standing.specs.Seats.{due_of, machine_in, acted_in, MayAns
 
 use dali_controller::Machine;
 use dali_frame::{Answer, Forward};
-use dali_script::{Block, Due, Finding, Input, Kept, Order, Record, Table, Trace};
+use dali_script::{Block, Due, Finding, Input, Kept, Order, Record, Stage, Table, Trace};
 use std::marker::Model;
 
 /// A controller that is up has a machine, which has its records; of one that is down there are the records alone.
@@ -44,7 +46,7 @@ impl Model for Seat {
 
 impl Seat {
     ghost use Rattle.dali_standing.specs.Seats.{begun_at, acted_at, down_at, up_at, told_at, told_lost, IsTied};
-    ghost use Rattle.dali_standing.specs.Seats.{trace_of, Agrees, seat_by};
+    ghost use Rattle.dali_standing.specs.Seats.{trace_of, running_if, Agrees, seat_by};
     ghost use Rattle.dali_script.specs.declared.orders.Input.TheVariants as input;
 
     /// The place of controller `id`, which is up and keeps nothing yet.
@@ -113,16 +115,16 @@ impl Seat {
         }
     }
 
-    /// Its frame was sent, and this was heard. `running` are the frames of its transaction, with this one.
+    /// Its frame was sent, and this was heard. `reached` is how far its transaction is, with this frame.
     #[tactic(auto, using(crate::proofs::Ties::heard_finding))]
-    pub(crate) fn hear(&mut self, frame: Forward, heard: Answer, running: &Trace)
+    pub(crate) fn hear(&mut self, frame: Forward, heard: Answer, reached: &Stage)
         requires put { frame_put self.old.controller.last ≡ Some frame }
         requires untold { self.old.controller.told ≡ None }
         requires scripted { is_arc (command_of frame) ≡ false }
-        requires running { running.now ≡ trace_of self.old.machine ++ entry frame heard ∷ [] }
+        requires reached { IsReached reached.now (trace_of self.old.machine ++ entry frame heard ∷ []) }
         ensures { self.new ≡ told_at (told_sent (trace_of self.old.machine) frame heard) self.old }
     {
-        self.finding = later(self.finding, running.how_found());
+        self.finding = later(self.finding, reached.finding());
         self.told = Some(Input::Heard(heard));
     }
 
@@ -175,14 +177,24 @@ impl Seat {
         *self = Seat::begun(Machine::new(id, copy));
     }
 
-    /// The frames of the running transaction that it goes on with: those of its machine, where it owns the bus.
-    pub(crate) fn running(&self, owned: bool) -> Trace
-        ensures { result ≡ (if owned then trace_of self.now.machine else []) }
+    /// How far its transaction is once its frame was sent, and this was heard: the one that its machine goes on with,
+    /// where it owns the bus, or a new one.
+    pub(crate) fn reached(&self, owned: bool, frame: Forward, heard: Answer) -> Stage
+        requires { IsLawful (running_if owned self.now.machine) frame }
+        ensures { IsReached result (running_if owned self.now.machine ++ entry frame heard ∷ []) }
     {
         match &self.place {
-            Place::Up(machine) if owned => machine.trace().copy(),
-            Place::Up(_) | Place::Down(_) => Trace::new(),
+            Place::Up(machine) if owned => machine.trace().after(frame, heard),
+            Place::Up(_) | Place::Down(_) => Trace::new().after(frame, heard),
         }
+    }
+
+    /// Whether a frame may follow, where its transaction is that far.
+    pub(crate) fn goes_on(&self, reached: &Stage) -> bool
+        ensures { result ≡ may_follow self.now.controller.records.block self.now.controller.records.reserved
+            reached.now }
+    {
+        reached.goes_on(&self.kept().view())
     }
 
     /// What the bus has told the controller, and it has not acted on.

@@ -27,7 +27,7 @@ use dali_arbiter::{Arbiter, Request};
 use dali_events::{Plan, Trouble, Used};
 use dali_frame::{Answer, Forward, Priority, Short};
 use dali_gear::{GearSet, Reach, Row};
-use dali_script::{Block, Due, Input, Kept, Order, Record, Table, Trace};
+use dali_script::{Block, Due, Input, Kept, Order, Record, Stage, Table};
 use dali_special::Command;
 use std::alloc::Global;
 use std::marker::Model;
@@ -252,10 +252,9 @@ impl Standing {
         let heard = trouble.heard(plain);
         let owned = owns(&self.arbiter, request.sender);
         let seat = &mut self.seats[request.sender as usize];
-        let mut running = seat.running(owned);
-        running.push(request.frame, heard);
-        hear(seat, request.frame, heard, &running);
-        let more = !running.complete(seat.kept());
+        let reached = seat.reached(owned, request.frame, heard);
+        hear(seat, request.frame, heard, &reached);
+        let more = seat.goes_on(&reached);
         self.arbiter.sent(more);
         heard
     }
@@ -468,14 +467,14 @@ pub fn is_arc_power(frame: Forward) -> bool
     is_arc(frame)
 }
 
-/// The sender of a frame is told what was heard. `running` are the frames of its transaction, with this one.
+/// The sender of a frame is told what was heard. `reached` is how far its transaction is, with this frame.
 #[tactic(auto, using(crate::proofs::Settling::arc_tells))]
-fn hear(seat: &mut Seat, frame: Forward, heard: Answer, running: &Trace)
-    requires { IsHearing seat.old frame heard running.now }
+fn hear(seat: &mut Seat, frame: Forward, heard: Answer, reached: &Stage)
+    requires { IsHearing seat.old frame heard reached.now }
     ensures { seat.new ≡ told_at (told_sent (trace_of seat.old.machine) frame heard) seat.old }
 {
     if !is_arc(frame) {
-        seat.hear(frame, heard, running);
+        seat.hear(frame, heard, reached);
     }
 }
 
