@@ -1,7 +1,12 @@
 use Rattle.std.specs.Prelude.{◌≡◌, Some, length}
 use Rattle.dali_search.specs.Least.{Search, lowest}
 use Rattle.dali_search.specs.Narrowing.{IsSearch}
+use Rattle.dali_controller.specs.declared.leg.Leg.{Leg}
+use Rattle.dali_controller.specs.declared.leg.Leg.TheVariants.{Revisiting, Asking, Searching}
+use Rattle.dali_controller.specs.declared.leg.Leg.TheVariants.{Hunting}
 use Rattle.dali_controller.specs.declared.state.State.{State}
+use Rattle.dali_controller.specs.Legs.{is_searching, way_on, from_on, silences_on}
+use Rattle.dali_controller.specs.Legs.{search_on, ascent_on}
 use Rattle.dali_controller.specs.Machine.{Machine}
 use Rattle.dali_controller.specs.States.{machine_with}
 use Rattle.dali_controller.specs.Whole.{IsWhole}
@@ -23,21 +28,35 @@ pub record IsPlainSearch (p : PlainState) (s : Search) : Type 0 where
   pub least : lowest s.answers ≡ random_of p.least
   pub probe : s.probe ≡ random_of p.probe
 
+-- WHAT ITS BYTES SAY of how far it is on its way. Bytes that its leg does not name say nothing.
+abbrev pub HasLeg : PlainState → Leg → Type 0
+HasLeg p (Revisiting from) = from ≡ p.from
+HasLeg p (Asking from silences) = (from ≡ p.from) × (silences ≡ p.asked)
+HasLeg p (Searching s) = IsPlainSearch p s
+HasLeg p (Hunting up) = IsPlainAscent p.ascent up.ascent
+
+pub record IsPlainLeg (p : PlainState) (l : Leg) : Type 0 where
+  pub opened : bool_of p.opened ≡ Some (is_searching l)
+  pub way : way_of p.way ≡ Some (way_on l)
+  pub has : HasLeg p l
+
+-- they are written as contracts see them
+pub record FillsLeg (p : PlainState) (l : Leg) : Type 0 where
+  pub visits : from_on l ≡ p.from
+  pub asked : silences_on l ≡ p.asked
+  pub search : IsPlainSearch p (search_on l)
+  pub ascent : IsPlainAscent p.ascent (ascent_on l)
+
 -- each field of struct dali_machine but its records stands for a part of this
 pub record Spells (p : PlainState) (s : State) : Type 0 where
   pub id : s.id ≡ p.id
-  pub opened : bool_of p.opened ≡ Some s.opened
   pub tries : s.tries ≡ p.tries
   pub silent : s.silent ≡ p.silent
-  pub visits : s.from ≡ p.from
   pub purpose : purpose_of p.purpose p.detail ≡ Some s.purpose
   pub number : s.number ≡ search_of p.number
-  pub search : IsPlainSearch p s.search
-  pub ascent : IsPlainAscent p.ascent s.ascent
+  pub leg : IsPlainLeg p s.leg
   pub finding : finding_of p.finding ≡ Some s.finding
   pub last : order_of p.last ≡ Some s.last
-  pub way : way_of p.way ≡ Some s.way
-  pub asked : s.asked ≡ p.asked
   pub heard : s.heard ≡ shorts_of p.heard
   pub trace : IsPlainTrace p.entries p.entry_count s.trace
 

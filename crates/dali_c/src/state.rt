@@ -1,9 +1,13 @@
 //! The state of a machine as plain bytes.
 
-ghost use Rattle.std.specs.Prelude.{◌≡◌, Some, IfSome, IfNone};
+ghost use Rattle.std.specs.Prelude.{◌≡◌, true, Some, IfSome, IfNone};
 ghost use Rattle.dali_search.specs.Least.{Search};
+ghost use Rattle.dali_controller.specs.declared.leg.Leg.{Leg};
 ghost use Rattle.dali_controller.specs.declared.state.State.{State};
-ghost use Rattle.dali_c.specs.Machines.{IsPlainSearch, Spells};
+ghost use Rattle.dali_controller.specs.Legs.{way_drawn};
+ghost use Rattle.dali_c.specs.Codes.{bool_of};
+ghost use Rattle.dali_c.specs.Machines.{IsPlainSearch, IsPlainLeg, FillsLeg, Spells};
+ghost use Rattle.dali_c.specs.Surveys.{way_of};
 
 use crate::ascents::PlainAscent;
 use crate::codes::bool_of;
@@ -12,11 +16,12 @@ use crate::orders::{PlainFinding, PlainOrder};
 use crate::pairs::PlainRandom;
 use crate::purposes::{purpose_code, purpose_of};
 use crate::surveys::{shorts_bytes, shorts_of, way_code, way_of};
-use dali_controller::State;
+use dali_controller::{Leg, State, Upward, Way};
 use dali_search::Search;
 
-/// A machine without its records. Its fields are those of [`State`], with the search as three numbers, and the set
-/// `heard` as the bytes of its number, the least first.
+/// A machine without its records. Its fields are those of [`State`], with the leg in parts: `opened` and `way` say
+/// which it is; `from`, `asked`, a search as three numbers and an ascent are what legs have. The set `heard` is the
+/// bytes of its number, the least first.
 #[repr(C)]
 #[derive(Clone, Copy)]
 pub struct PlainState {
@@ -43,27 +48,29 @@ pub struct PlainState {
 
 impl PlainState {
     pub(crate) fn of(state: &State) -> PlainState
-        ensures { Spells result state.now }
+        ensures spells { Spells result state.now }
+        ensures more { FillsLeg result state.now.leg }
     {
         let (purpose, detail) = purpose_code(state.purpose);
         let entries = state.trace.entries();
+        let search = state.leg.search();
         PlainState {
             id: state.id,
-            opened: u8::from(state.opened),
+            opened: u8::from(state.leg.is_searching()),
             tries: state.tries,
             silent: state.silent,
-            from: state.from,
+            from: state.leg.from(),
             purpose,
             detail,
-            answers: state.search.answers(),
+            answers: search.answers(),
             number: PlainRandom::of_search(state.number),
-            least: PlainRandom::of(state.search.least()),
-            probe: PlainRandom::of(state.search.probe()),
-            ascent: PlainAscent::of(&state.ascent),
+            least: PlainRandom::of(search.least()),
+            probe: PlainRandom::of(search.probe()),
+            ascent: PlainAscent::of(&state.leg.ascent()),
             finding: PlainFinding::of(state.finding),
             last: PlainOrder::of(state.last),
-            way: way_code(state.way),
-            asked: state.asked,
+            way: way_code(state.leg.way()),
+            asked: state.leg.silences(),
             heard: shorts_bytes(state.heard),
             entry_count: entries.len() as u8,
             entries: write_entries(entries),
@@ -75,13 +82,10 @@ impl PlainState {
         ensures spelled { IfSome result (Spells self.now) }
         ensures none { IfNone result ((s : State) → Spells self.now s → ⊥) }
     {
-        let opened = bool_of(self.opened)?;
         let purpose = purpose_of(self.purpose, self.detail)?;
-        let way = way_of(self.way)?;
         let finding = self.finding.read()?;
         let last = self.last.read()?;
-        let search = self.search()?;
-        let ascent = self.ascent.read()?;
+        let leg = self.leg()?;
         let trace = read_trace(&self.entries, self.entry_count)?;
         Some(State {
             id: self.id,
@@ -90,16 +94,42 @@ impl PlainState {
             last,
             tries: self.tries,
             silent: self.silent,
-            opened,
             purpose,
             number: self.number.search(),
-            search,
-            ascent,
-            from: self.from,
-            way,
+            leg,
             heard: shorts_of(self.heard),
-            asked: self.asked,
         })
+    }
+
+    /// How far it is on its way. None where its bytes are those of no leg.
+    fn leg(&self) -> Option<Leg>
+        ensures leg { IfSome result (IsPlainLeg self.now) }
+        ensures same { (l : Leg) → IsPlainLeg self.now l → result ≡ Some l }
+    {
+        let is_searching = bool_of(self.opened)?;
+        match (is_searching, way_of(self.way)?) {
+            (false, Way::Fresh) => Some(Leg::Revisiting { from: self.from }),
+            (false, Way::Surveying) => Some(Leg::Asking {
+                from: self.from,
+                silences: self.asked,
+            }),
+            (false, Way::Drawing) => None,
+            (true, Way::Fresh) => Some(Leg::Searching(self.search()?)),
+            (true, Way::Surveying) => self.hunting(false),
+            (true, Way::Drawing) => self.hunting(true),
+        }
+    }
+
+    /// The leg of a survey that searches gear, which drew new random addresses or did not.
+    fn hunting(&self, drew: bool) -> Option<Leg>
+        requires opened { bool_of self.now.opened ≡ Some true }
+        requires way { way_of self.now.way ≡ Some (way_drawn drew) }
+
+        ensures leg { IfSome result (IsPlainLeg self.now) }
+        ensures same { (l : Leg) → IsPlainLeg self.now l → result ≡ Some l }
+    {
+        let ascent = self.ascent.read()?;
+        Some(Leg::Hunting(Upward { ascent, drew }))
     }
 
     fn search(&self) -> Option<Search>

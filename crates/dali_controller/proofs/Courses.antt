@@ -27,7 +27,7 @@ use Rattle.dali_script.specs.declared.orders.Due.TheVariants as due
 use Rattle.dali_script.specs.Due.{due_after, frame_put, record_ordered}
 use Rattle.dali_search.specs.declared.step.Step.{Step}
 use Rattle.dali_search.specs.declared.step.Step.TheVariants.{Again, Found, Nobody}
-use Rattle.dali_search.specs.Ascending.{Ascent, leads_to, begun_anew}
+use Rattle.dali_search.specs.Ascending.{leads_to}
 use Rattle.dali_search.specs.Least.{Search, step_after, probe_after, next_probe, answered}
 use Rattle.dali_controller.specs.declared.purpose.Purpose.{Purpose}
 use Rattle.dali_controller.specs.declared.purpose.Purpose.TheVariants.{Opening, Probing, Visiting, Resolving, Closing, Asking, Waking, Hunting}
@@ -73,11 +73,8 @@ stays_moment t o new begins state next whole =
     record { begins = begins; course = ap (λ (m : Machine). m.course) state; next = next; whole = whole }
 
 -- a search that led to no gear goes on, where it was not the sixteenth in a row
-pub on_anew : (w : Machine) (new : Ascent) → new ≡ begun_anew w.course.ascent → (w.silent ≡ 16 → ⊥) → next_course w ≡ silenced w
-    → going_on w.kept w.opened (record w.course { ascent = new }) ≡ next_course w
-on_anew w new anew more next =
-    ap (λ a. going_on w.kept w.opened (record w.course { ascent = a })) anew
-    ∙ ap (λ b. if b then closing w.course GaveUp else goes_on_anew w) (sym (ne_eqb w.silent 16 more)) ∙ sym next
+pub on_anew : (w : Machine) → (w.silent ≡ 16 → ⊥) → next_course w ≡ silenced w → goes_on_anew w ≡ next_course w
+on_anew w more next = ap (λ b. if b then closing w.course GaveUp else goes_on_anew w) (sym (ne_eqb w.silent 16 more)) ∙ sym next
 
 -- a short address that was silent is asked again
 pub asked_again : (t : Machine) → (t.asked ≡ 0 → ⊥) → t.course ≡ asked_once t (t.asked == 0)

@@ -1,6 +1,6 @@
 use Rattle.std.proofs.Common.{lit<, ◌≡◌, ◌⊎◌, inl, inr, ℕ, ◌+◌, ◌<◌, ◌≤◌, Bool, true, false, List, [], ◌∷◌, ◌++◌, refl, sym, ap, ap₂}
 use Rattle.std.proofs.Common.{subst, ◌∙◌, arith, Option, Some, None}
-use Rattle.std.specs.Prelude.{◌-◌, ◌==◌, is_some, unwrap_or, if◌then◌else◌}
+use Rattle.std.specs.Prelude.{◌-◌, ◌==◌, ◌||◌, is_some, unwrap_or, if◌then◌else◌}
 use Rattle.std.proofs.lemmas.Bool.Decides.{nat_tests}
 use Rattle.dali_frame.specs.declared.frames.Forward.{Forward}
 use Rattle.dali_frame.specs.declared.frames.Answer.{Answer}
@@ -22,7 +22,7 @@ use Rattle.dali_script.specs.declared.finding.Finding.{Finding}
 use Rattle.dali_script.specs.declared.records.Record.{Record}
 use Rattle.dali_script.specs.declared.records.Record.TheVariants.{Reserve}
 use Rattle.dali_script.specs.declared.stage.Stage.{Stage}
-use Rattle.dali_script.specs.declared.stage.Stage.TheVariants.{Free, Terminated, InitialisedOnce, Initialised, RandomisedOnce, Opened, HighSent, MiddleSent}
+use Rattle.dali_script.specs.declared.stage.Stage.TheVariants.{Free, Terminated, InitialisedOnce, Initialised, RandomisedOnce, HighSent, MiddleSent}
 use Rattle.dali_script.specs.declared.stage.Stage.TheVariants.{NumberSent, Found, Unnamed, Unanswered, Inconclusive, Programmed, Confirmed, Withdrawn}
 use Rattle.dali_script.specs.declared.stage.Stage.TheVariants.{HighAsked, MiddleAsked, Spelled, LowSent, Hunted, Over}
 use Rattle.dali_script.specs.Records.{IsKept, with_record, Kept, Has, HasRandom, Fits, MayAdd}
@@ -42,18 +42,17 @@ use Rattle.dali_script.specs.declared.orders.End.TheVariants.{BlockFull, GaveUp}
 use Rattle.dali_script.specs.declared.orders.Due.TheVariants as due
 use Rattle.dali_controller.specs.declared.purpose.Purpose.{Purpose}
 use Rattle.dali_controller.specs.declared.purpose.Purpose.TheVariants.{Opening, Probing, Visiting, Resolving, Closing, Asking, Waking, Hunting}
-use Rattle.dali_controller.specs.declared.shorts.Shorts.{Shorts}
 use Rattle.dali_controller.specs.declared.way.Way.{Way}
 use Rattle.dali_controller.specs.declared.way.Way.TheVariants.{Fresh, Surveying, Drawing}
 use Rattle.dali_script.specs.Due.{due_after, frame_put}
 use Rattle.dali_controller.specs.Course.{Course, taking, first_of, turn_of, closing_of, drawing, address_for, least_open, byte_to_send, bytes_to_send}
-use Rattle.dali_controller.specs.Machine.{machine_lost, Machine, opened_after, woken_after, silent_after, tries_after}
+use Rattle.dali_controller.specs.Machine.{machine_lost, machine_heard_to, Machine, silent_after, tries_after, is_complete, is_ended, is_passed_by}
 use Rattle.dali_controller.specs.Next.{begins_at, course_by, beginning, next_course, draw_or_close}
 use Rattle.dali_controller.specs.Orders.{IsBegun, AfterMaskBy, AfterMaskOn, IsOrderedTo}
 use Rattle.dali_controller.specs.Orders.{is_left, is_left_by, machine_ordered}
 use Rattle.dali_controller.specs.Orders.{running_close}
 use Rattle.dali_controller.specs.Whole.{IsWhole, IsSurvey, Sends, Knows, IsEarly, IsWithinSilence, IsReady, IsSending, Pending}
-use Rattle.dali_controller.specs.Moments.{FoundAt, IsBetween, Closes, Arrived, KnowsAt, KnowsWoken, CalmAt, IsHeard, Turns, Begins, Begun, IsNext}
+use Rattle.dali_controller.specs.Moments.{FoundAt, IsBetween, Closes, Arrived, CalmAt, IsHeard, Turns, Begins, Begun, IsNext}
 use Rattle.dali_controller.specs.Moments.{Draws, IsUngiven, IsNextTo}
 
 -- THE COMMANDS OF A TRANSACTION. A command that is sent at a stage may follow there and is read from its frame; it is no
@@ -231,18 +230,6 @@ sends_follow k n p s c e = (goes k n p s c e).follows
 not_withdrawn : (k : Kept) (n : SearchAddress) (p : Purpose) (r : SearchAddress) (b : ℕ) (c : Command) → Sends k n p (Withdrawn r b) c → ⊥
 not_withdrawn k n p r b c e = let on = (goes k n p (Withdrawn r b) c e).follows.leads_on in cc
 
--- what is known there
-knows_woken : (y : Way) (k : Kept) (n : SearchAddress) (s : Search) (v : Ascent) (o : Bool) (p : Purpose) → Knows y k n s v o p
-    → KnowsWoken y k n s v (woken_after Initialised p o) p
-knows_woken y k n s v o Waking e = refl
-knows_woken y k n s v o _ e = e
-
-pub knows_at : (y : Way) (k : Kept) (n : SearchAddress) (s : Search) (v : Ascent) (o : Bool) (p : Purpose) (there : Stage) → Knows y k n s v o p
-    → KnowsAt there y k n s v (woken_after there p (opened_after there o)) p
-knows_at y k n s v o p Opened e = refl
-knows_at y k n s v o p Initialised e = knows_woken y k n s v o p e
-knows_at y k n s v o p _ e = e
-
 calm_unanswered : (o : Bool) (i : ℕ) → i < 16 → (r : SearchAddress) → CalmAt (Unanswered r) Visiting o (silent_after (Unanswered r) o i)
 calm_unanswered true i h r = (omega arith, λ e. refl)
 calm_unanswered false i h r = (omega arith, λ e. absurd (omega arith))
@@ -253,7 +240,7 @@ calm_visiting true i h r other = (omega arith, λ e. refl)
 calm_visiting false i h r other = (omega arith, λ e. absurd (omega arith))
 
 pub calm_at : (k : Kept) (n : SearchAddress) (o : Bool) (p : Purpose) (i : ℕ) (there : Stage) → Arrived k n p there → IsWithinSilence p i
-    → CalmAt there p (woken_after there p (opened_after there o)) (silent_after there o i)
+    → CalmAt there p o (silent_after there o i)
 calm_at k n o p i (Unanswered r) there e =
     let h : i < 16 = subst (λ q. IsWithinSilence q i) there.0 e in
     calm_unanswered o i h r
@@ -275,17 +262,6 @@ pub sends_calm : (k : Kept) (n : SearchAddress) (p : Purpose) (s : Stage) (c : C
 sends_calm k n p (Unanswered r) c o i e calm = absurd (let on = (goes k n p (Unanswered r) c e).follows.leads_on in cc)
 sends_calm k n p (Inconclusive r other) c o i e calm = absurd (let on = (goes k n p (Inconclusive r other) c e).follows.leads_on in cc)
 sends_calm k n p _ c o i e calm = calm
-
-sends_woken : (y : Way) (k : Kept) (n : SearchAddress) (p : Purpose) (c : Command) (x : Search) (v : Ascent) (o : Bool) → Sends k n p Initialised c
-    → KnowsWoken y k n x v o p → Knows y k n x v o p
-sends_woken y k n Waking c x v o e knows = absurd (let none = e.0 in cc)
-sends_woken y k n _ c x v o e knows = knows
-
-pub sends_knows : (y : Way) (k : Kept) (n : SearchAddress) (p : Purpose) (s : Stage) (c : Command) (x : Search) (v : Ascent) (o : Bool) → Sends k n p s c
-    → KnowsAt s y k n x v o p → Knows y k n x v o p
-sends_knows y k n p Opened c x v o e knows = absurd (let on = (goes k n p Opened c e).follows.leads_on in cc)
-sends_knows y k n p Initialised c x v o e knows = sends_woken y k n p c x v o e knows
-sends_knows y k n p _ c x v o e knows = knows
 
 pub calm_less : (p : Purpose) (i : ℕ) → closing_of p ≡ None → IsWithinSilence p i → i < 16
 calm_less (Closing end) i e calm = absurd (cc)
@@ -313,7 +289,7 @@ put_whole_at w s c p f h e read = record {
   ready = record {
     tries = h.tries;
     calm = sends_calm w.kept w.course.number w.course.purpose s c w.opened w.silent e h.calm;
-    knows = sends_knows w.course.way w.kept w.course.number w.course.purpose s c w.course.search w.course.ascent w.opened e h.knows;
+    knows = h.knows;
   };
   sends = subst (λ x. Sends w.kept w.course.number w.course.purpose x (command_of f)) (sym h.stage)
       (subst (λ d. Sends w.kept w.course.number w.course.purpose s d) (sym read) e);
@@ -497,49 +473,29 @@ trace_found_at (Spelled b (Some n)) found is = is
 trace_found_at (Spelled b None) found is = tt
 trace_found_at _ found is = tt
 
--- the parts after a frame was heard, the last finding noted, and the counts made
-pub hear_heard : (w noted : Machine) (f : Forward) (h : Answer) (t : List Entry) (s : Stage) (complete o : Bool) (n i : ℕ) (shorts : Shorts) (asked : ℕ)
-    → IsWhole w
-    → frame_put w.last ≡ Some f
-    → t ≡ w.trace ++ (record { frame = f; heard = h }) ∷ [] → noted ≡ record w { trace = t; finding = later w.finding (finding_of t) }
-    → s ≡ stage_of noted.trace
-    → n ≡ tries_after complete noted.tries → i ≡ silent_after (stage_of noted.trace) noted.opened noted.silent
-    → o ≡ woken_after (stage_of noted.trace) noted.course.purpose (opened_after (stage_of noted.trace) noted.opened)
-    → IsHeard (record noted { tries = n; silent = i; opened = o; heard = shorts; asked = asked }) s
-hear_heard w noted f h t s complete o n i shorts asked whole put trace is stage tries silent opened =
+-- what is told of a frame that was heard, but that gear are searched from now on
+abbrev pub heard_by : Machine → Forward → Answer → Machine
+heard_by w f h = record (machine_heard_to w (w.trace ++ (record { frame = f; heard = h }) ∷ []) h) { opened = w.opened }
+
+pub hear_heard : (w : Machine) (f : Forward) (h : Answer) → IsWhole w → frame_put w.last ≡ Some f
+    → IsHeard (heard_by w f h) (stage_of (heard_by w f h).trace)
+hear_heard w f h whole put =
     let sent : IsSending w f = sending w w.last f put whole in
-    let same_trace : noted.trace ≡ t = ap (λ (x : Machine). x.trace) is in
-    let there : stage_of noted.trace ≡ next_stage (stage_of w.trace) (command_of f) h =
-    ap stage_of (same_trace ∙ trace) ∙ stage_more w.trace (record { frame = f; heard = h }) in
-    let arrived : Arrived w.kept w.course.number w.course.purpose (stage_of noted.trace) =
-    subst (Arrived w.kept w.course.number w.course.purpose) (sym there)
+    let now : Entry = record { frame = f; heard = h } in
+    let t : List Entry = w.trace ++ now ∷ [] in
+    let arrived : Arrived w.kept w.course.number w.course.purpose (stage_of t) =
+    subst (Arrived w.kept w.course.number w.course.purpose) (sym (stage_more w.trace now))
     ((goes w.kept w.course.number w.course.purpose (stage_of w.trace) (command_of f) sent.sends).arrives h) in
-    let finding : noted.finding ≡ later w.finding (finding_at (stage_of noted.trace)) =
-    ap (λ (x : Machine). x.finding) is ∙ ap (λ u. later w.finding (finding_of u)) trace
-    ∙ ap (later w.finding) (finding_after w.kept.block w.kept.reserved w.trace (record { frame = f; heard = h }) (sending_lawful w f sent))
-    ∙ ap (λ u. later w.finding (finding_at (stage_of u))) (sym (same_trace ∙ trace)) in
-    let trace_finding : finding_of noted.trace ≡ finding_at (stage_of noted.trace) =
-    ap finding_of (same_trace ∙ trace) ∙ finding_after w.kept.block w.kept.reserved w.trace (record { frame = f; heard = h }) (sending_lawful w f sent)
-    ∙ ap (λ u. finding_at (stage_of u)) (sym (same_trace ∙ trace)) in
-    rw stage (from arrived sent.ready finding trace_finding)
-  where
-    from : Arrived w.kept w.course.number w.course.purpose (stage_of noted.trace) → IsReady w
-        → noted.finding ≡ later w.finding (finding_at (stage_of noted.trace)) → finding_of noted.trace ≡ finding_at (stage_of noted.trace)
-        → IsHeard (record noted { tries = n; silent = i; opened = o; heard = shorts; asked = asked }) (stage_of noted.trace)
-    from arrived ready finding trace_finding = record {
+    let found : finding_of t ≡ finding_at (stage_of t) = finding_after w.kept.block w.kept.reserved w.trace now (sending_lawful w f sent) in
+    record {
       stage = refl;
-      tries = subst (λ m. m < 8) (sym (tries ∙ ap (λ m. tries_after complete m) (ap (λ (x : Machine). x.tries) is))) (tries_less complete w.tries ready.tries);
-      arrived = subst (λ (x : Machine). Arrived x.kept x.course.number x.course.purpose (stage_of noted.trace)) (sym is) arrived;
-      calm = rw (opened, silent) (subst (λ (x : Machine). CalmAt (stage_of noted.trace) x.course.purpose
-          (woken_after (stage_of noted.trace) x.course.purpose (opened_after (stage_of noted.trace) x.opened))
-          (silent_after (stage_of noted.trace) x.opened x.silent)) (sym is)
-          (calm_at w.kept w.course.number w.opened w.course.purpose w.silent (stage_of noted.trace) arrived ready.calm));
-      knows = rw opened (subst (λ (x : Machine). KnowsAt (stage_of noted.trace) x.course.way x.kept x.course.number x.course.search x.course.ascent
-          (woken_after (stage_of noted.trace) x.course.purpose (opened_after (stage_of noted.trace) x.opened)) x.course.purpose)
-          (sym is)
-          (knows_at w.course.way w.kept w.course.number w.course.search w.course.ascent w.opened w.course.purpose (stage_of noted.trace) ready.knows));
-      finding = found_at (stage_of noted.trace) w.finding noted.finding finding;
-      trace_finding = trace_found_at (stage_of noted.trace) (finding_of noted.trace) trace_finding;
+      tries = tries_less (is_complete w.kept (closing_of w.course.purpose) (stage_of t) || is_ended w.course.purpose w.course.number (stage_of t)
+          || is_passed_by w (stage_of t)) w.tries sent.ready.tries;
+      arrived = arrived;
+      calm = calm_at w.kept w.course.number w.opened w.course.purpose w.silent (stage_of t) arrived sent.ready.calm;
+      knows = sent.ready.knows;
+      finding = found_at (stage_of t) w.finding (later w.finding (finding_of t)) (ap (later w.finding) found);
+      trace_finding = trace_found_at (stage_of t) (finding_of t) found;
     }
 
 -- THE TRANSACTIONS
@@ -558,12 +514,13 @@ opens w n b opened = record {
   found = b.found;
 }
 
-pub probes : (w : Machine) (n : SearchAddress) → IsBetween w → w.opened ≡ true → w.course.search.step ≡ Again → value_of n ≡ w.course.search.probe
+pub probes : (w : Machine) (n : SearchAddress) → IsBetween w → w.opened ≡ true → w.course.way ≡ Fresh → w.course.search.step ≡ Again
+    → value_of n ≡ w.course.search.probe
     → Begins w Probing n
-probes w n b opened running is = record {
+probes w n b opened fresh running is = record {
   tries = b.tries;
   calm = b.silent;
-  knows = (opened, running, is);
+  knows = (opened, fresh, running, is);
   turns = b.going;
   unnamed = λ r e. absurd (b.unnamed r e);
   found = b.found;
@@ -749,9 +706,9 @@ reserved_kept w new x a n m reserves is same =
 
 -- before the start
 pub whole_at_first : (w : Machine) → w.trace ≡ [] → w.last ≡ None → w.tries ≡ 0 → w.silent ≡ 0 → w.opened ≡ false → w.course.purpose ≡ Opening
-    → w.course.way ≡ Fresh
+    → w.course.way ≡ Fresh → w.course.from ≡ 0
     → IsWhole w
-whole_at_first w trace last tries silent opened opening fresh = rw last (record {
+whole_at_first w trace last tries silent opened opening fresh first = rw last (record {
   ready = record {
     tries = rw tries (lit< tt);
     calm = rw (opening, silent) (lit< tt);
@@ -760,4 +717,5 @@ whole_at_first w trace last tries silent opened opening fresh = rw last (record 
   free = free_of w.trace trace;
   opening = opening;
   fresh = fresh;
+  first = first;
 })

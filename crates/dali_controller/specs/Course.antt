@@ -133,15 +133,16 @@ opening c = taking c Opening c.number
 abbrev pub probing : Course → Course
 probing c = taking c Probing (sought c.search.probe)
 
+-- Once gear are searched no short address is visited before the opening, or asked, any more.
 abbrev pub searching_anew : Course → Course
-searching_anew c = probing (record c { search = at_first })
+searching_anew c = probing (record c { search = at_first; from = 64 })
 
 -- under the number that the search that goes up asks next
 abbrev pub hunting : Course → Course
 hunting c = taking c Hunting (sought (asked_next c.ascent))
 
 abbrev pub hunting_first : Course → Course
-hunting_first c = hunting (record c { ascent = ascent_at_first })
+hunting_first c = hunting (record c { ascent = ascent_at_first; from = 64 })
 
 -- above who was found and withdrawn
 abbrev pub hunting_on : Course → Course

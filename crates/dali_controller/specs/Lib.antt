@@ -6,5 +6,6 @@ pub mod Next
 pub mod Orders
 pub mod Moments
 pub mod Whole
+pub mod Legs
 pub mod States
 pub mod Steps

@@ -150,7 +150,7 @@ asked_at _ h n = 0
 
 abbrev pub asked_after : Purpose → Stage → Answer → ℕ → ℕ
 asked_after (Asking a) s h n = asked_at s h n
-asked_after _ s h n = n
+asked_after _ s h n = 0
 
 -- the transaction has these frames now, and this was heard after the last
 abbrev pub machine_heard_to : Machine → List Entry → Answer → Machine

@@ -1,4 +1,5 @@
-use Rattle.std.specs.Prelude.{◌≡◌, ℕ, ◌<◌, ◌≤◌, ◌⊎◌, Bool, true, Option, Some, None, MatchOption}
+use Rattle.std.specs.Prelude.{◌≡◌, ℕ, ◌<◌, ◌≤◌, ◌⊎◌, Bool, true, false, Option, Some, None}
+use Rattle.std.specs.Prelude.{MatchOption}
 use Rattle.dali_frame.specs.declared.numbers.SearchAddress.{SearchAddress}
 use Rattle.dali_frame.specs.Random.{value_of, MASK24}
 use Rattle.dali_frame.specs.Priority.{FIRST}
@@ -20,8 +21,7 @@ use Rattle.dali_script.specs.Findings.{assigned, finding_of}
 use Rattle.dali_script.specs.Stages.{stage_of}
 use Rattle.dali_frame.specs.declared.frames.Answer.{Answer}
 use Rattle.dali_search.specs.declared.step.Step.TheVariants.{Again}
-use Rattle.dali_search.specs.Least.{Search}
-use Rattle.dali_search.specs.Ascending.{Ascent, asked_next, leads_to}
+use Rattle.dali_search.specs.Ascending.{asked_next, leads_to}
 use Rattle.dali_script.specs.declared.orders.Input.{Input}
 use Rattle.dali_script.specs.declared.orders.Order.{Order}
 use Rattle.dali_script.specs.declared.orders.Order.TheVariants.{Put, Commit}
@@ -65,15 +65,14 @@ Arrived k n p (Withdrawn r b) = (p ≡ Visiting) × (r ≡ n)
 Arrived k n p (Spelled b number) = (p ≡ Resolving b) ⊎ (p ≡ Asking b)
 Arrived k n p s = (c : Command) × Sends k n p s c
 
--- at the end of an opening it is complete, and once gear were woken they are searched
-abbrev pub KnowsWoken : Way → Kept → SearchAddress → Search → Ascent → Bool → Purpose → Type 0
-KnowsWoken y k n s a opened Waking = opened ≡ true
-KnowsWoken y k n s a opened p = Knows y k n s a opened p
+-- gear are searched from now on: an opening is complete, or in a survey gear were woken
+abbrev pub is_searched_next : Stage → Purpose → Bool
+is_searched_next Opened p = true
+is_searched_next Initialised Waking = true
+is_searched_next s p = false
 
-abbrev pub KnowsAt : Stage → Way → Kept → SearchAddress → Search → Ascent → Bool → Purpose → Type 0
-KnowsAt Opened y k n s a opened p = opened ≡ true
-KnowsAt Initialised y k n s a opened p = KnowsWoken y k n s a opened p
-KnowsAt _ y k n s a opened p = Knows y k n s a opened p
+abbrev pub machine_searching : Machine → Machine
+machine_searching w = record w { opened = true }
 
 -- a search that led to no gear may just have reached it
 abbrev pub CalmAt : Stage → Purpose → Bool → ℕ → Type 0
@@ -93,8 +92,8 @@ pub record IsHeard (w : Machine) (s : Stage) : Type 0 where
   pub tries : w.tries < 8
   pub arrived : Arrived w.kept w.course.number w.course.purpose s
   pub calm : CalmAt s w.course.purpose w.opened w.silent
-  pub knows : KnowsAt s w.course.way w.kept w.course.number w.course.search w.course.ascent
-      w.opened w.course.purpose
+  pub knows : Knows w.course.way w.kept w.course.number w.course.search w.course.ascent w.opened
+      w.course.purpose
   pub finding : FoundAt s w.finding
   pub trace_finding : FoundAt s (finding_of w.trace)
 
@@ -204,6 +203,7 @@ pub record IsStep (m : Machine) (i : Input) (o : Order) (new : Machine) : Type 0
 pub record Draws (w : Machine) : Type 0 where
   pub tries : w.tries < 8
   pub silent : w.silent < 16
+  pub opened : w.opened ≡ true
   pub surveying : w.course.way ≡ Surveying
   pub going : closing_of w.course.purpose ≡ None
   pub unnamed : (r : SearchAddress) → stage_of w.trace ≡ Unnamed r

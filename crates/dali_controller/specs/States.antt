@@ -1,6 +1,8 @@
 use Rattle.dali_script.specs.Records.{Kept}
 use Rattle.dali_controller.specs.declared.state.State.{State}
 use Rattle.dali_controller.specs.Course.{Course}
+use Rattle.dali_controller.specs.Legs.{way_on, is_searching, from_on, silences_on}
+use Rattle.dali_controller.specs.Legs.{search_on, ascent_on}
 use Rattle.dali_controller.specs.Machine.{Machine}
 
 -- THE COURSE that a machine takes in this state
@@ -8,10 +10,10 @@ abbrev pub course_of : State → Course
 course_of s = record {
   purpose = s.purpose;
   number = s.number;
-  search = s.search;
-  ascent = s.ascent;
-  from = s.from;
-  way = s.way;
+  search = search_on s.leg;
+  ascent = ascent_on s.leg;
+  from = from_on s.leg;
+  way = way_on s.leg;
 }
 
 -- THE MACHINE in this state, with these records: what contracts see of it
@@ -24,8 +26,8 @@ machine_with s k = record {
   last = s.last;
   tries = s.tries;
   silent = s.silent;
-  opened = s.opened;
+  opened = is_searching s.leg;
   course = course_of s;
   heard = s.heard;
-  asked = s.asked;
+  asked = silences_on s.leg;
 }

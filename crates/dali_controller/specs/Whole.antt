@@ -65,7 +65,8 @@ IsSurvey Drawing = Unit {0}
 
 abbrev pub Knows : Way → Kept → SearchAddress → Search → Ascent → Bool → Purpose → Type 0
 Knows y k n s a opened Opening = IsEarly y opened
-Knows y k n s a opened Probing = (opened ≡ true) × (s.step ≡ Again) × (value_of n ≡ s.probe)
+Knows y k n s a opened Probing =
+    (opened ≡ true) × (y ≡ Fresh) × (s.step ≡ Again) × (value_of n ≡ s.probe)
 Knows y k n s a opened Hunting =
     (opened ≡ true) × IsSurvey y × (leads_to a ≡ Again) × (value_of n ≡ asked_next a)
 Knows y k n s a opened Visiting =
@@ -112,6 +113,7 @@ pub record IsUnstarted (m : Machine) : Type 0 where
   pub free : stage_of m.trace ≡ Free
   pub opening : m.course.purpose ≡ Opening
   pub fresh : m.course.way ≡ Fresh
+  pub first : m.course.from ≡ 0
 
 pub record IsSending (m : Machine) (f : Forward) : Type 0 where
   pub ready : IsReady m

@@ -6,6 +6,7 @@
 
 mod error;
 mod hunts;
+mod leg;
 mod machine;
 mod moments;
 mod purpose;
@@ -22,6 +23,7 @@ mod whole;
 
 pub use dali_script::{Due, End, Fault, Input, Order};
 pub use error::StepError;
+pub use leg::{Leg, Upward};
 pub use machine::Machine;
 pub use purpose::Purpose;
 pub use shorts::Shorts;

@@ -17,6 +17,7 @@ ghost use Rattle.dali_script.specs.declared.orders.Due.TheVariants as due;
 ghost use Rattle.dali_controller.specs.Course.{is_yes};
 ghost use Rattle.dali_controller.specs.Machine.{machine_lost};
 
+use crate::leg::Leg;
 use crate::purpose::Purpose;
 use crate::state::State;
 use crate::surveying::least_open;
@@ -45,7 +46,8 @@ impl State {
     ghost use Rattle.dali_controller.specs.States.{machine_with, course_of};
     ghost use Rattle.dali_controller.specs.Whole.{IsWhole};
     ghost use Rattle.dali_controller.specs.Moments.{IsHeard, IsBetween, Closes, Settles, IsMoment, Begun, Enrolled};
-    ghost use Rattle.dali_controller.specs.Moments.{IsStep, Draws};
+    ghost use Rattle.dali_controller.specs.Moments.{IsStep, Draws, is_searched_next};
+    ghost use Rattle.dali_controller.specs.Legs.{is_searching};
     ghost use Rattle.dali_controller.specs.Course.{opening, closing, going_on, turn_of, drawing};
     ghost use Rattle.dali_controller.specs.Next.{next_course, beginning, silenced, BeginsWith, draws, question};
     ghost use Rattle.dali_controller.specs.Machine.{machine_told};
@@ -80,7 +82,10 @@ impl State {
             (machine_with self.new kept.now) }
         ensures whole { IsWhole (machine_with self.new kept.now) }
     {
-        self.way = Way::Surveying;
+        self.leg = Leg::Asking {
+            from: 0,
+            silences: 0,
+        };
         self.go_on(kept)
     }
 
@@ -89,16 +94,25 @@ impl State {
     pub(crate) fn go_on(&mut self, kept: &Records<'_>) -> Order
         requires { IsBetween (machine_with self.old kept.now) }
 
-        ensures { Begun (machine_with self.old kept.now) (going_on kept.now self.old.opened (course_of self.old))
+        ensures { Begun (machine_with self.old kept.now)
+            (going_on kept.now (is_searching self.old.leg) (course_of self.old))
             result (machine_with self.new kept.now) }
     {
-        if self.opened {
-            return self.search_on(kept);
-        }
-        match self.way {
-            Way::Fresh => self.visit_or_open(kept),
-            Way::Surveying => self.ask_or_wake(kept),
-            Way::Drawing => self.open(kept),
+        match &mut self.leg {
+            Leg::Revisiting { from } => {
+                let from = *from;
+                self.visit_or_open(kept, from)
+            }
+            Leg::Asking { from, silences } => {
+                let (from, silences) = (*from, *silences);
+                self.ask_or_wake(kept, from, silences)
+            }
+            Leg::Searching(_) => self.search_anew(kept),
+            Leg::Hunting(up) => {
+                up.ascent.go_on();
+                let number = up.ascent.probe();
+                self.hunt(kept, number)
+            }
         }
     }
 
@@ -106,7 +120,7 @@ impl State {
     pub(crate) fn draws(&self, kept: &Records<'_>) -> bool
         ensures { result ≡ draws (machine_with self.now kept.now) }
     {
-        matches!(self.way, Way::Surveying) && least_open(kept, self.heard).is_some()
+        matches!(self.leg.way(), Way::Surveying) && least_open(kept, self.heard).is_some()
     }
 
     /// In a survey, where no more can be given under the old random addresses: gear draw new ones.
@@ -118,7 +132,7 @@ impl State {
     {
         let number = self.number;
         let order = self.begin(kept, Purpose::Opening, number);
-        self.way = Way::Drawing;
+        self.leg.note_draw();
         order
     }
 
@@ -126,7 +140,7 @@ impl State {
     #[tactic(auto, using(crate::proofs::Steps::opens))]
     pub(crate) fn open(&mut self, kept: &Records<'_>) -> Order
         requires between { IsBetween (machine_with self.old kept.now) }
-        requires opened { self.old.opened ≡ false }
+        requires early { is_searching self.old.leg ≡ false }
 
         ensures { Begun (machine_with self.old kept.now) (opening (course_of self.old))
             result (machine_with self.new kept.now) }
@@ -159,12 +173,28 @@ impl State {
         ensures whole { IsWhole (machine_with self.new kept.now) }
     {
         let stage = self.hear(kept, frame, heard);
-        self.after(kept, stage)
+        if self.is_searched_next(&stage) {
+            self.search_first(kept)
+        } else {
+            self.after(kept, stage)
+        }
     }
 
-    /// What follows at each stage of a transaction.
+    /// Whether gear are searched from now on: an opening is complete, or in a survey gear were woken.
+    fn is_searched_next(&self, stage: &Stage) -> bool
+        ensures { result ≡ is_searched_next stage.now self.now.purpose }
+    {
+        match *stage {
+            Stage::Opened => true,
+            Stage::Initialised => matches!(self.purpose, Purpose::Waking),
+            _ => false,
+        }
+    }
+
+    /// What follows at each stage of a transaction, but where gear are searched from now on.
     fn after(&mut self, kept: &Records<'_>, stage: Stage) -> Order
-        requires { IsHeard (machine_with self.old kept.now) stage }
+        requires heard { IsHeard (machine_with self.old kept.now) stage }
+        requires going { is_searched_next stage self.old.purpose ≡ false }
 
         ensures sent { (c : Command) → turn_of self.old.purpose self.old.number (stage_of self.old.trace) ≡ Some c
             → result ≡ order.Put LATER (frame_of c) }
@@ -189,6 +219,7 @@ impl State {
     fn over(&mut self, kept: &Records<'_>, stage: Stage) -> Order
         requires heard { IsHeard (machine_with self.old kept.now) stage }
         requires over { turn_of self.old.purpose self.old.number stage ≡ None }
+        requires going { is_searched_next stage self.old.purpose ≡ false }
 
         ensures told { (b n : ℕ) → stage_of self.old.trace ≡ Spelled b (Some n)
             → IsSought self.old.purpose self.old.number n → AfterFinding (machine_with self.old kept.now) b n result }
@@ -203,8 +234,6 @@ impl State {
     {
         match stage {
             Stage::Terminated => self.terminated(kept),
-            Stage::Initialised => self.woken(kept),
-            Stage::Opened => self.all_drawn(kept),
             Stage::Probed(_, heard) => self.probed(kept, heard),
             Stage::Hunted(sent, heard, left) => self.hunted(kept, sent, heard, left),
             Stage::Unnamed(number) => self.unnamed(kept, number),
@@ -216,7 +245,9 @@ impl State {
             Stage::Spelled(short, number) => self.resolved(kept, short, number),
             Stage::Free
             | Stage::InitialisedOnce
+            | Stage::Initialised
             | Stage::RandomisedOnce
+            | Stage::Opened
             | Stage::HighSent(_)
             | Stage::MiddleSent(..)
             | Stage::NumberSent(_)
@@ -235,25 +266,10 @@ impl State {
 
         ensures { IsMoment (machine_with self.old kept.now) result (machine_with self.new kept.now) }
     {
-        match self.purpose {
-            Purpose::Closing(end) => self.done(kept, end),
-            Purpose::Opening
-            | Purpose::Probing
-            | Purpose::Hunting
-            | Purpose::Visiting
-            | Purpose::Resolving(_)
-            | Purpose::Asking(_)
-            | Purpose::Waking => unreachable!(),
+        match self.purpose.end() {
+            Some(end) => self.done(kept, end),
+            None => unreachable!(),
         }
-    }
-
-    /// The opening is complete.
-    fn all_drawn(&mut self, kept: &Records<'_>) -> Order
-        requires { IsHeard (machine_with self.old kept.now) stage.Opened }
-
-        ensures { IsMoment (machine_with self.old kept.now) result (machine_with self.new kept.now) }
-    {
-        self.search_first(kept)
     }
 
     /// The visit led to no gear.
@@ -269,7 +285,7 @@ impl State {
         if self.silent == SILENT {
             return self.close(kept, End::GaveUp);
         }
-        self.ascent.begin_anew();
+        self.leg.begin_anew();
         self.go_on(kept)
     }
 

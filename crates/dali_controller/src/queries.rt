@@ -6,8 +6,10 @@ ghost use Rattle.dali_frame.specs.declared.numbers.SearchAddress.{SearchAddress}
 ghost use Rattle.dali_script.specs.declared.stage.Stage.TheVariants as stage;
 ghost use Rattle.dali_script.specs.Records.{Has};
 ghost use Rattle.dali_controller.specs.declared.purpose.Purpose.TheVariants as purpose;
+ghost use Rattle.dali_controller.specs.declared.leg.Leg.TheVariants as leg;
 ghost use Rattle.dali_controller.specs.declared.way.Way.TheVariants as way;
 
+use crate::leg::Leg;
 use crate::purpose::Purpose;
 use crate::state::State;
 use crate::surveying::next_asked;
@@ -16,6 +18,7 @@ use dali_script::{Order, Records};
 
 impl State {
     ghost use Rattle.dali_controller.specs.States.{machine_with, course_of};
+    ghost use Rattle.dali_controller.specs.Legs.{is_searching, way_on};
     ghost use Rattle.dali_controller.specs.Moments.{IsHeard, IsBetween, IsMoment, Begun};
     ghost use Rattle.dali_controller.specs.Course.{resolving, turn_of, taking, ask_or_wake, next_asked, waking};
     ghost use Rattle.dali_controller.specs.Next.{next_course, beginning};
@@ -23,18 +26,18 @@ impl State {
     ghost use Rattle.dali_script.specs.Stages.{stage_of};
 
     /// In a survey: the next short address is asked, or gear are woken.
-    pub(crate) fn ask_or_wake(&mut self, kept: &Records<'_>) -> Order
+    pub(crate) fn ask_or_wake(&mut self, kept: &Records<'_>, from: u8, silences: u8) -> Order
         requires between { IsBetween (machine_with self.old kept.now) }
-        requires opened { self.old.opened ≡ false }
-        requires surveying { self.old.way ≡ way.Surveying }
+        requires asking { self.old.leg ≡ leg.Asking from silences }
 
         ensures { Begun (machine_with self.old kept.now)
-            (ask_or_wake (course_of self.old) (next_asked kept.now self.old.from))
+            (ask_or_wake (course_of self.old) (next_asked kept.now from))
             result (machine_with self.new kept.now) }
     {
-        match next_asked(kept, self.from) {
+        match next_asked(kept, from) {
             Some(short) => {
-                self.from = short.number() + 1;
+                let from = short.number() + 1;
+                self.leg = Leg::Asking { from, silences };
                 self.ask(kept, short)
             }
             None => self.wake(kept),
@@ -45,8 +48,8 @@ impl State {
     #[tactic(auto, using(crate::proofs::Steps::asks))]
     fn ask(&mut self, kept: &Records<'_>, short: Short) -> Order
         requires between { IsBetween (machine_with self.old kept.now) }
-        requires opened { self.old.opened ≡ false }
-        requires surveying { self.old.way ≡ way.Surveying }
+        requires early { is_searching self.old.leg ≡ false }
+        requires surveying { way_on self.old.leg ≡ way.Surveying }
         requires range { short < 64 }
 
         ensures { Begun (machine_with self.old kept.now)
@@ -66,7 +69,7 @@ impl State {
 
         ensures { IsMoment (machine_with self.old kept.now) result (machine_with self.new kept.now) }
     {
-        if self.asked == 0 {
+        if self.leg.silences() == 0 {
             return self.go_on(kept);
         }
         let same = self.purpose;
@@ -78,24 +81,14 @@ impl State {
     #[tactic(auto, using(crate::proofs::Steps::wakes))]
     fn wake(&mut self, kept: &Records<'_>) -> Order
         requires between { IsBetween (machine_with self.old kept.now) }
-        requires opened { self.old.opened ≡ false }
-        requires surveying { self.old.way ≡ way.Surveying }
+        requires early { is_searching self.old.leg ≡ false }
+        requires surveying { way_on self.old.leg ≡ way.Surveying }
 
         ensures { Begun (machine_with self.old kept.now) (waking (course_of self.old))
             result (machine_with self.new kept.now) }
     {
         let number = self.number;
         self.begin(kept, Purpose::Waking, number)
-    }
-
-    /// Gear were woken.
-    pub(crate) fn woken(&mut self, kept: &Records<'_>) -> Order
-        requires heard { IsHeard (machine_with self.old kept.now) stage.Initialised }
-        requires over { turn_of self.old.purpose self.old.number stage.Initialised ≡ None }
-
-        ensures { IsMoment (machine_with self.old kept.now) result (machine_with self.new kept.now) }
-    {
-        self.search_first(kept)
     }
 
     /// The transaction that asks the gear with a short address for its random address.
@@ -107,7 +100,7 @@ impl State {
         number: SearchAddress,
     ) -> Order
         requires heard { IsHeard (machine_with self.old kept.now) (stage.Unanswered number) }
-        requires early { self.old.opened ≡ false }
+        requires early { is_searching self.old.leg ≡ false }
         requires reserved { Has kept.now.reserved (short, value_of number) }
 
         ensures { Begun (machine_with self.old kept.now) (resolving (course_of self.old) short number)

@@ -9,77 +9,80 @@ ghost use Rattle.dali_controller.specs.declared.way.Way.TheVariants as way;
 ghost use Rattle.dali_search.specs.declared.step.Step.TheVariants as search;
 ghost use Rattle.dali_controller.specs.Course.{is_yes};
 
+use crate::leg::{Leg, Upward};
 use crate::moments::is_yes;
 use crate::purpose::Purpose;
 use crate::state::State;
 use crate::way::Way;
-use dali_frame::{Answer, SearchAddress};
+use dali_frame::{Answer, Random24, SearchAddress};
 use dali_script::{End, Order, Records};
 use dali_search::{Ascent, Search, Step};
 
 impl State {
     ghost use Rattle.dali_controller.specs.States.{machine_with, course_of};
-    ghost use Rattle.dali_controller.specs.Moments.{IsHeard, IsBetween, Closes, IsMoment, Begun};
-    ghost use Rattle.dali_controller.specs.Course.{probing, searching_anew, searching_first, searching_on};
+    ghost use Rattle.dali_controller.specs.Legs.{is_searching, way_on, way_drawn, silences_on, search_on};
+    ghost use Rattle.dali_controller.specs.Moments.{IsHeard, IsBetween, Closes, IsMoment, Begun, machine_searching};
+    ghost use Rattle.dali_controller.specs.Course.{probing, searching_anew, searching_first, hunting_first};
     ghost use Rattle.dali_controller.specs.Next.{draws, draw_or_close};
 
-    /// Where gear are searched: a new search, or in a survey the one that goes up, above who was found last.
-    pub(crate) fn search_on(&mut self, kept: &Records<'_>) -> Order
-        requires between { IsBetween (machine_with self.old kept.now) }
-        requires opened { self.old.opened ≡ true }
-
-        ensures { Begun (machine_with self.old kept.now) (searching_on self.old.way (course_of self.old))
-            result (machine_with self.new kept.now) }
-    {
-        match self.way {
-            Way::Fresh => self.search_anew(kept),
-            Way::Surveying | Way::Drawing => {
-                self.ascent.go_on();
-                self.hunt(kept)
-            }
-        }
-    }
-
-    /// Gear are searched from now on.
+    /// Gear are searched from now on: each search begins anew, but in a survey, where one goes up.
     pub(crate) fn search_first(&mut self, kept: &Records<'_>) -> Order
         requires between { IsBetween (machine_with self.old kept.now) }
-        requires opened { self.old.opened ≡ true }
+        requires rested { silences_on self.old.leg ≡ 0 }
 
-        ensures { Begun (machine_with self.old kept.now) (searching_first self.old.way (course_of self.old))
+        ensures { Begun (machine_searching (machine_with self.old kept.now))
+            (searching_first (way_on self.old.leg) (course_of self.old))
             result (machine_with self.new kept.now) }
     {
-        match self.way {
+        match self.leg.way() {
             Way::Fresh => self.search_anew(kept),
-            Way::Surveying | Way::Drawing => {
-                self.ascent = Ascent::new();
-                self.hunt(kept)
-            }
+            Way::Surveying => self.hunt_first(kept, false),
+            Way::Drawing => self.hunt_first(kept, true),
         }
     }
 
-    fn search_anew(&mut self, kept: &Records<'_>) -> Order
+    /// After a start: a new search.
+    pub(crate) fn search_anew(&mut self, kept: &Records<'_>) -> Order
         requires between { IsBetween (machine_with self.old kept.now) }
-        requires opened { self.old.opened ≡ true }
+        requires fresh { way_on self.old.leg ≡ way.Fresh }
 
-        ensures { Begun (machine_with self.old kept.now) (searching_anew (course_of self.old))
+        ensures { Begun (machine_searching (machine_with self.old kept.now)) (searching_anew (course_of self.old))
             result (machine_with self.new kept.now) }
     {
-        self.search = Search::new();
-        self.probe(kept)
+        let search = Search::new();
+        let number = search.probe();
+        self.leg = Leg::Searching(search);
+        self.probe(kept, number)
+    }
+
+    /// In a survey: a search that has found nobody. Whether its gear drew new random addresses is told.
+    fn hunt_first(&mut self, kept: &Records<'_>, drew: bool) -> Order
+        requires between { IsBetween (machine_with self.old kept.now) }
+        requires rested { silences_on self.old.leg ≡ 0 }
+        requires drawn { way_on self.old.leg ≡ way_drawn drew }
+
+        ensures { Begun (machine_searching (machine_with self.old kept.now)) (hunting_first (course_of self.old))
+            result (machine_with self.new kept.now) }
+    {
+        let ascent = Ascent::new();
+        let number = ascent.probe();
+        self.leg = Leg::Hunting(Upward { ascent, drew });
+        self.hunt(kept, number)
     }
 
     /// The transaction that asks whether some gear is at most the search's number.
     #[tactic(auto, using(crate::proofs::Steps::probes))]
-    pub(crate) fn probe(&mut self, kept: &Records<'_>) -> Order
+    pub(crate) fn probe(&mut self, kept: &Records<'_>, number: Random24) -> Order
         requires between { IsBetween (machine_with self.old kept.now) }
-        requires opened { self.old.opened ≡ true }
-        requires running { self.old.search.step ≡ search.Again }
+        requires opened { is_searching self.old.leg ≡ true }
+        requires fresh { way_on self.old.leg ≡ way.Fresh }
+        requires running { (search_on self.old.leg).step ≡ search.Again }
+        requires asked { number ≡ (search_on self.old.leg).probe }
 
         ensures { Begun (machine_with self.old kept.now) (probing (course_of self.old))
             result (machine_with self.new kept.now) }
     {
-        let number = SearchAddress::of(self.search.probe());
-        self.begin(kept, Purpose::Probing, number)
+        self.begin(kept, Purpose::Probing, SearchAddress::of(number))
     }
 
     /// COMPARE was sent, and this was heard.
@@ -88,8 +91,14 @@ impl State {
 
         ensures { IsMoment (machine_with self.old kept.now) result (machine_with self.new kept.now) }
     {
-        match self.search.answer(is_yes(heard)) {
-            Step::Again => self.probe(kept),
+        let Leg::Searching(search) = &mut self.leg else {
+            unreachable!()
+        };
+        match search.answer(is_yes(heard)) {
+            Step::Again => {
+                let number = search.probe();
+                self.probe(kept, number)
+            }
             Step::Found(found) => self.visit(kept, found),
             Step::Nobody => self.nobody(kept),
         }

@@ -1,4 +1,4 @@
-ghost use Rattle.std.specs.Prelude.{◌≡◌, ◌+◌, ◌<◌, ◌||◌, Some};
+ghost use Rattle.std.specs.Prelude.{◌≡◌, ◌+◌, ◌<◌, ◌||◌, true, false, Some};
 ghost use Rattle.dali_frame.specs.Priority.{FIRST, LATER};
 ghost use Rattle.dali_special.specs.Command.{frame_of};
 ghost use Rattle.dali_frame.specs.declared.numbers.SearchAddress.{SearchAddress};
@@ -12,16 +12,15 @@ ghost use Rattle.dali_controller.specs.declared.purpose.Purpose.TheVariants as p
 ghost use Rattle.dali_script.specs.Due.{frame_put};
 ghost use Rattle.dali_controller.specs.Machine.{machine_told, is_complete, is_ended, is_passed_by, tries_after};
 ghost use Rattle.dali_controller.specs.Machine.{silent_after};
-ghost use Rattle.dali_controller.specs.Machine.{opened_after, woken_after, heard_after, asked_after};
+ghost use Rattle.dali_controller.specs.Machine.{heard_after, asked_after};
 ghost use Rattle.dali_controller.specs.Machine.{marked_at, asked_at};
 ghost use Rattle.dali_controller.specs.Orders.{machine_ordered, AfterMaskOn};
 
+use crate::leg::Leg;
 use crate::purpose::{Purpose, byte_to_send};
 use crate::shorts::Shorts;
-use crate::way::Way;
 use dali_frame::{Answer, Forward, Priority, Random24, SearchAddress};
 use dali_script::{End, Fault, Finding, Order, Record, Records, Stage, Trace};
-use dali_search::{Ascent, Search};
 use dali_special::Command;
 
 /// How often a short address is asked that is silent.
@@ -45,29 +44,20 @@ pub struct State {
     pub tries: u8,
     /// How many searches in a row led to no gear.
     pub silent: u8,
-    /// Whether an opening was complete, or in a survey gear were woken: gear are searched.
-    pub opened: bool,
     /// What the running transaction is for.
     pub purpose: Purpose,
     /// The search address of the running transaction, where it has one.
     pub number: SearchAddress,
-    /// The search for the least random address.
-    pub search: Search,
-    /// In a survey the search that goes up from the random address that was found last.
-    pub ascent: Ascent,
-    /// In the visits before the opening, and while a survey asks, the first short address that was not looked at.
-    pub from: u8,
-    /// How it began, and how far a survey has come.
-    pub way: Way,
+    /// How far it is on its way.
+    pub leg: Leg,
     /// Under which short addresses a survey heard somebody whose random address it does not know.
     pub heard: Shorts,
-    /// How often in a row silence was heard under the short address that a survey asks: less than three times.
-    pub asked: u8,
 }
 
 impl State {
     ghost use Rattle.dali_controller.specs.States.{machine_with, course_of};
-    ghost use Rattle.dali_controller.specs.Moments.{IsHeard, Begins};
+    ghost use Rattle.dali_controller.specs.Legs.{way_on, is_searching, silences_on};
+    ghost use Rattle.dali_controller.specs.Moments.{IsHeard, Begins, is_searched_next, machine_searching};
     ghost use Rattle.dali_controller.specs.Whole.{IsWhole, Sends, IsReady};
     ghost use Rattle.dali_controller.specs.Moments.{IsNext, Begun, AsksOn};
     ghost use Rattle.dali_controller.specs.Course.{closing_of, taking, byte_to_send};
@@ -83,15 +73,10 @@ impl State {
             last: self.last,
             tries: self.tries,
             silent: self.silent,
-            opened: self.opened,
             purpose: self.purpose,
             number: self.number,
-            search: self.search.copy(),
-            ascent: self.ascent.copy(),
-            from: self.from,
-            way: self.way,
+            leg: self.leg.copy(),
             heard: self.heard,
-            asked: self.asked,
         }
     }
 
@@ -131,10 +116,12 @@ impl State {
     /// The silent searches, with the running transaction.
     fn silent_after(&self) -> u8
         requires { self.now.silent < 255 }
-        ensures { result ≡ silent_after (stage_of self.now.trace) self.now.opened self.now.silent }
+        ensures { result ≡ silent_after (stage_of self.now.trace) (is_searching self.now.leg) self.now.silent }
     {
         match self.trace.stage() {
-            Stage::Unanswered(_) | Stage::Inconclusive(..) if self.opened => self.silent + 1,
+            Stage::Unanswered(_) | Stage::Inconclusive(..) if self.leg.is_searching() => {
+                self.silent + 1
+            }
             Stage::Withdrawn(..) => 0,
             _ => self.silent,
         }
@@ -155,18 +142,6 @@ impl State {
                 .is_none()
     }
 
-    /// Whether gear are searched, with the running transaction.
-    fn opened_after(&self) -> bool
-        ensures { result ≡ woken_after (stage_of self.now.trace) self.now.purpose
-            (opened_after (stage_of self.now.trace) self.now.opened) }
-    {
-        match self.trace.stage() {
-            Stage::Opened => true,
-            Stage::Initialised => self.opened || matches!(self.purpose, Purpose::Waking),
-            _ => self.opened,
-        }
-    }
-
     /// Whom a survey has heard, with the running transaction, after whose last frame this was heard.
     fn heard_after(&self, heard: Answer) -> Shorts
         ensures { result ≡ heard_after self.now.purpose (stage_of self.now.trace) heard self.now.heard }
@@ -180,12 +155,12 @@ impl State {
 
     /// How often in a row silence was heard, with the running transaction, after whose last frame this was heard.
     fn asked_after(&self, heard: Answer) -> u8
-        ensures { result ≡ asked_after self.now.purpose (stage_of self.now.trace) heard self.now.asked }
+        ensures { result ≡ asked_after self.now.purpose (stage_of self.now.trace) heard (silences_on self.now.leg) }
     {
         match self.purpose {
-            Purpose::Asking(_) => asked_at(&self.trace.stage(), heard, self.asked),
+            Purpose::Asking(_) => asked_at(&self.trace.stage(), heard, self.leg.silences()),
             // No other transaction asks a short address.
-            _ => self.asked,
+            _ => 0,
         }
     }
 
@@ -198,22 +173,27 @@ impl State {
         }
     }
 
-    /// Takes what was heard after the frame that was put, and says how far the transaction is.
+    /// Takes what was heard after the frame that was put, and says how far the transaction is. Where gear are searched
+    /// from now on, the leg is still the one before: the next order begins the search.
     pub(crate) fn hear(&mut self, kept: &Records<'_>, frame: Forward, heard: Answer) -> Stage
         requires whole { IsWhole (machine_with self.old kept.now) }
         requires put { frame_put self.old.last ≡ Some frame }
 
-        ensures told { machine_with self.new kept.now
+        ensures told { is_searched_next result self.new.purpose ≡ false → machine_with self.new kept.now
             ≡ machine_told (machine_with self.old kept.now) (input.Heard heard) }
+        ensures searched { is_searched_next result self.new.purpose ≡ true
+            → machine_searching (machine_with self.new kept.now)
+            ≡ machine_told (machine_with self.old kept.now) (input.Heard heard) }
+        ensures rested { is_searched_next result self.new.purpose ≡ true → silences_on self.new.leg ≡ 0 }
         ensures heard { IsHeard (machine_with self.new kept.now) result }
     {
         self.trace.push(frame, heard);
         self.note_finding();
         self.tries = self.tries_after(kept);
         self.silent = self.silent_after();
-        self.opened = self.opened_after();
         self.heard = self.heard_after(heard);
-        self.asked = self.asked_after(heard);
+        let silences = self.asked_after(heard);
+        self.leg.note_silences(silences);
         self.trace.stage()
     }
 
@@ -223,7 +203,7 @@ impl State {
         requires sends { Sends kept.now self.old.number self.old.purpose (stage_of self.old.trace) command }
         requires later { stage_of self.old.trace ≡ Free → ⊥ }
         requires masked { (r : SearchAddress) → stage_of self.old.trace ≡ Unnamed r
-            → AfterMaskOn self.old.way (machine_with self.old kept.now) (course_of self.old) r
+            → AfterMaskOn (way_on self.old.leg) (machine_with self.old kept.now) (course_of self.old) r
             (order.Put LATER (frame_of command)) }
 
         ensures order { result ≡ order.Put LATER (frame_of command) }

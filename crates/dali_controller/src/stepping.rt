@@ -4,13 +4,12 @@ ghost use Rattle.dali_script.specs.Due.{due_after, accepts, record_ordered};
 ghost use Rattle.dali_controller.specs.Orders.{IsGiven, machine_after};
 
 use crate::error::StepError;
+use crate::leg::Leg;
 use crate::purpose::Purpose;
 use crate::shorts::Shorts;
 use crate::state::State;
-use crate::way::Way;
 use dali_frame::SearchAddress;
 use dali_script::{Due, Input, Order, Record, Records, Trace};
-use dali_search::{Ascent, Search};
 
 impl State {
     ghost use Rattle.dali_controller.specs.Machine.{at_first};
@@ -30,15 +29,10 @@ impl State {
             last: None,
             tries: 0,
             silent: 0,
-            opened: false,
             purpose: Purpose::Opening,
             number: SearchAddress::MASK,
-            search: Search::new(),
-            ascent: Ascent::new(),
-            from: 0,
-            way: Way::Fresh,
+            leg: Leg::Revisiting { from: 0 },
             heard: Shorts::NONE,
-            asked: 0,
         }
     }
 

@@ -6,8 +6,9 @@ ghost use Rattle.dali_frame.specs.declared.numbers.SearchAddress.{SearchAddress}
 ghost use Rattle.dali_special.specs.declared.command.Command.{Command};
 ghost use Rattle.dali_script.specs.declared.stage.Stage.TheVariants as stage;
 ghost use Rattle.dali_script.specs.Records.{Has, HasRandom, IsKept};
-ghost use Rattle.dali_controller.specs.declared.way.Way.TheVariants as way;
+ghost use Rattle.dali_controller.specs.declared.leg.Leg.TheVariants as leg;
 
+use crate::leg::Leg;
 use crate::purpose::Purpose;
 use crate::state::State;
 use crate::surveying::{is_anothers, least_open};
@@ -19,6 +20,7 @@ use dali_special::Command;
 
 impl State {
     ghost use Rattle.dali_controller.specs.States.{machine_with, course_of};
+    ghost use Rattle.dali_controller.specs.Legs.{is_searching, way_on};
     ghost use Rattle.dali_controller.specs.Moments.{IsHeard, IsBetween, IsMoment, Begun, IsFirstFree, IsUngiven};
     ghost use Rattle.dali_controller.specs.Course.{visiting, visit_or_opening, next_unfinished, address_for};
     ghost use Rattle.dali_controller.specs.Next.{draws};
@@ -26,17 +28,17 @@ impl State {
     ghost use Rattle.dali_script.specs.declared.records.Record.TheVariants.{Reserve};
 
     /// Before the opening was complete: a visit to the next unfinished reservation, or the opening.
-    pub(crate) fn visit_or_open(&mut self, kept: &Records<'_>) -> Order
+    pub(crate) fn visit_or_open(&mut self, kept: &Records<'_>, from: u8) -> Order
         requires between { IsBetween (machine_with self.old kept.now) }
-        requires opened { self.old.opened ≡ false }
+        requires revisiting { self.old.leg ≡ leg.Revisiting from }
 
         ensures { Begun (machine_with self.old kept.now)
-            (visit_or_opening (course_of self.old) (next_unfinished kept.now self.old.from))
+            (visit_or_opening (course_of self.old) (next_unfinished kept.now from))
             result (machine_with self.new kept.now) }
     {
-        match next_unfinished(kept, self.from) {
+        match next_unfinished(kept, from) {
             Some((from, number)) => {
-                self.from = from;
+                self.leg = Leg::Revisiting { from };
                 self.visit(kept, number)
             }
             None => self.open(kept),
@@ -48,7 +50,7 @@ impl State {
     pub(crate) fn visit(&mut self, kept: &Records<'_>, number: Random24) -> Order
         requires between { IsBetween (machine_with self.old kept.now) }
         requires drawn { number < MASK24 }
-        requires reserved { self.old.opened ≡ false → HasRandom kept.now.reserved number }
+        requires reserved { is_searching self.old.leg ≡ false → HasRandom kept.now.reserved number }
 
         ensures { Begun (machine_with self.old kept.now) (visiting (course_of self.old) number)
             result (machine_with self.new kept.now) }
@@ -97,11 +99,9 @@ impl State {
     fn is_withheld(&self, kept: &Records<'_>, address: Short, random: Random24) -> bool
         ensures { result ≡ is_withheld (machine_with self.now kept.now) address random }
     {
-        match self.way {
-            Way::Fresh => false,
-            Way::Surveying | Way::Drawing => {
-                self.opened && is_anothers(kept, self.heard, address, random)
-            }
+        match self.leg {
+            Leg::Hunting(_) => is_anothers(kept, self.heard, address, random),
+            Leg::Revisiting { .. } | Leg::Asking { .. } | Leg::Searching(_) => false,
         }
     }
 
@@ -121,9 +121,9 @@ impl State {
 
     /// The address that is reserved next.
     fn first_free(&self, kept: &Records<'_>) -> Option<Short>
-        ensures { IsFirstFree self.now.way kept.now self.now.heard result }
+        ensures { IsFirstFree (way_on self.now.leg) kept.now self.now.heard result }
     {
-        match self.way {
+        match self.leg.way() {
             Way::Fresh => kept.first_free(),
             Way::Surveying | Way::Drawing => least_open(kept, self.heard),
         }
@@ -133,8 +133,8 @@ impl State {
     /// left.
     fn leave(&mut self, kept: &Records<'_>, number: SearchAddress) -> Order
         requires heard { IsHeard (machine_with self.old kept.now) (stage.Unnamed number) }
-        requires opened { self.old.opened ≡ true }
-        requires ungiven { IsUngiven self.old.way (machine_with self.old kept.now) number }
+        requires opened { is_searching self.old.leg ≡ true }
+        requires ungiven { IsUngiven (way_on self.old.leg) (machine_with self.old kept.now) number }
 
         ensures { IsMoment (machine_with self.old kept.now) result (machine_with self.new kept.now) }
     {
@@ -153,7 +153,7 @@ impl State {
         ensures { IsMoment (machine_with self.old kept.now) result (machine_with self.new kept.now) }
     {
         match kept.reserved_for(number.value()) {
-            Some(short) if !self.opened => self.resolve(kept, short, number),
+            Some(short) if !self.leg.is_searching() => self.resolve(kept, short, number),
             _ => self.silenced(kept),
         }
     }

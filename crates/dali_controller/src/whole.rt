@@ -1,6 +1,6 @@
 //! Whether a state is that of a machine between two inputs, with its records.
 
-ghost use Rattle.std.specs.Prelude.{◌≡◌, ◌↔◌, ◌<◌, ◌⊎◌, Some, IsTrue};
+ghost use Rattle.std.specs.Prelude.{◌≡◌, ◌↔◌, ◌<◌, ◌⊎◌, true, false, Some, IsTrue};
 ghost use Rattle.dali_special.specs.Command.{command_of};
 ghost use Rattle.dali_script.specs.Records.{Fits, MayAdd, Has, HasRandom};
 ghost use Rattle.dali_script.specs.Stages.{stage_of};
@@ -9,10 +9,10 @@ ghost use Rattle.dali_controller.specs.declared.purpose.Purpose.TheVariants.{Ope
 ghost use Rattle.dali_controller.specs.declared.way.Way.TheVariants.{Fresh};
 ghost use Rattle.dali_controller.specs.Whole.{IsWithinSilence, IsMet};
 
+use crate::leg::Leg;
 use crate::moments::{SILENT, TRIES};
 use crate::purpose::{Purpose, byte_to_send, bytes_to_send};
 use crate::state::State;
-use crate::way::Way;
 use dali_frame::{Forward, Random24, SearchAddress, Short};
 use dali_script::{End, Order, Record, Records, Stage};
 use dali_search::Step;
@@ -20,6 +20,7 @@ use dali_special::Command;
 
 impl State {
     ghost use Rattle.dali_controller.specs.States.{machine_with};
+    ghost use Rattle.dali_controller.specs.Legs.{way_on, is_searching, from_on, search_on, ascent_on};
     ghost use Rattle.dali_controller.specs.Course.{turn_of, byte_to_send, bytes_to_send};
     ghost use Rattle.dali_controller.specs.Whole.{IsWhole, IsReady, Knows, Sends, IsChosen};
 
@@ -42,9 +43,10 @@ impl State {
 
     /// Whether its transaction is to be the opening, of a machine that is to be started.
     fn is_unstarted(&self) -> bool
-        ensures { IsTrue result ↔ ((self.now.purpose ≡ Opening) × (self.now.way ≡ Fresh)) }
+        ensures { IsTrue result ↔ ((self.now.purpose ≡ Opening) × (way_on self.now.leg ≡ Fresh)
+            × (from_on self.now.leg ≡ 0)) }
     {
-        matches!(self.purpose, Purpose::Opening) && matches!(self.way, Way::Fresh)
+        matches!(self.purpose, Purpose::Opening) && matches!(self.leg, Leg::Revisiting { from: 0 })
     }
 
     /// Whether no frame of a transaction was sent.
@@ -70,32 +72,34 @@ impl State {
     /// Whether what is known while its transaction runs is so.
     fn knows(&self, kept: &Records<'_>) -> bool
         ensures { IsTrue result
-            ↔ Knows self.now.way kept.now self.now.number self.now.search self.now.ascent self.now.opened
-            self.now.purpose }
+            ↔ Knows (way_on self.now.leg) kept.now self.now.number (search_on self.now.leg)
+            (ascent_on self.now.leg) (is_searching self.now.leg) self.now.purpose }
     {
         let number = self.number.value();
         match self.purpose {
-            Purpose::Opening => !self.opened || !matches!(self.way, Way::Fresh),
-            Purpose::Probing => {
-                self.opened && self.search.step() == Step::Again && number == self.search.probe()
-            }
-            Purpose::Hunting => {
-                self.opened
-                    && !matches!(self.way, Way::Fresh)
-                    && self.ascent.step() == Step::Again
-                    && number == self.ascent.probe()
-            }
+            Purpose::Opening => !matches!(self.leg, Leg::Searching(_)),
+            Purpose::Probing => match &self.leg {
+                Leg::Searching(search) => search.step() == Step::Again && number == search.probe(),
+                Leg::Revisiting { .. } | Leg::Asking { .. } | Leg::Hunting(_) => false,
+            },
+            Purpose::Hunting => match &self.leg {
+                Leg::Hunting(up) => up.ascent.step() == Step::Again && number == up.ascent.probe(),
+                Leg::Revisiting { .. } | Leg::Asking { .. } | Leg::Searching(_) => false,
+            },
             Purpose::Visiting => {
-                number < Random24::MASK && (self.opened || self.is_visited(kept, number))
+                number < Random24::MASK
+                    && (self.leg.is_searching() || self.is_visited(kept, number))
             }
             Purpose::Resolving(short) => {
-                !self.opened && number < Random24::MASK && self.is_reserved(kept, short, number)
+                !self.leg.is_searching()
+                    && number < Random24::MASK
+                    && self.is_reserved(kept, short, number)
             }
-            Purpose::Closing(_) => self.opened,
+            Purpose::Closing(_) => self.leg.is_searching(),
             Purpose::Asking(short) => {
-                !self.opened && matches!(self.way, Way::Surveying) && short.number() < 64
+                matches!(self.leg, Leg::Asking { .. }) && short.number() < 64
             }
-            Purpose::Waking => !self.opened && matches!(self.way, Way::Surveying),
+            Purpose::Waking => matches!(self.leg, Leg::Asking { .. }),
         }
     }
 

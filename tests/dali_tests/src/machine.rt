@@ -4,9 +4,10 @@
 use super::values::InNumbers::{Enrol, Release, Reserve};
 use super::values::Ordered::{Commit, Done, NotDue, Put};
 use super::values::{InNumbers, Ordered, are_pairs, forward, kept_of, same};
-use dali_controller::{Machine, Purpose, State, StepError};
+use dali_controller::{Leg, Machine, Purpose, State, StepError};
 use dali_frame::{Answer, Priority, SearchAddress};
 use dali_script::{End, Input, Kept, Order};
+use dali_search::Search;
 use std::process::Abort;
 use std::test::Fail;
 
@@ -401,7 +402,7 @@ fn make(change: Change, state: &mut State) {
         Change::Nothing => {}
         Change::Tries => state.tries = 8,
         Change::Silent => state.silent = 16,
-        Change::Opened => state.opened = true,
+        Change::Opened => state.leg = Leg::Searching(Search::new()),
         Change::Purpose => state.purpose = Purpose::Probing,
         Change::Number => state.number = SearchAddress::MASK,
         Change::Last(order) => state.last = order,

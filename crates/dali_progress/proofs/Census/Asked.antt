@@ -1,5 +1,6 @@
 use Rattle.std.proofs.Common.{◌≡◌, ℕ, ◌+◌, ◌<◌, ◌≤◌, ◌⊎◌, inl, inr, Bool, true, false, [], refl, sym, ap, subst, ◌∙◌, arith, Option, Some, None}
-use Rattle.std.specs.Prelude.{◌==◌, nat_lt, zero, suc}
+use Rattle.std.specs.Prelude.{◌==◌, ◌-◌, nat_lt, zero, suc}
+use Rattle.std.proofs.Math.Nat.{mul-le-mul_left}
 use Rattle.std.proofs.lemmas.Bool.Decides.{nat_tests}
 use Rattle.dali_frame.specs.declared.frames.Answer.{Answer}
 use Rattle.dali_frame.specs.declared.frames.Answer.TheVariants.{Silence, Byte, Damaged}
@@ -70,9 +71,11 @@ moved_left u t n d is free moves = go moves.way where
         none _ asks = refl
 
         on : (last : Option Order)
-            → ((d.from ≡ t.course.from) × ((k j : ℕ) (s : Stage) → of_purpose k j d.purpose s ≡ 0)) ⊎ ((t.course.from < d.from) × (d.from ≤ 64))
+            → ((64 - d.from ≤ 64 - t.course.from) × ((k j : ℕ) (s : Stage) → of_purpose k j d.purpose s ≡ 0)) ⊎ ((t.course.from < d.from) × (d.from ≤ 64))
             → beyond u d.from + of_last u n last ≤ beyond u t.course.from
-        on last (inl same) = rw (same.0, none last same.1) (omega arith)
+        on last (inl same) =
+            let fewer : beyond u d.from ≤ beyond u t.course.from = mul-le-mul_left (u + 2) same.0 in
+            rw (none last same.1) (omega (arith, fewer))
         on last (inr less) =
             let fewer : beyond u d.from + (u + 2) ≤ beyond u t.course.from = beyond_less u t.course.from d.from less.0 less.1 in
             let some : of_last u n last ≤ u + 2 = most last in

@@ -281,7 +281,7 @@ asked_at_small _ h k = omega arith
 
 asked_after_small : (p : Purpose) (s : Stage) (h : Answer) (k : ℕ) → k ≤ 2 → asked_after p s h k ≤ 2
 asked_after_small (Asking a) s h k small = asked_at_small s h k
-asked_after_small _ s h k small = small
+asked_after_small _ s h k small = omega arith
 
 told_small : (m : Machine) (i : Input) → m.asked ≤ 2 → (machine_told m i).asked ≤ 2
 told_small m (input.Heard h) small = go (frame_put m.last) where

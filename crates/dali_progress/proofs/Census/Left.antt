@@ -22,7 +22,7 @@ use Rattle.dali_controller.specs.declared.purpose.Purpose.TheVariants.{Asking}
 use Rattle.dali_controller.specs.declared.way.Way.{Way}
 use Rattle.dali_controller.specs.declared.way.Way.TheVariants.{Fresh, Surveying, Drawing}
 use Rattle.dali_controller.specs.Course.{Course, address_for, is_asked, asked_among, next_asked, is_yes, closing, going_on, going_on_early, ask_or_wake}
-use Rattle.dali_controller.specs.Course.{hunting_first, hunting_on, searching_first, searching_on, hunted, missed}
+use Rattle.dali_controller.specs.Course.{hunting_on, searching_first, searching_on, hunted, missed}
 use Rattle.dali_controller.specs.Machine.{Machine}
 use Rattle.dali_controller.specs.Next.{begins_at, goes_on_to, at_rest, asked_once, probed_to, draw_or_close, draws, silenced, unanswered, hunted_in, hunted_to}
 use Rattle.dali_controller.specs.Next.{goes_on_anew}
@@ -90,13 +90,16 @@ waits_least u (suc (suc k)) one = one
 
 -- ---------------------------------------------------------------- which transaction begins
 
--- a course that asks nothing, or asks an address further on
+-- a course that asks nothing, and no more later, or asks an address further on
 pub record Moves (c d : Course) : Type 0 where
   pub way : (d.way ≡ Drawing) ⊎ (d.way ≡ Surveying)
-  pub on : ((d.from ≡ c.from) × ((u k : ℕ) (s : Stage) → of_purpose u k d.purpose s ≡ 0)) ⊎ ((c.from < d.from) × (d.from ≤ 64))
+  pub on : ((64 - d.from ≤ 64 - c.from) × ((u k : ℕ) (s : Stage) → of_purpose u k d.purpose s ≡ 0)) ⊎ ((c.from < d.from) × (d.from ≤ 64))
+
+same_later : (n m : ℕ) → n ≡ m → 64 - n ≤ 64 - m
+same_later n m is = rw is (omega arith)
 
 pub quiet : (c d : Course) → c.way ≡ Surveying → d.way ≡ c.way → d.from ≡ c.from → ((u k : ℕ) (s : Stage) → of_purpose u k d.purpose s ≡ 0) → Moves c d
-quiet c d is way from none = record { way = inr (way ∙ is); on = inl (from, none) }
+quiet c d is way from none = record { way = inr (way ∙ is); on = inl (same_later d.from c.from from, none) }
 
 asked_within : (k : Kept) (n from a : ℕ) → asked_among k n from ≡ Some a → (from ≤ a) × (a < from + n)
 asked_within k zero from a e = absurd (cc)
@@ -123,7 +126,7 @@ pub goes_moves : (t : Machine) → t.course.way ≡ Surveying → Moves t.course
 goes_moves t is = going_moves t.kept t.opened t.course is
 
 closes_moves : (b : Bool) (c d : Course) (e : End) → c.way ≡ Surveying → d.way ≡ c.way → d.from ≡ c.from → Moves c (draw_or_close b d e)
-closes_moves true c d e is way from = record { way = inl refl; on = inl (from, λ u n s. refl) }
+closes_moves true c d e is way from = record { way = inl refl; on = inl (same_later d.from c.from from, λ u n s. refl) }
 closes_moves false c d e is way from = quiet c (draw_or_close false d e) is way from (λ u n s. refl)
 
 probed_moves : (t : Machine) (h : Answer) → t.course.way ≡ Surveying → Moves t.course (begins_at t (stage.Probed (record { high = 0; middle = 0; low = 0 }) h))
@@ -153,11 +156,13 @@ hunted_quiet t h is = go (leads_to (hunted t.course h).ascent) where
   go Nobody = closes (draws t)
 
 hunted_moves : (t : Machine) (h : Answer) → t.course.way ≡ Surveying → Moves t.course (hunted_in t h)
-hunted_moves t h is = let still = hunted_quiet t h is in record { way = still.way; on = inl (still.from, still.calm) }
+hunted_moves t h is =
+    let still = hunted_quiet t h is in
+    record { way = still.way; on = inl (same_later (hunted_in t h).from t.course.from still.from, still.calm) }
 
 first_moves : (t : Machine) → t.course.way ≡ Surveying → Moves t.course (searching_first t.course.way t.course)
 first_moves t is =
-    subst (λ y. Moves t.course (searching_first y t.course)) (sym is) (quiet t.course (hunting_first t.course) is refl refl (λ u k s. refl))
+    subst (λ y. Moves t.course (searching_first y t.course)) (sym is) (record { way = inr is; on = inl (omega arith, λ u k s. refl) })
 
 silenced_moves : (t : Machine) → t.course.way ≡ Surveying → Moves t.course (silenced t)
 silenced_moves t is = go (t.silent == 16) where

@@ -118,8 +118,8 @@ heard_counted U n m h p f b o purpose last whole bound may = go hears.at where
         next none count (inl zero) = inl (count ∙ zero)
         next none count (inr more) = silent is none (count ∙ more)
 
--- whether a short address is asked, or the count stays
-asked_or : (p : Purpose) → ((b : ℕ) × (p ≡ Asking b)) ⊎ ((s : Stage) (h : Answer) (k : ℕ) → asked_after p s h k ≡ k)
+-- whether a short address is asked, or nothing is counted
+asked_or : (p : Purpose) → ((b : ℕ) × (p ≡ Asking b)) ⊎ ((s : Stage) (h : Answer) (k : ℕ) → asked_after p s h k ≡ 0)
 asked_or (Asking b) = inl (b, refl)
 asked_or _ = inr (λ s h k. refl)
 
@@ -133,10 +133,10 @@ heard_on U n m h p f o last whole bound was may = go was where
       absurd (over_ends m.last (input.Heard h) ends (ap (λ l. accepts (due_after l) (input.Heard h)) last))
   go (inr (inr (b, purpose, put, less))) = heard_counted U n m h p f b o purpose last whole (bound b purpose) may
   go (inl zero) = by (asked_or m.course.purpose) where
-    by : ((b : ℕ) × (m.course.purpose ≡ Asking b)) ⊎ ((s : Stage) (h : Answer) (k : ℕ) → asked_after m.course.purpose s h k ≡ k)
+    by : ((b : ℕ) × (m.course.purpose ≡ Asking b)) ⊎ ((s : Stage) (h : Answer) (k : ℕ) → asked_after m.course.purpose s h k ≡ 0)
         → IsCounted U n (machine_ordered (machine_heard m (Some f) h) o)
     by (inl (b, purpose)) = heard_counted U n m h p f b o purpose last whole (bound b purpose) may
-    by (inr same) = inl (same (stage_of (machine_heard m (Some f) h).trace) h m.asked ∙ zero)
+    by (inr none) = inl (none (stage_of (machine_heard m (Some f) h).trace) h m.asked)
 
 -- ---------------------------------------------------------------- nothing was heard
 

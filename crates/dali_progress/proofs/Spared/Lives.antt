@@ -93,6 +93,7 @@ first_whole id kept = record {
   free = stage_none;
   opening = refl;
   fresh = refl;
+  first = refl;
 }
 
 pub lives_first : (U : ℕ → Type 0) (z : Block) (n : ℕ → ℕ) (k : Controller) (id : ℕ) (kept : Kept) → kept.block ≡ z

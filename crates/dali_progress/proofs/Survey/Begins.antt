@@ -366,7 +366,7 @@ pub hunts_first : (start : Begun) (t : Machine) (o : Order) (y : Way) (rest : �
     → AreTabled (unseen start.gear) t.kept.enrolled (searched_by y gs)
     → 106 * count_by is_wanted (searched_by y gs) + 10 ≤ rest → rest + frames_after y start gs ≤ left → IsNext start (machine_ordered t o) o gs left
 hunts_first start t o y rest gs left calm is next way other opened own settled ready unnamed tabled enough frames =
-    hunts_by start t o (record t.course { ascent = ascent_at_first }) y rest gs left calm is
+    hunts_by start t o (record t.course { ascent = ascent_at_first; from = 64 }) y rest gs left calm is
     (next ∙ ap (λ z. searching_first z t.course) way ∙ first_way y t.course other) way other opened own settled
     (rises_first (searched_by y gs) rest ready unnamed enough) tabled frames
 

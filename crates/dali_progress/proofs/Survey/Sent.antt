@@ -622,7 +622,7 @@ survey_sent (Asking a) y s k heard opened asked x n from start gs numbers left c
     ∙ ap (opened_after (next_stage s c h)) at.1 ∙ asked_unopened (next_stage s c h) a _ (row_after Everyone c 0 gs numbers) sent.2.stage_is in
     (sent.0, sent.1, (at.0, unwoken, sent.2))
 survey_sent Waking y s k heard opened asked x n from start gs numbers left c h at is t told seek =
-    let sent = wakes_sent s k heard opened n start gs numbers left c h at.2 is in (sent.0, sent.1, (at.0, at.1, sent.2))
+    let sent = wakes_sent s k heard opened n start gs numbers left c h at.2 is in (sent.0, sent.1, (at.0, refl, sent.2))
 survey_sent Opening y s k heard opened asked x n from start gs numbers left c h at is t told seek =
     let sent = hunts_sent Opening y s k heard opened x n start gs numbers left c h tt at is t seek in (
       sent.0,

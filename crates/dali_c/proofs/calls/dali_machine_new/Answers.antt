@@ -7,6 +7,6 @@ returns-clause-machine c ok =
     let k = kept_of c.args.records.now in
     record {
       state = c.new.result;
-      held = record { spells = c.of-machine.ensures; records = c.in-Some.ensures.0; whole = c.new.ensures.whole k };
+      held = record { spells = c.of-machine.ensures.spells; records = c.in-Some.ensures.0; whole = c.new.ensures.whole k };
       is = sym (c.new.ensures.first k);
     }

@@ -18,7 +18,7 @@ returns-in-Some-step-clause-done c m i holds is due =
       given = c.in-Some-step.ensures.given;
       state = record {
         state = c.step.new.state;
-        held = record { spells = c.of-machine.ensures; records = c.step.ensures.kept; whole = c.in-Some-step.ensures.whole };
+        held = record { spells = c.of-machine.ensures.spells; records = c.step.ensures.kept; whole = c.in-Some-step.ensures.whole };
         is = sym c.in-Some-step.ensures.state;
       };
       fits = c.in-Some-step.ensures.fits;

@@ -1,4 +1,4 @@
-use Rattle.std.proofs.Common.{sym, ap}
+use Rattle.std.proofs.Common.{sym, ap, ◌∙◌}
 use Rattle.std.specs.Prelude.{◌==◌}
 use Rattle.dali_script.specs.declared.stage.Stage.TheVariants.{HighAsked}
 use Rattle.dali_controller.specs.Next.{asked_once}
@@ -6,14 +6,15 @@ use Rattle.dali_controller.specs.States.{machine_with}
 use Rattle.dali_controller.proofs.Courses.{begun_at, asked_again}
 use Rattle.dali_controller.proofs.state.State.asked_once.Goals as goal
 
-pub returns-then-self-eq0 : goal.returns-then-self-eq0
-returns-then-self-eq0 c =
+pub returns-then-silences-eq0 : goal.returns-then-silences-eq0
+returns-then-silences-eq0 c =
     let w = machine_with c.args.self.now c.args.kept.now in
     let h = c.requires.heard in
-    begun_at w (HighAsked h.0 h.1) _ _ _ h.2.stage (ap (λ n. asked_once w (n == 0)) (sym c.if-self-eq0.true)) c.go_on.ensures
+    let none = sym c.silences.ensures ∙ c.if-silences-eq0.true in
+    begun_at w (HighAsked h.0 h.1) _ _ _ h.2.stage (ap (λ n. asked_once w (n == 0)) (sym none)) c.go_on.ensures
 
 pub returns : goal.returns
 returns c =
     let w = machine_with c.args.self.now c.args.kept.now in
     let h = c.requires.heard in
-    begun_at w (HighAsked h.0 h.1) _ _ _ h.2.stage (asked_again w c.if-self-eq0.false) c.begin.ensures
+    begun_at w (HighAsked h.0 h.1) _ _ _ h.2.stage (asked_again w (λ e. c.if-silences-eq0.false (c.silences.ensures ∙ e))) c.begin.ensures

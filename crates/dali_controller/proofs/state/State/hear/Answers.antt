@@ -1,6 +1,11 @@
-use Rattle.std.proofs.Common.{ap}
-use Rattle.dali_controller.proofs.Steps.{sending, sending_lawful, hear_heard}
+use Rattle.std.proofs.Common.{◌≡◌, sym, ap, subst, ◌∙◌, true, false}
+use Rattle.dali_script.specs.Stages.{stage_of}
+use Rattle.dali_controller.specs.declared.state.State.{State}
+use Rattle.dali_controller.specs.Machine.{Machine}
+use Rattle.dali_controller.specs.Moments.{is_searched_next, IsHeard}
 use Rattle.dali_controller.specs.States.{machine_with}
+use Rattle.dali_controller.proofs.Legs.{hears_told, rested_at, told_by}
+use Rattle.dali_controller.proofs.Steps.{hear_heard, heard_by, sending, sending_lawful}
 use Rattle.dali_controller.proofs.state.State.hear.Goals as goal
 
 pub push-requires : goal.push-requires
@@ -8,9 +13,38 @@ push-requires c =
     let w = (machine_with c.args.self.now c.args.kept.now) in
     (w.kept.block, w.kept.reserved, sending_lawful w c.args.frame (sending w w.last c.args.frame c.requires.put c.requires.whole))
 
+abbrev new : goal.After-stage → State
+new c = record c.note_finding.new.self {
+  tries = c.tries_after-self.result;
+  silent = c.silent_after-self.result;
+  heard = c.heard_after-self.result;
+  leg = c.note_silences.new.self;
+}
+
+told : (c : goal.After-stage) → machine_with (new c) c.args.kept.now ≡ heard_by (machine_with c.args.self.now c.args.kept.now) c.args.frame c.args.heard
+told c =
+    hears_told c.args.self.now c.note_finding.new.self c.args.kept.now c.args.frame c.args.heard _ _ _ _ _ _ c.requires.whole c.requires.put
+    c.push.ensures c.note_finding.ensures c.tries_after-self.ensures c.silent_after-self.ensures c.heard_after-self.ensures c.asked_after-silences.ensures
+    c.note_silences.ensures
+
 pub returns-clause-heard : goal.returns-clause-heard
 returns-clause-heard c =
-    hear_heard (machine_with c.args.self.now c.args.kept.now) (machine_with c.note_finding.new.self c.args.kept.now)
-    c.args.frame c.args.heard _ _ _ _ _ _ _ _ c.requires.whole c.requires.put
-    c.push.ensures (ap (λ s. machine_with s c.args.kept.now) c.note_finding.ensures)
-    c.stage.ensures c.tries_after-self.ensures c.silent_after-self.ensures c.opened_after-self.ensures
+    let w = machine_with c.args.self.now c.args.kept.now in
+    let here : IsHeard (machine_with (new c) c.args.kept.now) (stage_of (new c).trace) =
+    subst (λ (m : Machine). IsHeard m (stage_of m.trace)) (sym (told c)) (hear_heard w c.args.frame c.args.heard c.requires.whole c.requires.put) in
+    subst (IsHeard (machine_with (new c) c.args.kept.now)) (sym c.stage.ensures) here
+
+pub returns-clause-told : goal.returns-clause-told
+returns-clause-told c going =
+    told_by (machine_with c.args.self.now c.args.kept.now) (machine_with (new c) c.args.kept.now) c.args.frame c.args.heard false c.requires.put (told c)
+    (ap (λ s. is_searched_next s (new c).purpose) (sym c.stage.ensures) ∙ going)
+
+pub returns-clause-searched : goal.returns-clause-searched
+returns-clause-searched c next =
+    told_by (machine_with c.args.self.now c.args.kept.now) (machine_with (new c) c.args.kept.now) c.args.frame c.args.heard true c.requires.put (told c)
+    (ap (λ s. is_searched_next s (new c).purpose) (sym c.stage.ensures) ∙ next)
+
+pub returns-clause-rested : goal.returns-clause-rested
+returns-clause-rested c next =
+    rested_at (machine_with c.args.self.now c.args.kept.now) (machine_with (new c) c.args.kept.now) c.args.frame c.args.heard c.stage.result (told c)
+    (returns-clause-heard c) next

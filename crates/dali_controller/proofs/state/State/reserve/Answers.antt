@@ -1,3 +1,4 @@
+use Rattle.dali_controller.specs.Legs.{way_on}
 use Rattle.dali_controller.specs.States.{machine_with}
 use Rattle.dali_controller.proofs.Leaving.{free_searching, reservable, reserves, unfree_left}
 use Rattle.dali_controller.proofs.Courses.{stays_moment}
@@ -18,7 +19,8 @@ leave-requires-clause-opened c = free_searching (machine_with c.args.self.now c.
 
 pub leave-requires-clause-ungiven : goal.leave-requires-clause-ungiven
 leave-requires-clause-ungiven c =
-    unfree_left c.args.self.now.way (machine_with c.args.self.now c.args.kept.now) c.args.number c.requires.kept.reserved c.requires.free c.in-None.ensures
+    unfree_left (way_on c.args.self.now.leg) (machine_with c.args.self.now c.args.kept.now)
+    c.args.number c.requires.kept.reserved c.requires.free c.in-None.ensures
 
 pub returns-in-Some : goal.returns-in-Some
 returns-in-Some c =

@@ -14,6 +14,6 @@ returns-in-Some c =
     let w = (machine_with c.args.self.now c.args.kept.now) in
     let k = c.in-Some.ensures.kept in
     let reserved = address_is w.kept.reserved c.value.result (Some c.in-Some.short) k.reserved.random_once c.in-Some.ensures.value in
-    let next = ap (λ o. asked w c.args.number o (Some c.in-Some.short)) (sym c.if-not-self.true)
+    let next = ap (λ o. asked w c.args.number o (Some c.in-Some.short)) (sym (sym c.is_searching.ensures ∙ c.if-not-is_searching.true))
     ∙ ap (λ r. asked w c.args.number w.opened r) (reserved ∙ ap (address_for w.kept.reserved) c.value.ensures) in
     begun_at w (Unanswered c.args.number) _ _ _ c.requires.stage next c.resolve.ensures

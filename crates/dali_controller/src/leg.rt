@@ -1,0 +1,144 @@
+ghost use Rattle.std.specs.Prelude.{◌≡◌};
+ghost use Rattle.dali_controller.specs.Legs.{way_on, is_searching, from_on, silences_on, search_on, ascent_on};
+ghost use Rattle.dali_controller.specs.Legs.{with_silences, missed_on, drawn_on};
+
+use crate::way::Way;
+use dali_search::{Ascent, Search};
+
+/// How far a machine is on its way.
+#[derive(Drop)]
+pub enum Leg {
+    /// It has not begun, or it began with `Start`: what is unfinished is visited, from this short address on, and then
+    /// comes the opening.
+    Revisiting { from: u8 },
+    /// It began with `Survey`: short addresses are asked, from this one on. The one that is asked was silent so often
+    /// in a row, less than three times.
+    Asking { from: u8, silences: u8 },
+    /// Gear are searched, after a start.
+    Searching(Search),
+    /// Gear are searched, in a survey.
+    Hunting(Upward),
+}
+
+/// The search of a survey.
+#[derive(Drop)]
+pub struct Upward {
+    /// It goes up from the random address that was found last.
+    pub ascent: Ascent,
+    /// Whether gear without short address drew new random addresses since they were woken.
+    pub drew: bool,
+}
+
+impl Leg {
+    /// The same leg once more.
+    pub(crate) fn copy(&self) -> Leg
+        ensures { result ≡ self.now }
+    {
+        match self {
+            Leg::Revisiting { from } => Leg::Revisiting { from: *from },
+            Leg::Asking { from, silences } => Leg::Asking {
+                from: *from,
+                silences: *silences,
+            },
+            Leg::Searching(search) => Leg::Searching(search.copy()),
+            Leg::Hunting(up) => Leg::Hunting(Upward {
+                ascent: up.ascent.copy(),
+                drew: up.drew,
+            }),
+        }
+    }
+
+    /// How the machine began, and how far a survey has come.
+    pub fn way(&self) -> Way
+        ensures { result ≡ way_on self.now }
+    {
+        match self {
+            Leg::Revisiting { .. } | Leg::Searching(_) => Way::Fresh,
+            Leg::Asking { .. } => Way::Surveying,
+            Leg::Hunting(up) => {
+                if up.drew {
+                    Way::Drawing
+                } else {
+                    Way::Surveying
+                }
+            }
+        }
+    }
+
+    /// Whether gear are searched.
+    pub fn is_searching(&self) -> bool
+        ensures { result ≡ is_searching self.now }
+    {
+        match self {
+            Leg::Revisiting { .. } | Leg::Asking { .. } => false,
+            Leg::Searching(_) | Leg::Hunting(_) => true,
+        }
+    }
+
+    /// The first short address that was not looked at; 64 where none is looked at any more.
+    pub fn from(&self) -> u8
+        ensures { result ≡ from_on self.now }
+    {
+        match self {
+            Leg::Revisiting { from } | Leg::Asking { from, .. } => *from,
+            Leg::Searching(_) | Leg::Hunting(_) => 64,
+        }
+    }
+
+    /// How often in a row the short address that is asked was silent.
+    pub fn silences(&self) -> u8
+        ensures { result ≡ silences_on self.now }
+    {
+        match self {
+            Leg::Asking { silences, .. } => *silences,
+            Leg::Revisiting { .. } | Leg::Searching(_) | Leg::Hunting(_) => 0,
+        }
+    }
+
+    /// The search for the least random address, before its first question where there is none.
+    pub fn search(&self) -> Search
+        ensures { result ≡ search_on self.now }
+    {
+        match self {
+            Leg::Searching(search) => search.copy(),
+            Leg::Revisiting { .. } | Leg::Asking { .. } | Leg::Hunting(_) => Search::new(),
+        }
+    }
+
+    /// The search that goes up, before its first question where there is none.
+    pub fn ascent(&self) -> Ascent
+        ensures { result ≡ ascent_on self.now }
+    {
+        match self {
+            Leg::Hunting(up) => up.ascent.copy(),
+            Leg::Revisiting { .. } | Leg::Asking { .. } | Leg::Searching(_) => Ascent::new(),
+        }
+    }
+
+    /// Keeps how often in a row the short address that is asked was silent.
+    pub(crate) fn note_silences(&mut self, count: u8)
+        ensures { self.new ≡ with_silences self.old count }
+    {
+        if let Leg::Asking { silences, .. } = self {
+            *silences = count;
+        }
+    }
+
+    /// Nobody answered under the number that was found: the search that goes up begins anew.
+    pub(crate) fn begin_anew(&mut self)
+        ensures { self.new ≡ missed_on self.old }
+    {
+        if let Leg::Hunting(up) = self {
+            up.ascent.begin_anew();
+        }
+    }
+
+    /// In a survey: gear draw new random addresses.
+    pub(crate) fn note_draw(&mut self)
+        ensures { self.new ≡ drawn_on self.old }
+    {
+        if let Leg::Hunting(up) = self {
+            up.drew = true;
+        }
+    }
+}
