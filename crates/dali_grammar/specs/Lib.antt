@@ -7,3 +7,4 @@ pub mod SiteLine
 pub mod ReplayFault
 pub mod Setting
 pub mod Reason
+pub mod Clues
