@@ -1,5 +1,8 @@
 //! The command line, and what it asks for.
 
+ghost use Rattle.std.specs.Prelude.{◌≡◌, Some, IsErr, IfOk};
+ghost use Rattle.dali_grammar.specs.Numbers.{block_of};
+
 use arrayvec::ArrayVec;
 use dali_events::PlanError;
 use dali_replay::{Form, block_of, plan_limit};
@@ -134,14 +137,18 @@ fn gear_count(alloc: Global, line: &CommandLine) -> Result<u32, LineFault> {
     }
 }
 
-fn not_a_block(alloc: Global, word: &str) -> Result<(u8, u8), LineFault> {
+fn not_a_block(alloc: Global, word: &str) -> Result<(u8, u8), LineFault>
+    ensures { IsErr result }
+{
     Err(LineFault::Value(format!(in alloc;
         "invalid value '{word}' for '<BLOCK>...': a block is first-last, as 0-15, and addresses end at 63"
     )?))
 }
 
 /// A block that a word is, spelled as in the line `site` of a script.
-fn block(alloc: Global, word: &str) -> Result<(u8, u8), LineFault> {
+fn block(alloc: Global, word: &str) -> Result<(u8, u8), LineFault>
+    ensures { IfOk result (λ block. block_of word.now ≡ Some block) }
+{
     match block_of(word.as_bytes()) {
         Some(block) => Ok(block),
         None => not_a_block(alloc, word),
