@@ -2,6 +2,7 @@ pub mod Lines
 pub mod Numbers
 pub mod Words
 pub mod Heading
+pub mod GearLine
 pub mod BenchLine
 pub mod SiteLine
 pub mod ReplayFault
