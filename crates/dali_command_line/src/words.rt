@@ -1,5 +1,9 @@
 //! The command line, and what it asks for.
 
+ghost use Rattle.std.specs.Prelude.{◌≡◌, ◌↔◌, Some, Ok, codes, slice_get, IsErr, IsTrue, IfOk, MatchOption};
+ghost use Rattle.dali_grammar.specs.Numbers.{block_of, blocks_of};
+ghost use Rattle.dali_words.specs.Lines.{values_of};
+
 use arrayvec::ArrayVec;
 use dali_events::PlanError;
 use dali_replay::{Form, block_of, plan_limit};
@@ -134,14 +138,18 @@ fn gear_count(alloc: Global, line: &CommandLine) -> Result<u32, LineFault> {
     }
 }
 
-fn not_a_block(alloc: Global, word: &str) -> Result<(u8, u8), LineFault> {
+fn not_a_block(alloc: Global, word: &str) -> Result<(u8, u8), LineFault>
+    ensures { IsErr result }
+{
     Err(LineFault::Value(format!(in alloc;
         "invalid value '{word}' for '<BLOCK>...': a block is first-last, as 0-15, and addresses end at 63"
     )?))
 }
 
 /// A block that a word is, spelled as in the line `site` of a script.
-fn block(alloc: Global, word: &str) -> Result<(u8, u8), LineFault> {
+fn block(alloc: Global, word: &str) -> Result<(u8, u8), LineFault>
+    ensures { IfOk result (λ block. block_of word.now ≡ Some block) }
+{
     match block_of(word.as_bytes()) {
         Some(block) => Ok(block),
         None => not_a_block(alloc, word),
@@ -149,7 +157,9 @@ fn block(alloc: Global, word: &str) -> Result<(u8, u8), LineFault> {
 }
 
 /// The blocks, one for each controller.
-fn blocks(alloc: Global, line: &CommandLine) -> Result<ArrayVec<(u8, u8), 4>, LineFault> {
+fn blocks(alloc: Global, line: &CommandLine) -> Result<ArrayVec<(u8, u8), 4>, LineFault>
+    ensures { IfOk result (λ blocks. blocks_of (values_of (codes "blocks") line.now.values.items) ≡ Some blocks.items) }
+{
     let mut blocks = ArrayVec::new();
     for (name, word) in line.values.iter() {
         if name.as_str() == "blocks" && blocks.try_push(block(alloc, word)?).is_err() {
@@ -167,6 +177,8 @@ fn blocks(alloc: Global, line: &CommandLine) -> Result<ArrayVec<(u8, u8), 4>, Li
 fn number<T: FromStr>(alloc: Global, line: &CommandLine, name: &str) -> Result<T, LineFault>
 where
     T::Err: Drop,
+    ensures { IfOk result (λ number. MatchOption (slice_get (values_of name.now line.now.values.items) 0) ⊥
+        (λ value. T.from_str_gives value (Ok number))) }
 {
     match line.number(name) {
         Some(number) => Ok(number),
@@ -175,7 +187,14 @@ where
 }
 
 /// What is to be run.
-fn setup(alloc: Global, line: &CommandLine) -> Result<Setup, LineFault> {
+fn setup(alloc: Global, line: &CommandLine) -> Result<Setup, LineFault>
+    ensures surveys { IfOk result (λ setup. IsTrue setup.surveys
+        ↔ (slice_get (values_of (codes "survey") line.now.values.items) 0 ≡ Some (codes "true"))) }
+    ensures blocks { IfOk result (λ setup.
+        blocks_of (values_of (codes "blocks") line.now.values.items) ≡ Some setup.blocks.items) }
+    ensures json { IfOk result (λ setup. IsTrue setup.as_json
+        ↔ (slice_get (values_of (codes "json") line.now.values.items) 0 ≡ Some (codes "true"))) }
+{
     Ok(Setup {
         gear: gear_count(alloc, line)?,
         seed: number(alloc, line, "seed")?,

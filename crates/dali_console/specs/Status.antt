@@ -8,7 +8,7 @@ abbrev pub status_after : {E : Type 0} → (E → ℕ) → {A : Type 0} → Resu
 status_after status_of (Ok done) = 0
 status_after status_of (Err failure) = status_of failure
 
--- that of what goes wrong at the edge of any program
+-- that of what goes wrong with the command line or the output of any program
 abbrev pub status_of : ConsoleFault → ℕ
 status_of BadCommandLine = 2
 status_of NotText = 2

@@ -3,7 +3,7 @@
 use crate::ended::Failed;
 use std::fmt;
 
-/// What goes wrong at the edge of a program.
+/// What goes wrong with the command line or the output of a program, or for want of memory.
 #[derive(Clone, Copy, PartialEq, Eq)]
 pub enum ConsoleFault {
     /// Status 2: the command line asks for nothing that the program does. It was said why.

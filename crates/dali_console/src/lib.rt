@@ -1,4 +1,4 @@
-//! What all programs have at their edge: the words of the command line, texts for a terminal, and exit statuses.
+//! What all programs have in common: the words of the command line, texts for a terminal, and exit statuses.
 #![tactic(auto)]
 
 mod command_line;

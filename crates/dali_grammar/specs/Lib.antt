@@ -2,8 +2,10 @@ pub mod Lines
 pub mod Numbers
 pub mod Words
 pub mod Heading
+pub mod GearLine
 pub mod BenchLine
 pub mod SiteLine
 pub mod ReplayFault
 pub mod Setting
 pub mod Reason
+pub mod Clues

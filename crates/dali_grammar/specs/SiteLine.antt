@@ -1,10 +1,11 @@
-use Rattle.std.specs.Prelude.{ℕ, List, [], ◌∷◌, true, false, Option, None, bytes_eq, codes}
+use Rattle.std.specs.Prelude.{ℕ, List, [], ◌∷◌, Option, None, bytes_eq, codes}
 use Rattle.std.specs.Prelude.{if◌then◌else◌, option_map}
 use Rattle.dali_grammar.specs.declared.site_line.SiteLine.{SiteLine}
 use Rattle.dali_grammar.specs.declared.site_line.SiteLine.TheVariants.{Go, Store, Fail, Pump, Lapse}
 use Rattle.dali_grammar.specs.declared.site_line.SiteLine.TheVariants.{Arc, Down, Up, Run, Power}
 use Rattle.dali_grammar.specs.declared.site_line.SiteLine.TheVariants.{Expire, Quiet, Show, Survey}
 use Rattle.dali_grammar.specs.Lines.{none_of, one_of, two_of}
+use Rattle.dali_grammar.specs.GearLine.{gear_line}
 use Rattle.dali_grammar.specs.Numbers.{number_in}
 use Rattle.dali_grammar.specs.Words.{frame_of, trouble_of}
 
@@ -27,13 +28,9 @@ site_line name words =
     else if bytes_eq name (codes "arc")
     then option_map (λ x. Arc x.0 x.1) (two_of number_in frame_of words)
     else if bytes_eq name (codes "run") then option_map (λ n. Run n) (one_of number_in words)
-    else if bytes_eq name (codes "off")
-    then option_map (λ g. Power g false) (one_of number_in words)
-    else if bytes_eq name (codes "on") then option_map (λ g. Power g true) (one_of number_in words)
-    else if bytes_eq name (codes "expire") then option_map (λ g. Expire g) (one_of number_in words)
-    else if bytes_eq name (codes "quiet") then none_of Quiet words
-    else if bytes_eq name (codes "show") then none_of Show words
-    else controller_line name words
+    else
+    gear_line (λ on g. Power g on) (λ g. Expire g) Quiet Show name words
+    (controller_line name words)
 
 -- what a line of these words asks for on a site
 abbrev pub site_line_of : List (List ℕ) → Option SiteLine

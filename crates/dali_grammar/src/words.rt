@@ -1,6 +1,6 @@
 //! The words of a line, taken from left to right: what each is to be, and the first that is wrong.
 
-ghost use Rattle.std.specs.Prelude.{◌≡◌, [], ◌∷◌, IfOk, IfErr, option_map};
+ghost use Rattle.std.specs.Prelude.{◌≡◌, ◌<◌, ◌+◌, [], ◌∷◌, IfOk, IfErr, option_map};
 ghost use Rattle.std.specs.Result.{result_ok};
 ghost use Rattle.dali_frame.specs.Hex.{random_of};
 ghost use Rattle.dali_grammar.specs.Lines.{parts_after, none_of, one_of, two_of};
@@ -43,12 +43,17 @@ pub struct Wrong {
 
 impl Wrong {
     /// The word of this number is wrong.
-    pub fn at(word: usize, wanted: Wanted) -> Wrong {
+    pub fn at(word: usize, wanted: Wanted) -> Wrong
+        ensures { result ≡ record { word = word; wanted = wanted } }
+    {
         Wrong { word, wanted }
     }
 
     /// The word behind so many, and as many more, is wrong.
-    pub fn behind(words: usize, more: usize, wanted: Wanted) -> Wrong {
+    pub fn behind(words: usize, more: usize, wanted: Wanted) -> Wrong
+        ensures word { words + more < 4294967296 → result.word ≡ words + more + 1 }
+        ensures wanted { result.wanted ≡ wanted }
+    {
         Wrong::at(words.saturating_add(more).saturating_add(1), wanted)
     }
 }

@@ -1,7 +1,12 @@
-use Rattle.std.specs.Prelude.{ℕ, ◌+◌, List, Bool, true, false, Option, Some, None}
-use Rattle.std.specs.Prelude.{nat_eq, nat_lt, count_by, option_and_then, if◌then◌else◌}
+use Rattle.std.specs.Prelude.{ℕ, ◌+◌, List, [], ◌∷◌, ◌++◌, take, drop, Bool, true, false}
+use Rattle.std.specs.Prelude.{Option, Some, None}
+use Rattle.std.specs.Prelude.{nat_eq, nat_lt, count_by, option_and_then, option_map, option_to_list}
+use Rattle.std.specs.Prelude.{if◌then◌else◌}
+use Rattle.std.specs.List.{flat_map}
+use Rattle.dali_frame.specs.declared.frames.Answer.{Answer}
 use Rattle.dali_events.specs.declared.event.Event.{Event}
 use Rattle.dali_events.specs.declared.event.Event.TheVariants as event
+use Rattle.dali_events.specs.Events.{heard_in}
 use Rattle.dali_events.specs.declared.trouble.Trouble.{Trouble}
 use Rattle.dali_events.specs.declared.trouble.Trouble.TheVariants as trouble
 use Rattle.dali_grammar.specs.declared.site_line.SiteLine.{SiteLine}
@@ -9,6 +14,7 @@ use Rattle.dali_grammar.specs.declared.site_line.SiteLine.TheVariants as line
 use Rattle.dali_grammar.specs.Lines.{words_of}
 use Rattle.dali_grammar.specs.SiteLine.{site_line_of}
 use Rattle.dali_replay.specs.declared.played.PlayedLine.{PlayedLine}
+use Rattle.dali_picture.specs.declared.incidents.Happened.{Happened}
 use Rattle.dali_picture.specs.declared.incidents.Incident.{Incident}
 use Rattle.dali_picture.specs.declared.incidents.Incident.TheVariants as incident
 
@@ -76,3 +82,29 @@ is_caused k l = if nat_lt l.first l.after then is_it k (disturbance_of l.line.no
 abbrev pub count_of : Incident → List PlayedLine → List Event → ℕ
 count_of k lines log =
     count_by (λ e. is_it k (incident_of e)) log + count_by (is_caused k) lines
+
+-- what went wrong by an event, whose line does this to an answer
+abbrev pub incident_with : Option Incident → Option Answer → Event → Option Incident
+incident_with disturbance (Some heard) e = disturbance
+incident_with disturbance None e = incident_of e
+
+abbrev pub incident_under : Option Incident → Event → Option Incident
+incident_under disturbance e = incident_with disturbance (heard_in e) e
+
+-- an incident, the place of its event, and its line
+abbrev pub told : Happened → Incident × (ℕ × ℕ)
+told h = (h.incident, (h.at, h.line))
+
+abbrev pub incidents_from : Option Incident → ℕ → ℕ → List Event → List (Incident × (ℕ × ℕ))
+incidents_from disturbance line at [] = []
+incidents_from disturbance line at (e ∷ es) =
+    option_to_list (option_map (λ k. (k, (at, line))) (incident_under disturbance e))
+    ++ incidents_from disturbance line (at + 1) es
+
+-- WHAT WENT WRONG, in the order of the log: by the events of each line.
+abbrev pub incidents_by : List Event → PlayedLine → List (Incident × (ℕ × ℕ))
+incidents_by log l =
+    incidents_from (disturbance_of l.line.now) l.number l.first (drop l.first (take l.after log))
+
+abbrev pub incidents_in : List PlayedLine → List Event → List (Incident × (ℕ × ℕ))
+incidents_in lines log = flat_map (incidents_by log) lines

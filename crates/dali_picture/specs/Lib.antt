@@ -6,3 +6,7 @@ pub mod Incidents
 pub mod Clock
 pub mod Transactions
 pub mod RunGear
+pub mod Geometry
+pub mod Stays
+pub mod Classes
+pub mod Plain

@@ -29,7 +29,8 @@ DrawsNot s old new Memory = Keeps old new
 DrawsNot s old new Read = Keeps old new
 DrawsNot s old new Write = Unit {0}
 
--- WHAT A RUN OVER A READER SAYS, whose fault comes with a reason where there is one.
+-- WHAT A RUN OVER A READER SAYS: a bad line and a refused plan come with a reason, and no other
+-- fault does.
 abbrev pub Draws : List ℕ → Option (List ℕ) → Option (List ℕ) → Result (Unit {0}) Explained
     → Type 0
 Draws input old new (Ok x) = Shows (setting_of input) old new

@@ -1,6 +1,6 @@
 //! How many frames a run has, and how long they take on the bus at least.
 
-ghost use Rattle.std.specs.Prelude.{◌≡◌, ◌≤◌, ◌<◌};
+ghost use Rattle.std.specs.Prelude.{◌≡◌, ◌≤◌, ◌<◌, ◌*◌, ◌/◌};
 ghost use Rattle.dali_picture.specs.Clock.{frames_in, bits_in, frames_of, bits_of};
 
 use crate::folds::frames_on;
@@ -49,6 +49,8 @@ pub fn frames_and_bits_of(log: &[Event]) -> (u64, u64)
 }
 
 /// So many bit times in whole milliseconds, at 1,200 bits in a second.
-pub fn milliseconds(bits: u64) -> u64 {
+pub fn milliseconds(bits: u64) -> u64
+    ensures { bits * 5 < 18446744073709551616 → result ≡ bits * 1000 / 1200 }
+{
     bits.saturating_mul(5) / 6
 }

@@ -1,5 +1,10 @@
 //! A whole picture as SVG: lanes from top to bottom, events from left to right.
 
+ghost use Rattle.std.specs.Prelude.{◌≡◌, ◌++◌, ◌+◌, ◌-◌, ◌<◌, ◌≤◌, ◌↔◌, length, replicate, slice_get};
+ghost use Rattle.std.specs.Prelude.{ℕ, Some, IfOk, OnOk, IsTrue};
+ghost use Rattle.std.specs.Int.{bit_at};
+ghost use Rattle.dali_picture.specs.Geometry.{columns_of};
+
 use crate::clock::{bits_in, frames_in, milliseconds};
 use crate::folds::Fold;
 use crate::geometry::{AXIS_TOP, Columns, EVENT_WIDTH, FOLD_WIDTH, Lanes};
@@ -12,7 +17,11 @@ use crate::shapes::{
 use std::alloc::{AllocError, Global};
 
 /// A column for each event.
-pub fn long_columns(alloc: Global, events: usize) -> Result<Columns, AllocError> {
+pub fn long_columns(alloc: Global, events: usize) -> Result<Columns, AllocError>
+    ensures count { IfOk result (λ columns. length columns.of.items ≡ events + 1) }
+    ensures each { IfOk result (λ columns.
+        (event : ℕ) → event ≤ events → event < 4294967296 → slice_get columns.of.items event ≡ Some event) }
+{
     let mut of = Vec::new(alloc);
     let mut column: u32 = 0;
     for _ in 0..events {
@@ -26,14 +35,24 @@ pub fn long_columns(alloc: Global, events: usize) -> Result<Columns, AllocError>
     })
 }
 
+/// The events of a fold stand in this column.
+fn push_columns(of: &mut Vec<u32>, fold: &Fold, column: u32) -> Result<(), AllocError>
+    ensures { OnOk result (of.new.items ≡ of.old.items ++ replicate (fold.now.after - fold.now.first) column) }
+{
+    for _ in fold.first..fold.after {
+        of.push(column)?;
+    }
+    Ok(())
+}
+
 /// A column for each fold.
-pub fn short_columns(alloc: Global, folds: &[Fold]) -> Result<Columns, AllocError> {
+pub fn short_columns(alloc: Global, folds: &[Fold]) -> Result<Columns, AllocError>
+    ensures { length folds.now < 4294967296 → IfOk result (λ columns. columns.of.items ≡ columns_of 0 folds.now) }
+{
     let mut of = Vec::new(alloc);
     let mut column: u32 = 0;
     for fold in folds {
-        for _ in fold.first..fold.after {
-            of.push(column)?;
-        }
+        push_columns(&mut of, fold, column)?;
         column = column.saturating_add(1);
     }
     of.push(column)?;
@@ -44,7 +63,9 @@ pub fn short_columns(alloc: Global, folds: &[Fold]) -> Result<Columns, AllocErro
 }
 
 /// How wide the column of an event is drawn.
-fn inner(columns: &Columns) -> u64 {
+fn inner(columns: &Columns) -> u64
+    ensures { result ≡ columns.now.width - 2 }
+{
     u64::from(columns.width).saturating_sub(2)
 }
 
@@ -124,7 +145,9 @@ fn push_transactions(
 }
 
 /// Whether a controller sent frames in a fold.
-fn has_sender(fold: &Fold, c: u8) -> bool {
+fn has_sender(fold: &Fold, c: u8) -> bool
+    ensures { c < 4 → (IsTrue result ↔ (bit_at fold.now.senders c ≡ 1)) }
+{
     match c {
         0 => fold.senders % 2 == 1,
         1 => fold.senders / 2 % 2 == 1,
@@ -261,7 +284,10 @@ fn push_names(text: &mut String, lanes: &Lanes) -> Result<(), AllocError> {
 }
 
 /// The lanes of a picture.
-pub fn lanes_of(picture: &Picture) -> Lanes {
+pub fn lanes_of(picture: &Picture) -> Lanes
+    ensures controllers { result.controllers ≡ picture.now.played.controllers }
+    ensures gear { result.gear ≡ picture.now.played.gear }
+{
     Lanes {
         controllers: picture.played.controllers,
         gear: picture.played.gear,

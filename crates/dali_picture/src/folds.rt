@@ -1,8 +1,11 @@
 //! The folds of a log: what is drawn in one column of a short picture.
 
-ghost use Rattle.std.specs.Prelude.{◌≡◌, ◌≤◌, ◌<◌, ◌+◌, List, length, IfOk};
+ghost use Rattle.std.specs.Prelude.{◌≡◌, ◌≤◌, ◌<◌, ◌+◌, ◌^◌, ◌≢◌, List, length, drop, slice_get};
+ghost use Rattle.std.specs.Prelude.{IfOk, IfSome, true};
 ghost use Rattle.dali_picture.specs.declared.mark.Mark.{Mark};
-ghost use Rattle.dali_picture.specs.Folds.{AreFolds, frames_on, HasItsFrames, HaveTheirFrames};
+ghost use Rattle.dali_picture.specs.declared.mark.Tone.{Tone};
+ghost use Rattle.dali_picture.specs.Folds.{AreFolds, frames_on, HasItsFrames, HaveTheirFrames, joins, Fits};
+ghost use Rattle.dali_picture.specs.Folds.{held_with, HoldsItsOwn, HoldTheirOwn};
 
 use crate::mark::{Look, Mark};
 use crate::transactions::{Purpose, Transaction};
@@ -44,7 +47,9 @@ enum Part {
 }
 
 /// Whether one more transaction joins those of a fold: a probe joins probes, and a hunt hunts.
-fn joins(held: Purpose, purpose: Purpose) -> bool {
+fn joins(held: Purpose, purpose: Purpose) -> bool
+    ensures { result ≡ joins held purpose }
+{
     match held {
         Purpose::Probe => matches!(purpose, Purpose::Probe),
         Purpose::Hunt => matches!(purpose, Purpose::Hunt),
@@ -59,7 +64,9 @@ fn joins(held: Purpose, purpose: Purpose) -> bool {
 }
 
 /// A controller's bit.
-fn bit_of(sender: u8) -> u8 {
+fn bit_of(sender: u8) -> u8
+    ensures { sender < 4 → result ≡ 2 ^ sender }
+{
     match sender {
         0 => 1,
         1 => 2,
@@ -75,6 +82,7 @@ impl Fold {
         ensures first { result.first ≡ at }
         ensures after { result.after ≡ at }
         ensures frames { result.frames ≡ 0 }
+        ensures held { result.held ≡ Held.Orders }
     {
         Fold {
             first: at,
@@ -87,7 +95,10 @@ impl Fold {
     }
 
     /// Whether an event stands in the fold with those before it.
-    fn takes(&self, part: Part) -> bool {
+    fn takes(&self, part: Part) -> bool
+        ensures alone { result ≡ true → self.now.held ≢ Held.Alone }
+        ensures with { result ≡ true → part ≢ Part.Alone }
+    {
         match (self.held, part) {
             (Held::Alone, _) | (_, Part::Alone) => false,
             (_, Part::Order) => true,
@@ -104,6 +115,7 @@ impl Fold {
         ensures first { result.first ≡ self.first }
         ensures after { result.after ≡ after }
         ensures frames { result.frames ≡ self.frames + frames }
+        ensures held { result.held ≡ held_with self.held part }
     {
         let frames = self.frames + frames;
         match part {
@@ -152,7 +164,10 @@ pub fn frames_on(look: Look) -> u64
 }
 
 /// What the event at a place is to a fold. The transactions are those that end there or later.
-fn part_of(mark: Mark, at: usize, transactions: &[Transaction]) -> Part {
+fn part_of(mark: Mark, at: usize, transactions: &[Transaction]) -> Part
+    ensures fits { Fits result mark }
+    ensures orders { (tone : Tone) → mark.look ≡ Look.Asked tone → result ≡ Part.Order }
+{
     match (mark.look, transactions.first()) {
         (Look::Asked(_), _) => Part::Order,
         (Look::Sent(..), Some(transaction)) if transaction.first <= at => {
@@ -163,7 +178,11 @@ fn part_of(mark: Mark, at: usize, transactions: &[Transaction]) -> Part {
 }
 
 /// The transactions that end at a place or later.
-fn from_place(transactions: &[Transaction], at: usize) -> &[Transaction] {
+fn from_place(transactions: &[Transaction], at: usize) -> &[Transaction]
+    ensures there { IfSome (slice_get transactions.now 0) (λ first. at ≤ first.last → result.now ≡ transactions.now) }
+    ensures past { IfSome (slice_get transactions.now 0)
+        (λ first. first.last < at → result.now ≡ drop 1 transactions.now) }
+{
     match transactions {
         [first, rest @ ..] if first.last < at => rest,
         _ => transactions,
@@ -176,6 +195,8 @@ fn keep(folds: &mut Vec<Fold>, fold: Fold) -> Result<(), AllocError>
     ensures folds { IfOk result (λ _. AreFolds folds.old.items fold.first → AreFolds folds.new.items fold.after) }
     ensures frames { IfOk result (λ _. (marks : List Mark) → HaveTheirFrames marks folds.old.items
         → HasItsFrames marks fold → HaveTheirFrames marks folds.new.items) }
+    ensures held { IfOk result (λ _. (marks : List Mark) → HoldTheirOwn marks folds.old.items
+        → HoldsItsOwn marks fold → HoldTheirOwn marks folds.new.items) }
 {
     if fold.first < fold.after {
         folds.push(fold)?;
@@ -183,7 +204,8 @@ fn keep(folds: &mut Vec<Fold>, fold: Fold) -> Result<(), AllocError>
     Ok(())
 }
 
-/// The folds of these marks: each event stands in one of them, in its order, and each fold counts its own frames.
+/// The folds of these marks: each event stands in one of them, in its order, and each fold counts its own frames. Only
+/// orders to send and frames that were sent share one.
 pub fn folds_of(
     alloc: Global,
     marks: &[Mark],
@@ -191,6 +213,7 @@ pub fn folds_of(
 ) -> Result<Vec<Fold>, AllocError>
     ensures folds { IfOk result (λ folds. AreFolds folds.items (length marks.now)) }
     ensures frames { IfOk result (λ folds. HaveTheirFrames marks.now folds.items) }
+    ensures held { IfOk result (λ folds. HoldTheirOwn marks.now folds.items) }
 {
     let mut folds = Vec::new(alloc);
     let mut fold = Fold::empty(0);

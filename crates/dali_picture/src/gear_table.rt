@@ -1,5 +1,7 @@
 //! The gear at the end of a run, as a table that can be ordered and searched.
 
+ghost use Rattle.std.specs.Prelude.{◌≡◌, ◌-◌, drop, length, count_by, is_some};
+
 use crate::picture::Picture;
 use crate::stays::Stay;
 use crate::words::{push_short, state_name};
@@ -20,7 +22,10 @@ role=\"status\"></span></p>
 ";
 
 /// What each gear shows at the end: the last of all stays, in the order of the gear.
-pub fn at_end<'a>(picture: &'a Picture) -> &'a [Stay] {
+pub fn at_end<'a>(picture: &'a Picture) -> &'a [Stay]
+    ensures { result.now ≡ drop (length picture.now.watched.stays.items - picture.now.played.gear)
+        picture.now.watched.stays.items }
+{
     let gear = picture.played.gear as usize;
     let first = picture.watched.stays.len().saturating_sub(gear);
     match picture.watched.stays.get(first..) {
@@ -30,14 +35,10 @@ pub fn at_end<'a>(picture: &'a Picture) -> &'a [Stay] {
 }
 
 /// How many of them have a short address.
-pub fn addressed_in(end: &[Stay]) -> usize {
-    let mut addressed: usize = 0;
-    for stay in end {
-        if stay.shown.short.is_some() {
-            addressed = addressed.saturating_add(1);
-        }
-    }
-    addressed
+pub fn addressed_in(end: &[Stay]) -> usize
+    ensures { result ≡ count_by (λ stay. is_some stay.shown.short) end.now }
+{
+    end.iter().filter(|stay| stay.shown.short.is_some()).count()
 }
 
 /// A row of the table.

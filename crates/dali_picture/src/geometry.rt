@@ -1,6 +1,6 @@
 //! Where things stand in a picture, in pixels.
 
-ghost use Rattle.std.specs.Prelude.{◌≡◌, ◌+◌, ◌*◌};
+ghost use Rattle.std.specs.Prelude.{◌≡◌, ◌+◌, ◌*◌, ◌<◌};
 
 use crate::mark::Lane;
 
@@ -33,29 +33,33 @@ pub const AXIS_TOP: u64 = SCRIPT_HEIGHT;
 const CONTROLLERS_TOP: u64 = SCRIPT_HEIGHT + AXIS_HEIGHT;
 
 impl Lanes {
+    ghost use Rattle.dali_picture.specs.Geometry.{top_of};
+
     /// The top of the lane of controller c, in pixels from the top of the picture.
     pub fn controller_top(&self, c: u8) -> u64
-        ensures { result ≡ 138 + 26 * c }
+        ensures { result ≡ top_of self.now (Lane.Controller c) }
     {
         CONTROLLERS_TOP + u64::from(c) * CONTROLLER_HEIGHT
     }
 
     /// The top of the lane of the bus, in pixels: it stands below those of the controllers.
     pub fn bus_top(&self) -> u64
-        ensures { result ≡ 138 + 26 * self.now.controllers }
+        ensures { result ≡ top_of self.now Lane.Bus }
     {
         self.controller_top(self.controllers)
     }
 
     /// The top of the lane of the gear with this number, in pixels: the lanes of the gear stand below that of the bus.
     pub fn gear_top(&self, number: u32) -> u64
-        ensures { result ≡ 174 + 26 * self.now.controllers + 18 * number }
+        ensures { result ≡ top_of self.now (Lane.Gear number) }
     {
         self.bus_top() + BUS_HEIGHT + u64::from(number) * GEAR_HEIGHT
     }
 
     /// The top of the lane of a gear that is told by its place in a row.
-    pub fn place_top(&self, place: usize) -> u64 {
+    pub fn place_top(&self, place: usize) -> u64
+        ensures { place < 4294967296 → result ≡ top_of self.now (Lane.Gear place) }
+    {
         match u32::try_from(place) {
             Ok(number) => self.gear_top(number),
             Err(_) => self.height(),
@@ -63,12 +67,16 @@ impl Lanes {
     }
 
     /// The height of the picture, in pixels: all lanes, and 6 below the last.
-    pub fn height(&self) -> u64 {
+    pub fn height(&self) -> u64
+        ensures { result ≡ top_of self.now (Lane.Gear self.now.gear) + 6 }
+    {
         self.gear_top(self.gear) + 6
     }
 
     /// The top of the lane of a mark.
-    pub fn top(&self, lane: Lane) -> u64 {
+    pub fn top(&self, lane: Lane) -> u64
+        ensures { result ≡ top_of self.now lane }
+    {
         match lane {
             Lane::Controller(c) => self.controller_top(c),
             Lane::Bus => self.bus_top(),
@@ -86,8 +94,12 @@ pub struct Columns {
 }
 
 impl Columns {
+    ghost use Rattle.dali_picture.specs.Geometry.{last_of, column_of};
+
     /// The left end of an event's column; the end of the picture for an event that is not there.
-    pub fn left(&self, event: usize) -> u64 {
+    pub fn left(&self, event: usize) -> u64
+        ensures { result ≡ 4 + column_of self.now.of.items event * self.now.width }
+    {
         let column = match self.of.get(event) {
             Some(column) => *column,
             None => self.last(),
@@ -95,7 +107,10 @@ impl Columns {
         4 + u64::from(column) * u64::from(self.width)
     }
 
-    fn last(&self) -> u32 {
+    /// The column of the end.
+    fn last(&self) -> u32
+        ensures { result ≡ last_of self.now.of.items }
+    {
         match self.of.last() {
             Some(column) => *column,
             None => 0,
@@ -103,7 +118,9 @@ impl Columns {
     }
 
     /// How wide the picture is, with room for the name of an end behind the last mark.
-    pub fn end(&self) -> u64 {
+    pub fn end(&self) -> u64
+        ensures { result ≡ 72 + (last_of self.now.of.items + 1) * self.now.width }
+    {
         let column = self.last();
         let width = u64::from(self.width);
         72 + u64::from(column) * width + width

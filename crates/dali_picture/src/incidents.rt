@@ -1,8 +1,8 @@
 //! What went wrong in a run: lost answers, destroyed frames, and the like, each with its place in the log.
 
-ghost use Rattle.std.specs.Prelude.{◌≡◌};
+ghost use Rattle.std.specs.Prelude.{◌≡◌, ◌<◌, ◌≤◌, ◌++◌, map, drop, slice_get, Some, IfOk, IfSome};
 ghost use Rattle.dali_picture.specs.Incidents.{place, incident_of, disturbance_of, is_it};
-ghost use Rattle.dali_picture.specs.Incidents.{is_caused, count_of};
+ghost use Rattle.dali_picture.specs.Incidents.{is_caused, count_of, incident_under, told, incidents_by, incidents_in};
 
 use crate::stays::Unheard;
 use dali_frame::Answer;
@@ -145,7 +145,10 @@ pub struct Happened {
 }
 
 /// What gear answered at a place, where something else was heard. The answers are those from there on.
-fn unheard_at(unheard: &[Unheard], at: usize) -> Option<Answer> {
+fn unheard_at(unheard: &[Unheard], at: usize) -> Option<Answer>
+    ensures found { IfSome result (λ answer. slice_get unheard.now 0 ≡ Some (record { at = at; answer = answer })) }
+    ensures there { IfSome (slice_get unheard.now 0) (λ first. first.at ≡ at → result ≡ Some first.answer) }
+{
     match unheard.first() {
         Some(first) if first.at == at => Some(first.answer),
         _ => None,
@@ -153,7 +156,10 @@ fn unheard_at(unheard: &[Unheard], at: usize) -> Option<Answer> {
 }
 
 /// The answers from a place on.
-fn from_place(unheard: &[Unheard], at: usize) -> &[Unheard] {
+fn from_place(unheard: &[Unheard], at: usize) -> &[Unheard]
+    ensures there { IfSome (slice_get unheard.now 0) (λ first. at ≤ first.at → result.now ≡ unheard.now) }
+    ensures past { IfSome (slice_get unheard.now 0) (λ first. first.at < at → result.now ≡ drop 1 unheard.now) }
+{
     match unheard {
         [first, rest @ ..] if first.at < at => rest,
         _ => unheard,
@@ -161,7 +167,9 @@ fn from_place(unheard: &[Unheard], at: usize) -> &[Unheard] {
 }
 
 /// What went wrong by an event, whose line does this to an answer.
-fn incident_under(disturbance: Option<Incident>, event: &Event) -> Option<Incident> {
+fn incident_under(disturbance: Option<Incident>, event: &Event) -> Option<Incident>
+    ensures { result ≡ incident_under disturbance event.now }
+{
     match event.heard() {
         Some(_) => disturbance,
         None => incident_of(*event),
@@ -174,7 +182,10 @@ fn push_of_line<'a>(
     line: &PlayedLine,
     log: &[Event],
     unheard: &'a [Unheard],
-) -> Result<&'a [Unheard], AllocError> {
+) -> Result<&'a [Unheard], AllocError>
+    ensures { IfOk result (λ _. map told happened.new.items
+        ≡ map told happened.old.items ++ incidents_by log.now line.now) }
+{
     let disturbance = disturbance_of(line.line);
     let mut left = unheard;
     for at in line.first..line.after {
@@ -200,7 +211,9 @@ pub fn incidents_of(
     lines: &[PlayedLine],
     log: &[Event],
     unheard: &[Unheard],
-) -> Result<Vec<Happened>, AllocError> {
+) -> Result<Vec<Happened>, AllocError>
+    ensures { IfOk result (λ happened. map told happened.items ≡ incidents_in lines.now log.now) }
+{
     let mut happened = Vec::new(alloc);
     let mut left = unheard;
     for line in lines {

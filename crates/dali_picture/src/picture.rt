@@ -5,7 +5,8 @@ ghost use Rattle.dali_grammar.specs.ReplayFault.{fault_of};
 ghost use Rattle.dali_grammar.specs.Setting.{setting_of};
 ghost use Rattle.dali_replay.specs.Played.{IsPlayedBy, StopsBy};
 ghost use Rattle.dali_picture.specs.Marks.{mark_of};
-ghost use Rattle.dali_picture.specs.Folds.{AreFolds, HaveTheirFrames};
+ghost use Rattle.dali_picture.specs.Folds.{AreFolds, HaveTheirFrames, HoldTheirOwn};
+ghost use Rattle.dali_picture.specs.Incidents.{told, incidents_in};
 ghost use Rattle.dali_picture.specs.Transactions.{owned, senders_of};
 
 use crate::folds::{Fold, folds_of};
@@ -42,8 +43,11 @@ impl<'a> Picture<'a> {
         ensures marks { IfOk result (λ picture. picture.marks.items ≡ map mark_of picture.played.log.items) }
         ensures folds { IfOk result (λ picture. AreFolds picture.folds.items (length picture.played.log.items)) }
         ensures frames { IfOk result (λ picture. HaveTheirFrames picture.marks.items picture.folds.items) }
+        ensures held { IfOk result (λ picture. HoldTheirOwn picture.marks.items picture.folds.items) }
         ensures transactions { IfOk result (λ picture.
             owned picture.transactions.items ≡ senders_of picture.played.log.items) }
+        ensures incidents { IfOk result (λ picture. map told picture.incidents.items
+            ≡ incidents_in picture.played.lines.items picture.played.log.items) }
     {
         let played = Played::of(alloc, input)?;
         let (marks, transactions, folds) = laid_out(alloc, &played.log)?;
@@ -68,6 +72,7 @@ fn laid_out(
     ensures transactions { IfOk result (λ drawn. owned drawn.1.items ≡ senders_of log.now) }
     ensures folds { IfOk result (λ drawn. AreFolds drawn.2.items (length log.now)) }
     ensures frames { IfOk result (λ drawn. HaveTheirFrames drawn.0.items drawn.2.items) }
+    ensures held { IfOk result (λ drawn. HoldTheirOwn drawn.0.items drawn.2.items) }
 {
     let marks = marks_of(alloc, log)?;
     let transactions = transactions_of(alloc, log)?;
@@ -76,7 +81,10 @@ fn laid_out(
 }
 
 /// What became of the gear, and what went wrong.
-fn watched_in(alloc: Global, played: &Played) -> Result<(Watched, Vec<Happened>), AllocError> {
+fn watched_in(alloc: Global, played: &Played) -> Result<(Watched, Vec<Happened>), AllocError>
+    ensures { IfOk result (λ watched.
+        map told watched.1.items ≡ incidents_in played.now.lines.items played.now.log.items) }
+{
     let gear = played.gear.min(128) as usize;
     let watched = watch_over(alloc, gear, &played.used, &played.draws, &played.log)?;
     let incidents = incidents_of(alloc, &played.lines, &played.log, &watched.unheard)?;

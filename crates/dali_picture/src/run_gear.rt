@@ -1,11 +1,12 @@
 //! The gear of a run, event by event: what they take, draw and answer.
 
-ghost use Rattle.std.specs.Prelude.{◌≡◌, ◌<◌, ◌≤◌, true, length, All};
+ghost use Rattle.std.specs.Prelude.{◌≡◌, ◌<◌, ◌≤◌, true, length, replicate, All};
 ghost use Rattle.dali_frame.specs.Random.{MASK24};
 ghost use Rattle.dali_special.specs.Command.{command_of};
 ghost use Rattle.dali_events.specs.World.{gear_changed};
 ghost use Rattle.dali_events.specs.Happens.{gear_powered};
-ghost use Rattle.dali_gear.specs.Gear.{gear_expired};
+ghost use Rattle.dali_events.specs.Used.{with_used};
+ghost use Rattle.dali_gear.specs.Gear.{gear_expired, fresh};
 
 use dali_frame::{Answer, Forward, Random24};
 use dali_gear::{Reach, Row};
@@ -26,7 +27,9 @@ fn are_drawn(draws: &[Random24]) -> bool
 }
 
 /// Used gear stand in their places, where these are there.
-fn place(gear: &mut Row, used: &[Used]) {
+fn place(gear: &mut Row, used: &[Used])
+    ensures { gear.new ≡ with_used gear.old used.now }
+{
     for one in used {
         let number = one.gear as usize;
         if number < gear.len() {
@@ -88,6 +91,7 @@ impl<'a> RunGear<'a> {
     /// where one is `FFFFFF`, as never in a run that was played.
     pub fn new(gear: usize, used: &[Used], draws: &'a [Random24]) -> RunGear<'a>
         requires { gear ≤ 128 }
+        ensures { result.gear ≡ with_used (replicate gear fresh) used.now }
     {
         let mut gear = Row::new(gear);
         place(&mut gear, used);

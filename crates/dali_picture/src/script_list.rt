@@ -1,12 +1,16 @@
 //! All lines of a script, so that it can be played again, each with its number and with what it reported.
 
+ghost use Rattle.std.specs.Prelude.{◌≡◌, ◌≤◌, ◌⊎◌, ◌++◌, ◌∷◌, [], length, take, drop};
+
 use crate::picture::Picture;
 use crate::words::push_plain;
 use dali_replay::PlayedLine;
 use std::alloc::AllocError;
 
 /// The part of the reports from one place to another.
-fn report_of<'a>(reports: &'a [u8], from: usize, to: usize) -> &'a [u8] {
+fn report_of<'a>(reports: &'a [u8], from: usize, to: usize) -> &'a [u8]
+    ensures { from ≤ to → to ≤ length reports.now → result.now ≡ drop from (take to reports.now) }
+{
     match reports.get(from..to) {
         Some(report) => report,
         None => &[],
@@ -66,7 +70,9 @@ impl Listed {
 }
 
 /// The lines without the line feed of the last one, after which there is no further line.
-fn whole_lines(input: &[u8]) -> &[u8] {
+fn whole_lines(input: &[u8]) -> &[u8]
+    ensures { (result.now ≡ input.now) ⊎ (input.now ≡ result.now ++ 10 ∷ []) }
+{
     match input {
         [before @ .., b'\n'] => before,
         _ => input,

@@ -1,5 +1,12 @@
 //! The marks, bars and texts of a picture, as elements of SVG.
 
+ghost use Rattle.std.specs.Prelude.{◌≡◌, ◌↔◌, [], true, false, codes, take};
+ghost use Rattle.dali_replay.specs.Text.{state_text};
+ghost use Rattle.dali_picture.specs.declared.mark.Tone.{Tone};
+ghost use Rattle.dali_picture.specs.declared.mark.Reply.{Reply};
+ghost use Rattle.dali_picture.specs.declared.transactions.Purpose.{Purpose};
+ghost use Rattle.dali_picture.specs.Classes.{colour_of, tone_for, is_shape, is_colour};
+
 use crate::folds::{Fold, Held};
 use crate::incidents::{Happened, Incident};
 use crate::mark::{Lane, Look, Mark, Reply, Tone};
@@ -16,7 +23,9 @@ use dali_world::Event;
 use std::alloc::AllocError;
 
 /// The class that gives a frame its colour.
-fn tone_class(tone: Tone) -> &'static str {
+fn tone_class(tone: Tone) -> &'static str
+    ensures { result.now ≡ colour_of tone }
+{
     match tone {
         Tone::Opening => "o",
         Tone::Search => "s",
@@ -30,7 +39,9 @@ fn tone_class(tone: Tone) -> &'static str {
 }
 
 /// The class that shows what was heard.
-fn reply_class(reply: Reply) -> &'static str {
+fn reply_class(reply: Reply) -> &'static str
+    ensures { (result.now ≡ []) ↔ (reply ≡ Reply.Silence) }
+{
     match reply {
         Reply::Silence => "",
         Reply::Byte => " b",
@@ -39,7 +50,9 @@ fn reply_class(reply: Reply) -> &'static str {
 }
 
 /// The class that shows which record is kept.
-fn record_class(record: Record) -> &'static str {
+fn record_class(record: Record) -> &'static str
+    ensures { is_colour result.now ≡ true }
+{
     match record {
         Record::Reserve(..) => "p",
         Record::Enrol(..) => "e",
@@ -48,7 +61,12 @@ fn record_class(record: Record) -> &'static str {
 }
 
 /// The shape of a mark, and its classes.
-fn shape_of(look: Look) -> (&'static str, &'static str, &'static str) {
+fn shape_of(look: Look) -> (&'static str, &'static str, &'static str)
+    ensures shape { is_shape result.0.now ≡ true }
+    ensures colour { is_colour result.1.now ≡ true }
+    ensures frame { (tone : Tone) (reply : Reply) → look ≡ Look.Sent tone reply → result.1.now ≡ colour_of tone }
+    ensures request { (tone : Tone) → look ≡ Look.Asked tone → result.1.now ≡ colour_of tone }
+{
     match look {
         Look::Asked(tone) => ("ask", tone_class(tone), ""),
         Look::Sent(tone, reply) => ("frame", tone_class(tone), reply_class(reply)),
@@ -156,21 +174,32 @@ pub fn push_struck_answer(
     text.push_str("</title></path>\n")
 }
 
-/// The class of transactions for this.
-fn purpose_class(purpose: Purpose) -> &'static str {
+/// The frame whose colour transactions for this have.
+fn tone_for(purpose: Purpose) -> Tone
+    ensures { result ≡ tone_for purpose }
+{
     match purpose {
-        Purpose::Search => "s",
-        Purpose::Probe | Purpose::Hunt => "k",
-        Purpose::Visit => "q",
-        Purpose::Program => "p",
-        Purpose::Resolve => "q",
-        Purpose::Opening => "o",
-        Purpose::Close => "t",
-        Purpose::Other => "x",
+        Purpose::Search => Tone::Search,
+        Purpose::Probe | Purpose::Hunt => Tone::Compare,
+        Purpose::Visit | Purpose::Resolve => Tone::Query,
+        Purpose::Program => Tone::Program,
+        Purpose::Opening => Tone::Opening,
+        Purpose::Close => Tone::Terminate,
+        Purpose::Other => Tone::Other,
     }
 }
 
-fn held_class(held: Held) -> &'static str {
+/// The class of a transaction for this.
+fn purpose_class(purpose: Purpose) -> &'static str
+    ensures { result.now ≡ colour_of (tone_for purpose) }
+{
+    tone_class(tone_for(purpose))
+}
+
+/// The class of a fold that holds this.
+fn held_class(held: Held) -> &'static str
+    ensures { (purpose : Purpose) → held ≡ Held.Frames purpose → result.now ≡ colour_of (tone_for purpose) }
+{
     match held {
         Held::Frames(purpose) => purpose_class(purpose),
         Held::Orders | Held::Alone => "x",
@@ -254,7 +283,11 @@ pub fn push_sender(
     text.push_str("</title></rect>\n")
 }
 
-fn shown_class(shown: &Shown) -> &'static str {
+/// The class of a bar for what a gear shows.
+fn shown_class(shown: &Shown) -> &'static str
+    ensures off { shown.now.powered ≡ false → result.now ≡ codes "off" }
+    ensures on { shown.now.powered ≡ true → result.now ≡ take 3 (state_text shown.now.state) }
+{
     if !shown.powered {
         return "off";
     }

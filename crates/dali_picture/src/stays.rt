@@ -1,6 +1,9 @@
 //! What the gear of a run show, and for how long; and what they answered where something else was heard.
 
-ghost use Rattle.std.specs.Prelude.{◌≤◌};
+ghost use Rattle.std.specs.Prelude.{◌≡◌, ◌≤◌, ◌++◌, ◌↔◌, map, false, IsTrue, IfOk, OnOk};
+ghost use Rattle.dali_events.specs.Events.{heard_in};
+ghost use Rattle.dali_picture.specs.RunGear.{Moment, befallen};
+ghost use Rattle.dali_picture.specs.Stays.{shown_of, last_stays, Notes};
 
 use crate::mark::{Lane, mark_of};
 use crate::run_gear::RunGear;
@@ -19,7 +22,9 @@ pub struct Shown {
 }
 
 impl Shown {
-    fn of(gear: &Gear) -> Shown {
+    fn of(gear: &Gear) -> Shown
+        ensures { result ≡ shown_of gear.now }
+    {
         Shown {
             powered: gear.is_powered(),
             state: gear.state(),
@@ -28,7 +33,9 @@ impl Shown {
         }
     }
 
-    fn is(&self, other: &Shown) -> bool {
+    fn is(&self, other: &Shown) -> bool
+        ensures { IsTrue result ↔ (self.now ≡ other.now) }
+    {
         self.powered == other.powered
             && self.state == other.state
             && self.random == other.random
@@ -73,7 +80,9 @@ fn note_answer(
     at: usize,
     event: Event,
     answer: Answer,
-) -> Result<(), AllocError> {
+) -> Result<(), AllocError>
+    ensures { OnOk result (Notes at (heard_in event) answer unheard.old.items unheard.new.items) }
+{
     if let Some(heard) = event.heard() {
         if heard != answer {
             unheard.push(Unheard { at, answer })?;
@@ -84,7 +93,9 @@ fn note_answer(
 
 impl Watch<'_> {
     /// Notes whom the event at a place has changed.
-    fn note(&mut self, stays: &mut Vec<Stay>, at: usize) -> Result<(), AllocError> {
+    fn note(&mut self, stays: &mut Vec<Stay>, at: usize) -> Result<(), AllocError>
+        ensures { self.new.gear ≡ self.old.gear }
+    {
         for number in 0..self.gear.row().len() {
             let shown = Shown::of(&self.gear.row().gear(number));
             if let Some(since) = self.since.get_mut(number) {
@@ -103,7 +114,9 @@ impl Watch<'_> {
     }
 
     /// Notes what all show at the end of the log.
-    fn end(&self, stays: &mut Vec<Stay>, after: usize) -> Result<(), AllocError> {
+    fn end(&self, stays: &mut Vec<Stay>, after: usize) -> Result<(), AllocError>
+        ensures { OnOk result (stays.new.items ≡ stays.old.items ++ last_stays after 0 self.now.since.items) }
+    {
         for (number, since) in self.since.iter().enumerate() {
             stays.push(Stay {
                 gear: number,
@@ -117,7 +130,9 @@ impl Watch<'_> {
 }
 
 /// What all gear show at first.
-fn at_first(alloc: Global, gear: &Row) -> Result<Vec<(usize, Shown)>, AllocError> {
+fn at_first(alloc: Global, gear: &Row) -> Result<Vec<(usize, Shown)>, AllocError>
+    ensures { IfOk result (λ since. since.items ≡ map (λ g. (0, shown_of g)) gear.now) }
+{
     let mut since = Vec::with_capacity(alloc, gear.len())?;
     for number in 0..gear.len() {
         since.push((0, Shown::of(&gear.gear(number))))?;
@@ -126,7 +141,9 @@ fn at_first(alloc: Global, gear: &Row) -> Result<Vec<(usize, Shown)>, AllocError
 }
 
 /// Whether an event may change what gear show: it stands in the lane of one of them, or they can take its frame.
-fn is_felt(event: &Event) -> bool {
+fn is_felt(event: &Event) -> bool
+    ensures { result ≡ false → (m : Moment) → map shown_of (befallen event.now m).0.gear ≡ map shown_of m.gear }
+{
     matches!(mark_of(*event).lane, Lane::Gear(_)) || event.sending().is_some()
 }
 

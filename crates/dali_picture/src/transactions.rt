@@ -1,7 +1,9 @@
 //! The transactions of a log: which frames belong together, and what they are for.
 
-ghost use Rattle.std.specs.Prelude.{◌≡◌, ◌<◌, ◌+◌, ◌++◌, true, IfOk};
-ghost use Rattle.dali_picture.specs.Transactions.{senders_of, owned, owned_by};
+ghost use Rattle.std.specs.Prelude.{◌≡◌, ◌≢◌, ◌<◌, ◌+◌, ◌++◌, true, false, IfOk};
+ghost use Rattle.dali_special.specs.Command.{command_of};
+ghost use Rattle.dali_script.specs.Scripts.{is_asking, ASKING, IsFirst};
+ghost use Rattle.dali_picture.specs.Transactions.{senders_of, owned, owned_by, IsLater};
 
 use dali_frame::Forward;
 use dali_special::{Command, Part};
@@ -51,7 +53,10 @@ pub struct Transaction {
 }
 
 /// Whether a frame may begin a transaction: no later frame of one is such a frame, but SEARCHADDRH in a hunt.
-pub fn is_first(frame: Forward) -> bool {
+pub fn is_first(frame: Forward) -> bool
+    ensures begins { IsFirst frame → result ≡ true }
+    ensures goes_on { IsLater frame → result ≡ false }
+{
     match Command::read(frame) {
         Command::Terminate | Command::SearchHigh(_) | Command::Arc(_) | Command::Other(_) => true,
         Command::RandomByte(_, part) => matches!(part, Part::High),
@@ -68,7 +73,11 @@ pub fn is_first(frame: Forward) -> bool {
 }
 
 /// What a transaction is for, after one more frame.
-fn purpose_after(purpose: Purpose, frame: Forward) -> Purpose {
+fn purpose_after(purpose: Purpose, frame: Forward) -> Purpose
+    ensures hunts { purpose ≡ Purpose.Hunt → is_asking (command_of frame) ≡ true → result ≡ Purpose.Hunt }
+    ensures no_hunt { result ≡ Purpose.Hunt → purpose ≡ Purpose.Hunt }
+    ensures asked { purpose ≡ Purpose.Program → command_of frame ≡ Command.QueryShort → result ≡ Purpose.Program }
+{
     match Command::read(frame) {
         Command::Terminate => Purpose::Close,
         Command::Initialise(_) | Command::Randomise => Purpose::Opening,
@@ -84,7 +93,10 @@ fn purpose_after(purpose: Purpose, frame: Forward) -> Purpose {
 }
 
 /// What a transaction with a search byte or a COMPARE is for: in a hunt they belong to that.
-fn searched(purpose: Purpose, alone: Purpose) -> Purpose {
+fn searched(purpose: Purpose, alone: Purpose) -> Purpose
+    ensures hunts { purpose ≡ Purpose.Hunt → result ≡ Purpose.Hunt }
+    ensures other { purpose ≢ Purpose.Hunt → result ≡ alone }
+{
     match purpose {
         Purpose::Hunt => Purpose::Hunt,
         Purpose::Search
@@ -99,7 +111,10 @@ fn searched(purpose: Purpose, alone: Purpose) -> Purpose {
 }
 
 /// What a transaction with a QUERY SHORT ADDRESS is for: the query after PROGRAM SHORT ADDRESS belongs to that.
-fn visited(purpose: Purpose) -> Purpose {
+fn visited(purpose: Purpose) -> Purpose
+    ensures programs { purpose ≡ Purpose.Program → result ≡ Purpose.Program }
+    ensures other { purpose ≢ Purpose.Program → result ≡ Purpose.Visit }
+{
     match purpose {
         Purpose::Program => Purpose::Program,
         Purpose::Search
@@ -148,13 +163,19 @@ impl Transaction {
     }
 
     /// Whether it is a hunt with this frame: the low byte of the search address is its second frame.
-    fn begins_hunt(&self, frame: Forward) -> bool {
+    fn begins_hunt(&self, frame: Forward) -> bool
+        ensures search { result ≡ true → self.now.purpose ≡ Purpose.Search }
+        ensures second { result ≡ true → self.now.frames ≡ 1 }
+    {
         let is_low = matches!(Command::read(frame), Command::SearchLow(_));
         is_low && self.frames == 1 && matches!(self.purpose, Purpose::Search)
     }
 
     /// Whether it is a hunt that has room for this search byte. A hunt has at most eight frames.
-    fn hunts_on(&self, frame: Forward) -> bool {
+    fn hunts_on(&self, frame: Forward) -> bool
+        ensures hunts { result ≡ true → self.now.purpose ≡ Purpose.Hunt }
+        ensures room { result ≡ true → self.now.frames < 3 + ASKING }
+    {
         let is_high = matches!(Command::read(frame), Command::SearchHigh(_));
         is_high && self.frames < 8 && matches!(self.purpose, Purpose::Hunt)
     }

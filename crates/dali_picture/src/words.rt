@@ -1,5 +1,9 @@
 //! What is said of an event, of a frame and of a gear.
 
+ghost use Rattle.std.specs.Prelude.{◌≡◌, ◌↔◌, ◌++◌, codes, OnOk, string_bytes};
+ghost use Rattle.dali_replay.specs.Text.{state_text, short_text};
+ghost use Rattle.dali_picture.specs.Plain.{plain_byte, plain_text, IsText};
+
 use crate::folds::{Fold, Held};
 use crate::incidents::Incident;
 use crate::stances::Stance;
@@ -248,7 +252,9 @@ pub fn push_transaction(text: &mut String, transaction: &Transaction) -> Result<
 }
 
 /// What an initialisation state is called.
-pub fn state_name(state: InitialisationState) -> &'static str {
+pub fn state_name(state: InitialisationState) -> &'static str
+    ensures { result.now ≡ state_text state }
+{
     match state {
         InitialisationState::Disabled => "disabled",
         InitialisationState::Enabled => "enabled",
@@ -288,7 +294,9 @@ pub fn push_stance(text: &mut String, stance: Stance) -> Result<(), AllocError> 
 }
 
 /// The class that shows how good that is.
-pub fn stance_class(stance: Stance) -> &'static str {
+pub fn stance_class(stance: Stance) -> &'static str
+    ensures { (result.now ≡ codes "good") ↔ (stance ≡ Stance.Ended End.AllFound) }
+{
     match stance {
         Stance::Ended(End::AllFound) => "good",
         Stance::AtWork | Stance::Ended(End::BlockFull) => "part",
@@ -312,7 +320,9 @@ pub fn stance_meaning(stance: Stance) -> &'static str {
 }
 
 /// The short address that a gear shows, as a number, or a dash.
-pub fn push_short(text: &mut String, short: Option<Short>) -> Result<(), AllocError> {
+pub fn push_short(text: &mut String, short: Option<Short>) -> Result<(), AllocError>
+    ensures { OnOk result (string_bytes text.new ≡ string_bytes text.old ++ short_text short) }
+{
     match short {
         None => text.push_str("-"),
         Some(short) => {
@@ -334,7 +344,9 @@ pub fn push_shown(text: &mut String, gear: usize, shown: &Shown) -> Result<(), A
     push_short(text, shown.short)
 }
 
-fn push_byte(text: &mut String, byte: u8) -> Result<(), AllocError> {
+fn push_byte(text: &mut String, byte: u8) -> Result<(), AllocError>
+    ensures { OnOk result (string_bytes text.new ≡ string_bytes text.old ++ plain_byte byte) }
+{
     match byte {
         b'&' => text.push_str("&amp;"),
         b'<' => text.push_str("&lt;"),
@@ -345,7 +357,10 @@ fn push_byte(text: &mut String, byte: u8) -> Result<(), AllocError> {
 }
 
 /// A line of a script, or the report of one, with the marks of the page's language in their place.
-pub fn push_plain(text: &mut String, bytes: &[u8]) -> Result<(), AllocError> {
+pub fn push_plain(text: &mut String, bytes: &[u8]) -> Result<(), AllocError>
+    ensures text { OnOk result (string_bytes text.new ≡ string_bytes text.old ++ plain_text bytes.now) }
+    ensures no_mark { IsText (plain_text bytes.now) }
+{
     for byte in bytes {
         push_byte(text, *byte)?;
     }

@@ -1,5 +1,7 @@
 //! The words that a program knows, as a table, of which `clap` makes its command.
 
+ghost use Rattle.std.specs.Prelude.{◌≡◌, ◌++◌, ◌∷◌, [], true, Some, IfOk, IsOkAnd, OnOk};
+
 use clap::builder::ValueParser;
 use clap::{Arg, ArgAction, Command, value_parser};
 use std::alloc::{AllocError, Global};
@@ -71,14 +73,21 @@ pub struct Program {
     pub subcommands: &'static [Subcommand],
 }
 
-fn flag<'a>(alloc: Global, word: &Word) -> Arg<'a> {
+/// An option that is there or not, under the name of its word.
+fn flag<'a>(alloc: Global, word: &Word) -> Arg<'a>
+    ensures name { result.id.now ≡ word.now.name.now }
+    ensures there { result.action ≡ Some ArgAction.SetTrue }
+{
     Arg::new(alloc, word.name)
         .long(word.name)
         .action(ArgAction::SetTrue)
         .help(word.help)
 }
 
-fn typed(arg: Arg<'_>, value: Value) -> Arg<'_> {
+/// The same argument, whose value has to be this.
+fn typed(arg: Arg<'_>, value: Value) -> Arg<'_>
+    ensures { result ≡ record arg.entry { value_parser = result.value_parser } }
+{
     match value {
         Value::Text => arg,
         Value::Among(these) => arg.value_parser(ValueParser::from(these)),
@@ -89,7 +98,10 @@ fn typed(arg: Arg<'_>, value: Value) -> Arg<'_> {
     }
 }
 
-fn option<'a>(alloc: Global, word: &Word, value: Value) -> Arg<'a> {
+/// An option with a value.
+fn option<'a>(alloc: Global, word: &Word, value: Value) -> Arg<'a>
+    ensures { result.id.now ≡ word.now.name.now }
+{
     let arg = Arg::new(alloc, word.name)
         .long(word.name)
         .value_name(word.value)
@@ -98,7 +110,11 @@ fn option<'a>(alloc: Global, word: &Word, value: Value) -> Arg<'a> {
     typed(arg, value)
 }
 
-fn place<'a>(alloc: Global, word: &Word) -> Arg<'a> {
+/// A word at its place, which has to be there.
+fn place<'a>(alloc: Global, word: &Word) -> Arg<'a>
+    ensures name { result.id.now ≡ word.now.name.now }
+    ensures needed { result.required ≡ true }
+{
     Arg::new(alloc, word.name)
         .value_name(word.value)
         .required(true)
@@ -107,7 +123,9 @@ fn place<'a>(alloc: Global, word: &Word) -> Arg<'a> {
 }
 
 /// The argument of `clap` that a word is.
-fn arg<'a>(alloc: Global, word: &Word) -> Result<Arg<'a>, AllocError> {
+fn arg<'a>(alloc: Global, word: &Word) -> Result<Arg<'a>, AllocError>
+    ensures { IfOk result (λ arg. arg.id.now ≡ word.now.name.now) }
+{
     match word.kind {
         WordKind::Flag => Ok(flag(alloc, word)),
         WordKind::NotBeside(other) => flag(alloc, word).conflicts_with(other),
@@ -121,11 +139,14 @@ fn arg<'a>(alloc: Global, word: &Word) -> Result<Arg<'a>, AllocError> {
 }
 
 /// Adds what was made to a list.
-fn add<T: Drop>(list: &mut Vec<T>, made: Result<T, AllocError>) -> Result<(), AllocError> {
+fn add<T: Drop>(list: &mut Vec<T>, made: Result<T, AllocError>) -> Result<(), AllocError>
+    ensures { OnOk result (IsOkAnd made (λ item. list.new.items ≡ list.old.items ++ item ∷ [])) }
+{
     list.push(made?)?;
     Ok(())
 }
 
+/// The arguments that these words are, in their order.
 fn args<'a>(alloc: Global, words: &[Word]) -> Result<Vec<Arg<'a>>, AllocError> {
     let mut args = Vec::new(alloc);
     for word in words {

@@ -1,6 +1,7 @@
 //! A command line is read, and it is said what is wrong with it.
 
-ghost use Rattle.std.specs.Prelude.{◌≡◌};
+ghost use Rattle.std.specs.Prelude.{◌≡◌, Some, IfOk, IfSome, string_bytes};
+ghost use Rattle.clap.specs.Words.{subcommand_name_of};
 ghost use Rattle.dali_words.specs.Answered.{answered};
 
 use crate::line::{CommandLine, LineFault, NO_SUBCOMMAND};
@@ -14,8 +15,15 @@ use std::io;
 use std::io::Eprint;
 
 /// The subcommand of this name.
-fn named(program: &Program, name: &str) -> Option<&'static Subcommand> {
-    program.subcommands.iter().find(|from| from.name == name)
+fn named(program: &Program, name: &str) -> Option<&'static Subcommand>
+    ensures { IfSome result (λ from. from.now.name.now ≡ name.now) }
+{
+    for from in program.subcommands {
+        if from.name == name {
+            return Some(from);
+        }
+    }
+    None
 }
 
 /// Why a line is wrong that `clap` took, with the usage of its subcommand.
@@ -48,7 +56,9 @@ fn matches<'a>(
 }
 
 /// What stands on the line. A subcommand that the program does not know, or none, `clap` refuses before.
-fn line(alloc: Global, program: &Program, found: &ArgMatches<'_>) -> Result<CommandLine, Error> {
+fn line(alloc: Global, program: &Program, found: &ArgMatches<'_>) -> Result<CommandLine, Error>
+    ensures { IfOk result (λ line. subcommand_name_of found.now ≡ Some (string_bytes line.subcommand)) }
+{
     if let Some((name, found)) = found.subcommand() {
         if let Some(from) = named(program, name) {
             return Ok(CommandLine::of(alloc, from, found)?);

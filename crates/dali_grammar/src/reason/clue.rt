@@ -1,5 +1,11 @@
 //! Which words the refusal of a plan speaks of.
 
+ghost use Rattle.std.specs.Prelude.{◌≡◌, ◌==◌, ◌<◌, ◌||◌, Some, None, ℕ, true, is_some, nat_lt, slice_get};
+ghost use Rattle.std.specs.Prelude.{IsSome, IfSome};
+ghost use Rattle.std.specs.List.{list_any};
+ghost use Rattle.dali_events.specs.Plan.{Plan, any_pair, is_misordered, overlap, refusal_of, used_refusal_of};
+ghost use Rattle.dali_grammar.specs.Clues.{block_spot, draw_spot, number_of, used_spot};
+
 use super::mistake::Mistake;
 use dali_events::{CONTROLLER_LIMIT, PlanError, Used};
 
@@ -31,7 +37,10 @@ enum Mark {
 }
 
 impl Mark {
-    fn of(self, used: &Used) -> u32 {
+    /// This number of a used gear.
+    fn of(self, used: &Used) -> u32
+        ensures { result ≡ number_of self used.now }
+    {
         match self {
             Mark::Gear => used.gear,
             Mark::Short => u32::from(used.short.number()),
@@ -40,7 +49,9 @@ impl Mark {
     }
 
     /// This number of the used gear at this place.
-    fn spot(self, index: usize) -> Spot {
+    fn spot(self, index: usize) -> Spot
+        ensures { index < 4294967296 → result ≡ used_spot self index }
+    {
         let word = match self {
             Mark::Gear => 2,
             Mark::Short => 3,
@@ -53,14 +64,18 @@ impl Mark {
     }
 }
 
-fn block_spot(index: usize) -> Spot {
+fn block_spot(index: usize) -> Spot
+    ensures { index < 4294967296 → result ≡ block_spot index }
+{
     Spot {
         line: 0,
         word: index.saturating_add(3),
     }
 }
 
-fn draw_spot(index: usize) -> Spot {
+fn draw_spot(index: usize) -> Spot
+    ensures { index < 4294967296 → result ≡ draw_spot index }
+{
     Spot {
         line: 1,
         word: index.saturating_add(2),
@@ -68,7 +83,9 @@ fn draw_spot(index: usize) -> Spot {
 }
 
 /// The block that is none.
-fn misordered(blocks: &[(u8, u8)]) -> Option<Clue> {
+fn misordered(blocks: &[(u8, u8)]) -> Option<Clue>
+    ensures { is_some result ≡ list_any is_misordered blocks.now }
+{
     for (index, block) in blocks.iter().enumerate() {
         if block.0 > 63 || block.1 > 63 {
             return Some(Clue {
@@ -86,26 +103,63 @@ fn misordered(blocks: &[(u8, u8)]) -> Option<Clue> {
     None
 }
 
+/// The first of these blocks that shares an address with this one.
+fn meeting(block: (u8, u8), blocks: &[(u8, u8)]) -> Option<usize>
+    ensures there { is_some result ≡ list_any (λ other. overlap other block) blocks.now }
+    ensures found { IfSome result (λ index. IfSome (slice_get blocks.now index) (λ other. overlap other block ≡ true)) }
+{
+    for (index, other) in blocks.iter().enumerate() {
+        if other.0 <= block.1 && block.0 <= other.1 {
+            return Some(index);
+        }
+    }
+    None
+}
+
 /// The first block that shares an address with one before it, and that one.
-fn overlapping(blocks: &[(u8, u8)]) -> Option<Clue> {
+fn overlapping(blocks: &[(u8, u8)]) -> Option<Clue>
+    ensures { is_some result ≡ any_pair overlap blocks.now }
+{
     for (index, block) in blocks.iter().enumerate() {
-        let mut before = blocks[..index].iter();
-        if let Some(other) = before.position(|it| block.0 <= it.1 && it.0 <= block.1) {
+        if let Some(other) = meeting(*block, &blocks[..index]) {
             return Some(Clue::beside(block_spot(index), block_spot(other)));
         }
     }
     None
 }
 
-fn too_large(draws: &[u32]) -> Option<Clue> {
-    let index = draws.iter().position(|draw| *draw > 0xFF_FFFE)?;
-    Some(Clue::alone(draw_spot(index)))
+/// The first number to draw that no gear draws.
+fn too_large(draws: &[u32]) -> Option<Clue>
+    ensures { is_some result ≡ list_any (λ draw. nat_lt 0xFFFFFE draw) draws.now }
+{
+    for (index, draw) in draws.iter().enumerate() {
+        if *draw > 0xFF_FFFE {
+            return Some(Clue::alone(draw_spot(index)));
+        }
+    }
+    None
+}
+
+/// The first place of a number among these.
+fn place_of(number: u32, numbers: &[u32]) -> Option<usize>
+    ensures there { is_some result ≡ list_any (λ other. other == number) numbers.now }
+    ensures same { is_some result ≡ list_any (λ other. number == other) numbers.now }
+    ensures found { IfSome result (λ index. slice_get numbers.now index ≡ Some number) }
+{
+    for (index, other) in numbers.iter().enumerate() {
+        if *other == number {
+            return Some(index);
+        }
+    }
+    None
 }
 
 /// The first number that is drawn twice.
-fn drawn_twice(draws: &[u32]) -> Option<Clue> {
+fn drawn_twice(draws: &[u32]) -> Option<Clue>
+    ensures { is_some result ≡ any_pair (λ draw other. draw == other) draws.now }
+{
     for (index, draw) in draws.iter().enumerate() {
-        if let Some(other) = draws[..index].iter().position(|it| it == draw) {
+        if let Some(other) = place_of(*draw, &draws[..index]) {
             return Some(Clue::beside(draw_spot(index), draw_spot(other)));
         }
     }
@@ -113,19 +167,41 @@ fn drawn_twice(draws: &[u32]) -> Option<Clue> {
 }
 
 /// The first of used gear of which this number is too large.
-fn above(used: &[Used], mark: Mark, most: u32) -> Option<Spot> {
-    let index = used.iter().position(|it| mark.of(it) > most)?;
-    Some(mark.spot(index))
+fn above(used: &[Used], mark: Mark, most: u32) -> Option<Spot>
+    ensures { is_some result ≡ list_any (λ u. nat_lt most (number_of mark u)) used.now }
+{
+    for (index, one) in used.iter().enumerate() {
+        if mark.of(one) > most {
+            return Some(mark.spot(index));
+        }
+    }
+    None
+}
+
+/// The first of used gear that has this number.
+fn place_in(mark: Mark, number: u32, used: &[Used]) -> Option<usize>
+    ensures there { is_some result ≡ list_any (λ u. number_of mark u == number) used.now }
+    ensures found { IfSome result (λ index. IfSome (slice_get used.now index) (λ u. number_of mark u ≡ number)) }
+{
+    for (index, one) in used.iter().enumerate() {
+        if mark.of(one) == number {
+            return Some(index);
+        }
+    }
+    None
 }
 
 /// The first of used gear that has this number in common with one before it, or with one of these that are drawn.
-fn shared(used: &[Used], mark: Mark, draws: &[u32]) -> Option<Clue> {
+fn shared(used: &[Used], mark: Mark, draws: &[u32]) -> Option<Clue>
+    ensures { is_some result ≡ (any_pair (λ u v. number_of mark u == number_of mark v) used.now
+        || list_any (λ u. list_any (λ draw. number_of mark u == draw) draws.now) used.now) }
+{
     for (index, one) in used.iter().enumerate() {
         let number = mark.of(one);
-        if let Some(other) = draws.iter().position(|it| *it == number) {
+        if let Some(other) = place_of(number, draws) {
             return Some(Clue::beside(mark.spot(index), draw_spot(other)));
         }
-        if let Some(other) = used[..index].iter().position(|it| mark.of(it) == number) {
+        if let Some(other) = place_in(mark, number, &used[..index]) {
             return Some(Clue::beside(mark.spot(index), mark.spot(other)));
         }
     }
@@ -133,7 +209,10 @@ fn shared(used: &[Used], mark: Mark, draws: &[u32]) -> Option<Clue> {
 }
 
 impl Clue {
-    fn alone(at: Spot) -> Clue {
+    /// Of one word.
+    fn alone(at: Spot) -> Clue
+        ensures { result ≡ record { mistake = None; at = at; beside = None } }
+    {
         Clue {
             mistake: None,
             at,
@@ -141,7 +220,10 @@ impl Clue {
         }
     }
 
-    fn beside(at: Spot, other: Spot) -> Clue {
+    /// Of two words that do not go together.
+    fn beside(at: Spot, other: Spot) -> Clue
+        ensures { result ≡ record { mistake = None; at = at; beside = Some other } }
+    {
         Clue {
             mistake: None,
             at,
@@ -150,7 +232,9 @@ impl Clue {
     }
 
     /// Of a plan of these.
-    pub fn of(error: PlanError, blocks: &[(u8, u8)], draws: &[u32]) -> Option<Clue> {
+    pub fn of(error: PlanError, blocks: &[(u8, u8)], draws: &[u32]) -> Option<Clue>
+        ensures { (gear : ℕ) → refusal_of gear blocks.now draws.now ≡ Some error → IsSome result }
+    {
         match error {
             PlanError::GearCount => Some(Clue::alone(GEAR)),
             PlanError::ControllerCount if blocks.is_empty() => {
@@ -171,7 +255,10 @@ impl Clue {
     }
 
     /// Of used gear that a plan of so many gear refuses, in which these numbers are drawn.
-    pub fn of_used(error: PlanError, used: &[Used], gear: u32, draws: &[u32]) -> Option<Clue> {
+    pub fn of_used(error: PlanError, used: &[Used], gear: u32, draws: &[u32]) -> Option<Clue>
+        ensures { (plan : Plan) → plan.gear ≡ gear → plan.draws ≡ draws.now → 0 < gear
+            → used_refusal_of plan used.now ≡ Some error → IsSome result }
+    {
         match error {
             PlanError::UnknownGear => {
                 let at = above(used, Mark::Gear, gear.saturating_sub(1))?;

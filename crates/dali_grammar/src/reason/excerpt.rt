@@ -17,7 +17,7 @@ pub struct Excerpt {
 }
 
 impl Excerpt {
-    ghost use Rattle.std.specs.Prelude.{◌≡◌, take};
+    ghost use Rattle.std.specs.Prelude.{◌≡◌, ◌↔◌, [], take, IsTrue};
     ghost use Rattle.dali_grammar.specs.Reason.{shown};
 
     /// What is shown of a word.
@@ -35,7 +35,9 @@ impl Excerpt {
     }
 
     /// Whether it shows nothing.
-    pub fn is_empty(&self) -> bool {
+    pub fn is_empty(&self) -> bool
+        ensures { IsTrue result ↔ (shown self.now ≡ []) }
+    {
         self.len == 0
     }
 }

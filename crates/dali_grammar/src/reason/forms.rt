@@ -1,5 +1,8 @@
 //! The forms of all lines, as words: which line may stand where.
 
+ghost use Rattle.std.specs.Prelude.{◌≡◌, ◌==◌, not, bytes_eq, nat_eq, true, IfSome};
+ghost use Rattle.std.specs.List.{list_any, starts_with};
+
 use super::mistake::Mistake;
 use super::names::is_near;
 use std::fmt;
@@ -72,7 +75,9 @@ const SITE: &[LineForm] = &[
 
 impl LineForm {
     /// Whether a line begins as this form does.
-    fn begins(&self, line: &[u8]) -> bool {
+    fn begins(&self, line: &[u8]) -> bool
+        ensures { result ≡ true → starts_with nat_eq line.now self.now.0.now ≡ true }
+    {
         match line.strip_prefix(self.0.as_bytes()) {
             Some([]) | Some([b' ', ..]) => true,
             _ => false,
@@ -92,7 +97,9 @@ impl Place {
     }
 
     /// The form of lines here that begins as this line does.
-    pub(super) fn form_of(self, line: &[u8]) -> Hint {
+    pub(super) fn form_of(self, line: &[u8]) -> Hint
+        ensures { (form : LineForm) → result ≡ Hint.Form form → starts_with nat_eq line.now form.0.now ≡ true }
+    {
         for form in self.forms() {
             if form.begins(line) {
                 return Hint::Form(*form);
@@ -109,7 +116,9 @@ impl Place {
         let other = match self {
             Place::First => Mistake::OtherFirst,
             Place::Second => Mistake::OtherSecond,
-            Place::Used | Place::Bench => Mistake::OtherOnBench,
+            // Never so: a line at this place begins with `used`, which belongs here.
+            Place::Used => return (Mistake::OfUsed, Hint::Nothing),
+            Place::Bench => Mistake::OtherOnBench,
             Place::Site => Mistake::OtherOnSite,
         };
         match nearest(self.forms(), name) {
@@ -120,7 +129,9 @@ impl Place {
 }
 
 /// Whether one of these forms has this name.
-fn has(forms: &[LineForm], name: &[u8]) -> bool {
+fn has(forms: &[LineForm], name: &[u8]) -> bool
+    ensures { result ≡ list_any (λ form. bytes_eq form.0.now name.now) forms.now }
+{
     for form in forms {
         if form.0.as_bytes() == name {
             return true;
@@ -148,7 +159,9 @@ fn home_of(name: &[u8]) -> Option<Mistake> {
 }
 
 /// The name of one of these forms that is nearly this one.
-fn nearest(forms: &[LineForm], name: &[u8]) -> Option<&'static str> {
+fn nearest(forms: &[LineForm], name: &[u8]) -> Option<&'static str>
+    ensures { IfSome result (λ found. list_any (λ form. bytes_eq form.0.now found.now) forms.now ≡ true) }
+{
     for form in forms {
         if is_near(name, form.0.as_bytes()) {
             return Some(form.0);
@@ -167,19 +180,31 @@ impl fmt::Display for LineForm {
     }
 }
 
+impl LineForm {
+    /// Whether its name is one word.
+    fn is_one_word(&self) -> bool
+        ensures { result ≡ not (list_any (λ byte. byte == 32) self.now.0.now) }
+    {
+        !self.0.as_bytes().contains(&b' ')
+    }
+}
+
 /// Writes the names of these forms, but of two words.
 fn write_names<W: fmt::Write>(f: &mut fmt::Formatter<W>, forms: &[LineForm]) -> fmt::Result {
-    for (index, form) in forms.iter().enumerate() {
-        let name = form.0;
-        if !name.as_bytes().contains(&b' ') {
-            let mark = if index == 0 {
+    let count = forms.iter().filter(|form| form.is_one_word()).count();
+    let mut written = 0usize;
+    for form in forms {
+        if form.is_one_word() {
+            let mark = if written == 0 {
                 "those are "
-            } else if index + 1 == forms.len() {
+            } else if written.saturating_add(1) == count {
                 " and "
             } else {
                 ", "
             };
+            let name = form.0;
             write!(f, "{mark}`{name}`")?;
+            written = written.saturating_add(1);
         }
     }
     Ok(())

@@ -66,7 +66,9 @@ pub(super) fn line_mistake(place: Place, line: &[u8], wrong: Wrong) -> (Found, H
     let word = part_at(line, b' ', wrong.word.saturating_sub(1));
     match (wrong.wanted, place) {
         (Wanted::Line, Place::First) => ((Mistake::NoFirstLine, 0), Hint::Nothing),
-        (Wanted::Line, _) => ((Mistake::NoSecondLine, 0), Hint::Nothing),
+        (Wanted::Line, Place::Second | Place::Used | Place::Bench | Place::Site) => {
+            ((Mistake::NoSecondLine, 0), Hint::Nothing)
+        }
         (Wanted::Name, _) => {
             let (mistake, hint) = place.stranger(word.unwrap_or(&[]));
             ((mistake, 1), hint)

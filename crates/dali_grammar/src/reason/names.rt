@@ -1,6 +1,7 @@
 //! Names that are nearly other names.
 
-ghost use Rattle.std.specs.Prelude.{◌≤◌, length};
+ghost use Rattle.std.specs.Prelude.{◌≡◌, ◌≤◌, length, map, true};
+ghost use Rattle.std.specs.Char.{to_ascii_lowercase};
 
 /// How many bytes two words have in common at their beginnings.
 fn common(word: &[u8], name: &[u8]) -> usize
@@ -28,7 +29,9 @@ fn is_one_off(word: &[u8], name: &[u8]) -> bool {
 }
 
 /// Whether a word is a name, but for capitals, or for one letter.
-pub(super) fn is_near(word: &[u8], name: &[u8]) -> bool {
+pub(super) fn is_near(word: &[u8], name: &[u8]) -> bool
+    ensures { map to_ascii_lowercase word.now ≡ map to_ascii_lowercase name.now → result ≡ true }
+{
     if word.eq_ignore_ascii_case(name) {
         return true;
     }

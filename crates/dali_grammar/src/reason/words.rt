@@ -1,11 +1,17 @@
 //! What is wrong with a word of a line.
 
+ghost use Rattle.std.specs.Prelude.{◌≡◌, ◌≢◌, [], true, IsNone, IsSome};
+ghost use Rattle.std.specs.Str.{all_ascii_digits};
+
 use super::mistake::Mistake;
 use crate::numbers::number_in;
 use crate::words::Wanted;
 
 /// Whether a word has decimal digits alone.
-fn has_digits(word: &[u8]) -> bool {
+fn has_digits(word: &[u8]) -> bool
+    ensures digits { result ≡ true → all_ascii_digits word.now ≡ true }
+    ensures some { result ≡ true → word.now ≢ [] }
+{
     for byte in word {
         if !byte.is_ascii_digit() {
             return false;
@@ -48,7 +54,10 @@ fn list_mistake(word: &[u8]) -> Mistake {
 }
 
 /// What is wrong with a word that is not as it is to be; or that none stands there.
-pub(super) fn word_mistake(wanted: Wanted, word: Option<&[u8]>) -> Mistake {
+pub(super) fn word_mistake(wanted: Wanted, word: Option<&[u8]>) -> Mistake
+    ensures missing { IsNone word.entry → result ≡ Mistake.WordMissing }
+    ensures more { IsSome word.entry → wanted ≡ Wanted.End → result ≡ Mistake.WordTooMany }
+{
     let Some(word) = word else {
         return Mistake::WordMissing;
     };
