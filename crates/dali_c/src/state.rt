@@ -1,13 +1,10 @@
 //! The state of a machine as plain bytes.
 
-ghost use Rattle.std.specs.Prelude.{◌≡◌, true, Some, IfSome, IfNone};
+ghost use Rattle.std.specs.Prelude.{◌≡◌, Some, IfSome, IfNone};
 ghost use Rattle.dali_search.specs.Least.{Search};
 ghost use Rattle.dali_controller.specs.declared.leg.Leg.{Leg};
 ghost use Rattle.dali_controller.specs.declared.state.State.{State};
-ghost use Rattle.dali_controller.specs.Legs.{way_drawn};
-ghost use Rattle.dali_c.specs.Codes.{bool_of};
 ghost use Rattle.dali_c.specs.Machines.{IsPlainSearch, IsPlainLeg, FillsLeg, Spells};
-ghost use Rattle.dali_c.specs.Surveys.{way_of};
 
 use crate::ascents::PlainAscent;
 use crate::codes::bool_of;
@@ -107,7 +104,8 @@ impl PlainState {
         ensures same { (l : Leg) → IsPlainLeg self.now l → result ≡ Some l }
     {
         let is_searching = bool_of(self.opened)?;
-        match (is_searching, way_of(self.way)?) {
+        let way = way_of(self.way)?;
+        match (is_searching, way) {
             (false, Way::Fresh) => Some(Leg::Revisiting { from: self.from }),
             (false, Way::Surveying) => Some(Leg::Asking {
                 from: self.from,
@@ -115,21 +113,12 @@ impl PlainState {
             }),
             (false, Way::Drawing) => None,
             (true, Way::Fresh) => Some(Leg::Searching(self.search()?)),
-            (true, Way::Surveying) => self.hunting(false),
-            (true, Way::Drawing) => self.hunting(true),
+            (true, Way::Surveying | Way::Drawing) => {
+                let ascent = self.ascent.read()?;
+                let drew = matches!(way, Way::Drawing);
+                Some(Leg::Hunting(Upward { ascent, drew }))
+            }
         }
-    }
-
-    /// The leg of a survey that searches gear, which drew new random addresses or did not.
-    fn hunting(&self, drew: bool) -> Option<Leg>
-        requires opened { bool_of self.now.opened ≡ Some true }
-        requires way { way_of self.now.way ≡ Some (way_drawn drew) }
-
-        ensures leg { IfSome result (IsPlainLeg self.now) }
-        ensures same { (l : Leg) → IsPlainLeg self.now l → result ≡ Some l }
-    {
-        let ascent = self.ascent.read()?;
-        Some(Leg::Hunting(Upward { ascent, drew }))
     }
 
     fn search(&self) -> Option<Search>

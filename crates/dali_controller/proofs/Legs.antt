@@ -1,16 +1,14 @@
-use Rattle.std.proofs.Common.{◌≡◌, ◌⊎◌, inl, inr, ℕ, Bool, true, false, List, [], ◌∷◌, ◌++◌, refl, sym, ap, subst, ◌∙◌, Option, Some, None}
+use Rattle.std.proofs.Common.{◌≡◌, ℕ, Bool, true, false, List, [], ◌∷◌, ◌++◌, refl, sym, ap, subst, ◌∙◌, Option, Some, None}
 use Rattle.std.specs.Prelude.{◌||◌}
 use Rattle.dali_frame.specs.declared.frames.Forward.{Forward}
 use Rattle.dali_frame.specs.declared.frames.Answer.{Answer}
 use Rattle.dali_frame.specs.declared.numbers.SearchAddress.{SearchAddress}
-use Rattle.dali_special.specs.declared.command.Command.{Command}
 use Rattle.dali_script.specs.declared.stage.Stage.{Stage}
-use Rattle.dali_script.specs.declared.stage.Stage.TheVariants.{Initialised, Opened, Unanswered, Spelled, Inconclusive, Hunted, Withdrawn, Unnamed}
+use Rattle.dali_script.specs.declared.stage.Stage.TheVariants.{Initialised, Opened}
 use Rattle.dali_script.specs.declared.trace.Entry.{Entry}
 use Rattle.dali_script.specs.Records.{Kept}
 use Rattle.dali_script.specs.Stages.{stage_of}
 use Rattle.dali_script.specs.declared.orders.Input.TheVariants as input
-use Rattle.dali_script.specs.declared.orders.Order.{Order}
 use Rattle.dali_script.specs.Due.{frame_put}
 use Rattle.dali_search.specs.Least.{at_first}
 use Rattle.dali_search.specs.Ascending.{ascent_at_first}
@@ -20,7 +18,7 @@ use Rattle.dali_controller.specs.declared.purpose.Purpose.{Purpose}
 use Rattle.dali_controller.specs.declared.purpose.Purpose.TheVariants.{Opening, Probing, Visiting, Resolving, Closing, Asking, Waking, Hunting}
 use Rattle.dali_controller.specs.declared.state.State.{State}
 use Rattle.dali_controller.specs.declared.way.Way.TheVariants.{Fresh, Surveying}
-use Rattle.dali_controller.specs.Course.{closing_of, turn_of, opening, searching_first}
+use Rattle.dali_controller.specs.Course.{closing_of, opening}
 use Rattle.dali_controller.specs.Course.{missed}
 use Rattle.dali_controller.specs.Machine.{Machine, machine_told, machine_heard_to, opened_after, woken_after, asked_after, heard_after}
 use Rattle.dali_controller.specs.Machine.{is_complete, is_ended, is_passed_by, silent_after, tries_after}
@@ -28,13 +26,10 @@ use Rattle.dali_controller.specs.declared.shorts.Shorts.{Shorts}
 use Rattle.dali_script.specs.declared.finding.Finding.{Finding}
 use Rattle.dali_script.specs.Findings.{later, finding_of}
 use Rattle.dali_controller.specs.Legs.{way_drawn, way_on, is_searching, from_on, silences_on, search_on, ascent_on, with_silences, missed_on}
-use Rattle.dali_controller.specs.Moments.{is_searched_next, machine_searching, IsBetween, IsHeard, CalmAt}
-use Rattle.dali_controller.specs.Next.{begins_at}
-use Rattle.dali_controller.specs.Orders.{IsFollowed}
+use Rattle.dali_controller.specs.Moments.{is_searched_next}
 use Rattle.dali_controller.specs.States.{machine_with, course_of}
-use Rattle.dali_controller.specs.Whole.{IsEarly, IsUnstarted, IsWhole, IsWithinSilence, Knows, Pending}
-use Rattle.dali_controller.proofs.Courses.{followed_heard}
-use Rattle.dali_controller.proofs.Steps.{calm_less, heard_by, sending, whole_at_first}
+use Rattle.dali_controller.specs.Whole.{IsEarly, IsUnstarted, IsWhole, Knows, Pending}
+use Rattle.dali_controller.proofs.Steps.{heard_by, sending, whole_at_first}
 
 -- THE LEG of a machine, and what contracts see of it.
 
@@ -88,105 +83,27 @@ pub hears_told : (s noted : State) (k : Kept) (f : Forward) (h : Answer) (t : Li
 hears_told s noted k f h t n i shorts count l whole put trace is tries silent marks counts leg =
     rw (leg, tries, silent, marks, counts, is, trace) (told_state s k f h _ _ _ _ _ _ whole put refl)
 
--- ---------------------------------------------------------------- where gear are searched from now on
+-- where gear are not searched from now on, all is told
+unsearched : (s : Stage) (p : Purpose) (o : Bool) → is_searched_next s p ≡ false → o ≡ woken_after s p (opened_after s o)
+unsearched Opened p o none = absurd (cc)
+unsearched Initialised Waking o none = absurd (cc)
+unsearched Initialised Opening o none = refl
+unsearched Initialised Probing o none = refl
+unsearched Initialised Hunting o none = refl
+unsearched Initialised Visiting o none = refl
+unsearched Initialised (Resolving a) o none = refl
+unsearched Initialised (Closing x) o none = refl
+unsearched Initialised (Asking a) o none = refl
+unsearched _ p o none = refl
 
-opened_by : (s : Stage) (p : Purpose) (o : Bool) → (is_searched_next s p || o) ≡ woken_after s p (opened_after s o)
-opened_by Opened p o = refl
-opened_by Initialised Waking o = refl
-opened_by Initialised Opening o = refl
-opened_by Initialised Probing o = refl
-opened_by Initialised Hunting o = refl
-opened_by Initialised Visiting o = refl
-opened_by Initialised (Resolving a) o = refl
-opened_by Initialised (Closing x) o = refl
-opened_by Initialised (Asking a) o = refl
-opened_by _ p o = refl
-
--- what is told is said of the machine before the next order
-pub told_by : (w mid : Machine) (f : Forward) (h : Answer) (b : Bool) → frame_put w.last ≡ Some f → mid ≡ heard_by w f h
-    → is_searched_next (stage_of mid.trace) mid.course.purpose ≡ b → record mid { opened = b || mid.opened } ≡ machine_told w (input.Heard h)
-told_by w mid f h b put is next =
+pub told_on : (w mid : Machine) (f : Forward) (h : Answer) → frame_put w.last ≡ Some f → mid ≡ heard_by w f h
+    → is_searched_next (stage_of mid.trace) mid.course.purpose ≡ false → mid ≡ machine_told w (input.Heard h)
+told_on w mid f h put is going =
     let t : List Entry = w.trace ++ (record { frame = f; heard = h }) ∷ [] in
+    let here : is_searched_next (stage_of t) w.course.purpose ≡ false =
+    subst (λ (m : Machine). is_searched_next (stage_of m.trace) m.course.purpose ≡ false) is going in
     let told : machine_heard_to w t h ≡ machine_told w (input.Heard h) = rw put refl in
-    ap (λ c. record mid { opened = c || mid.opened }) (sym next)
-    ∙ ap (λ (m : Machine). record m { opened = is_searched_next (stage_of m.trace) m.course.purpose || m.opened }) is
-    ∙ ap (λ o. record (machine_heard_to w t h) { opened = o }) (opened_by (stage_of t) w.course.purpose w.opened) ∙ told
-
--- that is in an opening, and where gear are woken
-searched_in : (w : Machine) (s : Stage) → IsHeard w s → is_searched_next s w.course.purpose ≡ true
-    → (w.course.purpose ≡ Opening) ⊎ (w.course.purpose ≡ Waking)
-searched_in w Opened h next = inl h.arrived
-searched_in w Initialised h next = h.arrived
-searched_in w _ h next = absurd (cc)
-
-unclosed : (p : Purpose) → (p ≡ Opening) ⊎ (p ≡ Waking) → closing_of p ≡ None
-unclosed p (inl is) = ap closing_of is
-unclosed p (inr is) = ap closing_of is
-
-not_asked : (p : Purpose) (s : Stage) (h : Answer) (count : ℕ) → (p ≡ Opening) ⊎ (p ≡ Waking) → asked_after p s h count ≡ 0
-not_asked p s h count (inl is) = rw is refl
-not_asked p s h count (inr is) = rw is refl
-
--- so no short address is asked
-pub rested_at : (w mid : Machine) (f : Forward) (h : Answer) (s : Stage) → mid ≡ heard_by w f h → IsHeard mid s
-    → is_searched_next s mid.course.purpose ≡ true → mid.asked ≡ 0
-rested_at w mid f h s is heard next =
-    let in_one : (w.course.purpose ≡ Opening) ⊎ (w.course.purpose ≡ Waking) =
-    subst (λ (m : Machine). (m.course.purpose ≡ Opening) ⊎ (m.course.purpose ≡ Waking)) is (searched_in mid s heard next) in
-    ap (λ (m : Machine). m.asked) is ∙ not_asked w.course.purpose (stage_of (heard_by w f h).trace) h w.asked in_one
-
-searched_calm : (s : Stage) (p : Purpose) (o : Bool) (i : ℕ) → is_searched_next s p ≡ true → CalmAt s p o i → IsWithinSilence p i
-searched_calm (Unanswered r) p o i next calm = absurd (cc)
-searched_calm (Inconclusive r other) p o i next calm = absurd (cc)
-searched_calm _ p o i next calm = calm
-
-pub between_at : (w : Machine) (s : Stage) → IsHeard w s → is_searched_next s w.course.purpose ≡ true → IsBetween w
-between_at w s h next =
-    let going : closing_of w.course.purpose ≡ None = unclosed w.course.purpose (searched_in w s h next) in
-    let there : is_searched_next (stage_of w.trace) w.course.purpose ≡ true = subst (λ x. is_searched_next x w.course.purpose ≡ true) (sym h.stage) next in
-    record {
-      tries = h.tries;
-      silent = calm_less w.course.purpose w.silent going (searched_calm s w.course.purpose w.opened w.silent next h.calm);
-      going = going;
-      unnamed = λ r e. absurd (let no : is_searched_next (Unnamed r) w.course.purpose ≡ true =
-          subst (λ x. is_searched_next x w.course.purpose ≡ true) e there in cc);
-      found = λ r b e. absurd (let no : is_searched_next (Withdrawn r b) w.course.purpose ≡ true =
-          subst (λ x. is_searched_next x w.course.purpose ≡ true) e there in cc);
-    }
-
--- the transaction that begins is the one of the table
-pub next_searching : (t : Machine) (s : Stage) → is_searched_next s t.course.purpose ≡ true
-    → searching_first t.course.way t.course ≡ begins_at t s
-next_searching t Opened e = refl
-next_searching t Initialised e = refl
-next_searching t _ e = absurd (cc)
-
-no_turn_searched : (p : Purpose) (n : SearchAddress) (s : Stage) (c : Command) → is_searched_next s p ≡ true → turn_of p n s ≡ Some c → ⊥
-no_turn_searched Opening n Opened c next e = cc
-no_turn_searched Probing n Opened c next e = cc
-no_turn_searched Hunting n Opened c next e = cc
-no_turn_searched Visiting n Opened c next e = cc
-no_turn_searched (Resolving a) n Opened c next e = cc
-no_turn_searched (Closing x) n Opened c next e = cc
-no_turn_searched (Asking a) n Opened c next e = cc
-no_turn_searched Waking n Opened c next e = cc
-no_turn_searched Waking n Initialised c next e = cc
-no_turn_searched p n _ c next e = cc
-
-pub followed_searching : (w mid : Machine) (s : Stage) (o : Order) (f : Forward) (h : Answer) → frame_put w.last ≡ Some f
-    → machine_searching mid ≡ machine_told w (input.Heard h) → stage_of mid.trace ≡ s → is_searched_next s mid.course.purpose ≡ true
-    → IsFollowed (machine_told w (input.Heard h)) o
-followed_searching w mid s o f h put told stage next =
-    followed_heard w (machine_searching mid) o f h put told
-    (λ c e. absurd (no_turn_searched mid.course.purpose mid.course.number s c next
-    (subst (λ x. turn_of mid.course.purpose mid.course.number x ≡ Some c) stage e)))
-    (λ b n e. absurd (none (Spelled b (Some n)) e (λ i. cc)))
-    (λ b n e. absurd (none (Spelled b (Some n)) e (λ i. cc)))
-    (λ r x e. absurd (none (Inconclusive r x) e (λ i. cc)))
-    (λ r g left e. absurd (none (Hunted r (Some g) left) e (λ i. cc)))
-  where
-    none : (x : Stage) → stage_of mid.trace ≡ x → (is_searched_next x mid.course.purpose ≡ true → ⊥) → ⊥
-    none x e other = other (subst (λ y. is_searched_next y mid.course.purpose ≡ true) (sym stage ∙ e) next)
+    is ∙ ap (λ o. record (machine_heard_to w t h) { opened = o }) (unsearched (stage_of t) w.course.purpose w.opened here) ∙ told
 
 -- ---------------------------------------------------------------- what changes on a leg
 

@@ -38,7 +38,8 @@ use Rattle.dali_controller.specs.Shorts.{has_short}
 
 -- THE COURSE of a machine: what its running transaction is for, and under which search address; its
 -- search, and in a survey the one that goes up; in the visits before the opening, or while short
--- addresses are asked, the first one that was not looked at; and how it began.
+-- addresses are asked, the first one that was not looked at, and 64 once gear are searched; and how
+-- it began.
 pub record Course : Type 0 where
   pub purpose : Purpose
   pub number : SearchAddress

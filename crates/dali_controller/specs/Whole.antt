@@ -51,8 +51,8 @@ Sends k n p s c =
 
 -- What is known while a transaction runs: whether an opening was complete, and where its number
 -- comes from. In the visits before the opening it is reserved, and whom a short address is asked of
--- it is reserved for. Only a survey asks short addresses and wakes gear, and may open after a
--- search.
+-- it is reserved for. Only a start probes. Only a survey asks short addresses and wakes gear, and
+-- may open after a search.
 abbrev pub IsEarly : Way → Bool → Type 0
 IsEarly Fresh opened = opened ≡ false
 IsEarly Surveying opened = Unit {0}

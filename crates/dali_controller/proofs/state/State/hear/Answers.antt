@@ -1,10 +1,10 @@
-use Rattle.std.proofs.Common.{◌≡◌, sym, ap, subst, ◌∙◌, true, false}
+use Rattle.std.proofs.Common.{◌≡◌, sym, ap, subst, ◌∙◌}
 use Rattle.dali_script.specs.Stages.{stage_of}
 use Rattle.dali_controller.specs.declared.state.State.{State}
 use Rattle.dali_controller.specs.Machine.{Machine}
 use Rattle.dali_controller.specs.Moments.{is_searched_next, IsHeard}
 use Rattle.dali_controller.specs.States.{machine_with}
-use Rattle.dali_controller.proofs.Legs.{hears_told, rested_at, told_by}
+use Rattle.dali_controller.proofs.Legs.{hears_told, told_on}
 use Rattle.dali_controller.proofs.Steps.{hear_heard, heard_by, sending, sending_lawful}
 use Rattle.dali_controller.proofs.state.State.hear.Goals as goal
 
@@ -36,15 +36,5 @@ returns-clause-heard c =
 
 pub returns-clause-told : goal.returns-clause-told
 returns-clause-told c going =
-    told_by (machine_with c.args.self.now c.args.kept.now) (machine_with (new c) c.args.kept.now) c.args.frame c.args.heard false c.requires.put (told c)
+    told_on (machine_with c.args.self.now c.args.kept.now) (machine_with (new c) c.args.kept.now) c.args.frame c.args.heard c.requires.put (told c)
     (ap (λ s. is_searched_next s (new c).purpose) (sym c.stage.ensures) ∙ going)
-
-pub returns-clause-searched : goal.returns-clause-searched
-returns-clause-searched c next =
-    told_by (machine_with c.args.self.now c.args.kept.now) (machine_with (new c) c.args.kept.now) c.args.frame c.args.heard true c.requires.put (told c)
-    (ap (λ s. is_searched_next s (new c).purpose) (sym c.stage.ensures) ∙ next)
-
-pub returns-clause-rested : goal.returns-clause-rested
-returns-clause-rested c next =
-    rested_at (machine_with c.args.self.now c.args.kept.now) (machine_with (new c) c.args.kept.now) c.args.frame c.args.heard c.stage.result (told c)
-    (returns-clause-heard c) next

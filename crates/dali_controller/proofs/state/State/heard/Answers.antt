@@ -1,6 +1,5 @@
 use Rattle.std.proofs.Common.{sym, ◌∙◌}
 use Rattle.dali_controller.proofs.Courses.{followed_heard}
-use Rattle.dali_controller.proofs.Legs.{followed_searching}
 use Rattle.dali_controller.specs.States.{machine_with}
 use Rattle.dali_controller.proofs.state.State.heard.Goals as goal
 
@@ -10,9 +9,3 @@ returns-else-is_searched_next-clause-followed c =
     followed_heard (machine_with c.args.self.now c.args.kept.now) (machine_with c.hear-stage.new.self c.args.kept.now)
     c.after.result c.args.frame c.args.heard c.requires.put told c.after.ensures.sent c.after.ensures.told c.after.ensures.another
     c.after.ensures.unconfirmed c.after.ensures.hunted
-
-pub returns-then-is_searched_next-clause-followed : goal.returns-then-is_searched_next-clause-followed
-returns-then-is_searched_next-clause-followed c =
-    let next = sym c.is_searched_next.ensures ∙ c.if-is_searched_next.true in
-    followed_searching (machine_with c.args.self.now c.args.kept.now) (machine_with c.hear-stage.new.self c.args.kept.now) c.hear-stage.result
-    c.search_first.result c.args.frame c.args.heard c.requires.put (c.hear-stage.ensures.searched next) c.hear-stage.ensures.heard.stage next
