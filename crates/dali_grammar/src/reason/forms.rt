@@ -74,6 +74,13 @@ const SITE: &[LineForm] = &[
 ];
 
 impl LineForm {
+    /// Whether its name is one word.
+    fn is_one_word(&self) -> bool
+        ensures { result ≡ not (list_any (λ byte. byte == 32) self.now.0.now) }
+    {
+        !self.0.as_bytes().contains(&b' ')
+    }
+
     /// Whether a line begins as this form does.
     fn begins(&self, line: &[u8]) -> bool
         ensures { result ≡ true → starts_with nat_eq line.now self.now.0.now ≡ true }
@@ -177,15 +184,6 @@ impl fmt::Display for LineForm {
             f.write_str(" ")?;
         }
         f.write_str(self.1)
-    }
-}
-
-impl LineForm {
-    /// Whether its name is one word.
-    fn is_one_word(&self) -> bool
-        ensures { result ≡ not (list_any (λ byte. byte == 32) self.now.0.now) }
-    {
-        !self.0.as_bytes().contains(&b' ')
     }
 }
 

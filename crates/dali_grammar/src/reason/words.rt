@@ -11,6 +11,7 @@ use crate::words::Wanted;
 fn has_digits(word: &[u8]) -> bool
     ensures digits { result ≡ true → all_ascii_digits word.now ≡ true }
     ensures some { result ≡ true → word.now ≢ [] }
+    ensures all { all_ascii_digits word.now ≡ true → word.now ≢ [] → result ≡ true }
 {
     for byte in word {
         if !byte.is_ascii_digit() {
