@@ -6,9 +6,11 @@ Each rule takes the folder of a repository and gives its offences, one line of t
 import os
 import pathlib
 import re
+import types
 
 import line_forms
 import spelled
+import wrong_bodies
 
 WIDTHS = {"src": (".rt", 120), "specs": (".antt", 100), "proofs": (".antt", 160)}
 LONGEST = 800
@@ -238,7 +240,21 @@ def forms(root):
     yield from line_forms.missing(root)
 
 
-RULES = (widths, lengths, imports, docs, crates, links, paths, clauses, kit, handles, spellings, forms)
+def edits(root):
+    """Each wrong body and each twin applies to the file that it names, where each of its old texts stands exactly once. Each twin has a wrong
+    body of its name."""
+    for kept in ("must-fail", "attacks", "twins"):
+        for file in files(root, f"crates/*/{kept}/*.edit"):
+            crate = file.parent.parent
+            try:
+                wrong_bodies.read(file, types.SimpleNamespace(folder=crate))
+            except (wrong_bodies.Unfit, OSError) as why:
+                yield f"{named(root, file)}: {why}"
+            if kept == "twins" and not any((crate / it / file.name).exists() for it in ("must-fail", "attacks")):
+                yield f"{named(root, file)}: no wrong body has its name"
+
+
+RULES = (widths, lengths, imports, docs, crates, links, paths, clauses, kit, handles, spellings, forms, edits)
 
 
 def offences(root):

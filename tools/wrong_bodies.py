@@ -1,22 +1,25 @@
-"""Tries wrong bodies: edits of one line of a crate's code, each of which the prover must refuse.
+"""Tries edits of a crate's code: wrong bodies, each of which the prover must refuse, and their twins, which it must prove.
 
 An edit is a file with the lines 'file: src/NAME.rt', and 'old: TEXT' and 'new: TEXT' for each place; TEXT stands once in the file. The
 functions in which the lines stand are checked, with what they call, over the libraries that are proved. The prover judges each function by
 the contracts of the others and goes on after one that it refuses, so edits of different functions are tried together. Where none is found,
-or where it is proved with the edit, the whole crate is checked with that edit alone, since another function may be refused then.
+or where a wrong body is proved, the whole crate is checked with that edit alone, since another function may be refused then. A twin is checked
+alone where it is not proved beside others.
 """
 
+import concurrent.futures
 import pathlib
 import re
 import shutil
 import subprocess
+import sys
 import tempfile
 import typing
 
 import proving
 
-# What a try comes to. All but the first fail.
-REFUSED, PROVED, BAD, UNSURE = "refused", "STILL PROVED", "BAD EDIT", "NOT TRIED"
+# What a try comes to.
+REFUSED, PROVED, BAD, UNSURE = "refused", "proved", "BAD EDIT", "NOT TRIED"
 HEAD = re.compile(r"\s*(?:pub(?:\(\w+\))? )?(?:const )?(?:unsafe )?fn (\w+)")
 IMPL = re.compile(r"impl(?:<[^{]*?>)? (?:(\w+)(?:<.*?>)? for )?&?(\w+)")
 
@@ -118,6 +121,12 @@ def refused(said, functions):
     return None
 
 
+def proved(said, functions):
+    """Whether each of these functions is proved."""
+    names = re.findall(r"^fn (\S+): proved$", said, re.M)
+    return all(any(name == it or name.endswith(f"::{it}") for name in names) for it in functions)
+
+
 def judged(status, said):
     """What a check of a whole crate says of an edit, and why."""
     lines = said.splitlines() or [""]
@@ -139,3 +148,68 @@ def tried(crate, edits):
     for edit in edits:
         why = refused(said, edit.functions)
         yield edit, *((REFUSED, why) if why else judged(*check(crate, [edit], ())))
+
+
+def accepted(crate, edits):
+    """What the prover says of a crate with each of these twins, which may be tried at once, and why."""
+    paths = {path for edit in edits for path in edit.functions}
+    status, said = check(crate, edits, paths) if paths else (1, "")
+    for edit in edits:
+        if status == 0 and proved(said, edit.functions):
+            yield edit, PROVED, ""
+        elif len(edits) == 1 and paths:
+            yield edit, *judged(status or 1, said)
+        else:
+            yield edit, *alone(crate, edit)
+
+
+def alone(crate, edit):
+    """What it says of a crate with one twin: of the functions that it changes, or of the whole crate where it changes none."""
+    status, said = check(crate, [edit], edit.functions)
+    if status == 0 and (not edit.functions or proved(said, edit.functions)):
+        return PROVED, ""
+    return judged(status or 1, said)
+
+
+def edits_of(crate, kept):
+    """The edits of a crate that stand in a folder of it, and those that are unfit, each with the reason."""
+    edits, unfit = [], []
+    for file in sorted((crate.folder / kept).glob("*.edit")):
+        try:
+            edits.append(read(file, crate))
+        except (Unfit, OSError) as error:
+            unfit.append((file.name, error))
+    return edits, unfit
+
+
+def run(title, kept, names, trial, wanted):
+    """Tries the edits in crates/NAME/KEPT of crates, of all where none is named: each by a trial that must come to what is wanted.
+
+    Prints what each came to, and answers the status of a command.
+    """
+    known = {name: crate for name, crate in proving.workspace().items() if (crate.folder / kept).is_dir()}
+    if any(it not in known for it in names):
+        print(f"usage: tools/{title} [NAME..]\nCrates: {', '.join(known)}", file=sys.stderr)
+        return 2
+    crates = [known[it] for it in names or known]
+    if status := proving.build(title, [below.name for crate in crates for below in crate.direct]):
+        return status
+    count = {True: 0, False: 0}
+
+    def tell(crate, name, kind, why):
+        count[kind == wanted] += 1
+        print(f"{kept} {crate.name}/{name}: {kind}{': ' if why else ''}{why}", flush=True)
+
+    groups = []
+    for crate in crates:
+        edits, unfit = edits_of(crate, kept)
+        for name, why in unfit:
+            tell(crate, name, BAD, why)
+        groups += [(crate, them) for them in together(edits)]
+    with concurrent.futures.ThreadPoolExecutor(proving.processors()) as lanes:
+        running = {lanes.submit(lambda *it: list(trial(*it)), *it): it[0] for it in groups}
+        for it in concurrent.futures.as_completed(running):
+            for edit, kind, why in it.result():
+                tell(running[it], edit.name, kind, why)
+    print(f"{count[True]} passed, {count[False]} failed")
+    return 1 if count[False] else 0
