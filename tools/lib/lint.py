@@ -252,7 +252,22 @@ def edits(root):
                 yield f"{named(root, file)}: no wrong body has its name"
 
 
-RULES = (widths, lengths, imports, docs, crates, links, paths, clauses, kit, handles, spellings, forms, edits)
+def version(root):
+    """The version is the same in the code, in the header for C, in the help that is there before a build, and on top of the changelog."""
+    places = {
+        "crates/dali_words/src/program.rt": r'VERSION: &str = "(.*)"',
+        "include/dali_c.h": r'#define DALI_VERSION "(.*)"',
+        "CHANGELOG.md": r"(?m)^## (\d.*)",
+        **{f"tools/lib/help/{it}-version.txt": rf"{it} (.*)" for it in ("dali_sim", "dali_commission")},
+    }
+    found = {name: re.search(it, (root / name).read_text()) for name, it in places.items() if (root / name).exists()}
+    wanted = next((it[1] for it in found.values() if it), None)
+    for name, it in found.items():
+        if not it or it[1] != wanted:
+            yield f"{name}: {it and it[1]} is not the version {wanted}"
+
+
+RULES = (widths, lengths, imports, docs, crates, links, paths, clauses, kit, handles, spellings, forms, edits, version)
 
 
 def offences(root):
