@@ -159,7 +159,7 @@ PLACES = (
     Place("docs/RULES.md", section("What a controller does next (*profile*)"), "End", "the end {Name}"),
     # What happens on a site.
     Place("docs/MODEL.md", table("| Event | Does |"), "Event", "| `{Name}"),
-    Place("docs/ARCHITECTURE.md", table("| Call | Event that it adds |"), "Event", "`{Name}"),
+    Place("crates/dali_world/README.md", table("| Call | Event that it adds |"), "Event", "`{Name}"),
     # Stores and records.
     Place(FORMAT, section("Refusals of stores and records"), "KeepError", "| {code} | {Name} |"),
     Place(FORMAT, line("| `Kept::add`"), "AddError", "{code}"),
