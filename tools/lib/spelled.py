@@ -172,7 +172,7 @@ PLACES = (
     Place(FORMAT, line("| `kind` |"), "Record", "{code} {Name}:"),
     Place(FORMAT, line("- a kind is none of"), "Record", "{code}"),
     Place("docs/STORES.md", table("| Kind | The record says |"), "Record", "| {code} |"),
-    Place("docs/PROOFS.md", line("A store is a list of records."), "KeepError", "{code} {Name}"),
+    Place("crates/dali_reserve/README.md", table("| Refusal | Number |"), "KeepError", "| {Name} | {code} |"),
     # What is told of a frame, and a vendor of the library for C.
     Place(ADAPTERS, table("| Answer | When |"), "Answer", "| `{kebab}"),
     Place(ADAPTERS, table("| Answer | When |"), "Input", "| `{kebab}` |", NOT_OF_FRAMES),
