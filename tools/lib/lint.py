@@ -12,6 +12,7 @@ from lib import line_forms, spelled, wrong_bodies
 
 WIDTHS = {"src": (".rt", 120), "specs": (".antt", 100), "proofs": (".antt", 160)}
 LONGEST = 800
+MOST_WORDS = 1100
 # The folders that have crates, and the lists of what each crate stands on.
 FOLDERS = {"crates": "crates.txt", "tests": "tests/tests.txt", "extra": "extra/programs.txt"}
 
@@ -197,14 +198,14 @@ def paths(root):
 
 
 def clauses(root):
-    """Each clause that docs/PROOFS.md names stands in a contract of some crate."""
+    """Each clause that docs/PROOFS.md or the README of a crate names stands in a contract of some crate."""
     contracts = "".join(file.read_text() for file in code(root, "*/src/**/*.rt"))
     known = set(re.findall(r"\b(?:ensures|requires) (\w+)", contracts))
-    file = root / "docs/PROOFS.md"
-    for words in re.findall(r"clauses? ((?:`\w+`(?:, | and )?)+)", file.read_text() if file.exists() else ""):
-        for name in re.findall(r"`(\w+)`", words):
-            if name not in known:
-                yield f"docs/PROOFS.md: no contract has a clause {name}"
+    for file in [root / "docs/PROOFS.md", *code(root, "*/README.md")]:
+        for words in re.findall(r"clauses? ((?:`\w+`(?:, | and )?)+)", file.read_text() if file.exists() else ""):
+            for name in re.findall(r"`(\w+)`", words):
+                if name not in known:
+                    yield f"{named(root, file)}: no contract has a clause {name}"
 
 
 def kit(root):
@@ -267,7 +268,15 @@ def version(root):
             yield f"{name}: {it and it[1]} is not the version {wanted}"
 
 
-RULES = (widths, lengths, imports, docs, crates, links, paths, clauses, kit, handles, spellings, forms, edits, version)
+def readmes(root):
+    """Each crate has a README of at most 1,100 words, counted between blanks."""
+    for folder in (it for top in FOLDERS for it in sorted((root / top).glob("*/")) if (it / "src").is_dir()):
+        count = len((folder / "README.md").read_text().split()) if (folder / "README.md").exists() else None
+        if count is None or count > MOST_WORDS:
+            yield f"{named(root, folder)}: its README has {count} words" if count else f"{named(root, folder)}: it has no README"
+
+
+RULES = (widths, lengths, imports, docs, crates, links, paths, clauses, readmes, kit, handles, spellings, forms, edits, version)
 
 
 def offences(root):

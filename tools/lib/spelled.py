@@ -159,7 +159,7 @@ PLACES = (
     Place("docs/RULES.md", section("What a controller does next (*profile*)"), "End", "the end {Name}"),
     # What happens on a site.
     Place("docs/MODEL.md", table("| Event | Does |"), "Event", "| `{Name}"),
-    Place("docs/ARCHITECTURE.md", table("| Call | Event that it adds |"), "Event", "`{Name}"),
+    Place("crates/dali_world/README.md", table("| Call | Event that it adds |"), "Event", "`{Name}"),
     # Stores and records.
     Place(FORMAT, section("Refusals of stores and records"), "KeepError", "| {code} | {Name} |"),
     Place(FORMAT, line("| `Kept::add`"), "AddError", "{code}"),
@@ -172,7 +172,7 @@ PLACES = (
     Place(FORMAT, line("| `kind` |"), "Record", "{code} {Name}:"),
     Place(FORMAT, line("- a kind is none of"), "Record", "{code}"),
     Place("docs/STORES.md", table("| Kind | The record says |"), "Record", "| {code} |"),
-    Place("docs/PROOFS.md", line("A store is a list of records."), "KeepError", "{code} {Name}"),
+    Place("crates/dali_reserve/README.md", table("| Refusal | Number |"), "KeepError", "| {Name} | {code} |"),
     # What is told of a frame, and a vendor of the library for C.
     Place(ADAPTERS, table("| Answer | When |"), "Answer", "| `{kebab}"),
     Place(ADAPTERS, table("| Answer | When |"), "Input", "| `{kebab}` |", NOT_OF_FRAMES),

@@ -1,10 +1,11 @@
 """Tries edits of a crate's code: wrong bodies, each of which the prover must refuse, and their twins, which it must prove.
 
-An edit is a file with the lines 'file: src/NAME.rt', and 'old: TEXT' and 'new: TEXT' for each place; TEXT stands once in the file. The
-functions in which the lines stand are checked, with what they call, over the libraries that are proved. The prover judges each function by
-the contracts of the others and goes on after one that it refuses, so edits of different functions are tried together. Where none is found,
-or where a wrong body is proved, the whole crate is checked with that edit alone, since another function may be refused then. A twin is checked
-alone where it is not proved beside others.
+An edit is a file with the lines 'file: src/NAME.rt', and 'old: TEXT' and 'new: TEXT' for each place; TEXT stands once in the file. The function
+in which the lines stand is planted once more, with the edit and under a name of its own, beside the right one, with its contract and its
+proof; so all edits of a crate are tried by one check of these functions, with what they call, over the libraries that are proved. The prover
+judges each function by the contracts of the others, and goes on after one that it refuses. What cannot be planted so (an edit of a type, of
+several functions, of a trait's impl) is tried alone and in its place. So is what came out otherwise than wanted: of a wrong body that is
+proved the whole crate is checked, since another function may be refused.
 """
 
 import concurrent.futures
@@ -18,6 +19,8 @@ import typing
 
 from lib import proving
 
+# How many edits are tried by one check: each loads what it reads once.
+TOGETHER = 30
 # What a try comes to.
 REFUSED, PROVED, BAD, UNSURE = "refused", "proved", "BAD EDIT", "NOT TRIED"
 HEAD = re.compile(r"\s*(?:pub(?:\(\w+\))? )?(?:const )?(?:unsafe )?fn (\w+)")
@@ -85,31 +88,84 @@ def indent(line):
     return len(line) - len(line.lstrip())
 
 
-def together(edits):
-    """The edits in groups that may be tried at once: no two of a group stand in one function, or in none."""
-    groups = []
-    for edit in edits:
-        fits = [it for it in groups if edit.functions and all(other.functions.isdisjoint(edit.functions) for other in it)]
-        if fits and fits[0][0].functions:
-            fits[0].append(edit)
-        else:
-            groups.append([edit])
-    return groups
+def lay_out(crate, place):
+    """A copy of the crate's sources in a folder."""
+    for part in proving.PARTS:
+        if (crate.folder / part).is_dir():
+            shutil.copytree(crate.folder / part, place / part)
+
+
+def plant(crate, place, edit, number):
+    """Puts the function of an edit, with the edit and under a name of its own, before the right one in a copy of the crate, with its proof.
+
+    Answers its path, or nothing where that cannot be: where the edit is of no function or of several, of a function of a trait's impl, or of
+    one of a cycle of calls.
+    """
+    if len(edit.functions) != 1:
+        return None
+    text, changed = edit.applied((crate.folder / edit.file).read_text())
+    first, head, last = item(text.splitlines(), changed[0])
+    block, kind = text.splitlines()[first : last + 1], owner(text.splitlines(), head)
+    if kind and kind[1] or any("#[cycle" in it for it in block):
+        return None
+    name = HEAD.match(text.splitlines()[head])[1]
+    new = f"{name}_planted_{number}"
+    block[head - first] = re.sub(rf"\bfn {name}\b", f"fn {new}", block[head - first], count=1)
+    lines = (place / edit.file).read_text().splitlines()
+    right = lines.index((crate.folder / edit.file).read_text().splitlines()[head])
+    at = item(lines, right)[0]
+    (place / edit.file).write_text("\n".join([*lines[:at], *block, "", *lines[at:], ""]))
+    words = pathlib.PurePath(edit.file).with_suffix("").parts[1:]
+    folder = [*([] if words in [("lib",), ("main",)] else words), *([kind[2]] if kind else [])]
+    proof = crate.folder.joinpath("proofs", *folder, name)
+    if proof.is_dir():
+        own = ".".join(["proofs", *folder])
+        for file in (it for it in proof.rglob("*") if it.is_file()):
+            to = place.joinpath("proofs", *folder, new, file.relative_to(proof))
+            to.parent.mkdir(parents=True, exist_ok=True)
+            to.write_text(file.read_text().replace(f"{own}.{name}.", f"{own}.{new}."))
+    return next(iter(edit.functions)).removesuffix(name) + new
+
+
+def item(lines, at):
+    """The first line of the function in which a line stands, with its docs and attributes, the one with its name, and its last one."""
+    depth = indent(lines[at]) + bool(HEAD.match(lines[at]))
+    head = next(it for it in range(at, -1, -1) if HEAD.match(lines[it]) and indent(lines[it]) < depth)
+    first = next((it + 1 for it in range(head - 1, -1, -1) if not lines[it].strip() or lines[it].endswith("{")), 0)
+    ends = (" " * indent(lines[head]) + "}", " " * indent(lines[head]) + "{}")
+    return first, head, next(it for it in range(head, len(lines)) if lines[it] in ends)
+
+
+def owner(lines, head):
+    """The `impl` in which a function stands, or nothing."""
+    return next((kind for line in reversed(lines[:head]) if indent(line) < indent(lines[head]) and (kind := IMPL.match(line))), None)
 
 
 def check(crate, edits, paths):
     """Checks some functions of a crate with edits, all where none is named: the status, and what was said."""
+    with tempfile.TemporaryDirectory() as folder:
+        place = pathlib.Path(folder)
+        lay_out(crate, place)
+        for edit in edits:
+            (place / edit.file).write_text(edit.applied((place / edit.file).read_text())[0])
+        return checked(crate, place, paths)
+
+
+def check_planted(crate, edits):
+    """Checks the functions of edits, planted beside the right ones: what was said, and the path of each edit that could be planted."""
+    with tempfile.TemporaryDirectory() as folder:
+        place = pathlib.Path(folder)
+        lay_out(crate, place)
+        paths = {edit.name: path for number, edit in enumerate(edits) if (path := plant(crate, place, edit, number))}
+        return checked(crate, place, paths.values())[1] if paths else "", paths
+
+
+def checked(crate, place, paths):
+    """Checks some functions of a copy of a crate, all where none is named: the status, and what was said."""
     words = [f"{proving.kit_folder()}/bin/rattle", "check", *proving.read_words(crate), *proving.proof_words(crate, 1)]
     words += ["--crate-type", "staticlib"] if crate.is_static else []
     words += [word for path in sorted(paths) for word in ("--only", path)]
-    with tempfile.TemporaryDirectory() as folder:
-        place = pathlib.Path(folder)
-        for part in proving.PARTS:
-            if (crate.folder / part).is_dir():
-                shutil.copytree(crate.folder / part, place / part)
-        for edit in edits:
-            (place / edit.file).write_text(edit.applied((place / edit.file).read_text())[0])
-        done = subprocess.run(words, cwd=place, stdin=subprocess.DEVNULL, stdout=subprocess.PIPE, stderr=subprocess.STDOUT, text=True)
+    done = subprocess.run(words, cwd=place, stdin=subprocess.DEVNULL, stdout=subprocess.PIPE, stderr=subprocess.STDOUT, text=True)
     return done.returncode, done.stdout
 
 
@@ -142,33 +198,36 @@ def judged(status, said):
 
 
 def tried(crate, edits):
-    """What the prover says of a crate with each of these edits, which may be tried at once, and why."""
-    paths = {path for edit in edits for path in edit.functions}
-    _, said = check(crate, edits, paths) if paths else (0, "")
+    """What the prover says of a crate with each of these wrong bodies, and why."""
+    said, paths = check_planted(crate, edits)
+    if len(paths) > 1 and not re.search(r"^fn ", said, re.M):
+        # One of them doesn't compile, so nothing is said of any.
+        for half in (edits[: len(edits) // 2], edits[len(edits) // 2 :]):
+            yield from tried(crate, half)
+        return
     for edit in edits:
-        why = refused(said, edit.functions)
-        yield edit, *((REFUSED, why) if why else judged(*check(crate, [edit], ())))
+        why = refused(said, {paths[edit.name]}) if edit.name in paths else None
+        yield edit, *((REFUSED, why) if why else alone(crate, edit, REFUSED))
 
 
 def accepted(crate, edits):
-    """What the prover says of a crate with each of these twins, which may be tried at once, and why."""
-    paths = {path for edit in edits for path in edit.functions}
-    status, said = check(crate, edits, paths) if paths else (1, "")
+    """What the prover says of a crate with each of these twins, and why."""
+    said, paths = check_planted(crate, edits)
     for edit in edits:
-        if status == 0 and proved(said, edit.functions):
-            yield edit, PROVED, ""
-        elif len(edits) == 1 and paths:
-            yield edit, *judged(status or 1, said)
-        else:
-            yield edit, *alone(crate, edit)
+        is_so = edit.name in paths and proved(said, {paths[edit.name]})
+        yield edit, *((PROVED, "") if is_so else alone(crate, edit, PROVED))
 
 
-def alone(crate, edit):
-    """What it says of a crate with one twin: of the functions that it changes, or of the whole crate where it changes none."""
-    status, said = check(crate, [edit], edit.functions)
-    if status == 0 and (not edit.functions or proved(said, edit.functions)):
-        return PROVED, ""
-    return judged(status or 1, said)
+def alone(crate, edit, wanted):
+    """What it says of a crate with one edit, in its place: of the functions that it changes, or of the whole crate where it changes none, and
+    where a wrong body is proved, since another function may be refused then."""
+    if edit.functions:
+        status, said = check(crate, [edit], edit.functions)
+        if wanted == REFUSED and (why := refused(said, edit.functions)):
+            return REFUSED, why
+        if wanted == PROVED and status == 0 and proved(said, edit.functions):
+            return PROVED, ""
+    return judged(*check(crate, [edit], ()))
 
 
 def edits_of(crate, kept):
@@ -182,34 +241,41 @@ def edits_of(crate, kept):
     return edits, unfit
 
 
-def run(title, kept, names, trial, wanted):
-    """Tries the edits in crates/NAME/KEPT of crates, of all where none is named: each by a trial that must come to what is wanted.
+def folders(kinds, names):
+    """The crates of these names, or all where none is named, each with its folders of edits of these kinds; none where one has no such folder."""
+    found = [(crate, kind) for crate in proving.workspace().values() for kind in kinds if (crate.folder / kind).is_dir()]
+    known = list(dict.fromkeys(crate.name for crate, _ in found))
+    if any(it not in known for it in names):
+        print(f"Crates with {' or '.join(kinds)}: {', '.join(known)}", file=sys.stderr)
+        return []
+    return [it for it in found if not names or it[0].name in names]
+
+
+def run(title, tries, trial, wanted):
+    """Tries the edits that stand in folders of crates: each by a trial that must come to what is wanted.
 
     Prints what each came to, and answers the status of a command.
     """
-    known = {name: crate for name, crate in proving.workspace().items() if (crate.folder / kept).is_dir()}
-    if any(it not in known for it in names):
-        print(f"usage: tools/{title} [NAME..]\nCrates: {', '.join(known)}", file=sys.stderr)
-        return 2
-    crates = [known[it] for it in names or known]
-    if status := proving.build(title, [below.name for crate in crates for below in crate.direct]):
+    if status := proving.build(title, [below.name for crate, _ in tries for below in crate.direct]):
         return status
     count = {True: 0, False: 0}
 
-    def tell(crate, name, kind, why):
+    def tell(crate, kept, name, kind, why):
         count[kind == wanted] += 1
         print(f"{kept} {crate.name}/{name}: {kind}{': ' if why else ''}{why}", flush=True)
 
-    groups = []
-    for crate in crates:
-        edits, unfit = edits_of(crate, kept)
-        for name, why in unfit:
-            tell(crate, name, BAD, why)
-        groups += [(crate, them) for them in together(edits)]
+    def try_all(crate, kept, edits):
+        for edit, kind, why in trial(crate, edits):
+            tell(crate, kept, edit.name, kind, why)
+
     with concurrent.futures.ThreadPoolExecutor(proving.processors()) as lanes:
-        running = {lanes.submit(lambda *it: list(trial(*it)), *it): it[0] for it in groups}
-        for it in concurrent.futures.as_completed(running):
-            for edit, kind, why in it.result():
-                tell(running[it], edit.name, kind, why)
+        running = []
+        for crate, kept in tries:
+            edits, unfit = edits_of(crate, kept)
+            for name, why in unfit:
+                tell(crate, kept, name, BAD, why)
+            running += [lanes.submit(try_all, crate, kept, edits[at : at + TOGETHER]) for at in range(0, len(edits), TOGETHER)]
+        for it in running:
+            it.result()
     print(f"{count[True]} passed, {count[False]} failed")
     return 1 if count[False] else 0
