@@ -4,12 +4,14 @@ The kit builds the library for Linux alone. What it hands to its clang is LLVM's
 compiled here for the other processor, by the same clang.
 """
 
+import collections.abc
 import pathlib
 import re
 import shlex
 import shutil
 import subprocess
 import time
+import typing
 
 from lib import ROOT, proving
 
@@ -34,13 +36,13 @@ class Failed(Exception):
     """What cannot be built, linked or run, and why."""
 
 
-def missing():
+def missing() -> list[str]:
     """What is not there and is needed, with Debian's name of it."""
     found = [f"{it}: install Debian's package {package}" for it, package in PACKAGES.items() if not shutil.which(it)]
     return found + ([] if shutil.which("rt") else ["rt: README.md says how the Rattle kit is set up"])
 
 
-def run(words, **how):
+def run(words: collections.abc.Sequence[str | pathlib.Path], **how: typing.Any) -> str:
     """What a command writes to its standard output."""
     how = {"stdin": subprocess.DEVNULL, "stdout": subprocess.PIPE, "stderr": subprocess.PIPE, "text": True, **how}
     done = subprocess.run([str(it) for it in words], **how)
@@ -50,7 +52,7 @@ def run(words, **how):
     return done.stdout
 
 
-def kit_tool(name, *words):
+def kit_tool(name: str, *words: str | pathlib.Path) -> str:
     """A tool of LLVM, which the kit's clang is by another name."""
     return run([name, *words], executable=f"{proving.kit_folder()}/toolchain/bin/clang")
 
@@ -58,7 +60,7 @@ def kit_tool(name, *words):
 # The library as LLVM reads it.
 
 
-def built_module(title):
+def built_module(title: str) -> tuple[pathlib.Path, str]:
     """The library as the kit hands it to its clang, and the kit's own bound of the stack; proved and made where it is
     missing or older than its sources."""
     crate, kit = proving.workspace()["dali_c"], proving.kit()
@@ -77,13 +79,13 @@ def built_module(title):
     return module, kept.read_text().partition("\n")[2]
 
 
-def is_newest(crate, kept):
+def is_newest(crate: proving.Crate, kept: pathlib.Path) -> bool:
     """Whether no source of the library or of the crates below it is newer."""
     sources = [file for it in [*crate.below, crate] for file in it.sources()]
     return all(file.stat().st_mtime <= kept.stat().st_mtime for file in sources)
 
 
-def make_module(title, crate, place):
+def make_module(title: str, crate: proving.Crate, place: pathlib.Path) -> str:
     """Proves the library, and has both back ends build it. The bound of the stack that the kit tells."""
     rattle, words = [f"{proving.kit_folder()}/bin/rattle"], [*proving.read_words(crate), "--crate-type", "staticlib"]
     proving.say(f"{title}: proving dali_c")
@@ -96,7 +98,7 @@ def make_module(title, crate, place):
     return f"at most {int(told[2]):,}, with frames of at most {int(told[1]):,}" if told else ""
 
 
-def toolchain(place):
+def toolchain(place: pathlib.Path) -> pathlib.Path:
     """A folder as the kit's own, whose clang keeps the module that it is handed."""
     kit, folder = proving.kit_folder() / "toolchain", place / "toolchain"
     shutil.rmtree(folder, ignore_errors=True)
@@ -112,7 +114,7 @@ def toolchain(place):
     return folder
 
 
-def arm_text(module, folder, marks):
+def arm_text(module: pathlib.Path, folder: pathlib.Path, marks: collections.abc.Sequence[str]) -> str:
     """LLVM's text of the library for the other processor, each of its functions with these marks."""
     read = folder / "read.ll"
     run([clang(), "-x", "ir", module, "-S", "-emit-llvm", "-O0", "-Xclang", "-disable-llvm-passes", "-o", read])
@@ -131,31 +133,33 @@ def arm_text(module, folder, marks):
 # The program on the bare processor.
 
 
-def clang():
+def clang() -> str:
     return f"{proving.kit_folder()}/toolchain/bin/clang"
 
 
-def compiled(words, source, made):
+def compiled(words: collections.abc.Sequence[str | pathlib.Path], source: pathlib.Path, made: pathlib.Path) -> pathlib.Path:
     common = [clang(), f"--target={TARGET}", "-ffunction-sections", "-fdata-sections", "-fstack-size-section"]
     run([*common, *words, "-c", source, "-o", made])
     return made
 
 
-def library(module, folder, level, marks=()):
+def library(module: pathlib.Path, folder: pathlib.Path, level: str, marks: collections.abc.Sequence[str] = ()) -> pathlib.Path:
     """The library as an object for the bare processor."""
     source = folder / "library.ll"
     source.write_text(arm_text(module, folder, marks))
     return compiled([level, "-x", "ir"], source, folder / "library.o")
 
 
-def declared():
+def declared() -> tuple[list[str], list[str]]:
     """The structs of the header, and its calls."""
     text = re.sub(r"/\*.*?\*/", "", (INCLUDE / "dali_c.h").read_text(), flags=re.S)
     calls = re.findall(r"^\w+ (dali_\w+)\(", text, re.M)
     return re.findall(r"^struct (\w+) \{", text, re.M), calls
 
 
-def program(folder, linked, settings, more=()):
+def program(
+    folder: pathlib.Path, linked: pathlib.Path, settings: dict[str, int | str], more: collections.abc.Sequence[str] = ()
+) -> pathlib.Path:
     """The program that measures, with the library."""
     (folder / "structs.h").write_text("".join(f"STRUCT({it})\n" for it in declared()[0]))
     words = ["-Os", "-std=c11", "-ffreestanding", "-fno-builtin", "-Wall", "-Wextra", "-Werror", *more]
@@ -168,7 +172,7 @@ def program(folder, linked, settings, more=()):
     return made
 
 
-def simulated(made):
+def simulated(made: pathlib.Path) -> list[list[str]]:
     """The lines that the program writes, as words."""
     try:
         said = run([QEMU, *SIMULATED, "-kernel", made], timeout=MOST_SECONDS)
@@ -189,19 +193,19 @@ class Function:
     """A function of the program: the frame that it takes, those that it calls and those that it goes on in, by address,
     and whether it goes where a register says."""
 
-    def __init__(self, name, frame):
+    def __init__(self, name: str, frame: int | None) -> None:
         self.name, self.frame = name, frame
         self.calls, self.goes_on, self.is_open = set(), set(), False
 
 
-def frames(made):
+def frames(made: pathlib.Path) -> dict[str, int]:
     """The bytes that each function takes of the stack, by each of its names."""
     told = kit_tool("llvm-readobj", "--stack-sizes", made)
     entries = re.findall(r"Functions: \[(.*)\]\s+Size: 0x([0-9A-F]+)", told)
     return {name: int(size, 16) for names, size in entries for name in names.split(", ")}
 
 
-def functions(made):
+def functions(made: pathlib.Path) -> dict[int, Function]:
     """The functions of the program by their addresses. A function branches within itself by `bl`, too."""
     sizes, found, now = frames(made), {}, None
     for line in kit_tool("llvm-objdump", "-d", "--no-show-raw-insn", made).splitlines():
@@ -218,7 +222,7 @@ def functions(made):
     return found
 
 
-def bound(found, at, above=()):
+def bound(found: dict[int, Function], at: int, above: tuple[int, ...] = ()) -> int:
     """The most bytes of stack that a function takes with all that it calls. It calls nothing that a register names, and
     itself nowhere."""
     function = found[at]

@@ -23,6 +23,7 @@ import signal
 import subprocess
 import sys
 import time
+import typing
 
 PROGRAM_SHORT = 0xB7
 # The bits of the search address that SEARCHADDRH, SEARCHADDRM and SEARCHADDRL set begin here.
@@ -34,12 +35,12 @@ class End(Exception):
 
 
 class Between:
-    def __init__(self, plan):
+    def __init__(self, plan: dict[str, typing.Any]) -> None:
         self.plan, self.lines, self.counted, self.search = plan, 0, 0, 0xFFFFFF
         self.kill, self.fault, self.was_killed = plan.get("kill"), plan.get("fault"), False
         self.driver = subprocess.Popen(plan["driver"], stdin=subprocess.PIPE, stdout=subprocess.PIPE)
 
-    def put(self, line):
+    def put(self, line: bytes) -> bytes:
         """What the driver tells of a frame."""
         try:
             self.driver.stdin.write(line)
@@ -51,21 +52,21 @@ class Between:
             raise End
         return told
 
-    def do_kill(self):
+    def do_kill(self) -> typing.NoReturn:
         os.kill(self.kill["pid"], signal.SIGKILL)
         self.was_killed = True
         if self.kill["is_cut"]:
             self.driver.kill()
         raise End
 
-    def is_time(self, address_byte):
+    def is_time(self, address_byte: int) -> bool:
         """Whether the program is to be killed at a frame."""
         if self.kill and self.kill["byte"] in (None, address_byte):
             self.counted += 1
             return self.counted == self.kill["count"]
         return False
 
-    def copy(self, opcode_byte):
+    def copy(self, opcode_byte: int) -> None:
         records, folder = self.plan["watch"]
         name = f"{self.lines}-{opcode_byte >> 1}-{self.search}"
         for end in ("", "-wal"):
@@ -73,7 +74,7 @@ class Between:
             if source.exists():
                 pathlib.Path(folder, f"{name}.db{end}").write_bytes(source.read_bytes())
 
-    def do_fault(self):
+    def do_fault(self) -> None:
         """What is told in place of the driver's answer."""
         if self.fault["kind"] == "closed":
             os.close(0)
@@ -85,7 +86,7 @@ class Between:
         if self.fault["kind"] != "goes on":
             raise End
 
-    def tell_too_much(self, line):
+    def tell_too_much(self, line: bytes) -> None:
         """Tells a line that was not asked for, and the driver's answer."""
         text = bytes.fromhex(self.fault["text"])
         if self.fault["kind"] == "ahead":
@@ -94,7 +95,7 @@ class Between:
         else:
             os.write(1, self.put(line) + text)
 
-    def take(self, line):
+    def take(self, line: bytes) -> None:
         """Passes a line of the program, and the answer to it."""
         self.lines += 1
         address_byte, opcode_byte = bytes.fromhex(line.split()[2].decode())
@@ -119,7 +120,7 @@ class Between:
             time.sleep(self.kill["delay"])
             self.do_kill()
 
-    def run(self):
+    def run(self) -> None:
         try:
             while line := sys.stdin.buffer.readline():
                 self.take(line)
@@ -127,7 +128,7 @@ class Between:
             pass
         self.end()
 
-    def end(self):
+    def end(self) -> None:
         self.driver.stdin.close()
         try:
             self.driver.wait(20)

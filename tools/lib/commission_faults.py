@@ -4,6 +4,7 @@ import contextlib
 import json
 import os
 import pathlib
+import random
 import re
 import resource
 import shutil
@@ -12,8 +13,9 @@ import sqlite3
 import subprocess
 import sys
 import time
+import typing
 
-from lib.commission_site import DONE, DRIVER, ENROL, GAVE_UP, NOBODY, RESERVE, STORE
+from lib.commission_site import DONE, DRIVER, ENROL, GAVE_UP, NOBODY, RESERVE, STORE, Kept, Place, Ran, Word
 
 ALL = (0, 63)
 # Six gear: a run that finds them all in its table has at least so many lines.
@@ -33,11 +35,11 @@ BAD = {
 }
 
 
-def run_words(place, *more, block="0-63"):
+def run_words(place: Place, *more: Word, block: str = "0-63") -> list[Word]:
     return ["run", "--records", place.records, *more, block]
 
 
-def check_sound(place, block=ALL):
+def check_sound(place: Place, block: tuple[int, int] = ALL) -> Kept:
     """What holds at any moment. What the records keep."""
     kept = place.check_rows(block)
     place.check_gear(kept)
@@ -45,7 +47,7 @@ def check_sound(place, block=ALL):
     return kept
 
 
-def check_goes_on(place, name, *words):
+def check_goes_on(place: Place, name: str, *words: Word) -> None:
     """The next run goes on to the end, and its records begin with those that were there."""
     rows = place.rows()
     ran = place.run(run_words(place), place.simulated(*words))
@@ -57,13 +59,13 @@ def check_goes_on(place, name, *words):
     place.check(f"after {name} all gear are in the table", len(kept[ENROL]) == len(place.gear()), kept)
 
 
-def check_store(place, name, ran, said, is_written=False):
+def check_store(place: Place, name: str, ran: Ran, said: str, is_written: bool = False) -> None:
     """The program ended since the records are not to be had, and said so; before any line for the driver, or later."""
     right = ran.status == STORE and said in ran.said and (is_written or not ran.lines and not ran.wrote)
     place.check(f"{name} ends with status 5, and is named", right, ran)
 
 
-def count_end(place, name, ran):
+def count_end(place: Place, name: str, ran: Ran) -> None:
     last = (ran.said.splitlines() or ["nothing"])[-1]
     place.checks.count(f"runs {name}: status {ran.status}, {re.sub('[0-9]+', 'N', last)}")
 
@@ -71,7 +73,7 @@ def count_end(place, name, ran):
 # Records.
 
 
-def locked(place, chance):
+def locked(place: Place, chance: random.Random) -> None:
     words, driver = run_words(place), place.simulated("--gear", 4)
     program, between = place.begin(words, driver, fault={"at": chance.randint(1, 9), "kind": "mute", "text": ""})
     for _ in range(500):
@@ -98,7 +100,7 @@ def locked(place, chance):
         place.check("table reads records that SQLite has locked", ran.status == DONE, ran)
 
 
-def missing(place, _chance):
+def missing(place: Place, _chance: random.Random) -> None:
     records, nowhere = place.folder / "missing.db", place.folder / "no folder/records.db"
     for words in (["table"], ["check"], ["table", "--csv"], ["table", "--json"]):
         for path in (records, nowhere):
@@ -117,7 +119,7 @@ TABLE = """CREATE TABLE record(
   kind INTEGER NOT NULL,
   address INTEGER NOT NULL CHECK(address BETWEEN 0 AND 63),
   random INTEGER NOT NULL CHECK(random BETWEEN 0 AND 16777214))"""
-STRANGERS = {
+STRANGERS: dict[str, bytes | tuple[str, ...]] = {
     "a text": b"5 123456\n" * 20,
     "a database without a log": ("create table note(id integer primary key)",),
     "a database without a log that has a table of records": (TABLE,),
@@ -132,7 +134,7 @@ STRANGERS = {
 }
 
 
-def made(path, what):
+def made(path: pathlib.Path, what: bytes | tuple[str, ...]) -> None:
     """A file of somebody else's: bytes, or a database by its statements. A program that is killed leaves its log."""
     if isinstance(what, bytes):
         path.write_bytes(what)
@@ -142,7 +144,7 @@ def made(path, what):
     subprocess.run([sys.executable, "-c", text], check=True)
 
 
-def foreign(place, _chance):
+def foreign(place: Place, _chance: random.Random) -> None:
     """Files of somebody else are refused by name, and not one byte of them is changed."""
     for name, what in STRANGERS.items():
         folder = place.folder / "foreign"
@@ -157,7 +159,7 @@ def foreign(place, _chance):
         shutil.rmtree(folder)
 
 
-def read_only(place, _chance):
+def read_only(place: Place, _chance: random.Random) -> None:
     """Records on a disk that cannot be written are read, and no run begins over them."""
     folder = place.folder / "disk"
     folder.mkdir()
@@ -181,7 +183,7 @@ def read_only(place, _chance):
         subprocess.run(["umount", folder])
 
 
-def dead_bus(place, _chance):
+def dead_bus(place: Place, _chance: random.Random) -> None:
     """A bus on which nobody answers is told, whatever is asked of it, and also where the table has gear."""
     records, said = place.folder / "dead.db", "nobody answered: is the interface connected, is the bus powered?\n"
     place.write_gear([])
@@ -201,7 +203,7 @@ def dead_bus(place, _chance):
     check_goes_on(place, "the bus is powered again")
 
 
-def spoilt(place, chance):
+def spoilt(place: Place, chance: random.Random) -> None:
     """Records that are none, or that could not have been committed: they are refused, and stay as they are."""
     check_goes_on(place, "nothing", "--gear", 3)
     rows = place.rows(in_place=True)
@@ -242,7 +244,7 @@ def spoilt(place, chance):
     check_goes_on(place, "the file is put back")
 
 
-def blocks(place, chance):
+def blocks(place: Place, chance: random.Random) -> None:
     count = chance.randint(3, 9)
     ran = place.run(run_words(place, block=f"0-{count - 1}"), place.simulated("--gear", count))
     place.check("a block with an address for each gear is enough", ran.status == DONE, ran)
@@ -268,14 +270,14 @@ MANY = 40
 ROOMS = (0, 1, 2, 3, 16, 40, *range(63, 69), 70, 72, 80, 100, 120, *range(127, 135), 136, 140, 150)
 
 
-def filled(folder, room):
+def filled(folder: pathlib.Path, room: int) -> None:
     """A small disk with so many bytes left."""
     with open(folder / "filler", "wb") as filler:
         free = os.statvfs(folder).f_bavail * os.statvfs(folder).f_frsize
         filler.write(bytes(max(free - room, 0)))
 
 
-def full_disk(place, chance):
+def full_disk(place: Place, chance: random.Random) -> None:
     """Runs over disks with less and less room that are full at some moment, and that have room again."""
     folder = place.folder / "disk"
     folder.mkdir()
@@ -308,7 +310,7 @@ def full_disk(place, chance):
         subprocess.run(["umount", folder])
 
 
-def longest_file(place, chance):
+def longest_file(place: Place, chance: random.Random) -> None:
     """A limit of the length of files, which a write meets at some moment."""
     for most in (1, *(4096 * pages + chance.randint(0, 200) for pages in chance.sample(ROOMS, 12))):
         place.gear_file.unlink(missing_ok=True)
@@ -324,7 +326,7 @@ def longest_file(place, chance):
             pathlib.Path(f"{place.records}{end}").unlink(missing_ok=True)
 
 
-def opening(place, chance):
+def opening(place: Place, chance: random.Random) -> None:
     """The program is killed within its first milliseconds, when it opens its records: new ones, or some with a log."""
     for turn in range(60):
         if turn % 3 == 0:
@@ -343,7 +345,7 @@ def opening(place, chance):
 # The driver.
 
 
-def check_driver_fault(place, at, fault, said):
+def check_driver_fault(place: Place, at: int, fault: dict[str, str], said: str) -> None:
     rows = place.rows()
     ran = place.run(run_words(place), place.simulated("--gear", GEAR), fault={"at": at, **fault})
     right = ran.status == DRIVER and ran.said.endswith(f"error: line {at} of the driver: {said}\n")
@@ -352,7 +354,7 @@ def check_driver_fault(place, at, fault, said):
     check_sound(place)
 
 
-def bad_lines(place, chance):
+def bad_lines(place: Place, chance: random.Random) -> None:
     for said, texts in BAD.items():
         for text in texts:
             fault = {"kind": "ends", "text": text.hex()}
@@ -362,13 +364,13 @@ def bad_lines(place, chance):
     check_goes_on(place, "bad lines")
 
 
-def dies(place, chance):
+def dies(place: Place, chance: random.Random) -> None:
     for _ in range(25):
         check_driver_fault(place, chance.randint(1, LEAST), {"kind": "ends", "text": ""}, "end of input")
     check_goes_on(place, "drivers that died")
 
 
-def closes(place, chance):
+def closes(place: Place, chance: random.Random) -> None:
     """The driver reads no more: the program cannot write its next line, or reads the end of the driver's answers."""
     for _ in range(3):
         at = chance.randint(1, LEAST - 1)
@@ -380,7 +382,7 @@ def closes(place, chance):
     check_goes_on(place, "drivers that read no more")
 
 
-def slow(place, _chance):
+def slow(place: Place, _chance: random.Random) -> None:
     words = run_words(place, "--others", "4-63", "--idle-passes", "1", block="0-3")
     ran = place.run(words, place.simulated("--gear", 1, "--slow", 0.005))
     place.check("a slow driver is waited for", ran.status == DONE, ran)
@@ -394,7 +396,7 @@ def slow(place, _chance):
 SHORT = {"words": ("--others", "4-63", "--idle-passes", "1"), "block": "0-3"}
 
 
-def short_run(place, **more):
+def short_run(place: Place, **more: typing.Any) -> Ran:
     """A run of few frames through the relay, over a new gear, with new records."""
     for file in place.folder.glob("records.db*"):
         file.unlink()
@@ -403,15 +405,15 @@ def short_run(place, **more):
     return place.joined(words, place.simulated(), **more)
 
 
-def check_relay(place, name, ran, said):
+def check_relay(place: Place, name: str, ran: Ran, said: str) -> None:
     """The launcher ended a run since the driver was at fault, and said how. The next run goes on."""
     last = (ran.said.splitlines() or [""])[-1]
-    is_right = ran.status == DRIVER and re.search(f": {said}$", last)
+    is_right = ran.status == DRIVER and re.search(f": {said}$", last) is not None
     place.check(f"{name} ends with status 4, and the last line says so", is_right, ran)
     check_sound(place, (0, 3))
 
 
-def too_many(place, kind, where, text):
+def too_many(place: Place, kind: str, where: str | None, text: bytes) -> None:
     """A driver that writes a line too many at each frame of a short run, beside the answer or ahead of it."""
     count = short_run(place).lines
     for at in range(1, count + 1):
@@ -422,20 +424,20 @@ def too_many(place, kind, where, text):
     check_goes_on(place, "lines too many")
 
 
-def lines_beside(place, chance):
+def lines_beside(place: Place, chance: random.Random) -> None:
     too_many(place, "beside an answer", None, chance.choice([b"silence\n", b"byte FF\n", b"\n", b"damaged"]))
 
 
-def silence_ahead(place, _chance):
+def silence_ahead(place: Place, _chance: random.Random) -> None:
     """The line is taken for the answer, and each answer for that of the next frame, until one is left over."""
     too_many(place, "ahead of an answer", r"\d+", b"silence\n")
 
 
-def byte_ahead(place, _chance):
+def byte_ahead(place: Place, _chance: random.Random) -> None:
     too_many(place, "ahead of an answer", r"\d+", b"byte FF\n")
 
 
-def stalls(place, chance):
+def stalls(place: Place, chance: random.Random) -> None:
     """A driver that does not answer, at any frame of a short run."""
     count = short_run(place).lines
     for at in (1, *sorted(chance.sample(range(2, count + 1), 7))):
@@ -446,7 +448,7 @@ def stalls(place, chance):
     check_goes_on(place, "drivers that stalled")
 
 
-def shows(place, chance):
+def shows(place: Place, chance: random.Random) -> None:
     """A luminaire that is shown is bright in the end, whenever that is stopped."""
     place.write_gear([(5, 0x123456)])
     for number in (signal.SIGINT, signal.SIGTERM, signal.SIGHUP) * 2:
@@ -458,7 +460,7 @@ def shows(place, chance):
             place.check("a luminaire that was shown is bright in the end", is_right, f"{ran} {gear}")
 
 
-def gives_up(place, _chance):
+def gives_up(place: Place, _chance: random.Random) -> None:
     """A bus on which nothing is sent, or all is destroyed."""
     for trouble in ("--lapse", "--destroy"):
         ran = place.run(run_words(place), place.simulated("--gear", 3, trouble, 1))
@@ -471,7 +473,7 @@ def gives_up(place, _chance):
 # Signals, and output that goes nowhere.
 
 
-def signals(place, chance):
+def signals(place: Place, chance: random.Random) -> None:
     for number in (signal.SIGTERM, signal.SIGHUP, signal.SIGINT, signal.SIGTERM, signal.SIGTERM):
         program, between = place.begin(run_words(place), place.simulated("--gear", 40, "--slow", 0.002))
         time.sleep(chance.uniform(0.05, 1.5))
@@ -482,7 +484,7 @@ def signals(place, chance):
     check_goes_on(place, "signals")
 
 
-def no_output(place, _chance):
+def no_output(place: Place, _chance: random.Random) -> None:
     check_goes_on(place, "nothing", "--gear", 2)
     with open("/dev/full", "w") as full:
         how = {"stdin": subprocess.DEVNULL, "timeout": 60}

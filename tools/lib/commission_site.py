@@ -1,6 +1,7 @@
 """A site of simulated gear, the program `dali_commission` over its drivers, and what is to hold of records and gear then."""
 
 import collections
+import collections.abc
 import contextlib
 import json
 import os
@@ -13,6 +14,7 @@ import sys
 import tempfile
 import threading
 import time
+import types
 import typing
 
 from lib import ROOT
@@ -29,6 +31,10 @@ TABLE = """CREATE TABLE record(seq INTEGER PRIMARY KEY, kind INTEGER NOT NULL,
 address INTEGER NOT NULL CHECK(address BETWEEN 0 AND 63), random INTEGER NOT NULL CHECK(random BETWEEN 0 AND 16777214))"""
 # How many seconds a run may take, and how much is said of what is wrong.
 PATIENCE, LONGEST = 300, 1500
+# A word of a command line. A row of the records, and what they keep: of each kind the short and random addresses.
+Word = str | float | pathlib.Path
+Row = tuple[int, int, int, int]
+Kept = dict[int, list[tuple[int, int]]]
 
 
 class Wrong(Exception):
@@ -38,19 +44,19 @@ class Wrong(Exception):
 class Checks:
     """What was checked, each by its name: how often it was right, and what was wrong. Threads share it."""
 
-    def __init__(self):
+    def __init__(self) -> None:
         self.lock, self.right, self.wrong = threading.Lock(), collections.Counter(), collections.Counter()
         self.seen = collections.Counter()
 
-    def count(self, name, times=1):
+    def count(self, name: str, times: int = 1) -> None:
         with self.lock:
             self.seen[name] += times
 
-    def check(self, name, is_so):
+    def check(self, name: str, is_so: bool) -> None:
         with self.lock:
             (self.right if is_so else self.wrong)[name] += 1
 
-    def report(self):
+    def report(self) -> int:
         for name in sorted({*self.right, *self.wrong}):
             word = "wrong" if self.wrong[name] else "right"
             times = f"{self.wrong[name]} of {self.right[name] + self.wrong[name]}" if self.wrong[name] else self.right[name]
@@ -72,16 +78,16 @@ class Ran(typing.NamedTuple):
 class Place:
     """A folder for one test, with a file of gear. It is left where a check of it is wrong."""
 
-    def __init__(self, checks, title, program):
+    def __init__(self, checks: Checks, title: str, program: str) -> None:
         self.checks, self.title, self.program, self.is_right = checks, title, program, True
         self.folder = pathlib.Path(tempfile.mkdtemp(prefix="commission-sites."))
         self.gear_file, self.records = self.folder / "gear.json", self.folder / "records.db"
         self.left = []
 
-    def __enter__(self):
+    def __enter__(self) -> typing.Self:
         return self
 
-    def __exit__(self, kind, why, _):
+    def __exit__(self, kind: type[BaseException] | None, why: BaseException | None, _: types.TracebackType | None) -> bool:
         for running in self.left:
             running.kill()
             running.wait()
@@ -91,7 +97,7 @@ class Place:
             shutil.rmtree(self.folder)
         return isinstance(why, Exception)
 
-    def check(self, name, is_so, detail=""):
+    def check(self, name: str, is_so: bool, detail: object = "") -> bool:
         """The first check of a place that is wrong is a line, which says how the place is made again, and what it left."""
         self.checks.check(name, is_so)
         if not is_so and self.is_right:
@@ -101,10 +107,12 @@ class Place:
 
     # The program and its driver.
 
-    def simulated(self, *words):
+    def simulated(self, *words: Word) -> list[str]:
         return [str(ROOT / "adapters/simulated"), str(self.gear_file), *map(str, words)]
 
-    def begin(self, words, driver, **plan):
+    def begin(
+        self, words: collections.abc.Iterable[Word], driver: list[str], **plan: typing.Any
+    ) -> tuple[subprocess.Popen[bytes], subprocess.Popen[bytes]]:
         """Starts the program with the words, and a driver behind it: both processes, and what the second one reports to."""
         report, said = self.folder / "report.json", self.folder / "said"
         report.unlink(missing_ok=True)
@@ -125,11 +133,11 @@ class Place:
                 os.close(it)
         return program, between
 
-    def started(self, words, **how):
+    def started(self, words: list[str], **how: typing.Any) -> subprocess.Popen[typing.Any]:
         self.left.append(subprocess.Popen(words, **how))
         return self.left[-1]
 
-    def ended(self, program, between):
+    def ended(self, program: subprocess.Popen[bytes], between: subprocess.Popen[bytes]) -> Ran:
         """Waits for the end of both, the program last: so its number is not another process's while it may be killed."""
         try:
             between.wait(PATIENCE)
@@ -146,10 +154,10 @@ class Place:
             self.checks.count("kills of the program")
         return Ran(program.returncode, "", said, report["lines"])
 
-    def run(self, words, driver, **plan):
+    def run(self, words: collections.abc.Iterable[Word], driver: list[str], **plan: typing.Any) -> Ran:
         return self.ended(*self.begin(words, driver, **plan))
 
-    def shown(self, words, driver, after, number):
+    def shown(self, words: collections.abc.Iterable[Word], driver: list[str], after: float, number: int) -> Ran:
         """Runs the program by the launcher's relay, gently, and sends a signal after so many seconds."""
         both = [[str(self.program), *map(str, words)], driver, 10, True]
         call = [sys.executable, "-S", "-c", JOIN, json.dumps(both)]
@@ -161,7 +169,7 @@ class Place:
         self.left.remove(joined)
         return Ran(joined.returncode, wrote, said, 0)
 
-    def joined(self, words, driver, seconds=10, **plan):
+    def joined(self, words: collections.abc.Iterable[Word], driver: list[str], seconds: float = 10, **plan: typing.Any) -> Ran:
         """Runs the program by the launcher's relay, which gives the driver so many seconds for an answer."""
         report = self.folder / "report.json"
         report.unlink(missing_ok=True)
@@ -173,24 +181,24 @@ class Place:
         self.checks.count("frames", frames)
         return Ran(done.returncode, done.stdout, done.stderr, frames)
 
-    def alone(self, *words):
+    def alone(self, *words: Word) -> Ran:
         """Runs the program without a driver."""
         done = subprocess.run([self.program, *map(str, words)], stdin=subprocess.DEVNULL, capture_output=True, timeout=60)
         return Ran(done.returncode, done.stdout.decode(), done.stderr.decode(), 0)
 
     # What gear and records are.
 
-    def gear(self):
+    def gear(self) -> list[tuple[int | None, int]]:
         """The short and the random address of each gear, the short one None where it has none."""
         rows = json.loads(self.gear_file.read_text())["gear"]
         return [(it["short_address"], int(it["random_address"], 16)) for it in rows]
 
-    def write_gear(self, pairs):
+    def write_gear(self, pairs: list[tuple[int | None, int]]) -> None:
         """A file of gear with these short and random addresses."""
         rows = [{"short_address": short, "random_address": f"{number:06X}", "level": 254} for short, number in pairs]
         self.gear_file.write_text(json.dumps({"last_drawn": "123456", "gear": rows}))
 
-    def rows(self, records=None, in_place=False):
+    def rows(self, records: pathlib.Path | None = None, in_place: bool = False) -> list[Row]:
         """The rows of the records, by SQLite over a copy, so that a log beside the file stays for the program; or over the
         file itself, in which SQLite then takes up the log."""
         records = records or self.records
@@ -206,14 +214,14 @@ class Place:
                 return []
             return rows_of(copy)
 
-    def check_rows(self, block, records=None, in_place=False):
+    def check_rows(self, block: tuple[int, int], records: pathlib.Path | None = None, in_place: bool = False) -> Kept:
         """What the records keep; they are to be some that could have been committed."""
         rows = self.rows(records, in_place)
         kept, why = replayed(rows, block)
         self.check("the records are a list that could have been committed", not why, f"{why}: {rows}")
         return kept
 
-    def check_gear(self, kept):
+    def check_gear(self, kept: Kept) -> None:
         """What holds of gear and records at any moment at which no program runs."""
         held = collections.defaultdict(list)
         for short, number in self.gear():
@@ -224,13 +232,13 @@ class Place:
         wrong = [pair for pair in kept[ENROL] if held[pair[0]] != [pair[1]]]
         self.check("each gear that is enrolled holds that short address", not wrong, wrong)
 
-    def check_named(self, *kepts):
+    def check_named(self, *kepts: Kept) -> None:
         """Each short address that a gear has stands in records, of the kind 1 or 2."""
         named = {pair for kept in kepts for pairs in kept.values() for pair in pairs}
         wrong = [pair for pair in self.gear() if pair[0] is not None and pair not in named]
         self.check("each short address of a gear has its record", not wrong, wrong)
 
-    def check_table(self, kept, records=None):
+    def check_table(self, kept: Kept, records: pathlib.Path | None = None) -> None:
         """What `table` prints in its three forms."""
         pairs = [(short, f"{number:06X}") for short, number in sorted(kept[ENROL])]
         objects = [{"address": short, "random": number} for short, number in pairs]
@@ -249,7 +257,7 @@ class Place:
                 is_so &= ran.wrote == wanted[form]
             self.check(f"table {form or 'as text'} is what the file holds", is_so, ran)
 
-    def check_copies(self, folder):
+    def check_copies(self, folder: pathlib.Path) -> None:
         """Each copy that was made at a PROGRAM SHORT ADDRESS has the reservation of its addresses."""
         for copy in folder.glob("*.db"):
             _, short, number = map(int, copy.stem.split("-"))
@@ -259,13 +267,13 @@ class Place:
         shutil.rmtree(folder)
 
 
-def is_unmade(database):
+def is_unmade(database: pathlib.Path) -> bool:
     """Whether the first page of a file was not written to its end: its first byte comes last."""
     raw = database.read_bytes()
     return 0 < len(raw) <= 4096 and raw[0] == 0
 
 
-def rows_of(database):
+def rows_of(database: pathlib.Path) -> list[Row]:
     """The rows of a database, the kinds of its values, and whether it is sound."""
     connection = sqlite3.connect(database, isolation_level=None)
     try:
@@ -287,7 +295,7 @@ def rows_of(database):
         connection.close()
 
 
-def replayed(rows, block):
+def replayed(rows: list[Row], block: tuple[int, int]) -> tuple[Kept, str | None]:
     """What records keep, each kind a list of pairs, and why they are none that could have been committed, or None."""
     kept = {RESERVE: [], ENROL: []}
     for at, (seq, kind, short, number) in enumerate(rows, 1):

@@ -1,5 +1,6 @@
 """What the checks of tools/check/drive are made of: programs and drivers that stand for real ones, and a clone with no kit."""
 
+import collections.abc
 import json
 import os
 import pathlib
@@ -9,6 +10,7 @@ import signal
 import subprocess
 import sys
 import threading
+import typing
 
 from lib import ROOT
 
@@ -142,41 +144,43 @@ echo lapsed
 class Checks:
     """How much was right, and what was wrong. Threads share it."""
 
-    def __init__(self):
+    def __init__(self) -> None:
         self.right, self.wrong, self.lock = 0, 0, threading.Lock()
 
-    def say(self, holds, what):
+    def say(self, holds: bool, what: str) -> None:
         with self.lock:
             self.right, self.wrong = self.right + bool(holds), self.wrong + (not holds)
             if not holds:
                 print(f"wrong: {what}", flush=True)
 
-    def same(self, found, wanted, what):
+    def same(self, found: object, wanted: object, what: object) -> None:
         self.say(found == wanted, f"{what}: {found!r}, and not {wanted!r}")
 
 
-def sh(text):
+def sh(text: str) -> list[str]:
     return ["/bin/sh", "-c", text]
 
 
-def python(text, **values):
+def python(text: str, **values: object) -> list[str]:
     """A process that runs this text, with values for names in it."""
     for name, value in values.items():
         text = text.replace(name, repr(value))
     return [sys.executable, "-S", "-E", "-c", text]
 
 
-def writes(text, then=""):
+def writes(text: bytes, then: str = "") -> list[str]:
     """A driver that writes this after it has read a line, and goes on until its input ends."""
     return python(f"import os, sys; sys.stdin.readline(); os.write(1, {text!r}); {then or 'sys.stdin.read()'}")
 
 
-def ignoring(name, words):
+def ignoring(name: str, words: list[str]) -> list[str]:
     """The words of a process that ignores a signal."""
     return sh(f"trap '' {name}; exec {shlex.join(words)}")
 
 
-def joined(program, driver, *more, join=JOIN, ignored=None, **how):
+def joined(
+    program: list[str], driver: list[str], *more: float | bool, join: str = JOIN, ignored: str | None = None, **how: typing.Any
+) -> subprocess.Popen[str]:
     """A program and a driver that are being joined, in a session of their own."""
     pipes = {"stdin": subprocess.DEVNULL, "stdout": subprocess.PIPE, "stderr": subprocess.PIPE, "text": True}
     words = [*python(join), json.dumps([program, driver, *more])]
@@ -184,7 +188,7 @@ def joined(program, driver, *more, join=JOIN, ignored=None, **how):
     return subprocess.Popen(words, cwd=ROOT / "tools", start_new_session=True, **{**pipes, **how})
 
 
-def ended(ran):
+def ended(ran: subprocess.Popen[str]) -> tuple[str | None, str, int | None]:
     """What it wrote, what it said, and its status. What does not end is killed, with what it started."""
     try:
         wrote, said = ran.communicate(timeout=30)
@@ -199,7 +203,7 @@ def ended(ran):
 class Clone:
     """A clone with one program, a driver and the stub of a kit, in a folder of its own."""
 
-    def __init__(self, room):
+    def __init__(self, room: pathlib.Path) -> None:
         self.root, self.work = room / "clone", room / "work"
         shutil.copytree(ROOT / "tools", self.root / "tools", ignore=shutil.ignore_patterns("__pycache__"))
         for name in ("KIT", "HANDLES", "dali_commission"):
@@ -217,16 +221,16 @@ class Clone:
         path = f"{room / 'bin'}:{os.environ['PATH']}"
         self.env = dict(os.environ, PATH=path, PROGRAM=str(self.put(room / "program", PROGRAM)))
 
-    def put(self, file, text):
+    def put(self, file: pathlib.Path, text: str) -> pathlib.Path:
         file.parent.mkdir(parents=True, exist_ok=True)
         file.write_text(text)
         file.chmod(0o755)
         return file
 
-    def run(self, *words, given="", **env):
+    def run(self, *words: str, given: str = "", **env: str) -> tuple[str, str, int]:
         return self.ran([self.root / "dali_commission", *words], input=given, env={**self.env, **env})
 
-    def ran(self, words, **how):
+    def ran(self, words: collections.abc.Iterable[str | pathlib.Path], **how: typing.Any) -> tuple[str, str, int]:
         how = {"input": "", "env": self.env, "capture_output": True, "text": True, "timeout": 60, **how}
         done = subprocess.run(list(map(str, words)), cwd=self.work, **how)
         return done.stdout, done.stderr, done.returncode

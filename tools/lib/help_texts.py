@@ -26,23 +26,23 @@ WORDS = {
 }
 
 
-def texts(name, program):
+def texts(name: str, program: str | pathlib.Path | None) -> dict[pathlib.Path, bytes]:
     """What each file is to have by a program of this name, which stands at this place."""
     program = program or proving.CRATES / name / "out" / name
     return {FOLDER / file: said(program, words) for file, words in WORDS[name].items()}
 
 
-def said(program, words):
+def said(program: str | pathlib.Path, words: list[str]) -> bytes:
     """What the program says to these words."""
     return subprocess.run([program, *words], capture_output=True, stdin=subprocess.DEVNULL, check=True).stdout
 
 
-def stale(name, program=None):
+def stale(name: str, program: str | pathlib.Path | None = None) -> list[pathlib.Path]:
     """The files that have something else than the program says."""
     return [file for file, text in texts(name, program).items() if not file.is_file() or file.read_bytes() != text]
 
 
-def write(name, program=None):
+def write(name: str, program: str | pathlib.Path | None = None) -> None:
     FOLDER.mkdir(exist_ok=True)
     for file, text in texts(name, program).items():
         file.write_bytes(text)

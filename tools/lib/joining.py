@@ -6,6 +6,7 @@ import os
 import signal
 import subprocess
 import time
+import types
 
 from lib import relay
 
@@ -21,7 +22,7 @@ ANSWERS = 10
 UNWRITTEN, AT_FAULT, NOT_STARTED = 3, 4, 127
 
 
-def say(text):
+def say(text: str) -> None:
     """Says something on standard error. Where that is gone, as with a closed terminal, the run goes on all the same."""
     with contextlib.suppress(OSError):
         os.write(2, os.fsencode(f"{text}\n"))
@@ -33,7 +34,7 @@ class Signals:
     Where it is gentle, the first signal asks for an end in order, and is passed on only where that takes too long.
     """
 
-    def __init__(self, is_gentle):
+    def __init__(self, is_gentle: bool) -> None:
         self.program, self.is_gentle, self.came, self.moments = None, is_gentle, [], []
         # What is written when a signal comes, so that whoever waits for files sees it.
         woken, waker = os.pipe()
@@ -44,44 +45,44 @@ class Signals:
             if signal.getsignal(number) != signal.SIG_IGN:
                 signal.signal(number, self.take)
 
-    def take(self, number, _frame):
+    def take(self, number: int, _frame: types.FrameType | None) -> None:
         now = time.monotonic()
         if not self.is_gentle or self.came[-1:] != [number] or now - self.moments[-1] > SAME:
             self.add(number, now)
 
-    def add(self, number, now):
+    def add(self, number: int, now: float) -> None:
         self.came.append(number)
         self.moments.append(now)
         if self.program and (not self.is_gentle or self.is_urgent()):
             self.program.send_signal(number)
 
-    def begin(self, program):
+    def begin(self, program: subprocess.Popen[bytes]) -> None:
         self.program = program
         for number in self.came[1 if self.is_gentle else 0 :]:
             program.send_signal(number)
 
-    def clear(self):
+    def clear(self) -> None:
         """Nobody has to wake for the signals that came so far."""
         os.read(self.file.fileno(), 4096)
 
-    def is_to_end(self):
+    def is_to_end(self) -> bool:
         """Whether the program is to end by itself."""
         return self.is_gentle and bool(self.came)
 
-    def is_urgent(self):
+    def is_urgent(self) -> bool:
         """Whether nobody is to wait for anything any more."""
         return len(self.came) > 1
 
-    def patient_until(self):
+    def patient_until(self) -> float:
         """Until when a program has time to end by itself."""
         return self.moments[0] + PATIENCE if self.is_to_end() and not self.is_urgent() else math.inf
 
-    def pass_on(self):
+    def pass_on(self) -> None:
         """Passes on the first signal, since the program has not ended by itself."""
         self.add(self.came[0], time.monotonic())
 
 
-def started(title, what, words):
+def started(title: str, what: str, words: list[str]) -> subprocess.Popen[bytes] | None:
     """A process with a pipe from it and one to it, or None.
 
     It has a session of its own: an interrupt from the terminal comes here, and from here once to the program alone, so that the
@@ -95,7 +96,7 @@ def started(title, what, words):
         return None
 
 
-def end(title, driver):
+def end(title: str, driver: subprocess.Popen[bytes]) -> bool:
     """Ends the input of a driver, waits for its end, and hastens it where it takes too long. Whether it ended by itself."""
     relay.close(driver.stdin)
     is_hastened = False
@@ -110,7 +111,7 @@ def end(title, driver):
     return not is_hastened
 
 
-def say_end(title, driver, fault, is_by_itself):
+def say_end(title: str, driver: subprocess.Popen[bytes], fault: relay.Fault | None, is_by_itself: bool) -> None:
     """Says what was wrong with a driver that has ended; the cause of all else comes last."""
     status = driver.returncode
     ended = f"the driver ended with status {status}" if status >= 0 else f"signal {-status} ended the driver"
@@ -125,7 +126,7 @@ def say_end(title, driver, fault, is_by_itself):
         say(f"{title}: {fault}")
 
 
-def join(program, driver, seconds=ANSWERS, is_gentle=False):
+def join(program: list[str], driver: list[str], seconds: float = ANSWERS, is_gentle: bool = False) -> int:
     """Runs a program and a driver, each a list of words, and returns the exit status."""
     title, signals = os.path.basename(program[0]), Signals(is_gentle)
     drives = started(title, "driver", driver)
@@ -144,7 +145,7 @@ def join(program, driver, seconds=ANSWERS, is_gentle=False):
     return status_of(title, runs, between, signals)
 
 
-def status_of(title, program, between, signals):
+def status_of(title: str, program: subprocess.Popen[bytes], between: relay.Relay, signals: Signals) -> int:
     """The exit status of a run that has ended."""
     if between.unwritten:
         say(f"{title}: standard output cannot be written: {between.unwritten}")

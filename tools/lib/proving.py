@@ -6,6 +6,7 @@ stands in its out/build.log.
 """
 
 import fcntl
+import io
 import os
 import pathlib
 import re
@@ -53,7 +54,10 @@ class Crate:
     names, the files of other crates that it has among its sources, whether it is a program or a static library, how it is
     compiled, and how many seconds of processor its proof takes, if that was measured."""
 
-    def __init__(self, name, line, folder, direct, of_kit, borrowed, seconds):
+    def __init__(
+        self, name: str, line: str, folder: pathlib.Path, direct: list["Crate"], of_kit: list[str],
+        borrowed: list[pathlib.Path], seconds: int,
+    ) -> None:
         self.name, self.line, self.folder, self.borrowed, self.seconds = name, line, folder, borrowed, seconds
         self.direct, self.of_kit = direct, of_kit
         self.below = list(dict.fromkeys(it for crate in direct for it in [*crate.below, crate]))
@@ -65,15 +69,15 @@ class Crate:
         self.backend += ["--opt-level", *level] if (level := re.findall(r" opt_level=(\d)", head)) else []
         self.log = self.folder / "out/build.log"
 
-    def sources(self):
+    def sources(self) -> list[pathlib.Path]:
         own = [file for part in PARTS for file in (self.folder / part).rglob("*") if file.is_file()]
         return own + self.borrowed
 
-    def is_edited(self, since):
+    def is_edited(self, since: float) -> bool:
         """Whether one of its sources is newer than this moment."""
         return any(file.stat().st_mtime > since for file in self.sources())
 
-    def is_newest(self):
+    def is_newest(self) -> bool:
         """Whether it is built, and no source of it or of the crates below it is newer."""
         if not self.made.is_file():
             return False
@@ -83,7 +87,7 @@ class Crate:
         return all(file.stat().st_mtime <= made for file in sources)
 
 
-def workspace():
+def workspace() -> dict[str, Crate]:
     """The crates by name, those of crates/ before those of extra/, and in each folder the lowest first."""
     found, seconds = {}, measured()
     for file, folder in WORKSPACES:
@@ -98,40 +102,40 @@ def workspace():
     return found
 
 
-def measured():
+def measured() -> dict[str, int]:
     """The seconds of the crates that were measured."""
     lines = SECONDS.read_text().splitlines() if SECONDS.is_file() else []
     return {name: int(seconds) for name, seconds in (line.split() for line in lines if not line.startswith("#"))}
 
 
-def note(seconds):
+def note(seconds: dict[str, int]) -> None:
     """Writes down the seconds of crates that were measured, beside those of the others."""
     head = "# The seconds of processor that each crate took with one job when it was last measured, by tools/build --measure.\n"
     SECONDS.write_text(head + "".join(f"{name} {count}\n" for name, count in sorted({**measured(), **seconds}.items())))
 
 
-def built(name):
+def built(name: str) -> pathlib.Path:
     """The program of this name, proved and built where it is missing or older than its sources."""
     if subprocess.run([ROOT / "tools/build", name], stdout=subprocess.DEVNULL).returncode != 0:
         sys.exit(f"{name} is not built")
     return workspace()[name].made
 
 
-def free_memory():
+def free_memory() -> int:
     """The free memory of the machine in bytes."""
     return int(re.search(r"MemAvailable:\s+(\d+)", pathlib.Path("/proc/meminfo").read_text())[1]) * 1024
 
 
-def processors():
+def processors() -> int:
     """How many processors there are to use, and fewer where memory is short."""
     return max(min(len(os.sched_getaffinity(0)), free_memory() // MEMORY), 1)
 
 
-def say(text):
+def say(text: str) -> None:
     print(text, file=sys.stderr, flush=True)
 
 
-def room(name="proving"):
+def room(name: str = "proving") -> pathlib.Path:
     """The folder in which crates are proved.
 
     It is none of the checkout, where rt would take its crates for some of the repository's.
@@ -142,22 +146,22 @@ def room(name="proving"):
 class Build:
     """A build of crates that are not proved yet, lowest first."""
 
-    def __init__(self, title, crates, is_measured=False):
+    def __init__(self, title: str, crates: list[Crate], is_measured: bool = False) -> None:
         self.title, self.crates, self.left, self.is_measured = title, crates, list(crates), is_measured
         self.running, self.ended, self.read, self.took = {}, {}, {}, {}
         self.processors, self.changed, self.first = processors(), threading.Condition(), time.monotonic()
 
-    def behind(self, crate):
+    def behind(self, crate: Crate) -> int:
         """The seconds of the longest chain of crates that begins with this one."""
         return crate.seconds + max((self.behind(it) for it in self.crates if crate in it.below), default=0)
 
-    def ready(self):
+    def ready(self) -> list[Crate]:
         """The crates whose libraries are proved, those with the longest chain behind them first."""
         waits = [*self.left, *self.running]
         found = [it for it in self.left if not any(below in waits for below in it.below)]
         return sorted(found, key=lambda it: -self.behind(it))
 
-    def run(self):
+    def run(self) -> None:
         """Proves all, as many at once as there are processors."""
         while self.left or self.running:
             for crate in self.ready()[: self.processors - len(self.running)]:
@@ -169,7 +173,7 @@ class Build:
                 self.took[crate] = seconds
                 self.end(crate, status)
 
-    def start(self, crate):
+    def start(self, crate: Crate) -> None:
         is_longest = self.behind(crate) >= max(map(self.behind, [*self.left, *self.running]))
         self.left.remove(crate)
         place, self.read[crate] = room() / crate.name, time.time()
@@ -181,12 +185,12 @@ class Build:
         self.running[crate] = ran
         threading.Thread(target=self.wait_for, args=(crate, ran), daemon=True).start()
 
-    def words_of(self, crate, is_longest):
+    def words_of(self, crate: Crate, is_longest: bool) -> list[str]:
         """What proves a crate. All make way for the one with the longest chain behind it, which they wait for in the end."""
         first = [] if is_longest else ["nice"]
         return [*first, "sh", "-c", " && ".join(map(shlex.join, commands(crate, self.jobs(crate, is_longest))))]
 
-    def jobs(self, crate, is_longest):
+    def jobs(self, crate: Crate, is_longest: bool) -> int:
         """How many jobs prove a crate.
 
         Each loads the libraries for itself and what the others proved, which costs processor time, and saves time by the clock. So
@@ -196,13 +200,13 @@ class Build:
         wanted = min(crate.seconds // WORTH, max(FASTER)) if is_longest and not self.is_measured else 1
         return max(min(self.processors, wanted, free_memory() // MEMORY), 1)
 
-    def wait_for(self, crate, ran):
+    def wait_for(self, crate: Crate, ran: subprocess.Popen[bytes]) -> None:
         _, status, used = os.wait4(ran.pid, 0)
         with self.changed:
             self.ended[crate] = status, used.ru_utime + used.ru_stime
             self.changed.notify_all()
 
-    def end(self, crate, status):
+    def end(self, crate: Crate, status: int) -> None:
         del self.running[crate]
         if status or not (room() / crate.name / crate.made.relative_to(crate.folder)).is_file():
             raise Refused(crate.name)
@@ -215,7 +219,7 @@ class Build:
         so_far = f"{count} of {len(self.crates)} crates proved after {passed // 60}:{passed % 60:02} ({crate.name})"
         say(f"{self.title}: {so_far}{self.guess()}")
 
-    def guess(self):
+    def guess(self) -> str:
         """What is left, by what all took that was done so far, beside their seconds. The first crates say too little for a guess."""
         waits = [*self.left, *self.running]
         done = [it for it in self.crates if it not in waits]
@@ -225,7 +229,7 @@ class Build:
         minutes = round(pace * self.clock(waits) / 60)
         return f", some {minutes} minutes left" if minutes > 1 else ", a minute or two left"
 
-    def clock(self, crates):
+    def clock(self, crates: list[Crate]) -> float:
         """The least time by the clock in which these crates can be proved, by their seconds."""
 
         def chain(crate):
@@ -234,7 +238,7 @@ class Build:
 
         return max(*map(chain, crates), sum(it.seconds for it in crates) / self.processors)
 
-    def stop(self):
+    def stop(self) -> None:
         for ran in self.running.values():
             try:
                 os.killpg(ran.pid, signal.SIGKILL)
@@ -243,7 +247,7 @@ class Build:
             ran.wait()
 
 
-def read_words(crate):
+def read_words(crate: Crate) -> list[str]:
     """The words that tell the kit what a crate is read from, as it stands in its folder."""
     kit = kit_folder()
     named = {it: f"{kit}/rlibs/{it}.rlib" for it in ("std", *crate.of_kit)}
@@ -255,12 +259,12 @@ def read_words(crate):
     return [*words, "--antt-project", f"{kit}/rattle/logic/antt-project.json"]
 
 
-def proof_words(crate, jobs):
+def proof_words(crate: Crate, jobs: int) -> list[str]:
     """The words that tell the kit how a crate is proved."""
     return ["--logic-built", f"{kit_folder()}/logic_built", "--links", f"{crate.name}=", "--jobs", str(jobs)]
 
 
-def commands(crate, jobs):
+def commands(crate: Crate, jobs: int) -> list[list[str]]:
     """The calls of the kit that prove a crate in its place, and make its library or its program."""
     kit, out = kit_folder(), f"out/{crate.name}"
     words = [f"{kit}/bin/rattle", "build", *read_words(crate), *proof_words(crate, jobs)]
@@ -273,7 +277,7 @@ def commands(crate, jobs):
     ]
 
 
-def lay_out(crate, place):
+def lay_out(crate: Crate, place: pathlib.Path) -> None:
     """Makes a copy of the crate's sources, by links: what is built there is taken over when it is whole."""
     shutil.rmtree(place, ignore_errors=True)
     place.mkdir(parents=True)
@@ -285,7 +289,7 @@ def lay_out(crate, place):
     (place / "out/stated").mkdir(parents=True)
 
 
-def keep(crate, read):
+def keep(crate: Crate, read: float) -> None:
     """Takes what was built in the crate's place into the checkout."""
     place = room() / crate.name
     made = crate.made if crate.is_program else crate.made.parent
@@ -293,7 +297,7 @@ def keep(crate, read):
     shutil.rmtree(place, ignore_errors=True)
 
 
-def take(crate, built, read):
+def take(crate: Crate, built: pathlib.Path, read: float) -> None:
     """Takes a program or a library into the checkout. It is as old as the reading of its sources: what was edited since is newer."""
     made = crate.made if crate.is_program else crate.made.parent
     if made.is_dir():
@@ -303,7 +307,7 @@ def take(crate, built, read):
     os.utime(crate.made, (read, read))
 
 
-def wanted(programs):
+def wanted(programs: list[str]) -> list[Crate]:
     """The crates that these programs are made of and that are not built yet, lowest first.
 
     A program that is newer than all its sources needs no library, whoever built it.
@@ -318,12 +322,12 @@ def wanted(programs):
     return found
 
 
-def kit_folder():
+def kit_folder() -> pathlib.Path:
     """The folder of the kit, whose bin/ has the command rt."""
     return pathlib.Path(shutil.which("rt")).resolve().parent.parent
 
 
-def kit():
+def kit() -> str | None:
     """The name of the kit that is there, or None. Says so where there is none, or another than the repository was proved with."""
     named = (ROOT / "KIT").read_text().strip()
     if not shutil.which("rt"):
@@ -335,7 +339,7 @@ def kit():
     return found
 
 
-def forget_others(kit_name):
+def forget_others(kit_name: str) -> None:
     """Forgets the libraries that another kit proved, which this one cannot read."""
     last = pathlib.Path(f"{room()}.kit")
     if last.is_file() and last.read_text() != kit_name:
@@ -344,7 +348,7 @@ def forget_others(kit_name):
     last.write_text(kit_name)
 
 
-def prove(title, programs, is_measured):
+def prove(title: str, programs: list[str], is_measured: bool) -> int:
     """Proves and builds programs, and returns an exit status. What its crates took is written down where they are measured."""
     if not wanted(programs):
         return 0
@@ -374,7 +378,7 @@ def prove(title, programs, is_measured):
         shutil.rmtree(room(), ignore_errors=True)
 
 
-def build(title, programs, is_measured=False):
+def build(title: str, programs: list[str], is_measured: bool = False) -> int:
     """Proves and builds programs while no other build of this checkout runs, and returns an exit status. Where nothing is to be built, it
     waits for nobody."""
 
@@ -394,7 +398,7 @@ def build(title, programs, is_measured=False):
         return INTERRUPTED
 
 
-def wait_for_others(title, lock):
+def wait_for_others(title: str, lock: io.TextIOWrapper) -> None:
     try:
         fcntl.flock(lock, fcntl.LOCK_EX | fcntl.LOCK_NB)
     except BlockingIOError:

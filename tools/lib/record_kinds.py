@@ -8,7 +8,7 @@ from lib import ROOT
 HEADER = ROOT / "include/dali_c.h"
 
 
-def read_kinds(header):
+def read_kinds(header: pathlib.Path) -> dict[str, int]:
     """The code of each kind, by its name in capitals."""
     listed = re.search(r"^enum dali_record_kind \{(.*?)\}", header.read_text(encoding="utf-8"), re.M | re.S)[1]
     return {name: int(code) for name, code in re.findall(r"DALI_(\w+) = (\d+)", listed)}

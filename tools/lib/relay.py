@@ -4,7 +4,12 @@ import math
 import os
 import re
 import select
+import subprocess
 import time
+import typing
+
+if typing.TYPE_CHECKING:
+    from lib import joining
 
 # What the lines of a program begin with that are the driver's.
 PUT = b"put "
@@ -25,14 +30,14 @@ class Gone(Fault):
     """The driver is gone. It says which frame it did not answer; how it ended is known later."""
 
 
-def shown(line):
+def shown(line: bytes) -> str:
     """A line of a driver for a message: its first bytes, those that are no printable ASCII by their numbers."""
     names = {9: r"\t", 10: r"\n", 13: r"\r", 92: r"\\"}
     text = "".join(names.get(it, chr(it) if 32 <= it < 127 else f"\\x{it:02X}") for it in line[:LONGEST])
     return f"'{text}'{'..' if len(line) > LONGEST else ''}"
 
 
-def readable(files, seconds):
+def readable(files: list[typing.IO[bytes]], seconds: float) -> list[typing.IO[bytes]]:
     """Which of these files have something to read, or are at their end, at the latest after so many seconds."""
     poll, by_number = select.poll(), {it.fileno(): it for it in files}
     for number in by_number:
@@ -48,7 +53,9 @@ class Relay:
     signals          which signals came, and a file that says so
     """
 
-    def __init__(self, program, driver, seconds, signals):
+    def __init__(
+        self, program: subprocess.Popen[bytes], driver: subprocess.Popen[bytes], seconds: float, signals: "joining.Signals"
+    ) -> None:
         self.program, self.driver, self.seconds, self.signals = program, driver, seconds, signals
         # What both wrote that is not passed yet, and whether that was their last.
         self.wrote, self.told, self.is_ended, self.is_gone = b"", b"", False, False
@@ -58,7 +65,7 @@ class Relay:
         self.fault, self.unwritten = None, None
         os.set_blocking(driver.stdin.fileno(), False)
 
-    def run(self):
+    def run(self) -> None:
         """Passes lines until the program has ended and each of its frames is answered, or until that is waited for in vain."""
         while not self.is_over():
             try:
@@ -68,17 +75,17 @@ class Relay:
                 self.close_input()
                 self.pass_on()
 
-    def is_over(self):
+    def is_over(self) -> bool:
         if not self.is_ended:
             return False
         is_stopped = self.program.returncode < 0 or self.signals.is_urgent()
         return is_stopped or self.fault is not None or not self.is_awaited()
 
-    def is_awaited(self):
+    def is_awaited(self) -> bool:
         """Whether a frame waits for its answer."""
         return self.until < math.inf
 
-    def turn(self):
+    def turn(self) -> None:
         """Waits until something happens, and does what is due. What the driver wrote comes before the next frame."""
         ready = readable(self.watched(), self.left())
         if self.signals.file in ready:
@@ -90,7 +97,7 @@ class Relay:
         self.look_at_times()
         self.pass_on()
 
-    def watched(self):
+    def watched(self) -> list[typing.IO[bytes]]:
         """The files that may say something. The program is not read where a frame of it waits for the driver."""
         files = [self.signals.file]
         if not self.is_ended and b"\n" not in self.wrote:
@@ -99,15 +106,15 @@ class Relay:
             files.append(self.driver.stdout)
         return files
 
-    def left(self):
+    def left(self) -> float:
         """How many seconds may be waited."""
         return max(min(self.until, self.patient_until()) - time.monotonic(), 0)
 
-    def patient_until(self):
+    def patient_until(self) -> float:
         """Until when the program has time to end by itself."""
         return math.inf if self.is_ended else self.signals.patient_until()
 
-    def look_at_times(self):
+    def look_at_times(self) -> None:
         """What is due since somebody waited too long, or was asked to end."""
         now = time.monotonic()
         if now >= self.until:
@@ -121,7 +128,7 @@ class Relay:
 
     # The program.
 
-    def take(self):
+    def take(self) -> None:
         """Takes what the program wrote, or sees that it has ended."""
         more = os.read(self.program.stdout.fileno(), MUCH)
         self.wrote += more
@@ -130,7 +137,7 @@ class Relay:
             # With a time-out it looks again and again, so that a signal which came right before is passed on too.
             self.program.wait(math.inf)
 
-    def pass_on(self):
+    def pass_on(self) -> None:
         """Passes the lines of the program, up to a frame that has to wait until the one before it is answered."""
         while self.wrote:
             line, feed, rest = self.wrote.partition(b"\n")
@@ -144,7 +151,7 @@ class Relay:
                 self.put(line + feed)
             self.wrote = rest
 
-    def write(self, text):
+    def write(self, text: bytes) -> None:
         """Writes a line of the program that is not the driver's to standard output."""
         try:
             while text:
@@ -152,7 +159,7 @@ class Relay:
         except OSError as why:
             self.unwritten = why.strerror
 
-    def answer(self, line):
+    def answer(self, line: bytes) -> None:
         """Passes a line of the driver to the program, if it still wants one."""
         try:
             if not self.program.stdin.closed:
@@ -160,12 +167,12 @@ class Relay:
         except OSError:
             self.close_input()
 
-    def close_input(self):
+    def close_input(self) -> None:
         close(self.program.stdin)
 
     # The driver.
 
-    def put(self, line):
+    def put(self, line: bytes) -> None:
         """Passes a frame to the driver, if it has written nothing since its last answer."""
         if not self.is_gone and readable([self.driver.stdout], 0):
             self.hear()
@@ -182,7 +189,7 @@ class Relay:
         if not is_taken:
             raise Fault(f"the driver does not read its lines, of which {self.frames} were written")
 
-    def hear(self):
+    def hear(self) -> None:
         """Takes what the driver wrote, and passes it to the program where it is a line, and that was asked for."""
         more = os.read(self.driver.stdout.fileno(), LITTLE)
         if not more:
@@ -201,7 +208,7 @@ class Relay:
             if not ANSWER.fullmatch(line):
                 raise Fault(f"the driver answered frame {self.frames} by a line that is no answer: {shown(line)}")
 
-    def hear_end(self):
+    def hear_end(self) -> None:
         """The driver writes no more."""
         self.is_gone = True
         if self.is_awaited():
@@ -210,14 +217,14 @@ class Relay:
             raise Gone(f"before it answered frame {self.frames}{torn}")
         self.close_input()
 
-    def check_asked(self, text):
+    def check_asked(self, text: bytes) -> None:
         """Whether the driver wrote nothing that was not asked for."""
         if text:
             when = f"after frame {self.frames}" if self.frames else "before the first frame"
             line, feed, _ = text.partition(b"\n")
             raise Fault(f"the driver wrote a line that was not asked for, {when}: {shown(line if feed else text)}")
 
-    def look_for_rest(self):
+    def look_for_rest(self) -> None:
         """What the driver, which has ended, wrote after its last answer. One that nobody waited for any more is none of it."""
         os.set_blocking(self.driver.stdout.fileno(), False)
         try:
@@ -230,7 +237,7 @@ class Relay:
             self.fault = self.fault or fault
 
 
-def close(pipe):
+def close(pipe: typing.IO[bytes]) -> None:
     """Closes an end of a pipe, if it is open."""
     if not pipe.closed:
         pipe.close()

@@ -3,6 +3,7 @@
 import collections
 import re
 
+from lib import script_forms
 from lib.threads_report import DONE, GEAR, RANDOM, TABLE, check
 
 FRAME = "[0-9A-F]{4}"
@@ -18,7 +19,7 @@ LOG = "8 LogFull"
 IN_USE = "10 AddressInUse"
 
 
-def form(right, *refusals):
+def form(right: str, *refusals: str) -> re.Pattern[str]:
     """The form of a line's report: what it reports where it is accepted, or one of its refusals."""
     return re.compile("|".join([right, *(f"refused {refusal}" for refusal in refusals)]))
 
@@ -58,7 +59,7 @@ RAN = re.compile(r"ran (\d+)")
 class Report:
     """A report beside its script, line by line. `seen` counts what was in it."""
 
-    def __init__(self, reading, text):
+    def __init__(self, reading: script_forms.Reading, text: str) -> None:
         check(not text or text.endswith("\n"), "the last line has no end")
         self.reading = reading
         self.lines = text.split("\n")
@@ -73,12 +74,12 @@ class Report:
         self.draws = {*reading.draws, *(random for _, _, random in reading.used)}
         self.seen = collections.Counter()
 
-    def next(self):
+    def next(self) -> str:
         check(self.at < len(self.lines), "a report is missing")
         self.at += 1
         return self.lines[self.at - 1]
 
-    def check_all(self):
+    def check_all(self) -> None:
         """Each line of the script has its report, and there is nothing else."""
         for line in self.reading.lines:
             words = line.split(" ")
@@ -90,7 +91,7 @@ class Report:
                 self.check_line(line, words)
         check(self.at == len(self.lines), "there are more reports than lines")
 
-    def check_line(self, line, words):
+    def check_line(self, line: str, words: list[str]) -> None:
         """The report of a line that has one."""
         name = " ".join(words[:2]) if words[0] == "pump" else words[0]
         report = self.next()
@@ -103,7 +104,7 @@ class Report:
             check(named["f"] == words[-1].upper(), f"the report of another frame than '{line}': {report}")
         self.count(report)
 
-    def check_run(self, rounds):
+    def check_run(self, rounds: int) -> None:
         """The reports of rounds, and how many frames were sent in them."""
         while not (match := RAN.fullmatch(report := self.next())):
             check(IN_ROUNDS.fullmatch(report) or END_OF_ROUNDS.fullmatch(report), f"no report of a run: {report}")
@@ -115,7 +116,7 @@ class Report:
         check(int(match.group(1)) <= rounds, f"more frames than rounds: {report}")
         self.seen["frames in runs"] += int(match.group(1))
 
-    def count(self, report):
+    def count(self, report: str) -> None:
         """Counts a report that tells how something ended."""
         words = report.split(" ")
         if words[0] == "refused":
@@ -126,7 +127,7 @@ class Report:
             self.check_record(report, int(words[0][:-1]), words[2], int(words[3]), words[4])
             self.seen[" ".join(words[1:3])] += 1
 
-    def check_record(self, report, controller, kind, address, random):
+    def check_record(self, report: str, controller: int, kind: str, address: int, random: str) -> None:
         """A record has a number that was to be drawn, and an address that its controller may keep."""
         check(controller < len(self.reading.blocks), f"no such controller: {report}")
         first, last = self.reading.blocks[controller]
@@ -140,7 +141,7 @@ class Report:
             check((controller, address, random) in self.reserved, f"a release of what was not reserved: {report}")
             self.released.add((str(address), random))
 
-    def check_show(self):
+    def check_show(self) -> None:
         """All gear in order, and all tables; on a site what is promised of them."""
         gear = []
         for number in range(self.reading.gear):
@@ -155,7 +156,7 @@ class Report:
             self.check_table(number, named)
         self.seen["shows of a site"] += 1
 
-    def named(self, gear):
+    def named(self, gear: list[tuple[str, str, str]]) -> dict[str, str]:
         """The random address of the gear at each short address. Who had an address in an earlier show still has it."""
         named = {}
         randoms = set()
@@ -174,7 +175,7 @@ class Report:
             self.holders[number] = (random, short)
         return named
 
-    def check_table(self, number, named):
+    def check_table(self, number: int, named: dict[str, str]) -> None:
         """Each entry names the gear that has its address, so no two tables disagree; and no entry is ever lost."""
         line = self.next()
         match = TABLE.fullmatch(line)
@@ -188,7 +189,7 @@ class Report:
         check(entries[: len(before)] == before, f"an entry of an earlier table is gone: {line}")
         self.tables[number] = entries
 
-    def totals(self):
+    def totals(self) -> collections.Counter[str]:
         """What was seen, with the addresses that gear had in the last show."""
         self.seen["runs of a site" if self.reading.is_site else "other runs"] += 1
         if self.reading.is_site:
@@ -201,7 +202,7 @@ class Report:
         return self.seen
 
 
-def checked(reading, report):
+def checked(reading: script_forms.Reading, report: str) -> collections.Counter[str]:
     """What was seen in a report that answers its script and agrees with itself."""
     lines = Report(reading, report)
     lines.check_all()

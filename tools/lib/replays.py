@@ -1,5 +1,6 @@
 """Plays scripts with `dali_sim replay`."""
 
+import pathlib
 import resource
 import subprocess
 import typing
@@ -10,7 +11,7 @@ from lib.threads_report import Disagreement
 TRIES = 3
 
 
-def built(program):
+def built(program: pathlib.Path | None) -> str:
     """The program to play with: the one that is named, or the one that tools/build makes."""
     return str(program or proving.built("dali_sim"))
 
@@ -24,13 +25,13 @@ class Played(typing.NamedTuple):
     processor: float
 
 
-def processor():
+def processor() -> float:
     """The seconds of the processor of all runs up to now."""
     used = resource.getrusage(resource.RUSAGE_CHILDREN)
     return used.ru_utime + used.ru_stime
 
 
-def play_once(program, script, seconds):
+def play_once(program: str, script: bytes, seconds: float) -> Played:
     before = processor()
     try:
         done = subprocess.run([program, "replay"], input=script, capture_output=True, timeout=10 * seconds)
@@ -40,7 +41,7 @@ def play_once(program, script, seconds):
     return Played(done.returncode, done.stdout.decode("latin-1"), done.stderr.decode("latin-1"), taken)
 
 
-def play(program, script, seconds=1):
+def play(program: str, script: bytes, seconds: float = 1) -> Played:
     """Plays a script. It may take so many seconds of the processor, and by the clock ten times as many. Other work of
     the machine may hold up a run, so one that is too slow is played again: it is wrong where each is too slow.
     """

@@ -1,6 +1,7 @@
 """Scripts of `dali_sim replay`, as docs/FORMAT.md has them: their limits, how their first lines are written, and what a
 script says: its plan, its lines, and the fault it ends in. The forms of lines are those of the program's table."""
 
+import collections.abc
 import dataclasses
 import pathlib
 import re
@@ -33,7 +34,7 @@ KINDS = {
 REPEATED = {"BLOCK": "*", "RRRRRR": f"{{0,{MOST_DRAWS}}}"}
 
 
-def pattern_of(form):
+def pattern_of(form: str) -> str:
     """What a line of a form looks like, with a group for each word that stands for others, and for a list of such."""
     text = re.sub(r" (\w+) \.\.$", lambda it: f"((?: {KINDS[it[1]]}){REPEATED[it[1]]})", form)
     begin, rest = text.partition("(")[::2]
@@ -41,7 +42,7 @@ def pattern_of(form):
     return " ".join(words) + (f"({rest}" if rest else "")
 
 
-def lines_of(name):
+def lines_of(name: str) -> re.Pattern[str]:
     """What a line looks like that has a form of this list of the program."""
     return re.compile("|".join(pattern_of(form) for form in line_forms.forms(ROOT, name)))
 
@@ -58,13 +59,13 @@ class Reading:
     fault: str
     is_site: bool = False
     gear: int = 0
-    blocks: list = dataclasses.field(default_factory=list)
-    draws: list = dataclasses.field(default_factory=list)
-    used: list = dataclasses.field(default_factory=list)
-    lines: list = dataclasses.field(default_factory=list)
+    blocks: list[tuple[int, int]] = dataclasses.field(default_factory=list)
+    draws: list[str] = dataclasses.field(default_factory=list)
+    used: list[tuple[int, int, str]] = dataclasses.field(default_factory=list)
+    lines: list[str] = dataclasses.field(default_factory=list)
 
 
-def block_of(word):
+def block_of(word: str) -> tuple[int, int]:
     """The first and the last address of a block `a-b`."""
     form = BLOCK.fullmatch(word)
     if not form:
@@ -75,28 +76,30 @@ def block_of(word):
     return first, last
 
 
-def draws_line(numbers):
+def draws_line(numbers: collections.abc.Iterable[int]) -> str:
     """The line of the random addresses that the gear draw in turn."""
     return "".join(["draws", *(f" {number:06X}" for number in numbers)])
 
 
-def used_line(gear, short, number):
+def used_line(gear: int, short: int, number: int) -> str:
     """The line of a gear that comes with a short and a random address."""
     return f"used {gear} {short} {number:06X}"
 
 
-def bench_of(gear, numbers, lines):
+def bench_of(gear: int, numbers: collections.abc.Iterable[int], lines: list[str]) -> str:
     """The script of a bench of so many gear."""
     return "".join(f"{line}\n" for line in (f"bench {gear}", draws_line(numbers), *lines))
 
 
-def site_of(gear, blocks, numbers, lines):
+def site_of(gear: int, blocks: list[tuple[int, int]], numbers: collections.abc.Iterable[int], lines: list[str]) -> str:
     """The script of a site of so many gear, with a controller for each block."""
     named = "".join(f" {first}-{last}" for first, last in blocks)
     return "".join(f"{line}\n" for line in (f"site {gear}{named}", draws_line(numbers), *lines))
 
 
-def plan_fault(gear, blocks, draws, used=()):
+def plan_fault(
+    gear: int, blocks: list[tuple[int, int]], draws: list[str], used: collections.abc.Sequence[tuple[int, int, str]] = ()
+) -> str:
     """The first cause for which a plan is refused, or nothing."""
     places, shorts, randoms = ([one[at] for one in used] for at in range(3))
     taken = set()
@@ -121,16 +124,16 @@ def plan_fault(gear, blocks, draws, used=()):
     return next((name for name, holds in causes if holds), "")
 
 
-def bad(number):
+def bad(number: int) -> str:
     return f"replay: line {number}: bad line\n"
 
 
-def first_words(said):
+def first_words(said: str) -> str:
     """What is said without the reason, which follows each bad line and each refused plan on the same line."""
     return re.sub(r"\A(replay: (?:line \d+: bad line|plan refused: \w+)): [ -~]+\n\Z", r"\1\n", said)
 
 
-def plan_of(heading, draws):
+def plan_of(heading: re.Match[str], draws: re.Match[str]) -> Reading:
     """What the first two lines set up, so far as they can be read."""
     bench, site, listed = heading.groups()
     blocks = [tuple(map(int, block.split("-"))) for block in (listed or "").split()]
@@ -140,7 +143,7 @@ def plan_of(heading, draws):
     return Reading(1 if refused else 0, fault, site is not None, int(bench or site), blocks, numbers)
 
 
-def reading_of(script):
+def reading_of(script: bytes) -> Reading:
     """What a script says."""
     if len(script) > MOST_BYTES:
         return Reading(3, TOO_LONG)

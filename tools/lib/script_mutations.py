@@ -1,5 +1,7 @@
 """Scripts for `dali_sim replay` that are made at random, and what may be changed in one."""
 
+import random
+
 from lib import script_forms, site_script
 
 NUMBERS = "0 1 2 3 4 5 62 63 64 65 126 127 128 129 255 256 999999 1000000 1000001 00 01 -1 +1 4294967296".split()
@@ -14,20 +16,20 @@ EVENTS = 65_536
 CHANCES = (0.002, 0.01, 0.05, 0.2)
 
 
-def frame(draw):
+def frame(draw: random.Random) -> str:
     return draw.choice(FRAMES) if draw.random() < 0.7 else f"{draw.randrange(0x10000):04X}"
 
 
-def line_of_both(draw, gear):
+def line_of_both(draw: random.Random, gear: int) -> str:
     name = draw.choice(("off", "on", "expire", "quiet", "show"))
     return name if name in ("quiet", "show") else f"{name} {draw.randrange(gear + 1)}"
 
 
-def bench_line(draw, gear):
+def bench_line(draw: random.Random, gear: int) -> str:
     return f"frame {frame(draw)}" if draw.random() < 0.8 else line_of_both(draw, gear)
 
 
-def pump_line(draw, gear):
+def pump_line(draw: random.Random, gear: int) -> str:
     trouble = draw.choice((None, None, None, *site_script.FRAME_TROUBLES))
     if trouble == "destroyed":
         takers = [str(g) for g in range(gear) if draw.random() < 0.5]
@@ -35,7 +37,7 @@ def pump_line(draw, gear):
     return f"pump {trouble}" if trouble else "pump"
 
 
-def site_line(draw, gear, controllers):
+def site_line(draw: random.Random, gear: int, controllers: int) -> str:
     kind = draw.random()
     controller = draw.randrange(controllers + 1) if draw.random() < 0.05 else draw.randrange(controllers)
     if kind < 0.3:
@@ -53,13 +55,13 @@ def site_line(draw, gear, controllers):
     return line_of_both(draw, gear)
 
 
-def blocks(draw, controllers):
+def blocks(draw: random.Random, controllers: int) -> list[tuple[int, int]]:
     """Blocks that have no address in common, small or large."""
     ends = sorted(draw.sample(range(64), 2 * controllers))
     return [(ends[i], draw.choice((ends[i], ends[i + 1]))) for i in range(0, len(ends), 2)]
 
 
-def drawn_site(draw):
+def drawn_site(draw: random.Random) -> str:
     """A script of a site, with some kinds of trouble."""
     gear = draw.choice((1, 1, 2, 2, 3, 4, 5, 8, 12, 16, 64 if draw.random() < 0.1 else 6))
     controllers = draw.choice((1, 1, 2, 2, 3, 4))
@@ -76,12 +78,12 @@ def drawn_site(draw):
     return site_script.script_of(made)
 
 
-def used_line(draw, gear):
+def used_line(draw: random.Random, gear: int) -> str:
     """The line of a used gear, which may be refused."""
     return script_forms.used_line(draw.randrange(gear + 1), draw.randrange(8), draw.randrange(script_forms.NO_RANDOM + 1))
 
 
-def drawn_lines(draw):
+def drawn_lines(draw: random.Random) -> str:
     """A script of a bench or a site whose lines are drawn one by one."""
     gear = draw.choice((1, 2, 3, 8))
     numbers = draw.sample(range(script_forms.NO_RANDOM), draw.choice((0, 1, 8, 64)))
@@ -98,7 +100,7 @@ def drawn_lines(draw):
     return script_forms.site_of(gear, named, numbers, used + body)
 
 
-def change_line(draw, lines):
+def change_line(draw: random.Random, lines: list[str]) -> None:
     """One line is taken away, doubled, moved, put in or repeated, or all that follow it are."""
     at = draw.randrange(len(lines))
     kind = draw.randrange(8)
@@ -120,7 +122,7 @@ def change_line(draw, lines):
         lines.insert(at, made)
 
 
-def change_word(draw, lines):
+def change_word(draw: random.Random, lines: list[str]) -> None:
     """One word of a line is taken away, doubled, exchanged with another, replaced or put in, or its number changes."""
     at = draw.randrange(len(lines) if draw.random() < 0.7 else min(len(lines), 2))
     words = lines[at].split(" ")
@@ -142,7 +144,7 @@ def change_word(draw, lines):
     lines[at] = " ".join(words)
 
 
-def change_byte(draw, script):
+def change_byte(draw: random.Random, script: bytearray) -> None:
     """One byte is flipped, taken away, doubled, exchanged with the next one, replaced or put in."""
     at = draw.randrange(len(script))
     kind = draw.randrange(6)
@@ -160,7 +162,7 @@ def change_byte(draw, script):
         script.insert(at, draw.choice(BYTES))
 
 
-def changed(draw, script):
+def changed(draw: random.Random, script: str) -> bytes:
     """A script with a few changes, of lines, of words or of bytes; sometimes with none."""
     kind = draw.choice(("none", "none", "lines", "lines", "lines", "words", "bytes"))
     if kind == "none":
@@ -179,7 +181,7 @@ def changed(draw, script):
     return "\n".join(lines).encode()
 
 
-def drawn_script(draw, examples):
+def drawn_script(draw: random.Random, examples: list[str]) -> bytes:
     """A script for one run: an example, a site or lines drawn one by one, with a few changes or none."""
     kind = draw.random()
     if kind < 0.3:

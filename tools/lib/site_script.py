@@ -44,30 +44,30 @@ class Site:
     """
 
     gear: int
-    blocks: list
+    blocks: list[tuple[int, int]]
     seed: object
     rounds: int
     draws: int
-    chances: dict
+    chances: dict[str, float]
     spell: bool = False
     survey: bool = False
     used: int = 0
     again: int = 0
 
 
-def usual_rounds(gear, controllers):
+def usual_rounds(gear: int, controllers: int) -> int:
     """About as many rounds as the controllers take until all gear have addresses, where nothing disturbs them."""
     return min(MOST_ROUNDS, 120 * gear * controllers)
 
 
-def usual_draws(gear):
+def usual_draws(gear: int) -> int:
     return min(script_forms.MOST_DRAWS, 64 * gear)
 
 
 class Rounds:
     """The lines of a site's rounds, one round after the other."""
 
-    def __init__(self, site):
+    def __init__(self, site: Site) -> None:
         self.site = site
         self.number = random.Random(f"rounds {site.seed}")
         self.lines = []
@@ -76,21 +76,21 @@ class Rounds:
         self.off = {}
         self.down = {}
 
-    def happens(self, trouble):
+    def happens(self, trouble: str) -> bool:
         chance = self.site.chances.get(trouble, 0)
         return chance > 0 and self.number.random() < chance
 
-    def pick(self, count):
+    def pick(self, count: int) -> int:
         return self.number.randrange(count)
 
-    def gear_that_take(self):
+    def gear_that_take(self) -> str:
         """The list of gear that take a destroyed frame."""
         gear = range(self.site.gear)
         half = [g for g in gear if self.number.random() < 0.5]
         taking = self.number.choice([[], [self.pick(self.site.gear)], half, list(gear)])
         return ",".join(map(str, taking)) or "-"
 
-    def turn_of_the_bus(self):
+    def turn_of_the_bus(self) -> str:
         """The line of the bus, which at most one trouble disturbs."""
         drawn = self.number.random()
         for trouble in FRAME_TROUBLES:
@@ -99,7 +99,7 @@ class Rounds:
                 return f"pump {trouble} {self.gear_that_take()}" if trouble == "destroyed" else f"pump {trouble}"
         return "pump"
 
-    def who_comes_back(self, now):
+    def who_comes_back(self, now: int) -> list[str]:
         """The lines of the gear and controllers that come back before this round."""
         lines = []
         for line, away in (("on", self.off), ("up", self.down)):
@@ -110,7 +110,7 @@ class Rounds:
                 del away[who]
         return lines
 
-    def who_goes(self, now):
+    def who_goes(self, now: int) -> list[str]:
         """The lines of the gear that lose their power before this round, and of the controllers that go down."""
         lines = []
         gear = self.pick(self.site.gear)
@@ -125,7 +125,7 @@ class Rounds:
             self.down[controller] = now + self.pick(LONGEST_ABSENCE + 1)
         return lines
 
-    def before(self, now):
+    def before(self, now: int) -> list[str]:
         """The lines of what happens before a round."""
         lines = self.who_goes(now) + self.who_comes_back(now)
         if self.happens("lapse"):
@@ -141,7 +141,7 @@ class Rounds:
             lines.append("show")
         return lines
 
-    def turns(self):
+    def turns(self) -> tuple[list[str], bool]:
         """The lines of the controllers that are up, and whether one of them is disturbed."""
         lines = []
         disturbed = False
@@ -155,13 +155,13 @@ class Rounds:
             lines.append(f"go {controller}")
         return lines, disturbed
 
-    def flush(self):
+    def flush(self) -> None:
         """The rounds since the last disturbed one, in one line."""
         if self.undisturbed:
             self.lines.append(f"run {self.undisturbed}")
             self.undisturbed = 0
 
-    def add(self, now):
+    def add(self, now: int) -> None:
         before = self.before(now)
         turns, disturbed = self.turns()
         bus = self.turn_of_the_bus()
@@ -174,7 +174,7 @@ class Rounds:
         else:
             self.undisturbed += 1
 
-    def all(self):
+    def all(self) -> list[str]:
         """All rounds, after which everybody comes back."""
         if self.site.survey:
             self.lines += [f"survey {controller}" for controller in range(len(self.site.blocks))]
@@ -184,7 +184,7 @@ class Rounds:
         return self.lines + self.who_comes_back(self.site.rounds + LONGEST_ABSENCE + 1)
 
 
-def used_lines(site, numbers):
+def used_lines(site: Site, numbers: list[int]) -> list[str]:
     """A line for each used gear, in order of their number: with short addresses that are all different, and numbers
     that are too, and that nobody draws."""
     number = random.Random(f"used {site.seed}")
@@ -195,7 +195,7 @@ def used_lines(site, numbers):
     return list(map(script_forms.used_line, places, shorts, randoms))
 
 
-def once_more(site):
+def once_more(site: Site) -> list[str]:
     """The lines of the restarts: one controller after the other comes up with what it kept, and runs until it has ended.
     All others have ended before, so it is alone."""
     lines = []
@@ -207,7 +207,7 @@ def once_more(site):
     return [*lines, "show"] if lines else []
 
 
-def script_of(site):
+def script_of(site: Site) -> str:
     """The whole script, with a last run that nothing disturbs, and the restarts after it."""
     numbers = random.Random(f"draws {site.seed}").sample(range(script_forms.NO_RANDOM), site.draws)
     lines = [*used_lines(site, numbers), *Rounds(site).all(), f"run {LAST_RUN}", "show", *once_more(site)]

@@ -4,6 +4,8 @@ A row of `PLACES` is a list somewhere, as a table of a document or a tuple of a 
 enum, how each variant is spelled in it, and the variants that do not belong there.
 """
 
+import collections.abc
+import pathlib
 import re
 import typing
 
@@ -59,22 +61,22 @@ class Place(typing.NamedTuple):
 # How a list is found. It is the first one in its file.
 
 
-def section(heading):
+def section(heading: str) -> str:
     """The part of a document under a heading."""
     return rf"^#+ {re.escape(heading)}$.*?(?=^#|\Z)"
 
 
-def table(head):
+def table(head: str) -> str:
     """The table of a document with this first row, or with the first cells of it."""
     return rf"^{re.escape(head)}.*?(?=^[^|]|^$|\Z)"
 
 
-def line(begin):
+def line(begin: str) -> str:
     """The line that begins so."""
     return rf"^{re.escape(begin)}.*?$"
 
 
-def block(begin, end):
+def block(begin: str, end: str) -> str:
     """From one text to the next."""
     return rf"{re.escape(begin)}.*?{re.escape(end)}"
 
@@ -205,33 +207,33 @@ PLACES = (
 )
 
 
-def variants(text, name):
+def variants(text: str, name: str) -> list[str]:
     """The variants of an enum in a file of code."""
     found = re.search(rf"^pub enum {name} \{{\n(.*?)^\}}", re.sub(r"//.*", "", text), re.M | re.S)
     return re.findall(r"^    (\w+)", found[1], re.M) if found else []
 
 
-def code_of(text, of):
+def code_of(text: str, of: str) -> str | None:
     """The number that code has for a variant, or None."""
     found = re.search(rf"\b{of}\b(?:\([^)]*\))?(?: \| [\w:|(). ]+)? => \(?(\d+)", text)
     found = found or re.search(rf"\b(\d+) => Some\({of}\b", text)
     return found and found[1]
 
 
-def name_of(text, of):
+def name_of(text: str, of: str) -> str | None:
     """What code calls a variant: the text behind its arrow, or that of its `error`; or None."""
     found = re.search(rf'\b{of}\b(?:\([^)]*\))? => (?:(?!=>|\n\n)[^"]|"")*?"([^"]+)"', text)
     found = found or re.search(rf'#\[error\("([^"]+)"\)\]\s+{of.split("::")[1]}\b', text)
     return found and found[1]
 
 
-def word_of(text, of):
+def word_of(text: str, of: str) -> str | None:
     """The word that code reads as a variant, or None."""
     found = re.search(rf'b"([\w-]+)"\.as_slice\(\) \{{\s*Some\({of}\b', text)
     return found and found[1]
 
 
-def spelled(form, text, of):
+def spelled(form: str, text: str, of: str) -> tuple[str | None, str | None]:
     """How a variant is spelled by a form; or what the code lacks of it."""
     variant = of.split("::")[1]
     snake = re.sub(r"(?<!^)([A-Z])", r"_\1", variant).lower()
@@ -241,13 +243,13 @@ def spelled(form, text, of):
     return (None, lacking[0]) if lacking else (form.format(**forms), None)
 
 
-def pattern(wanted):
+def pattern(wanted: str) -> str:
     """What finds a variant as a whole. Something stands for each place of its name."""
     inner = re.sub(r"\\\{\w*\\\}", r"(?:[A-Z]+|\\d+)", re.escape(wanted))
     return rf"(?<![\w-]){inner}(?![\w-])"
 
 
-def missing(root, place):
+def missing(root: pathlib.Path, place: Place) -> collections.abc.Iterator[str]:
     """What a place lacks, in lines of text."""
     texts = [(root / file).read_text() if (root / file).exists() else "" for file in ENUMS[place.enum]]
     found, without = variants(texts[0], place.enum), place.without.split()
@@ -265,7 +267,7 @@ def missing(root, place):
             yield from missing_of(place, "\n\n".join(texts), at, f"{place.enum}::{variant}")
 
 
-def missing_of(place, text, at, of):
+def missing_of(place: Place, text: str, at: re.Match[str], of: str) -> collections.abc.Iterator[str]:
     """Whether the list at this match lacks a variant."""
     wanted, lacking = spelled(place.form, text, of)
     if lacking:

@@ -24,18 +24,18 @@ class Disagreement(Exception):
     """Something in a report contradicts the rest of it, or what was asked for."""
 
 
-def check(holds, what):
+def check(holds: object, what: str) -> None:
     if not holds:
         raise Disagreement(what)
 
 
-def read(line, form):
+def read(line: str, form: re.Pattern[str]) -> tuple[str, ...]:
     match = form.fullmatch(line)
     check(match, f"no line of the form '{form.pattern}': {line!r}")
     return match.groups()
 
 
-def ends_of(lines, controllers):
+def ends_of(lines: list[str], controllers: int) -> list[str]:
     """How each controller ended."""
     ends = []
     for number, line in enumerate(lines):
@@ -47,7 +47,7 @@ def ends_of(lines, controllers):
     return ends
 
 
-def holders_of(lines, allowed):
+def holders_of(lines: list[str], allowed: set[int]) -> dict[int, str]:
     """The random address of the gear at each short address."""
     holders = {}
     randoms = set()
@@ -67,7 +67,7 @@ def holders_of(lines, allowed):
     return holders
 
 
-def check_tables(lines, controllers, holders):
+def check_tables(lines: list[str], controllers: int, holders: dict[int, str]) -> None:
     """Each entry of each table names the gear that has its address."""
     for number, line in enumerate(lines):
         controller, entries = read(line, TABLE)
@@ -81,7 +81,7 @@ def check_tables(lines, controllers, holders):
     check(len(lines) == controllers, "a table is missing")
 
 
-def checked(report, gear, blocks):
+def checked(report: str, gear: int, blocks: list[tuple[int, int]]) -> tuple[list[str], int]:
     """The ends of the controllers and how many gear have an address, of a report that agrees with itself."""
     lines = report.splitlines()
     controllers = len(blocks)
