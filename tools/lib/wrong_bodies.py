@@ -16,6 +16,7 @@ import subprocess
 import sys
 import tempfile
 import typing
+from collections.abc import Callable, Iterable, Iterator
 
 from lib import proving
 
@@ -36,10 +37,10 @@ class Edit(typing.NamedTuple):
 
     name: str
     file: str
-    pairs: list
-    functions: set
+    pairs: list[tuple[str, str]]
+    functions: set[str]
 
-    def applied(self, text):
+    def applied(self, text: str) -> tuple[str, list[int]]:
         """The text of its file with the edit, and the lines that it changes."""
         changed = []
         for old, new in self.pairs:
@@ -51,7 +52,11 @@ class Edit(typing.NamedTuple):
         return text, changed
 
 
-def read(file, crate):
+# An edit, what it came to, and why.
+Came = tuple[Edit, str, str]
+
+
+def read(file: pathlib.Path, crate: proving.Crate) -> Edit:
     """The edit that stands in a file."""
     lines = file.read_text().splitlines()
     words = [match.groups() for line in lines if (match := re.match(r"(file|old|new): ?(.*)$", line))]
@@ -65,7 +70,7 @@ def read(file, crate):
     return edit._replace(functions=functions(edit.file, text.splitlines(), changed))
 
 
-def functions(file, lines, changed):
+def functions(file: str, lines: list[str], changed: list[int]) -> set[str]:
     """The functions in which lines stand, each by its type or its module; none where one stands in no function."""
     words = pathlib.PurePath(file).with_suffix("").parts[1:]
     module = words[:-1] if words[-1:] in [("lib",), ("main",)] else words
@@ -73,7 +78,7 @@ def functions(file, lines, changed):
     return set() if None in found else found
 
 
-def function(lines, at, module):
+def function(lines: list[str], at: int, module: tuple[str, ...]) -> str | None:
     """The function in which a line stands, or nothing. It is indented less than the line, and its `impl` less than it is."""
     depth, name = indent(lines[at]) + bool(HEAD.match(lines[at])), None
     for line in reversed(lines[: at + 1]):
@@ -84,18 +89,18 @@ def function(lines, at, module):
     return name and "::".join([*module, name])
 
 
-def indent(line):
+def indent(line: str) -> int:
     return len(line) - len(line.lstrip())
 
 
-def lay_out(crate, place):
+def lay_out(crate: proving.Crate, place: pathlib.Path) -> None:
     """A copy of the crate's sources in a folder."""
     for part in proving.PARTS:
         if (crate.folder / part).is_dir():
             shutil.copytree(crate.folder / part, place / part)
 
 
-def plant(crate, place, edit, number):
+def plant(crate: proving.Crate, place: pathlib.Path, edit: Edit, number: int) -> str | None:
     """Puts the function of an edit, with the edit and under a name of its own, before the right one in a copy of the crate, with its proof.
 
     Answers its path, or nothing where that cannot be: where the edit is of no function or of several, of a function of a trait's impl, or of
@@ -127,7 +132,7 @@ def plant(crate, place, edit, number):
     return next(iter(edit.functions)).removesuffix(name) + new
 
 
-def item(lines, at):
+def item(lines: list[str], at: int) -> tuple[int, int, int]:
     """The first line of the function in which a line stands, with its docs and attributes, the one with its name, and its last one."""
     depth = indent(lines[at]) + bool(HEAD.match(lines[at]))
     head = next(it for it in range(at, -1, -1) if HEAD.match(lines[it]) and indent(lines[it]) < depth)
@@ -136,12 +141,12 @@ def item(lines, at):
     return first, head, next(it for it in range(head, len(lines)) if lines[it] in ends)
 
 
-def owner(lines, head):
+def owner(lines: list[str], head: int) -> re.Match | None:
     """The `impl` in which a function stands, or nothing."""
     return next((kind for line in reversed(lines[:head]) if indent(line) < indent(lines[head]) and (kind := IMPL.match(line))), None)
 
 
-def check(crate, edits, paths):
+def check(crate: proving.Crate, edits: list[Edit], paths: Iterable[str]) -> tuple[int, str]:
     """Checks some functions of a crate with edits, all where none is named: the status, and what was said."""
     with tempfile.TemporaryDirectory() as folder:
         place = pathlib.Path(folder)
@@ -151,7 +156,7 @@ def check(crate, edits, paths):
         return checked(crate, place, paths)
 
 
-def check_planted(crate, edits):
+def check_planted(crate: proving.Crate, edits: list[Edit]) -> tuple[str, dict[str, str]]:
     """Checks the functions of edits, planted beside the right ones: what was said, and the path of each edit that could be planted."""
     with tempfile.TemporaryDirectory() as folder:
         place = pathlib.Path(folder)
@@ -160,7 +165,7 @@ def check_planted(crate, edits):
         return checked(crate, place, paths.values())[1] if paths else "", paths
 
 
-def checked(crate, place, paths):
+def checked(crate: proving.Crate, place: pathlib.Path, paths: Iterable[str]) -> tuple[int, str]:
     """Checks some functions of a copy of a crate, all where none is named: the status, and what was said."""
     words = [f"{proving.kit_folder()}/bin/rattle", "check", *proving.read_words(crate), *proving.proof_words(crate, 1)]
     words += ["--crate-type", "staticlib"] if crate.is_static else []
@@ -169,7 +174,7 @@ def checked(crate, place, paths):
     return done.returncode, done.stdout
 
 
-def refused(said, functions):
+def refused(said: str, functions: set[str]) -> str | None:
     """Why one of these functions is refused, or nothing. That it calls one which is refused says nothing of it."""
     for name, why in re.findall(r"^fn (\S+): (no.*)$", said, re.M):
         if any(name.endswith(f"::{it}") for it in functions) and not why.endswith("which is not proved"):
@@ -177,13 +182,13 @@ def refused(said, functions):
     return None
 
 
-def proved(said, functions):
+def proved(said: str, functions: set[str]) -> bool:
     """Whether each of these functions is proved."""
     names = re.findall(r"^fn (\S+): proved$", said, re.M)
     return all(any(name == it or name.endswith(f"::{it}") for name in names) for it in functions)
 
 
-def judged(status, said):
+def judged(status: int, said: str) -> tuple[str, str]:
     """What a check of a whole crate says of an edit, and why."""
     lines = said.splitlines() or [""]
     if status == 0:
@@ -197,7 +202,7 @@ def judged(status, said):
     return UNSURE, lines[-1]
 
 
-def tried(crate, edits):
+def tried(crate: proving.Crate, edits: list[Edit]) -> Iterator[Came]:
     """What the prover says of a crate with each of these wrong bodies, and why."""
     said, paths = check_planted(crate, edits)
     if len(paths) > 1 and not re.search(r"^fn ", said, re.M):
@@ -210,7 +215,7 @@ def tried(crate, edits):
         yield edit, *((REFUSED, why) if why else alone(crate, edit, REFUSED))
 
 
-def accepted(crate, edits):
+def accepted(crate: proving.Crate, edits: list[Edit]) -> Iterator[Came]:
     """What the prover says of a crate with each of these twins, and why."""
     said, paths = check_planted(crate, edits)
     for edit in edits:
@@ -218,7 +223,7 @@ def accepted(crate, edits):
         yield edit, *((PROVED, "") if is_so else alone(crate, edit, PROVED))
 
 
-def alone(crate, edit, wanted):
+def alone(crate: proving.Crate, edit: Edit, wanted: str) -> tuple[str, str]:
     """What it says of a crate with one edit, in its place: of the functions that it changes, or of the whole crate where it changes none, and
     where a wrong body is proved, since another function may be refused then."""
     if edit.functions:
@@ -230,7 +235,7 @@ def alone(crate, edit, wanted):
     return judged(*check(crate, [edit], ()))
 
 
-def edits_of(crate, kept):
+def edits_of(crate: proving.Crate, kept: str) -> tuple[list[Edit], list[tuple[str, Exception]]]:
     """The edits of a crate that stand in a folder of it, and those that are unfit, each with the reason."""
     edits, unfit = [], []
     for file in sorted((crate.folder / kept).glob("*.edit")):
@@ -241,7 +246,7 @@ def edits_of(crate, kept):
     return edits, unfit
 
 
-def folders(kinds, names):
+def folders(kinds: tuple[str, ...], names: Iterable[str]) -> list[tuple[proving.Crate, str]]:
     """The crates of these names, or all where none is named, each with its folders of edits of these kinds; none where one has no such folder."""
     found = [(crate, kind) for crate in proving.workspace().values() for kind in kinds if (crate.folder / kind).is_dir()]
     known = list(dict.fromkeys(crate.name for crate, _ in found))
@@ -251,7 +256,7 @@ def folders(kinds, names):
     return [it for it in found if not names or it[0].name in names]
 
 
-def run(title, tries, trial, wanted):
+def run(title: str, tries: list[tuple[proving.Crate, str]], trial: Callable[[proving.Crate, list[Edit]], Iterator[Came]], wanted: str) -> int:
     """Tries the edits that stand in folders of crates: each by a trial that must come to what is wanted.
 
     Prints what each came to, and answers the status of a command.
