@@ -52,8 +52,9 @@ class Edit(typing.NamedTuple):
         return text, changed
 
 
-# An edit, what it came to, and why.
+# An edit, what it came to, and why; and what says so of some edits of a crate.
 Came = tuple[Edit, str, str]
+Trial = Callable[[proving.Crate, list[Edit]], Iterator[Came]]
 
 
 def read(file: pathlib.Path, crate: proving.Crate) -> Edit:
@@ -215,6 +216,13 @@ def tried(crate: proving.Crate, edits: list[Edit]) -> Iterator[Came]:
         yield edit, *((REFUSED, why) if why else alone(crate, edit, REFUSED))
 
 
+def plantable(crate: proving.Crate, edits: list[Edit]) -> list[Edit]:
+    """Those of the edits that can be planted beside the right functions."""
+    with tempfile.TemporaryDirectory() as folder:
+        lay_out(crate, pathlib.Path(folder))
+        return [edit for number, edit in enumerate(edits) if plant(crate, pathlib.Path(folder), edit, number)]
+
+
 def accepted(crate: proving.Crate, edits: list[Edit]) -> Iterator[Came]:
     """What the prover says of a crate with each of these twins, and why."""
     said, paths = check_planted(crate, edits)
@@ -256,8 +264,8 @@ def folders(kinds: tuple[str, ...], names: Iterable[str]) -> list[tuple[proving.
     return [it for it in found if not names or it[0].name in names]
 
 
-def run(title: str, tries: list[tuple[proving.Crate, str]], trial: Callable[[proving.Crate, list[Edit]], Iterator[Came]], wanted: str) -> int:
-    """Tries the edits that stand in folders of crates: each by a trial that must come to what is wanted.
+def run(title: str, tries: list[tuple[proving.Crate, str]], trial: Trial, wanted: str, is_planted_alone: bool = False) -> int:
+    """Tries the edits that stand in folders of crates, or those alone that can be planted: each by a trial that must come to what is wanted.
 
     Prints what each came to, and answers the status of a command.
     """
@@ -279,6 +287,7 @@ def run(title: str, tries: list[tuple[proving.Crate, str]], trial: Callable[[pro
             edits, unfit = edits_of(crate, kept)
             for name, why in unfit:
                 tell(crate, kept, name, BAD, why)
+            edits = plantable(crate, edits) if is_planted_alone else edits
             running += [lanes.submit(try_all, crate, kept, edits[at : at + TOGETHER]) for at in range(0, len(edits), TOGETHER)]
         for it in running:
             it.result()
