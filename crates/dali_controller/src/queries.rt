@@ -15,23 +15,24 @@ use crate::state::State;
 use crate::surveying::next_asked;
 use dali_frame::{Random24, SearchAddress, Short};
 use dali_script::{Order, Records};
+use dali_search::Ascent;
 
 impl State {
     ghost use Rattle.dali_controller.specs.States.{machine_with, course_of};
     ghost use Rattle.dali_controller.specs.Legs.{is_searching, way_on};
     ghost use Rattle.dali_controller.specs.Moments.{IsHeard, IsBetween, IsMoment, Begun};
-    ghost use Rattle.dali_controller.specs.Course.{resolving, turn_of, taking, ask_or_wake, next_asked, waking};
+    ghost use Rattle.dali_controller.specs.Course.{resolving, turn_of, taking, ask_or_call, next_asked};
     ghost use Rattle.dali_controller.specs.Next.{next_course, beginning};
     ghost use Rattle.dali_controller.specs.Orders.{AfterFinding, IsSought};
     ghost use Rattle.dali_script.specs.Stages.{stage_of};
 
-    /// In a survey: the next short address is asked, or gear are woken.
-    pub(crate) fn ask_or_wake(&mut self, kept: &Records<'_>, from: u8, silences: u8) -> Order
+    /// In a survey: the next short address is asked, or the roll is called for the first time.
+    pub(crate) fn ask_or_call(&mut self, kept: &Records<'_>, from: u8, silences: u8) -> Order
         requires between { IsBetween (machine_with self.old kept.now) }
         requires asking { self.old.leg ≡ leg.Asking from silences }
 
         ensures { Begun (machine_with self.old kept.now)
-            (ask_or_wake (course_of self.old) (next_asked kept.now from))
+            (ask_or_call (course_of self.old) (next_asked kept.now from))
             result (machine_with self.new kept.now) }
     {
         match next_asked(kept, from) {
@@ -40,7 +41,10 @@ impl State {
                 self.leg = Leg::Asking { from, silences };
                 self.ask(kept, short)
             }
-            None => self.wake(kept),
+            None => {
+                self.leg = Leg::Hunting(Ascent::new());
+                self.call(kept)
+            }
         }
     }
 
@@ -75,20 +79,6 @@ impl State {
         let same = self.purpose;
         let number = self.number;
         self.begin(kept, same, number)
-    }
-
-    /// The transaction that initialises all gear without short address, which keep their random addresses.
-    #[tactic(auto, using(crate::proofs::Steps::wakes))]
-    fn wake(&mut self, kept: &Records<'_>) -> Order
-        requires between { IsBetween (machine_with self.old kept.now) }
-        requires early { is_searching self.old.leg ≡ false }
-        requires surveying { way_on self.old.leg ≡ way.Surveying }
-
-        ensures { Begun (machine_with self.old kept.now) (waking (course_of self.old))
-            result (machine_with self.new kept.now) }
-    {
-        let number = self.number;
-        self.begin(kept, Purpose::Waking, number)
     }
 
     /// The transaction that asks the gear with a short address for its random address.
@@ -143,7 +133,9 @@ impl State {
             | Purpose::Visiting
             | Purpose::Resolving(_)
             | Purpose::Closing(_)
-            | Purpose::Waking => random == self.number.value(),
+            | Purpose::Calling
+            | Purpose::Drawing
+            | Purpose::PassingOver => random == self.number.value(),
         }
     }
 }

@@ -19,6 +19,7 @@ ghost use Rattle.dali_controller.specs.Orders.{machine_ordered, AfterMaskOn};
 use crate::leg::Leg;
 use crate::purpose::{Purpose, byte_to_send};
 use crate::shorts::Shorts;
+use crate::tally::Tally;
 use dali_frame::{Answer, Forward, Priority, Random24, SearchAddress};
 use dali_script::{End, Fault, Finding, Order, Record, Records, Stage, Trace};
 use dali_special::Command;
@@ -52,12 +53,14 @@ pub struct State {
     pub leg: Leg,
     /// Under which short addresses a survey heard somebody whose random address it does not know.
     pub heard: Shorts,
+    /// What a survey has counted, and whose visits failed.
+    pub tally: Tally,
 }
 
 impl State {
     ghost use Rattle.dali_controller.specs.States.{machine_with, course_of};
     ghost use Rattle.dali_controller.specs.Legs.{way_on, is_searching, silences_on};
-    ghost use Rattle.dali_controller.specs.Moments.{IsHeard, Begins, is_searched_next, machine_searching};
+    ghost use Rattle.dali_controller.specs.Moments.{IsHeard, Begins};
     ghost use Rattle.dali_controller.specs.Whole.{IsWhole, Sends, IsReady};
     ghost use Rattle.dali_controller.specs.Moments.{IsNext, Begun, AsksOn};
     ghost use Rattle.dali_controller.specs.Course.{closing_of, taking, byte_to_send};
@@ -77,6 +80,7 @@ impl State {
             number: self.number,
             leg: self.leg.copy(),
             heard: self.heard,
+            tally: self.tally,
         }
     }
 
@@ -133,7 +137,7 @@ impl State {
     {
         let is_front = matches!(
             self.purpose,
-            Purpose::Asking(_) | Purpose::Waking | Purpose::Hunting
+            Purpose::Asking(_) | Purpose::Calling | Purpose::Hunting
         );
         is_front
             && self
@@ -148,8 +152,16 @@ impl State {
     {
         match self.purpose {
             Purpose::Asking(_) => marked_at(&self.trace.stage(), heard, self.heard),
-            // No other transaction asks a short address.
-            _ => self.heard,
+            // No other transaction of a survey asks a short address.
+            Purpose::Opening
+            | Purpose::Probing
+            | Purpose::Hunting
+            | Purpose::Visiting
+            | Purpose::Resolving(_)
+            | Purpose::Closing(_)
+            | Purpose::Calling
+            | Purpose::Drawing
+            | Purpose::PassingOver => self.heard,
         }
     }
 
@@ -159,8 +171,16 @@ impl State {
     {
         match self.purpose {
             Purpose::Asking(_) => asked_at(&self.trace.stage(), heard, self.leg.silences()),
-            // No other transaction asks a short address.
-            _ => 0,
+            // No other transaction of a survey asks a short address.
+            Purpose::Opening
+            | Purpose::Probing
+            | Purpose::Hunting
+            | Purpose::Visiting
+            | Purpose::Resolving(_)
+            | Purpose::Closing(_)
+            | Purpose::Calling
+            | Purpose::Drawing
+            | Purpose::PassingOver => 0,
         }
     }
 
@@ -173,18 +193,13 @@ impl State {
         }
     }
 
-    /// Takes what was heard after the frame that was put, and says how far the transaction is. Where gear are searched
-    /// from now on, the leg is still the one before: the next order begins the search.
+    /// Takes what was heard after the frame that was put, and says how far the transaction is.
     pub(crate) fn hear(&mut self, kept: &Records<'_>, frame: Forward, heard: Answer) -> Stage
         requires whole { IsWhole (machine_with self.old kept.now) }
         requires put { frame_put self.old.last ≡ Some frame }
 
-        ensures told { is_searched_next result self.new.purpose ≡ false → machine_with self.new kept.now
+        ensures told { machine_with self.new kept.now
             ≡ machine_told (machine_with self.old kept.now) (input.Heard heard) }
-        ensures searched { is_searched_next result self.new.purpose ≡ true
-            → machine_searching (machine_with self.new kept.now)
-            ≡ machine_told (machine_with self.old kept.now) (input.Heard heard) }
-        ensures rested { is_searched_next result self.new.purpose ≡ true → silences_on self.new.leg ≡ 0 }
         ensures heard { IsHeard (machine_with self.new kept.now) result }
     {
         self.trace.push(frame, heard);

@@ -23,7 +23,6 @@ impl State {
     ghost use Rattle.dali_controller.specs.Legs.{is_searching, way_on};
     ghost use Rattle.dali_controller.specs.Moments.{IsHeard, IsBetween, IsMoment, Begun, IsFirstFree, IsUngiven};
     ghost use Rattle.dali_controller.specs.Course.{visiting, visit_or_opening, next_unfinished, address_for};
-    ghost use Rattle.dali_controller.specs.Next.{draws};
     ghost use Rattle.dali_controller.specs.Machine.{is_withheld, withholds};
     ghost use Rattle.dali_script.specs.declared.records.Record.TheVariants.{Reserve};
 
@@ -125,12 +124,11 @@ impl State {
     {
         match self.leg.way() {
             Way::Fresh => kept.first_free(),
-            Way::Surveying | Way::Drawing => least_open(kept, self.heard),
+            Way::Surveying => least_open(kept, self.heard),
         }
     }
 
-    /// The gear at this number has no short address, and none can be given to it: it draws a new random address, or is
-    /// left.
+    /// The gear at this number has no short address, and none can be given to it.
     fn leave(&mut self, kept: &Records<'_>, number: SearchAddress) -> Order
         requires heard { IsHeard (machine_with self.old kept.now) (stage.Unnamed number) }
         requires opened { is_searching self.old.leg ≡ true }
@@ -138,10 +136,9 @@ impl State {
 
         ensures { IsMoment (machine_with self.old kept.now) result (machine_with self.new kept.now) }
     {
-        if self.draws(kept) {
-            self.draw(kept)
-        } else {
-            self.close(kept, End::BlockFull)
+        match self.leg.way() {
+            Way::Fresh => self.close(kept, End::BlockFull),
+            Way::Surveying => self.ungiven(kept, number),
         }
     }
 
