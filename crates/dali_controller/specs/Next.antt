@@ -82,10 +82,13 @@ has_open t = is_some (least_open t.kept t.heard)
 abbrev pub may_draw : Machine → Bool
 may_draw t = nat_lt t.course.tally.draws 3 && has_open t
 
--- Where no address can be given: while a reservation is unfinished, its gear may have got another
--- address meanwhile, so short addresses are asked again, three times in all.
+-- Where no address can be given: while a reservation is unfinished, and a visit failed since short
+-- addresses were asked, its gear may have got another address meanwhile. So they are asked again,
+-- three times in all.
 abbrev pub asks_again : Machine → Bool
-asks_again t = nat_lt t.course.tally.askings 3 && is_some (next_unfinished t.kept 0)
+asks_again t =
+    nat_lt t.course.tally.askings 3 && t.course.tally.is_missed
+    && is_some (next_unfinished t.kept 0)
 
 abbrev pub full : Machine → Course → Course
 full t c = if asks_again t then asking_again t.kept c else closing c BlockFull

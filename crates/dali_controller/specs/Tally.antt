@@ -31,6 +31,7 @@ uncounted = record {
   is_silent = false;
   calls = 0;
   askings = 0;
+  is_missed = false;
   failed = None;
   passed = none_passed;
 }
@@ -61,11 +62,11 @@ drew_at_last t = record t {
 
 -- short addresses are asked again, before the block is full
 abbrev pub asked_again : Tally → Tally
-asked_again t = record t { askings = t.askings + 1 }
+asked_again t = record t { askings = t.askings + 1; is_missed = false }
 
 -- the visit of a number failed, for the first time, and for the second in a row
 abbrev pub missed_by : Tally → ℕ → Tally
-missed_by t r = record t { failed = Some r }
+missed_by t r = record t { is_missed = true; failed = Some r }
 
 abbrev pub passed_over : Tally → ℕ → Tally
-passed_over t r = record t { failed = None; passed = with_passed t.passed r }
+passed_over t r = record t { is_missed = true; failed = None; passed = with_passed t.passed r }

@@ -156,15 +156,16 @@ impl State {
         self.begin(kept, Purpose::Opening, number)
     }
 
-    /// No address can be given. While a reservation is unfinished, its gear may have got another address meanwhile:
-    /// then short addresses are asked again, three times in all.
+    /// No address can be given. While a reservation is unfinished, and a visit failed since short addresses were asked,
+    /// its gear may have got another address meanwhile: then they are asked again, three times in all.
     fn full(&mut self, kept: &Records<'_>) -> Order
         requires { IsFull (machine_with self.old kept.now) }
 
         ensures { Begun (machine_with self.old kept.now)
             (full (machine_with self.old kept.now) (course_of self.old)) result (machine_with self.new kept.now) }
     {
-        if self.tally.askings >= ASKINGS || next_unfinished(kept, 0).is_none() {
+        let may_ask = self.tally.askings < ASKINGS && self.tally.is_missed;
+        if !may_ask || next_unfinished(kept, 0).is_none() {
             return self.close(kept, End::BlockFull);
         }
         self.tally.note_asking();

@@ -13,6 +13,8 @@ pub struct Tally {
     pub calls: u8,
     /// How often short addresses were asked again because the block was full: at most three times.
     pub askings: u8,
+    /// Whether a visit failed since short addresses were asked.
+    pub is_missed: bool,
     /// Whose visit failed last.
     pub failed: Option<Random24>,
     /// Who was passed over since a visit succeeded.
@@ -59,6 +61,7 @@ impl Tally {
         is_silent: false,
         calls: 0,
         askings: 0,
+        is_missed: false,
         failed: None,
         passed: Passed::NONE,
     };
@@ -129,12 +132,14 @@ impl Tally {
         ensures { self.new ≡ asked_again self.old }
     {
         self.askings += 1;
+        self.is_missed = false;
     }
 
     /// The visit of a number failed.
     pub(crate) fn note_miss(&mut self, number: Random24)
         ensures { self.new ≡ missed_by self.old number }
     {
+        self.is_missed = true;
         self.failed = Some(number);
     }
 
@@ -142,6 +147,7 @@ impl Tally {
     pub(crate) fn note_passed(&mut self, number: Random24)
         ensures { self.new ≡ passed_over self.old number }
     {
+        self.is_missed = true;
         self.failed = None;
         self.passed.push(number);
     }
