@@ -82,12 +82,11 @@ has_open t = is_some (least_open t.kept t.heard)
 abbrev pub may_draw : Machine → Bool
 may_draw t = nat_lt t.course.tally.draws 3 && has_open t
 
--- Where no address can be given: while a reservation is unfinished, and a visit failed since short
--- addresses were asked, its gear may have got another address meanwhile. So they are asked again,
--- three times in all.
+-- Where no address can be given: once a visit failed, the gear of a reservation that is unfinished may
+-- have got another address meanwhile. So short addresses are asked again, six times in all.
 abbrev pub asks_again : Machine → Bool
 asks_again t =
-    nat_lt t.course.tally.askings 3 && t.course.tally.is_missed
+    nat_lt t.course.tally.askings 6 && t.course.tally.is_missed
     && is_some (next_unfinished t.kept 0)
 
 abbrev pub full : Machine → Course → Course
@@ -124,10 +123,10 @@ hunted_in t h =
     hunted_to t (leads_to (hunted t.course h).ascent) (hunted t.course h)
 
 -- In a roll call: the second silent one in a row ends the survey. Where somebody answers, gear are
--- searched from the least number on; but at the third time since a visit succeeded, with somebody
+-- searched from the least number on; but at the fourth time since a visit succeeded, with somebody
 -- passed over, gear draw new random addresses for the last time, or it gives up.
 abbrev pub is_blocked : Tally → Bool
-is_blocked y = not (nat_lt y.calls 2) && is_some_passed y.passed
+is_blocked y = not (nat_lt y.calls 3) && is_some_passed y.passed
 
 abbrev pub blocked : Machine → Course
 blocked t = if may_draw t then opening_at_last t.course else closing t.course GaveUp

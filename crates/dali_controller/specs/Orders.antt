@@ -167,7 +167,7 @@ IsBlockFull t Fresh =
     × ((HasRandom t.kept.reserved (value_of r) → ⊥) × IsFull t.kept.block t.kept.reserved)
 IsBlockFull t Surveying = IsUngivable t × (asks_again t ≡ false)
 
--- Too many searches in a row led to no gear. In a survey as well: somebody answered the third roll
+-- Too many searches in a row led to no gear. In a survey as well: somebody answered the fourth roll
 -- call since a visit succeeded, some gear were passed over, and may draw no more; or somebody never
 -- drew, and may draw no more.
 pub record IsBlocked (t : Machine) : Type 0 where

@@ -40,12 +40,12 @@ uncounted = record {
 abbrev pub served : Tally → Tally
 served t = record t { calls = 0; failed = None; passed = none_passed }
 
--- a roll call was silent, or heard somebody: the second in a row stands for all that follow
+-- a roll call was silent, or heard somebody: the third in a row stands for all that follow
 abbrev pub silent_call : Tally → Tally
 silent_call t = record t { is_silent = true }
 
 abbrev pub heard_call : Tally → Tally
-heard_call t = record t { is_silent = false; calls = if nat_lt t.calls 2 then t.calls + 1 else t.calls }
+heard_call t = record t { is_silent = false; calls = if nat_lt t.calls 3 then t.calls + 1 else t.calls }
 
 -- gear draw new random addresses, or draw them for the last time: then all is counted anew
 abbrev pub drew : Tally → Tally
@@ -62,7 +62,7 @@ drew_at_last t = record t {
 
 -- short addresses are asked again, before the block is full
 abbrev pub asked_again : Tally → Tally
-asked_again t = record t { askings = t.askings + 1; is_missed = false }
+asked_again t = record t { askings = t.askings + 1 }
 
 -- the visit of a number failed, for the first time, and for the second in a row
 abbrev pub missed_by : Tally → ℕ → Tally

@@ -20,7 +20,7 @@ use dali_script::{End, Order, Records};
 const DRAWS: u8 = 3;
 
 /// How often a survey asks short addresses again because the block is full, at the most.
-const ASKINGS: u8 = 3;
+const ASKINGS: u8 = 6;
 
 /// The search address before gear draw: `FFFExx`, of which the last byte is not sent, so that the transaction has eight
 /// frames. Gear that never drew, whose random address is `FFFFFF`, don't answer there.
@@ -156,8 +156,8 @@ impl State {
         self.begin(kept, Purpose::Opening, number)
     }
 
-    /// No address can be given. While a reservation is unfinished, and a visit failed since short addresses were asked,
-    /// its gear may have got another address meanwhile: then they are asked again, three times in all.
+    /// No address can be given. Once a visit failed, the gear of a reservation that is unfinished may have got another
+    /// address meanwhile: then short addresses are asked again, six times in all.
     fn full(&mut self, kept: &Records<'_>) -> Order
         requires { IsFull (machine_with self.old kept.now) }
 

@@ -9,11 +9,11 @@ pub struct Tally {
     pub draws: u8,
     /// Whether the last roll call was silent.
     pub is_silent: bool,
-    /// How many roll calls heard somebody since a visit succeeded: 2 for more.
+    /// How many roll calls heard somebody since a visit succeeded: 3 for more.
     pub calls: u8,
-    /// How often short addresses were asked again because the block was full: at most three times.
+    /// How often short addresses were asked again because the block was full: at most six times.
     pub askings: u8,
-    /// Whether a visit failed since short addresses were asked.
+    /// Whether a visit failed.
     pub is_missed: bool,
     /// Whose visit failed last.
     pub failed: Option<Random24>,
@@ -76,11 +76,11 @@ impl Tally {
         }
     }
 
-    /// Somebody was passed over, and it heard somebody in two roll calls since a visit succeeded.
+    /// Somebody was passed over, and it heard somebody in three roll calls since a visit succeeded.
     pub(crate) fn is_blocked(&self) -> bool
         ensures { result ≡ is_blocked self.now }
     {
-        self.calls >= 2 && self.passed.count > 0
+        self.calls >= 3 && self.passed.count > 0
     }
 
     /// A visit succeeded.
@@ -104,7 +104,7 @@ impl Tally {
         ensures { self.new ≡ heard_call self.old }
     {
         self.is_silent = false;
-        if self.calls < 2 {
+        if self.calls < 3 {
             self.calls += 1;
         }
     }
@@ -128,11 +128,10 @@ impl Tally {
 
     /// Short addresses are asked again.
     pub(crate) fn note_asking(&mut self)
-        requires { self.old.askings < 3 }
+        requires { self.old.askings < 6 }
         ensures { self.new ≡ asked_again self.old }
     {
         self.askings += 1;
-        self.is_missed = false;
     }
 
     /// The visit of a number failed.
