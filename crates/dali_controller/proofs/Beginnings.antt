@@ -13,7 +13,7 @@ use Rattle.dali_script.specs.Records.{Has}
 use Rattle.dali_script.specs.Stages.{stage_of}
 use Rattle.dali_script.specs.declared.orders.Order.{Order}
 use Rattle.dali_script.specs.declared.orders.Order.TheVariants.{Commit}
-use Rattle.dali_script.specs.declared.records.Record.TheVariants.{Reserve}
+use Rattle.dali_script.specs.declared.records.Record.TheVariants.{Reserve, Release}
 use Rattle.dali_script.specs.declared.orders.End.{End}
 use Rattle.dali_script.specs.declared.orders.End.TheVariants.{AllFound, BlockFull, GaveUp}
 use Rattle.dali_search.specs.declared.step.Step.{Step}
@@ -28,12 +28,13 @@ use Rattle.dali_controller.specs.Course.{Course, closing_of, turn_of, after_step
 use Rattle.dali_controller.specs.Course.{opening_at_last, drawing, calling, hunting_first, hunting_above, ask_or_call, next_asked, visiting}
 use Rattle.dali_controller.specs.declared.tally.Tally.{Tally}
 use Rattle.dali_controller.specs.Tally.{asked_again, silent_call, heard_call}
-use Rattle.dali_controller.specs.Machine.{Machine}
+use Rattle.dali_controller.specs.Machine.{Machine, machine_surveying}
 use Rattle.dali_controller.specs.Next.{next_course, beginning, at_rest, compared_in, begins_at, goes_on_to, silenced, silenced_on, missed_again, is_failed, most_silent, unanswered, has_open, may_draw}
 use Rattle.dali_controller.specs.Next.{asks_again, full, ungiven, undrawn, nobody_left, hunted_to, hunted_in, blocked, is_blocked, called_to, called_in, asked_once}
-use Rattle.dali_controller.specs.Orders.{Cause, IsBegun, IsSilentProbe, IsSilentCall, AllAreFound, IsUndrawn, IsUngivable, IsBlockFull, IsBlocked, IsStuck, is_left}
-use Rattle.dali_controller.specs.Whole.{Knows, IsSurvey, IsWithinSilence}
-use Rattle.dali_controller.specs.Moments.{Begins, Begun, IsBetween, IsHeard, IsMoment, IsUngiven, IsNextTo}
+use Rattle.dali_controller.specs.Orders.{Cause, IsBegun, IsSilentProbe, IsSilentCall, AllAreFound, IsUndrawn, IsUngivable, IsBlockFull, IsBlocked, IsStuck}
+use Rattle.dali_controller.specs.Orders.{IsOrdered, IsOrderedTo, machine_ordered, machine_ordered_on}
+use Rattle.dali_controller.specs.Whole.{Knows, IsSurvey, IsWithinSilence, IsWhole, IsUnstarted, Pending}
+use Rattle.dali_controller.specs.Moments.{Begins, Begun, Enrolled, IsBetween, IsHeard, IsMoment, IsUngiven, IsNextTo}
 use Rattle.dali_controller.proofs.Courses.{goes_on_way, searches_first_way}
 use Rattle.dali_controller.proofs.Courses.{ask_way}
 use Rattle.dali_controller.proofs.Given.{goes_on_open}
@@ -449,3 +450,48 @@ pub reserved_moment : (t : Machine) (a n : ℕ) (o : Order) (new : Machine) → 
     → Begun t (visiting t.course n) o new → IsMoment t o new
 reserved_moment t a n o new b free last begun =
     begun_moment t (visiting t.course n) o new (sym (ap (begins_at t) free ∙ ap (at_rest t) last)) (between_begins t _ b refl refl) begun
+
+pub released_moment : (t : Machine) (a n : ℕ) (o : Order) (new : Machine) → IsBetween t → stage_of t.trace ≡ Free → t.last ≡ Some (Commit (Release a n))
+    → Begun t (goes_on_to t) o new → IsMoment t o new
+released_moment t a n o new b free last begun = goes_on_moment t o new b (ap (begins_at t) free ∙ ap (at_rest t) last) begun
+
+pub enrolled_moment : (t : Machine) (b n : ℕ) (o : Order) (new : Machine) → Enrolled t b n → Begun t (goes_on_to t) o new → IsMoment t o new
+enrolled_moment t b n o new e begun = goes_on_moment t o new e.between (ap (begins_at t) e.free ∙ ap (at_rest t) e.last) begun
+
+-- ---------------------------------------------------------------- the start
+
+unstarted_between : (w t : Machine) → IsUnstarted w → t.tries ≡ w.tries → t.silent ≡ w.silent → t.trace ≡ w.trace → t.course.purpose ≡ w.course.purpose
+    → IsBetween t
+unstarted_between w t u tries silent trace purpose =
+    let few : w.tries < 8 = u.ready.tries in
+    let calm : w.silent < most_silent Fresh = subst (λ y. w.silent < most_silent y) u.fresh (subst (λ p. IsWithinSilence w.course.way p w.silent) u.opening u.ready.calm) in
+    record {
+      tries = subst (λ n. n < 8) (sym tries) few;
+      silent = subst (λ n. n < most_silent t.course.way) (sym silent) (most t.course.way calm);
+      going = ap closing_of (purpose ∙ u.opening);
+      unnamed = λ r e. let other : Free ≡ Unnamed r = sym u.free ∙ ap stage_of (sym trace) ∙ e in cc;
+      found = λ r b e. absurd (let other : Free ≡ Withdrawn r b = sym u.free ∙ ap stage_of (sym trace) ∙ e in cc);
+    } where
+      most : (y : Way) → w.silent < most_silent Fresh → w.silent < most_silent y
+      most Fresh less = less
+      most Surveying less = omega arith
+
+pub start_moment : (w : Machine) (o : Order) (new : Machine) → IsWhole w → w.last ≡ None → Begun w (goes_on_to w) o new → IsMoment w o new
+start_moment w o new whole none begun =
+    let u : IsUnstarted w = subst (Pending w) none whole in
+    goes_on_moment w o new (unstarted_between w w u refl refl refl refl) (ap (begins_at w) u.free ∙ ap (at_rest w) none) begun
+
+pub survey_moment : (w : Machine) (o : Order) (new : Machine) → IsWhole w → w.last ≡ None
+    → Begun (machine_surveying w) (goes_on_to (machine_surveying w)) o new → IsMoment (machine_surveying w) o new
+survey_moment w o new whole none begun =
+    let t : Machine = machine_surveying w in
+    let u : IsUnstarted w = subst (Pending w) none whole in
+    goes_on_moment t o new (unstarted_between w t u refl refl refl refl) (ap (begins_at t) u.free ∙ ap (at_rest t) none) begun
+
+-- ---------------------------------------------------------------- what a moment gives
+
+pub moment_ordered : (t : Machine) (o : Order) (new : Machine) → IsMoment t o new → IsOrdered t o
+moment_ordered t o new m = subst (λ c. IsOrderedTo t c o) m.course m.next.order
+
+pub moment_state : (t : Machine) (o : Order) (new : Machine) → IsMoment t o new → new ≡ machine_ordered t o
+moment_state t o new m = m.next.state ∙ ap (λ c. machine_ordered_on t c o) m.course

@@ -134,7 +134,7 @@ some_is x c e = cc
 
 -- in a hunt a search byte or COMPARE follows, until all bytes are those of the number
 hunts_none : (k : Kept) (n r : SearchAddress) (left : ℕ) → bytes_to_send n r < left → Arrived k n Hunting (Hunted r None left)
-hunts_none k n r left room = (byte_to_send n r, (refl, refl, room))
+hunts_none k n r left room = (byte_to_send n r, (refl, room))
 
 bytes_few : (n : SearchAddress) (high low : ℕ) → n.high ≡ high → n.low ≡ low → bytes_to_send n (record { high = high; middle = n.middle; low = low }) < ASKING
 bytes_few n high low one two = rw (← one, ← two, self n.high, self n.low, self n.middle) (lit< tt)

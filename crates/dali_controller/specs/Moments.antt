@@ -38,9 +38,9 @@ use Rattle.dali_controller.specs.Course.{Course, closing_of, first_of, least_ope
 use Rattle.dali_controller.specs.Machine.{Machine}
 use Rattle.dali_controller.specs.declared.shorts.Shorts.{Shorts}
 use Rattle.dali_controller.specs.Next.{beginning, course_by, next_course, goes_on_to}
-use Rattle.dali_controller.specs.Next.{most_silent}
+use Rattle.dali_controller.specs.Next.{most_silent, question}
 use Rattle.dali_controller.specs.Next.{BeginsWith}
-use Rattle.dali_controller.specs.Orders.{Cause, IsOrderedTo, machine_ordered_on, IsAnswered}
+use Rattle.dali_controller.specs.Orders.{IsBegun, IsOrderedTo, machine_ordered_on, IsAnswered}
 use Rattle.dali_controller.specs.Orders.{MayEnrolOn, is_left}
 use Rattle.dali_controller.specs.Orders.{machine_after}
 use Rattle.dali_controller.specs.Whole.{IsWhole, IsReady, IsWithinSilence, IsSurvey, Knows, Sends}

@@ -36,8 +36,8 @@ impl State {
                 self.is_ready(kept)
                     && self.is_free()
                     && self.purpose.end().is_none()
+                    && self.is_stored_in(&added)
                     && self.may_keep(kept, added)
-                    && self.is_stored_in(added)
             }
             Some(Order::Done(_) | Order::Halt(_)) => true,
         }
@@ -66,8 +66,8 @@ impl State {
     }
 
     /// Whether its transaction is one that leads to the record.
-    fn is_stored_in(&self, added: Record) -> bool
-        ensures { IsTrue result ↔ IsStoredIn added self.now.purpose }
+    fn is_stored_in(&self, added: &Record) -> bool
+        ensures { IsTrue result ↔ IsStoredIn added.now self.now.purpose }
     {
         match added {
             Record::Reserve(..) => matches!(self.purpose, Purpose::Visiting),
