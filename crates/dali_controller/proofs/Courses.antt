@@ -28,7 +28,7 @@ use Rattle.dali_script.specs.Due.{due_after, frame_put, record_ordered}
 use Rattle.dali_search.specs.declared.step.Step.{Step}
 use Rattle.dali_search.specs.declared.step.Step.TheVariants.{Again, Found, Nobody}
 use Rattle.dali_search.specs.Ascending.{leads_to, ascent_at_first}
-use Rattle.dali_search.specs.Least.{answered}
+use Rattle.dali_search.specs.Least.{Search, step_after, probe_after, next_probe, answered}
 use Rattle.dali_controller.specs.declared.purpose.Purpose.{Purpose}
 use Rattle.dali_controller.specs.declared.purpose.Purpose.TheVariants.{Opening, Probing, Visiting, Resolving, Closing, Asking, Hunting, Calling, Drawing, PassingOver}
 use Rattle.dali_controller.specs.Course.{Course, turn_of, call_turn, is_yes, after_step, number_at, address_for, unless_enrolled, unfinished_at}
@@ -72,6 +72,27 @@ pub put_moment : (w : Machine) (s : Stage) (c : Command) (o : Order) (new : Mach
     → o ≡ Put LATER (frame_of c) → new.course ≡ w.course → IsNext w o new → IsWhole new → IsMoment w o new
 put_moment w s c o new stage turn is same next whole =
     record { begins = rw is (λ e. absurd (cc)); course = put_course w s c o new.course stage turn is same; next = next; whole = whole }
+
+-- ---------------------------------------------------------------- a search that is answered
+
+whole : (s : Search) (answers : List (ℕ × Bool)) (probe : ℕ) (step : Step) → s.answers ≡ answers → s.probe ≡ probe → s.step ≡ step
+    → s ≡ record { answers = answers; probe = probe; step = step }
+whole s answers probe step one two three = rw (← one, ← two, ← three) refl
+
+probe_is : (s t : Step) (last next now : ℕ) → s ≡ t → (s ≡ Again → now ≡ next) → ((s ≡ Again → ⊥) → now ≡ last) → now ≡ next_probe t last next
+probe_is Again t last next now is again ended = subst (λ x. now ≡ next_probe x last next) is (again refl)
+probe_is (Found r) t last next now is again ended = subst (λ x. now ≡ next_probe x last next) is (ended (λ e. cc))
+probe_is Nobody t last next now is again ended = subst (λ x. now ≡ next_probe x last next) is (ended (λ e. cc))
+
+pub answered_is : (old new : Search) (said : Bool) (s : Step) → old.step ≡ Again → (old.step ≡ Again → new.answers ≡ old.answers ++ (old.probe, said) ∷ [])
+    → (old.step ≡ Again → s ≡ step_after new.answers)
+    → (s ≡ Again → new.probe ≡ probe_after new.answers) → ((s ≡ Again → ⊥) → new.probe ≡ old.probe) → new.step ≡ s → new ≡ answered old said
+answered_is old new said s running asked step next last kept =
+    let answers : new.answers ≡ old.answers ++ (old.probe, said) ∷ [] = asked running in
+    let after : s ≡ step_after (old.answers ++ (old.probe, said) ∷ []) = step running ∙ ap step_after answers in
+    whole new _ _ _ answers
+    (probe_is s _ old.probe _ new.probe after (λ e. next e ∙ ap probe_after answers) last)
+    (kept ∙ after)
 
 -- ---------------------------------------------------------------- what is reserved, and what is enrolled
 
