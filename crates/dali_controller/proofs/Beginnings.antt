@@ -668,13 +668,14 @@ silenced_anew t y o new more way begun =
     subst (λ b. Begun t (if b then closing t.course GaveUp else silenced_on t t.course.way) o new) (sym (ne_eqb t.silent (most_silent t.course.way) more))
     (subst (λ z. Begun t (silenced_on t z) o new) (sym way) begun)
 
--- a visit is no query of a survey
-pub visited_leg : (l : Leg) (k : Kept) (n : SearchAddress) → ((a : Ascent) → l ≡ leg.Hunting a → ⊥)
+-- where gear are not searched in a survey, a visit is one of a start
+pub visited_leg : (l : Leg) (k : Kept) (n : SearchAddress)
+    → ((x : ℕ) × (l ≡ leg.Revisiting x)) ⊎ (((x : ℕ) × (y : ℕ) × (l ≡ leg.Asking x y)) ⊎ ((x : Search) × (l ≡ leg.Searching x)))
     → Knows (way_on l) k n (search_on l) (ascent_on l) (is_searching l) Visiting → way_on l ≡ Fresh
-visited_leg (leg.Revisiting from) k n other knows = refl
-visited_leg (leg.Asking from silences) k n other knows = absurd (let no : false ≡ true = knows.1 in cc)
-visited_leg (leg.Searching x) k n other knows = refl
-visited_leg (leg.Hunting a) k n other knows = absurd (other a refl)
+visited_leg l k n (inl is) knows = ap way_on is.1
+visited_leg l k n (inr (inl is)) knows =
+    absurd (let no : false ≡ true = (subst (λ (l : Leg). Knows (way_on l) k n (search_on l) (ascent_on l) (is_searching l) Visiting) is.2 knows).1 in cc)
+visited_leg l k n (inr (inr is)) knows = ap way_on is.1
 
 pub failed_visit : (t : Machine) (r : SearchAddress) → IsHeard t (Unanswered r) ⊎ ((other : Option ℕ) × IsHeard t (Inconclusive r other))
     → Knows t.course.way t.kept t.course.number t.course.search t.course.ascent t.course.opened Visiting

@@ -1,6 +1,6 @@
-use Rattle.std.proofs.Common.{ap, sym, ◌∙◌, ◌≡◌}
+use Rattle.std.proofs.Common.{ap, sym, ◌∙◌}
 use Rattle.dali_controller.specs.Legs.{way_on}
-use Rattle.dali_controller.specs.Next.{most_silent}
+use Rattle.dali_controller.specs.Next.{beginning, most_silent}
 use Rattle.dali_controller.specs.declared.way.Way.TheVariants.{Fresh, Surveying}
 use Rattle.dali_controller.proofs.Beginnings.{silenced_moment, silenced_closes, silenced_anew, visited_leg, failed_visit}
 use Rattle.dali_controller.specs.States.{machine_with}
@@ -20,4 +20,12 @@ returns-in-Hunting-clause-moment c =
     (ap way_on c.in-Hunting.is) c.missed.ensures)
 
 pub returns-in-Revisiting : goal.returns-in-Revisiting
-returns-in-Revisiting c = let x : Fresh ≡ Surveying = c.in-Revisiting.is in ?
+returns-in-Revisiting c =
+    let w = machine_with c.args.self.now c.args.kept.now in
+    let fresh = visited_leg c.args.self.now.leg c.args.kept.now c.args.self.now.number c.in-Revisiting.is (failed_visit w c.requires.heard.0 c.requires.heard.1) in
+    let begun = silenced_anew w Fresh _ _ (λ e. c.if-self-most_silent.false (e ∙ sym (c.most_silent.ensures ∙ ap most_silent c.way.ensures))) fresh
+    c.go_on.ensures in
+    record {
+      starts = begun.order ∙ ap beginning (sym c.requires.next);
+      moment = silenced_moment w c.requires.heard.0 _ _ c.requires.heard.1 c.requires.next begun;
+    }
