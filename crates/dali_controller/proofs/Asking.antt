@@ -91,7 +91,8 @@ asks_on t c r h left heard hunting is begins hunts room knows = record {
 pub hunted_moment : (t : Machine) (r : SearchAddress) (h : Answer) (left : ℕ) (o : Order) (new : Machine) → IsHeard t (Hunted r (Some h) left)
     → t.course.purpose ≡ Hunting → AsksNext t (hunted_in t h) r left o new → IsMoment t o new
 hunted_moment t r h left o new heard hunting asks =
-    subst (λ (n : Machine). IsMoment t o n) (sym asks.state) (subst (λ x. IsMoment t x (machine_ordered_on t c x)) (sym asks.order) (go (has_room c r left) refl)) where
+    subst (λ (n : Machine). IsMoment t o n) (sym asks.state)
+    (subst (λ x. IsMoment t x (machine_ordered_on t c x)) (sym asks.order) (go (has_room c r left) refl)) where
       c : Course
       c = hunted_in t h
 

@@ -7,7 +7,8 @@ use Rattle.dali_frame.specs.declared.frames.Answer.TheVariants.{Silence, Byte, D
 use Rattle.dali_frame.specs.declared.numbers.SearchAddress.{SearchAddress}
 use Rattle.dali_frame.specs.Random.{value_of, MASK24}
 use Rattle.dali_script.specs.declared.stage.Stage.{Stage}
-use Rattle.dali_script.specs.declared.stage.Stage.TheVariants.{Free, Opened, DrawBarred, Probed, Hunted, Unnamed, Unanswered, Inconclusive, Withdrawn, HighAsked}
+use Rattle.dali_script.specs.declared.stage.Stage.TheVariants.{Free, Opened, DrawBarred, Probed, Hunted, Unnamed, Unanswered, Inconclusive, Withdrawn}
+use Rattle.dali_script.specs.declared.stage.Stage.TheVariants.{HighAsked}
 use Rattle.dali_script.specs.declared.stage.Stage.TheVariants.{PassedOver, MiddleAsked, Spelled}
 use Rattle.dali_frame.specs.Priority.{LATER}
 use Rattle.dali_special.specs.Command.{frame_of}
@@ -23,11 +24,12 @@ use Rattle.dali_search.specs.declared.step.Step.TheVariants.{Again, Found, Nobod
 use Rattle.dali_search.specs.Ascending.{Ascent, leads_to, ascended, ascent_at_first}
 use Rattle.dali_search.specs.Least.{Search, answered}
 use Rattle.dali_controller.specs.declared.purpose.Purpose.{Purpose}
-use Rattle.dali_controller.specs.declared.purpose.Purpose.TheVariants.{Opening, Probing, Visiting, Resolving, Closing, Asking, Hunting, Calling, Drawing, PassingOver}
+use Rattle.dali_controller.specs.declared.purpose.Purpose.TheVariants.{Opening, Probing, Visiting, Resolving, Closing, Asking, Hunting, Calling, Drawing}
 use Rattle.dali_controller.specs.declared.way.Way.{Way}
 use Rattle.dali_controller.specs.declared.way.Way.TheVariants.{Fresh, Surveying}
-use Rattle.dali_controller.specs.Course.{Course, closing_of, turn_of, after_step, address_for, is_yes, hunted, closing, resolving, searching_first, opening_anew}
-use Rattle.dali_controller.specs.Course.{opening_at_last, drawing, calling, hunting_first, hunting_above, ask_or_call, next_asked, visiting, asking_again, byte_to_send, bytes_to_send}
+use Rattle.dali_controller.specs.Course.{Course, closing_of, after_step, address_for, is_yes, hunted, closing, resolving, searching_first, opening_anew}
+use Rattle.dali_controller.specs.Course.{opening_at_last, drawing, calling, hunting_first, hunting_above, ask_or_call, next_asked, visiting, asking_again}
+use Rattle.dali_controller.specs.Course.{byte_to_send, bytes_to_send}
 use Rattle.dali_controller.specs.declared.leg.Leg.{Leg}
 use Rattle.dali_controller.specs.declared.leg.Leg.TheVariants as leg
 use Rattle.dali_controller.specs.declared.state.State.{State}
@@ -36,10 +38,12 @@ use Rattle.dali_controller.specs.States.{machine_with, course_of}
 use Rattle.dali_controller.specs.declared.tally.Tally.{Tally}
 use Rattle.dali_controller.specs.Tally.{asked_again, silent_call, heard_call}
 use Rattle.dali_controller.specs.Machine.{Machine, machine_surveying}
-use Rattle.dali_controller.specs.Next.{next_course, beginning, at_rest, compared_in, begins_at, goes_on_to, silenced, silenced_on, missed_again, is_failed, most_silent, unanswered, has_open, may_draw}
-use Rattle.dali_controller.specs.Next.{asks_again, full, ungiven, undrawn, nobody_left, hunted_to, hunted_in, blocked, is_blocked, called_to, called_in, asked_once}
+use Rattle.dali_controller.specs.Next.{next_course, beginning, at_rest, compared_in, begins_at, goes_on_to, silenced, silenced_on, missed_again, is_failed}
+use Rattle.dali_controller.specs.Next.{most_silent, unanswered, has_open, may_draw}
+use Rattle.dali_controller.specs.Next.{asks_again, full, ungiven, undrawn, nobody_left, hunted_to, hunted_in, blocked, is_blocked, called_to, called_in}
+use Rattle.dali_controller.specs.Next.{asked_once}
 use Rattle.dali_controller.specs.Next.{is_hunting, question}
-use Rattle.dali_controller.specs.Orders.{Cause, IsBegun, IsSilentProbe, IsSilentCall, AllAreFound, IsUndrawn, IsUngivable, IsBlockFull, IsBlocked, IsStuck}
+use Rattle.dali_controller.specs.Orders.{Cause, IsBegun, AllAreFound, IsUndrawn, IsUngivable, IsBlockFull, IsStuck}
 use Rattle.dali_controller.specs.Orders.{IsOrdered, IsOrderedTo, machine_ordered, machine_ordered_on}
 use Rattle.dali_controller.specs.Whole.{Knows, IsSurvey, IsWithinSilence, IsWhole, IsUnstarted, Pending}
 use Rattle.dali_controller.specs.Moments.{AsksNext, Begins, Begun, Enrolled, IsBetween, IsHeard, IsMoment, IsUngiven, IsNextTo}
@@ -295,14 +299,17 @@ called_shut : (t : Machine) (r : SearchAddress) (h : Answer) (left : ℕ) → Is
 called_shut t r h left x is opened mask false e = go t.course.tally.is_silent refl where
   go : (b : Bool) → t.course.tally.is_silent ≡ b
       → IsShut t (if b then closing t.course AllFound else calling (record t.course { tally = silent_call t.course.tally }))
-  go true before = shuts t _ AllFound refl refl (opened, subst (AllAreFound t) (sym x.survey) (record {
-    number = r;
-    left = left;
-    stage = x.heard.stage ∙ ap (λ g. Hunted r (Some g) left) (silence_is h e);
-    calling = is;
-    last = ap value_of x.heard.arrived.1 ∙ mask;
-    before = before;
-  }))
+  go true before = shuts t _ AllFound refl refl (
+    opened,
+    subst (AllAreFound t) (sym x.survey) (record {
+      number = r;
+      left = left;
+      stage = x.heard.stage ∙ ap (λ g. Hunted r (Some g) left) (silence_is h e);
+      calling = is;
+      last = ap value_of x.heard.arrived.1 ∙ mask;
+      before = before;
+    }),
+  )
   go false before = opens t _ refl refl
 called_shut t r h left x is opened mask true e = go (is_blocked t.course.tally) refl where
   go : (b : Bool) → is_blocked t.course.tally ≡ b
@@ -430,13 +437,15 @@ asked_open p b (inr is) = ap closing_of is
 pub high_between : (t : Machine) (b : ℕ) (high : Option ℕ) → IsHeard t (HighAsked b high) → IsBetween t
 high_between t b None h = queried_between t (HighAsked b None) h (asked_open t.course.purpose b h.arrived) h.calm (λ r e. cc) (λ r c e. cc)
 high_between t b (Some high) h =
-    queried_between t (HighAsked b (Some high)) h (sends_open t.kept t.course.number t.course.purpose (HighAsked b (Some high)) h.arrived.0 h.arrived.1 (λ e. cc)) h.calm
+    queried_between t (HighAsked b (Some high)) h
+    (sends_open t.kept t.course.number t.course.purpose (HighAsked b (Some high)) h.arrived.0 h.arrived.1 (λ e. cc)) h.calm
     (λ r e. cc) (λ r c e. cc)
 
 pub middle_between : (t : Machine) (b : ℕ) (bytes : Option (ℕ × ℕ)) → IsHeard t (MiddleAsked b bytes) → IsBetween t
 middle_between t b None h = queried_between t (MiddleAsked b None) h (asked_open t.course.purpose b h.arrived) h.calm (λ r e. cc) (λ r c e. cc)
 middle_between t b (Some bytes) h =
-    queried_between t (MiddleAsked b (Some bytes)) h (sends_open t.kept t.course.number t.course.purpose (MiddleAsked b (Some bytes)) h.arrived.0 h.arrived.1 (λ e. cc))
+    queried_between t (MiddleAsked b (Some bytes)) h
+    (sends_open t.kept t.course.number t.course.purpose (MiddleAsked b (Some bytes)) h.arrived.0 h.arrived.1 (λ e. cc))
     h.calm (λ r e. cc) (λ r c e. cc)
 
 pub spelled_between : (t : Machine) (b : ℕ) (number : Option ℕ) → IsHeard t (Spelled b number) → IsBetween t
@@ -472,7 +481,8 @@ unstarted_between : (w t : Machine) → IsUnstarted w → t.tries ≡ w.tries �
     → IsBetween t
 unstarted_between w t u tries silent trace purpose =
     let few : w.tries < 8 = u.ready.tries in
-    let calm : w.silent < most_silent Fresh = subst (λ y. w.silent < most_silent y) u.fresh (subst (λ p. IsWithinSilence w.course.way p w.silent) u.opening u.ready.calm) in
+    let calm : w.silent < most_silent Fresh = subst (λ y. w.silent < most_silent y) u.fresh
+    (subst (λ p. IsWithinSilence w.course.way p w.silent) u.opening u.ready.calm) in
     record {
       tries = subst (λ n. n < 8) (sym tries) few;
       silent = subst (λ n. n < most_silent t.course.way) (sym silent) (most t.course.way calm);
@@ -506,9 +516,6 @@ moment_state t o new m = m.next.state ∙ ap (λ c. machine_ordered_on t c o) m.
 
 -- ---------------------------------------------------------------- what begins by a test
 
-pub blocked_drawn : (t : Machine) (o : Order) (new : Machine) → may_draw t ≡ true → Begun t (opening_at_last t.course) o new → Begun t (blocked t) o new
-blocked_drawn t o new is begun = subst (λ b. Begun t (if b then opening_at_last t.course else closing t.course GaveUp) o new) (sym is) begun
-
 pub undrawn_full : (t : Machine) (c : Course) (o : Order) (new : Machine) → has_open t ≡ false → Begun t (full t c) o new → Begun t (undrawn t c) o new
 undrawn_full t c o new is begun =
     subst (λ b. Begun t (if b then (if nat_lt c.tally.draws 3 then drawing c else closing c GaveUp) else full t c) o new) (sym is) begun
@@ -518,9 +525,6 @@ ungiven_full t o new is begun = subst (λ b. Begun t (if b then opening_anew t.c
 
 pub left_undrawn : (t : Machine) (c : Course) (o : Order) (new : Machine) → c.ascent.found ≡ 0 → Begun t (undrawn t c) o new → Begun t (nobody_left t c) o new
 left_undrawn t c o new is begun = subst (λ n. Begun t (if n == 0 then undrawn t c else calling c) o new) (sym is) begun
-
-pub left_called : (t : Machine) (c : Course) (o : Order) (new : Machine) → (c.ascent.found ≡ 0 → ⊥) → Begun t (calling c) o new → Begun t (nobody_left t c) o new
-left_called t c o new some begun = subst (λ b. Begun t (if b then undrawn t c else calling c) o new) (sym (ne_eqb c.ascent.found 0 some)) begun
 
 full_asked : (t : Machine) (c : Course) (o : Order) (new : Machine) → asks_again t ≡ true → Begun t (asking_again t.kept c) o new → Begun t (full t c) o new
 full_asked t c o new is begun = subst (λ b. Begun t (if b then asking_again t.kept c else closing c BlockFull) o new) (sym is) begun
@@ -542,18 +546,19 @@ again_on : (s : State) (k : Kept) (l : Leg) (y : Tally) (o : Order) (new : Machi
 again_on s k (leg.Revisiting from) y o new hunting tally b = absurd (cc)
 again_on s k (leg.Asking from silences) y o new hunting tally b = absurd (cc)
 again_on s k (leg.Searching x) y o new hunting tally b = absurd (cc)
-again_on s k (leg.Hunting a) y o new hunting tally b = go (subst (λ z. Begun (machine_with (asking_state s z) k) (ask_or_call (course_of (asking_state s z)) (next_asked k 0)) o new) tally b) where
-  go : Begun (machine_with (asking_state s (asked_again s.tally)) k) (ask_or_call (course_of (asking_state s (asked_again s.tally))) (next_asked k 0)) o new
-      → Begun (machine_with (record s { leg = leg.Hunting a }) k) (asking_again k (course_of (record s { leg = leg.Hunting a }))) o new
-  go c = counts (next_asked k 0) c where
-    d : Course
-    d = course_of (asking_state s (asked_again s.tally))
+again_on s k (leg.Hunting a) y o new hunting tally b = go
+    (subst (λ z. Begun (machine_with (asking_state s z) k) (ask_or_call (course_of (asking_state s z)) (next_asked k 0)) o new) tally b) where
+      go : Begun (machine_with (asking_state s (asked_again s.tally)) k) (ask_or_call (course_of (asking_state s (asked_again s.tally))) (next_asked k 0)) o new
+          → Begun (machine_with (record s { leg = leg.Hunting a }) k) (asking_again k (course_of (record s { leg = leg.Hunting a }))) o new
+      go c = counts (next_asked k 0) c where
+        d : Course
+        d = course_of (asking_state s (asked_again s.tally))
 
-    -- whether a short address is asked or the roll is called, no silence was counted
-    counts : (next : Option ℕ) → Begun (machine_with (asking_state s (asked_again s.tally)) k) (ask_or_call d next) o new
-        → Begun (machine_with (record s { leg = leg.Hunting a }) k) (ask_or_call d next) o new
-    counts None e = record { order = e.order; state = e.state; knows = e.knows }
-    counts (Some n) e = record { order = e.order; state = e.state; knows = e.knows }
+        -- whether a short address is asked or the roll is called, no silence was counted
+        counts : (next : Option ℕ) → Begun (machine_with (asking_state s (asked_again s.tally)) k) (ask_or_call d next) o new
+            → Begun (machine_with (record s { leg = leg.Hunting a }) k) (ask_or_call d next) o new
+        counts None e = record { order = e.order; state = e.state; knows = e.knows }
+        counts (Some n) e = record { order = e.order; state = e.state; knows = e.knows }
 
 pub full_asks : (s : State) (k : Kept) (y : Tally) (o : Order) (new : Machine) → s.leg ≡ leg.Hunting (ascent_on s.leg) → asks_again (machine_with s k) ≡ true
     → y ≡ asked_again s.tally → Begun (machine_with (asking_state s y) k) (ask_or_call (course_of (asking_state s y)) (next_asked k 0)) o new
@@ -595,7 +600,10 @@ left_on : (s : State) (k : Kept) (l : Leg) (a b : Ascent) (h : Answer) (sent : S
 left_on s k l a b h sent left o new is told nobody begun =
     subst (λ x. AsksNext (machine_with (record s { leg = x }) k) (hunted_in (machine_with (record s { leg = x }) k) h) sent left o new) (sym is)
     (subst (λ z. AsksNext w (hunted_to w z (hunted w.course h)) sent left o new) (sym (ap leads_to (sym told) ∙ nobody))
-    (go (subst (λ x. Begun (machine_with (hunting_state s x) k) (nobody_left (machine_with (hunting_state s x) k) (course_of (hunting_state s x))) o new) told begun))) where
+    (go
+    (subst
+    (λ x. Begun (machine_with (hunting_state s x) k)
+    (nobody_left (machine_with (hunting_state s x) k) (course_of (hunting_state s x))) o new) told begun))) where
       w : Machine
       w = machine_with (hunting_state s a) k
 
@@ -658,7 +666,8 @@ probed_state s k x y r h said step o new heard is says told leads nobody begun =
 pub silenced_closes : (t : Machine) (o : Order) (new : Machine) → t.silent ≡ most_silent t.course.way → Begun t (closing t.course GaveUp) o new
     → Begun t (silenced t) o new
 silenced_closes t o new is begun =
-    subst (λ b. Begun t (if b then closing t.course GaveUp else silenced_on t t.course.way) o new) (sym (same t.silent (most_silent t.course.way) is)) begun where
+    subst (λ b. Begun t (if b then closing t.course GaveUp else silenced_on t t.course.way) o new)
+    (sym (same t.silent (most_silent t.course.way) is)) begun where
       same : (n m : ℕ) → n ≡ m → (n == m) ≡ true
       same n m e = grind (arith, nat_tests)
 

@@ -177,9 +177,7 @@ impl State {
     fn asks_again(&self, kept: &Records<'_>) -> bool
         ensures { result ≡ asks_again (machine_with self.now kept.now) }
     {
-        self.tally.askings < ASKINGS
-            && self.tally.is_missed
-            && next_unfinished(kept, 0).is_some()
+        self.tally.askings < ASKINGS && self.tally.is_missed && next_unfinished(kept, 0).is_some()
     }
 
     /// No address can be given.

@@ -9,7 +9,8 @@ pub returns-in-Fresh : goal.returns-in-Fresh
 returns-in-Fresh c =
     let w = machine_with c.args.self.now c.args.kept.now in
     ungiven_moment w c.args.number _ _ c.requires.heard c.requires.ungiven
-    (subst (λ y. Begun w (ungiven w y) c.close.result (machine_with c.close.new.self c.args.kept.now)) (sym (sym c.way.ensures ∙ c.in-Fresh.is)) c.close.ensures)
+    (subst (λ y. Begun w (ungiven w y) c.close.result (machine_with c.close.new.self c.args.kept.now))
+    (sym (sym c.way.ensures ∙ c.in-Fresh.is)) c.close.ensures)
 
 pub returns-in-Surveying : goal.returns-in-Surveying
 returns-in-Surveying c =

@@ -16,7 +16,8 @@ pub returns-in-Found : goal.returns-in-Found
 returns-in-Found c =
     let x = c.in-Searching.search in
     let a = c.answer.ensures in
-    probed_state c.args.self.now c.args.kept.now x c.answer.new.self c.requires.0 c.args.heard c.is_yes.result (Found c.in-Found.found) _ _ c.requires.1 c.in-Searching.is
+    probed_state c.args.self.now c.args.kept.now x c.answer.new.self c.requires.0 c.args.heard c.is_yes.result
+    (Found c.in-Found.found) _ _ c.requires.1 c.in-Searching.is
     c.is_yes.ensures (λ running. answered_is x c.answer.new.self c.is_yes.result c.answer.result running a.asked a.step a.next a.last a.kept)
     (a.kept ∙ c.in-Found.is) (λ running e. a.nobody running (c.in-Found.is ∙ e)) c.visit.ensures
 

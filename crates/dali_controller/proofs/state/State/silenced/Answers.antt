@@ -22,7 +22,8 @@ returns-in-Hunting-clause-moment c =
 pub returns-in-Revisiting : goal.returns-in-Revisiting
 returns-in-Revisiting c =
     let w = machine_with c.args.self.now c.args.kept.now in
-    let fresh = visited_leg c.args.self.now.leg c.args.kept.now c.args.self.now.number c.in-Revisiting.is (failed_visit w c.requires.heard.0 c.requires.heard.1) in
+    let fresh = visited_leg c.args.self.now.leg c.args.kept.now c.args.self.now.number c.in-Revisiting.is
+    (failed_visit w c.requires.heard.0 c.requires.heard.1) in
     let begun = silenced_anew w Fresh _ _ (λ e. c.if-self-most_silent.false (e ∙ sym (c.most_silent.ensures ∙ ap most_silent c.way.ensures))) fresh
     c.go_on.ensures in
     record {
