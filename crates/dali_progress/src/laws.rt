@@ -181,6 +181,8 @@ pub fn a_census_is_bounded()
         → IsWhole n → frames_asked steps ≤ 320 * (1 + n.course.tally.askings) + 5 * frames_lost steps }
     ensures steady { (steps : List Step) (n : Machine) → IsCourse steps n → BeginsBySurvey steps → AreWhole steps
         → IsWhole n → AreSteady steps → frames_asked steps ≤ 192 * (1 + n.course.tally.askings) + 3 * frames_lost steps }
+    ensures again { (steps : List Step) (n : Machine) → IsCourse steps n → BeginsBySurvey steps → AreWhole steps
+        → IsWhole n → n.course.tally.askings ≤ 6 }
 {}
 
 /// A SURVEY GIVES NOTHING AWAY WHERE IT HEARD SOMEBODY. Where a machine that began by a survey heard somebody under a
