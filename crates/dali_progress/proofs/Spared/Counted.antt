@@ -19,8 +19,8 @@ use Rattle.dali_script.specs.Due.{due_after, accepts, frame_put, record_ordered}
 use Rattle.dali_controller.specs.declared.purpose.Purpose.{Purpose}
 use Rattle.dali_controller.specs.declared.purpose.Purpose.TheVariants.{Asking}
 use Rattle.dali_controller.specs.Machine.{Machine, machine_told, machine_heard, machine_committed, asked_at, asked_after, asked_after_silence}
-use Rattle.dali_controller.specs.Next.{next_course, begins_at, at_rest, asked_once}
-use Rattle.dali_controller.specs.Orders.{IsGiven, IsAllowed, machine_after, machine_ordered}
+use Rattle.dali_controller.specs.Next.{next_course, course_by, begins_at, at_rest, asked_once}
+use Rattle.dali_controller.specs.Orders.{IsGiven, IsAllowed, machine_after, machine_ordered, asked_by}
 use Rattle.dali_controller.specs.Whole.{IsWhole}
 use Rattle.dali_progress.proofs.Later.{IsUnasked, course_stays}
 use Rattle.dali_progress.proofs.Census.Course.{put_is}
