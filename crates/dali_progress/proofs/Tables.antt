@@ -154,7 +154,7 @@ some_is : (x c : Command) → Some x ≡ Some c → x ≡ c
 some_is x c e = cc
 
 opening_tabled : (before : List Gear) (s : Stage) (k : Kept) (opened : Bool) (n : SearchAddress) (gs : List Gear) (numbers : List ℕ) (left : ℕ) (c : Command)
-    (h : Answer) → Opens s opened gs left → Sends Opening n k s c
+    (h : Answer) → Opens s gs left → Sends Opening n k s c
     → AreTabled before (to_come s n k.enrolled) gs → IsTabledTo before s n k.enrolled gs numbers c h
 opening_tabled before stage.Free k opened n gs numbers left c h o is tabled = left_to before stage.Free n k.enrolled gs numbers c Terminate h (sym is) tt tabled
 opening_tabled before stage.Terminated k opened n gs numbers left c h o is tabled =
@@ -241,7 +241,7 @@ pub at_tabled : (before : List Gear) (p : Purpose) (s : Stage) (k : Kept) (opene
     → At p s k opened x n gs left → Sends p n k s c → Seeks s gs → At p (next_stage s c h) k now x n (row_after Everyone c 0 gs numbers) rest
     → AreTabled before (to_come s n k.enrolled) gs → IsTabledTo before s n k.enrolled gs numbers c h
 at_tabled before Opening s k opened now x n gs numbers left rest c h at is seek next tabled =
-    opening_tabled before s k opened n gs numbers left c h at is tabled
+    opening_tabled before s k opened n gs numbers left c h at.1 is tabled
 at_tabled before Probing s k opened now x n gs numbers left rest c h at is seek next tabled = probing_tabled before s k x n gs numbers left c h at.1 is tabled
 at_tabled before Visiting s k opened now x n gs numbers left rest c h at is seek next tabled =
     visiting_tabled before s k n gs numbers left rest c h at.1 is seek next.1 tabled
