@@ -42,6 +42,8 @@ use Rattle.dali_controller.specs.Shorts.{has_short}
 use Rattle.dali_controller.specs.Tally.{uncounted, served, heard_call, silent_call}
 use Rattle.dali_controller.specs.Tally.{drew, drew_at_last, asked_again, missed_by, passed_over}
 
+use Rattle.dali_frame.specs.Random.{value_of}
+
 -- THE COURSE of a machine: what its running transaction is for, and under which search address; its
 -- search, and in a survey the one that goes up; in the visits before the opening, or while short
 -- addresses are asked, the first one that was not looked at, and 64 once gear are searched; how it

@@ -38,9 +38,9 @@ use Rattle.dali_controller.specs.Course.{Course, closing_of, first_of, least_ope
 use Rattle.dali_controller.specs.Machine.{Machine}
 use Rattle.dali_controller.specs.declared.shorts.Shorts.{Shorts}
 use Rattle.dali_controller.specs.Next.{beginning, course_by, next_course, goes_on_to}
-use Rattle.dali_controller.specs.Next.{most_silent}
+use Rattle.dali_controller.specs.Next.{most_silent, question}
 use Rattle.dali_controller.specs.Next.{BeginsWith}
-use Rattle.dali_controller.specs.Orders.{Cause, IsOrderedTo, machine_ordered_on, IsAnswered}
+use Rattle.dali_controller.specs.Orders.{IsBegun, IsOrderedTo, machine_ordered_on, IsAnswered}
 use Rattle.dali_controller.specs.Orders.{MayEnrolOn, is_left}
 use Rattle.dali_controller.specs.Orders.{machine_after}
 use Rattle.dali_controller.specs.Whole.{IsWhole, IsReady, IsWithinSilence, IsSurvey, Knows, Sends}
@@ -103,16 +103,6 @@ pub record IsBetween (w : Machine) : Type 0 where
   pub found : (r : SearchAddress) (b : ℕ) → stage_of w.trace ≡ Withdrawn r b
       → Has w.kept.enrolled (b, value_of r)
 
--- a close is begun with its cause, or again
-pub record IsTurn (w : Machine) (e : End) : Type 0 where
-  pub opened : w.course.opened ≡ true
-  pub cause : (closing_of w.course.purpose ≡ Some e)
-      ⊎ ((closing_of w.course.purpose ≡ None) × Cause w e)
-
-abbrev pub Turns : Machine → Purpose → Type 0
-Turns w (Closing e) = IsTurn w e
-Turns w _ = closing_of w.course.purpose ≡ None
-
 -- what holds where nothing can be given to gear that answered MASK, and where a transaction begins
 -- then
 abbrev pub IsUngiven : Way → Machine → SearchAddress → Type 0
@@ -125,16 +115,16 @@ IsNextTo Fresh w p n = p ≡ Closing BlockFull
 IsNextTo Surveying w p n =
     Put FIRST (frame_of (first_of p n)) ≡ beginning (next_course w)
 
--- what holds where a transaction begins
-pub record Begins (w : Machine) (p : Purpose) (n : SearchAddress) : Type 0 where
-  pub tries : w.tries < 8
-  pub calm : IsWithinSilence w.course.way p w.silent
-  pub knows : Knows w.course.way w.kept n w.course.search w.course.ascent w.course.opened p
-  pub turns : Turns w p
-  pub unnamed : (r : SearchAddress) → stage_of w.trace ≡ Unnamed r
-      → IsUngiven w.course.way w r × IsNextTo w.course.way w p n
-  pub found : (r : SearchAddress) (b : ℕ) → stage_of w.trace ≡ Withdrawn r b
-      → Has w.kept.enrolled (b, value_of r)
+-- what holds where a transaction begins, and the machine takes this course
+pub record Begins (t : Machine) (c : Course) : Type 0 where
+  pub tries : t.tries < 8
+  pub way : c.way ≡ t.course.way
+  pub calm : IsWithinSilence c.way c.purpose t.silent
+  pub turns : IsBegun t (closing_of c.purpose)
+  pub unnamed : (r : SearchAddress) → stage_of t.trace ≡ Unnamed r
+      → IsUngiven t.course.way t r × IsNextTo t.course.way t c.purpose c.number
+  pub found : (r : SearchAddress) (b : ℕ) → stage_of t.trace ≡ Withdrawn r b
+      → Has t.kept.enrolled (b, value_of r)
 
 -- what holds where a gear was found, and may be enrolled
 pub record Settles (w : Machine) (b n : ℕ) : Type 0 where
@@ -158,17 +148,6 @@ pub record Enrolled (w : Machine) (b n : ℕ) : Type 0 where
   pub free : stage_of w.trace ≡ Free
   pub last : w.last ≡ Some (Commit (Enrol b n))
 
--- what holds where a close is begun
-pub record Closes (w : Machine) (e : End) : Type 0 where
-  pub tries : w.tries < 8
-  pub calm : IsWithinSilence w.course.way (Closing e) w.silent
-  pub opened : w.course.opened ≡ true
-  pub going : closing_of w.course.purpose ≡ None
-  pub cause : Cause w e
-  pub unnamed : (r : SearchAddress) → stage_of w.trace ≡ Unnamed r
-      → IsUngiven w.course.way w r × IsNextTo w.course.way w (Closing e) w.course.number
-  pub found : (r : SearchAddress) (b : ℕ) → stage_of w.trace ≡ Withdrawn r b → ⊥
-
 -- an order that a machine of which this is seen may give, and what is seen after it but its course
 pub record IsNext (t : Machine) (o : Order) (new : Machine) : Type 0 where
   pub order : IsOrderedTo t new.course o
@@ -182,12 +161,12 @@ pub record IsMoment (t : Machine) (o : Order) (new : Machine) : Type 0 where
   pub next : IsNext t o new
   pub whole : IsWhole new
 
--- a transaction begins, and takes this course
+-- A TRANSACTION BEGINS, and the machine takes this course: what its state is then, whatever it was
+-- told. That it may begin is another fact.
 pub record Begun (t : Machine) (c : Course) (o : Order) (new : Machine) : Type 0 where
-  pub course : new.course ≡ c
   pub order : o ≡ beginning c
-  pub next : IsNext t o new
-  pub whole : IsWhole new
+  pub state : new ≡ machine_ordered_on t c o
+  pub knows : Knows c.way t.kept c.number c.search c.ascent c.opened c.purpose
 
 pub record IsStep (m : Machine) (i : Input) (o : Order) (new : Machine) : Type 0 where
   pub order : IsAnswered m i o
@@ -199,19 +178,8 @@ IsFirstFree Fresh k heard o =
     MatchOption o (IsFull k.block k.reserved) (IsLeastFree k.block k.reserved)
 IsFirstFree Surveying k heard o = o ≡ least_open k heard
 
--- what holds where the search that goes up asks its next question, after one was answered
-pub record AsksNext (w : Machine) (sent : SearchAddress) (left : ℕ) : Type 0 where
-  pub tries : w.tries < 8
-  pub silent : w.silent < most_silent w.course.way
-  pub opened : w.course.opened ≡ true
-  pub hunting : w.course.purpose ≡ Hunting
-  pub survey : IsSurvey w.course.way
-  pub running : leads_to w.course.ascent ≡ Again
-  pub asked : (h : Answer) × (stage_of w.trace ≡ Hunted sent (Some h) left)
-
--- the same where it does so in the transaction that runs
-pub record AsksOn (w : Machine) (number sent : SearchAddress) : Type 0 where
-  pub left : ℕ
-  pub next : AsksNext w sent left
-  pub number_is : value_of number ≡ asked_next w.course.ascent
-  pub room : bytes_to_send number sent < left
+-- the search that goes up asks its next question: in the transaction that runs, where that has room
+pub record AsksNext (t : Machine) (c : Course) (sent : SearchAddress) (left : ℕ) (o : Order) (new : Machine) : Type 0 where
+  pub order : o ≡ question c sent left
+  pub state : new ≡ machine_ordered_on t c o
+  pub knows : Knows c.way t.kept c.number c.search c.ascent c.opened c.purpose

@@ -7,6 +7,7 @@ use Rattle.dali_special.specs.declared.command.Command.{Command}
 use Rattle.dali_special.specs.declared.command.Command.TheVariants.{Program}
 use Rattle.dali_special.specs.Command.{command_of, IsSpelled}
 use Rattle.dali_script.specs.declared.records.Record.{Record}
+use Rattle.dali_script.specs.declared.records.Record.TheVariants.{Reserve, Enrol, Release}
 use Rattle.dali_script.specs.declared.stage.Stage.{Stage}
 use Rattle.dali_script.specs.declared.stage.Stage.TheVariants.{Free, Unnamed}
 use Rattle.dali_script.specs.declared.stage.Stage.TheVariants.{HighAsked, MiddleAsked, Hunted}
@@ -126,12 +127,19 @@ pub record IsSending (m : Machine) (f : Forward) : Type 0 where
   pub ready : IsReady m
   pub sends : Sends m.kept m.course.number m.course.purpose (stage_of m.trace) (command_of f)
 
+-- an address is reserved in a visit
+abbrev pub IsStoredIn : Record → Purpose → Type 0
+IsStoredIn (Reserve a n) p = p ≡ Visiting
+IsStoredIn (Enrol b n) p = Unit {0}
+IsStoredIn (Release a n) p = Unit {0}
+
 pub record IsStoring (m : Machine) (x : Record) : Type 0 where
   pub ready : IsReady m
   pub free : stage_of m.trace ≡ Free
   pub going : closing_of m.course.purpose ≡ None
   pub fits : Fits m.kept.block x
   pub may : MayAdd m.kept x
+  pub stored : IsStoredIn x m.course.purpose
 
 abbrev pub Pending : Machine → Option Order → Type 0
 Pending m None = IsUnstarted m

@@ -1,11 +1,9 @@
 //! The moments of a roll call, which tells whether a survey has ended; and what becomes of gear that cannot be
 //! addressed.
 
-ghost use Rattle.std.specs.Prelude.{◌≡◌, ◌<◌, true, false, Some};
-ghost use Rattle.dali_frame.specs.declared.numbers.SearchAddress.{SearchAddress};
-ghost use Rattle.dali_frame.specs.declared.frames.Answer.{Answer};
-ghost use Rattle.dali_script.specs.declared.stage.Stage.TheVariants as stage;
-ghost use Rattle.dali_controller.specs.declared.purpose.Purpose.TheVariants as purpose;
+ghost use Rattle.std.specs.Prelude.{◌≡◌, true, false};
+ghost use Rattle.dali_controller.specs.declared.leg.Leg.TheVariants as leg;
+ghost use Rattle.dali_controller.specs.declared.way.Way.TheVariants as way;
 
 use crate::leg::Leg;
 use crate::moments::is_yes;
@@ -20,7 +18,7 @@ use dali_script::{End, Order, Records};
 const DRAWS: u8 = 3;
 
 /// How often a survey asks short addresses again because the block is full, at the most.
-const ASKINGS: u8 = 6;
+const ASKINGS: u8 = 3;
 
 /// The search address before gear draw: `FFFExx`, of which the last byte is not sent, so that the transaction has eight
 /// frames. Gear that never drew, whose random address is `FFFFFF`, don't answer there.
@@ -32,17 +30,15 @@ const BEFORE_DRAW: SearchAddress = SearchAddress {
 
 impl State {
     ghost use Rattle.dali_controller.specs.States.{machine_with, course_of};
-    ghost use Rattle.dali_controller.specs.Legs.{is_searching, way_on};
-    ghost use Rattle.dali_controller.specs.Whole.{IsSurvey};
-    ghost use Rattle.dali_controller.specs.Moments.{IsHeard, IsBetween, IsMoment, Begun};
-    ghost use Rattle.dali_controller.specs.Course.{turn_of, calling, drawing, opening_anew, opening_at_last};
-    ghost use Rattle.dali_controller.specs.Next.{next_course, beginning, has_open, may_draw, nobody_left, full};
+    ghost use Rattle.dali_controller.specs.Legs.{ascent_on};
+    ghost use Rattle.dali_controller.specs.Moments.{Begun};
+    ghost use Rattle.dali_controller.specs.Course.{calling};
+    ghost use Rattle.dali_controller.specs.Next.{called_in, has_open, may_draw, nobody_left};
+    ghost use Rattle.dali_controller.specs.Next.{blocked, ungiven, undrawn, full, asks_again, called_to};
 
     /// The roll call: one COMPARE, two where the first is silent, that each gear without short address answers.
     pub(crate) fn call(&mut self, kept: &Records<'_>) -> Order
-        requires between { IsBetween (machine_with self.old kept.now) }
-        requires opened { is_searching self.old.leg ≡ true }
-        requires survey { IsSurvey (way_on self.old.leg) }
+        requires hunting { self.old.leg ≡ leg.Hunting (ascent_on self.old.leg) }
 
         ensures { Begun (machine_with self.old kept.now) (calling (course_of self.old))
             result (machine_with self.new kept.now) }
@@ -51,57 +47,65 @@ impl State {
     }
 
     /// A roll call was answered, or was silent twice.
-    pub(crate) fn called(
-        &mut self,
-        kept: &Records<'_>,
-        sent: SearchAddress,
-        heard: Answer,
-        left: u8,
-    ) -> Order
-        requires heard { IsHeard (machine_with self.old kept.now) (stage.Hunted sent (Some heard) left) }
-        requires calling { self.old.purpose ≡ purpose.Calling }
-        requires over { turn_of purpose.Calling self.old.number (stage.Hunted sent (Some heard) left) ≡ None }
+    pub(crate) fn called(&mut self, kept: &Records<'_>, heard: Answer) -> Order
+        requires hunting { self.old.leg ≡ leg.Hunting (ascent_on self.old.leg) }
 
-        ensures begins { result ≡ beginning (next_course (machine_with self.old kept.now)) }
-        ensures moment { IsMoment (machine_with self.old kept.now) result (machine_with self.new kept.now) }
+        ensures { Begun (machine_with self.old kept.now) (called_in (machine_with self.old kept.now) heard)
+            result (machine_with self.new kept.now) }
     {
-        if !is_yes(heard) {
-            if self.tally.is_silent {
-                return self.close(kept, End::AllFound);
-            }
+        if is_yes(heard) {
+            self.answered_call(kept)
+        } else {
+            self.silent_call(kept)
+        }
+    }
+
+    /// A roll call was silent: the second in a row ends the survey.
+    fn silent_call(&mut self, kept: &Records<'_>) -> Order
+        requires hunting { self.old.leg ≡ leg.Hunting (ascent_on self.old.leg) }
+
+        ensures { Begun (machine_with self.old kept.now)
+            (called_to (machine_with self.old kept.now) false (course_of self.old))
+            result (machine_with self.new kept.now) }
+    {
+        if self.tally.is_silent {
+            self.close(kept, End::AllFound)
+        } else {
             self.tally.note_silence();
-            return self.call(kept);
+            self.call(kept)
         }
+    }
+
+    /// Somebody answered a roll call.
+    fn answered_call(&mut self, kept: &Records<'_>) -> Order
+        requires hunting { self.old.leg ≡ leg.Hunting (ascent_on self.old.leg) }
+
+        ensures { Begun (machine_with self.old kept.now)
+            (called_to (machine_with self.old kept.now) true (course_of self.old))
+            result (machine_with self.new kept.now) }
+    {
         if self.tally.is_blocked() {
-            return self.blocked(kept, sent, heard, left);
+            self.blocked(kept)
+        } else {
+            self.tally.note_call();
+            self.hunt_first(kept)
         }
-        self.tally.note_call();
-        self.hunt_first(kept)
     }
 
     /// All who were found since a visit succeeded last were passed over: gear draw new random addresses for the last
     /// time, or it gives up.
-    fn blocked(
-        &mut self,
-        kept: &Records<'_>,
-        sent: SearchAddress,
-        heard: Answer,
-        left: u8,
-    ) -> Order
-        requires heard { IsHeard (machine_with self.old kept.now) (stage.Hunted sent (Some heard) left) }
-        requires calling { self.old.purpose ≡ purpose.Calling }
-        requires yes { is_yes heard ≡ true }
-        requires passed { is_blocked self.old.tally ≡ true }
+    fn blocked(&mut self, kept: &Records<'_>) -> Order
+        requires hunting { self.old.leg ≡ leg.Hunting (ascent_on self.old.leg) }
 
         ensures { Begun (machine_with self.old kept.now) (blocked (machine_with self.old kept.now))
             result (machine_with self.new kept.now) }
     {
-        if !self.may_draw(kept) {
-            return self.close(kept, End::GaveUp);
+        if self.may_draw(kept) {
+            self.tally.note_last_draw();
+            self.open(kept)
+        } else {
+            self.close(kept, End::GaveUp)
         }
-        self.tally.note_last_draw();
-        let number = self.number;
-        self.begin(kept, Purpose::Opening, number)
     }
 
     /// Whether an address is open.
@@ -120,16 +124,30 @@ impl State {
 
     /// Nobody is left in a hunt. Where it found nobody, somebody was heard in the roll call who never drew a random
     /// address.
-    pub(crate) fn nobody_left(&mut self, kept: &Records<'_>, has_found: bool) -> Order
-        requires { IsOver (machine_with self.old kept.now) has_found }
+    pub(crate) fn nobody_left(&mut self, kept: &Records<'_>, found: u8) -> Order
+        requires hunting { self.old.leg ≡ leg.Hunting (ascent_on self.old.leg) }
+        requires found { found ≡ (ascent_on self.old.leg).found }
 
         ensures { Begun (machine_with self.old kept.now)
             (nobody_left (machine_with self.old kept.now) (course_of self.old))
             result (machine_with self.new kept.now) }
     {
-        if has_found {
+        if found == 0 {
+            self.undrawn(kept)
+        } else {
             self.call(kept)
-        } else if !self.has_open(kept) {
+        }
+    }
+
+    /// Somebody never drew a random address.
+    fn undrawn(&mut self, kept: &Records<'_>) -> Order
+        requires hunting { self.old.leg ≡ leg.Hunting (ascent_on self.old.leg) }
+
+        ensures { Begun (machine_with self.old kept.now)
+            (undrawn (machine_with self.old kept.now) (course_of self.old))
+            result (machine_with self.new kept.now) }
+    {
+        if !self.has_open(kept) {
             self.full(kept)
         } else if self.tally.draws < DRAWS {
             self.tally.note_draw();
@@ -139,40 +157,45 @@ impl State {
         }
     }
 
-    /// No address can be given to the gear that answered MASK: gear draw new random addresses, or the block is full.
-    pub(crate) fn ungiven(&mut self, kept: &Records<'_>, number: SearchAddress) -> Order
-        requires heard { IsHeard (machine_with self.old kept.now) (stage.Unnamed number) }
-        requires survey { self.old.leg ≡ leg.Hunting (ascent_on self.old.leg) }
-        requires left { is_left (machine_with self.old kept.now) (value_of number) ≡ true }
+    /// No address can be given to gear that answered MASK: gear draw new random addresses, or the block is full.
+    pub(crate) fn ungiven(&mut self, kept: &Records<'_>) -> Order
+        requires hunting { self.old.leg ≡ leg.Hunting (ascent_on self.old.leg) }
 
         ensures { Begun (machine_with self.old kept.now) (ungiven (machine_with self.old kept.now) way.Surveying)
             result (machine_with self.new kept.now) }
     {
-        if !self.may_draw(kept) {
-            return self.full(kept);
+        if self.may_draw(kept) {
+            self.tally.note_draw();
+            self.open(kept)
+        } else {
+            self.full(kept)
         }
-        self.tally.note_draw();
-        let number = self.number;
-        self.begin(kept, Purpose::Opening, number)
     }
 
-    /// No address can be given. Once a visit failed, the gear of a reservation that is unfinished may have got another
-    /// address meanwhile: then short addresses are asked again, six times in all.
+    /// Whether short addresses are asked again because no address can be given: while a reservation is unfinished its
+    /// gear may have got another address meanwhile. So it is asked three times in all.
+    fn asks_again(&self, kept: &Records<'_>) -> bool
+        ensures { result ≡ asks_again (machine_with self.now kept.now) }
+    {
+        self.tally.askings < ASKINGS && next_unfinished(kept, 0).is_some()
+    }
+
+    /// No address can be given.
     fn full(&mut self, kept: &Records<'_>) -> Order
-        requires { IsFull (machine_with self.old kept.now) }
+        requires hunting { self.old.leg ≡ leg.Hunting (ascent_on self.old.leg) }
 
         ensures { Begun (machine_with self.old kept.now)
             (full (machine_with self.old kept.now) (course_of self.old)) result (machine_with self.new kept.now) }
     {
-        let may_ask = self.tally.askings < ASKINGS && self.tally.is_missed;
-        if !may_ask || next_unfinished(kept, 0).is_none() {
-            return self.close(kept, End::BlockFull);
+        if self.asks_again(kept) {
+            self.tally.note_asking();
+            self.leg = Leg::Asking {
+                from: 0,
+                silences: 0,
+            };
+            self.ask_or_call(kept, 0, 0)
+        } else {
+            self.close(kept, End::BlockFull)
         }
-        self.tally.note_asking();
-        self.leg = Leg::Asking {
-            from: 0,
-            silences: 0,
-        };
-        self.ask_or_call(kept, 0, 0)
     }
 }

@@ -1,15 +1,14 @@
 //! The moments of a hunt: question after question in one transaction, as long as it has room; and whom it leads to in
 //! vain.
 
-ghost use Rattle.std.specs.Prelude.{◌≡◌, ◌<◌, true, Option, Some, None};
+ghost use Rattle.std.specs.Prelude.{◌≡◌, Some, None};
 ghost use Rattle.dali_frame.specs.declared.numbers.SearchAddress.{SearchAddress};
 ghost use Rattle.dali_frame.specs.Random.{value_of};
-ghost use Rattle.dali_frame.specs.declared.frames.Answer.{Answer};
 ghost use Rattle.dali_script.specs.declared.stage.Stage.TheVariants as stage;
 ghost use Rattle.dali_controller.specs.declared.purpose.Purpose.TheVariants as purpose;
 ghost use Rattle.dali_controller.specs.declared.way.Way.TheVariants as way;
+ghost use Rattle.dali_controller.specs.declared.leg.Leg.TheVariants as leg;
 ghost use Rattle.dali_search.specs.declared.step.Step.TheVariants as search;
-ghost use Rattle.dali_controller.specs.Course.{is_yes};
 
 use crate::leg::Leg;
 use crate::moments::is_yes;
@@ -21,19 +20,15 @@ use dali_search::{Ascent, Step};
 
 impl State {
     ghost use Rattle.dali_controller.specs.States.{machine_with, course_of};
-    ghost use Rattle.dali_controller.specs.Whole.{IsWhole, IsSurvey};
-    ghost use Rattle.dali_controller.specs.Moments.{IsHeard, IsBetween, IsMoment, Begun, IsNext, AsksNext};
+    ghost use Rattle.dali_controller.specs.Moments.{IsHeard, IsMoment, Begun, AsksNext};
     ghost use Rattle.dali_controller.specs.Course.{turn_of, hunting, hunting_first, hunting_on, hunting_above, passing_over};
-    ghost use Rattle.dali_controller.specs.Next.{next_course, question, beginning, silenced_on};
-    ghost use Rattle.dali_controller.specs.Legs.{is_searching, way_on, ascent_on};
+    ghost use Rattle.dali_controller.specs.Next.{next_course, question, beginning, silenced_on, hunted_in};
+    ghost use Rattle.dali_controller.specs.Legs.{ascent_on};
     ghost use Rattle.dali_search.specs.Ascending.{leads_to, asked_next};
 
     /// The transaction that asks under the number of the search that goes up.
-    #[tactic(auto, using(crate::proofs::Steps::hunts))]
     pub(crate) fn hunt(&mut self, kept: &Records<'_>, number: Random24) -> Order
-        requires between { IsBetween (machine_with self.old kept.now) }
-        requires opened { is_searching self.old.leg ≡ true }
-        requires survey { IsSurvey (way_on self.old.leg) }
+        requires hunting { self.old.leg ≡ leg.Hunting (ascent_on self.old.leg) }
         requires running { leads_to (ascent_on self.old.leg) ≡ search.Again }
         requires asked { number ≡ asked_next (ascent_on self.old.leg) }
 
@@ -45,9 +40,7 @@ impl State {
 
     /// A search that has found nobody.
     pub(crate) fn hunt_first(&mut self, kept: &Records<'_>) -> Order
-        requires between { IsBetween (machine_with self.old kept.now) }
-        requires opened { is_searching self.old.leg ≡ true }
-        requires survey { IsSurvey (way_on self.old.leg) }
+        requires hunting { self.old.leg ≡ leg.Hunting (ascent_on self.old.leg) }
 
         ensures { Begun (machine_with self.old kept.now) (hunting_first (course_of self.old))
             result (machine_with self.new kept.now) }
@@ -60,9 +53,7 @@ impl State {
 
     /// The search goes on above whom it found, who was withdrawn with a short address.
     pub(crate) fn hunt_on(&mut self, kept: &Records<'_>) -> Order
-        requires between { IsBetween (machine_with self.old kept.now) }
-        requires opened { is_searching self.old.leg ≡ true }
-        requires survey { IsSurvey (way_on self.old.leg) }
+        requires hunting { self.old.leg ≡ leg.Hunting (ascent_on self.old.leg) }
 
         ensures { Begun (machine_with self.old kept.now) (hunting_on (course_of self.old))
             result (machine_with self.new kept.now) }
@@ -73,9 +64,7 @@ impl State {
 
     /// The search goes on above whom it found.
     pub(crate) fn hunt_above(&mut self, kept: &Records<'_>) -> Order
-        requires between { IsBetween (machine_with self.old kept.now) }
-        requires opened { is_searching self.old.leg ≡ true }
-        requires survey { IsSurvey (way_on self.old.leg) }
+        requires hunting { self.old.leg ≡ leg.Hunting (ascent_on self.old.leg) }
 
         ensures { Begun (machine_with self.old kept.now) (hunting_above (course_of self.old))
             result (machine_with self.new kept.now) }
@@ -91,9 +80,7 @@ impl State {
     /// The visit of a number failed: the search begins anew, and where it leads to that number again, and in vain, the
     /// number is passed over.
     pub(crate) fn missed(&mut self, kept: &Records<'_>) -> Order
-        requires between { IsBetween (machine_with self.old kept.now) }
-        requires opened { is_searching self.old.leg ≡ true }
-        requires survey { IsSurvey (way_on self.old.leg) }
+        requires hunting { self.old.leg ≡ leg.Hunting (ascent_on self.old.leg) }
 
         ensures { Begun (machine_with self.old kept.now)
             (silenced_on (machine_with self.old kept.now) way.Surveying) result (machine_with self.new kept.now) }
@@ -113,9 +100,7 @@ impl State {
 
     /// The transaction that takes the gear at this number out of the search, without a short address.
     fn pass_over(&mut self, kept: &Records<'_>, random: Random24) -> Order
-        requires between { IsBetween (machine_with self.old kept.now) }
-        requires opened { is_searching self.old.leg ≡ true }
-        requires survey { IsSurvey (way_on self.old.leg) }
+        requires hunting { self.old.leg ≡ leg.Hunting (ascent_on self.old.leg) }
         requires number { random ≡ value_of self.old.number }
 
         ensures { Begun (machine_with self.old kept.now) (passing_over (course_of self.old))
@@ -124,6 +109,15 @@ impl State {
         self.tally.note_passed(random);
         let number = self.number;
         self.begin(kept, Purpose::PassingOver, number)
+    }
+
+    /// The gear at a number was taken out of the search, without a short address.
+    pub(crate) fn passed_over(&mut self, kept: &Records<'_>) -> Order
+        requires { (number : SearchAddress) × IsHeard (machine_with self.old kept.now) (stage.PassedOver number) }
+
+        ensures { IsMoment (machine_with self.old kept.now) result (machine_with self.new kept.now) }
+    {
+        self.hunt_above(kept)
     }
 
     /// COMPARE was sent in a hunt or a roll call, and this was heard; so many frames may follow.
@@ -143,10 +137,10 @@ impl State {
             → result ≡ beginning (next_course (machine_with self.old kept.now)) }
         ensures moment { IsMoment (machine_with self.old kept.now) result (machine_with self.new kept.now) }
     {
-        match last {
-            Some(heard) if matches!(self.purpose, Purpose::Calling) => self.called(kept, sent, heard, left),
-            Some(heard) => self.answered(kept, sent, heard, left),
-            None => unreachable!(),
+        match (self.purpose, last) {
+            (Purpose::Hunting, Some(heard)) => self.answered(kept, sent, heard, left),
+            (Purpose::Calling, Some(heard)) => self.called(kept, heard),
+            _ => unreachable!(),
         }
     }
 
@@ -158,11 +152,12 @@ impl State {
         heard: Answer,
         left: u8,
     ) -> Order
-        requires heard { IsHeard (machine_with self.old kept.now) (stage.Hunted sent (Some heard) left) }
-        requires hunting { self.old.purpose ≡ purpose.Hunting }
+        requires hunting { self.old.leg ≡ leg.Hunting (ascent_on self.old.leg) }
+        requires asked { self.old.purpose ≡ purpose.Hunting }
+        requires running { leads_to (ascent_on self.old.leg) ≡ search.Again }
 
-        ensures asked { result ≡ question (next_course (machine_with self.old kept.now)) sent left }
-        ensures moment { IsMoment (machine_with self.old kept.now) result (machine_with self.new kept.now) }
+        ensures { AsksNext (machine_with self.old kept.now) (hunted_in (machine_with self.old kept.now) heard)
+            sent left result (machine_with self.new kept.now) }
     {
         let Leg::Hunting(ascent) = &mut self.leg else {
             unreachable!()
@@ -174,8 +169,8 @@ impl State {
             }
             Step::Found(found) => self.visit(kept, found),
             Step::Nobody => {
-                let has_found = ascent.found() > 0;
-                self.nobody_left(kept, has_found)
+                let found = ascent.found();
+                self.nobody_left(kept, found)
             }
         }
     }
@@ -188,13 +183,13 @@ impl State {
         sent: SearchAddress,
         left: u8,
     ) -> Order
-        requires next { AsksNext (machine_with self.old kept.now) sent left }
+        requires hunting { self.old.leg ≡ leg.Hunting (ascent_on self.old.leg) }
+        requires running { leads_to (ascent_on self.old.leg) ≡ search.Again }
         requires asked { random ≡ asked_next (ascent_on self.old.leg) }
+        requires runs { self.old.purpose ≡ purpose.Hunting }
 
-        ensures asked { result ≡ question (hunting (course_of self.old)) sent left }
-        ensures course { course_of self.new ≡ hunting (course_of self.old) }
-        ensures next { IsNext (machine_with self.old kept.now) result (machine_with self.new kept.now) }
-        ensures whole { IsWhole (machine_with self.new kept.now) }
+        ensures { AsksNext (machine_with self.old kept.now) (hunting (course_of self.old)) sent left result
+            (machine_with self.new kept.now) }
     {
         let number = SearchAddress::of(random);
         if bytes_to_send(number, sent) < left {

@@ -7,7 +7,6 @@ ghost use Rattle.dali_frame.specs.Priority.{LATER};
 ghost use Rattle.dali_special.specs.declared.command.Command.{Command};
 ghost use Rattle.dali_special.specs.Command.{frame_of};
 ghost use Rattle.dali_script.specs.declared.stage.Stage.TheVariants as stage;
-ghost use Rattle.dali_script.specs.Records.{HasRandom};
 ghost use Rattle.dali_controller.specs.declared.purpose.Purpose.TheVariants as purpose;
 ghost use Rattle.dali_controller.specs.declared.way.Way.TheVariants as way;
 ghost use Rattle.dali_script.specs.declared.orders.Input.TheVariants as input;
@@ -59,10 +58,10 @@ pub(crate) fn most_silent(way: Way) -> u8
 
 impl State {
     ghost use Rattle.dali_controller.specs.States.{machine_with, course_of};
-    ghost use Rattle.dali_controller.specs.Whole.{IsWhole};
-    ghost use Rattle.dali_controller.specs.Moments.{IsHeard, IsBetween, Closes, Settles, IsMoment, Begun, Enrolled};
+    ghost use Rattle.dali_controller.specs.Whole.{IsWhole, IsOpenedOn, IsVisitedOn};
+    ghost use Rattle.dali_controller.specs.Moments.{IsHeard, IsBetween, Settles, IsMoment, Begun, Enrolled};
     ghost use Rattle.dali_controller.specs.Moments.{IsStep};
-    ghost use Rattle.dali_controller.specs.Legs.{is_searching};
+    ghost use Rattle.dali_controller.specs.Legs.{is_searching, way_on};
     ghost use Rattle.dali_controller.specs.Course.{opening, closing, going_on, turn_of};
     ghost use Rattle.dali_controller.specs.Next.{next_course, beginning, silenced, BeginsWith, question};
     ghost use Rattle.dali_controller.specs.Machine.{machine_told};
@@ -108,8 +107,6 @@ impl State {
     /// The next transaction: before the opening was complete another visit or the opening, in a survey the next short
     /// address or the roll call; afterwards a new search.
     pub(crate) fn go_on(&mut self, kept: &Records<'_>) -> Order
-        requires { IsBetween (machine_with self.old kept.now) }
-
         ensures { Begun (machine_with self.old kept.now)
             (going_on kept.now (is_searching self.old.leg) (course_of self.old))
             result (machine_with self.new kept.now) }
@@ -129,10 +126,8 @@ impl State {
     }
 
     /// The transaction that lets all gear without short address draw a random address.
-    #[tactic(auto, using(crate::proofs::Steps::opens))]
     pub(crate) fn open(&mut self, kept: &Records<'_>) -> Order
-        requires between { IsBetween (machine_with self.old kept.now) }
-        requires early { is_searching self.old.leg ≡ false }
+        requires { IsOpenedOn (way_on self.old.leg) (is_searching self.old.leg) }
 
         ensures { Begun (machine_with self.old kept.now) (opening (course_of self.old))
             result (machine_with self.new kept.now) }
@@ -143,7 +138,7 @@ impl State {
 
     /// The transaction that ends the initialisation of all gear, before this end.
     pub(crate) fn close(&mut self, kept: &Records<'_>, end: End) -> Order
-        requires { Closes (machine_with self.old kept.now) end }
+        requires { is_searching self.old.leg ≡ true }
 
         ensures { Begun (machine_with self.old kept.now) (closing (course_of self.old) end)
             result (machine_with self.new kept.now) }
@@ -224,9 +219,9 @@ impl State {
             Stage::Unanswered(number) => self.unanswered(kept, number),
             Stage::Inconclusive(..) => self.silenced(kept),
             Stage::Withdrawn(number, short) => self.withdrawn(kept, number, short),
-            Stage::PassedOver(_) => self.hunt_above(kept),
+            Stage::PassedOver(_) => self.passed_over(kept),
             Stage::HighAsked(..) => self.asked_once(kept),
-            Stage::MiddleAsked(..) => self.go_on(kept),
+            Stage::MiddleAsked(..) => self.unheard(kept),
             Stage::Spelled(short, number) => self.resolved(kept, short, number),
             Stage::Free
             | Stage::InitialisedOnce
@@ -320,7 +315,8 @@ impl State {
         requires ordered { self.old.last ≡ Some (Commit added) }
         requires free { stage_of self.old.trace ≡ stage.Free }
         requires between { IsBetween (machine_with self.old kept.now) }
-        requires reserved { (a n : ℕ) → added ≡ Reserve a n → (n < MASK24) × HasRandom kept.now.reserved n }
+        requires reserved { (a n : ℕ) → added ≡ Reserve a n
+            → (n < MASK24) × IsVisitedOn (way_on self.old.leg) kept.now n (is_searching self.old.leg) }
         requires enrolled { (b n : ℕ) → added ≡ Enrol b n → Enrolled (machine_with self.old kept.now) b n }
 
         ensures enrolled { (b n : ℕ) → added ≡ Enrol b n → AfterEnrolled (machine_with self.old kept.now) b n result }

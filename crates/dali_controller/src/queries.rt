@@ -1,7 +1,7 @@
 //! The moments of queries: whoever has a short address is asked for its random address.
 
 ghost use Rattle.std.specs.Prelude.{◌≡◌, ◌↔◌, ℕ, ◌<◌, false, Option, Some, None, IsTrue};
-ghost use Rattle.dali_frame.specs.Random.{value_of};
+ghost use Rattle.dali_frame.specs.Random.{value_of, MASK24};
 ghost use Rattle.dali_frame.specs.declared.numbers.SearchAddress.{SearchAddress};
 ghost use Rattle.dali_script.specs.declared.stage.Stage.TheVariants as stage;
 ghost use Rattle.dali_script.specs.Records.{Has};
@@ -20,7 +20,7 @@ use dali_search::Ascent;
 impl State {
     ghost use Rattle.dali_controller.specs.States.{machine_with, course_of};
     ghost use Rattle.dali_controller.specs.Legs.{is_searching, way_on};
-    ghost use Rattle.dali_controller.specs.Moments.{IsHeard, IsBetween, IsMoment, Begun};
+    ghost use Rattle.dali_controller.specs.Moments.{IsHeard, IsMoment, Begun};
     ghost use Rattle.dali_controller.specs.Course.{resolving, turn_of, taking, ask_or_call, next_asked};
     ghost use Rattle.dali_controller.specs.Next.{next_course, beginning};
     ghost use Rattle.dali_controller.specs.Orders.{AfterFinding, IsSought};
@@ -28,7 +28,6 @@ impl State {
 
     /// In a survey: the next short address is asked, or the roll is called for the first time.
     pub(crate) fn ask_or_call(&mut self, kept: &Records<'_>, from: u8, silences: u8) -> Order
-        requires between { IsBetween (machine_with self.old kept.now) }
         requires asking { self.old.leg ≡ leg.Asking from silences }
 
         ensures { Begun (machine_with self.old kept.now)
@@ -49,9 +48,7 @@ impl State {
     }
 
     /// The transaction that asks whoever has a short address for its random address.
-    #[tactic(auto, using(crate::proofs::Steps::asks))]
     fn ask(&mut self, kept: &Records<'_>, short: Short) -> Order
-        requires between { IsBetween (machine_with self.old kept.now) }
         requires early { is_searching self.old.leg ≡ false }
         requires surveying { way_on self.old.leg ≡ way.Surveying }
         requires range { short < 64 }
@@ -81,16 +78,27 @@ impl State {
         self.begin(kept, same, number)
     }
 
+    /// The second byte of a random address was not heard.
+    pub(crate) fn unheard(&mut self, kept: &Records<'_>) -> Order
+        requires heard { (b : ℕ) × (bytes : Option (ℕ × ℕ))
+            × IsHeard (machine_with self.old kept.now) (stage.MiddleAsked b bytes) }
+        requires over { turn_of self.old.purpose self.old.number (stage_of self.old.trace) ≡ None }
+
+        ensures { IsMoment (machine_with self.old kept.now) result (machine_with self.new kept.now) }
+    {
+        self.go_on(kept)
+    }
+
     /// The transaction that asks the gear with a short address for its random address.
-    #[tactic(auto, using(crate::proofs::Steps::resolves))]
     pub(crate) fn resolve(
         &mut self,
         kept: &Records<'_>,
         short: Short,
         number: SearchAddress,
     ) -> Order
-        requires heard { IsHeard (machine_with self.old kept.now) (stage.Unanswered number) }
         requires early { is_searching self.old.leg ≡ false }
+        requires drawn { value_of number < MASK24 }
+        requires short { short < 64 }
         requires reserved { Has kept.now.reserved (short, value_of number) }
 
         ensures { Begun (machine_with self.old kept.now) (resolving (course_of self.old) short number)

@@ -21,8 +21,8 @@ use dali_search::{Search, Step};
 impl State {
     ghost use Rattle.dali_controller.specs.States.{machine_with, course_of};
     ghost use Rattle.dali_controller.specs.Legs.{is_searching, way_on, search_on};
-    ghost use Rattle.dali_controller.specs.Moments.{IsHeard, IsBetween, IsMoment, Begun};
-    ghost use Rattle.dali_controller.specs.Course.{probing, searching_anew, searching_first};
+    ghost use Rattle.dali_controller.specs.Moments.{IsHeard, IsMoment, Begun};
+    ghost use Rattle.dali_controller.specs.Course.{probing, searching_anew};
 
     /// An opening is complete, or nobody draws: gear are searched from now on, in a survey with a search that has found
     /// nobody.
@@ -30,9 +30,7 @@ impl State {
         requires heard { (s : Stage) × IsHeard (machine_with self.old kept.now) s
             × ((s ≡ stage.Opened) ⊎ (s ≡ stage.DrawBarred)) }
 
-        ensures { Begun (machine_with self.old kept.now)
-            (searching_first (way_on self.old.leg) (course_of self.old))
-            result (machine_with self.new kept.now) }
+        ensures { IsMoment (machine_with self.old kept.now) result (machine_with self.new kept.now) }
     {
         match self.leg.way() {
             Way::Fresh => self.search_anew(kept),
@@ -42,7 +40,6 @@ impl State {
 
     /// After a start: a new search.
     pub(crate) fn search_anew(&mut self, kept: &Records<'_>) -> Order
-        requires between { IsBetween (machine_with self.old kept.now) }
         requires fresh { way_on self.old.leg ≡ way.Fresh }
 
         ensures { Begun (machine_with self.old kept.now) (searching_anew (course_of self.old))
@@ -55,9 +52,7 @@ impl State {
     }
 
     /// The transaction that asks whether some gear is at most the search's number.
-    #[tactic(auto, using(crate::proofs::Steps::probes))]
     pub(crate) fn probe(&mut self, kept: &Records<'_>, number: Random24) -> Order
-        requires between { IsBetween (machine_with self.old kept.now) }
         requires opened { is_searching self.old.leg ≡ true }
         requires fresh { way_on self.old.leg ≡ way.Fresh }
         requires running { (search_on self.old.leg).step ≡ search.Again }

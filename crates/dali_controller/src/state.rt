@@ -14,7 +14,7 @@ ghost use Rattle.dali_controller.specs.Machine.{machine_told, is_complete, is_en
 ghost use Rattle.dali_controller.specs.Machine.{silent_after};
 ghost use Rattle.dali_controller.specs.Machine.{heard_after, asked_after};
 ghost use Rattle.dali_controller.specs.Machine.{marked_at, asked_at};
-ghost use Rattle.dali_controller.specs.Orders.{machine_ordered, AfterMaskOn};
+ghost use Rattle.dali_controller.specs.Orders.{machine_ordered, machine_ordered_on, AfterMaskOn};
 
 use crate::leg::Leg;
 use crate::purpose::{Purpose, byte_to_send};
@@ -59,10 +59,9 @@ pub struct State {
 
 impl State {
     ghost use Rattle.dali_controller.specs.States.{machine_with, course_of};
-    ghost use Rattle.dali_controller.specs.Legs.{way_on, is_searching, silences_on};
-    ghost use Rattle.dali_controller.specs.Moments.{IsHeard, Begins};
-    ghost use Rattle.dali_controller.specs.Whole.{IsWhole, Sends, IsReady};
-    ghost use Rattle.dali_controller.specs.Moments.{IsNext, Begun, AsksOn};
+    ghost use Rattle.dali_controller.specs.Legs.{way_on, is_searching, silences_on, search_on, ascent_on};
+    ghost use Rattle.dali_controller.specs.Moments.{IsHeard, IsNext, Begun};
+    ghost use Rattle.dali_controller.specs.Whole.{IsWhole, Sends, IsReady, Knows, IsStoredIn};
     ghost use Rattle.dali_controller.specs.Course.{closing_of, taking, byte_to_send};
 
     /// The same state once more.
@@ -240,12 +239,11 @@ impl State {
         number: SearchAddress,
         sent: SearchAddress,
     ) -> Order
-        requires { AsksOn (machine_with self.old kept.now) number sent }
+        requires { self.old.purpose ≡ purpose.Hunting }
 
         ensures order { result ≡ order.Put LATER (frame_of (byte_to_send number sent)) }
-        ensures course { course_of self.new ≡ taking (course_of self.old) purpose.Hunting number }
-        ensures next { IsNext (machine_with self.old kept.now) result (machine_with self.new kept.now) }
-        ensures whole { IsWhole (machine_with self.new kept.now) }
+        ensures state { machine_with self.new kept.now ≡ machine_ordered_on (machine_with self.old kept.now)
+            (taking (course_of self.old) purpose.Hunting number) result }
     {
         let priority = Priority::LATER;
         let frame = byte_to_send(number, sent).write();
@@ -261,7 +259,8 @@ impl State {
         purpose: Purpose,
         number: SearchAddress,
     ) -> Order
-        requires { Begins (machine_with self.old kept.now) purpose number }
+        requires { Knows (way_on self.old.leg) kept.now number (search_on self.old.leg) (ascent_on self.old.leg)
+            (is_searching self.old.leg) purpose }
 
         ensures { Begun (machine_with self.old kept.now) (taking (course_of self.old) purpose number)
             result (machine_with self.new kept.now) }
@@ -281,6 +280,7 @@ impl State {
         requires going { closing_of self.old.purpose ≡ None }
         requires fits { Fits kept.now.block added }
         requires may { MayAdd kept.now added }
+        requires stored { IsStoredIn added self.old.purpose }
 
         ensures order { result ≡ order.Commit added }
         ensures course { course_of self.new ≡ course_of self.old }

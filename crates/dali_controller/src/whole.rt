@@ -23,7 +23,7 @@ impl State {
     ghost use Rattle.dali_controller.specs.States.{machine_with};
     ghost use Rattle.dali_controller.specs.Legs.{way_on, is_searching, from_on, search_on, ascent_on};
     ghost use Rattle.dali_controller.specs.Course.{turn_of};
-    ghost use Rattle.dali_controller.specs.Whole.{IsWhole, IsReady, Knows, Sends, IsChosen, AsksOn, IsVisitedOn};
+    ghost use Rattle.dali_controller.specs.Whole.{IsWhole, IsReady, Knows, Sends, IsChosen, AsksOn, IsVisitedOn, IsStoredIn};
 
     /// Whether the last order is one that a machine gives in this state.
     pub fn is_whole(&self, kept: &Records<'_>) -> bool
@@ -36,6 +36,7 @@ impl State {
                 self.is_ready(kept)
                     && self.is_free()
                     && self.purpose.end().is_none()
+                    && self.is_stored_in(&added)
                     && self.may_keep(kept, added)
             }
             Some(Order::Done(_) | Order::Halt(_)) => true,
@@ -62,6 +63,16 @@ impl State {
         ensures { IsTrue result ↔ (Fits kept.now.block added × MayAdd kept.now added) }
     {
         kept.fits(&added) && kept.refusal(&added).is_none()
+    }
+
+    /// Whether its transaction is one that leads to the record.
+    fn is_stored_in(&self, added: &Record) -> bool
+        ensures { IsTrue result ↔ IsStoredIn added.now self.now.purpose }
+    {
+        match added {
+            Record::Reserve(..) => matches!(self.purpose, Purpose::Visiting),
+            Record::Enrol(..) | Record::Release(..) => true,
+        }
     }
 
     fn is_ready(&self, kept: &Records<'_>) -> bool
