@@ -1,4 +1,4 @@
-use Rattle.std.proofs.Common.{◌≡◌, ℕ, ◌+◌, ◌<◌, ◌≤◌, ◌⊎◌, inl, inr, Bool, true, false, [], refl, sym, ap, subst, ◌∙◌, arith, Option, Some, None}
+use Rattle.std.proofs.Common.{◌≡◌, ℕ, ◌+◌, ◌*◌, ◌<◌, ◌≤◌, ◌⊎◌, inl, inr, Bool, true, false, [], refl, sym, ap, subst, ◌∙◌, arith, Option, Some, None}
 use Rattle.std.specs.Prelude.{◌==◌, ◌-◌, nat_lt, zero, suc}
 use Rattle.std.proofs.Math.Nat.{mul-le-mul_left}
 use Rattle.std.proofs.lemmas.Bool.Decides.{nat_tests}
@@ -123,6 +123,7 @@ asks_of k n a stage.Free c sends = inl (refl, sends.0)
 asks_of k n a (stage.HighAsked b (Some x)) c sends = inr (inl (b, x, refl, sym (some_same (RandomByte b Middle) c sends.0), same_asked a b sends.1.0))
 asks_of k n a (stage.MiddleAsked b (Some x)) c sends = inr (inr (b, x, refl, sym (some_same (RandomByte b Low) c sends.0), same_asked a b sends.1.0))
 asks_of k n a (stage.Unnamed r) c sends = absurd (let other = sends.0 in cc)
+asks_of k n a (stage.Hunted r last left) c sends = absurd sends
 asks_of k n a _ c sends = absurd (let none = sends.0 in cc)
 
 -- a machine that sends a later frame is where that frame is sent

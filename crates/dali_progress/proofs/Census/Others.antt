@@ -33,7 +33,7 @@ use Rattle.dali_controller.specs.Next.{next_course, begins_at, goes_on_to, at_re
 use Rattle.dali_controller.specs.Next.{course_on, asked_on, hunted_in, hunted_to, has_open, may_draw, asks_again, full, undrawn, ungiven, is_blocked, blocked, called_to}
 use Rattle.dali_controller.specs.Next.{compared_in}
 use Rattle.dali_controller.specs.Tally.{asked_again, silent_call, heard_call}
-use Rattle.dali_controller.specs.Orders.{IsAllowed, machine_ordered}
+use Rattle.dali_controller.specs.Orders.{IsAllowed, machine_ordered, asked_by}
 use Rattle.dali_progress.specs.Census.{was_sent, was_lost}
 use Rattle.dali_progress.proofs.Census.Left.{of_purpose, of_purpose_most, of_last, beyond, left, quiet, goes_moves, StaysOrMoves, begins_moves, on_moves, few_askings, Moves}
 use Rattle.dali_progress.proofs.Census.Asked.{by_order, moved_left, still_left, same_left, Leaves}
@@ -79,9 +79,9 @@ pub calm_left : (u : ℕ) (t : Machine) → t.course.way ≡ Surveying → ((k j
 calm_left u t surveys calm =
     by_order t (λ o. Leaves u t (machine_ordered t o) (beyond u t.course.from))
     (λ f. by (machine_ordered t (Put FIRST f)) (next_course t) refl
-    (λ is. rw is (calm u (machine_ordered t (Put FIRST f)).asked (stage_of []))) (begins_moves t (stage_of t.trace) surveys))
+    (λ is. rw is (calm u (asked_by t.course.opened t.asked) (stage_of []))) (begins_moves t (stage_of t.trace) surveys))
     (λ f running. by (machine_ordered t (Put LATER f)) (course_on t (stage_of t.trace)) refl
-    (λ is. rw is (calm u (machine_ordered t (Put LATER f)).asked (stage_of t.trace))) (on_moves t (stage_of t.trace) surveys))
+    (λ is. rw is (calm u (asked_by t.course.opened t.asked) (stage_of t.trace))) (on_moves t (stage_of t.trace) surveys))
     (λ x. same (machine_ordered t (Commit x)) refl refl) (λ e. same (machine_ordered t (Done e)) refl refl)
     (λ w. same (machine_ordered t (Halt w)) refl refl) where
       same : (n : Machine) → n.course ≡ t.course → of_last u n n.last ≡ 0 → Leaves u t n (beyond u t.course.from)

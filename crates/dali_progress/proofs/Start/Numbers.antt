@@ -1,4 +1,5 @@
-use Rattle.std.proofs.Common.{◌≡◌, ℕ, ◌≤◌, Bool, false, List, [], ◌∷◌, ◌++◌, refl, sym, ap, subst, ◌∙◌, arith, length, Option, Some, None}
+use Rattle.std.proofs.Common.{◌≡◌, ℕ, ◌≤◌, inl, inr, Bool, true, false, List, [], ◌∷◌, ◌++◌, refl, sym, ap, subst, ◌∙◌, arith, length, Option, Some, None}
+use Rattle.std.specs.Prelude.{◌==◌, if◌then◌else◌}
 use Rattle.dali_frame.specs.declared.frames.Forward.{Forward}
 use Rattle.dali_frame.specs.declared.frames.Answer.{Answer}
 use Rattle.dali_frame.specs.declared.numbers.SearchAddress.{SearchAddress}
@@ -12,28 +13,37 @@ use Rattle.dali_script.specs.declared.stage.Stage.{Stage}
 use Rattle.dali_script.specs.declared.stage.Stage.TheVariants as stage
 use Rattle.dali_script.specs.Stages.{stage_of, next_stage}
 use Rattle.dali_script.specs.Due.{frame_put, record_ordered}
-use Rattle.dali_script.proofs.Transactions.{stage_more}
+use Rattle.dali_script.proofs.Transactions.{stage_more, stage_none}
 use Rattle.dali_script.specs.declared.records.Record.{Record}
+use Rattle.dali_script.specs.declared.records.Record.TheVariants.{Reserve, Enrol}
 use Rattle.dali_script.specs.declared.orders.Input.{Input}
 use Rattle.dali_script.specs.declared.orders.Input.TheVariants as input
-use Rattle.dali_script.specs.declared.orders.Order.TheVariants.{Put}
+use Rattle.dali_script.specs.declared.orders.Order.{Order}
+use Rattle.dali_script.specs.declared.orders.Order.TheVariants.{Put, Commit, Done, Halt}
+use Rattle.dali_script.specs.declared.orders.End.TheVariants.{GaveUp}
+use Rattle.dali_search.specs.declared.step.Step.{Step}
+use Rattle.dali_search.specs.declared.step.Step.TheVariants.{Again, Found, Nobody}
 use Rattle.dali_search.specs.Least.{Search}
 use Rattle.dali_controller.specs.declared.purpose.Purpose.{Purpose}
-use Rattle.dali_controller.specs.declared.purpose.Purpose.TheVariants.{Opening, Probing, Visiting, Resolving, Closing, Asking, Waking, Hunting}
-use Rattle.dali_controller.proofs.Courses.{closed_unwoken}
-use Rattle.dali_controller.specs.Machine.{Machine, machine_heard, machine_committed, machine_told, opened_after}
+use Rattle.dali_controller.specs.declared.purpose.Purpose.TheVariants.{Opening, Probing, Visiting, Closing, Hunting}
+use Rattle.dali_controller.specs.declared.way.Way.TheVariants.{Fresh}
+use Rattle.dali_controller.specs.Course.{Course, searching_first, closing, after_step}
+use Rattle.dali_controller.specs.Machine.{Machine, machine_heard, machine_committed, machine_told}
+use Rattle.dali_controller.specs.Next.{next_course, begins_at, course_on, goes_on_to, at_rest, asked_once, silenced_on, most_silent, unanswered, ungiven}
+use Rattle.dali_controller.specs.Orders.{machine_ordered, machine_after, IsAllowed}
+use Rattle.dali_controller.proofs.Given.{given_by}
 use Rattle.dali_events.specs.World.{World, controller_at}
 use Rattle.dali_events.specs.Happens.{entry}
-use Rattle.dali_events.specs.Allowed.{IsDue}
 use Rattle.dali_events.proofs.Invariant.Takes.{row_length}
 use Rattle.dali_standing.specs.Seats.{informed_by}
 use Rattle.dali_world.specs.Site.{world}
 use Rattle.dali_progress.specs.Rounds.{Succeeds}
-use Rattle.dali_progress.proofs.Lone.{due_of, Moment, acts_by}
-use Rattle.dali_progress.proofs.Stands.{Opens, At, Sends}
-use Rattle.dali_progress.proofs.Start.Turns.{IsNext}
-use Rattle.dali_progress.proofs.Start.Goes.{next_holds, of_start}
-use Rattle.dali_progress.proofs.Both.{closing_never, none_apart, enough_left, visiting_never, probing_never, left_same, opening_none}
+use Rattle.dali_progress.proofs.Lone.{due_of, IsDueOf, Moment, acts_by}
+use Rattle.dali_progress.proofs.Later.{unasked_but, stays_at}
+use Rattle.dali_progress.proofs.Stands.{Opens, CloseStage, At, Stands, Sends}
+use Rattle.dali_progress.proofs.Start.Turns.{IsNext, CommitsTo, goes_on_anew}
+use Rattle.dali_progress.proofs.Start.Goes.{Hears, Holds, next_holds, of_start}
+use Rattle.dali_progress.proofs.Both.{closing_never, none_apart, enough_left, visiting_never, probing_never, left_same, opening_none, is_complete, with_kept, not_failed}
 use Rattle.dali_progress.proofs.Drawing.{Draws}
 
 -- THE NUMBERS THAT GEAR DRAW: where there is one for each gear at the start, they are never spent. Gear draw once, at the
