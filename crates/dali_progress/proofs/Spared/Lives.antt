@@ -35,7 +35,7 @@ use Rattle.dali_events.specs.World.{Controller}
 use Rattle.dali_events.specs.Happens.{controller_acted, entry}
 use Rattle.dali_events.specs.Allowed.{IsDue, IsCommit}
 use Rattle.dali_standing.specs.Seats.{ReservesUsed}
-use Rattle.dali_progress.specs.Surveyed.{Step, IsTaken, IsCourse, ArePlain, stage_told}
+use Rattle.dali_progress.specs.Surveyed.{Step, IsTaken, IsCourse, ArePlain, stage_told, IsPlain, IsAccounted}
 use Rattle.dali_progress.specs.Census.{BeginsBySurvey, AreWhole, FallsSilent, WasSilent}
 use Rattle.dali_progress.proofs.Accounted.{accounted_stays, unreserved}
 use Rattle.dali_progress.proofs.Census.Asked.{Asks, asks_of, self, sending_of}
