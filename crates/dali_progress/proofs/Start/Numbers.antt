@@ -281,5 +281,5 @@ start_draws before = record {
   enough = λ m p f gs numbers left last holds has.
       let next = next_holds before m (Put p f) gs left holds in
       draws_enough m.course.purpose (stage_of m.trace) m.kept m.course.opened m.course.search m.course.number gs numbers left (command_of f) next.0.at next.1
-      (λ early open. has (undrawn_last m (Some (Put p f)) last (early, open)));
+      (λ early before_it. has (undrawn_last m (Some (Put p f)) last (early, before_it)));
 }

@@ -187,7 +187,7 @@ turns_later : (before : List Gear) (t : Machine) (o : Order) (p : Purpose) (s : 
     → Stands before t gs left → t.course.purpose ≡ p → stage_of t.trace ≡ s
     → turn_of p t.course.number s ≡ Some c → IsSpelled c → Sends p t.course.number t.kept s c → IsNext before (machine_ordered t o) o gs left
 turns_later before t o p s c gs left g st purpose is turn spelled sends =
-    goes_later before t o s c gs left st is (turn_unasked p t.course.number s c turn) (given.turns t o c g (rw (purpose, is) turn)) spelled
+    goes_later before t o s c gs left st is (subst (IsUnasked s) (sym purpose) (turn_unasked p t.course.number s c turn)) (given.turns t o c g (rw (purpose, is) turn)) spelled
     (rw (purpose, is) sends)
 
 opening_turns : (before : List Gear) (t : Machine) (o : Order) (s : Stage) (gs : List Gear) (left : ℕ) → IsGivenBy t o → Stands before t gs left
@@ -346,6 +346,11 @@ probed_at Nobody k c said gs left is ready unnamed narrowing agrees enough = (
   },
 )
 
+step_opened : (s : Step) (c : Course) → (after_step s c).opened ≡ c.opened
+step_opened Again c = refl
+step_opened (Found r) c = refl
+step_opened Nobody c = refl
+
 probing_turns : (before : List Gear) (t : Machine) (o : Order) (s : Stage) (gs : List Gear) (left : ℕ) → IsGivenBy t o → Stands before t gs left
     → IsNoEnrolment t.last → t.course.purpose ≡ Probing → stage_of t.trace ≡ s → (s ≡ stage.Free → ⊥)
     → t.course.opened ≡ true → Probes s t.course.search t.course.number gs left → IsNext before (machine_ordered t o) o gs left
@@ -366,7 +371,7 @@ probing_turns before t o (stage.Probed r h) gs left g st last purpose is running
     (given.begins_after t o (stage.Probed r h) g is tt (found_none before t gs left (stage.Probed r h) st is refl) last (never_eight t.tries st.tries))
     (ap (begins_at t) is) there.0
     (subst (λ b. At (probed t.course h).purpose stage.Free t.kept b (probed t.course h).search (probed t.course h).number gs left)
-    (sym opened) there.1)
+    (sym (step_opened (answered t.course.search (is_yes h)).step (record t.course { search = answered t.course.search (is_yes h) }) ∙ opened)) there.1)
 probing_turns before t o _ gs left g st last purpose is running opened p = absurd p.stage_is
 
 -- ---------------------------------------------------------------- a visit
