@@ -5,8 +5,9 @@ pub mod Woken
 pub mod Stands
 pub mod Rising
 pub mod Behind
-pub mod Sent
 pub mod Begins
+pub mod Rolls
+pub mod Sent
 pub mod Turns
 pub mod Hunting
 pub mod Kept

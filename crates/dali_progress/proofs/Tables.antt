@@ -70,21 +70,21 @@ tabled_left before xs gs numbers c leaves tabled =
 abbrev StandsStill : Gear → Type 0
 StandsStill g = (a : ℕ) → g.short ≡ Some a → draws_a_number Randomise g ≡ false
 
-tabled_drawn : (before : List Gear) (xs : List Assignment) (gs : List Gear) (numbers : List ℕ) → OfPowered gs StandsStill → AreTabled before xs gs
+pub tabled_drawn : (before : List Gear) (xs : List Assignment) (gs : List Gear) (numbers : List ℕ) → OfPowered gs StandsStill → AreTabled before xs gs
     → AreTabled before xs (row_after Everyone Randomise 0 gs numbers)
 tabled_drawn before xs gs numbers still tabled =
     tabled_by before xs gs (row_after Everyone Randomise 0 gs numbers) (row_length Everyone Randomise 0 gs numbers)
     (λ k in_row. after_at Randomise (λ g h. (g.powered ≡ true → StandsStill g) → KeepsName g h) (λ g off was. names_self g)
     (λ g x on was. names_drawn g x (was on)) gs numbers k in_row (still k in_row)) tabled
 
-still_once : (gs : List Gear) → AreOpening stage.Initialised gs → OfPowered gs StandsStill
+pub still_once : (gs : List Gear) → AreOpening stage.Initialised gs → OfPowered gs StandsStill
 still_once gs all k in_row on a short = rw ((all k in_row on).0) refl
 
 both_false : (b : Bool) → (b && false) ≡ false
 both_false true = refl
 both_false false = refl
 
-still_twice : (gs : List Gear) → AreOpening stage.RandomisedOnce gs → OfPowered gs StandsStill
+pub still_twice : (gs : List Gear) → AreOpening stage.RandomisedOnce gs → OfPowered gs StandsStill
 still_twice gs all k in_row on a short = rw ((all k in_row on).0, (all k in_row on).1.1 a short) refl
 
 -- PROGRAM SHORT ADDRESS names the one that is visited

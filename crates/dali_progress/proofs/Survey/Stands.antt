@@ -33,6 +33,7 @@ use Rattle.dali_progress.specs.Ends.{AreTabled}
 use Rattle.dali_progress.specs.Rounds.{IsSettled}
 use Rattle.dali_progress.proofs.Stands.{to_come, search_frames, VisitsAt, CloseStage, sent_at}
 use Rattle.dali_progress.proofs.Survey.Drawn.{those_drawn, is_lost}
+use Rattle.dali_progress.proofs.Survey.Woken.{AreLow}
 use Rattle.dali_progress.proofs.Survey.Queried.{Holds, Nobody, TabledBelow, unseen}
 
 -- HOW FAR A SURVEY IS, where nothing is disturbed. `start` are the gear at its start.
@@ -160,6 +161,12 @@ CallStage (stage.Hunted r None left) n gs = (r ≡ n) × (left ≡ 2)
 CallStage (stage.Hunted r (Some h) left) n gs = (r ≡ n) × IsCalledBy h left gs
 CallStage _ n gs = ⊥
 
+-- once the low byte was sent
+abbrev pub IsLowAt : Stage → List Gear → Type 0
+IsLowAt (stage.WokenLow high low) gs = AreLow gs
+IsLowAt (stage.Hunted r last left) gs = AreLow gs
+IsLowAt _ gs = Unit {0}
+
 -- so many of its frames were sent
 abbrev pub call_sent : Stage → ℕ
 call_sent stage.Terminated = 1
@@ -179,6 +186,7 @@ pub record Calls (s : Stage) (k : Kept) (heard : Shorts) (c : Course) (start : B
   pub own : start.any ≡ false → IsOwn k heard
   pub settled : start.any ≡ false → IsSettled k
   pub gear : AreOpening (woken_at s) gs
+  pub low : IsLowAt s gs
   pub tabled : AreTabled (unseen start.gear) k.enrolled gs
   pub frames : roll_frames c.tally.is_silent (count_by is_bare (those_drawn gs)) (count_by is_lost gs) + spare start.any c.tally.draws
       ≤ left + call_sent s
@@ -192,7 +200,7 @@ DrawStage p stage.Terminated n gs = Unit {0}
 DrawStage p stage.InitialisedOnce n gs = Unit {0}
 DrawStage p stage.Initialised n gs = Unit {0}
 DrawStage Drawing (stage.WokenHigh high) n gs = (n.high ≡ high) × SeekHigh gs high
-DrawStage Drawing (stage.WokenMiddle high middle) n gs = (n.middle ≡ middle) × SeekMiddle gs high middle
+DrawStage Drawing (stage.WokenMiddle high middle) n gs = (n.high ≡ high) × (n.middle ≡ middle) × SeekMiddle gs high middle
 DrawStage Drawing stage.DrawFree n gs = Unit {0}
 DrawStage p stage.RandomisedOnce n gs = Unit {0}
 DrawStage p stage.Opened n gs = Unit {0}
@@ -234,6 +242,7 @@ pub record Draws (p : Purpose) (s : Stage) (k : Kept) (heard : Shorts) (c : Cour
   pub own : start.any ≡ false → IsOwn k heard
   pub settled : start.any ≡ false → IsSettled k
   pub gear : AreOpening (woken_at s) gs
+  pub low : AreLow gs
   pub tabled : AreTabled (unseen start.gear) k.enrolled gs
   pub frames : draw_left p s + 106 * count_by is_bare gs + 26 + spare start.any c.tally.draws ≤ left
 
@@ -334,6 +343,7 @@ pub record Hunts (told : Bool) (p : Purpose) (s : Stage) (k : Kept) (heard : Sho
   pub loud : c.tally.is_silent ≡ false
   pub first : IsFirstDraw c.tally gs
   pub called : IsCalledFor p c.ascent gs
+  pub low : AreLow gs
   pub own : start.any ≡ false → IsOwn k heard
   pub settled : start.any ≡ false → IsSettledBut p c.number k
   pub rest : ℕ

@@ -147,10 +147,10 @@ called_answer gs r h all numbered seek top heard = go (silent_or h) where
   small : (n : ℕ) → wants gs n ≡ true → n ≤ MASK24
   small n is =
       let there = wanted.wants_at gs n is in
-      by (numbered there.0 there.1) there.3 where
-        by : {g : Gear} → (g.random ≡ MASK24) ⊎ (g.random < MASK24) → g.random ≡ n → n ≤ MASK24
-        by (inl mask) same = omega (arith, mask, same)
-        by (inr less) same = omega (arith, less, same)
+      by (gear_of gs there.0).random (numbered there.0 there.1) there.3 where
+        by : (m : ℕ) → (m ≡ MASK24) ⊎ (m < MASK24) → m ≡ n → n ≤ MASK24
+        by m (inl mask) same = omega (arith, mask, same)
+        by m (inr less) same = omega (arith, less, same)
 
   go : ((h ≡ Silence) × (is_yes h ≡ false)) ⊎ ((is_yes h ≡ true) × (h ≡ Silence → ⊥))
       → ((is_yes h ≡ false) × (count_by is_bare gs ≡ 0)) ⊎ ((is_yes h ≡ true) × (0 < count_by is_bare gs))
