@@ -10,6 +10,7 @@ pub mod Rolls
 pub mod Sent
 pub mod Turns
 pub mod Hunting
+pub mod Visits
 pub mod Kept
 pub mod Goes
 pub mod Bounded

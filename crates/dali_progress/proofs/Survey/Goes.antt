@@ -58,7 +58,7 @@ use Rattle.dali_progress.proofs.Survey.Stands.{Begun, wake_frames, SurveyAt, Sur
 use Rattle.dali_progress.proofs.Survey.Sent.{IsSurveyTaken, IsTold, SurveySent, survey_sent}
 use Rattle.dali_progress.proofs.Survey.Begins.{Calm, SurveyCommits, IsNext, asks_on}
 use Rattle.dali_progress.proofs.Survey.Turns.{IsUncontradicted}
-use Rattle.dali_progress.proofs.Survey.Hunting.{turned}
+use Rattle.dali_progress.proofs.Survey.Visits.{turned}
 use Rattle.dali_progress.proofs.Survey.Kept.{committed, begins_less, enrol_slack, enrol_one, survey_slack}
 use Rattle.dali_progress.proofs.Along.{Measure, Goes, slack_at}
 
