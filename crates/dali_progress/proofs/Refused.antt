@@ -243,7 +243,7 @@ run_with_room b limit n between sent text m ran enough room = go (run_to b limit
 -- A RUN WITH ROOM AND NUMBERS COMMISSIONS
 pub run_commissions : (b : Beginning) (limit : ℕ) (n between : Installation) (sent : ℕ) (text : List ℕ) (m : Installation)
     → RanAlone b limit n between sent text m → most_events b (bare n.site) < limit + begun (by_survey b) → HasRoom b n.site
-    → length (world n.site).gear ≤ length (world n.site).left → HasEndedBy b n.site m.site 0
+    → most_draws b * length (world n.site).gear ≤ length (world n.site).left → HasEndedBy b n.site m.site 0
 run_commissions b limit n between sent text m ran enough room numbers = go (run_to b limit n between sent text m ran enough room) where
   go : HasEndedBy b n.site m.site 0 ⊎ IsSpentOut (by_survey b) n.site m.site → HasEndedBy b n.site m.site 0
   go (inl ended) = ended

@@ -46,7 +46,7 @@ use Rattle.dali_progress.proofs.Both.{never_eight}
 use Rattle.dali_progress.proofs.Survey.Drawn.{those_drawn, is_undrawn, is_lost, bare_split, drawn_tabled, tabled_drawn, kept_at, drawn_length, undrawn_random}
 use Rattle.dali_progress.proofs.Survey.Queried.{unseen}
 use Rattle.dali_progress.proofs.Survey.Woken.{AreLow, none_bare, opened_lost, drawn_is, drawn_none_named}
-use Rattle.dali_progress.proofs.Survey.Stands.{Begun, spare, IsOwn, IsFirstDraw, IsCalledFor, NoneDrawn, Draws, draw_left, called_after, hunted_after, roll_frames}
+use Rattle.dali_progress.proofs.Survey.Stands.{Begun, spare, IsOwn, IsFirstDraw, IsCalledFor, NoneDrawn, Draws, most_drawn, draw_left, called_after, hunted_after, roll_frames}
 use Rattle.dali_progress.proofs.Survey.Stands.{frames_after, Rises, Hunts, IsSmooth, SurveyStands}
 use Rattle.dali_progress.proofs.Survey.Rising.{bytes_same, Answered, answered_rise, rises_new, rises_in, IsReachedAt, rise_found, rise_nobody}
 use Rattle.dali_progress.proofs.Survey.Begins.{Calm, IsNext, IsHunted, calm_of, smooth_as, turns_by, first_by, hunts_by, hunts_first, hunted_some, called_roll}
@@ -182,6 +182,10 @@ spare_less : (any : Bool) (draws : ℕ) → spare any (draws + 1) ≤ spare any 
 spare_less true draws = omega arith
 spare_less false draws = omega arith
 
+one_drawn : (any : Bool) → 0 + 1 ≤ most_drawn any
+one_drawn true = omega arith
+one_drawn false = omega arith
+
 -- what is known where a hunt is over
 record IsOver (start : Begun) (t : Machine) (h : Answer) (gs : List Gear) (left : ℕ) : Type 0 where
   smooth : IsSmooth t.course
@@ -241,6 +245,7 @@ vain_over start t o h r room gs left calm asks next none v = go (has_open t) ref
         opened_is = v.opened;
         stage_is = tt;
         loud = v.loud;
+        few = subst (λ n. n + 1 ≤ most_drawn start.any) (sym undrawn_yet) (one_drawn start.any);
         somebody = some;
         drawn = (none_but gs v.all, refl);
         own = v.own;

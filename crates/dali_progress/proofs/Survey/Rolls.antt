@@ -213,6 +213,7 @@ draws_on p s t k heard c start gs numbers left d v leaves byte stage drawn gear 
     opened_is = v.opened_is;
     stage_is = stage;
     loud = v.loud;
+    few = v.few;
     somebody = subst (λ n. 0 < n) (sym (leaving.count_bare_after d gs numbers leaves)) v.somebody;
     drawn = drawn;
     own = v.own;

@@ -233,10 +233,16 @@ IsDrawnBy Drawing stage.Opened n gs = Unit {0}
 IsDrawnBy Drawing s n gs = NoneDrawn gs × (n ≡ sought 0xFFFEFE)
 IsDrawnBy p s n gs = Unit {0}
 
+-- how often they draw, at the most
+abbrev pub most_drawn : Bool → ℕ
+most_drawn true = 3
+most_drawn false = 1
+
 pub record Draws (p : Purpose) (s : Stage) (k : Kept) (heard : Shorts) (c : Course) (start : Begun) (gs : List Gear) (left : ℕ) : Type 0 where
   pub opened_is : c.opened ≡ true
   pub stage_is : DrawStage p s c.number gs
   pub loud : c.tally.is_silent ≡ false
+  pub few : c.tally.draws ≤ most_drawn start.any
   pub somebody : 0 < count_by is_bare gs
   pub drawn : IsDrawnBy p s c.number gs
   pub own : start.any ≡ false → IsOwn k heard

@@ -41,7 +41,7 @@ use Rattle.dali_progress.proofs.Both.{never_eight, has_address, drawn_number}
 use Rattle.dali_progress.proofs.Accounted.{open_is}
 use Rattle.dali_progress.proofs.Survey.Drawn.{those_drawn, is_lost, AreNumbered, bare_split, drawn_tabled}
 use Rattle.dali_progress.proofs.Survey.Queried.{OneShort, IsTrue, unseen}
-use Rattle.dali_progress.proofs.Survey.Stands.{Begun, spare, called_after, Hunts, SurveyCloses, SurveyAt, SurveyStands}
+use Rattle.dali_progress.proofs.Survey.Stands.{Begun, spare, most_drawn, called_after, Hunts, SurveyCloses, SurveyAt, SurveyStands}
 use Rattle.dali_progress.proofs.Survey.Begins.{IsNext, IsHunted, Above, calm_of, calm_ordered, smooth_as, later_by, turns_by, first_by, hunts_on, all_taken}
 use Rattle.dali_progress.proofs.Survey.Turns.{IsUncontradicted, found_at, census_turns, calling_turns}
 use Rattle.dali_progress.proofs.Survey.Hunting.{opening_turns, drawing_turns, never_full, hunting_turns}
@@ -129,6 +129,7 @@ withheld_turns start t o r a gs left st is v has other begins = go (may_draw t) 
           opened_is = v.opened_is;
           stage_is = tt;
           loud = v.loud;
+          few = subst (λ b. t.course.tally.draws + 1 ≤ most_drawn b) (sym any) (omega (arith, few));
           somebody = somebody (count_by is_bare gs) (count_by is_bare (those_drawn gs)) (count_by is_lost gs) (count_by is_wanted (those_drawn gs)) w.more
               (bare_split gs) drew w.visited.count;
           drawn = tt;
