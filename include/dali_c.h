@@ -211,6 +211,7 @@ struct dali_tally {
     uint8_t is_silent;
     uint8_t calls;
     uint8_t askings;
+    uint8_t is_missed;
     uint8_t has_failed;
     struct dali_random failed;
     uint8_t passed_count;

@@ -13,19 +13,21 @@ abbrev pub failed_of : Bool → PlainRandom → Option ℕ
 failed_of true failed = Some (random_of failed)
 failed_of false failed = None
 
-abbrev pub tally_with : PlainTally → Bool → Bool → Tally
-tally_with p is_silent has_failed = record {
+abbrev pub tally_with : PlainTally → Bool → Bool → Bool → Tally
+tally_with p is_silent is_missed has_failed = record {
   draws = p.draws;
   is_silent = is_silent;
   calls = p.calls;
   askings = p.askings;
+  is_missed = is_missed;
   failed = failed_of has_failed p.failed;
   passed = record { numbers = numbers_of p.passed; count = p.passed_count };
 }
 
-abbrev pub tally_by : PlainTally → Option Bool → Option Bool → Option Tally
-tally_by p (Some is_silent) (Some has_failed) = Some (tally_with p is_silent has_failed)
-tally_by p _ _ = None
+abbrev pub tally_by : PlainTally → Option Bool → Option Bool → Option Bool → Option Tally
+tally_by p (Some is_silent) (Some is_missed) (Some has_failed) =
+    Some (tally_with p is_silent is_missed has_failed)
+tally_by p _ _ _ = None
 
 abbrev pub tally_of : PlainTally → Option Tally
-tally_of p = tally_by p (bool_of p.is_silent) (bool_of p.has_failed)
+tally_of p = tally_by p (bool_of p.is_silent) (bool_of p.is_missed) (bool_of p.has_failed)

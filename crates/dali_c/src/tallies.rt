@@ -16,6 +16,7 @@ pub struct PlainTally {
     pub is_silent: u8,
     pub calls: u8,
     pub askings: u8,
+    pub is_missed: u8,
     pub has_failed: u8,
     pub failed: PlainRandom,
     pub passed_count: u8,
@@ -35,6 +36,7 @@ impl PlainTally {
             is_silent: u8::from(tally.is_silent),
             calls: tally.calls,
             askings: tally.askings,
+            is_missed: u8::from(tally.is_missed),
             has_failed: u8::from(tally.failed.is_some()),
             failed: PlainRandom::of(failed),
             passed_count: tally.passed.count,
@@ -47,12 +49,14 @@ impl PlainTally {
         ensures { result ≡ tally_of self.now }
     {
         let is_silent = bool_of(self.is_silent)?;
+        let is_missed = bool_of(self.is_missed)?;
         let failed = read_failed(bool_of(self.has_failed)?, self.failed);
         Some(Tally {
             draws: self.draws,
             is_silent,
             calls: self.calls,
             askings: self.askings,
+            is_missed,
             failed,
             passed: Passed {
                 numbers: read_numbers(self.passed),

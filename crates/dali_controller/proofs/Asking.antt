@@ -64,8 +64,8 @@ asks_on t c r h left heard hunting is begins hunts room knows = record {
   going_on : closing_of t.course.purpose ≡ None
   going_on = ap closing_of hunting
 
-  open : closing_of c.purpose ≡ None
-  open = ap closing_of hunts
+  unclosed : closing_of c.purpose ≡ None
+  unclosed = ap closing_of hunts
 
   calm : t.silent < most_silent t.course.way
   calm = calm_less t.course.way t.course.purpose t.silent going_on heard.calm
@@ -80,9 +80,9 @@ asks_on t c r h left heard hunting is begins hunts room knows = record {
           (subst (λ x. Follows t.kept.block t.kept.reserved (Hunted r (Some h) left) x) (sym spelled) on.follows)),
     );
     addressing = λ g e. on.addressing g (sym spelled ∙ e);
-    caused = (begun_none t (closing_of c.purpose) open going_on, inl open);
-    given_up = λ n. absurd (omega arith);
-    silent = λ n. absurd (omega arith);
+    caused = (begun_none t (closing_of c.purpose) unclosed going_on, inl unclosed);
+    given_up = λ n. absurd (omega (arith, tries, n));
+    silent = λ n. absurd (omega (arith, calm, n));
     unnamed = λ q e. absurd (let other : Hunted r (Some h) left ≡ Unnamed q = sym stage ∙ e in cc);
     found = λ q b e. absurd (let other : Hunted r (Some h) left ≡ Withdrawn q b = sym stage ∙ e in cc);
   }
@@ -91,7 +91,8 @@ asks_on t c r h left heard hunting is begins hunts room knows = record {
 pub hunted_moment : (t : Machine) (r : SearchAddress) (h : Answer) (left : ℕ) (o : Order) (new : Machine) → IsHeard t (Hunted r (Some h) left)
     → t.course.purpose ≡ Hunting → AsksNext t (hunted_in t h) r left o new → IsMoment t o new
 hunted_moment t r h left o new heard hunting asks =
-    subst (λ (n : Machine). IsMoment t o n) (sym asks.state) (subst (λ x. IsMoment t x (machine_ordered_on t c x)) (sym asks.order) (go (has_room c r left) refl)) where
+    subst (λ (n : Machine). IsMoment t o n) (sym asks.state)
+    (subst (λ x. IsMoment t x (machine_ordered_on t c x)) (sym asks.order) (go (has_room c r left) refl)) where
       c : Course
       c = hunted_in t h
 

@@ -7,34 +7,46 @@ use Rattle.dali_frame.specs.declared.frames.Answer.TheVariants.{Silence, Byte, D
 use Rattle.dali_frame.specs.declared.numbers.SearchAddress.{SearchAddress}
 use Rattle.dali_frame.specs.Random.{value_of, MASK24}
 use Rattle.dali_script.specs.declared.stage.Stage.{Stage}
-use Rattle.dali_script.specs.declared.stage.Stage.TheVariants.{Free, Opened, DrawBarred, Probed, Hunted, Unnamed, Unanswered, Inconclusive, Withdrawn, HighAsked}
+use Rattle.dali_script.specs.declared.stage.Stage.TheVariants.{Free, Opened, DrawBarred, Probed, Hunted, Unnamed, Unanswered, Inconclusive, Withdrawn}
+use Rattle.dali_script.specs.declared.stage.Stage.TheVariants.{HighAsked}
 use Rattle.dali_script.specs.declared.stage.Stage.TheVariants.{PassedOver, MiddleAsked, Spelled}
-use Rattle.dali_script.specs.Records.{Has}
+use Rattle.dali_frame.specs.Priority.{LATER}
+use Rattle.dali_special.specs.Command.{frame_of}
+use Rattle.dali_script.specs.Records.{Has, Kept}
 use Rattle.dali_script.specs.Stages.{stage_of}
 use Rattle.dali_script.specs.declared.orders.Order.{Order}
-use Rattle.dali_script.specs.declared.orders.Order.TheVariants.{Commit}
+use Rattle.dali_script.specs.declared.orders.Order.TheVariants.{Commit, Put}
 use Rattle.dali_script.specs.declared.records.Record.TheVariants.{Reserve, Release}
 use Rattle.dali_script.specs.declared.orders.End.{End}
 use Rattle.dali_script.specs.declared.orders.End.TheVariants.{AllFound, BlockFull, GaveUp}
 use Rattle.dali_search.specs.declared.step.Step.{Step}
 use Rattle.dali_search.specs.declared.step.Step.TheVariants.{Again, Found, Nobody}
-use Rattle.dali_search.specs.Ascending.{leads_to, ascended, ascent_at_first}
+use Rattle.dali_search.specs.Ascending.{Ascent, leads_to, ascended, ascent_at_first}
 use Rattle.dali_search.specs.Least.{Search, answered}
 use Rattle.dali_controller.specs.declared.purpose.Purpose.{Purpose}
-use Rattle.dali_controller.specs.declared.purpose.Purpose.TheVariants.{Opening, Probing, Visiting, Resolving, Closing, Asking, Hunting, Calling, Drawing, PassingOver}
+use Rattle.dali_controller.specs.declared.purpose.Purpose.TheVariants.{Opening, Probing, Visiting, Resolving, Closing, Asking, Hunting, Calling, Drawing}
 use Rattle.dali_controller.specs.declared.way.Way.{Way}
 use Rattle.dali_controller.specs.declared.way.Way.TheVariants.{Fresh, Surveying}
-use Rattle.dali_controller.specs.Course.{Course, closing_of, turn_of, after_step, address_for, is_yes, hunted, closing, resolving, searching_first, opening_anew}
-use Rattle.dali_controller.specs.Course.{opening_at_last, drawing, calling, hunting_first, hunting_above, ask_or_call, next_asked, visiting}
+use Rattle.dali_controller.specs.Course.{Course, closing_of, after_step, address_for, is_yes, hunted, closing, resolving, searching_first, opening_anew}
+use Rattle.dali_controller.specs.Course.{opening_at_last, drawing, calling, hunting_first, hunting_above, ask_or_call, next_asked, visiting, asking_again}
+use Rattle.dali_controller.specs.Course.{byte_to_send, bytes_to_send}
+use Rattle.dali_controller.specs.declared.leg.Leg.{Leg}
+use Rattle.dali_controller.specs.declared.leg.Leg.TheVariants as leg
+use Rattle.dali_controller.specs.declared.state.State.{State}
+use Rattle.dali_controller.specs.Legs.{ascent_on, search_on, way_on, is_searching}
+use Rattle.dali_controller.specs.States.{machine_with, course_of}
 use Rattle.dali_controller.specs.declared.tally.Tally.{Tally}
 use Rattle.dali_controller.specs.Tally.{asked_again, silent_call, heard_call}
 use Rattle.dali_controller.specs.Machine.{Machine, machine_surveying}
-use Rattle.dali_controller.specs.Next.{next_course, beginning, at_rest, compared_in, begins_at, goes_on_to, silenced, silenced_on, missed_again, is_failed, most_silent, unanswered, has_open, may_draw}
-use Rattle.dali_controller.specs.Next.{asks_again, full, ungiven, undrawn, nobody_left, hunted_to, hunted_in, blocked, is_blocked, called_to, called_in, asked_once}
-use Rattle.dali_controller.specs.Orders.{Cause, IsBegun, IsSilentProbe, IsSilentCall, AllAreFound, IsUndrawn, IsUngivable, IsBlockFull, IsBlocked, IsStuck}
+use Rattle.dali_controller.specs.Next.{next_course, beginning, at_rest, compared_in, begins_at, goes_on_to, silenced, silenced_on, missed_again, is_failed}
+use Rattle.dali_controller.specs.Next.{most_silent, unanswered, has_open, may_draw}
+use Rattle.dali_controller.specs.Next.{asks_again, full, ungiven, undrawn, nobody_left, hunted_to, hunted_in, blocked, is_blocked, called_to, called_in}
+use Rattle.dali_controller.specs.Next.{asked_once}
+use Rattle.dali_controller.specs.Next.{is_hunting, question}
+use Rattle.dali_controller.specs.Orders.{Cause, IsBegun, AllAreFound, IsUndrawn, IsUngivable, IsBlockFull, IsStuck}
 use Rattle.dali_controller.specs.Orders.{IsOrdered, IsOrderedTo, machine_ordered, machine_ordered_on}
 use Rattle.dali_controller.specs.Whole.{Knows, IsSurvey, IsWithinSilence, IsWhole, IsUnstarted, Pending}
-use Rattle.dali_controller.specs.Moments.{Begins, Begun, Enrolled, IsBetween, IsHeard, IsMoment, IsUngiven, IsNextTo}
+use Rattle.dali_controller.specs.Moments.{AsksNext, Begins, Begun, Enrolled, IsBetween, IsHeard, IsMoment, IsUngiven, IsNextTo}
 use Rattle.dali_controller.proofs.Courses.{goes_on_way, searches_first_way}
 use Rattle.dali_controller.proofs.Courses.{ask_way}
 use Rattle.dali_controller.proofs.Given.{goes_on_open}
@@ -48,7 +60,7 @@ record IsShut (t : Machine) (c : Course) : Type 0 where
   pub closes : (e : End) → c.purpose ≡ Closing e → Cause t e
 
 opens : (t : Machine) (c : Course) → c.way ≡ t.course.way → closing_of c.purpose ≡ None → IsShut t c
-opens t c way open = record { way = way; closes = λ e is. absurd (let none : Some e ≡ None = sym (ap closing_of is) ∙ open in cc) }
+opens t c way unclosed = record { way = way; closes = λ e is. absurd (let none : Some e ≡ None = sym (ap closing_of is) ∙ unclosed in cc) }
 
 same_end : (d e : End) → Closing d ≡ Closing e → d ≡ e
 same_end d e is = cc
@@ -80,11 +92,11 @@ shut_begins t c tries silent going shut unnamed found =
       found = found;
     } where
       calm : t.silent < most_silent c.way → (closing_of c.purpose ≡ None) ⊎ ((e : End) × (c.purpose ≡ Closing e)) → IsWithinSilence c.way c.purpose t.silent
-      calm less (inl open) = less_calm c.way c.purpose t.silent open less
+      calm less (inl unclosed) = less_calm c.way c.purpose t.silent unclosed less
       calm less (inr x) = subst (λ p. IsWithinSilence c.way p t.silent) (sym x.1) (closing_calm c.way x.0 t.silent less)
 
       turns : (closing_of c.purpose ≡ None) ⊎ ((e : End) × (c.purpose ≡ Closing e)) → IsBegun t (closing_of c.purpose)
-      turns (inl open) = begun_none t (closing_of c.purpose) open going
+      turns (inl unclosed) = begun_none t (closing_of c.purpose) unclosed going
       turns (inr x) = subst (λ p. IsBegun t (closing_of p)) (sym x.1) (inr (going, shut.closes x.0 x.1))
 
 -- ---------------------------------------------------------------- between two transactions
@@ -93,7 +105,7 @@ between_shut : (t : Machine) (c : Course) → IsBetween t → IsShut t c → Beg
 between_shut t c b shut = shut_begins t c b.tries b.silent b.going shut (λ r e. absurd (b.unnamed r e)) b.found
 
 pub between_begins : (t : Machine) (c : Course) → IsBetween t → c.way ≡ t.course.way → closing_of c.purpose ≡ None → Begins t c
-between_begins t c b way open = between_shut t c b (opens t c way open)
+between_begins t c b way unclosed = between_shut t c b (opens t c way unclosed)
 
 between_closes : (t : Machine) (c : Course) (e : End) → IsBetween t → c.way ≡ t.course.way → c.purpose ≡ Closing e → Cause t e → Begins t c
 between_closes t c e b way is cause = between_shut t c b (shuts t c e way is cause)
@@ -124,15 +136,15 @@ opened_moment t s o new h is begun = go is where
   first : Course
   first = searching_first t.course.way t.course
 
-  open : (y : Way) → closing_of (searching_first y t.course).purpose ≡ None
-  open Fresh = refl
-  open Surveying = refl
+  unclosed : (y : Way) → closing_of (searching_first y t.course).purpose ≡ None
+  unclosed Fresh = refl
+  unclosed Surveying = refl
 
   by : (s : Stage) → IsHeard t s → closing_of t.course.purpose ≡ None → t.silent < most_silent t.course.way → begins_at t s ≡ first
       → ((r : SearchAddress) → s ≡ Unnamed r → ⊥) → ((r : SearchAddress) (b : ℕ) → s ≡ Withdrawn r b → ⊥) → IsMoment t o new
   by s h going calm next unnamed found =
       begun_moment t first o new (sym (ap (begins_at t) h.stage ∙ next))
-      (between_begins t first (heard_between t s h going calm unnamed found) (searches_first_way t.course.way t.course) (open t.course.way)) begun
+      (between_begins t first (heard_between t s h going calm unnamed found) (searches_first_way t.course.way t.course) (unclosed t.course.way)) begun
 
   none : (t.course.purpose ≡ Opening) ⊎ (t.course.purpose ≡ Drawing) → closing_of t.course.purpose ≡ None
   none (inl e) = ap closing_of e
@@ -150,9 +162,9 @@ opened_moment t s o new h is begun = go is where
 -- ---------------------------------------------------------------- after a question
 
 silence_is : (h : Answer) → is_yes h ≡ false → h ≡ Silence
-silence_is Silence no = refl
-silence_is (Byte v) no = absurd (cc)
-silence_is Damaged no = absurd (cc)
+silence_is Silence e = refl
+silence_is (Byte v) e = absurd (cc)
+silence_is Damaged e = absurd (cc)
 
 pub probed_moment : (t : Machine) (r : SearchAddress) (h : Answer) (s : Search) (step : Step) (o : Order) (new : Machine) → IsHeard t (Probed r h)
     → s ≡ answered t.course.search (is_yes h) → s.step ≡ step → (step ≡ Nobody → (is_yes h ≡ false) × (t.course.search.probe ≡ 0xFFFFFE))
@@ -209,8 +221,8 @@ undrawn_shut : (t : Machine) (c : Course) → c.way ≡ t.course.way → t.cours
 undrawn_shut t c way survey same undrawn = go (has_open t) refl (nat_lt c.tally.draws 3) refl where
   go : (b : Bool) → has_open t ≡ b → (d : Bool) → nat_lt c.tally.draws 3 ≡ d
       → IsShut t (if b then (if d then drawing c else closing c GaveUp) else full t c)
-  go true open true few = opens t _ way refl
-  go true open false few =
+  go true unclosed true few = opens t _ way refl
+  go true unclosed false few =
       let spent : nat_lt t.course.tally.draws 3 ≡ false = ap (λ (y : Tally). nat_lt y.draws 3) (sym same) ∙ few in
       shuts t _ GaveUp way refl (inr (subst (IsStuck t) (sym survey) (inr (undrawn, spent))))
   go false none d few = full_shut t c way survey (inr (undrawn, none))
@@ -268,38 +280,41 @@ hunted_begins t r h left heard hunting =
 
 blocked_shut : (t : Machine) (r : SearchAddress) (h : Answer) (left : ℕ) → IsHunted t r h left → t.course.purpose ≡ Calling → is_yes h ≡ true
     → is_blocked t.course.tally ≡ true → IsShut t (blocked t)
-blocked_shut t r h left x calling yes passed = go (may_draw t) refl where
+blocked_shut t r h left x is answers passed = go (may_draw t) refl where
   go : (b : Bool) → may_draw t ≡ b → IsShut t (if b then opening_at_last t.course else closing t.course GaveUp)
-  go true is = opens t _ refl refl
-  go false is = shuts t _ GaveUp refl refl (inr (subst (IsStuck t) (sym x.survey) (inl (record {
+  go true spent = opens t _ refl refl
+  go false spent = shuts t _ GaveUp refl refl (inr (subst (IsStuck t) (sym x.survey) (inl (record {
     number = r;
     heard = h;
     left = left;
     stage = x.heard.stage;
-    calling = calling;
-    yes = yes;
+    calling = is;
+    yes = answers;
     passed = passed;
-    spent = is;
+    spent = spent;
   }))))
 
 called_shut : (t : Machine) (r : SearchAddress) (h : Answer) (left : ℕ) → IsHunted t r h left → t.course.purpose ≡ Calling → t.course.opened ≡ true
     → value_of t.course.number ≡ MASK24 → (b : Bool) → is_yes h ≡ b → IsShut t (called_to t b t.course)
-called_shut t r h left x is opened mask false no = go t.course.tally.is_silent refl where
+called_shut t r h left x is opened mask false e = go t.course.tally.is_silent refl where
   go : (b : Bool) → t.course.tally.is_silent ≡ b
       → IsShut t (if b then closing t.course AllFound else calling (record t.course { tally = silent_call t.course.tally }))
-  go true before = shuts t _ AllFound refl refl (opened, subst (AllAreFound t) (sym x.survey) (record {
-    number = r;
-    left = left;
-    stage = x.heard.stage ∙ ap (λ g. Hunted r (Some g) left) (silence_is h no);
-    calling = is;
-    last = ap value_of x.heard.arrived.1 ∙ mask;
-    before = before;
-  }))
+  go true before = shuts t _ AllFound refl refl (
+    opened,
+    subst (AllAreFound t) (sym x.survey) (record {
+      number = r;
+      left = left;
+      stage = x.heard.stage ∙ ap (λ g. Hunted r (Some g) left) (silence_is h e);
+      calling = is;
+      last = ap value_of x.heard.arrived.1 ∙ mask;
+      before = before;
+    }),
+  )
   go false before = opens t _ refl refl
-called_shut t r h left x is opened mask true yes = go (is_blocked t.course.tally) refl where
+called_shut t r h left x is opened mask true e = go (is_blocked t.course.tally) refl where
   go : (b : Bool) → is_blocked t.course.tally ≡ b
       → IsShut t (if b then blocked t else hunting_first (record t.course { tally = heard_call t.course.tally }))
-  go true passed = blocked_shut t r h left x is yes passed
+  go true passed = blocked_shut t r h left x is e passed
   go false passed = opens t _ refl refl
 
 pub called_moment : (t : Machine) (r : SearchAddress) (h : Answer) (left : ℕ) (o : Order) (new : Machine) → IsHeard t (Hunted r (Some h) left)
@@ -422,20 +437,22 @@ asked_open p b (inr is) = ap closing_of is
 pub high_between : (t : Machine) (b : ℕ) (high : Option ℕ) → IsHeard t (HighAsked b high) → IsBetween t
 high_between t b None h = queried_between t (HighAsked b None) h (asked_open t.course.purpose b h.arrived) h.calm (λ r e. cc) (λ r c e. cc)
 high_between t b (Some high) h =
-    queried_between t (HighAsked b (Some high)) h (sends_open t.kept t.course.number t.course.purpose (HighAsked b (Some high)) h.arrived.0 h.arrived.1 (λ e. cc)) h.calm
+    queried_between t (HighAsked b (Some high)) h
+    (sends_open t.kept t.course.number t.course.purpose (HighAsked b (Some high)) h.arrived.0 h.arrived.1 (λ e. cc)) h.calm
     (λ r e. cc) (λ r c e. cc)
 
 pub middle_between : (t : Machine) (b : ℕ) (bytes : Option (ℕ × ℕ)) → IsHeard t (MiddleAsked b bytes) → IsBetween t
 middle_between t b None h = queried_between t (MiddleAsked b None) h (asked_open t.course.purpose b h.arrived) h.calm (λ r e. cc) (λ r c e. cc)
 middle_between t b (Some bytes) h =
-    queried_between t (MiddleAsked b (Some bytes)) h (sends_open t.kept t.course.number t.course.purpose (MiddleAsked b (Some bytes)) h.arrived.0 h.arrived.1 (λ e. cc))
+    queried_between t (MiddleAsked b (Some bytes)) h
+    (sends_open t.kept t.course.number t.course.purpose (MiddleAsked b (Some bytes)) h.arrived.0 h.arrived.1 (λ e. cc))
     h.calm (λ r e. cc) (λ r c e. cc)
 
 pub spelled_between : (t : Machine) (b : ℕ) (number : Option ℕ) → IsHeard t (Spelled b number) → IsBetween t
-spelled_between t b number h = queried_between t (Spelled b number) h (open h.arrived) h.calm (λ r e. cc) (λ r c e. cc) where
-  open : (t.course.purpose ≡ Resolving b) ⊎ (t.course.purpose ≡ Asking b) → closing_of t.course.purpose ≡ None
-  open (inl is) = ap closing_of is
-  open (inr is) = ap closing_of is
+spelled_between t b number h = queried_between t (Spelled b number) h (unclosed h.arrived) h.calm (λ r e. cc) (λ r c e. cc) where
+  unclosed : (t.course.purpose ≡ Resolving b) ⊎ (t.course.purpose ≡ Asking b) → closing_of t.course.purpose ≡ None
+  unclosed (inl is) = ap closing_of is
+  unclosed (inr is) = ap closing_of is
 
 -- a short address that was silent is asked again
 pub again_moment : (t : Machine) (b : ℕ) (high : Option ℕ) (o : Order) (new : Machine) → IsHeard t (HighAsked b high) → (t.asked ≡ 0 → ⊥)
@@ -464,7 +481,8 @@ unstarted_between : (w t : Machine) → IsUnstarted w → t.tries ≡ w.tries �
     → IsBetween t
 unstarted_between w t u tries silent trace purpose =
     let few : w.tries < 8 = u.ready.tries in
-    let calm : w.silent < most_silent Fresh = subst (λ y. w.silent < most_silent y) u.fresh (subst (λ p. IsWithinSilence w.course.way p w.silent) u.opening u.ready.calm) in
+    let calm : w.silent < most_silent Fresh = subst (λ y. w.silent < most_silent y) u.fresh
+    (subst (λ p. IsWithinSilence w.course.way p w.silent) u.opening u.ready.calm) in
     record {
       tries = subst (λ n. n < 8) (sym tries) few;
       silent = subst (λ n. n < most_silent t.course.way) (sym silent) (most t.course.way calm);
@@ -495,3 +513,180 @@ moment_ordered t o new m = subst (λ c. IsOrderedTo t c o) m.course m.next.order
 
 pub moment_state : (t : Machine) (o : Order) (new : Machine) → IsMoment t o new → new ≡ machine_ordered t o
 moment_state t o new m = m.next.state ∙ ap (λ c. machine_ordered_on t c o) m.course
+
+-- ---------------------------------------------------------------- what begins by a test
+
+pub undrawn_full : (t : Machine) (c : Course) (o : Order) (new : Machine) → has_open t ≡ false → Begun t (full t c) o new → Begun t (undrawn t c) o new
+undrawn_full t c o new is begun =
+    subst (λ b. Begun t (if b then (if nat_lt c.tally.draws 3 then drawing c else closing c GaveUp) else full t c) o new) (sym is) begun
+
+pub ungiven_full : (t : Machine) (o : Order) (new : Machine) → may_draw t ≡ false → Begun t (full t t.course) o new → Begun t (ungiven t Surveying) o new
+ungiven_full t o new is begun = subst (λ b. Begun t (if b then opening_anew t.course else full t t.course) o new) (sym is) begun
+
+pub left_undrawn : (t : Machine) (c : Course) (o : Order) (new : Machine) → c.ascent.found ≡ 0 → Begun t (undrawn t c) o new → Begun t (nobody_left t c) o new
+left_undrawn t c o new is begun = subst (λ n. Begun t (if n == 0 then undrawn t c else calling c) o new) (sym is) begun
+
+full_asked : (t : Machine) (c : Course) (o : Order) (new : Machine) → asks_again t ≡ true → Begun t (asking_again t.kept c) o new → Begun t (full t c) o new
+full_asked t c o new is begun = subst (λ b. Begun t (if b then asking_again t.kept c else closing c BlockFull) o new) (sym is) begun
+
+full_closed : (t : Machine) (c : Course) (o : Order) (new : Machine) → asks_again t ≡ false → Begun t (closing c BlockFull) o new → Begun t (full t c) o new
+full_closed t c o new is begun = subst (λ b. Begun t (if b then asking_again t.kept c else closing c BlockFull) o new) (sym is) begun
+
+pub full_closes : (s : State) (k : Kept) (o : Order) (new : Machine) → asks_again (machine_with s k) ≡ false
+    → Begun (machine_with s k) (closing (course_of s) BlockFull) o new → Begun (machine_with s k) (full (machine_with s k) (course_of s)) o new
+full_closes s k o new is begun = full_closed (machine_with s k) (course_of s) o new is begun
+
+-- short addresses are asked again: gear are searched no longer
+abbrev asking_state : State → Tally → State
+asking_state s y = record s { leg = leg.Asking 0 0; tally = y }
+
+again_on : (s : State) (k : Kept) (l : Leg) (y : Tally) (o : Order) (new : Machine) → l ≡ leg.Hunting (ascent_on l) → y ≡ asked_again s.tally
+    → Begun (machine_with (asking_state s y) k) (ask_or_call (course_of (asking_state s y)) (next_asked k 0)) o new
+    → Begun (machine_with (record s { leg = l }) k) (asking_again k (course_of (record s { leg = l }))) o new
+again_on s k (leg.Revisiting from) y o new hunting tally b = absurd (cc)
+again_on s k (leg.Asking from silences) y o new hunting tally b = absurd (cc)
+again_on s k (leg.Searching x) y o new hunting tally b = absurd (cc)
+again_on s k (leg.Hunting a) y o new hunting tally b = go
+    (subst (λ z. Begun (machine_with (asking_state s z) k) (ask_or_call (course_of (asking_state s z)) (next_asked k 0)) o new) tally b) where
+      go : Begun (machine_with (asking_state s (asked_again s.tally)) k) (ask_or_call (course_of (asking_state s (asked_again s.tally))) (next_asked k 0)) o new
+          → Begun (machine_with (record s { leg = leg.Hunting a }) k) (asking_again k (course_of (record s { leg = leg.Hunting a }))) o new
+      go c = counts (next_asked k 0) c where
+        d : Course
+        d = course_of (asking_state s (asked_again s.tally))
+
+        -- whether a short address is asked or the roll is called, no silence was counted
+        counts : (next : Option ℕ) → Begun (machine_with (asking_state s (asked_again s.tally)) k) (ask_or_call d next) o new
+            → Begun (machine_with (record s { leg = leg.Hunting a }) k) (ask_or_call d next) o new
+        counts None e = record { order = e.order; state = e.state; knows = e.knows }
+        counts (Some n) e = record { order = e.order; state = e.state; knows = e.knows }
+
+pub full_asks : (s : State) (k : Kept) (y : Tally) (o : Order) (new : Machine) → s.leg ≡ leg.Hunting (ascent_on s.leg) → asks_again (machine_with s k) ≡ true
+    → y ≡ asked_again s.tally → Begun (machine_with (asking_state s y) k) (ask_or_call (course_of (asking_state s y)) (next_asked k 0)) o new
+    → Begun (machine_with s k) (full (machine_with s k) (course_of s)) o new
+full_asks s k y o new hunting is tally b = full_asked (machine_with s k) (course_of s) o new is (again_on s k s.leg y o new hunting tally b)
+
+-- ---------------------------------------------------------------- nobody is left
+
+unasked_beginning : (c : Course) (sent : SearchAddress) (left : ℕ) → is_hunting c.purpose ≡ false → beginning c ≡ question c sent left
+unasked_beginning c sent left none =
+    ap (λ b. if b && nat_lt (bytes_to_send c.number sent) left then Put LATER (frame_of (byte_to_send c.number sent)) else beginning c) (sym none)
+
+ask_or_call_other : (c : Course) (next : Option ℕ) → is_hunting (ask_or_call c next).purpose ≡ false
+ask_or_call_other c None = refl
+ask_or_call_other c (Some a) = refl
+
+full_other : (t : Machine) (c : Course) → is_hunting (full t c).purpose ≡ false
+full_other t c = go (asks_again t) where
+  go : (b : Bool) → is_hunting (if b then asking_again t.kept c else closing c BlockFull).purpose ≡ false
+  go true = ask_or_call_other (record c { from = 0; opened = false; ascent = ascent_at_first; tally = asked_again c.tally }) (next_asked t.kept 0)
+  go false = refl
+
+left_other : (t : Machine) (c : Course) → is_hunting (nobody_left t c).purpose ≡ false
+left_other t c = go (c.ascent.found == 0) (has_open t) (nat_lt c.tally.draws 3) where
+  go : (b d e : Bool) → is_hunting (if b then (if d then (if e then drawing c else closing c GaveUp) else full t c) else calling c).purpose ≡ false
+  go true true true = refl
+  go true true false = refl
+  go true false e = full_other t c
+  go false d e = refl
+
+-- after the last no of a hunt
+abbrev hunting_state : State → Ascent → State
+hunting_state s a = record s { leg = leg.Hunting a }
+
+left_on : (s : State) (k : Kept) (l : Leg) (a b : Ascent) (h : Answer) (sent : SearchAddress) (left : ℕ) (o : Order) (new : Machine) → l ≡ leg.Hunting a
+    → b ≡ ascended a (is_yes h) → leads_to b ≡ Nobody
+    → Begun (machine_with (hunting_state s b) k) (nobody_left (machine_with (hunting_state s b) k) (course_of (hunting_state s b))) o new
+    → AsksNext (machine_with (record s { leg = l }) k) (hunted_in (machine_with (record s { leg = l }) k) h) sent left o new
+left_on s k l a b h sent left o new is told nobody begun =
+    subst (λ x. AsksNext (machine_with (record s { leg = x }) k) (hunted_in (machine_with (record s { leg = x }) k) h) sent left o new) (sym is)
+    (subst (λ z. AsksNext w (hunted_to w z (hunted w.course h)) sent left o new) (sym (ap leads_to (sym told) ∙ nobody))
+    (go
+    (subst
+    (λ x. Begun (machine_with (hunting_state s x) k)
+    (nobody_left (machine_with (hunting_state s x) k) (course_of (hunting_state s x))) o new) told begun))) where
+      w : Machine
+      w = machine_with (hunting_state s a) k
+
+      c : Course
+      c = hunted w.course h
+
+      go : Begun (machine_with (hunting_state s (ascended a (is_yes h))) k)
+          (nobody_left (machine_with (hunting_state s (ascended a (is_yes h))) k) (course_of (hunting_state s (ascended a (is_yes h))))) o new
+          → AsksNext w (nobody_left w c) sent left o new
+      go e = record { order = e.order ∙ unasked_beginning (nobody_left w c) sent left (left_other w c); state = e.state; knows = e.knows }
+
+pub left_asks : (s : State) (k : Kept) (a b : Ascent) (h : Answer) (sent : SearchAddress) (left : ℕ) (o : Order) (new : Machine) → s.leg ≡ leg.Hunting a
+    → b ≡ ascended a (is_yes h) → leads_to b ≡ Nobody
+    → Begun (machine_with (hunting_state s b) k) (nobody_left (machine_with (hunting_state s b) k) (course_of (hunting_state s b))) o new
+    → AsksNext (machine_with s k) (hunted_in (machine_with s k) h) sent left o new
+left_asks s k a b h sent left o new is told nobody begun = left_on s k s.leg a b h sent left o new is told nobody begun
+
+-- a question after a start: the search is the one that was answered
+searched_on : (s : State) (k : Kept) (l : Leg) (x y : Search) (step : Step) (o : Order) (new : Machine) → l ≡ leg.Searching x
+    → Begun (machine_with (record s { leg = leg.Searching y }) k) (after_step step (course_of (record s { leg = leg.Searching y }))) o new
+    → Begun (machine_with (record s { leg = l }) k) (after_step step (record (course_of (record s { leg = l })) { search = y })) o new
+searched_on s k l x y step o new is begun =
+    subst (λ z. Begun (machine_with (record s { leg = z }) k) (after_step step (record (course_of (record s { leg = z })) { search = y })) o new) (sym is)
+    (go step begun) where
+      go : (step : Step) → Begun (machine_with (record s { leg = leg.Searching y }) k) (after_step step (course_of (record s { leg = leg.Searching y }))) o new
+          → Begun (machine_with (record s { leg = leg.Searching x }) k)
+          (after_step step (record (course_of (record s { leg = leg.Searching x })) { search = y })) o new
+      go Again b = record { order = b.order; state = b.state; knows = b.knows }
+      go (Found r) b = record { order = b.order; state = b.state; knows = b.knows }
+      go Nobody b = record { order = b.order; state = b.state; knows = b.knows }
+
+pub searched_begun : (s : State) (k : Kept) (x y : Search) (step : Step) (o : Order) (new : Machine) → s.leg ≡ leg.Searching x
+    → Begun (machine_with (record s { leg = leg.Searching y }) k) (after_step step (course_of (record s { leg = leg.Searching y }))) o new
+    → Begun (machine_with s k) (after_step step (record (course_of s) { search = y })) o new
+searched_begun s k x y step o new is begun = searched_on s k s.leg x y step o new is begun
+
+pub probed_state : (s : State) (k : Kept) (x y : Search) (r : SearchAddress) (h : Answer) (said : Bool) (step : Step) (o : Order) (new : Machine)
+    → IsHeard (machine_with s k) (Probed r h) → s.leg ≡ leg.Searching x → said ≡ is_yes h → (x.step ≡ Again → y ≡ answered x said) → y.step ≡ step
+    → (x.step ≡ Again → step ≡ Nobody → (said ≡ false) × (x.probe ≡ 0xFFFFFE))
+    → Begun (machine_with (record s { leg = leg.Searching y }) k) (after_step step (course_of (record s { leg = leg.Searching y }))) o new
+    → IsMoment (machine_with s k) o new
+probed_state s k x y r h said step o new heard is says told leads nobody begun =
+    probed_moment t r h y step o new heard (told running ∙ ap (λ (z : Search). answered z said) (sym here) ∙ ap (answered t.course.search) says) leads
+    (λ e. let n = nobody running e in (sym says ∙ n.0, ap (λ (z : Search). z.probe) here ∙ n.1))
+    (searched_begun s k x y step o new is begun) where
+      t : Machine
+      t = machine_with s k
+
+      here : t.course.search ≡ x
+      here = ap search_on is
+
+      probing : Knows t.course.way t.kept t.course.number t.course.search t.course.ascent t.course.opened Probing
+      probing = subst (Knows t.course.way t.kept t.course.number t.course.search t.course.ascent t.course.opened) heard.arrived.0 heard.knows
+
+      running : x.step ≡ Again
+      running = ap (λ (z : Search). z.step) (sym here) ∙ probing.2
+
+-- ---------------------------------------------------------------- after a visit that failed, by tests
+
+pub silenced_closes : (t : Machine) (o : Order) (new : Machine) → t.silent ≡ most_silent t.course.way → Begun t (closing t.course GaveUp) o new
+    → Begun t (silenced t) o new
+silenced_closes t o new is begun =
+    subst (λ b. Begun t (if b then closing t.course GaveUp else silenced_on t t.course.way) o new)
+    (sym (same t.silent (most_silent t.course.way) is)) begun where
+      same : (n m : ℕ) → n ≡ m → (n == m) ≡ true
+      same n m e = grind (arith, nat_tests)
+
+pub silenced_anew : (t : Machine) (y : Way) (o : Order) (new : Machine) → (t.silent ≡ most_silent t.course.way → ⊥) → t.course.way ≡ y
+    → Begun t (silenced_on t y) o new → Begun t (silenced t) o new
+silenced_anew t y o new more way begun =
+    subst (λ b. Begun t (if b then closing t.course GaveUp else silenced_on t t.course.way) o new) (sym (ne_eqb t.silent (most_silent t.course.way) more))
+    (subst (λ z. Begun t (silenced_on t z) o new) (sym way) begun)
+
+-- where gear are not searched in a survey, a visit is one of a start
+pub visited_leg : (l : Leg) (k : Kept) (n : SearchAddress)
+    → ((x : ℕ) × (l ≡ leg.Revisiting x)) ⊎ (((x : ℕ) × (y : ℕ) × (l ≡ leg.Asking x y)) ⊎ ((x : Search) × (l ≡ leg.Searching x)))
+    → Knows (way_on l) k n (search_on l) (ascent_on l) (is_searching l) Visiting → way_on l ≡ Fresh
+visited_leg l k n (inl is) knows = ap way_on is.1
+visited_leg l k n (inr (inl is)) knows =
+    absurd (let no : false ≡ true = (subst (λ (l : Leg). Knows (way_on l) k n (search_on l) (ascent_on l) (is_searching l) Visiting) is.2 knows).1 in cc)
+visited_leg l k n (inr (inr is)) knows = ap way_on is.1
+
+pub failed_visit : (t : Machine) (r : SearchAddress) → IsHeard t (Unanswered r) ⊎ ((other : Option ℕ) × IsHeard t (Inconclusive r other))
+    → Knows t.course.way t.kept t.course.number t.course.search t.course.ascent t.course.opened Visiting
+failed_visit t r (inl h) = subst (Knows t.course.way t.kept t.course.number t.course.search t.course.ascent t.course.opened) h.arrived.0 h.knows
+failed_visit t r (inr x) = subst (Knows t.course.way t.kept t.course.number t.course.search t.course.ascent t.course.opened) x.1.arrived.0 x.1.knows

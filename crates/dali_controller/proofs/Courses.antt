@@ -1,7 +1,6 @@
 use Rattle.std.proofs.Common.{◌≡◌, ℕ, ◌+◌, ◌-◌, ◌<◌, ◌≤◌, inl, inr, Bool, true, false, List, [], ◌∷◌, ◌++◌, refl, sym, ap, subst, ◌∙◌, arith, Option, Some}
 use Rattle.std.proofs.Common.{None}
 use Rattle.std.specs.Prelude.{◌==◌, nat_lt, MatchOption, is_some, suc, if◌then◌else◌}
-use Rattle.std.proofs.lemmas.Bool.{ne_eqb}
 use Rattle.std.proofs.lemmas.Bool.Decides.{nat_tests}
 use Rattle.dali_frame.specs.declared.frames.Forward.{Forward}
 use Rattle.dali_frame.specs.declared.frames.Answer.{Answer}
@@ -10,11 +9,11 @@ use Rattle.dali_frame.specs.Random.{value_of}
 use Rattle.dali_frame.specs.Priority.{LATER}
 use Rattle.dali_special.specs.declared.command.Command.{Command}
 use Rattle.dali_special.specs.Command.{frame_of}
-use Rattle.dali_script.specs.declared.trace.Entry.{Entry}
 use Rattle.dali_script.specs.declared.records.Record.{Record}
 use Rattle.dali_script.specs.declared.records.Record.TheVariants.{Reserve, Enrol}
 use Rattle.dali_script.specs.declared.stage.Stage.{Stage}
-use Rattle.dali_script.specs.declared.stage.Stage.TheVariants.{Free, Opened, Probed, Unnamed, Unanswered, Inconclusive, HighAsked, Spelled, Hunted, DrawBarred, PassedOver}
+use Rattle.dali_script.specs.declared.stage.Stage.TheVariants.{Free, Opened, Probed, Unnamed, Unanswered, Inconclusive, HighAsked, Spelled, Hunted, DrawBarred}
+use Rattle.dali_script.specs.declared.stage.Stage.TheVariants.{PassedOver}
 use Rattle.dali_script.specs.Records.{Assignment, Kept, Has, IsOnce, addresses, randoms, HasAddress, HasRandom}
 use Rattle.dali_script.specs.Stages.{stage_of}
 use Rattle.dali_script.proofs.Lists.{has_map}
@@ -28,9 +27,10 @@ use Rattle.dali_script.specs.Due.{due_after, frame_put, record_ordered}
 use Rattle.dali_search.specs.declared.step.Step.{Step}
 use Rattle.dali_search.specs.declared.step.Step.TheVariants.{Again, Found, Nobody}
 use Rattle.dali_search.specs.Ascending.{leads_to, ascent_at_first}
-use Rattle.dali_search.specs.Least.{answered}
+use Rattle.dali_search.specs.Least.{Search, step_after, probe_after, next_probe, answered}
 use Rattle.dali_controller.specs.declared.purpose.Purpose.{Purpose}
-use Rattle.dali_controller.specs.declared.purpose.Purpose.TheVariants.{Opening, Probing, Visiting, Resolving, Closing, Asking, Hunting, Calling, Drawing, PassingOver}
+use Rattle.dali_controller.specs.declared.purpose.Purpose.TheVariants.{Opening, Probing, Visiting, Resolving, Closing, Asking, Hunting, Calling, Drawing}
+use Rattle.dali_controller.specs.declared.purpose.Purpose.TheVariants.{PassingOver}
 use Rattle.dali_controller.specs.Course.{Course, turn_of, call_turn, is_yes, after_step, number_at, address_for, unless_enrolled, unfinished_at}
 use Rattle.dali_controller.specs.Course.{unfinished_among, hunted, searching_on, searching_first, here_or_later, closing, going_on, ask_or_call, next_asked}
 use Rattle.dali_controller.specs.Course.{going_on_early, visit_or_opening, next_unfinished, drawing, calling, opening_at_last, opening_anew, hunting_first}
@@ -72,6 +72,27 @@ pub put_moment : (w : Machine) (s : Stage) (c : Command) (o : Order) (new : Mach
     → o ≡ Put LATER (frame_of c) → new.course ≡ w.course → IsNext w o new → IsWhole new → IsMoment w o new
 put_moment w s c o new stage turn is same next whole =
     record { begins = rw is (λ e. absurd (cc)); course = put_course w s c o new.course stage turn is same; next = next; whole = whole }
+
+-- ---------------------------------------------------------------- a search that is answered
+
+whole : (s : Search) (answers : List (ℕ × Bool)) (probe : ℕ) (step : Step) → s.answers ≡ answers → s.probe ≡ probe → s.step ≡ step
+    → s ≡ record { answers = answers; probe = probe; step = step }
+whole s answers probe step one two three = rw (← one, ← two, ← three) refl
+
+probe_is : (s t : Step) (last next now : ℕ) → s ≡ t → (s ≡ Again → now ≡ next) → ((s ≡ Again → ⊥) → now ≡ last) → now ≡ next_probe t last next
+probe_is Again t last next now is again ended = subst (λ x. now ≡ next_probe x last next) is (again refl)
+probe_is (Found r) t last next now is again ended = subst (λ x. now ≡ next_probe x last next) is (ended (λ e. cc))
+probe_is Nobody t last next now is again ended = subst (λ x. now ≡ next_probe x last next) is (ended (λ e. cc))
+
+pub answered_is : (old new : Search) (said : Bool) (s : Step) → old.step ≡ Again → (old.step ≡ Again → new.answers ≡ old.answers ++ (old.probe, said) ∷ [])
+    → (old.step ≡ Again → s ≡ step_after new.answers)
+    → (s ≡ Again → new.probe ≡ probe_after new.answers) → ((s ≡ Again → ⊥) → new.probe ≡ old.probe) → new.step ≡ s → new ≡ answered old said
+answered_is old new said s running asked step next last kept =
+    let answers : new.answers ≡ old.answers ++ (old.probe, said) ∷ [] = asked running in
+    let after : s ≡ step_after (old.answers ++ (old.probe, said) ∷ []) = step running ∙ ap step_after answers in
+    whole new _ _ _ answers
+    (probe_is s _ old.probe _ new.probe after (λ e. next e ∙ ap probe_after answers) last)
+    (kept ∙ after)
 
 -- ---------------------------------------------------------------- what is reserved, and what is enrolled
 

@@ -1,4 +1,4 @@
-use Rattle.std.proofs.Common.{◌≡◌, ℕ, Bool, true, false, List, [], ◌∷◌, ◌++◌, refl, sym, ap, subst, ◌∙◌, Option, Some, None}
+use Rattle.std.proofs.Common.{◌≡◌, ℕ, true, false, List, [], ◌∷◌, ◌++◌, refl, sym, ap, subst, ◌∙◌, Option, Some, None}
 use Rattle.std.specs.Prelude.{◌||◌}
 use Rattle.dali_frame.specs.declared.frames.Forward.{Forward}
 use Rattle.dali_frame.specs.declared.frames.Answer.{Answer}
@@ -10,7 +10,7 @@ use Rattle.dali_script.specs.Stages.{stage_of}
 use Rattle.dali_script.specs.declared.orders.Input.TheVariants as input
 use Rattle.dali_script.specs.Due.{frame_put}
 use Rattle.dali_search.specs.Least.{at_first}
-use Rattle.dali_search.specs.Ascending.{Ascent, ascent_at_first}
+use Rattle.dali_search.specs.Ascending.{ascent_at_first}
 use Rattle.dali_controller.specs.declared.leg.Leg.{Leg}
 use Rattle.dali_controller.specs.declared.leg.Leg.TheVariants as leg
 use Rattle.dali_controller.specs.declared.purpose.Purpose.{Purpose}
@@ -25,8 +25,8 @@ use Rattle.dali_script.specs.declared.finding.Finding.{Finding}
 use Rattle.dali_script.specs.Findings.{later, finding_of}
 use Rattle.dali_controller.specs.Legs.{way_on, is_searching, from_on, silences_on, search_on, ascent_on, with_silences}
 use Rattle.dali_controller.specs.Orders.{asked_by}
-use Rattle.dali_controller.specs.States.{machine_with, course_of}
-use Rattle.dali_controller.specs.Whole.{IsOpenedOn, IsSurvey, IsUnstarted, IsWhole, Knows, Pending}
+use Rattle.dali_controller.specs.States.{machine_with}
+use Rattle.dali_controller.specs.Whole.{IsOpenedOn, IsUnstarted, IsWhole, Knows, Pending}
 use Rattle.dali_controller.proofs.Steps.{heard_by, sending, whole_at_first}
 
 -- THE LEG of a machine, and what contracts see of it.
@@ -85,16 +85,6 @@ pub told_is : (w : Machine) (f : Forward) (h : Answer) → frame_put w.last ≡ 
 told_is w f h put = rw put refl
 
 -- ---------------------------------------------------------------- what is known of a leg
-
--- gear are searched in a survey
-pub hunting_leg : (l : Leg) → is_searching l ≡ true → IsSurvey (way_on l) → l ≡ leg.Hunting (ascent_on l)
-hunting_leg (leg.Revisiting from) searching survey = absurd (cc)
-hunting_leg (leg.Asking from silences) searching survey = absurd (cc)
-hunting_leg (leg.Searching x) searching survey = absurd survey
-hunting_leg (leg.Hunting a) searching survey = refl
-
-pub hunting_same : (l : Leg) (a : Ascent) → l ≡ leg.Hunting a → l ≡ leg.Hunting (ascent_on l)
-hunting_same l a is = rw is refl
 
 -- no silence is counted where gear are searched
 pub counted_leg : (l : Leg) → silences_on l ≡ asked_by (is_searching l) (silences_on l)

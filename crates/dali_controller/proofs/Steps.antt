@@ -7,7 +7,7 @@ use Rattle.dali_frame.specs.declared.frames.Answer.{Answer}
 use Rattle.dali_frame.specs.declared.frames.Answer.TheVariants.{Silence, Byte, Damaged}
 use Rattle.dali_frame.specs.declared.numbers.SearchAddress.{SearchAddress}
 use Rattle.dali_frame.specs.Short.{short_of}
-use Rattle.dali_frame.specs.Random.{value_of, MASK24}
+use Rattle.dali_frame.specs.Random.{value_of}
 use Rattle.dali_frame.specs.Priority.{FIRST, LATER}
 use Rattle.dali_special.specs.declared.command.Target.TheVariants.{Unaddressed}
 use Rattle.dali_special.specs.declared.command.Part.TheVariants.{Middle, Low}
@@ -27,26 +27,26 @@ use Rattle.dali_script.specs.declared.stage.Stage.TheVariants.{NumberSent, Found
 use Rattle.dali_script.specs.declared.stage.Stage.TheVariants.{HighAsked, MiddleAsked, Spelled, LowSent, Hunted, Over}
 use Rattle.dali_script.specs.declared.stage.Stage.TheVariants.{WokenHigh, WokenLow, WokenMiddle, DrawFree}
 use Rattle.dali_script.specs.Records.{IsKept, with_record, Kept, Has, HasRandom, Fits, MayAdd}
-use Rattle.dali_script.specs.Scripts.{MayGive, Lawful, is_asking, ASKING, CALLING}
+use Rattle.dali_script.specs.Scripts.{MayGive, Lawful, is_asking, ASKING}
 use Rattle.dali_script.specs.Findings.{later, finding_of}
 use Rattle.dali_script.specs.Stages.{hunted, byte_heard, bytes_heard, finding_at, stage_of, next_stage, queried, named, verified, answered, doubted, Follows}
 use Rattle.dali_script.proofs.Transactions.{self, equal, middle_next, low_next, turn, gives, lawful_follows, stage_none, stage_more}
 use Rattle.dali_script.proofs.Found.{finding_after}
-use Rattle.dali_search.specs.declared.step.Step.TheVariants.{Again}
 use Rattle.dali_script.proofs.Lists.{has_map, has_last}
 use Rattle.dali_search.specs.Least.{Search}
-use Rattle.dali_search.specs.Ascending.{Ascent, asked_next, leads_to}
+use Rattle.dali_search.specs.Ascending.{Ascent}
 use Rattle.dali_script.specs.declared.orders.Order.{Order}
 use Rattle.dali_script.specs.declared.orders.Order.TheVariants.{Put, Commit, Done, Halt}
 use Rattle.dali_script.specs.declared.orders.End.{End}
-use Rattle.dali_script.specs.declared.orders.End.TheVariants.{BlockFull, GaveUp}
+use Rattle.dali_script.specs.declared.orders.End.TheVariants.{GaveUp}
 use Rattle.dali_script.specs.declared.orders.Due.TheVariants as due
 use Rattle.dali_controller.specs.declared.purpose.Purpose.{Purpose}
-use Rattle.dali_controller.specs.declared.purpose.Purpose.TheVariants.{Opening, Probing, Visiting, Resolving, Closing, Asking, Hunting, Calling, Drawing, PassingOver}
+use Rattle.dali_controller.specs.declared.purpose.Purpose.TheVariants.{Opening, Probing, Visiting, Resolving, Closing, Asking, Hunting, Calling, Drawing}
+use Rattle.dali_controller.specs.declared.purpose.Purpose.TheVariants.{PassingOver}
 use Rattle.dali_controller.specs.declared.way.Way.{Way}
 use Rattle.dali_controller.specs.declared.way.Way.TheVariants.{Fresh, Surveying}
 use Rattle.dali_script.specs.Due.{due_after, frame_put}
-use Rattle.dali_controller.specs.Course.{Course, taking, first_of, turn_of, closing_of, address_for, least_open, byte_to_send, bytes_to_send, call_turn}
+use Rattle.dali_controller.specs.Course.{Course, first_of, turn_of, closing_of, address_for, least_open, byte_to_send, bytes_to_send, call_turn}
 use Rattle.dali_controller.specs.Machine.{machine_lost, machine_heard_to, Machine, silent_after, tries_after, is_complete, is_ended, is_passed_by}
 use Rattle.dali_controller.specs.Next.{at_rest, begins_at, course_by, beginning, next_course, most_silent}
 use Rattle.dali_controller.specs.Orders.{IsBegun, AfterMaskBy, AfterMaskOn, IsOrderedTo}

@@ -26,7 +26,7 @@ use Rattle.dali_search.specs.declared.step.Step.{Step}
 use Rattle.dali_search.specs.declared.step.Step.TheVariants.{Again, Found, Nobody}
 use Rattle.dali_search.specs.Least.{Search, at_first, answered}
 use Rattle.dali_search.specs.Ascending.{Ascent, ascent_at_first, asked_next}
-use Rattle.dali_search.specs.Ascending.{begun_anew, gone_on, one_if, ascended, leads_to}
+use Rattle.dali_search.specs.Ascending.{begun_anew, gone_on, one_if, ascended}
 use Rattle.dali_script.specs.declared.orders.End.{End}
 use Rattle.dali_script.specs.declared.orders.End.TheVariants.{AllFound}
 use Rattle.dali_controller.specs.declared.purpose.Purpose.{Purpose}
@@ -39,9 +39,8 @@ use Rattle.dali_controller.specs.declared.tally.Tally.{Tally}
 use Rattle.dali_controller.specs.declared.way.Way.{Way}
 use Rattle.dali_controller.specs.declared.way.Way.TheVariants.{Fresh, Surveying}
 use Rattle.dali_controller.specs.Shorts.{has_short}
-use Rattle.dali_controller.specs.Tally.{uncounted, served, heard_call, silent_call}
+use Rattle.dali_controller.specs.Tally.{uncounted, served}
 use Rattle.dali_controller.specs.Tally.{drew, drew_at_last, asked_again, missed_by, passed_over}
-
 use Rattle.dali_frame.specs.Random.{value_of}
 
 -- THE COURSE of a machine: what its running transaction is for, and under which search address; its
@@ -225,7 +224,10 @@ passing_over c =
 -- nobody answered under the number that was found: the search that goes up begins anew
 abbrev pub missed : Course → Course
 missed c =
-    hunting (record c { ascent = begun_anew c.ascent; tally = missed_by c.tally (value_of c.number) })
+    hunting (record c {
+      ascent = begun_anew c.ascent;
+      tally = missed_by c.tally (value_of c.number);
+    })
 
 -- ---------------------------------------------------------------- a search that is answered
 
@@ -341,7 +343,12 @@ going_on_early k Surveying c = ask_or_call c (next_asked k c.from)
 -- from the first short address on
 abbrev pub asking_again : Kept → Course → Course
 asking_again k c =
-    ask_or_call (record c { from = 0; opened = false; ascent = ascent_at_first; tally = asked_again c.tally }) (next_asked k 0)
+    ask_or_call (record c {
+      from = 0;
+      opened = false;
+      ascent = ascent_at_first;
+      tally = asked_again c.tally;
+    }) (next_asked k 0)
 
 abbrev pub searching_first : Way → Course → Course
 searching_first Fresh c = searching_anew c

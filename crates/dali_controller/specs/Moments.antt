@@ -1,4 +1,4 @@
-use Rattle.std.specs.Prelude.{◌≡◌, ℕ, ◌<◌, ◌≤◌, ◌⊎◌, Bool, true, false, Option, Some, None}
+use Rattle.std.specs.Prelude.{◌≡◌, ℕ, ◌<◌, ◌≤◌, ◌⊎◌, Bool, true, Option, Some, None}
 use Rattle.std.specs.Prelude.{MatchOption}
 use Rattle.dali_frame.specs.declared.numbers.SearchAddress.{SearchAddress}
 use Rattle.dali_frame.specs.Random.{value_of, MASK24}
@@ -19,9 +19,6 @@ use Rattle.dali_script.specs.declared.stage.Stage.TheVariants.{Spelled}
 use Rattle.dali_script.specs.Records.{Kept, Has, HasRandom, IsFull, IsLeastFree}
 use Rattle.dali_script.specs.Findings.{assigned, finding_of}
 use Rattle.dali_script.specs.Stages.{stage_of}
-use Rattle.dali_frame.specs.declared.frames.Answer.{Answer}
-use Rattle.dali_search.specs.declared.step.Step.TheVariants.{Again}
-use Rattle.dali_search.specs.Ascending.{asked_next, leads_to}
 use Rattle.dali_script.specs.declared.orders.Input.{Input}
 use Rattle.dali_script.specs.declared.orders.Order.{Order}
 use Rattle.dali_script.specs.declared.orders.Order.TheVariants.{Put, Commit}
@@ -34,7 +31,7 @@ use Rattle.dali_controller.specs.declared.purpose.Purpose.TheVariants.{Asking, H
 use Rattle.dali_controller.specs.declared.purpose.Purpose.TheVariants.{Drawing, PassingOver}
 use Rattle.dali_controller.specs.declared.way.Way.{Way}
 use Rattle.dali_controller.specs.declared.way.Way.TheVariants.{Fresh, Surveying}
-use Rattle.dali_controller.specs.Course.{Course, closing_of, first_of, least_open, bytes_to_send}
+use Rattle.dali_controller.specs.Course.{Course, closing_of, first_of, least_open}
 use Rattle.dali_controller.specs.Machine.{Machine}
 use Rattle.dali_controller.specs.declared.shorts.Shorts.{Shorts}
 use Rattle.dali_controller.specs.Next.{beginning, course_by, next_course, goes_on_to}
@@ -43,7 +40,7 @@ use Rattle.dali_controller.specs.Next.{BeginsWith}
 use Rattle.dali_controller.specs.Orders.{IsBegun, IsOrderedTo, machine_ordered_on, IsAnswered}
 use Rattle.dali_controller.specs.Orders.{MayEnrolOn, is_left}
 use Rattle.dali_controller.specs.Orders.{machine_after}
-use Rattle.dali_controller.specs.Whole.{IsWhole, IsReady, IsWithinSilence, IsSurvey, Knows, Sends}
+use Rattle.dali_controller.specs.Whole.{IsWhole, IsReady, IsWithinSilence, Knows, Sends}
 
 -- What holds of a machine between its moments. Its public contract cites none of this.
 
@@ -179,7 +176,8 @@ IsFirstFree Fresh k heard o =
 IsFirstFree Surveying k heard o = o ≡ least_open k heard
 
 -- the search that goes up asks its next question: in the transaction that runs, where that has room
-pub record AsksNext (t : Machine) (c : Course) (sent : SearchAddress) (left : ℕ) (o : Order) (new : Machine) : Type 0 where
+pub record AsksNext (t : Machine) (c : Course) (sent : SearchAddress) (left : ℕ) (o : Order)
+    (new : Machine) : Type 0 where
   pub order : o ≡ question c sent left
   pub state : new ≡ machine_ordered_on t c o
   pub knows : Knows c.way t.kept c.number c.search c.ascent c.opened c.purpose

@@ -1,4 +1,5 @@
-use Rattle.std.specs.Prelude.{◌≡◌, ℕ, ◌==◌, nat_lt, Bool, true, false, not, ◌&&◌, Option, Some, None}
+use Rattle.std.specs.Prelude.{◌≡◌, ℕ, ◌==◌, nat_lt, Bool, true, false, not, ◌&&◌}
+use Rattle.std.specs.Prelude.{Option, Some, None}
 use Rattle.std.specs.Prelude.{is_some}
 use Rattle.std.specs.Prelude.{if◌then◌else◌}
 use Rattle.dali_frame.specs.declared.frames.Answer.{Answer}
@@ -14,7 +15,6 @@ use Rattle.dali_script.specs.declared.stage.Stage.TheVariants.{Unanswered, Incon
 use Rattle.dali_script.specs.Stages.{stage_of}
 use Rattle.dali_script.specs.declared.orders.Order.{Order}
 use Rattle.dali_script.specs.declared.orders.Order.TheVariants.{Put, Commit, Done, Halt}
-use Rattle.dali_script.specs.declared.orders.End.{End}
 use Rattle.dali_script.specs.declared.orders.End.TheVariants.{AllFound, BlockFull, GaveUp}
 use Rattle.dali_search.specs.declared.step.Step.{Step}
 use Rattle.dali_search.specs.declared.step.Step.TheVariants.{Again, Found, Nobody}
@@ -82,8 +82,8 @@ has_open t = is_some (least_open t.kept t.heard)
 abbrev pub may_draw : Machine → Bool
 may_draw t = nat_lt t.course.tally.draws 3 && has_open t
 
--- Where no address can be given: once a visit failed, the gear of a reservation that is unfinished may
--- have got another address meanwhile. So short addresses are asked again, six times in all.
+-- Where no address can be given: once a visit failed, the gear of a reservation that is unfinished
+-- may have got another address meanwhile. So short addresses are asked again, six times in all.
 abbrev pub asks_again : Machine → Bool
 asks_again t =
     nat_lt t.course.tally.askings 6 && t.course.tally.is_missed

@@ -29,7 +29,8 @@ use Rattle.dali_script.specs.declared.orders.End.TheVariants.{AllFound, BlockFul
 use Rattle.dali_script.specs.declared.orders.Fault.TheVariants as fault
 use Rattle.dali_controller.specs.Machine.{Machine, machine_told, is_withheld}
 use Rattle.dali_controller.specs.declared.purpose.Purpose.{Purpose}
-use Rattle.dali_controller.specs.declared.purpose.Purpose.TheVariants.{Closing, Asking, Hunting, Calling}
+use Rattle.dali_controller.specs.declared.purpose.Purpose.TheVariants.{Closing, Asking, Hunting}
+use Rattle.dali_controller.specs.declared.purpose.Purpose.TheVariants.{Calling}
 use Rattle.dali_controller.specs.declared.way.Way.{Way}
 use Rattle.dali_controller.specs.declared.way.Way.TheVariants.{Fresh, Surveying}
 use Rattle.dali_controller.specs.Course.{Course, closing_of, turn_of, address_for, least_open}

@@ -1,4 +1,4 @@
-use Rattle.std.specs.Prelude.{ℕ, ◌+◌, nat_lt, Bool, true, false, List, [], ◌∷◌, Option, Some, None}
+use Rattle.std.specs.Prelude.{ℕ, ◌+◌, nat_lt, Bool, true, false, [], ◌∷◌, Some, None}
 use Rattle.std.specs.Prelude.{if◌then◌else◌, slice_set}
 use Rattle.dali_frame.specs.Random.{MASK24}
 use Rattle.dali_controller.specs.declared.tally.Passed.{Passed}
@@ -40,12 +40,15 @@ uncounted = record {
 abbrev pub served : Tally → Tally
 served t = record t { calls = 0; failed = None; passed = none_passed }
 
--- a roll call was silent, or heard somebody: the third in a row stands for all that follow
+-- a roll call was silent, or heard somebody: the second in a row ends the survey
 abbrev pub silent_call : Tally → Tally
 silent_call t = record t { is_silent = true }
 
 abbrev pub heard_call : Tally → Tally
-heard_call t = record t { is_silent = false; calls = if nat_lt t.calls 3 then t.calls + 1 else t.calls }
+heard_call t = record t {
+  is_silent = false;
+  calls = if nat_lt t.calls 3 then t.calls + 1 else t.calls;
+}
 
 -- gear draw new random addresses, or draw them for the last time: then all is counted anew
 abbrev pub drew : Tally → Tally

@@ -18,7 +18,7 @@ use dali_script::{End, Order, Records};
 const DRAWS: u8 = 3;
 
 /// How often a survey asks short addresses again because the block is full, at the most.
-const ASKINGS: u8 = 3;
+const ASKINGS: u8 = 6;
 
 /// The search address before gear draw: `FFFExx`, of which the last byte is not sent, so that the transaction has eight
 /// frames. Gear that never drew, whose random address is `FFFFFF`, don't answer there.
@@ -172,12 +172,12 @@ impl State {
         }
     }
 
-    /// Whether short addresses are asked again because no address can be given: while a reservation is unfinished its
-    /// gear may have got another address meanwhile. So it is asked three times in all.
+    /// Whether short addresses are asked again because no address can be given. Once a visit failed, the gear of a
+    /// reservation that is unfinished may have got another address meanwhile. So it is asked six times in all.
     fn asks_again(&self, kept: &Records<'_>) -> bool
         ensures { result ≡ asks_again (machine_with self.now kept.now) }
     {
-        self.tally.askings < ASKINGS && next_unfinished(kept, 0).is_some()
+        self.tally.askings < ASKINGS && self.tally.is_missed && next_unfinished(kept, 0).is_some()
     }
 
     /// No address can be given.

@@ -21,7 +21,8 @@ use dali_search::{Ascent, Step};
 impl State {
     ghost use Rattle.dali_controller.specs.States.{machine_with, course_of};
     ghost use Rattle.dali_controller.specs.Moments.{IsHeard, IsMoment, Begun, AsksNext};
-    ghost use Rattle.dali_controller.specs.Course.{turn_of, hunting, hunting_first, hunting_on, hunting_above, passing_over};
+    ghost use Rattle.dali_controller.specs.Course.{turn_of, hunting, hunting_first, hunting_on, hunting_above};
+    ghost use Rattle.dali_controller.specs.Course.{passing_over};
     ghost use Rattle.dali_controller.specs.Next.{next_course, question, beginning, silenced_on, hunted_in};
     ghost use Rattle.dali_controller.specs.Legs.{ascent_on};
     ghost use Rattle.dali_search.specs.Ascending.{leads_to, asked_next};

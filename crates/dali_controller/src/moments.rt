@@ -85,7 +85,8 @@ impl State {
         self.go_on(kept)
     }
 
-    /// The start of a survey: each short address is asked that is not accounted for, and then gear are woken.
+    /// The start of a survey: each short address is asked that is not accounted for, and then the roll is
+    /// called.
     pub(crate) fn survey(&mut self, kept: &Records<'_>) -> Order
         requires whole { IsWhole (machine_with self.old kept.now) }
         requires unstarted { self.old.last ≡ None }

@@ -31,7 +31,7 @@ pub struct Passed {
 }
 
 impl Passed {
-    ghost use Rattle.dali_controller.specs.Tally.{none_passed, with_passed};
+    ghost use Rattle.dali_controller.specs.Tally.{with_passed};
 
     /// None.
     pub const NONE: Passed = Passed {
@@ -51,7 +51,7 @@ impl Passed {
 }
 
 impl Tally {
-    ghost use Rattle.dali_controller.specs.Tally.{uncounted, served, silent_call, heard_call, drew, drew_at_last};
+    ghost use Rattle.dali_controller.specs.Tally.{served, silent_call, heard_call, drew, drew_at_last};
     ghost use Rattle.dali_controller.specs.Tally.{asked_again, missed_by, passed_over};
     ghost use Rattle.dali_controller.specs.Next.{is_blocked, is_failed};
 

@@ -23,7 +23,8 @@ impl State {
     ghost use Rattle.dali_controller.specs.States.{machine_with};
     ghost use Rattle.dali_controller.specs.Legs.{way_on, is_searching, from_on, search_on, ascent_on};
     ghost use Rattle.dali_controller.specs.Course.{turn_of};
-    ghost use Rattle.dali_controller.specs.Whole.{IsWhole, IsReady, Knows, Sends, IsChosen, AsksOn, IsVisitedOn, IsStoredIn};
+    ghost use Rattle.dali_controller.specs.Whole.{IsWhole, IsReady, Knows, Sends, IsChosen, AsksOn, IsVisitedOn};
+    ghost use Rattle.dali_controller.specs.Whole.{IsStoredIn};
 
     /// Whether the last order is one that a machine gives in this state.
     pub fn is_whole(&self, kept: &Records<'_>) -> bool
@@ -78,7 +79,9 @@ impl State {
     fn is_ready(&self, kept: &Records<'_>) -> bool
         ensures { IsTrue result ↔ IsReady (machine_with self.now kept.now) }
     {
-        self.tries < TRIES && is_within_silence(self.leg.way(), self.purpose, self.silent) && self.knows(kept)
+        self.tries < TRIES
+            && is_within_silence(self.leg.way(), self.purpose, self.silent)
+            && self.knows(kept)
     }
 
     /// Whether what is known while its transaction runs is so.
@@ -174,13 +177,7 @@ impl State {
 
     /// Whether a hunt or a roll call sends this command after those that have sent a search address, where so many
     /// frames may follow.
-    fn asks(
-        &self,
-        sent: SearchAddress,
-        last: Option<Answer>,
-        left: u8,
-        command: Command,
-    ) -> bool
+    fn asks(&self, sent: SearchAddress, last: Option<Answer>, left: u8, command: Command) -> bool
         ensures { IsTrue result ↔ AsksOn self.now.purpose self.now.number sent last left command }
     {
         match self.purpose {

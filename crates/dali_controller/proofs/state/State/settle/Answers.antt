@@ -10,7 +10,8 @@ pub returns-in-Some-clause-moment : goal.returns-in-Some-clause-moment
 returns-in-Some-clause-moment c =
     let w = machine_with c.args.self.now c.args.kept.now in
     let same : c.in-Some.enrolled ≡ c.args.random = grind (arith, nat_tests) in
-    goes_on_moment w _ _ (settled_between w c.args.short c.in-Some.enrolled c.args.random c.requires c.in-Some.ensures.value same) c.requires.next c.go_on.ensures
+    goes_on_moment w _ _
+    (settled_between w c.args.short c.in-Some.enrolled c.args.random c.requires c.in-Some.ensures.value same) c.requires.next c.go_on.ensures
 
 pub returns-in-Some-2-clause-moment : goal.returns-in-Some-2-clause-moment
 returns-in-Some-2-clause-moment c =

@@ -1,4 +1,3 @@
-use Rattle.std.proofs.Common.{refl}
 use Rattle.dali_controller.proofs.Beginnings.{survey_moment, moment_ordered, moment_state}
 use Rattle.dali_controller.proofs.Courses.{followed_survey}
 use Rattle.dali_controller.proofs.Legs.{unstarted_leg}
