@@ -5,7 +5,9 @@ Three commands more are theirs, by which a tool brings used gear back: DTR0, SET
 """
 
 import argparse
+import collections.abc
 import fcntl
+import io
 import json
 import math
 import os
@@ -13,6 +15,7 @@ import pathlib
 import random
 import re
 import time
+import typing
 
 import lines
 
@@ -26,14 +29,16 @@ RANDOM_BYTES = {0xC2: 16, 0xC3: 8, 0xC4: 0}
 # The address bytes of commands to all gear, and to those without short address.
 ALL, UNADDRESSED = 0xFF, 0xFD
 RESET, SET_SHORT = 0x20, 0x80
+# What gives the next random address.
+Draw = collections.abc.Callable[[], int]
 
 
-def short_of(byte):
+def short_of(byte: int) -> int | None:
     """The short address that a byte `0AAAAAA1` writes, or None."""
     return byte >> 1 if byte & 0x81 == 1 else None
 
 
-def is_send_twice(frame):
+def is_send_twice(frame: bytes) -> bool:
     address_byte, data = frame
     if address_byte == INITIALISE:
         return data in (0, MASK) or short_of(data) is not None
@@ -42,7 +47,7 @@ def is_send_twice(frame):
     return address_byte == RANDOMISE and data == 0
 
 
-def is_question(frame):
+def is_question(frame: bytes) -> bool:
     """Whether a backward frame is awaited after a frame."""
     address_byte, data = frame
     if address_byte in (COMPARE, QUERY_SHORT):
@@ -55,23 +60,23 @@ def is_question(frame):
 class Gear:
     """One control gear. What it forgets at a loss of power begins anew with it."""
 
-    def __init__(self, short, random_address, level):
+    def __init__(self, short: int | None, random_address: int, level: int) -> None:
         self.short, self.random, self.level = short, random_address, level
         self.state, self.search, self.half, self.dtr0 = DISABLED, MASK24, None, 0
 
-    def kept(self):
+    def kept(self) -> tuple[int | None, int, int]:
         return self.short, self.random, self.level
 
-    def short_byte(self):
+    def short_byte(self) -> int:
         return MASK if self.short is None else 2 * self.short + 1
 
-    def is_active(self):
+    def is_active(self) -> bool:
         return self.state != DISABLED
 
-    def is_found(self):
+    def is_found(self) -> bool:
         return self.is_active() and self.random == self.search
 
-    def take(self, frame, draw):
+    def take(self, frame: bytes, draw: Draw) -> int | None:
         """Takes a frame, and returns the byte that it answers, or None. `draw` gives the next random address.
 
         Any frame that is taken makes an end of a half pair, and a send-twice command is executed at its second frame.
@@ -90,66 +95,66 @@ class Gear:
             self.obey(data)
         return self.random >> RANDOM_BYTES[data] & 0xFF if is_own and data in RANDOM_BYTES else None
 
-    def obey(self, opcode):
+    def obey(self, opcode: int) -> None:
         """Does what a command that is addressed to this gear asks for. RESET leaves the short address, and the initialisation."""
         if opcode == RESET:
             self.random, self.search, self.level = MASK24, MASK24, FULL
         if opcode == SET_SHORT and (self.dtr0 == MASK or short_of(self.dtr0) is not None):
             self.short = short_of(self.dtr0)
 
-    def take_level(self, address_byte, level):
+    def take_level(self, address_byte: int, level: int) -> None:
         """Direct arc power, to one short address, to all (`FE`) or to those without short address (`FC`)."""
         is_meant = address_byte == 0xFE or address_byte == (0xFC if self.short is None else 2 * self.short)
         if is_meant and level != MASK:
             self.level = level
 
-    def terminate(self, data, _draw):
+    def terminate(self, data: int, _draw: Draw) -> None:
         if data == 0:
             self.state = DISABLED
 
-    def set_dtr0(self, data, _draw):
+    def set_dtr0(self, data: int, _draw: Draw) -> None:
         self.dtr0 = data
 
-    def initialise(self, data, _draw):
+    def initialise(self, data: int, _draw: Draw) -> None:
         if data in (0, self.short_byte()):
             self.state = ENABLED
 
-    def randomise(self, data, draw):
+    def randomise(self, data: int, draw: Draw) -> None:
         if data == 0 and self.is_active():
             self.random = draw()
 
-    def compare(self, data, _draw):
+    def compare(self, data: int, _draw: Draw) -> int | None:
         return YES if data == 0 and self.state == ENABLED and self.random <= self.search else None
 
-    def withdraw(self, data, _draw):
+    def withdraw(self, data: int, _draw: Draw) -> None:
         if data == 0 and self.state == ENABLED and self.is_found():
             self.state = WITHDRAWN
 
-    def search_high(self, data, _draw):
+    def search_high(self, data: int, _draw: Draw) -> None:
         self.take_search(16, data)
 
-    def search_middle(self, data, _draw):
+    def search_middle(self, data: int, _draw: Draw) -> None:
         self.take_search(8, data)
 
-    def search_low(self, data, _draw):
+    def search_low(self, data: int, _draw: Draw) -> None:
         self.take_search(0, data)
 
-    def take_search(self, place, data):
+    def take_search(self, place: int, data: int) -> None:
         if self.is_active():
             self.search = self.search & ~(0xFF << place) | data << place
 
-    def program(self, data, _draw):
+    def program(self, data: int, _draw: Draw) -> None:
         if self.is_found() and (data == MASK or short_of(data) is not None):
             self.short = short_of(data)
 
-    def verify(self, data, _draw):
+    def verify(self, data: int, _draw: Draw) -> int | None:
         return YES if self.is_active() and short_of(data) is not None and short_of(data) == self.short else None
 
-    def query_short(self, data, _draw):
+    def query_short(self, data: int, _draw: Draw) -> int | None:
         return self.short_byte() if data == 0 and self.is_found() else None
 
 
-COMMANDS = {
+COMMANDS: dict[int, collections.abc.Callable[[Gear, int, Draw], int | None]] = {
     0xA1: Gear.terminate,
     0xA3: Gear.set_dtr0,
     INITIALISE: Gear.initialise,
@@ -165,26 +170,26 @@ COMMANDS = {
 }
 
 
-def check(holds, what):
+def check(holds: object, what: str) -> None:
     if not holds:
         raise lines.Fault(what)
 
 
-def number_of(text, what):
+def number_of(text: typing.Any, what: str) -> int:
     check(isinstance(text, str) and re.fullmatch("[0-9A-Fa-f]{6}", text), f"{what} is not six hexadecimal digits in quotes")
     return int(text, 16)
 
 
-def is_whole(value, most):
+def is_whole(value: object, most: int) -> bool:
     """Whether a value of a file is a whole number from 0 to the most; true and false are none."""
     return type(value) is int and 0 <= value <= most
 
 
-def has_keys(value, *keys):
+def has_keys(value: object, *keys: str) -> bool:
     return isinstance(value, dict) and set(value) == set(keys)
 
 
-def gear_of(value, what):
+def gear_of(value: typing.Any, what: str) -> Gear:
     """A gear as its file has it."""
     keys = ("short_address", "random_address", "level")
     check(has_keys(value, *keys), f"{what} is not {{{', '.join(keys)}}}")
@@ -194,7 +199,7 @@ def gear_of(value, what):
     return Gear(short, number_of(value["random_address"], f"{what}: random_address"), level)
 
 
-def read_site(text, what):
+def read_site(text: str, what: str) -> tuple[list[Gear], int]:
     """The gear that the text of a file has, and the number that was drawn last."""
     try:
         value = json.loads(text)
@@ -213,7 +218,7 @@ def read_site(text, what):
     return gear, last_drawn
 
 
-def site_text(gear, last_drawn):
+def site_text(gear: list[Gear], last_drawn: int) -> str:
     """The text of a file, a line for each gear."""
     rows = [{"short_address": it.short, "random_address": f"{it.random:06X}", "level": it.level} for it in gear]
     them = ",\n".join(f"  {json.dumps(it)}" for it in rows)
@@ -223,10 +228,10 @@ def site_text(gear, last_drawn):
 class SiteFile:
     """The file of a site. It is locked as long as a simulated bus has it, since that writes what it has in memory."""
 
-    def __init__(self, path):
+    def __init__(self, path: str | pathlib.Path) -> None:
         self.path, self.file = pathlib.Path(path), None
 
-    def lock(self, file, path):
+    def lock(self, file: io.TextIOWrapper, path: pathlib.Path) -> None:
         """Locks an open file, which is still to be the one at this path then."""
         try:
             fcntl.flock(file, fcntl.LOCK_EX | fcntl.LOCK_NB)
@@ -235,10 +240,10 @@ class SiteFile:
             is_there = False
         self.check_free(is_there)
 
-    def check_free(self, is_free):
+    def check_free(self, is_free: object) -> None:
         check(is_free, f"{self.path} is in use by another simulated bus")
 
-    def read(self):
+    def read(self) -> str | None:
         """The text of the file, or None where it is missing."""
         try:
             self.file = open(self.path, encoding="utf-8")
@@ -250,7 +255,7 @@ class SiteFile:
         except ValueError as why:
             raise lines.Fault(f"{self.path} is not JSON: {why}") from why
 
-    def write(self, text):
+    def write(self, text: str) -> None:
         """Writes a file beside it, locked before, and renames that, so that the file is whole at any moment."""
         new = self.path.with_name(f"{self.path.name}.new")
         file = open(new, "a", encoding="utf-8")
@@ -269,7 +274,7 @@ class SiteFile:
 class Bus:
     """A bus with gear, and what goes wrong on it by chance."""
 
-    def __init__(self, chosen):
+    def __init__(self, chosen: argparse.Namespace) -> None:
         self.chosen, self.chance, self.file = chosen, random.Random(chosen.seed), SiteFile(chosen.file)
         text = self.file.read()
         if text is None:
@@ -281,16 +286,16 @@ class Bus:
             self.kept = self.keeps()
         self.keep()
 
-    def keeps(self):
+    def keeps(self) -> list[tuple[int | None, int, int]]:
         return [it.kept() for it in self.gear]
 
-    def keep(self):
+    def keep(self) -> None:
         """Writes the file, where gear keep anything else than it has."""
         if self.keeps() != self.kept:
             self.kept = self.keeps()
             self.file.write(site_text(self.gear, self.last_drawn))
 
-    def draw(self):
+    def draw(self) -> int:
         """The next random address. A congruential generator of full period gives each number of 24 bits once."""
         taken = {MASK24, *(it.random for it in self.gear)}
         self.last_drawn = self.next_drawn()
@@ -298,13 +303,13 @@ class Bus:
             self.last_drawn = self.next_drawn()
         return self.last_drawn
 
-    def next_drawn(self):
+    def next_drawn(self) -> int:
         return (self.last_drawn * 1140671485 + 12820163) & MASK24
 
-    def happens(self, chance):
+    def happens(self, chance: float) -> bool:
         return self.chance.random() < chance
 
-    def put(self, frame, awaits):
+    def put(self, frame: bytes, awaits: bool) -> str:
         """What a driver tells of a frame, after which it awaits a backward frame or none.
 
         Where it lapsed, it was not sent, so no gear takes it and half pairs stay. A gear that takes a destroyed frame takes it
@@ -321,7 +326,7 @@ class Bus:
             return lines.DESTROYED
         return self.heard(answers) if awaits else lines.SILENCE
 
-    def heard(self, answers):
+    def heard(self, answers: list[int]) -> str:
         """What is heard of the backward frames. Several equal ones are one byte or damaged, others together are damaged."""
         told = lines.SILENCE
         if answers and not self.happens(self.chosen.lose):
@@ -330,7 +335,7 @@ class Bus:
         return lines.DAMAGED if self.happens(self.chosen.damage) else told
 
 
-def measure(most):
+def measure(most: float) -> collections.abc.Callable[[str], float]:
     """Reads a word that is a number from 0 to the most, with a point or not."""
 
     def read(word):
@@ -345,7 +350,7 @@ def measure(most):
     return read
 
 
-def add_words(options):
+def add_words(options: argparse.ArgumentParser) -> None:
     """The words of a simulated bus on a command line."""
     chance = {"type": measure(1), "default": 0, "metavar": "P"}
     count = lines.whole(0, MOST_GEAR)

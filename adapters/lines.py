@@ -4,6 +4,7 @@ A driver hands `serve` a function `send(priority, frame, is_question, half)`, wh
 """
 
 import argparse
+import collections.abc
 import os
 import re
 import sys
@@ -18,12 +19,12 @@ class Fault(Exception):
     """What ends a driver."""
 
 
-def byte(value):
+def byte(value: int) -> str:
     """What is told of a backward frame."""
     return f"byte {value:02X}"
 
 
-def read_put():
+def read_put() -> tuple[int, bytes, bool, int] | None:
     """The words of the next line for `send`, or None where the input ended."""
     line = sys.stdin.buffer.readline(LONGEST)
     if not line:
@@ -35,7 +36,7 @@ def read_put():
     return int(priority), bytes.fromhex(frame.decode()), asked == b"ask", int(half or 0)
 
 
-def tell(told):
+def tell(told: str) -> None:
     """Writes an answer, past all buffers."""
     try:
         os.write(sys.stdout.fileno(), f"{told}\n".encode())
@@ -43,13 +44,13 @@ def tell(told):
         raise Fault(f"the answer '{told}' cannot be written: {why.strerror}") from why
 
 
-def serve(send):
+def serve(send: collections.abc.Callable[[int, bytes, bool, int], str]) -> None:
     """Answers each line with what `send` tells of its frame, until the input ends."""
     while words := read_put():
         tell(send(*words))
 
 
-def whole(least, most):
+def whole(least: int, most: int) -> collections.abc.Callable[[str], int]:
     """Reads a word of the command line that is a whole number from the least to the most."""
 
     def read(word):
@@ -60,7 +61,7 @@ def whole(least, most):
     return read
 
 
-def run(main):
+def run(main: collections.abc.Callable[[], None]) -> None:
     """Runs a driver. A fault ends it with status 1 and a message on standard error."""
     name = os.path.basename(sys.argv[0])
     try:

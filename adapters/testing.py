@@ -1,5 +1,6 @@
 """What the tests of the drivers are made of: a driver that runs, a small controller, and a server that plays lines."""
 
+import collections.abc
 import os
 import pathlib
 import select
@@ -8,6 +9,7 @@ import subprocess
 import tempfile
 import threading
 import time
+import typing
 
 import lines
 
@@ -19,22 +21,22 @@ OPENING = (("A100", 0), ("A5FF", 1), ("A5FF", 2), ("A700", 1), ("A700", 2))
 class Driver:
     """A driver that runs, as the program has it."""
 
-    def __init__(self, name, *words):
+    def __init__(self, name: str, *words: str | int | pathlib.Path) -> None:
         pipes = {"stdin": subprocess.PIPE, "stdout": subprocess.PIPE, "stderr": subprocess.PIPE}
         # A driver flushes its answers by itself, not because its environment says so.
         env = {name: value for name, value in os.environ.items() if name != "PYTHONUNBUFFERED"}
         self.ran = subprocess.Popen([HERE / name, *map(str, words)], bufsize=0, env=env, **pipes)
 
-    def __enter__(self):
+    def __enter__(self) -> typing.Self:
         return self
 
-    def __exit__(self, *_):
+    def __exit__(self, *_: object) -> None:
         self.ran.kill()
         for pipe in (self.ran.stdin, self.ran.stdout, self.ran.stderr):
             pipe.close()
         self.ran.wait()
 
-    def line(self, seconds=10):
+    def line(self, seconds: float = 10) -> str:
         """The next line of its standard output; what it wrote so far where it writes none."""
         found = b""
         while not found.endswith(b"\n") and select.select([self.ran.stdout], [], [], seconds)[0]:
@@ -44,14 +46,14 @@ class Driver:
             found += more
         return found.decode()
 
-    def say(self, text):
+    def say(self, text: str) -> None:
         self.ran.stdin.write(text.encode())
 
-    def put(self, frame, asked="tell", priority=1, half=0):
+    def put(self, frame: str, asked: str = "tell", priority: int = 1, half: int = 0) -> str:
         self.say(f"put {priority} {frame} {asked}{f' pair {half}' if half else ''}\n")
         return self.line().removesuffix("\n")
 
-    def end(self, text=""):
+    def end(self, text: str = "") -> tuple[str, str, int]:
         """What it still writes when its input ends with this text, what it says, and its status."""
         wrote, said = self.ran.communicate(text.encode(), timeout=10)
         return wrote.decode(), said.decode(), self.ran.returncode
@@ -60,10 +62,10 @@ class Driver:
 class Controller:
     """Gives gear short addresses, by `put(frame, asked, priority, half)`."""
 
-    def __init__(self, put):
+    def __init__(self, put: collections.abc.Callable[[str, str, int, int], str]) -> None:
         self.put, self.reserved, self.table, self.frames = put, {}, {}, 0
 
-    def transact(self, *frames):
+    def transact(self, *frames: tuple[str, str, int]) -> list[str]:
         """What is told of the frames of a transaction. It begins again where one was destroyed or lapsed."""
         while True:
             told = []
@@ -77,15 +79,15 @@ class Controller:
             else:
                 return told
 
-    def under(self, number, *frames):
+    def under(self, number: int, *frames: tuple[str, str, int]) -> list[str]:
         """A transaction under a search address."""
         search = (f"{byte:02X}{number >> place & 0xFF:02X}" for byte, place in ((0xB1, 16), (0xB3, 8), (0xB5, 0)))
         return self.transact(*((it, "tell", 0) for it in search), *frames)[3:]
 
-    def is_below(self, number):
+    def is_below(self, number: int) -> bool:
         return self.under(number, ("A900", "ask", 0)) != ["silence"]
 
-    def search(self):
+    def search(self) -> int | None:
         """The least random address, or None."""
         if not self.is_below(0xFFFFFE):
             return None
@@ -95,7 +97,7 @@ class Controller:
             low, high = (low, middle) if self.is_below(middle) else (middle + 1, high)
         return low
 
-    def visit(self, number):
+    def visit(self, number: int) -> None:
         """Gives the gear at this random address a short address, if it has none, and takes it out of the search."""
         told = self.under(number, ("BB00", "ask", 0))[0]
         if told == "byte FF":
@@ -107,7 +109,7 @@ class Controller:
             self.table[byte >> 1] = number
             self.under(number, ("AB00", "tell", 0))
 
-    def run(self, quiet=1):
+    def run(self, quiet: int = 1) -> dict[int, int]:
         """Commissions, until so many openings one after the other found nobody."""
         left = quiet
         while left:
@@ -126,14 +128,14 @@ class Scripted(threading.Thread):
     `< HEX` is a request that has to come, `> HEX` is sent, `wait SECONDS` waits, `end` closes the connection at once.
     """
 
-    def __init__(self, *connections):
+    def __init__(self, *connections: list[str]) -> None:
         super().__init__(daemon=True)
         self.connections, self.wrong = connections, []
         self.listener = socket.create_server(("127.0.0.1", 0))
         self.port = self.listener.getsockname()[1]
         self.start()
 
-    def run(self):
+    def run(self) -> None:
         for at, them in enumerate(self.connections):
             client, _ = self.listener.accept()
             if at + 1 == len(self.connections):
@@ -141,7 +143,7 @@ class Scripted(threading.Thread):
             with client:
                 self.play(client, them)
 
-    def play(self, client, them):
+    def play(self, client: socket.socket, them: list[str]) -> None:
         for line in them:
             word, *rest = line.split()
             if word == "<":
@@ -159,7 +161,7 @@ class Scripted(threading.Thread):
             self.wrong.append(f"nothing more, and not {more.hex(' ')}")
 
 
-def received(client, count):
+def received(client: socket.socket, count: int) -> bytes:
     """So many bytes of a connection, or as many as come before its end."""
     found = b""
     while len(found) < count and (more := client.recv(count - len(found))):
@@ -167,7 +169,7 @@ def received(client, count):
     return found
 
 
-def record(file):
+def record(file: str) -> None:
     """Writes a commissioning of two gear, as a stand-in is spoken to."""
     wrote = ["# A commissioning of two gear by the controller of adapters/testing.py, over adapters/stand_in."]
     with tempfile.TemporaryDirectory() as folder, Driver("stand_in", 0, f"{folder}/site", "--gear", 2, "--seed", 1) as server:

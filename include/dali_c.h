@@ -21,6 +21,9 @@
 extern "C" {
 #endif
 
+/* The version of the library, whose struct and calls these are. */
+#define DALI_VERSION "0.2.0"
+
 /* How many short addresses there are, and the most records of a kind. */
 #define DALI_ADDRESSES 64
 /* The most frames of a running transaction. */

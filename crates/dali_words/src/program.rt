@@ -7,7 +7,7 @@ use clap::{Arg, ArgAction, Command, value_parser};
 use std::alloc::{AllocError, Global};
 
 /// The version of all programs.
-const VERSION: &str = "0.1.0";
+const VERSION: &str = "0.2.0";
 
 /// What a value has to be.
 #[derive(Clone, Copy)]

@@ -1,0 +1,476 @@
+/* Measures the calls of the library on a bare ARMv6-M processor, as qemu simulates it: whole commissionings of 64
+ * simulated gear, and in them of each call how many instructions it takes and how much of the stack.
+ *
+ * qemu lets a fixed time pass for each instruction (-icount shift=7: 128 ns), and the counter of the processor counts
+ * down once in 40 ns, so that the difference of two counts gives the number of instructions exactly. Each call runs on
+ * a stack of its own, which is painted before the first call; how far it is changed is how much the calls took. */
+#include "dali_c.h"
+#include "gear.h"
+#include "support.h"
+
+#include <string.h>
+
+#define SYSTICK_CONTROL (*(volatile uint32_t *)0xE000E010)
+#define SYSTICK_RELOAD (*(volatile uint32_t *)0xE000E014)
+#define SYSTICK_COUNT (*(volatile uint32_t *)0xE000E018)
+/* On, without interrupts, by the clock of the processor, which is 25 MHz; that it passed 0. */
+#define SYSTICK_ON 0x5
+#define SYSTICK_PASSED 0x10000
+#define SYSTICK_MOST UINT32_C(0xFFFFFF)
+
+#define BANDS 4
+#define STACK_WORDS (48 * 1024 / 4)
+#define PAINT UINT32_C(0x5C5C5C5C)
+/* The calls that do not drive a commissioning are made at each moment of so many. */
+#define BESIDE 13
+
+/* Where a thing stands in a word decides how fast it is copied, so all stand at the beginning of one. */
+#define ALIGNED __attribute__((aligned(8)))
+
+/* One commissioning, and what the calls beside work upon. */
+struct course {
+    struct bus bus;
+    struct told told;
+    unsigned enrolled;
+    unsigned moment;
+    struct dali_machine machine ALIGNED;
+    struct dali_order order ALIGNED;
+    struct dali_machine other_machine ALIGNED;
+    struct dali_order other_order ALIGNED;
+    struct dali_records records ALIGNED;
+    struct dali_record addition ALIGNED;
+    struct dali_table table ALIGNED;
+    uint8_t due;
+};
+
+/* What a call may take: the registers of its first four arguments. */
+struct arguments {
+    uintptr_t at[4];
+};
+
+/* What was counted of a call while so many gear were enrolled. */
+struct figure {
+    uint32_t calls;
+    uint32_t most;
+    uint64_t sum;
+};
+
+struct call {
+    const char *name;
+    void (*entry)(void);
+    /* Readies one call at this moment. 0 where there is none to make. */
+    int (*ready)(struct course *course, struct arguments *arguments);
+    struct figure figures[BANDS];
+};
+
+static uint32_t stacks[16][STACK_WORDS] ALIGNED;
+static struct course course;
+/* Of the two calls that take a step, those that ordered a later frame of a transaction, for which the bus waits. */
+static struct figure later[2][BANDS];
+
+/* Each measured call: how it is readied. The first one drives the commissioning, and the second one
+ * takes the same step with a copy. */
+
+#define AT(thing) ((uintptr_t)&(thing))
+
+static int ready_step(struct course *it, struct arguments *arguments)
+{
+    *arguments = (struct arguments){{AT(it->machine), it->told.input, it->told.byte, AT(it->order)}};
+    return 1;
+}
+
+/* The same step, of a copy. */
+static int ready_go(struct course *it, struct arguments *arguments)
+{
+    it->other_machine = it->machine;
+    *arguments = (struct arguments){{AT(it->other_machine), it->told.input, it->told.byte, AT(it->other_order)}};
+    return 1;
+}
+
+static int ready_check(struct course *it, struct arguments *arguments)
+{
+    *arguments = (struct arguments){{AT(it->machine)}};
+    return 1;
+}
+
+static int ready_due(struct course *it, struct arguments *arguments)
+{
+    *arguments = (struct arguments){{AT(it->machine), AT(it->due)}};
+    return 1;
+}
+
+static int ready_last(struct course *it, struct arguments *arguments)
+{
+    *arguments = (struct arguments){{AT(it->machine), AT(it->other_order)}};
+    return 1;
+}
+
+static int ready_records(struct course *it, struct arguments *arguments)
+{
+    *arguments = (struct arguments){{AT(it->machine), AT(it->records)}};
+    return 1;
+}
+
+static int ready_table(struct course *it, struct arguments *arguments)
+{
+    *arguments = (struct arguments){{AT(it->machine), AT(it->table)}};
+    return 1;
+}
+
+static int ready_machine_new(struct course *it, struct arguments *arguments)
+{
+    dali_machine_records(&it->machine, &it->records);
+    *arguments = (struct arguments){{AT(it->other_machine), 0, AT(it->records)}};
+    return 1;
+}
+
+/* The records without the enrolment that is added. */
+static int ready_records_add(struct course *it, struct arguments *arguments)
+{
+    dali_machine_records(&it->machine, &it->records);
+    if (it->records.enrolled.count == 0)
+        return 0;
+    it->records.enrolled.count--;
+    it->addition = (struct dali_record){DALI_ENROL, it->records.enrolled.pairs[it->records.enrolled.count]};
+    *arguments = (struct arguments){{AT(it->records), AT(it->addition)}};
+    return 1;
+}
+
+static int ready_records_new(struct course *it, struct arguments *arguments)
+{
+    *arguments = (struct arguments){{AT(it->records), 0, DALI_ADDRESSES - 1}};
+    return 1;
+}
+
+#define CALL(name, ready) {#name, (void (*)(void))name, ready, {{0}}}
+
+static struct call calls[] = {
+    CALL(dali_machine_step, ready_step),
+    CALL(dali_machine_go, ready_go),
+    CALL(dali_machine_check, ready_check),
+    CALL(dali_machine_due, ready_due),
+    CALL(dali_machine_last, ready_last),
+    CALL(dali_machine_records, ready_records),
+    CALL(dali_machine_table, ready_table),
+    CALL(dali_machine_new, ready_machine_new),
+    CALL(dali_records_add, ready_records_add),
+    CALL(dali_records_new, ready_records_new),
+};
+
+#define CALLS (sizeof calls / sizeof *calls)
+_Static_assert(CALLS <= sizeof stacks / sizeof *stacks, "each call has a stack");
+
+/* The structs of the header, which tools/measure/firmware lists. */
+
+#define STRUCT(name) {#name, sizeof(struct name)},
+
+static const struct {
+    const char *name;
+    uint32_t size;
+} structs[] = {
+#include "structs.h"
+};
+
+static void must(int is_so, const char *what)
+{
+    if (!is_so) {
+        say("wrong ");
+        say(what);
+        say("\n");
+        end(0);
+    }
+}
+
+/* How many counts pass from before a call on this stack, with these arguments, to after it. What it answers. */
+__attribute__((naked)) static uint32_t counted(const struct arguments *arguments, void (*entry)(void), uint32_t *top,
+                                               uint32_t *counts)
+{
+    __asm__ volatile("push {r3, r4, r5, r6, r7, lr}\n"
+                     "mov r4, sp\n"
+                     "mov r7, r1\n"
+                     "mov r6, r0\n"
+                     "ldr r5, =0xE000E018\n"
+                     "mov sp, r2\n"
+                     "ldm r6!, {r0, r1, r2, r3}\n"
+                     "ldr r6, [r5]\n"
+                     "blx r7\n"
+                     "ldr r5, [r5]\n"
+                     "mov sp, r4\n"
+                     "subs r6, r6, r5\n"
+                     "ldr r3, [sp]\n"
+                     "str r6, [r3]\n"
+                     "pop {r3, r4, r5, r6, r7, pc}\n"
+                     ".ltorg\n");
+}
+
+/* Takes two instructions: this one, and the return. */
+__attribute__((naked)) static void two_instructions(void)
+{
+    __asm__ volatile("movs r0, #0\n"
+                     "bx lr\n");
+}
+
+/* So many turns of three instructions but for the last one, which takes two, and the return. */
+__attribute__((naked)) static void turns(void)
+{
+    __asm__ volatile("1: subs r0, #1\n"
+                     "beq 2f\n"
+                     "b 1b\n"
+                     "2: bx lr\n");
+}
+
+/* The number of instructions of a call, from its first one to its return. */
+static uint32_t instructions(const struct arguments *arguments, void (*entry)(void), uint32_t *top, uint32_t *status)
+{
+    uint32_t counts;
+
+    (void)SYSTICK_CONTROL; /* which forgets that it passed 0 */
+    SYSTICK_COUNT = 0;
+    *status = counted(arguments, entry, top, &counts);
+    must((SYSTICK_CONTROL & SYSTICK_PASSED) == 0, "a call is too long to be counted");
+    /* 40 ns a count, 128 ns an instruction, and two are beside the call: blx, and the load of the second count. */
+    return ((counts & SYSTICK_MOST) * 5 + 8) / 16 - 2;
+}
+
+static void check_counting(void)
+{
+    struct arguments some = {{1000}};
+    uint32_t *top = stacks[0] + STACK_WORDS;
+    uint32_t status;
+
+    must(instructions(&some, two_instructions, top, &status) == 2, "two instructions are counted otherwise");
+    must(instructions(&some, turns, top, &status) == 3000, "3000 instructions are counted otherwise");
+    for (some.at[0] = 1; some.at[0] < 200; some.at[0]++)
+        must(instructions(&some, turns, top, &status) == 3 * some.at[0], "some instructions are counted otherwise");
+}
+
+#ifdef SAMPLED
+/* Where a call stands, once in so many counts, and where the calls that led there go on: how often, by the address in
+ * the program. Each function keeps the frame of its caller in r7. */
+
+#define SAMPLE_COUNTS 10007
+#define SYSTICK_INTERRUPT 0x2
+/* More than the program has. */
+#define CODE_BYTES (256 * 1024)
+
+static uint32_t samples_at[CODE_BYTES / 2], samples_above[CODE_BYTES / 2];
+static const uint32_t *sampled_stack;
+
+__attribute__((used)) static void sample(const uint32_t *interrupted, const uint32_t *frame)
+{
+    samples_at[interrupted[6] % CODE_BYTES / 2]++;
+    while (frame >= sampled_stack && frame < sampled_stack + STACK_WORDS) {
+        samples_above[frame[1] % CODE_BYTES / 2]++;
+        frame = (const uint32_t *)frame[0];
+    }
+}
+
+__attribute__((naked)) void tick(void)
+{
+    __asm__ volatile("mov r0, sp\n"
+                     "mov r1, r7\n"
+                     "ldr r2, =sample\n"
+                     "bx r2\n"
+                     ".ltorg\n");
+}
+
+/* One call, whose samples are taken where it is the chosen one. */
+static uint32_t measured(const struct call *call, const struct arguments *arguments, uint32_t *top, uint32_t *status)
+{
+    uint32_t counts;
+
+    sampled_stack = top - STACK_WORDS;
+    SYSTICK_RELOAD = SAMPLE_COUNTS;
+    SYSTICK_CONTROL = SYSTICK_ON | (call->entry == (void (*)(void))SAMPLED ? SYSTICK_INTERRUPT : 0);
+    *status = counted(arguments, call->entry, top, &counts);
+    SYSTICK_CONTROL = SYSTICK_ON;
+    return 0;
+}
+
+static void report_samples(const char *kind, const uint32_t *samples)
+{
+    for (uint32_t at = 0; at < CODE_BYTES / 2; at++) {
+        if (samples[at] > 0) {
+            say(kind);
+            say_number(at * 2);
+            say_number(samples[at]);
+            say("\n");
+        }
+    }
+}
+#else
+static uint32_t measured(const struct call *call, const struct arguments *arguments, uint32_t *top, uint32_t *status)
+{
+    return instructions(arguments, call->entry, top, status);
+}
+#endif
+
+static void note(struct figure *bands, uint32_t count)
+{
+    struct figure *figure = &bands[course.enrolled < 16 * BANDS ? course.enrolled / 16 : BANDS - 1];
+
+    figure->calls++;
+    figure->sum += count;
+    figure->most = count > figure->most ? count : figure->most;
+}
+
+/* How many instructions the call took. */
+static uint32_t measure(struct call *call, uint32_t *stack)
+{
+    struct arguments arguments;
+    uint32_t count, status;
+
+    if (!call->ready(&course, &arguments))
+        return 0;
+    count = measured(call, &arguments, stack + STACK_WORDS, &status);
+    must((uint8_t)status == DALI_OK, call->name);
+    note(call->figures, count);
+    return count;
+}
+
+static void measure_beside(void)
+{
+    for (unsigned at = 2; at < CALLS; at++)
+        measure(&calls[at], stacks[at]);
+}
+
+/* Does what the step ordered. 0 where the machine has ended. */
+static int follow(void)
+{
+    const struct dali_order *order = &course.order;
+
+    if (order->kind == DALI_PUT)
+        course.told = bus_send(&course.bus, order->address_byte, order->opcode_byte);
+    else if (order->kind == DALI_COMMIT)
+        course.told = (struct told){DALI_COMMITTED, 0};
+    course.enrolled += order->kind == DALI_COMMIT && order->record.kind == DALI_ENROL;
+    return order->kind == DALI_PUT || order->kind == DALI_COMMIT;
+}
+
+/* Each gear has an address of its own, and the table names it. */
+static int is_commissioned(void)
+{
+    uint8_t is_held[UINT8_MAX + 1] = {0};
+    unsigned held = 0;
+
+    for (unsigned at = 0; at < course.bus.gear_count; at++) {
+        uint8_t byte = course.bus.gear[at].short_byte;
+
+        held += byte != GEAR_MASK && !is_held[byte];
+        is_held[byte] = 1;
+    }
+    return held == course.bus.gear_count && course.enrolled == held && course.order.kind == DALI_DONE;
+}
+
+/* A machine with these records takes steps until it has ended. */
+static void run(uint8_t start)
+{
+    must(dali_machine_new(&course.machine, 0, &course.records) == DALI_OK, "no machine");
+    course.told = (struct told){start, 0};
+    do {
+        uint32_t counts[2];
+
+        if (course.moment++ % BESIDE == 0)
+            measure_beside();
+        counts[1] = measure(&calls[1], stacks[1]);
+        counts[0] = measure(&calls[0], stacks[0]);
+        if (course.order.kind == DALI_PUT && course.order.priority == 1) {
+            note(later[0], counts[0]);
+            note(later[1], counts[1]);
+        }
+    } while (follow());
+    measure_beside();
+    must(is_commissioned(), "the gear are not commissioned");
+}
+
+/* A machine comes up without records. */
+static void run_new(uint8_t start)
+{
+    must(dali_records_new(&course.records, 0, DALI_ADDRESSES - 1) == DALI_OK, "no records");
+    course.enrolled = 0;
+    run(start);
+}
+
+/* A machine comes up with the records of the one before. */
+static void run_again(uint8_t start)
+{
+    must(dali_machine_records(&course.machine, &course.records) == DALI_OK, "no records");
+    run(start);
+}
+
+/* A commissioning, machines that come up with its records, and one without records that asks all gear. */
+static void commission(uint64_t seed)
+{
+    memset(&course, 0, sizeof course);
+    bus_new(&course.bus, seed, BUS_MOST_GEAR);
+    run_new(DALI_START);
+    run_again(DALI_START);
+    run_again(DALI_SURVEY);
+    run_new(DALI_SURVEY);
+    say("frames");
+    say_number(course.bus.frames);
+    say("\n");
+}
+
+static uint32_t depth(const uint32_t *stack)
+{
+    unsigned at = 0;
+
+    while (at < STACK_WORDS && stack[at] == PAINT)
+        at++;
+    must(at > 0, "a stack is too small");
+    return (STACK_WORDS - at) * 4;
+}
+
+static void report_figures(const struct figure *bands)
+{
+    for (unsigned band = 0; band < BANDS; band++) {
+        say_number(bands[band].calls);
+        say_number(bands[band].sum);
+        say_number(bands[band].most);
+    }
+    say("\n");
+}
+
+static void report_call(const struct call *call, const uint32_t *stack)
+{
+    say("call ");
+    say(call->name);
+    say_number(depth(stack));
+    report_figures(call->figures);
+}
+
+/* The simulated gear are those of the example, which can be killed; here nothing is. */
+void stop_on_bus(void)
+{
+}
+
+int main(void)
+{
+    SYSTICK_RELOAD = SYSTICK_MOST;
+    SYSTICK_CONTROL = SYSTICK_ON;
+    check_counting();
+    for (uint32_t *word = stacks[0]; word < stacks[CALLS]; word++)
+        *word = PAINT;
+    for (unsigned run = 0; run < COMMISSIONINGS; run++)
+        commission(SEED + run);
+    for (unsigned at = 0; at < sizeof structs / sizeof *structs; at++) {
+        say("struct ");
+        say(structs[at].name);
+        say_number(structs[at].size);
+        say("\n");
+    }
+    for (unsigned at = 0; at < CALLS; at++)
+        report_call(&calls[at], stacks[at]);
+    for (unsigned at = 0; at < 2; at++) {
+        say("later ");
+        say(calls[at].name);
+        say_number(0);
+        report_figures(later[at]);
+    }
+#ifdef SAMPLED
+    report_samples("at", samples_at);
+    report_samples("above", samples_above);
+#endif
+    return 1;
+}
