@@ -67,7 +67,8 @@ AreCalm (e ∷ es) = IsCalm e × AreCalm es
 -- address
 abbrev pub PassesOver : World → ℕ → Forward → Type 0
 PassesOver w c f =
-    (command_of f ≡ Withdraw) × ((r : SearchAddress) × (stage_of (trace_running w c) ≡ NumberSent r))
+    (command_of f ≡ Withdraw)
+    × ((r : SearchAddress) × (stage_of (trace_running w c) ≡ NumberSent r))
 
 abbrev pub PassesNobody : World → Event → Type 0
 PassesNobody w (event.Sent c f h) = PassesOver w c f → ⊥

@@ -169,10 +169,10 @@ pub fn records_are_kept()
         → KeepsRecords p (after p capacity front) }
 {}
 
-/// ROLL CALLS ARE ANSWERED, gear by gear, in every run. Where a controller initialises gear, and in the same transaction
-/// asks with COMPARE who is at most `FFFFFF`, each gear that had power from the first INITIALISE on has a short address
-/// by then, or answers. Its initialisation did not run out in that time, and the bus was not quiet between the two
-/// INITIALISE. Nothing is supposed of other gear, of other controllers or of what happened before.
+/// ROLL CALLS ARE ANSWERED, gear by gear, in every run. Where a controller initialises gear, and in the same
+/// transaction asks with COMPARE who is at most `FFFFFF`, each gear that had power from the first INITIALISE on has a
+/// short address by then, or answers. Its initialisation did not run out in that time, and the bus was not quiet
+/// between the two INITIALISE. Nothing is supposed of other gear, of other controllers or of what happened before.
 pub fn roll_calls_are_answered()
     ensures { (p : Plan) (capacity : ℕ) (front : List Event) (c : ℕ) (first : Entry) (es : List Event) (compare : Entry)
         (g : ℕ) → CallsFor p capacity front c first es compare g

@@ -28,7 +28,8 @@ use Rattle.dali_script.specs.Findings.{finding_from, finding_of}
 use Rattle.dali_script.proofs.Transactions.{positive, asks_hunting, self, equal, middle_next, low_next, middle_same, low_same, Tracks, tracks, follows_lawful}
 use Rattle.dali_script.proofs.Transactions.{stage_none, stage_more}
 use Rattle.dali_script.proofs.Senders.{sent_more}
-use Rattle.dali_script.specs.Stages.{hunted, doubted, named, queried, answered, verified, byte_heard, bytes_heard, number_heard, next_stage, stage_from, stage_of}
+use Rattle.dali_script.specs.Stages.{hunted, doubted, named, queried, answered, verified, byte_heard, bytes_heard, number_heard, next_stage, stage_from}
+use Rattle.dali_script.specs.Stages.{stage_of}
 use Rattle.dali_script.specs.Stages.{Follows}
 use Rattle.dali_script.specs.Stages.{finding_at, IsSearched, IsAsked, IsTrace}
 

@@ -32,7 +32,8 @@ use Rattle.dali_script.specs.Scripts.{is_asking, AreAsking, ASKING, Close, ArcPo
 use Rattle.dali_script.specs.Scripts.{GoesOn}
 use Rattle.dali_script.proofs.Lists.{has_map}
 use Rattle.dali_script.proofs.Giving.{first_of_both, second_of_both, may_give_by, may_give_from, may_give_some_by, may_give_some_from}
-use Rattle.dali_script.specs.Stages.{leads, hunted, IsHunting, IsBeforeDraw, IsDoubting, given, may_give_if, follows, may_follow, doubted, named, queried, answered, verified, byte_heard}
+use Rattle.dali_script.specs.Stages.{leads, hunted, IsHunting, IsBeforeDraw, IsDoubting, given, may_give_if, follows, may_follow, doubted, named, queried}
+use Rattle.dali_script.specs.Stages.{answered, verified, byte_heard}
 use Rattle.dali_script.specs.Stages.{bytes_heard, number_heard}
 use Rattle.dali_script.specs.Stages.{next_stage, stage_from, stage_of, Follows}
 
@@ -157,7 +158,8 @@ tracks_call : (b : Block) (xs : List Assignment) (r : SearchAddress) (cs : List 
 unfolding Tracks
 tracks_call b xs r cs ask few = (
   turn refl refl,
-  λ a h w. (turn refl refl, λ a h w. (turn refl refl, λ a h w. tracks_hunt b xs (record { high = r.high; middle = r.middle; low = r.low }) None CALLING cs ask few)),
+  λ a h w. (turn refl refl, λ a h w. (turn refl refl, λ a h w. tracks_hunt b xs (record { high = r.high; middle = r.middle; low = r.low })
+      None CALLING cs ask few)),
 )
 
 tracks_draw : (b : Block) (xs : List Assignment) (high middle : ℕ)

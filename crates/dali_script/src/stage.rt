@@ -75,8 +75,8 @@ pub enum Stage {
 }
 
 impl Stage {
-    ghost use Rattle.dali_script.specs.Stages.{leads, next_stage, doubted, queried, verified, follows, given, may_follow};
-    ghost use Rattle.dali_script.specs.Stages.{finding_at, may_come};
+    ghost use Rattle.dali_script.specs.Stages.{leads, next_stage, doubted, queried, verified, follows, given};
+    ghost use Rattle.dali_script.specs.Stages.{may_follow, finding_at, may_come};
 
     /// How many frames of a hunt may follow its first three: eight in all.
     const ASKING: u8 = 5;

@@ -33,7 +33,8 @@ use Rattle.dali_events.specs.World.{World, gear_at, controller_at, start}
 use Rattle.dali_events.specs.Happens.{happens, trace_running, entry, goes_on}
 use Rattle.dali_events.specs.Allowed.{Allowed, MaySend}
 use Rattle.dali_events.specs.Runs.{after, after_all, AllAllowed}
-use Rattle.dali_events.specs.Searching.{EachPowered, IsCalm, AreCalm, CompletesOpening, HIGHEST, sent_event, up_to_compare, SearchesAll, NobodyAnswers, number_at}
+use Rattle.dali_events.specs.Searching.{EachPowered, IsCalm, AreCalm, CompletesOpening, HIGHEST, sent_event, up_to_compare, SearchesAll, NobodyAnswers}
+use Rattle.dali_events.specs.Searching.{number_at}
 use Rattle.dali_events.specs.Searching.{HasShort, PassesOver, PassesNobody, PassNobody}
 use Rattle.dali_events.proofs.Invariant.Growing.{after_both, allowed_front, allowed_rest}
 use Rattle.dali_script.proofs.Members.{Each, has_right}
@@ -176,14 +177,17 @@ ready_taken w c f reach may known calm kept below ready i in_row =
     let there : i < length w.gear = subst (λ n. i < n) (row_length reach (command_of f) 0 w.gear w.left) in_row in
     ready_taken_one (controller_at w c).records.block (controller_at w c).records.reserved (stage_of (trace_running w c)) (command_of f) reach
     (drawn_of reach (command_of f) 0 w.gear w.left) i (gear_at w i)
-    (get_or (row_after reach (command_of f) 0 w.gear w.left) i fresh) (follows_of w c f may) calm (λ n is at. kept (is, (n, at))) below (knows_running w c known.knows i there) (ready i there)
+    (get_or (row_after reach (command_of f) 0 w.gear w.left) i fresh) (follows_of w c f may) calm (λ n is at. kept (is, (n, at))) below
+        (knows_running w c known.knows i there) (ready i there)
     (moves_at reach (command_of f) w.gear w.left i there)
 
-ready_event : (p : Plan) → IsPlan p → (w : World) (e : Event) → Allowed w e → IsCalm e → PassesNobody w e → IsKnown w → Draws (numbers_of p) w.gear w.drawn w.left
+ready_event : (p : Plan) → IsPlan p → (w : World) (e : Event) → Allowed w e → IsCalm e → PassesNobody w e → IsKnown w
+    → Draws (numbers_of p) w.gear w.drawn w.left
     → ReadyAll w.gear
     → ReadyAll (happens w e).gear
 ready_event p plan w (event.Sent c f h) here calm kept known draws ready =
-    ready_taken w c f Everyone here.may known calm kept (below_of p plan w (event.Sent c f h) (drawn_of Everyone (command_of f) 0 w.gear w.left) draws refl) ready
+    ready_taken w c f Everyone here.may known calm kept (below_of p plan w (event.Sent c f h) (drawn_of Everyone (command_of f) 0 w.gear w.left) draws refl)
+        ready
 ready_event p plan w (event.Destroyed c f set) here calm kept known draws ready =
     ready_taken w c f (Only set) here.may known calm kept (below_of p plan w (event.Destroyed c f set)
     (drawn_of (Only set) (command_of f) 0 w.gear w.left) draws refl) ready
@@ -192,7 +196,8 @@ ready_event p plan w (event.Power g on) here calm kept known draws ready = absur
 ready_event p plan w (event.Expired g) here calm kept known draws ready = absurd calm
 ready_event p plan w _ here calm kept known draws ready = ready
 
-ready_all : (p : Plan) → IsPlan p → (w : World) (es : List Event) → AllAllowed w es → AreCalm es → PassNobody w es → IsKnown w → Draws (numbers_of p) w.gear w.drawn w.left
+ready_all : (p : Plan) → IsPlan p → (w : World) (es : List Event) → AllAllowed w es → AreCalm es → PassNobody w es → IsKnown w
+    → Draws (numbers_of p) w.gear w.drawn w.left
     → ReadyAll w.gear → ReadyAll (after_all w es).gear
 ready_all p plan w [] all calm kept known draws ready = ready
 ready_all p plan w (e ∷ es) all calm kept known draws ready =

@@ -202,14 +202,18 @@ is_sent w c d f h g here runs is next = go here.may where
     stage_so = stage_more (trace_running w d) (entry f h) ∙ ap (λ t. next_stage (stage_of t) (command_of f) h) running
 
     follows : Follows (controller_at w d).records.block (controller_at w d).records.reserved (stage_of w.trace) (command_of f)
-    follows = subst (λ t. Follows (controller_at w d).records.block (controller_at w d).records.reserved (stage_of t) (command_of f)) running (follows_of w d f here.may)
+    follows =
+        subst (λ t. Follows (controller_at w d).records.block (controller_at w d).records.reserved (stage_of t) (command_of f)) running
+            (follows_of w d f here.may)
 
     on : (b : Bool) → goes_on w d (trace_running w d ++ entry f h ∷ []) ≡ b → Is (happens w (event.Sent d f h)) g
     on false e = absurd (next.begun (rw e refl))
     on true e = record {
-      woken = rw (e, stage_so) (woken_next (controller_at w d).records.block (controller_at w d).records.reserved (stage_of w.trace) (command_of f) h follows is.woken);
+      woken = rw (e, stage_so) (woken_next (controller_at w d).records.block (controller_at w d).records.reserved (stage_of w.trace)
+          (command_of f) h follows is.woken);
       at = rw (e, stage_so)
-          (there_taken (controller_at w d).records.block (controller_at w d).records.reserved (stage_of w.trace) (command_of f) h w.gear w.left g follows is.woken is.at);
+          (there_taken (controller_at w d).records.block (controller_at w d).records.reserved (stage_of w.trace)
+              (command_of f) h w.gear w.left g follows is.woken is.at);
     }
 
   go : MaySend w d f → Is (happens w (event.Sent d f h)) g

@@ -238,7 +238,8 @@ ready_asking Compare g r asks k = k
 ready_asking _ g r asks k = absurd (cc)
 
 pub ready_step : (b : Block) (xs : List Assignment) (s : Stage) (c : Command) (g : Gear) (r : ℕ)
-    → Follows b xs s c → (c ≡ Terminate → ⊥) → ((n : SearchAddress) → c ≡ Withdraw → s ≡ stage.NumberSent n → ⊥) → (draws_a_number c g ≡ true → (r ≡ g.random) ⊎ (r < MASK24)) → Knows s g → Ready g → Ready (gear_taken c r g)
+    → Follows b xs s c → (c ≡ Terminate → ⊥) → ((n : SearchAddress) → c ≡ Withdraw → s ≡ stage.NumberSent n → ⊥)
+    → (draws_a_number c g ≡ true → (r ≡ g.random) ⊎ (r < MASK24)) → Knows s g → Ready g → Ready (gear_taken c r g)
 ready_step b xs stage.Terminated (Initialise Unaddressed) g r on calm stays drew knows k = λ none. (initialised_ready g k none, (k none).1)
 ready_step b xs stage.InitialisedOnce (Initialise Unaddressed) g r on calm stays drew knows k = λ none. (initialised_ready g k none, (k none).1)
 ready_step b xs (stage.NumberSent n) Withdraw g r on calm stays drew knows k = absurd (stays n refl refl)

@@ -52,7 +52,8 @@ Leaves u t n most = left u n + granted u t.course.tally.askings ≤ most + grant
 
 -- on another course: no more than to the addresses that were not looked at
 pub moved_left : (u : ℕ) (t n : Machine) (d : Course) → n.course ≡ d → Moves t.course d → Leaves u t n (beyond u t.course.from)
-moved_left u t n d is moves = subst (λ k. left u n + granted u t.course.tally.askings ≤ beyond u t.course.from + granted u k) (sym askings) (rw (way, from) (go moves.on)) where
+moved_left u t n d is moves =
+    subst (λ k. left u n + granted u t.course.tally.askings ≤ beyond u t.course.from + granted u k) (sym askings) (rw (way, from) (go moves.on)) where
   way : n.course.way ≡ Surveying
   way = ap (λ (c : Course). c.way) is ∙ moves.way
 

@@ -1,4 +1,5 @@
-use Rattle.std.proofs.Common.{◌≡◌, ℕ, ◌+◌, ◌<◌, ◌≤◌, ◌⊎◌, inl, inr, Bool, true, false, zero, suc, List, [], ◌∷◌, refl, sym, ap, subst, ◌∙◌, arith, length, Option}
+use Rattle.std.proofs.Common.{◌≡◌, ℕ, ◌+◌, ◌<◌, ◌≤◌, ◌⊎◌, inl, inr, Bool, true, false, zero, suc, List, [], ◌∷◌, refl, sym, ap, subst, ◌∙◌, arith, length}
+use Rattle.std.proofs.Common.{Option}
 use Rattle.std.proofs.Common.{Some, None}
 use Rattle.std.specs.Prelude.{◌==◌, ◌&&◌, not, is_some, nat_le, if◌then◌else◌}
 use Rattle.std.specs.List.{count_by}
@@ -8,7 +9,8 @@ use Rattle.dali_frame.specs.declared.frames.Answer.TheVariants.{Silence, Byte, D
 use Rattle.dali_frame.specs.declared.numbers.SearchAddress.{SearchAddress}
 use Rattle.dali_frame.specs.Random.{value_of, MASK24}
 use Rattle.dali_special.specs.declared.command.Command.{Command}
-use Rattle.dali_special.specs.declared.command.Command.TheVariants.{Randomise, Compare, SearchHigh, SearchMiddle, SearchLow, Program, Initialise, Withdraw, Terminate}
+use Rattle.dali_special.specs.declared.command.Command.TheVariants.{Randomise, Compare, SearchHigh, SearchMiddle, SearchLow, Program, Initialise, Withdraw}
+use Rattle.dali_special.specs.declared.command.Command.TheVariants.{Terminate}
 use Rattle.dali_gear.specs.declared.state.InitialisationState.TheVariants.{Enabled}
 use Rattle.dali_gear.specs.declared.row.Reach.TheVariants.{Everyone}
 use Rattle.dali_gear.specs.Gear.{Gear, is_enabled, is_active, gear_taken, answer, search_after, short_after, draws_a_number}
