@@ -158,8 +158,14 @@ tracks_call : (b : Block) (xs : List Assignment) (r : SearchAddress) (cs : List 
 unfolding Tracks
 tracks_call b xs r cs ask few = (
   turn refl refl,
-  λ a h w. (turn refl refl, λ a h w. (turn refl refl, λ a h w. tracks_hunt b xs (record { high = r.high; middle = r.middle; low = r.low })
-      None CALLING cs ask few)),
+  λ a h w. (
+    turn refl refl,
+    λ a h w. (
+      turn refl refl,
+      λ a h w. tracks_hunt b xs (record { high = r.high; middle = r.middle; low = r.low })
+          None CALLING cs ask few,
+    ),
+  ),
 )
 
 tracks_draw : (b : Block) (xs : List Assignment) (high middle : ℕ)

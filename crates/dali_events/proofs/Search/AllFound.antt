@@ -178,7 +178,7 @@ ready_taken w c f reach may known calm kept below ready i in_row =
     ready_taken_one (controller_at w c).records.block (controller_at w c).records.reserved (stage_of (trace_running w c)) (command_of f) reach
     (drawn_of reach (command_of f) 0 w.gear w.left) i (gear_at w i)
     (get_or (row_after reach (command_of f) 0 w.gear w.left) i fresh) (follows_of w c f may) calm (λ n is at. kept (is, (n, at))) below
-        (knows_running w c known.knows i there) (ready i there)
+    (knows_running w c known.knows i there) (ready i there)
     (moves_at reach (command_of f) w.gear w.left i there)
 
 ready_event : (p : Plan) → IsPlan p → (w : World) (e : Event) → Allowed w e → IsCalm e → PassesNobody w e → IsKnown w
@@ -187,7 +187,7 @@ ready_event : (p : Plan) → IsPlan p → (w : World) (e : Event) → Allowed w 
     → ReadyAll (happens w e).gear
 ready_event p plan w (event.Sent c f h) here calm kept known draws ready =
     ready_taken w c f Everyone here.may known calm kept (below_of p plan w (event.Sent c f h) (drawn_of Everyone (command_of f) 0 w.gear w.left) draws refl)
-        ready
+    ready
 ready_event p plan w (event.Destroyed c f set) here calm kept known draws ready =
     ready_taken w c f (Only set) here.may known calm kept (below_of p plan w (event.Destroyed c f set)
     (drawn_of (Only set) (command_of f) 0 w.gear w.left) draws refl) ready

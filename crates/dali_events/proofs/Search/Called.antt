@@ -204,7 +204,7 @@ is_sent w c d f h g here runs is next = go here.may where
     follows : Follows (controller_at w d).records.block (controller_at w d).records.reserved (stage_of w.trace) (command_of f)
     follows =
         subst (λ t. Follows (controller_at w d).records.block (controller_at w d).records.reserved (stage_of t) (command_of f)) running
-            (follows_of w d f here.may)
+        (follows_of w d f here.may)
 
     on : (b : Bool) → goes_on w d (trace_running w d ++ entry f h ∷ []) ≡ b → Is (happens w (event.Sent d f h)) g
     on false e = absurd (next.begun (rw e refl))
@@ -213,7 +213,7 @@ is_sent w c d f h g here runs is next = go here.may where
           (command_of f) h follows is.woken);
       at = rw (e, stage_so)
           (there_taken (controller_at w d).records.block (controller_at w d).records.reserved (stage_of w.trace)
-              (command_of f) h w.gear w.left g follows is.woken is.at);
+          (command_of f) h w.gear w.left g follows is.woken is.at);
     }
 
   go : MaySend w d f → Is (happens w (event.Sent d f h)) g
