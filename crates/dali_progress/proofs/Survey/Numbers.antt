@@ -8,8 +8,7 @@ use Rattle.dali_frame.specs.declared.frames.Answer.{Answer}
 use Rattle.dali_frame.specs.declared.frames.Answer.TheVariants.{Silence, Byte, Damaged}
 use Rattle.dali_frame.specs.declared.numbers.SearchAddress.{SearchAddress}
 use Rattle.dali_special.specs.declared.command.Command.{Command}
-use Rattle.dali_special.specs.declared.command.Command.TheVariants.{Terminate, Initialise, Randomise, Compare, SearchHigh, SearchMiddle, SearchLow}
-use Rattle.dali_special.specs.declared.command.Target.TheVariants.{Unaddressed}
+use Rattle.dali_special.specs.declared.command.Command.TheVariants.{Randomise, Compare, SearchHigh, SearchMiddle, SearchLow}
 use Rattle.dali_special.specs.Command.{command_of}
 use Rattle.dali_gear.specs.declared.row.Reach.{Reach}
 use Rattle.dali_gear.specs.declared.row.Reach.TheVariants.{Everyone}
@@ -33,14 +32,14 @@ use Rattle.dali_search.specs.declared.step.Step.{Step}
 use Rattle.dali_search.specs.declared.step.Step.TheVariants.{Again, Found, Nobody}
 use Rattle.dali_controller.specs.declared.shorts.Shorts.{Shorts}
 use Rattle.dali_controller.specs.declared.purpose.Purpose.{Purpose}
-use Rattle.dali_controller.specs.declared.purpose.Purpose.TheVariants.{Opening, Probing, Hunting, Visiting, Resolving, Closing, Asking, Calling, Drawing, PassingOver}
+use Rattle.dali_controller.specs.declared.purpose.Purpose.TheVariants.{Opening, Hunting, Visiting, Closing, Asking, Calling, Drawing}
 use Rattle.dali_controller.specs.declared.way.Way.{Way}
 use Rattle.dali_controller.specs.declared.way.Way.TheVariants.{Fresh, Surveying}
-use Rattle.dali_controller.specs.Course.{Course, going_on, going_on_early, visit_or_opening, ask_or_call, next_asked, closing, searching_first, searching_on, after_step}
+use Rattle.dali_controller.specs.Course.{Course, going_on, going_on_early, ask_or_call, next_asked, closing, searching_first, searching_on, after_step}
 use Rattle.dali_controller.specs.Course.{hunted, calling, hunting_first, drawing, opening_anew, opening_at_last, asking_again, byte_to_send, call_turn, is_yes}
 use Rattle.dali_controller.specs.Tally.{silent_call, heard_call, asked_again}
-use Rattle.dali_controller.specs.Next.{next_course, begins_at, at_rest, silenced, silenced_on, missed_again, unanswered, asked_once, hunted_in, hunted_to, nobody_left}
-use Rattle.dali_controller.specs.Next.{undrawn, full, blocked, called_to, compared_in, ungiven, may_draw, has_open, asks_again, goes_on_to, asked_on, course_on, is_failed}
+use Rattle.dali_controller.specs.Next.{next_course, begins_at, at_rest, silenced, silenced_on, missed_again, unanswered, asked_once, hunted_to, nobody_left}
+use Rattle.dali_controller.specs.Next.{full, blocked, called_to, compared_in, ungiven, may_draw, has_open, asks_again, asked_on, course_on}
 use Rattle.dali_controller.specs.Next.{most_silent, is_blocked}
 use Rattle.dali_controller.specs.Machine.{Machine, machine_heard, machine_told, machine_committed, machine_surveying}
 use Rattle.dali_controller.specs.Orders.{machine_after, machine_ordered, IsAllowed}
@@ -56,7 +55,7 @@ use Rattle.dali_world.specs.Site.{world, site_logged}
 use Rattle.dali_progress.specs.Rounds.{Succeeds}
 use Rattle.dali_progress.proofs.Lone.{Moment, IsDueOf, acts_by, due_of}
 use Rattle.dali_progress.proofs.Stands.{Sends}
-use Rattle.dali_progress.proofs.Both.{left_same, none_first, none_apart, needs_few, probing_never, visiting_never, closing_never, not_failed, is_complete, with_kept}
+use Rattle.dali_progress.proofs.Both.{left_same, none_first, none_apart, needs_few, visiting_never, closing_never, not_failed, is_complete, with_kept}
 use Rattle.dali_progress.proofs.Survey.Stands.{Begun, most_drawn, Draws, SurveyAt, SurveyStands}
 use Rattle.dali_progress.proofs.Survey.Begins.{IsNext}
 use Rattle.dali_progress.proofs.Survey.Goes.{Holds, Hears, of_survey, next_holds}
