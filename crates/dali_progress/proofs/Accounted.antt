@@ -301,7 +301,8 @@ false_both : (one two : Bool) → (one || two) ≡ false → (one ≡ false) × 
 false_both true two e = absurd (cc)
 false_both false two e = (refl, e)
 
-unwithheld : (t : Machine) (y : Way) (a r : ℕ) → (y ≡ Fresh → ⊥) → t.course.opened ≡ true → is_withheld_by t y a r ≡ false → is_anothers t.kept t.heard a r ≡ false
+unwithheld : (t : Machine) (y : Way) (a r : ℕ) → (y ≡ Fresh → ⊥) → t.course.opened ≡ true → is_withheld_by t y a r ≡ false
+    → is_anothers t.kept t.heard a r ≡ false
 unwithheld t Fresh a r other opened e = absurd (other refl)
 unwithheld t Surveying a r other opened e = ap (λ o. o && is_anothers t.kept t.heard a r) (sym opened) ∙ e
 
@@ -332,7 +333,8 @@ surveyed_mask Fresh t c q o other is = absurd (other refl)
 surveyed_mask Surveying t c q o other is = is
 
 -- so where somebody was heard, the address is the gear's own
-gives_own : (t : Machine) (q : SearchAddress) (a : ℕ) (p : ℕ) (f : Forward) → (t.course.way ≡ Fresh → ⊥) → t.course.opened ≡ true → stage_of t.trace ≡ stage.Unnamed q
+gives_own : (t : Machine) (q : SearchAddress) (a : ℕ) (p : ℕ) (f : Forward) → (t.course.way ≡ Fresh → ⊥) → t.course.opened ≡ true
+    → stage_of t.trace ≡ stage.Unnamed q
     → address_for t.kept.reserved (value_of q) ≡ Some a → IsOrdered t (Put p f) → p ≡ LATER → IsAccounted (machine_ordered t (Put p f)) a
     → Has t.kept.enrolled (a, value_of q)
 gives_own t q a p f other opened told reserved ordered later held =

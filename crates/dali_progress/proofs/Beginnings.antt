@@ -1,4 +1,5 @@
-use Rattle.dali_progress.specs.Rounds.{most_events, most_draws, Beginning, most_frames, Any, Rounds, GoesOn, by_survey, IsAlone, HasEnded, ByStart, frames, Settled, bare}
+use Rattle.dali_progress.specs.Rounds.{most_events, most_draws, Beginning, most_frames, Any, Rounds, GoesOn, by_survey, IsAlone, HasEnded, ByStart, frames}
+use Rattle.dali_progress.specs.Rounds.{Settled, bare}
 use Rattle.dali_progress.specs.Rounds.{HasNext, IsSettled, site_after, BeginsAlone}
 use Rattle.dali_progress.specs.Ends.{NamesAll, IsTrueEnd, table_at}
 use Rattle.dali_progress.proofs.Lone.{due_by, IsDueIn, IsLone}
@@ -136,7 +137,8 @@ survey_spent : (any : Bool) (s : SiteState) (c left : ℕ) (es : List Event) →
     → numbers_for (most_drawn any) (length (world s).gear) ≤ length (world s).left → Rounds true s c es
     → IsPumpRefused (site_after s es) trouble.None refusal.DrawsSpent → ⊥
 survey_spent any s c left es a runs enough rounds =
-    drawing.never_spent (of_survey (survey.began_at any s)) (survey.argument (survey.began_at any s)) (HasNumbers any) (survey_draws (survey.began_at any s)) s c
+    drawing.never_spent (of_survey (survey.began_at any s)) (survey.argument (survey.began_at any s)) (HasNumbers any)
+    (survey_draws (survey.began_at any s)) s c
     left es runs rounds
     (λ m there. subst (λ t. HasNumbers any (informed_by m t) (world s).gear (world s).left) (sym a.told)
     (subst (λ n. HasNumbers any n (world s).gear (world s).left)

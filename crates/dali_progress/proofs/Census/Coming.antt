@@ -92,7 +92,8 @@ abbrev pub IsEnded : Machine → Type 0
 IsEnded n = ((e : End) × (n.last ≡ Some (Done e))) ⊎ ((w : Fault) × (n.last ≡ Some (Halt w)))
 
 -- a transaction that begins: the next short address is asked, or all are accounted for
-pub begins_on : (t : Machine) (f : Forward) (a : ℕ) → a < 64 → t.course.way ≡ Surveying → t.course.opened ≡ false → t.course.from ≤ a → next_course t ≡ goes_on_to t
+pub begins_on : (t : Machine) (f : Forward) (a : ℕ) → a < 64 → t.course.way ≡ Surveying → t.course.opened ≡ false → t.course.from ≤ a
+    → next_course t ≡ goes_on_to t
     → IsTabled (machine_ordered t (Put FIRST f)) a ⊎ IsToCome (machine_ordered t (Put FIRST f)) a
 begins_on t f a small surveys opened low on =
     go (next_asked t.kept t.course.from) (on ∙ course) (asked_later t.kept (64 - t.course.from) t.course.from)
@@ -369,7 +370,8 @@ heard_next : (m : Machine) (h : Answer) (o : Order) (a b p : ℕ) (f : Forward) 
 heard_next m h o a b p f small purpose last given whole (inr (here, none)) = inl (h, refl, here)
 heard_next m h o a b p f small purpose last given whole (inl low) =
     inr (subst (λ t. IsEnded (machine_ordered t o) ⊎ (IsTabled (machine_ordered t o) a ⊎ IsToCome (machine_ordered t o) a)) (sym told)
-    (ahead (machine_heard m (Some f) h) a b small purpose counts.way hears.opened low (asking_unasked (stage_of (machine_heard m (Some f) h).trace) m.course.purpose b purpose)
+    (ahead (machine_heard m (Some f) h) a b small purpose counts.way hears.opened low
+    (asking_unasked (stage_of (machine_heard m (Some f) h).trace) m.course.purpose b purpose)
     (begins_by_stage (machine_heard m (Some f) h) b h m hears) o
     (subst (λ t. IsAllowed t o) told given.answered.allowed))) where
       told : machine_told m (input.Heard h) ≡ machine_heard m (Some f) h
@@ -402,7 +404,8 @@ lost_next m t o a b p f small purpose last whole course same_last free may after
   go : (m.course.from ≤ a) ⊎ ((b ≡ a) × ((x : Record) → m.last ≡ Some (Commit x) → ⊥))
       → IsEnded (machine_ordered t o) ⊎ (IsTabled (machine_ordered t o) a ⊎ IsToCome (machine_ordered t o) a)
   go (inl low) =
-      ahead t a b small asks (ap (λ (c : Course). c.way) course ∙ counts.way) (ap (λ (c : Course). c.opened) course ∙ counts.opened) (subst (λ (c : Course). c.from ≤ a) (sym course) low)
+      ahead t a b small asks (ap (λ (c : Course). c.way) course ∙ counts.way) (ap (λ (c : Course). c.opened) course ∙ counts.opened)
+      (subst (λ (c : Course). c.from ≤ a) (sym course) low)
       (asking_unasked (stage_of t.trace) t.course.purpose b asks) (inl same) o may
   go (inr (here, none)) =
       by (again t a b stage.Free asks here same at (λ n e. cc) (ap finding_of free ∙ none_found)

@@ -26,7 +26,8 @@ use Rattle.dali_controller.specs.Course.{hunting_on, hunting_first, hunting_abov
 use Rattle.dali_controller.specs.Course.{next_unfinished, opening_at_last, drawing, calling, passing_over, probed, after_step}
 use Rattle.dali_controller.specs.Tally.{asked_again, silent_call, heard_call}
 use Rattle.dali_controller.specs.Machine.{Machine}
-use Rattle.dali_controller.specs.Next.{begins_at, goes_on_to, at_rest, asked_once, silenced, silenced_on, missed_again, is_failed, most_silent, unanswered, hunted_in, hunted_to}
+use Rattle.dali_controller.specs.Next.{begins_at, goes_on_to, at_rest, asked_once, silenced, silenced_on, missed_again, is_failed, most_silent, unanswered}
+use Rattle.dali_controller.specs.Next.{hunted_in, hunted_to}
 use Rattle.dali_controller.specs.Next.{has_open, may_draw, asks_again, full, ungiven, undrawn, is_blocked, blocked, called_to, compared_in, asked_on, course_on}
 
 -- A CENSUS IS BOUNDED: by how many of its frames may still be sent, which each of them makes fewer. What may still be sent, and
@@ -178,7 +179,8 @@ full_moves t d way askings from = go (asks_again t) refl where
       asking_moves t.kept t.course d (let few : t.course.tally.askings < 6 = grind (arith, nat_tests, less) in few) way askings
   go false none = quiet t.course (closing d BlockFull) way askings from (λ u n s. refl)
 
-undrawn_moves : (t : Machine) (d : Course) → d.way ≡ Surveying → d.tally.askings ≡ t.course.tally.askings → d.from ≡ t.course.from → Moves t.course (undrawn t d)
+undrawn_moves : (t : Machine) (d : Course) → d.way ≡ Surveying → d.tally.askings ≡ t.course.tally.askings → d.from ≡ t.course.from
+    → Moves t.course (undrawn t d)
 undrawn_moves t d way askings from = go (has_open t) where
   draws : (b : Bool) → Moves t.course (if b then drawing d else closing d GaveUp)
   draws true = quiet t.course (drawing d) way askings from (λ u n s. refl)

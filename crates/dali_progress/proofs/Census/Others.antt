@@ -28,13 +28,16 @@ use Rattle.dali_controller.specs.Course.{Course, address_for, next_asked, is_yes
 use Rattle.dali_controller.specs.Course.{hunted, hunting_first, probed, after_step, next_unfinished, visit_or_opening, asking_again, calling, drawing}
 use Rattle.dali_controller.specs.Course.{opening_anew, opening_at_last}
 use Rattle.dali_controller.specs.Machine.{Machine}
-use Rattle.dali_controller.specs.Next.{next_course, begins_at, goes_on_to, at_rest, asked_once, silenced, silenced_on, missed_again, is_failed, most_silent, unanswered}
-use Rattle.dali_controller.specs.Next.{course_on, asked_on, hunted_in, hunted_to, has_open, may_draw, asks_again, full, undrawn, ungiven, is_blocked, blocked, called_to}
+use Rattle.dali_controller.specs.Next.{next_course, begins_at, goes_on_to, at_rest, asked_once, silenced, silenced_on, missed_again, is_failed, most_silent}
+use Rattle.dali_controller.specs.Next.{unanswered}
+use Rattle.dali_controller.specs.Next.{course_on, asked_on, hunted_in, hunted_to, has_open, may_draw, asks_again, full, undrawn, ungiven, is_blocked, blocked}
+use Rattle.dali_controller.specs.Next.{called_to}
 use Rattle.dali_controller.specs.Next.{compared_in}
 use Rattle.dali_controller.specs.Tally.{asked_again, silent_call, heard_call}
 use Rattle.dali_controller.specs.Orders.{IsAllowed, machine_ordered, asked_by}
 use Rattle.dali_progress.specs.Census.{was_sent, was_lost}
-use Rattle.dali_progress.proofs.Census.Left.{of_purpose, of_purpose_most, of_last, beyond, left, quiet, goes_moves, StaysOrMoves, begins_moves, on_moves, few_askings, Moves}
+use Rattle.dali_progress.proofs.Census.Left.{of_purpose, of_purpose_most, of_last, beyond, left, quiet, goes_moves, StaysOrMoves, begins_moves, on_moves}
+use Rattle.dali_progress.proofs.Census.Left.{few_askings, Moves}
 use Rattle.dali_progress.proofs.Census.Asked.{by_order, moved_left, still_left, same_left, Leaves}
 
 -- A CENSUS IS BOUNDED: what an order leaves at every other step, and where no survey counts.

@@ -43,7 +43,8 @@ use Rattle.dali_progress.proofs.Later.{unasked_but, stays_at}
 use Rattle.dali_progress.proofs.Stands.{Opens, CloseStage, At, Stands, Sends}
 use Rattle.dali_progress.proofs.Start.Turns.{IsNext, CommitsTo, goes_on_anew}
 use Rattle.dali_progress.proofs.Start.Goes.{Hears, Holds, next_holds, of_start}
-use Rattle.dali_progress.proofs.Both.{closing_never, none_apart, enough_left, visiting_never, probing_never, left_same, opening_none, is_complete, with_kept, not_failed}
+use Rattle.dali_progress.proofs.Both.{closing_never, none_apart, enough_left, visiting_never, probing_never, left_same, opening_none, is_complete, with_kept}
+use Rattle.dali_progress.proofs.Both.{not_failed}
 use Rattle.dali_progress.proofs.Drawing.{Draws}
 
 -- THE NUMBERS THAT GEAR DRAW: where there is one for each gear at the start, they are never spent. Gear draw once, at the
@@ -111,7 +112,8 @@ none_drawn _ s k opened x n gs left c h at is early closed = absurd at
 -- ---------------------------------------------------------------- the transaction that begins
 
 -- no hunt stands so
-never_hunted : (p : Purpose) (s : Stage) (k : Kept) (opened : Bool) (x : Search) (n : SearchAddress) (gs : List Gear) (left : ℕ) (r : SearchAddress) (h : Answer)
+never_hunted : (p : Purpose) (s : Stage) (k : Kept) (opened : Bool) (x : Search) (n : SearchAddress) (gs : List Gear) (left : ℕ) (r : SearchAddress)
+    (h : Answer)
     (room : ℕ) → At p s k opened x n gs left → s ≡ stage.Hunted r (Some h) room → ⊥
 never_hunted p s k opened x n gs left r h room at is = go p (subst (λ q. At p q k opened x n gs left) is at) where
   go : (p : Purpose) → At p (stage.Hunted r (Some h) room) k opened x n gs left → ⊥
@@ -274,7 +276,8 @@ has_heard m p f h before gs numbers left last next has =
 pub start_draws : (before : List Gear) → Draws (of_start before) LeavesDraws
 start_draws before = record {
   acts = λ s c left l i o u here good given holds has.
-      acts_has before (world s) s.queue c u.machine (controller_at (world s) c).outstanding (controller_at (world s) c).last (controller_at (world s) c).told i o
+      acts_has before (world s) s.queue c u.machine (controller_at (world s) c).outstanding (controller_at (world s) c).last
+      (controller_at (world s) c).told i o
       (world s).gear (world s).left left u.goes.lone.moment u.goes.lone.last (due_of (controller_at (world s) c) i here.due) good
       (given_by u.machine i o (not_failed false i good) given).ordered.allowed u.goes.holds has;
   sends = λ m p f h gs numbers left last holds has. has_heard m p f h before gs numbers left last (next_holds before m (Put p f) gs left holds) has;

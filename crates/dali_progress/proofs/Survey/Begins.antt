@@ -51,7 +51,8 @@ use Rattle.dali_progress.proofs.Later.{IsUnasked, later_leaves, turn_unasked}
 use Rattle.dali_progress.proofs.Survey.Queried.{OneShort, IsTrue, TabledBelow, unseen, below_all, below_named}
 use Rattle.dali_progress.proofs.Survey.Drawn.{those_drawn, is_lost, bare_split}
 use Rattle.dali_progress.proofs.Survey.Woken.{AreLow}
-use Rattle.dali_progress.proofs.Survey.Stands.{Begun, spare, survey_frames, IsClear, Counts, IsUncalled, IsOwn, IsFirstDraw, IsCalledFor, called_after, hunted_after}
+use Rattle.dali_progress.proofs.Survey.Stands.{Begun, spare, survey_frames, IsClear, Counts, IsUncalled, IsOwn, IsFirstDraw, IsCalledFor, called_after}
+use Rattle.dali_progress.proofs.Survey.Stands.{hunted_after}
 use Rattle.dali_progress.proofs.Survey.Stands.{roll_frames, frames_after, Rises, HuntAt, Hunts, AreTaken, SurveyEnds, IsSmooth, SurveyAt, SurveyStands}
 use Rattle.dali_progress.proofs.Survey.Rising.{rises_so, rises_first, rises_above}
 

@@ -46,7 +46,8 @@ use Rattle.dali_progress.proofs.Both.{never_eight}
 use Rattle.dali_progress.proofs.Survey.Drawn.{those_drawn, is_undrawn, is_lost, bare_split, drawn_tabled, tabled_drawn, kept_at, drawn_length, undrawn_random}
 use Rattle.dali_progress.proofs.Survey.Queried.{unseen}
 use Rattle.dali_progress.proofs.Survey.Woken.{AreLow, none_bare, opened_lost, drawn_is, drawn_none_named}
-use Rattle.dali_progress.proofs.Survey.Stands.{Begun, spare, IsOwn, IsFirstDraw, IsCalledFor, NoneDrawn, Draws, most_drawn, draw_left, called_after, hunted_after, roll_frames}
+use Rattle.dali_progress.proofs.Survey.Stands.{Begun, spare, IsOwn, IsFirstDraw, IsCalledFor, NoneDrawn, Draws, most_drawn, draw_left, called_after}
+use Rattle.dali_progress.proofs.Survey.Stands.{hunted_after, roll_frames}
 use Rattle.dali_progress.proofs.Survey.Stands.{frames_after, Rises, Hunts, IsSmooth, SurveyStands}
 use Rattle.dali_progress.proofs.Survey.Rising.{bytes_same, Answered, answered_rise, rises_new, rises_in, IsReachedAt, rise_found, rise_nobody}
 use Rattle.dali_progress.proofs.Survey.Begins.{Calm, IsNext, IsHunted, calm_of, smooth_as, turns_by, first_by, hunts_by, hunts_first, hunted_some, called_roll}
@@ -298,7 +299,8 @@ found_over start t o h r room gs left calm asks next some v =
       gear = λ k in_row on. tt;
       low = tt;
       tabled = drawn_tabled (unseen start.gear) t.kept.enrolled gs v.tabled;
-      frames = subst (λ b. roll_frames b (count_by is_bare (those_drawn gs)) (count_by is_lost gs) + spare start.any t.course.tally.draws ≤ left + 0) (sym v.loud)
+      frames = subst (λ b. roll_frames b (count_by is_bare (those_drawn gs)) (count_by is_lost gs) + spare start.any t.course.tally.draws ≤ left + 0)
+          (sym v.loud)
           (subst (λ n. n + spare start.any t.course.tally.draws ≤ left + 0)
           (sym (called_roll (count_by is_bare (those_drawn gs)) (count_by is_lost gs) (none_bare (those_drawn gs) v.all)))
           (count (called_after (count_by is_lost gs)) (spare start.any t.course.tally.draws)
@@ -345,7 +347,8 @@ byte_spelled n r = go (r.high == n.high) (r.low == n.low) (r.middle == n.middle)
 goes_on : (start : Begun) (t : Machine) (o : Order) (h : Answer) (r : SearchAddress) (room : ℕ) (gs : List Gear) (left : ℕ) → SurveyStands true start t gs left
     → t.course.purpose ≡ Hunting → stage_of t.trace ≡ stage.Hunted r (Some h) room → next_course t ≡ hunting (hunted t.course h)
     → o ≡ Put LATER (frame_of (byte_to_send (hunting (hunted t.course h)).number r))
-    → Hunts false Hunting (stage.Hunted r (Some h) room) t.kept t.heard (hunting (hunted t.course h)) start gs left → IsNext start (machine_ordered t o) o gs left
+    → Hunts false Hunting (stage.Hunted r (Some h) room) t.kept t.heard (hunting (hunted t.course h)) start gs left
+    → IsNext start (machine_ordered t o) o gs left
 goes_on start t o h r room gs left st purpose is next sends v = subst (λ q. IsNext start (machine_ordered t q) q gs left) (sym sends)
     (subst (λ m. IsNext start m (Put LATER (frame_of c)) gs left) (sym later) (
       record {

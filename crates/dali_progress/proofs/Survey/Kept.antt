@@ -29,7 +29,8 @@ use Rattle.dali_progress.proofs.Both.{never_eight, no_enrolment, has_random, ent
 use Rattle.dali_progress.proofs.Survey.Drawn.{those_drawn, is_lost}
 use Rattle.dali_progress.proofs.Survey.Queried.{OneShort, IsTrue, unseen}
 use Rattle.dali_progress.proofs.Survey.Stands.{Begun, spare, survey_frames, called_after}
-use Rattle.dali_progress.proofs.Survey.Begins.{Calm, EnrolsCounted, ReleasesCounted, EnrolsHunted, ReservesHunted, SurveyCommits, IsNext, smooth_as, first_by, asked_none, asks_on}
+use Rattle.dali_progress.proofs.Survey.Begins.{Calm, EnrolsCounted, ReleasesCounted, EnrolsHunted, ReservesHunted, SurveyCommits, IsNext, smooth_as, first_by}
+use Rattle.dali_progress.proofs.Survey.Begins.{asked_none, asks_on}
 use Rattle.dali_progress.proofs.Survey.Begins.{hunts_on, own_enrolled, own_reserved}
 
 -- A RECORD OF A SURVEY IS KEPT, and the next transaction begins.

@@ -1,4 +1,5 @@
-use Rattle.std.proofs.Common.{◌≡◌, ℕ, ◌+◌, ◌-◌, ◌<◌, ◌≤◌, ◌⊎◌, inl, inr, Bool, true, false, zero, suc, List, [], ◌∷◌, ◌++◌, refl, sym, ap, subst, ◌∙◌, arith, length, Option}
+use Rattle.std.proofs.Common.{◌≡◌, ℕ, ◌+◌, ◌-◌, ◌<◌, ◌≤◌, ◌⊎◌, inl, inr, Bool, true, false, zero, suc, List, [], ◌∷◌, ◌++◌, refl, sym, ap, subst, ◌∙◌, arith}
+use Rattle.std.proofs.Common.{length, Option}
 use Rattle.std.proofs.Common.{Some, None}
 use Rattle.std.specs.Prelude.{if◌then◌else◌, ◌==◌, ◌&&◌, nat_lt}
 use Rattle.std.proofs.lemmas.Bool.Decides.{nat_tests}
@@ -217,7 +218,8 @@ none_before told Drawing s k heard asked c start gs left d h at draws is closed 
 none_before told _ s k heard asked c start gs left d h at draws is closed = absurd (cc)
 
 -- where some are drawn, so many fewer are left
-left_few : (reach : Reach) (c : Command) (k : ℕ) (gs : List Gear) (left : List ℕ) → length left ≤ length (row_left reach c k gs left) + draws_needed reach c k gs
+left_few : (reach : Reach) (c : Command) (k : ℕ) (gs : List Gear) (left : List ℕ)
+    → length left ≤ length (row_left reach c k gs left) + draws_needed reach c k gs
 left_few reach c k [] left = omega arith
 left_few reach c k (g ∷ gs) left = go (takes reach k g && draws_a_number c g) left (λ xs. left_few reach c (k + 1) gs xs) where
   go : (b : Bool) (xs : List ℕ) → ((ys : List ℕ) → length ys ≤ length (row_left reach c (k + 1) gs ys) + draws_needed reach c (k + 1) gs)
@@ -249,7 +251,8 @@ sent_numbers told p s k heard asked c start gs numbers left d h rest at is has =
       × (numbers_for (draws_still p (next_stage s d h) + rest) (length (row_after Everyone d 0 gs numbers)) ≤ length (row_left Everyone d 0 gs numbers))
   go false quiet =
       let none = never_by p c.number k s gs d (quiet_never told p s k heard asked c start gs left at quiet) is in
-      rw quiet (none_drawn 0 none (subst (λ y. numbers_for ((if y then (if is_complete s then 0 else 1) else 0) + rest) (length gs) ≤ length numbers) quiet has))
+      rw quiet (none_drawn 0 none (subst (λ y. numbers_for ((if y then (if is_complete s then 0 else 1) else 0) + rest) (length gs) ≤ length numbers)
+      quiet has))
   go true draws = by (is_complete (next_stage s d h)) refl where
     before : numbers_for (1 + rest) (length gs) ≤ length numbers
     before =
@@ -442,7 +445,8 @@ later_few limit t (stage.Hunted r (Some h) room) few = go (asked_moves t t.cours
       → draws_still (asked_on t t.course.purpose h).purpose stage.Free + (limit - (asked_on t t.course.purpose h).tally.draws)
       ≤ draws_still t.course.purpose (stage.Hunted r (Some h) room) + (limit - t.course.tally.draws)
   go (inl same) =
-      subst (λ (e : Course). draws_still e.purpose stage.Free + (limit - e.tally.draws) ≤ draws_still t.course.purpose stage.Free + (limit - t.course.tally.draws))
+      subst (λ (e : Course). draws_still e.purpose stage.Free + (limit - e.tally.draws) ≤ draws_still t.course.purpose stage.Free +
+      (limit - t.course.tally.draws))
       (sym same) (same_draws (draws_still t.course.purpose stage.Free + (limit - t.course.tally.draws)))
   go (inr moves) = comes_few limit t.course (asked_on t t.course.purpose h) (stage.Hunted r (Some h) room) (inl moves) few
 later_few limit t s few = same_draws (draws_still t.course.purpose s + (limit - t.course.tally.draws))
@@ -450,7 +454,8 @@ later_few limit t s few = same_draws (draws_still t.course.purpose s + (limit - 
 -- ---------------------------------------------------------------- it acts
 
 abbrev ordered_draws : Bool → Machine → Order → ℕ
-ordered_draws any t o = to_draw any (Some o) (machine_ordered t o).course.purpose (stage_of (machine_ordered t o).trace) (machine_ordered t o).course.tally.draws
+ordered_draws any t o =
+    to_draw any (Some o) (machine_ordered t o).course.purpose (stage_of (machine_ordered t o).trace) (machine_ordered t o).course.tally.draws
 
 -- a transaction that begins
 first_draws : (start : Begun) (t : Machine) (f : Forward) (hs : List Gear) (l k : ℕ) → IsNext start (machine_ordered t (Put FIRST f)) (Put FIRST f) hs l
@@ -467,12 +472,14 @@ heard_draws : (start : Begun) (t : Machine) (o : Order) (hs : List Gear) (l : �
     → IsNext start (machine_ordered t o) o hs l
     → ordered_draws start.any t o ≤ draws_still t.course.purpose (stage_of t.trace) + (most_drawn start.any - t.course.tally.draws)
 heard_draws start t (Put p f) hs l way (inl (first, lawful)) next =
-    subst (λ r. ordered_draws start.any t (Put r f) ≤ draws_still t.course.purpose (stage_of t.trace) + (most_drawn start.any - t.course.tally.draws)) (sym first)
+    subst (λ r. ordered_draws start.any t (Put r f) ≤ draws_still t.course.purpose (stage_of t.trace) + (most_drawn start.any - t.course.tally.draws))
+    (sym first)
     (first_draws start t f hs l (draws_still t.course.purpose (stage_of t.trace) + (most_drawn start.any - t.course.tally.draws))
     (subst (λ r. IsNext start (machine_ordered t (Put r f)) (Put r f) hs l) first next)
     (comes_few (most_drawn start.any) t.course (next_course t) (stage_of t.trace) (begins_comes t (stage_of t.trace) way)))
 heard_draws start t (Put p f) hs l way (inr (later, runs, lawful)) next =
-    subst (λ r. ordered_draws start.any t (Put r f) ≤ draws_still t.course.purpose (stage_of t.trace) + (most_drawn start.any - t.course.tally.draws)) (sym later)
+    subst (λ r. ordered_draws start.any t (Put r f) ≤ draws_still t.course.purpose (stage_of t.trace) + (most_drawn start.any - t.course.tally.draws))
+    (sym later)
     (later_few (most_drawn start.any) t (stage_of t.trace)
     (few_at false (course_on t (stage_of t.trace)).purpose (stage_of t.trace) t.kept t.heard (machine_ordered t (Put LATER f)).asked
     (course_on t (stage_of t.trace)) start hs l

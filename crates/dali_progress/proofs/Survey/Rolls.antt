@@ -35,9 +35,11 @@ use Rattle.dali_progress.proofs.Tables as tables
 use Rattle.dali_progress.proofs.Tables.{LeavesNames, tabled_left}
 use Rattle.dali_progress.proofs.Survey.Drawn.{those_drawn, is_lost, AreNumbered}
 use Rattle.dali_progress.proofs.Survey.Queried.{OneShort, unseen}
-use Rattle.dali_progress.proofs.Survey.Woken.{AreLow, IsByteLow, bare_after, lost_after, drew_after, undrawn_after, stays_initialised, called_answer, low_after, low_sent}
+use Rattle.dali_progress.proofs.Survey.Woken.{AreLow, IsByteLow, bare_after, lost_after, drew_after, undrawn_after, stays_initialised, called_answer, low_after}
+use Rattle.dali_progress.proofs.Survey.Woken.{low_sent}
 use Rattle.dali_progress.proofs.Survey.Woken.{nobody_searched}
-use Rattle.dali_progress.proofs.Survey.Stands.{Begun, spare, roll_frames, woken_at, IsCalledBy, CallStage, IsLowAt, call_sent, Calls, DrawStage, draw_left, IsDrawnBy}
+use Rattle.dali_progress.proofs.Survey.Stands.{Begun, spare, roll_frames, woken_at, IsCalledBy, CallStage, IsLowAt, call_sent, Calls, DrawStage, draw_left}
+use Rattle.dali_progress.proofs.Survey.Stands.{IsDrawnBy}
 use Rattle.dali_progress.proofs.Survey.Stands.{Draws}
 use Rattle.dali_progress.proofs.Survey.Begins.{roll_some, roll_none}
 
@@ -88,7 +90,8 @@ calls_on s t k heard c start gs numbers left d v leaves stage gear low sent few 
     gear = gear;
     low = low;
     tabled = tabled_left (unseen start.gear) k.enrolled gs numbers d leaves v.tabled;
-    frames = subst (λ n. roll_frames c.tally.is_silent n (count_by is_lost (row_after Everyone d 0 gs numbers)) + spare start.any c.tally.draws ≤ less.0 + call_sent t)
+    frames = subst (λ n. roll_frames c.tally.is_silent n (count_by is_lost (row_after Everyone d 0 gs numbers))
+        + spare start.any c.tally.draws ≤ less.0 + call_sent t)
         (sym (drew_after d gs numbers leaves))
         (subst (λ n. roll_frames c.tally.is_silent (count_by is_bare (those_drawn gs)) n + spare start.any c.tally.draws ≤ less.0 + call_sent t)
         (sym (lost_after d gs numbers leaves)) (subst (λ n. roll + spare start.any c.tally.draws ≤ less.0 + n) (sym sent) less.2));
@@ -148,7 +151,8 @@ pub calls_sent : (s : Stage) (k : Kept) (heard : Shorts) (c : Course) (start : B
     → CalledTo s k heard c start gs numbers left d h
 calls_sent stage.Free k heard c start gs numbers left d h v is t seek =
     subst (λ e. CalledTo stage.Free k heard c start gs numbers left e h) (sym is)
-    (calls_on stage.Free stage.Terminated k heard c start gs numbers left Terminate v tt tt (opening.opening_terminated gs numbers) tt (omega arith) (omega arith))
+    (calls_on stage.Free stage.Terminated k heard c start gs numbers left Terminate v tt tt (opening.opening_terminated gs numbers) tt (omega arith)
+    (omega arith))
 calls_sent stage.Terminated k heard c start gs numbers left d h v is t seek =
     subst (λ e. CalledTo stage.Terminated k heard c start gs numbers left e h) (some_is (Initialise Unaddressed) d is)
     (calls_on stage.Terminated stage.InitialisedOnce k heard c start gs numbers left (Initialise Unaddressed) v tt tt
@@ -168,7 +172,8 @@ calls_sent (stage.WokenHigh high) k heard c start gs numbers left d h v is t see
     (low_sent c.number.low gs numbers (subst (λ (m : SearchAddress). m.low < 256) (sym v.number) (omega arith)) v.gear) (omega arith) (omega arith))
 calls_sent (stage.WokenLow high low) k heard c start gs numbers left d h v is t seek =
     subst (λ e. CalledTo (stage.WokenLow high low) k heard c start gs numbers left e h) (some_is (SearchMiddle c.number.middle) d is)
-    (calls_on (stage.WokenLow high low) (stage.Hunted (record { high = high; middle = c.number.middle; low = low }) None CALLING) k heard c start gs numbers left
+    (calls_on (stage.WokenLow high low) (stage.Hunted (record { high = high; middle = c.number.middle; low = low }) None CALLING)
+    k heard c start gs numbers left
     (SearchMiddle c.number.middle) v tt (whole, refl) (stays_initialised (SearchMiddle c.number.middle) gs numbers tt v.gear)
     (low_after (SearchMiddle c.number.middle) gs numbers tt v.low) (omega arith) (omega arith))
   where
@@ -247,7 +252,8 @@ opens_sent stage.InitialisedOnce k heard c start gs numbers left d h v is t =
 opens_sent stage.Initialised k heard c start gs numbers left d h v is t =
     subst (λ e. DrawnTo Opening stage.Initialised k heard c start gs numbers left e h) (some_is Randomise d is)
     (draws_on Opening stage.Initialised stage.RandomisedOnce k heard c start gs numbers left Randomise v tt tt tt tt
-    (opening.opening_randomised_once gs numbers v.gear) (tables.tabled_drawn (unseen start.gear) k.enrolled gs numbers (tables.still_once gs v.gear) v.tabled) refl)
+    (opening.opening_randomised_once gs numbers v.gear) (tables.tabled_drawn (unseen start.gear) k.enrolled gs numbers (tables.still_once gs v.gear) v.tabled)
+    refl)
 opens_sent stage.RandomisedOnce k heard c start gs numbers left d h v is t =
     subst (λ e. IsSurveyTaken e gs numbers h → DrawnTo Opening stage.RandomisedOnce k heard c start gs numbers left e h) (some_is Randomise d is)
     (λ now. draws_on Opening stage.RandomisedOnce stage.Opened k heard c start gs numbers left Randomise v tt tt tt tt
@@ -261,7 +267,8 @@ pub draws_sent : (s : Stage) (k : Kept) (heard : Shorts) (c : Course) (start : B
     → DrawnTo Drawing s k heard c start gs numbers left d h
 draws_sent stage.Free k heard c start gs numbers left d h v is t =
     subst (λ e. DrawnTo Drawing stage.Free k heard c start gs numbers left e h) (sym is)
-    (draws_on Drawing stage.Free stage.Terminated k heard c start gs numbers left Terminate v tt tt tt (undrawn_after Terminate gs numbers tt v.drawn.0, v.drawn.1)
+    (draws_on Drawing stage.Free stage.Terminated k heard c start gs numbers left Terminate v tt tt tt
+    (undrawn_after Terminate gs numbers tt v.drawn.0, v.drawn.1)
     (opening.opening_terminated gs numbers) (tabled_left (unseen start.gear) k.enrolled gs numbers Terminate tt v.tabled) refl)
 draws_sent stage.Terminated k heard c start gs numbers left d h v is t =
     subst (λ e. DrawnTo Drawing stage.Terminated k heard c start gs numbers left e h) (some_is (Initialise Unaddressed) d is)
@@ -306,7 +313,8 @@ draws_sent (stage.WokenMiddle high middle) k heard c start gs numbers left d h v
 draws_sent stage.DrawFree k heard c start gs numbers left d h v is t =
     subst (λ e. DrawnTo Drawing stage.DrawFree k heard c start gs numbers left e h) (some_is Randomise d is)
     (draws_on Drawing stage.DrawFree stage.RandomisedOnce k heard c start gs numbers left Randomise v tt tt tt tt
-    (opening.opening_randomised_once gs numbers v.gear) (tables.tabled_drawn (unseen start.gear) k.enrolled gs numbers (tables.still_once gs v.gear) v.tabled) refl)
+    (opening.opening_randomised_once gs numbers v.gear) (tables.tabled_drawn (unseen start.gear) k.enrolled gs numbers (tables.still_once gs v.gear) v.tabled)
+    refl)
 draws_sent stage.RandomisedOnce k heard c start gs numbers left d h v is t =
     subst (λ e. IsSurveyTaken e gs numbers h → DrawnTo Drawing stage.RandomisedOnce k heard c start gs numbers left e h) (some_is Randomise d is)
     (λ now. draws_on Drawing stage.RandomisedOnce stage.Opened k heard c start gs numbers left Randomise v tt tt tt tt

@@ -30,7 +30,8 @@ use Rattle.dali_script.specs.declared.orders.End.TheVariants.{AllFound, BlockFul
 use Rattle.dali_search.specs.Least.{at_first}
 use Rattle.dali_search.specs.Ascending.{Ascent, asked_next}
 use Rattle.dali_controller.specs.declared.purpose.Purpose.{Purpose}
-use Rattle.dali_controller.specs.declared.purpose.Purpose.TheVariants.{Opening, Probing, Visiting, Resolving, Closing, Asking, Hunting, Calling, Drawing, PassingOver}
+use Rattle.dali_controller.specs.declared.purpose.Purpose.TheVariants.{Opening, Probing, Visiting, Resolving, Closing, Asking, Hunting, Calling, Drawing}
+use Rattle.dali_controller.specs.declared.purpose.Purpose.TheVariants.{PassingOver}
 use Rattle.dali_controller.specs.declared.shorts.Shorts.{Shorts}
 use Rattle.dali_controller.specs.Course.{Course, sought}
 use Rattle.dali_controller.specs.Machine.{heard_after, asked_after, asked_after_silence, asked_at, marked_at}
@@ -52,7 +53,8 @@ use Rattle.dali_progress.proofs.Survey.Queried.{unseen, below_on}
 use Rattle.dali_progress.proofs.Survey.Woken.{IsByteLow, low_after}
 use Rattle.dali_progress.proofs.Survey.Rolls.{IsSurveyTaken, calls_sent, opens_sent, draws_sent}
 use Rattle.dali_progress.proofs.Survey.Stands.{Begun, spare, survey_frames, IsClear, IsClearBut, IsClearAt, silent_left, asked_left, Tells, AskStage, Counts}
-use Rattle.dali_progress.proofs.Survey.Stands.{called_after, hunted_after, frames_after, IsCalledFor, surplus, IsBehind, HuntAt, Hunts, SurveyEnds, SurveyCloses}
+use Rattle.dali_progress.proofs.Survey.Stands.{called_after, hunted_after, frames_after, IsCalledFor, surplus, IsBehind, HuntAt, Hunts, SurveyEnds}
+use Rattle.dali_progress.proofs.Survey.Stands.{SurveyCloses}
 use Rattle.dali_progress.proofs.Survey.Stands.{SurveyAt}
 
 -- A FRAME OF A SURVEY IS SENT, and one frame less is left.
@@ -423,7 +425,8 @@ hunts_sent p s k heard c start gs numbers left d h hunt v is t seek = (
     rest = sent.0;
     at = subst (λ hs. HuntAt true p (next_stage s d h) k c.ascent c.number hs sent.0) row sent.2;
     tabled = subst (λ hs. AreTabled (unseen start.gear) (to_come (next_stage s d h) c.number k.enrolled) hs) row
-        (hunt_tabled (unseen start.gear) p s k c.ascent c.number (those_drawn gs) numbers v.rest sent.0 d h hunt v.at is (seeks_drawn s gs seek) sent.2 v.tabled);
+        (hunt_tabled (unseen start.gear) p s k c.ascent c.number (those_drawn gs) numbers v.rest sent.0 d h hunt v.at is
+        (seeks_drawn s gs seek) sent.2 v.tabled);
     behind = v.behind;
     behind_is = subst (λ hs. IsBehind p (next_stage s d h) v.behind hs sent.0) row
         (behind_sent p s k c.ascent c.number (those_drawn gs) numbers v.rest sent.0 v.behind d h hunt sent.1 v.at is (seeks_drawn s gs seek) v.behind_is);

@@ -43,9 +43,11 @@ use Rattle.dali_progress.proofs.Later.{course_stays}
 use Rattle.dali_progress.proofs.Census.Asked.{sending_of}
 use Rattle.dali_progress.proofs.Survey.Drawn.{those_drawn, is_lost, AreNumbered, bare_split, woken_opened, woken_none_named, tabled_drawn}
 use Rattle.dali_progress.proofs.Survey.Queried.{Holds, OneShort, IsTrue, unseen, below_next}
-use Rattle.dali_progress.proofs.Survey.Stands.{Begun, spare, survey_frames, silent_left, Counts, IsUncalled, IsCalledBy, Calls, hunted_after, SurveyAt, SurveyStands}
+use Rattle.dali_progress.proofs.Survey.Stands.{Begun, spare, survey_frames, silent_left, Counts, IsUncalled, IsCalledBy, Calls, hunted_after, SurveyAt}
+use Rattle.dali_progress.proofs.Survey.Stands.{SurveyStands}
 use Rattle.dali_progress.proofs.Survey.Woken.{all_short}
-use Rattle.dali_progress.proofs.Survey.Begins.{IsNext, calm_of, calm_ordered, smooth_as, turns_by, first_by, begins_whole, asked_none, asks_on, hunts_first, roll_some, roll_none}
+use Rattle.dali_progress.proofs.Survey.Begins.{IsNext, calm_of, calm_ordered, smooth_as, turns_by, first_by, begins_whole, asked_none, asks_on, hunts_first}
+use Rattle.dali_progress.proofs.Survey.Begins.{roll_some, roll_none}
 
 -- A CONTROLLER THAT SURVEYS ACTS on what it was told, and what it orders goes on with the survey.
 
@@ -219,7 +221,8 @@ loud_over Silence room e = absurd (cc)
 loud_over (Byte v) room e = refl
 loud_over Damaged room e = refl
 
-called_next : (t : Machine) (r : SearchAddress) (h : Answer) (room : ℕ) (b : Bool) → stage_of t.trace ≡ stage.Hunted r (Some h) room → t.course.purpose ≡ Calling
+called_next : (t : Machine) (r : SearchAddress) (h : Answer) (room : ℕ) (b : Bool) → stage_of t.trace ≡ stage.Hunted r (Some h) room
+    → t.course.purpose ≡ Calling
     → is_yes h ≡ b → next_course t ≡ called_to t b t.course
 called_next t r h room b is purpose said =
     ap (begins_at t) is ∙ ap (λ p. compared_in t p h) purpose ∙ ap (λ y. called_to t y t.course) said
@@ -286,7 +289,8 @@ silent_call_turns start t o r h zero gs left g st purpose is v said nobody few =
         low = tt;
         tabled = v.tabled;
         frames = subst (λ n. n + spare start.any t.course.tally.draws ≤ left + 0)
-            (sym (roll_none true (count_by is_bare (those_drawn gs)) (count_by is_lost gs) none)) (count (spare start.any t.course.tally.draws) (frames false e));
+            (sym (roll_none true (count_by is_bare (those_drawn gs)) (count_by is_lost gs) none))
+            (count (spare start.any t.course.tally.draws) (frames false e));
       }) where
         count : (some : ℕ) → 17 + some ≤ left + 8 → 9 + some ≤ left + 0
         count some enough = omega (arith, enough)

@@ -1,4 +1,5 @@
-use Rattle.std.proofs.Common.{◌≡◌, ℕ, ◌+◌, ◌-◌, ◌*◌, ◌<◌, ◌≤◌, ◌⊎◌, inl, inr, Bool, true, false, zero, suc, List, [], ◌∷◌, refl, sym, ap, subst, ◌∙◌, arith, Option}
+use Rattle.std.proofs.Common.{◌≡◌, ℕ, ◌+◌, ◌-◌, ◌*◌, ◌<◌, ◌≤◌, ◌⊎◌, inl, inr, Bool, true, false, zero, suc, List, [], ◌∷◌, refl, sym, ap, subst, ◌∙◌, arith}
+use Rattle.std.proofs.Common.{Option}
 use Rattle.std.proofs.Common.{Some, None}
 use Rattle.std.specs.Prelude.{◌==◌, ◌&&◌, nat_lt, if◌then◌else◌, is_some, MatchOption}
 use Rattle.std.specs.List.{count_by}
@@ -21,7 +22,8 @@ use Rattle.dali_script.proofs.Lists.{has_map}
 use Rattle.dali_script.proofs.Members.{same_member}
 use Rattle.dali_search.specs.declared.step.Step.TheVariants.{Found}
 use Rattle.dali_controller.specs.declared.purpose.Purpose.{Purpose}
-use Rattle.dali_controller.specs.declared.purpose.Purpose.TheVariants.{Opening, Probing, Hunting, Visiting, Resolving, Closing, Calling, Drawing, PassingOver, Asking as Counting}
+use Rattle.dali_controller.specs.declared.purpose.Purpose.TheVariants.{Opening, Probing, Hunting, Visiting, Resolving, Closing, Calling, Drawing, PassingOver}
+use Rattle.dali_controller.specs.declared.purpose.Purpose.TheVariants.{Asking as Counting}
 use Rattle.dali_controller.specs.declared.way.Way.{Way}
 use Rattle.dali_controller.specs.declared.way.Way.TheVariants.{Fresh, Surveying}
 use Rattle.dali_controller.specs.Course.{closing_of, address_for, least_open, is_open, is_anothers, opening_anew, closing as closing_by}
@@ -282,10 +284,11 @@ withdrawn_turns start t o r a gs left g st kept purpose is v agreed = go o g (g.
 
   -- the frames that are left for the search that goes on
   ends : 106 * count_by is_wanted (those_drawn gs) + 32 + (called_after (count_by is_lost gs) + spare start.any t.course.tally.draws) ≤ left
-  ends = go (count_by is_wanted (those_drawn gs)) ((called_after (count_by is_lost gs) + spare start.any t.course.tally.draws)) v.behind v.behind_is.0 v.behind_is.1 v.frames where
-    go : (count after behind : ℕ) → count ≤ behind → search_frames behind ≤ v.rest → v.rest + 27 + after ≤ left + 5 * behind
-        → 106 * count + 32 + after ≤ left
-    go count after behind few enough all = omega (arith, few, enough, all)
+  ends = go (count_by is_wanted (those_drawn gs)) ((called_after (count_by is_lost gs) + spare start.any t.course.tally.draws))
+      v.behind v.behind_is.0 v.behind_is.1 v.frames where
+        go : (count after behind : ℕ) → count ≤ behind → search_frames behind ≤ v.rest → v.rest + 27 + after ≤ left + 5 * behind
+            → 106 * count + 32 + after ≤ left
+        go count after behind few enough all = omega (arith, few, enough, all)
 
   -- and who is left is above it
   up : Above t.course.ascent (value_of r) (those_drawn gs)

@@ -1,4 +1,5 @@
-use Rattle.std.proofs.Common.{◌≡◌, ℕ, ◌+◌, ◌<◌, ◌≤◌, ◌⊎◌, inl, inr, Bool, true, false, zero, suc, List, [], ◌∷◌, refl, sym, ap, subst, ◌∙◌, arith, length, Option}
+use Rattle.std.proofs.Common.{◌≡◌, ℕ, ◌+◌, ◌<◌, ◌≤◌, ◌⊎◌, inl, inr, Bool, true, false, zero, suc, List, [], ◌∷◌, refl, sym, ap, subst, ◌∙◌, arith, length}
+use Rattle.std.proofs.Common.{Option}
 use Rattle.std.proofs.Common.{Some, None}
 use Rattle.std.specs.Prelude.{◌&&◌, nat_le, if◌then◌else◌}
 use Rattle.std.specs.List.{count_by}
@@ -194,10 +195,6 @@ abbrev pub IsByteLow : Command → Type 0
 IsByteLow (SearchLow byte) = byte < 256
 IsByteLow (Program None) = ⊥
 IsByteLow _ = Unit {0}
-
-low_by : (active : Bool) (byte low : ℕ) → byte < 256 → low < 256 → (if active then byte else low) < 256
-low_by true byte low new old = new
-low_by false byte low new old = old
 
 kept_none : (given : Bool) (a : ℕ) (o : Option ℕ) → (if given then Some a else o) ≡ None → o ≡ None
 kept_none true a o e = absurd (cc)
