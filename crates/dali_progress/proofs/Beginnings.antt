@@ -138,7 +138,7 @@ survey_spent : (any : Bool) (s : SiteState) (c left : ℕ) (es : List Event) →
     → IsPumpRefused (site_after s es) trouble.None refusal.DrawsSpent → ⊥
 survey_spent any s c left es a runs enough rounds =
     drawing.never_spent (of_survey (survey.began_at any s)) (survey.argument (survey.began_at any s)) (HasNumbers any)
-        (survey_draws (survey.began_at any s)) s c
+    (survey_draws (survey.began_at any s)) s c
     left es runs rounds
     (λ m there. subst (λ t. HasNumbers any (informed_by m t) (world s).gear (world s).left) (sym a.told)
     (subst (λ n. HasNumbers any n (world s).gear (world s).left)

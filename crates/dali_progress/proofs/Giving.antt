@@ -106,7 +106,7 @@ later_given m i s x other at unclosed turn some lawful addressing =
     given m i (Put LATER (frame_of x)) other
     (ordered (machine_told m i) s (Put LATER (frame_of x)) at (inr (refl, some, lawful)) addressing
     (subst (λ d. IsCaused (machine_told m i) d (Put LATER (frame_of x)))
-        (sym (course_stays (machine_told m i) s at.stage (plain_unasked s (machine_told m i).course.purpose at.plain)))
+    (sym (course_stays (machine_told m i) s at.stage (plain_unasked s (machine_told m i).course.purpose at.plain)))
     (subst (λ e. IsBegun (machine_told m i) e) (sym unclosed) unclosed, inl unclosed)))
     (λ e. absurd (omega (arith, e)))
     (followed (machine_told m i) s (Put LATER (frame_of x)) at (λ c e. ap (λ y. Put LATER (frame_of y)) (some_same x c (sym turn ∙ e))))

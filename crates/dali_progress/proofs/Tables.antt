@@ -80,10 +80,6 @@ tabled_drawn before xs gs numbers still tabled =
 pub still_once : (gs : List Gear) → AreOpening stage.Initialised gs → OfPowered gs StandsStill
 still_once gs all k in_row on a short = rw ((all k in_row on).0) refl
 
-both_false : (b : Bool) → (b && false) ≡ false
-both_false true = refl
-both_false false = refl
-
 pub still_twice : (gs : List Gear) → AreOpening stage.RandomisedOnce gs → OfPowered gs StandsStill
 still_twice gs all k in_row on a short = rw ((all k in_row on).0, (all k in_row on).1.1 a short) refl
 

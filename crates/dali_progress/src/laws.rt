@@ -40,8 +40,8 @@ ghost use Rattle.dali_world.specs.Site.{SiteState, opened_site, world, IsActRefu
 ghost use Rattle.dali_replay.specs.Installation.{Installation, installation_of};
 ghost use Rattle.dali_replay.specs.Rounds.{Ran};
 ghost use Rattle.dali_progress.specs.Rounds.{Beginning, ByStart, Settled, Any, by_survey, BeginsAlone, IsSettledAt};
-ghost use Rattle.dali_progress.specs.Rounds.{restarted, Rounds, site_after, frames, bare, most_frames, most_events, most_draws};
-ghost use Rattle.dali_progress.specs.Rounds.{GoesOn, HasEnded};
+ghost use Rattle.dali_progress.specs.Rounds.{restarted, Rounds, site_after, frames, bare, most_frames, most_events};
+ghost use Rattle.dali_progress.specs.Rounds.{most_draws, GoesOn, HasEnded};
 ghost use Rattle.dali_progress.specs.Ends.{IsTrueEnd, table_at, NamesAll, CommitsNothing};
 ghost use Rattle.dali_progress.specs.Running.{RanAlone, HasBegun, begun, HasRoom, HasEndedBy, WasRefused};
 ghost use Rattle.dali_progress.specs.Surveyed.{Step, IsCourse, ArePlain, WasHeard, IsAccounted, HasSurveyed};
@@ -180,7 +180,8 @@ pub fn a_census_is_bounded()
     ensures any { (steps : List Step) (n : Machine) → IsCourse steps n → BeginsBySurvey steps → AreWhole steps
         → IsWhole n → frames_asked steps ≤ 320 * (1 + n.course.tally.askings) + 5 * frames_lost steps }
     ensures steady { (steps : List Step) (n : Machine) → IsCourse steps n → BeginsBySurvey steps → AreWhole steps
-        → IsWhole n → AreSteady steps → frames_asked steps ≤ 192 * (1 + n.course.tally.askings) + 3 * frames_lost steps }
+        → IsWhole n → AreSteady steps
+        → frames_asked steps ≤ 192 * (1 + n.course.tally.askings) + 3 * frames_lost steps }
     ensures again { (steps : List Step) (n : Machine) → IsCourse steps n → BeginsBySurvey steps → AreWhole steps
         → IsWhole n → n.course.tally.askings ≤ 6 }
 {}
@@ -200,9 +201,9 @@ pub fn nothing_is_given_where_somebody_was_heard()
     ensures reserved { (s : Step) (earlier : List Step) (n : Machine) (a r : ℕ) → a < 64 → IsCourse (s ∷ earlier) n
         → ArePlain (s ∷ earlier) → s.order ≡ Commit (Reserve a r) → HasSurveyed n → WasHeard (s ∷ earlier) a → ⊥ }
     ensures given { (s : Step) (earlier : List Step) (n : Machine) (a : ℕ) (q : SearchAddress) (f : Forward) → a < 64
-        → IsCourse (s ∷ earlier) n → ArePlain (s ∷ earlier) → s.order ≡ Put LATER f → HasSurveyed n → n.course.opened ≡ true
-        → stage_told s ≡ Unnamed q → address_for n.kept.reserved (value_of q) ≡ Some a → WasHeard (s ∷ earlier) a
-        → Has n.kept.enrolled (a, value_of q) }
+        → IsCourse (s ∷ earlier) n → ArePlain (s ∷ earlier) → s.order ≡ Put LATER f → HasSurveyed n
+        → n.course.opened ≡ true → stage_told s ≡ Unnamed q → address_for n.kept.reserved (value_of q) ≡ Some a
+        → WasHeard (s ∷ earlier) a → Has n.kept.enrolled (a, value_of q) }
     ensures silent { (s : Step) (earlier : List Step) (n : Machine) (a r : ℕ) → a < 64 → IsCourse (s ∷ earlier) n
         → BeginsBySurvey (s ∷ earlier) → ArePlain (s ∷ earlier) → AreWhole (s ∷ earlier) → IsWhole n
         → s.order ≡ Commit (Reserve a r) → HasSurveyed n → WasSilent (s ∷ earlier) a }

@@ -1,5 +1,5 @@
 use Rattle.std.proofs.Common.{◌≡◌, ℕ, ◌+◌, ◌*◌, ◌<◌, ◌≤◌, ◌⊎◌, inl, inr, Bool, true, false, [], refl, sym, ap, subst, ◌∙◌, arith, Option, Some, None}
-use Rattle.std.specs.Prelude.{◌==◌, ◌-◌, nat_lt, zero, suc}
+use Rattle.std.specs.Prelude.{◌==◌, nat_lt, zero, suc}
 use Rattle.std.proofs.Math.Nat.{mul-le-mul_left}
 use Rattle.std.proofs.lemmas.Bool.Decides.{nat_tests}
 use Rattle.dali_frame.specs.declared.frames.Answer.{Answer}
@@ -21,7 +21,6 @@ use Rattle.dali_script.specs.declared.orders.Order.{Order}
 use Rattle.dali_script.specs.declared.orders.Order.TheVariants.{Put, Commit, Done, Halt}
 use Rattle.dali_script.specs.declared.orders.End.{End}
 use Rattle.dali_script.specs.declared.orders.Fault.{Fault}
-use Rattle.dali_controller.specs.declared.purpose.Purpose.{Purpose}
 use Rattle.dali_controller.specs.declared.purpose.Purpose.TheVariants.{Resolving, Asking}
 use Rattle.dali_controller.specs.declared.way.Way.TheVariants.{Surveying}
 use Rattle.dali_controller.specs.Course.{Course}
@@ -54,42 +53,42 @@ Leaves u t n most = left u n + granted u t.course.tally.askings ≤ most + grant
 pub moved_left : (u : ℕ) (t n : Machine) (d : Course) → n.course ≡ d → Moves t.course d → Leaves u t n (beyond u t.course.from)
 moved_left u t n d is moves =
     subst (λ k. left u n + granted u t.course.tally.askings ≤ beyond u t.course.from + granted u k) (sym askings) (rw (way, from) (go moves.on)) where
-  way : n.course.way ≡ Surveying
-  way = ap (λ (c : Course). c.way) is ∙ moves.way
+      way : n.course.way ≡ Surveying
+      way = ap (λ (c : Course). c.way) is ∙ moves.way
 
-  from : n.course.from ≡ d.from
-  from = ap (λ (c : Course). c.from) is
+      from : n.course.from ≡ d.from
+      from = ap (λ (c : Course). c.from) is
 
-  askings : n.course.tally.askings ≡ d.tally.askings
-  askings = ap (λ (c : Course). c.tally.askings) is
+      askings : n.course.tally.askings ≡ d.tally.askings
+      askings = ap (λ (c : Course). c.tally.askings) is
 
-  most : (last : Option Order) → of_last u n last ≤ u + 2
-  most (Some (Put p f)) = of_purpose_most u n.asked n.course.purpose (stage_of n.trace)
-  most _ = omega arith
+      most : (last : Option Order) → of_last u n last ≤ u + 2
+      most (Some (Put p f)) = of_purpose_most u n.asked n.course.purpose (stage_of n.trace)
+      most _ = omega arith
 
-  none : (last : Option Order) → ((k j : ℕ) (s : Stage) → of_purpose k j d.purpose s ≡ 0) → of_last u n last ≡ 0
-  none (Some (Put p f)) asks = rw (ap (λ (c : Course). c.purpose) is) (asks u n.asked (stage_of n.trace))
-  none _ asks = refl
+      none : (last : Option Order) → ((k j : ℕ) (s : Stage) → of_purpose k j d.purpose s ≡ 0) → of_last u n last ≡ 0
+      none (Some (Put p f)) asks = rw (ap (λ (c : Course). c.purpose) is) (asks u n.asked (stage_of n.trace))
+      none _ asks = refl
 
-  further : (first : ℕ) → Further first d → beyond u d.from + of_last u n n.last ≤ beyond u first
-  further first (inl same) =
-      let fewer : beyond u d.from ≤ beyond u first = mul-le-mul_left (u + 2) same.0 in
-      rw (none n.last same.1) (omega (arith, fewer))
-  further first (inr less) =
-      let fewer : beyond u d.from + (u + 2) ≤ beyond u first = beyond_less u first d.from less.0 less.1 in
-      let some : of_last u n n.last ≤ u + 2 = most n.last in
-      omega (arith, fewer, some)
+      further : (first : ℕ) → Further first d → beyond u d.from + of_last u n n.last ≤ beyond u first
+      further first (inl same) =
+          let fewer : beyond u d.from ≤ beyond u first = mul-le-mul_left (u + 2) same.0 in
+          rw (none n.last same.1) (omega (arith, fewer))
+      further first (inr less) =
+          let fewer : beyond u d.from + (u + 2) ≤ beyond u first = beyond_less u first d.from less.0 less.1 in
+          let some : of_last u n n.last ≤ u + 2 = most n.last in
+          omega (arith, fewer, some)
 
-  go : ((d.tally.askings ≡ t.course.tally.askings) × Further t.course.from d)
-      ⊎ ((t.course.tally.askings < 6) × (d.tally.askings ≡ t.course.tally.askings + 1) × Further 0 d)
-      → beyond u d.from + of_last u n n.last + granted u t.course.tally.askings ≤ beyond u t.course.from + granted u d.tally.askings
-  go (inl same) = let fewer = further t.course.from same.1 in rw same.0 (omega (arith, fewer))
-  go (inr again) =
-      let fewer : beyond u d.from + of_last u n n.last ≤ beyond u 0 = further 0 again.2 in
-      let all : beyond u 0 ≤ (u + 2) * 64 = beyond_most u 0 in
-      let more : granted u d.tally.askings ≡ granted u t.course.tally.askings + (u + 2) * 64 =
-      ap (granted u) again.1 ∙ granted_more u t.course.tally.askings in
-      omega (arith, fewer, all, more)
+      go : ((d.tally.askings ≡ t.course.tally.askings) × Further t.course.from d)
+          ⊎ ((t.course.tally.askings < 6) × (d.tally.askings ≡ t.course.tally.askings + 1) × Further 0 d)
+          → beyond u d.from + of_last u n n.last + granted u t.course.tally.askings ≤ beyond u t.course.from + granted u d.tally.askings
+      go (inl same) = let fewer = further t.course.from same.1 in rw same.0 (omega (arith, fewer))
+      go (inr again) =
+          let fewer : beyond u d.from + of_last u n n.last ≤ beyond u 0 = further 0 again.2 in
+          let all : beyond u 0 ≤ (u + 2) * 64 = beyond_most u 0 in
+          let more : granted u d.tally.askings ≡ granted u t.course.tally.askings + (u + 2) * 64 =
+          ap (granted u) again.1 ∙ granted_more u t.course.tally.askings in
+          omega (arith, fewer, all, more)
 
 -- on the same course
 pub still_left : (u : ℕ) (t n : Machine) (most : ℕ) → n.course ≡ t.course → left u n ≤ most → Leaves u t n most
@@ -194,18 +193,18 @@ first_left u t a k h one surveys purpose unopened at asked steady =
       later : (f : Forward) → (t.trace ≡ [] → ⊥) → IsWhole (machine_ordered t (Put LATER f)) → OneLess u t (machine_ordered t (Put LATER f)) (waits u k)
       later f running whole =
           go steady (later_asks t f a (stage.HighAsked a (byte_heard h)) purpose at tt whole) where
-        two : of_last u (machine_ordered t (Put LATER f)) (Some (Put LATER f)) ≡ 2
-        two = rw (stays, at, purpose) refl
+            two : of_last u (machine_ordered t (Put LATER f)) (Some (Put LATER f)) ≡ 2
+            two = rw (stays, at, purpose) refl
 
-        go : (h ≡ Silence) ⊎ (3 ≤ waits u k) → Asks a (stage.HighAsked a (byte_heard h)) (command_of f)
-            → OneLess u t (machine_ordered t (Put LATER f)) (waits u k)
-        go (inr enough) asks =
-            one_still u t (machine_ordered t (Put LATER f)) (waits u k) stays
-            (rw (same_left u t (machine_ordered t (Put LATER f)) stays surveys, two) (omega (arith, enough)))
-        go (inl silent) (inl other) = absurd (let never = other.0 in cc)
-        go (inl silent) (inr (inl (b, x, same, c, here))) =
-            absurd (let none : stage.HighAsked a None ≡ stage.HighAsked b (Some x) = ap (λ r. stage.HighAsked a (byte_heard r)) (sym silent) ∙ same in cc)
-        go (inl silent) (inr (inr (b, x, same, c, here))) = absurd (cc)
+            go : (h ≡ Silence) ⊎ (3 ≤ waits u k) → Asks a (stage.HighAsked a (byte_heard h)) (command_of f)
+                → OneLess u t (machine_ordered t (Put LATER f)) (waits u k)
+            go (inr enough) asks =
+                one_still u t (machine_ordered t (Put LATER f)) (waits u k) stays
+                (rw (same_left u t (machine_ordered t (Put LATER f)) stays surveys, two) (omega (arith, enough)))
+            go (inl silent) (inl other) = absurd (let never = other.0 in cc)
+            go (inl silent) (inr (inl (b, x, same, c, here))) =
+                absurd (let none : stage.HighAsked a None ≡ stage.HighAsked b (Some x) = ap (λ r. stage.HighAsked a (byte_heard r)) (sym silent) ∙ same in cc)
+            go (inl silent) (inr (inr (b, x, same, c, here))) = absurd (cc)
 
 -- a later query was heard: more of the transaction follows, or another begins
 over_left : (u : ℕ) (t : Machine) (a r : ℕ) (s : Stage) → 1 ≤ r → t.course.way ≡ Surveying → t.course.purpose ≡ Asking a → stage_of t.trace ≡ s

@@ -371,7 +371,7 @@ heard_next m h o a b p f small purpose last given whole (inr (here, none)) = inl
 heard_next m h o a b p f small purpose last given whole (inl low) =
     inr (subst (λ t. IsEnded (machine_ordered t o) ⊎ (IsTabled (machine_ordered t o) a ⊎ IsToCome (machine_ordered t o) a)) (sym told)
     (ahead (machine_heard m (Some f) h) a b small purpose counts.way hears.opened low
-        (asking_unasked (stage_of (machine_heard m (Some f) h).trace) m.course.purpose b purpose)
+    (asking_unasked (stage_of (machine_heard m (Some f) h).trace) m.course.purpose b purpose)
     (begins_by_stage (machine_heard m (Some f) h) b h m hears) o
     (subst (λ t. IsAllowed t o) told given.answered.allowed))) where
       told : machine_told m (input.Heard h) ≡ machine_heard m (Some f) h
@@ -405,7 +405,7 @@ lost_next m t o a b p f small purpose last whole course same_last free may after
       → IsEnded (machine_ordered t o) ⊎ (IsTabled (machine_ordered t o) a ⊎ IsToCome (machine_ordered t o) a)
   go (inl low) =
       ahead t a b small asks (ap (λ (c : Course). c.way) course ∙ counts.way) (ap (λ (c : Course). c.opened) course ∙ counts.opened)
-          (subst (λ (c : Course). c.from ≤ a) (sym course) low)
+      (subst (λ (c : Course). c.from ≤ a) (sym course) low)
       (asking_unasked (stage_of t.trace) t.course.purpose b asks) (inl same) o may
   go (inr (here, none)) =
       by (again t a b stage.Free asks here same at (λ n e. cc) (ap finding_of free ∙ none_found)

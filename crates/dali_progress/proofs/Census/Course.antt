@@ -13,7 +13,7 @@ use Rattle.dali_script.specs.declared.orders.Fault.{Fault}
 use Rattle.dali_script.specs.declared.orders.Fault.TheVariants as fault
 use Rattle.dali_script.specs.declared.orders.Due.TheVariants as due
 use Rattle.dali_script.specs.Due.{due_after, accepts, frame_put, record_ordered}
-use Rattle.dali_controller.specs.declared.purpose.Purpose.TheVariants.{Opening, Asking}
+use Rattle.dali_controller.specs.declared.purpose.Purpose.TheVariants.{Asking}
 use Rattle.dali_controller.specs.declared.way.Way.TheVariants.{Surveying}
 use Rattle.dali_controller.specs.Course.{Course}
 use Rattle.dali_controller.specs.Machine.{Machine, at_first, machine_told, machine_heard, machine_committed}
@@ -22,7 +22,7 @@ use Rattle.dali_controller.specs.Whole.{IsWhole}
 use Rattle.dali_progress.specs.Surveyed.{Step, IsTaken, IsCourse}
 use Rattle.dali_progress.specs.Census.{IsSurveyed, BeginsBySurvey, AreWhole, was_sent, was_lost, frames_asked, frames_lost, IsSteady, AreSteady}
 use Rattle.dali_progress.proofs.Census.Left.{waits, of_purpose, of_last, beyond, left, granted, beyond_most}
-use Rattle.dali_progress.proofs.Census.Asked.{same_left, sent_left, sending_of}
+use Rattle.dali_progress.proofs.Census.Asked.{same_left, sent_left}
 use Rattle.dali_progress.proofs.Census.Others.{Rests, asking_or, any_left, calm_left, kept_left, ordered_way, ordered_askings}
 
 -- A CENSUS IS BOUNDED: each step, and all of a course.

@@ -12,7 +12,6 @@ use Rattle.dali_script.specs.Records.{Kept}
 use Rattle.dali_script.specs.Stages.{stage_of}
 use Rattle.dali_script.specs.declared.orders.Order.{Order}
 use Rattle.dali_script.specs.declared.orders.Order.TheVariants.{Put, Commit}
-use Rattle.dali_script.specs.declared.orders.End.{End}
 use Rattle.dali_script.specs.declared.orders.End.TheVariants.{AllFound, BlockFull, GaveUp}
 use Rattle.dali_search.specs.declared.step.Step.{Step}
 use Rattle.dali_search.specs.declared.step.Step.TheVariants.{Again, Found, Nobody}

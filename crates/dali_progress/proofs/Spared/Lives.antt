@@ -3,7 +3,7 @@ use Rattle.std.specs.Prelude.{◌==◌, if◌then◌else◌}
 use Rattle.dali_frame.specs.declared.frames.Answer.{Answer}
 use Rattle.dali_frame.specs.declared.frames.Answer.TheVariants.{Silence}
 use Rattle.dali_frame.specs.declared.frames.Forward.{Forward}
-use Rattle.dali_frame.specs.Priority.{FIRST, LATER}
+use Rattle.dali_frame.specs.Priority.{LATER}
 use Rattle.dali_special.specs.declared.command.Command.TheVariants.{RandomByte}
 use Rattle.dali_special.specs.declared.command.Part.TheVariants.{High, Middle, Low}
 use Rattle.dali_special.specs.Command.{command_of}
@@ -11,7 +11,6 @@ use Rattle.dali_special.proofs.Table.{read_spelled}
 use Rattle.dali_script.specs.declared.block.Block.{Block}
 use Rattle.dali_script.specs.declared.records.Record.{Record}
 use Rattle.dali_script.specs.declared.records.Record.TheVariants.{Reserve}
-use Rattle.dali_script.specs.declared.stage.Stage.{Stage}
 use Rattle.dali_script.specs.declared.stage.Stage.TheVariants as stage
 use Rattle.dali_script.specs.Records.{Kept, Has, InBlock}
 use Rattle.dali_script.specs.Stages.{stage_of, next_stage, bytes_heard, number_heard}
@@ -24,7 +23,6 @@ use Rattle.dali_script.specs.declared.orders.Order.TheVariants.{Put, Commit, Don
 use Rattle.dali_script.specs.declared.orders.Due.TheVariants as due
 use Rattle.dali_script.specs.Due.{due_after, accepts, frame_put, record_ordered}
 use Rattle.dali_controller.specs.declared.purpose.Purpose.TheVariants.{Opening, Asking}
-use Rattle.dali_controller.specs.declared.purpose.Purpose.{Purpose}
 use Rattle.dali_controller.specs.declared.way.Way.TheVariants.{Fresh, Surveying}
 use Rattle.dali_controller.specs.Machine.{Machine, at_first, machine_told, machine_heard, machine_committed}
 use Rattle.dali_controller.specs.Orders.{IsGiven, MayCommit, machine_after, machine_ordered}

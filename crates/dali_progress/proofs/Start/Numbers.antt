@@ -277,7 +277,7 @@ pub start_draws : (before : List Gear) → Draws (of_start before) LeavesDraws
 start_draws before = record {
   acts = λ s c left l i o u here good given holds has.
       acts_has before (world s) s.queue c u.machine (controller_at (world s) c).outstanding (controller_at (world s) c).last
-          (controller_at (world s) c).told i o
+      (controller_at (world s) c).told i o
       (world s).gear (world s).left left u.goes.lone.moment u.goes.lone.last (due_of (controller_at (world s) c) i here.due) good
       (given_by u.machine i o (not_failed false i good) given).ordered.allowed u.goes.holds has;
   sends = λ m p f h gs numbers left last holds has. has_heard m p f h before gs numbers left last (next_holds before m (Put p f) gs left holds) has;

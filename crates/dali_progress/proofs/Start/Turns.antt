@@ -188,7 +188,7 @@ turns_later : (before : List Gear) (t : Machine) (o : Order) (p : Purpose) (s : 
     → turn_of p t.course.number s ≡ Some c → IsSpelled c → Sends p t.course.number t.kept s c → IsNext before (machine_ordered t o) o gs left
 turns_later before t o p s c gs left g st purpose is turn spelled sends =
     goes_later before t o s c gs left st is (subst (IsUnasked s) (sym purpose) (turn_unasked p t.course.number s c turn))
-        (given.turns t o c g (rw (purpose, is) turn)) spelled
+    (given.turns t o c g (rw (purpose, is) turn)) spelled
     (rw (purpose, is) sends)
 
 opening_turns : (before : List Gear) (t : Machine) (o : Order) (s : Stage) (gs : List Gear) (left : ℕ) → IsGivenBy t o → Stands before t gs left

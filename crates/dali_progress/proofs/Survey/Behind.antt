@@ -6,10 +6,9 @@ use Rattle.dali_frame.specs.declared.frames.Answer.TheVariants.{Silence, Byte, D
 use Rattle.dali_frame.specs.declared.numbers.SearchAddress.{SearchAddress}
 use Rattle.dali_frame.specs.Random.{value_of}
 use Rattle.dali_special.specs.declared.command.Command.{Command}
-use Rattle.dali_special.specs.declared.command.Command.TheVariants.{Initialise, Withdraw, SearchHigh, SearchMiddle, SearchLow, Randomise, QueryShort}
+use Rattle.dali_special.specs.declared.command.Command.TheVariants.{Withdraw, SearchHigh, SearchMiddle, SearchLow, QueryShort}
 use Rattle.dali_frame.specs.Short.{short_of}
 use Rattle.dali_special.specs.Command.{MASK}
-use Rattle.dali_special.specs.declared.command.Target.TheVariants.{Unaddressed}
 use Rattle.dali_gear.specs.declared.row.Reach.TheVariants.{Everyone}
 use Rattle.dali_gear.specs.Gear.{Gear}
 use Rattle.dali_gear.specs.Row.{row_after}
@@ -19,13 +18,13 @@ use Rattle.dali_script.specs.declared.stage.Stage.TheVariants as stage
 use Rattle.dali_script.specs.Stages.{next_stage, queried, named, verified, answered}
 use Rattle.dali_search.specs.Ascending.{Ascent}
 use Rattle.dali_controller.specs.declared.purpose.Purpose.{Purpose}
-use Rattle.dali_controller.specs.declared.purpose.Purpose.TheVariants.{Opening, Visiting, Hunting}
-use Rattle.dali_events.specs.Wanted.{wants, is_wanted, is_bare}
+use Rattle.dali_controller.specs.declared.purpose.Purpose.TheVariants.{Visiting, Hunting}
+use Rattle.dali_events.specs.Wanted.{wants, is_wanted}
 use Rattle.dali_events.proofs.Search.Programming as programming
 use Rattle.dali_events.proofs.Search.Withdrawing as withdrawing
 use Rattle.dali_events.proofs.Search.Leaving as leaving
 use Rattle.dali_events.proofs.Search.Leaving.{SameCore, LeavesShort}
-use Rattle.dali_progress.proofs.Stands.{search_frames, Opens, VisitFrames, VisitsAt, Sends}
+use Rattle.dali_progress.proofs.Stands.{search_frames, VisitFrames, VisitsAt, Sends}
 use Rattle.dali_progress.proofs.Frames.{Seeks}
 use Rattle.dali_progress.proofs.Survey.Stands.{IsBehind, IsLeastAt, IsReached, HuntAt}
 

@@ -104,10 +104,6 @@ IsSearching _ = ⊥
 abbrev pub Still : Command → Gear → Type 0
 Still c g = is_undrawn g ≡ true → g.powered ≡ true → (short_after c g ≡ None) × (answer c g ≡ None)
 
-both_false : (b : Bool) → (b && false) ≡ false
-both_false true = refl
-both_false false = refl
-
 given_undrawn : (g : Gear) (o : Option ℕ) (b : Bool) → is_undrawn g ≡ b → (b ≡ true → o ≡ None) → (b ≡ false → (g.random == MASK24) ≡ true → is_some o ≡ true)
     → ((g.random == MASK24) && not (is_some o)) ≡ b
 given_undrawn g o true is none some = let both = both_pass (g.random == MASK24) (not (is_some g.short)) is in rw (both.0, none refl) refl

@@ -21,7 +21,7 @@ use Rattle.dali_controller.specs.Next.{next_course, begins_at, at_rest, beginnin
 use Rattle.dali_controller.specs.Orders.{machine_ordered, AfterEnrolled}
 use Rattle.dali_controller.proofs.Given as given
 use Rattle.dali_controller.proofs.Given.{IsGivenBy, IsNoEnrolment}
-use Rattle.dali_events.specs.Wanted.{is_wanted, wants}
+use Rattle.dali_events.specs.Wanted.{wants}
 use Rattle.dali_progress.proofs.Stands.{search_frames}
 use Rattle.dali_progress.proofs.Frames.{value_sought}
 use Rattle.dali_progress.proofs.Tables.{tabled_over}

@@ -9,8 +9,7 @@ use Rattle.dali_frame.specs.declared.frames.Answer.{Answer}
 use Rattle.dali_frame.specs.declared.frames.Answer.TheVariants.{Silence, Byte, Damaged}
 use Rattle.dali_frame.specs.declared.numbers.SearchAddress.{SearchAddress}
 use Rattle.dali_special.specs.declared.command.Command.{Command}
-use Rattle.dali_special.specs.declared.command.Command.TheVariants.{Terminate, Initialise, Randomise, Compare, SearchHigh, SearchMiddle, SearchLow}
-use Rattle.dali_special.specs.declared.command.Target.TheVariants.{Unaddressed}
+use Rattle.dali_special.specs.declared.command.Command.TheVariants.{Randomise, Compare, SearchHigh, SearchMiddle, SearchLow}
 use Rattle.dali_special.specs.Command.{command_of}
 use Rattle.dali_gear.specs.declared.row.Reach.{Reach}
 use Rattle.dali_gear.specs.declared.row.Reach.TheVariants.{Everyone}
@@ -34,18 +33,14 @@ use Rattle.dali_search.specs.declared.step.Step.{Step}
 use Rattle.dali_search.specs.declared.step.Step.TheVariants.{Again, Found, Nobody}
 use Rattle.dali_controller.specs.declared.shorts.Shorts.{Shorts}
 use Rattle.dali_controller.specs.declared.purpose.Purpose.{Purpose}
-use Rattle.dali_controller.specs.declared.purpose.Purpose.TheVariants.{Opening, Probing, Hunting, Visiting, Resolving, Closing, Asking, Calling, Drawing}
-use Rattle.dali_controller.specs.declared.purpose.Purpose.TheVariants.{PassingOver}
+use Rattle.dali_controller.specs.declared.purpose.Purpose.TheVariants.{Opening, Hunting, Visiting, Closing, Asking, Calling, Drawing}
 use Rattle.dali_controller.specs.declared.way.Way.{Way}
 use Rattle.dali_controller.specs.declared.way.Way.TheVariants.{Fresh, Surveying}
-use Rattle.dali_controller.specs.Course.{Course, going_on, going_on_early, visit_or_opening, ask_or_call, next_asked, closing, searching_first, searching_on}
-use Rattle.dali_controller.specs.Course.{after_step}
+use Rattle.dali_controller.specs.Course.{Course, going_on, going_on_early, ask_or_call, next_asked, closing, searching_first, searching_on, after_step}
 use Rattle.dali_controller.specs.Course.{hunted, calling, hunting_first, drawing, opening_anew, opening_at_last, asking_again, byte_to_send, call_turn, is_yes}
 use Rattle.dali_controller.specs.Tally.{silent_call, heard_call, asked_again}
-use Rattle.dali_controller.specs.Next.{next_course, begins_at, at_rest, silenced, silenced_on, missed_again, unanswered, asked_once, hunted_in, hunted_to}
-use Rattle.dali_controller.specs.Next.{nobody_left}
-use Rattle.dali_controller.specs.Next.{undrawn, full, blocked, called_to, compared_in, ungiven, may_draw, has_open, asks_again, goes_on_to, asked_on, course_on}
-use Rattle.dali_controller.specs.Next.{is_failed}
+use Rattle.dali_controller.specs.Next.{next_course, begins_at, at_rest, silenced, silenced_on, missed_again, unanswered, asked_once, hunted_to, nobody_left}
+use Rattle.dali_controller.specs.Next.{full, blocked, called_to, compared_in, ungiven, may_draw, has_open, asks_again, asked_on, course_on}
 use Rattle.dali_controller.specs.Next.{most_silent, is_blocked}
 use Rattle.dali_controller.specs.Machine.{Machine, machine_heard, machine_told, machine_committed, machine_surveying}
 use Rattle.dali_controller.specs.Orders.{machine_after, machine_ordered, IsAllowed}
@@ -61,8 +56,7 @@ use Rattle.dali_world.specs.Site.{world, site_logged}
 use Rattle.dali_progress.specs.Rounds.{Succeeds}
 use Rattle.dali_progress.proofs.Lone.{Moment, IsDueOf, acts_by, due_of}
 use Rattle.dali_progress.proofs.Stands.{Sends}
-use Rattle.dali_progress.proofs.Both.{left_same, none_first, none_apart, needs_few, probing_never, visiting_never, closing_never, not_failed, is_complete}
-use Rattle.dali_progress.proofs.Both.{with_kept}
+use Rattle.dali_progress.proofs.Both.{left_same, none_first, none_apart, needs_few, visiting_never, closing_never, not_failed, is_complete, with_kept}
 use Rattle.dali_progress.proofs.Survey.Stands.{Begun, most_drawn, Draws, SurveyAt, SurveyStands}
 use Rattle.dali_progress.proofs.Survey.Begins.{IsNext}
 use Rattle.dali_progress.proofs.Survey.Goes.{Holds, Hears, of_survey, next_holds}
@@ -258,7 +252,7 @@ sent_numbers told p s k heard asked c start gs numbers left d h rest at is has =
   go false quiet =
       let none = never_by p c.number k s gs d (quiet_never told p s k heard asked c start gs left at quiet) is in
       rw quiet (none_drawn 0 none (subst (λ y. numbers_for ((if y then (if is_complete s then 0 else 1) else 0) + rest) (length gs) ≤ length numbers)
-          quiet has))
+      quiet has))
   go true draws = by (is_complete (next_stage s d h)) refl where
     before : numbers_for (1 + rest) (length gs) ≤ length numbers
     before =
@@ -452,7 +446,7 @@ later_few limit t (stage.Hunted r (Some h) room) few = go (asked_moves t t.cours
       ≤ draws_still t.course.purpose (stage.Hunted r (Some h) room) + (limit - t.course.tally.draws)
   go (inl same) =
       subst (λ (e : Course). draws_still e.purpose stage.Free + (limit - e.tally.draws) ≤ draws_still t.course.purpose stage.Free +
-          (limit - t.course.tally.draws))
+      (limit - t.course.tally.draws))
       (sym same) (same_draws (draws_still t.course.purpose stage.Free + (limit - t.course.tally.draws)))
   go (inr moves) = comes_few limit t.course (asked_on t t.course.purpose h) (stage.Hunted r (Some h) room) (inl moves) few
 later_few limit t s few = same_draws (draws_still t.course.purpose s + (limit - t.course.tally.draws))
@@ -479,13 +473,13 @@ heard_draws : (start : Begun) (t : Machine) (o : Order) (hs : List Gear) (l : �
     → ordered_draws start.any t o ≤ draws_still t.course.purpose (stage_of t.trace) + (most_drawn start.any - t.course.tally.draws)
 heard_draws start t (Put p f) hs l way (inl (first, lawful)) next =
     subst (λ r. ordered_draws start.any t (Put r f) ≤ draws_still t.course.purpose (stage_of t.trace) + (most_drawn start.any - t.course.tally.draws))
-        (sym first)
+    (sym first)
     (first_draws start t f hs l (draws_still t.course.purpose (stage_of t.trace) + (most_drawn start.any - t.course.tally.draws))
     (subst (λ r. IsNext start (machine_ordered t (Put r f)) (Put r f) hs l) first next)
     (comes_few (most_drawn start.any) t.course (next_course t) (stage_of t.trace) (begins_comes t (stage_of t.trace) way)))
 heard_draws start t (Put p f) hs l way (inr (later, runs, lawful)) next =
     subst (λ r. ordered_draws start.any t (Put r f) ≤ draws_still t.course.purpose (stage_of t.trace) + (most_drawn start.any - t.course.tally.draws))
-        (sym later)
+    (sym later)
     (later_few (most_drawn start.any) t (stage_of t.trace)
     (few_at false (course_on t (stage_of t.trace)).purpose (stage_of t.trace) t.kept t.heard (machine_ordered t (Put LATER f)).asked
     (course_on t (stage_of t.trace)) start hs l

@@ -256,16 +256,6 @@ knows_told has x false knows gives = record {
   above m false less member = absurd (gives (m, member, let most : m ≤ asked_next x = grind (arith, nat_tests) in most))
 
 -- somebody is wanted, or nobody is
-unsilent_where : (gs : List Gear) (x : Ascent) (m : ℕ) → IsAscent x → Knows (wants gs) x → wants gs m ≡ true → m < MASK24 → x.silent ≡ 0
-unsilent_where gs x m is knows has small = go (x.silent == 0) refl where
-  go : (b : Bool) → (x.silent == 0) ≡ b → x.silent ≡ 0
-  go true e = grind (arith, nat_tests)
-  go false e =
-      let low : x.low ≡ 0xFFFFFF = is.silence (grind (arith, nat_tests)) in
-      let from : x.low ≤ m = knows.above m has in
-      let under : m < 0xFFFFFF = small in
-      absurd (omega (arith, low, from, under))
-
 unbounded_where : (gs : List Gear) (x : Ascent) → Knows (wants gs) x → ((m : ℕ) → wants gs m ≡ true → ⊥) → is_bounded x ≡ false
 unbounded_where gs x knows none = go (is_bounded x) refl where
   go : (b : Bool) → is_bounded x ≡ b → is_bounded x ≡ false

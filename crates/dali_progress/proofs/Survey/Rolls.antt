@@ -1,4 +1,4 @@
-use Rattle.std.proofs.Common.{◌≡◌, ℕ, ◌+◌, ◌-◌, ◌*◌, ◌<◌, ◌≤◌, ◌⊎◌, inl, inr, Bool, true, false, zero, suc, List, [], ◌∷◌, refl, sym, ap, subst, ◌∙◌, arith}
+use Rattle.std.proofs.Common.{◌≡◌, ℕ, ◌+◌, ◌-◌, ◌*◌, ◌<◌, ◌≤◌, ◌⊎◌, inl, inr, Bool, true, false, zero, suc, List, refl, sym, ap, subst, ◌∙◌, arith}
 use Rattle.std.proofs.Common.{Option, Some, None}
 use Rattle.std.specs.Prelude.{◌==◌, if◌then◌else◌, unwrap_or}
 use Rattle.std.specs.List.{count_by}
@@ -152,7 +152,7 @@ pub calls_sent : (s : Stage) (k : Kept) (heard : Shorts) (c : Course) (start : B
 calls_sent stage.Free k heard c start gs numbers left d h v is t seek =
     subst (λ e. CalledTo stage.Free k heard c start gs numbers left e h) (sym is)
     (calls_on stage.Free stage.Terminated k heard c start gs numbers left Terminate v tt tt (opening.opening_terminated gs numbers) tt (omega arith)
-        (omega arith))
+    (omega arith))
 calls_sent stage.Terminated k heard c start gs numbers left d h v is t seek =
     subst (λ e. CalledTo stage.Terminated k heard c start gs numbers left e h) (some_is (Initialise Unaddressed) d is)
     (calls_on stage.Terminated stage.InitialisedOnce k heard c start gs numbers left (Initialise Unaddressed) v tt tt
@@ -173,7 +173,7 @@ calls_sent (stage.WokenHigh high) k heard c start gs numbers left d h v is t see
 calls_sent (stage.WokenLow high low) k heard c start gs numbers left d h v is t seek =
     subst (λ e. CalledTo (stage.WokenLow high low) k heard c start gs numbers left e h) (some_is (SearchMiddle c.number.middle) d is)
     (calls_on (stage.WokenLow high low) (stage.Hunted (record { high = high; middle = c.number.middle; low = low }) None CALLING)
-        k heard c start gs numbers left
+    k heard c start gs numbers left
     (SearchMiddle c.number.middle) v tt (whole, refl) (stays_initialised (SearchMiddle c.number.middle) gs numbers tt v.gear)
     (low_after (SearchMiddle c.number.middle) gs numbers tt v.low) (omega arith) (omega arith))
   where
@@ -253,7 +253,7 @@ opens_sent stage.Initialised k heard c start gs numbers left d h v is t =
     subst (λ e. DrawnTo Opening stage.Initialised k heard c start gs numbers left e h) (some_is Randomise d is)
     (draws_on Opening stage.Initialised stage.RandomisedOnce k heard c start gs numbers left Randomise v tt tt tt tt
     (opening.opening_randomised_once gs numbers v.gear) (tables.tabled_drawn (unseen start.gear) k.enrolled gs numbers (tables.still_once gs v.gear) v.tabled)
-        refl)
+    refl)
 opens_sent stage.RandomisedOnce k heard c start gs numbers left d h v is t =
     subst (λ e. IsSurveyTaken e gs numbers h → DrawnTo Opening stage.RandomisedOnce k heard c start gs numbers left e h) (some_is Randomise d is)
     (λ now. draws_on Opening stage.RandomisedOnce stage.Opened k heard c start gs numbers left Randomise v tt tt tt tt
@@ -268,7 +268,7 @@ pub draws_sent : (s : Stage) (k : Kept) (heard : Shorts) (c : Course) (start : B
 draws_sent stage.Free k heard c start gs numbers left d h v is t =
     subst (λ e. DrawnTo Drawing stage.Free k heard c start gs numbers left e h) (sym is)
     (draws_on Drawing stage.Free stage.Terminated k heard c start gs numbers left Terminate v tt tt tt
-        (undrawn_after Terminate gs numbers tt v.drawn.0, v.drawn.1)
+    (undrawn_after Terminate gs numbers tt v.drawn.0, v.drawn.1)
     (opening.opening_terminated gs numbers) (tabled_left (unseen start.gear) k.enrolled gs numbers Terminate tt v.tabled) refl)
 draws_sent stage.Terminated k heard c start gs numbers left d h v is t =
     subst (λ e. DrawnTo Drawing stage.Terminated k heard c start gs numbers left e h) (some_is (Initialise Unaddressed) d is)
@@ -314,7 +314,7 @@ draws_sent stage.DrawFree k heard c start gs numbers left d h v is t =
     subst (λ e. DrawnTo Drawing stage.DrawFree k heard c start gs numbers left e h) (some_is Randomise d is)
     (draws_on Drawing stage.DrawFree stage.RandomisedOnce k heard c start gs numbers left Randomise v tt tt tt tt
     (opening.opening_randomised_once gs numbers v.gear) (tables.tabled_drawn (unseen start.gear) k.enrolled gs numbers (tables.still_once gs v.gear) v.tabled)
-        refl)
+    refl)
 draws_sent stage.RandomisedOnce k heard c start gs numbers left d h v is t =
     subst (λ e. IsSurveyTaken e gs numbers h → DrawnTo Drawing stage.RandomisedOnce k heard c start gs numbers left e h) (some_is Randomise d is)
     (λ now. draws_on Drawing stage.RandomisedOnce stage.Opened k heard c start gs numbers left Randomise v tt tt tt tt

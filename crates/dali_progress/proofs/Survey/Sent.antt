@@ -8,10 +8,9 @@ use Rattle.dali_frame.specs.declared.frames.Answer.TheVariants.{Silence, Byte}
 use Rattle.dali_frame.specs.declared.numbers.SearchAddress.{SearchAddress}
 use Rattle.dali_frame.specs.Random.{value_of, number_of, high_of, middle_of, low_of, MASK24}
 use Rattle.dali_special.specs.declared.command.Command.{Command}
-use Rattle.dali_special.specs.declared.command.Command.TheVariants.{Terminate, Initialise, Withdraw, SearchMiddle, SearchLow, QueryShort, RandomByte}
+use Rattle.dali_special.specs.declared.command.Command.TheVariants.{Terminate, Withdraw, SearchMiddle, SearchLow, QueryShort, RandomByte}
 use Rattle.dali_special.specs.declared.command.Part.{Part}
 use Rattle.dali_special.specs.declared.command.Part.TheVariants.{High, Middle, Low}
-use Rattle.dali_special.specs.declared.command.Target.TheVariants.{Unaddressed}
 use Rattle.dali_gear.specs.declared.row.Reach.TheVariants.{Everyone}
 use Rattle.dali_gear.specs.Gear.{Gear, byte_at, draws_a_number}
 use Rattle.dali_gear.specs.Row.{takes, left_after, row_after, drawn_one, drawn_of, answers_of, heard_of}
@@ -36,7 +35,7 @@ use Rattle.dali_controller.specs.declared.purpose.Purpose.TheVariants.{PassingOv
 use Rattle.dali_controller.specs.declared.shorts.Shorts.{Shorts}
 use Rattle.dali_controller.specs.Course.{Course, sought}
 use Rattle.dali_controller.specs.Machine.{heard_after, asked_after, asked_after_silence, asked_at, marked_at}
-use Rattle.dali_events.specs.Wanted.{gear_of, is_bare, is_wanted}
+use Rattle.dali_events.specs.Wanted.{gear_of, is_wanted}
 use Rattle.dali_events.proofs.Invariant.Takes.{row_length}
 use Rattle.dali_events.proofs.Invariant.Resolving.{whole_number}
 use Rattle.dali_events.proofs.Search.Leaving as leaving
@@ -47,8 +46,7 @@ use Rattle.dali_progress.proofs.Survey.Behind.{IsHunt, least_sent, behind_sent, 
 use Rattle.dali_progress.proofs.Survey.Rising.{rises_sent, rising_one, rising_tabled, rising_sought}
 use Rattle.dali_progress.proofs.Frames.{IsTaken, Seeks, at_sent, one_less, value_sought}
 use Rattle.dali_progress.proofs.Tables.{IsTabledTo, at_tabled, tabled_left}
-use Rattle.dali_progress.proofs.Survey.Drawn.{those_drawn, is_lost, IsSearching, IsSoughtBy, AreNumbered, not_randomise, row_drawn, answers_drawn, searching_of}
-use Rattle.dali_progress.proofs.Survey.Drawn.{no_draw}
+use Rattle.dali_progress.proofs.Survey.Drawn.{those_drawn, is_lost, IsSearching, IsSoughtBy, not_randomise, row_drawn, answers_drawn, searching_of, no_draw}
 use Rattle.dali_progress.proofs.Survey.Drawn.{still_of, lost_same, seek_drawn}
 use Rattle.dali_progress.proofs.Survey.Queried.{Holds, OneGear, OneShort, one_gear, IsTrue, Nobody, HasAnswered, asked_gear, core_then, holds_on, holds_back}
 use Rattle.dali_progress.proofs.Survey.Queried.{unseen, below_on}
@@ -428,7 +426,7 @@ hunts_sent p s k heard c start gs numbers left d h hunt v is t seek = (
     at = subst (λ hs. HuntAt true p (next_stage s d h) k c.ascent c.number hs sent.0) row sent.2;
     tabled = subst (λ hs. AreTabled (unseen start.gear) (to_come (next_stage s d h) c.number k.enrolled) hs) row
         (hunt_tabled (unseen start.gear) p s k c.ascent c.number (those_drawn gs) numbers v.rest sent.0 d h hunt v.at is
-            (seeks_drawn s gs seek) sent.2 v.tabled);
+        (seeks_drawn s gs seek) sent.2 v.tabled);
     behind = v.behind;
     behind_is = subst (λ hs. IsBehind p (next_stage s d h) v.behind hs sent.0) row
         (behind_sent p s k c.ascent c.number (those_drawn gs) numbers v.rest sent.0 v.behind d h hunt sent.1 v.at is (seeks_drawn s gs seek) v.behind_is);

@@ -290,7 +290,7 @@ silent_call_turns start t o r h zero gs left g st purpose is v said nobody few =
         tabled = v.tabled;
         frames = subst (λ n. n + spare start.any t.course.tally.draws ≤ left + 0)
             (sym (roll_none true (count_by is_bare (those_drawn gs)) (count_by is_lost gs) none))
-                (count (spare start.any t.course.tally.draws) (frames false e));
+            (count (spare start.any t.course.tally.draws) (frames false e));
       }) where
         count : (some : ℕ) → 17 + some ≤ left + 8 → 9 + some ≤ left + 0
         count some enough = omega (arith, enough)

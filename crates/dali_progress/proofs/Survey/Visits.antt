@@ -286,9 +286,9 @@ withdrawn_turns start t o r a gs left g st kept purpose is v agreed = go o g (g.
   ends : 106 * count_by is_wanted (those_drawn gs) + 32 + (called_after (count_by is_lost gs) + spare start.any t.course.tally.draws) ≤ left
   ends = go (count_by is_wanted (those_drawn gs)) ((called_after (count_by is_lost gs) + spare start.any t.course.tally.draws))
       v.behind v.behind_is.0 v.behind_is.1 v.frames where
-    go : (count after behind : ℕ) → count ≤ behind → search_frames behind ≤ v.rest → v.rest + 27 + after ≤ left + 5 * behind
-        → 106 * count + 32 + after ≤ left
-    go count after behind few enough all = omega (arith, few, enough, all)
+        go : (count after behind : ℕ) → count ≤ behind → search_frames behind ≤ v.rest → v.rest + 27 + after ≤ left + 5 * behind
+            → 106 * count + 32 + after ≤ left
+        go count after behind few enough all = omega (arith, few, enough, all)
 
   -- and who is left is above it
   up : Above t.course.ascent (value_of r) (those_drawn gs)

@@ -1,7 +1,7 @@
 use Rattle.std.proofs.Common.{◌≡◌, ℕ, ◌+◌, ◌<◌, ◌≤◌, ◌⊎◌, inl, inr, Bool, true, false, zero, suc, List, [], ◌∷◌, refl, sym, ap, subst, ◌∙◌, arith, length}
 use Rattle.std.proofs.Common.{Option}
 use Rattle.std.proofs.Common.{Some, None}
-use Rattle.std.specs.Prelude.{◌==◌, ◌&&◌, not, is_some, nat_le, if◌then◌else◌}
+use Rattle.std.specs.Prelude.{◌&&◌, nat_le, if◌then◌else◌}
 use Rattle.std.specs.List.{count_by}
 use Rattle.std.proofs.lemmas.Bool.Decides.{nat_tests}
 use Rattle.dali_frame.specs.declared.frames.Answer.{Answer}
@@ -9,11 +9,10 @@ use Rattle.dali_frame.specs.declared.frames.Answer.TheVariants.{Silence, Byte, D
 use Rattle.dali_frame.specs.declared.numbers.SearchAddress.{SearchAddress}
 use Rattle.dali_frame.specs.Random.{value_of, MASK24}
 use Rattle.dali_special.specs.declared.command.Command.{Command}
-use Rattle.dali_special.specs.declared.command.Command.TheVariants.{Randomise, Compare, SearchHigh, SearchMiddle, SearchLow, Program, Initialise, Withdraw}
-use Rattle.dali_special.specs.declared.command.Command.TheVariants.{Terminate}
+use Rattle.dali_special.specs.declared.command.Command.TheVariants.{Randomise, Compare, SearchHigh, SearchMiddle, SearchLow, Program}
 use Rattle.dali_gear.specs.declared.state.InitialisationState.TheVariants.{Enabled}
 use Rattle.dali_gear.specs.declared.row.Reach.TheVariants.{Everyone}
-use Rattle.dali_gear.specs.Gear.{Gear, is_enabled, is_active, gear_taken, answer, search_after, short_after, draws_a_number}
+use Rattle.dali_gear.specs.Gear.{Gear, is_enabled, is_active, gear_taken, answer, search_after}
 use Rattle.dali_gear.specs.Row.{takes, row_after, option_cons, answers_of, heard_of}
 use Rattle.dali_script.specs.declared.stage.Stage.TheVariants as stage
 use Rattle.dali_controller.specs.Course.{is_yes}
@@ -25,8 +24,7 @@ use Rattle.dali_events.proofs.Search.Wanted.{both_pass, count_same, after_at}
 use Rattle.dali_events.proofs.Search.Heard.{silent_above, heard_below}
 use Rattle.dali_events.proofs.Search.Leaving as leaving
 use Rattle.dali_events.proofs.Search.Leaving.{LeavesCore, LeavesShort, SameCore, SeekMiddle}
-use Rattle.dali_events.proofs.Search.Opened as opening
-use Rattle.dali_events.proofs.Search.Opened.{AreOpening, IsOpening, OpenedBy}
+use Rattle.dali_events.proofs.Search.Opened.{AreOpening, IsOpening}
 use Rattle.dali_progress.proofs.Tables.{LeavesNames}
 use Rattle.dali_progress.proofs.Survey.Drawn.{those_drawn, is_undrawn, is_lost, bare_split, count_first, count_nothing, of_drawn, undrawn_random, woken_short}
 use Rattle.dali_progress.proofs.Survey.Drawn.{AreNumbered}
@@ -197,10 +195,6 @@ abbrev pub IsByteLow : Command → Type 0
 IsByteLow (SearchLow byte) = byte < 256
 IsByteLow (Program None) = ⊥
 IsByteLow _ = Unit {0}
-
-low_by : (active : Bool) (byte low : ℕ) → byte < 256 → low < 256 → (if active then byte else low) < 256
-low_by true byte low new old = new
-low_by false byte low new old = old
 
 kept_none : (given : Bool) (a : ℕ) (o : Option ℕ) → (if given then Some a else o) ≡ None → o ≡ None
 kept_none true a o e = absurd (cc)
