@@ -3,7 +3,7 @@
 use crate::failure::Failure;
 use crate::progress::Aim;
 use arrayvec::ArrayVec;
-use dali_commissioning::{DriverFault, Ended, Passed, PassEnd, Place, Reply, places};
+use dali_commissioning::{DriverFault, Ended, PassEnd, Passed, Place, Reply, places};
 use dali_frame::{Random24, Short};
 use dali_script::{Block, End, Fault, Kept};
 use std::fmt;

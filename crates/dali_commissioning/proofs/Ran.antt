@@ -120,7 +120,8 @@ pub ended_otherwise : {S : Type 0} (is_up is_sound : S → Type 0) (holds : S �
     → (pass.ended ≡ Done AllFound → ⊥)
     → (runs : List Run) × AreRuns is_up is_sound holds block first was keep x z runs × EndWith pass.ended runs
     × ComeTo pass runs × (pass.ended ≡ Done AllFound → AreQuiet wanted runs)
-ended_otherwise is_up is_sound holds block first was mid keep x y z quiet wanted count pass so_far (run, is, ends, marks, finds, tried, counted, has) otherwise =
+ended_otherwise is_up is_sound holds block first was mid keep x y z quiet wanted count pass so_far
+    (run, is, ends, marks, finds, tried, counted, has) otherwise =
     (run ∷ so_far.runs, (mid, y, so_far.are, is), (ends, so_far.found), (marks, finds, tried, counted, has), λ found. absurd (otherwise found))
 
 -- the last run, after which as many as are wanted were quiet
