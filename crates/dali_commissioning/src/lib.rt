@@ -14,6 +14,7 @@ mod unaddressed;
 mod verdict;
 mod watch;
 
+pub use dali_controller::{Passed, Tally};
 pub use beginning::{Begun, Checked, begin, check, outside};
 pub use census::{Reply, ask, is_known, take_census};
 pub use conducting::{Ended, PassEnd, conduct};

@@ -12,6 +12,7 @@ ghost use Rattle.dali_controller.specs.Orders.{IsAnswered, IsFollowedAt, IsGiven
 use crate::error::StepError;
 use crate::shorts::Shorts;
 use crate::state::State;
+use crate::tally::Tally;
 use dali_script::{Due, Finding, Input, Kept, Order, Record, Table, Trace};
 use std::marker::Model;
 
@@ -189,6 +190,13 @@ impl Machine {
         ensures { result ≡ self.now.heard }
     {
         self.state.heard
+    }
+
+    /// What a survey has counted, and who was passed over.
+    pub fn tally(&self) -> &Tally
+        ensures { result.now ≡ self.now.course.tally }
+    {
+        &self.state.tally
     }
 
     /// The records that are kept.

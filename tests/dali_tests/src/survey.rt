@@ -15,8 +15,8 @@ use std::test::Fail;
 /// After which frame what is heard; after all others it is silence.
 type Heard = (u16, Input);
 
-/// A roll call up to its first COMPARE: all gear without short address are initialised and asked under FFFFFF. They draw
-/// no number.
+/// A roll call up to its first COMPARE: all gear without short address are initialised and asked under FFFFFF. They
+/// draw no number.
 const CALLED: [Moment; 7] = [
     (SILENCE, Put(3, 0xA100)),
     (SILENCE, Put(1, 0xA5FF)),
