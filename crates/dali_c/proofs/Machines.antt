@@ -1,4 +1,4 @@
-use Rattle.std.proofs.Common.{◌≡◌, Bool, true, false, Option, Some, refl, sym, ap, ◌∙◌, length}
+use Rattle.std.proofs.Common.{◌≡◌, Bool, Option, Some, refl, sym, ap, ◌∙◌, length}
 use Rattle.dali_search.specs.Least.{Search, lowest, highest, step_between}
 use Rattle.dali_search.specs.Narrowing.{answers_of}
 use Rattle.dali_search.specs.Ascending.{Ascent, ascent_of}

@@ -1,4 +1,4 @@
-use Rattle.std.specs.Prelude.{ℕ, Bool, true, false, List, map, Option, Some, None, option_map}
+use Rattle.std.specs.Prelude.{ℕ, Bool, true, false, List, map, Option, Some, None}
 use Rattle.dali_controller.specs.declared.tally.Tally.{Tally}
 use Rattle.dali_c.specs.Codes.{bool_of}
 use Rattle.dali_c.specs.Pairs.{random_of}

@@ -186,9 +186,21 @@ impl State {
         ensures moment { IsMoment (machine_with self.old kept.now) result (machine_with self.new kept.now) }
     {
         match self.purpose.turn(self.number, &stage) {
-            Some(command) => self.put(kept, command),
+            Some(command) => self.turn(kept, &stage, command),
             None => self.over(kept, stage),
         }
+    }
+
+    /// The transaction goes on with the command of its turn.
+    fn turn(&mut self, kept: &Records<'_>, stage: &Stage, command: Command) -> Order
+        requires heard { IsHeard (machine_with self.old kept.now) stage.now }
+        requires turn { turn_of self.old.purpose self.old.number stage.now ≡ Some command }
+
+        ensures order { result ≡ order.Put LATER (frame_of command) }
+        ensures moment { IsMoment (machine_with self.old kept.now) result (machine_with self.new kept.now) }
+    {
+        let _ = stage;
+        self.put(kept, command)
     }
 
     /// What follows where the transaction sends no more, or PROGRAM SHORT ADDRESS.

@@ -125,8 +125,18 @@ impl State {
     {
         match number {
             Some(random) if self.seeks(random) => self.settle(kept, short, random),
-            _ => self.go_on(kept),
+            _ => self.untold(kept, short, number),
         }
+    }
+
+    /// The gear with this short address told no random address that its queries were for.
+    fn untold(&mut self, kept: &Records<'_>, short: Short, number: Option<Random24>) -> Order
+        requires { IsHeard (machine_with self.old kept.now) (stage.Spelled short number) }
+
+        ensures starts { result ≡ beginning (next_course (machine_with self.old kept.now)) }
+        ensures moment { IsMoment (machine_with self.old kept.now) result (machine_with self.new kept.now) }
+    {
+        self.go_on(kept)
     }
 
     /// Whether gear that told this random address is what its queries were for: in a survey any that gear draw.
