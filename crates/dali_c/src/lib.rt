@@ -17,4 +17,3 @@ mod records;
 mod state;
 mod status;
 mod surveys;
-mod tallies;

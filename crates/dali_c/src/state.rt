@@ -13,8 +13,7 @@ use crate::orders::{PlainFinding, PlainOrder};
 use crate::pairs::PlainRandom;
 use crate::purposes::{purpose_code, purpose_of};
 use crate::surveys::{shorts_bytes, shorts_of, way_code, way_of};
-use crate::tallies::PlainTally;
-use dali_controller::{Leg, State, Way};
+use dali_controller::{Leg, State, Upward, Way};
 use dali_search::Search;
 
 /// A machine without its records. Its fields are those of [`State`], with the leg in parts: `opened` and `way` say
@@ -40,7 +39,6 @@ pub struct PlainState {
     pub way: u8,
     pub asked: u8,
     pub heard: [u8; 8],
-    pub tally: PlainTally,
     pub entry_count: u8,
     pub entries: [PlainEntry; FRAMES],
 }
@@ -71,7 +69,6 @@ impl PlainState {
             way: way_code(state.leg.way()),
             asked: state.leg.silences(),
             heard: shorts_bytes(state.heard),
-            tally: PlainTally::of(&state.tally),
             entry_count: entries.len() as u8,
             entries: write_entries(entries),
         }
@@ -86,7 +83,6 @@ impl PlainState {
         let finding = self.finding.read()?;
         let last = self.last.read()?;
         let leg = self.leg()?;
-        let tally = self.tally.read()?;
         let trace = read_trace(&self.entries, self.entry_count)?;
         Some(State {
             id: self.id,
@@ -99,7 +95,6 @@ impl PlainState {
             number: self.number.search(),
             leg,
             heard: shorts_of(self.heard),
-            tally,
         })
     }
 
@@ -116,8 +111,13 @@ impl PlainState {
                 from: self.from,
                 silences: self.asked,
             }),
+            (false, Way::Drawing) => None,
             (true, Way::Fresh) => Some(Leg::Searching(self.search()?)),
-            (true, Way::Surveying) => Some(Leg::Hunting(self.ascent.read()?)),
+            (true, Way::Surveying | Way::Drawing) => {
+                let ascent = self.ascent.read()?;
+                let drew = matches!(way, Way::Drawing);
+                Some(Leg::Hunting(Upward { ascent, drew }))
+            }
         }
     }
 

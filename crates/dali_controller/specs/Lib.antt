@@ -1,6 +1,5 @@
 pub mod Refusals
 pub mod Shorts
-pub mod Tally
 pub mod Course
 pub mod Machine
 pub mod Next

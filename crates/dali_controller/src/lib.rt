@@ -4,7 +4,6 @@
 //! A [`Machine`] knows nothing of a bus or a store, and takes no memory.
 #![tactic(auto)]
 
-mod calls;
 mod error;
 mod hunts;
 mod leg;
@@ -17,7 +16,6 @@ mod shorts;
 mod state;
 mod stepping;
 mod surveying;
-mod tally;
 mod unfinished;
 mod visits;
 mod way;
@@ -25,10 +23,9 @@ mod whole;
 
 pub use dali_script::{Due, End, Fault, Input, Order};
 pub use error::StepError;
-pub use leg::Leg;
+pub use leg::{Leg, Upward};
 pub use machine::Machine;
 pub use purpose::Purpose;
 pub use shorts::Shorts;
 pub use state::State;
-pub use tally::{Passed, Tally};
 pub use way::Way;
