@@ -208,6 +208,19 @@ struct dali_ascent {
     uint8_t found;
 };
 
+/* Of a machine: what a survey has counted, and whose visits failed. */
+struct dali_tally {
+    uint8_t draws;
+    uint8_t is_silent;
+    uint8_t calls;
+    uint8_t askings;
+    uint8_t is_missed;
+    uint8_t has_failed;
+    struct dali_random failed;
+    uint8_t passed_count;
+    struct dali_random passed[8];
+};
+
 /* A machine between two calls. Make one with dali_machine_new; its fields are the library's alone, and only so many
  * bytes to you. */
 struct dali_machine {
@@ -228,6 +241,7 @@ struct dali_machine {
     uint8_t way;
     uint8_t asked;
     uint8_t heard[DALI_ADDRESSES / 8];
+    struct dali_tally tally;
     uint8_t entry_count;
     struct dali_entry entries[DALI_FRAMES];
     struct dali_records records;

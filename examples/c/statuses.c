@@ -58,7 +58,7 @@ static void check_layouts(void)
     CHECK_LAYOUT(dali_record, 5);
     CHECK_LAYOUT(dali_records, 516);
     CHECK_LAYOUT(dali_order, 10);
-    CHECK_LAYOUT(dali_machine, 604);
+    CHECK_LAYOUT(dali_machine, 638);
     CHECK_LAYOUT(dali_table, 257);
 }
 

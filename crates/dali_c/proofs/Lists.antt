@@ -1,5 +1,6 @@
-use Rattle.std.proofs.Common.{◌≡◌, ℕ, ◌<◌, Option, Some, None, List, [], ◌∷◌, refl, sym, ◌∙◌, arith, length, map, get_or}
+use Rattle.std.proofs.Common.{◌≡◌, ℕ, ◌<◌, Option, Some, None, List, [], ◌∷◌, refl, sym, ◌∙◌, arith, subst, length, map, get_or, slice_index_or}
 use Rattle.std.specs.Prelude.{zero, suc, IsSome, IfNone}
+use Rattle.std.proofs.lemmas.List.{same_lists, length-map, get_or-map}
 use Rattle.dali_script.specs.declared.trace.Entry.{Entry}
 use Rattle.dali_c.specs.Entries.{entry_of, AreEntries}
 use Rattle.dali_c.specs.declared.entries.PlainEntry.{PlainEntry}
@@ -29,3 +30,10 @@ entries_once plain a b one other = somes_once a b (sym one ∙ other)
 pub if_none : {A : Type 0} {Q : Type 0} (o : Option A) → ((IsSome o → ⊥) → Q) → IfNone o Q
 if_none None f = f (λ some. cc)
 if_none (Some x) f = tt
+
+-- a list of eight that was made of another, place by place
+pub mapped : {A B : Type 0} (f : A → B) (xs : List A) (ys : List B) (d : A) → length xs ≡ 8 → length ys ≡ 8
+    → ((i : ℕ) (e : B) → i < 8 → slice_index_or ys i e ≡ f (slice_index_or xs i d)) → ys ≡ map f xs
+mapped f xs ys d long same at =
+    same_lists ys (map f xs) (same ∙ sym (length-map xs f ∙ long))
+    (λ i e less. at i e (subst (λ n. i < n) same less) ∙ sym (get_or-map f xs i d e (subst (λ n. i < n) (same ∙ sym long) less)))

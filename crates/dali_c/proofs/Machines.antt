@@ -1,12 +1,11 @@
-use Rattle.std.proofs.Common.{◌≡◌, Bool, true, false, Option, Some, refl, sym, ap, ◌∙◌, length}
+use Rattle.std.proofs.Common.{◌≡◌, Bool, Option, Some, refl, sym, ap, ◌∙◌, length}
 use Rattle.dali_search.specs.Least.{Search, lowest, highest, step_between}
 use Rattle.dali_search.specs.Narrowing.{answers_of}
 use Rattle.dali_search.specs.Ascending.{Ascent, ascent_of}
 use Rattle.dali_controller.specs.declared.leg.Leg.{Leg}
 use Rattle.dali_controller.specs.declared.leg.Leg.TheVariants.{Revisiting, Asking, Searching, Hunting}
 use Rattle.dali_controller.specs.declared.state.State.{State}
-use Rattle.dali_controller.specs.declared.way.Way.TheVariants.{Fresh}
-use Rattle.dali_controller.specs.Legs.{is_searching, way_drawn, way_on}
+use Rattle.dali_controller.specs.Legs.{is_searching, way_on}
 use Rattle.dali_controller.specs.Machine.{Machine}
 use Rattle.dali_controller.specs.States.{machine_with}
 use Rattle.dali_c.specs.Ascents.{IsPlainAscent}
@@ -53,16 +52,6 @@ ascent_once : (p : PlainAscent) (a b : Ascent) → IsPlainAscent p a → IsPlain
 ascent_once p a b one other = ascent_with p a b.is_anew one (some_once one.anew other.anew) ∙ sym (ascent_with p b b.is_anew other refl)
 
 -- a leg by what its bytes say
-drawn_once : (d e : Bool) → way_drawn d ≡ way_drawn e → d ≡ e
-drawn_once false false is = refl
-drawn_once false true is = absurd (cc)
-drawn_once true false is = absurd (cc)
-drawn_once true true is = refl
-
-not_fresh : (d : Bool) → way_drawn d ≡ Fresh → ⊥
-not_fresh false is = cc
-not_fresh true is = cc
-
 same_leg : (p : PlainState) (a b : Leg) → is_searching a ≡ is_searching b → way_on a ≡ way_on b → HasLeg p a → HasLeg p b → a ≡ b
 same_leg p (Revisiting x) (Revisiting y) opened way one other = ap Revisiting (one ∙ sym other)
 same_leg p (Revisiting x) (Asking y n) opened way one other = absurd (cc)
@@ -75,13 +64,11 @@ same_leg p (Asking x n) (Hunting up) opened way one other = absurd (cc)
 same_leg p (Searching s) (Revisiting y) opened way one other = absurd (cc)
 same_leg p (Searching s) (Asking y m) opened way one other = absurd (cc)
 same_leg p (Searching s) (Searching t) opened way one other = ap Searching (search_once p s t one other)
-same_leg p (Searching s) (Hunting up) opened way one other = absurd (not_fresh up.drew (sym way))
+same_leg p (Searching s) (Hunting up) opened way one other = absurd (cc)
 same_leg p (Hunting up) (Revisiting y) opened way one other = absurd (cc)
 same_leg p (Hunting up) (Asking y m) opened way one other = absurd (cc)
-same_leg p (Hunting up) (Searching t) opened way one other = absurd (not_fresh up.drew way)
-same_leg p (Hunting up) (Hunting now) opened way one other =
-    ap (λ x. Hunting (record up { ascent = x })) (ascent_once p.ascent up.ascent now.ascent one other)
-    ∙ ap (λ d. Hunting (record now { drew = d })) (drawn_once up.drew now.drew way)
+same_leg p (Hunting up) (Searching t) opened way one other = absurd (cc)
+same_leg p (Hunting up) (Hunting now) opened way one other = ap Hunting (ascent_once p.ascent up now one other)
 
 pub leg_once : (p : PlainState) (a b : Leg) → IsPlainLeg p a → IsPlainLeg p b → a ≡ b
 leg_once p a b one other = same_leg p a b (some_once one.opened other.opened) (some_once one.way other.way) one.has other.has
@@ -100,10 +87,11 @@ spells_once p a b one other =
     ∙ ap (λ n. record a { id = b.id; trace = b.trace; finding = b.finding; last = n }) (some_once one.last other.last)
     ∙ ap (λ n. record a { id = b.id; trace = b.trace; finding = b.finding; last = b.last; tries = n }) (one.tries ∙ sym other.tries)
     ∙ ap (λ n. record a { id = b.id; trace = b.trace; finding = b.finding; last = b.last; tries = b.tries; silent = n }) (one.silent ∙ sym other.silent)
-    ∙ ap (λ n. record b { purpose = n; number = a.number; leg = a.leg; heard = a.heard }) (some_once one.purpose other.purpose)
-    ∙ ap (λ n. record b { number = n; leg = a.leg; heard = a.heard }) (one.number ∙ sym other.number)
-    ∙ ap (λ n. record b { leg = n; heard = a.heard }) (leg_once p a.leg b.leg one.leg other.leg)
-    ∙ ap (λ n. record b { heard = n }) (one.heard ∙ sym other.heard)
+    ∙ ap (λ n. record b { purpose = n; number = a.number; leg = a.leg; heard = a.heard; tally = a.tally }) (some_once one.purpose other.purpose)
+    ∙ ap (λ n. record b { number = n; leg = a.leg; heard = a.heard; tally = a.tally }) (one.number ∙ sym other.number)
+    ∙ ap (λ n. record b { leg = n; heard = a.heard; tally = a.tally }) (leg_once p a.leg b.leg one.leg other.leg)
+    ∙ ap (λ n. record b { heard = n; tally = a.tally }) (one.heard ∙ sym other.heard)
+    ∙ ap (λ n. record b { tally = n }) (some_once one.tally other.tally)
 
 -- so a struct holds one machine.
 held_once : (p : PlainMachine) (s : State) (m : Machine) → IsHeld p s → Holds p m → m ≡ machine_with s (kept_of p.records)

@@ -4,6 +4,7 @@ pub mod Orders
 pub mod Purposes
 pub mod Surveys
 pub mod Ascents
+pub mod Tallies
 pub mod Entries
 pub mod Records
 pub mod Machines

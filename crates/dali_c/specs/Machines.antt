@@ -16,6 +16,7 @@ use Rattle.dali_c.specs.Pairs.{random_of, search_of}
 use Rattle.dali_c.specs.Orders.{order_of, finding_of}
 use Rattle.dali_c.specs.Purposes.{purpose_of}
 use Rattle.dali_c.specs.Surveys.{way_of, shorts_of}
+use Rattle.dali_c.specs.Tallies.{tally_of}
 use Rattle.dali_c.specs.Entries.{IsPlainTrace}
 use Rattle.dali_c.specs.Records.{kept_of, AreRecords}
 use Rattle.dali_c.specs.declared.state.PlainState.{PlainState}
@@ -33,7 +34,7 @@ abbrev pub HasLeg : PlainState → Leg → Type 0
 HasLeg p (Revisiting from) = from ≡ p.from
 HasLeg p (Asking from silences) = (from ≡ p.from) × (silences ≡ p.asked)
 HasLeg p (Searching s) = IsPlainSearch p s
-HasLeg p (Hunting up) = IsPlainAscent p.ascent up.ascent
+HasLeg p (Hunting a) = IsPlainAscent p.ascent a
 
 pub record IsPlainLeg (p : PlainState) (l : Leg) : Type 0 where
   pub opened : bool_of p.opened ≡ Some (is_searching l)
@@ -58,6 +59,7 @@ pub record Spells (p : PlainState) (s : State) : Type 0 where
   pub finding : finding_of p.finding ≡ Some s.finding
   pub last : order_of p.last ≡ Some s.last
   pub heard : s.heard ≡ shorts_of p.heard
+  pub tally : tally_of p.tally ≡ Some s.tally
   pub trace : IsPlainTrace p.entries p.entry_count s.trace
 
 -- its bytes spell this state, and records with which it is a machine between two inputs

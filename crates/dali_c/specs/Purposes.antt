@@ -2,7 +2,8 @@ use Rattle.std.specs.Prelude.{ℕ, ◌==◌, nat_lt, Option, Some, None, option_
 use Rattle.dali_controller.specs.declared.purpose.Purpose.{Purpose}
 use Rattle.dali_controller.specs.declared.purpose.Purpose.TheVariants.{Opening, Probing, Visiting}
 use Rattle.dali_controller.specs.declared.purpose.Purpose.TheVariants.{Resolving, Closing}
-use Rattle.dali_controller.specs.declared.purpose.Purpose.TheVariants.{Asking, Waking, Hunting}
+use Rattle.dali_controller.specs.declared.purpose.Purpose.TheVariants.{Asking, Calling, Hunting}
+use Rattle.dali_controller.specs.declared.purpose.Purpose.TheVariants.{Drawing, PassingOver}
 use Rattle.dali_script.specs.Names.{end_by}
 
 -- what a transaction is for: the short address that is asked, or the end of a close, is a byte of
@@ -21,5 +22,7 @@ purpose_of c detail =
     (if c == 3 then resolving detail else
     (if c == 4 then option_map (λ e. Closing e) (end_by detail) else
     (if c == 5 then asking detail else
-    (if c == 6 then Some Waking else
-    (if c == 7 then Some Hunting else None)))))))
+    (if c == 6 then Some Calling else
+    (if c == 7 then Some Hunting else
+    (if c == 8 then Some Drawing else
+    (if c == 9 then Some PassingOver else None)))))))))

@@ -2,14 +2,13 @@ use Rattle.std.specs.Prelude.{ℕ, ◌==◌, List, Option, Some, None, if◌then
 use Rattle.std.specs.Int.{w64, from_le_bytes}
 use Rattle.dali_controller.specs.declared.shorts.Shorts.{Shorts}
 use Rattle.dali_controller.specs.declared.way.Way.{Way}
-use Rattle.dali_controller.specs.declared.way.Way.TheVariants.{Fresh, Surveying, Drawing}
+use Rattle.dali_controller.specs.declared.way.Way.TheVariants.{Fresh, Surveying}
 
--- how a machine began, and how far a survey has come
+-- how a machine began
 abbrev pub way_of : ℕ → Option Way
 way_of c =
     if c == 0 then Some Fresh else
-    (if c == 1 then Some Surveying else
-    (if c == 2 then Some Drawing else None))
+    (if c == 1 then Some Surveying else None)
 
 -- some of the 64 short addresses: address 0 is the lowest bit of the first byte
 abbrev pub shorts_of : List ℕ → Shorts

@@ -17,3 +17,4 @@ mod records;
 mod state;
 mod status;
 mod surveys;
+mod tallies;

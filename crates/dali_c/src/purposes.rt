@@ -18,8 +18,10 @@ pub(crate) fn purpose_of(code: u8, detail: u8) -> Option<Purpose>
         3 => Some(Purpose::Resolving(Short::of(detail)?)),
         4 => Some(Purpose::Closing(End::of_code(detail)?)),
         5 => Some(Purpose::Asking(Short::of(detail)?)),
-        6 => Some(Purpose::Waking),
+        6 => Some(Purpose::Calling),
         7 => Some(Purpose::Hunting),
+        8 => Some(Purpose::Drawing),
+        9 => Some(Purpose::PassingOver),
         _ => None,
     }
 }
@@ -35,7 +37,9 @@ pub(crate) fn purpose_code(purpose: Purpose) -> (u8, u8)
         Purpose::Resolving(short) => (3, short.number()),
         Purpose::Closing(end) => (4, end.code()),
         Purpose::Asking(short) => (5, short.number()),
-        Purpose::Waking => (6, 0),
+        Purpose::Calling => (6, 0),
         Purpose::Hunting => (7, 0),
+        Purpose::Drawing => (8, 0),
+        Purpose::PassingOver => (9, 0),
     }
 }

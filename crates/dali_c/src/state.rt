@@ -13,7 +13,8 @@ use crate::orders::{PlainFinding, PlainOrder};
 use crate::pairs::PlainRandom;
 use crate::purposes::{purpose_code, purpose_of};
 use crate::surveys::{shorts_bytes, shorts_of, way_code, way_of};
-use dali_controller::{Leg, State, Upward, Way};
+use crate::tallies::PlainTally;
+use dali_controller::{Leg, State, Way};
 use dali_search::Search;
 
 /// A machine without its records. Its fields are those of [`State`], with the leg in parts: `opened` and `way` say
@@ -39,6 +40,7 @@ pub struct PlainState {
     pub way: u8,
     pub asked: u8,
     pub heard: [u8; 8],
+    pub tally: PlainTally,
     pub entry_count: u8,
     pub entries: [PlainEntry; FRAMES],
 }
@@ -69,6 +71,7 @@ impl PlainState {
             way: way_code(state.leg.way()),
             asked: state.leg.silences(),
             heard: shorts_bytes(state.heard),
+            tally: PlainTally::of(&state.tally),
             entry_count: entries.len() as u8,
             entries: write_entries(entries),
         }
@@ -83,6 +86,7 @@ impl PlainState {
         let finding = self.finding.read()?;
         let last = self.last.read()?;
         let leg = self.leg()?;
+        let tally = self.tally.read()?;
         let trace = read_trace(&self.entries, self.entry_count)?;
         Some(State {
             id: self.id,
@@ -95,6 +99,7 @@ impl PlainState {
             number: self.number.search(),
             leg,
             heard: shorts_of(self.heard),
+            tally,
         })
     }
 
@@ -111,13 +116,8 @@ impl PlainState {
                 from: self.from,
                 silences: self.asked,
             }),
-            (false, Way::Drawing) => None,
             (true, Way::Fresh) => Some(Leg::Searching(self.search()?)),
-            (true, Way::Surveying | Way::Drawing) => {
-                let ascent = self.ascent.read()?;
-                let drew = matches!(way, Way::Drawing);
-                Some(Leg::Hunting(Upward { ascent, drew }))
-            }
+            (true, Way::Surveying) => Some(Leg::Hunting(self.ascent.read()?)),
         }
     }
 

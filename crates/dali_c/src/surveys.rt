@@ -12,7 +12,6 @@ pub(crate) fn way_of(code: u8) -> Option<Way>
     match code {
         0 => Some(Way::Fresh),
         1 => Some(Way::Surveying),
-        2 => Some(Way::Drawing),
         _ => None,
     }
 }
@@ -24,7 +23,6 @@ pub(crate) fn way_code(way: Way) -> u8
     match way {
         Way::Fresh => 0,
         Way::Surveying => 1,
-        Way::Drawing => 2,
     }
 }
 

@@ -3,7 +3,7 @@
 use crate::failure::Failure;
 use crate::progress::Aim;
 use arrayvec::ArrayVec;
-use dali_commissioning::{DriverFault, Ended, PassEnd, Place, Reply, places};
+use dali_commissioning::{DriverFault, Ended, PassEnd, Passed, Place, Reply, places};
 use dali_frame::{Random24, Short};
 use dali_script::{Block, End, Fault, Kept};
 use std::fmt;
@@ -150,15 +150,35 @@ fn say_conflict<S: Eprint>(system: &S, pass: &PassEnd, kept: &Kept) {
     let _ = eprintln!(system; "{CONFLICT}");
 }
 
+/// Who was passed over: the first eight by their random addresses, the others by their number.
+fn say_passed_over<S: Eprint>(system: &S, passed: &Passed) {
+    for number in passed.numbers.iter().take(usize::from(passed.count)) {
+        let _ = eprintln!(system;
+            "random address {number}: a gear answers there, and told no short address when it was asked"
+        );
+    }
+    if passed.count > 8 {
+        let more = passed.count - 8;
+        let _ = eprintln!(system; "{more} more gear told no short address when they were asked");
+    }
+}
+
 /// Why the last machine gave up.
 fn say_gave_up<S: Eprint>(system: &S, pass: &PassEnd, aim: Aim) {
-    let _ = if pass.tries >= 8 {
-        eprintln!(system;
+    if pass.tries >= 8 {
+        let _ = eprintln!(system;
             "a frame of one transaction was destroyed or not sent, eight times in a row: the frames {aim}"
-        )
+        );
+        return;
+    }
+    say_passed_over(system, &pass.tally.passed);
+    let _ = if pass.tally.calls >= 3 && pass.tally.passed.count > 0 {
+        eprintln!(system; "all other gear that answered were served")
+    } else if pass.tally.draws >= 3 {
+        eprintln!(system; "gear without short address are there that draw no random address")
     } else {
         eprintln!(system;
-            "sixteen searches in a row led to a gear that did not answer; the last frames were {aim}"
+            "too many searches in a row led to a gear that did not answer; the last frames were {aim}"
         )
     };
 }

@@ -54,7 +54,7 @@ abbrev pub OneRun : {S : Type 0} (is_up is_sound : S → Type 0) (holds : S → 
 OneRun is_up is_sound holds block first was keep x y pass =
     (run : Run) × IsRun is_up is_sound holds block first was keep x y run × (run.ended ≡ pass.ended)
     × (run.heard ≡ pass.heard) × (run.found ≡ pass.found) × (run.tries ≡ pass.tries)
-    × (pass.committed ≡ has_committed run.steps)
+    × (run.tally ≡ pass.tally) × (pass.committed ≡ has_committed run.steps)
 
 pub of_block : {S : Type 0} (is_up is_sound : S → Type 0) (holds : S → List Record → Type 0) (a b : Block)
     (first : Input) (was keep : S) (x y : Talk) (pass : PassEnd) → a ≡ b
@@ -100,7 +100,7 @@ pub ran_more : {S : Type 0} (is_up is_sound : S → Type 0) (holds : S → List 
     → OneRun is_up is_sound holds block first mid keep y z pass
     → pass.ended ≡ Done AllFound → more ≡ quiet_after quiet pass.committed
     → HasRun is_up is_sound holds block first was keep x z more (count + 1)
-ran_more is_up is_sound holds block first was mid keep x y z quiet more count pass so_far (run, is, ends, marks, finds, tried, has) all_found added =
+ran_more is_up is_sound holds block first was mid keep x y z quiet more count pass so_far (run, is, ends, marks, finds, tried, counted, has) all_found added =
     record {
       runs = run ∷ so_far.runs;
       counted = omega (arith, so_far.counted);
@@ -120,8 +120,9 @@ pub ended_otherwise : {S : Type 0} (is_up is_sound : S → Type 0) (holds : S �
     → (pass.ended ≡ Done AllFound → ⊥)
     → (runs : List Run) × AreRuns is_up is_sound holds block first was keep x z runs × EndWith pass.ended runs
     × ComeTo pass runs × (pass.ended ≡ Done AllFound → AreQuiet wanted runs)
-ended_otherwise is_up is_sound holds block first was mid keep x y z quiet wanted count pass so_far (run, is, ends, marks, finds, tried, has) otherwise =
-    (run ∷ so_far.runs, (mid, y, so_far.are, is), (ends, so_far.found), (marks, finds, tried, has), λ found. absurd (otherwise found))
+ended_otherwise is_up is_sound holds block first was mid keep x y z quiet wanted count pass so_far
+    (run, is, ends, marks, finds, tried, counted, has) otherwise =
+    (run ∷ so_far.runs, (mid, y, so_far.are, is), (ends, so_far.found), (marks, finds, tried, counted, has), λ found. absurd (otherwise found))
 
 -- the last run, after which as many as are wanted were quiet
 pub ended_quiet : {S : Type 0} (is_up is_sound : S → Type 0) (holds : S → List Record → Type 0) (block : Block)
@@ -131,11 +132,11 @@ pub ended_quiet : {S : Type 0} (is_up is_sound : S → Type 0) (holds : S → Li
     → quiet_after quiet pass.committed ≡ wanted
     → (runs : List Run) × AreRuns is_up is_sound holds block first was keep x z runs × EndWith pass.ended runs
     × ComeTo pass runs × (pass.ended ≡ Done AllFound → AreQuiet wanted runs)
-ended_quiet is_up is_sound holds block first was mid keep x y z quiet wanted count pass so_far (run, is, ends, marks, finds, tried, has) enough = (
+ended_quiet is_up is_sound holds block first was mid keep x y z quiet wanted count pass so_far (run, is, ends, marks, finds, tried, counted, has) enough = (
   run ∷ so_far.runs,
   (mid, y, so_far.are, is),
   (ends, so_far.found),
-  (marks, finds, tried, has),
+  (marks, finds, tried, counted, has),
   λ found.
       subst (λ n. AreQuiet n (run ∷ so_far.runs)) enough (quiet_more quiet pass.committed run so_far.runs has so_far.quiet_runs),
 )
@@ -157,9 +158,10 @@ pub run_of : {S : Type 0} (is_up is_sound : S → Type 0) (holds : S → List Re
     → (is_sound was → is_up mid → (xs : List Record) → holds was xs → holds mid xs)
     → m ≡ at_first 0 k → IsAt is_up is_sound holds mid keep m n x y first waiting (order_of pass.ended) pass.committed count
     → pass.heard ≡ n.heard → pass.found ≡ n.finding → pass.tries ≡ n.tries
+    → pass.tally ≡ n.course.tally
     → OneRun is_up is_sound holds (block_of was) first was keep x y pass
 run_of is_up is_sound holds kept_of must_read block_of replay was mid keep m n x y first k waiting pass count answer is_read block stays same begins at
-    heard finds tried = (
+    heard finds tried tally = (
       record {
         start = k;
         steps = at.steps;
@@ -167,6 +169,7 @@ run_of is_up is_sound holds kept_of must_read block_of replay was mid keep m n x
         heard = pass.heard;
         found = pass.found;
         tries = pass.tries;
+        tally = pass.tally;
       },
       record {
         machine = n;
@@ -174,6 +177,7 @@ run_of is_up is_sound holds kept_of must_read block_of replay was mid keep m n x
         marks = heard;
         finds = finds;
         tried = tried;
+        counted = tally;
         conducted = subst (λ b. Conducted b n at.steps x y) begins at.conducted;
         last = at.last;
         read = λ sound up xs held.
@@ -182,6 +186,7 @@ run_of is_up is_sound holds kept_of must_read block_of replay was mid keep m n x
         commits = λ sound up xs held. at.commits (stays.sound sound (at.stays.up up)) up xs (same sound (at.stays.up up) xs held);
         stays = stays_further is_up is_sound was mid keep stays at.stays;
       },
+      refl,
       refl,
       refl,
       refl,

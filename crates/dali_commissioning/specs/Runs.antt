@@ -10,6 +10,7 @@ use Rattle.dali_script.specs.Records.{Kept, Assignment, without_records}
 use Rattle.dali_script.specs.Stages.{in_block}
 use Rattle.dali_reserve.specs.Store.{IsReplay}
 use Rattle.dali_controller.specs.declared.shorts.Shorts.{Shorts}
+use Rattle.dali_controller.specs.declared.tally.Tally.{Tally}
 use Rattle.dali_controller.specs.Machine.{Machine, at_first}
 use Rattle.dali_commissioning.specs.declared.conducting.Ended.{Ended}
 use Rattle.dali_commissioning.specs.declared.conducting.Ended.TheVariants.{Done}
@@ -26,8 +27,8 @@ use Rattle.dali_commissioning.specs.Steps.{has_committed}
 use Rattle.dali_commissioning.specs.Conducted.{Conducted, Commits, Stays, order_of}
 
 -- A RUN of a machine: the records that its store gave it, its steps, how it ended, under which
--- short addresses its survey heard somebody whom it does not know, the gear that it found last, and
--- how often in a row its transaction was lost.
+-- short addresses its survey heard somebody whom it does not know, the gear that it found last, how
+-- often in a row its transaction was lost, and what its survey has counted.
 pub record Run : Type 0 where
   pub start : Kept
   pub steps : List Step
@@ -35,6 +36,7 @@ pub record Run : Type 0 where
   pub heard : Shorts
   pub found : Option Finding
   pub tries : ℕ
+  pub tally : Tally
 
 -- a run that begins so, from one moment of its store and of the talk with its driver to another
 pub record IsRun {S : Type 0} (is_up is_sound : S → Type 0) (holds : S → List Record → Type 0)
@@ -46,6 +48,7 @@ pub record IsRun {S : Type 0} (is_up is_sound : S → Type 0) (holds : S → Lis
   pub marks : run.heard ≡ machine.heard
   pub finds : run.found ≡ machine.finding
   pub tried : run.tries ≡ machine.tries
+  pub counted : run.tally ≡ machine.course.tally
   pub read : is_sound was → is_up keep → (xs : List Record) → holds was xs
       → IsReplay block xs run.start
   pub commits : Commits is_up is_sound holds was keep (committed_by run.steps)
@@ -78,6 +81,7 @@ ComeTo pass (run ∷ before) =
     (run.heard ≡ pass.heard)
     × (run.found ≡ pass.found)
     × (run.tries ≡ pass.tries)
+    × (run.tally ≡ pass.tally)
     × (pass.committed ≡ has_committed run.steps)
 
 -- SO MANY RUNS, one after the other, and none of them found any gear more

@@ -18,7 +18,7 @@ use crate::driver::{DriverFault, DriverLink};
 use crate::fault::CommissionFault;
 use crate::lines::Half;
 use crate::watch::Watch;
-use dali_controller::{Machine, Shorts};
+use dali_controller::{Machine, Shorts, Tally};
 use dali_frame::{Forward, Priority};
 use dali_reserve::{Keep, KeepError};
 use dali_script::{End, Fault, Finding, Input, Order, Record};
@@ -44,6 +44,8 @@ pub struct PassEnd {
     pub found: Option<Finding>,
     /// How often in a row its transaction was lost: 8 where it gave up for that.
     pub tries: u8,
+    /// What its survey has counted, and who was passed over.
+    pub tally: Tally,
 }
 
 /// Which frame of a pair a frame is, where this first one of a pair was heard right before it.
@@ -232,6 +234,7 @@ pub fn conduct<K: Keep, R: Read, W: Write, P: Watch>(
     ensures heard { IfOk result (λ pass. pass.heard ≡ machine.new.heard) }
     ensures found { IfOk result (λ pass. pass.found ≡ machine.new.finding) }
     ensures tries { IfOk result (λ pass. pass.tries ≡ machine.new.tries) }
+    ensures tally { IfOk result (λ pass. pass.tally ≡ machine.new.course.tally) }
     ensures spent { result ≡ Err CommissionFault.StepsSpent → HasTaken machine.old machine.new (steps + 1) }
     ensures fault { IfErr result (λ _. IsLeft K.is_up K.is_sound K.holds keep.old keep.new machine.old machine.new) }
     ensures one_run { result ≢ Err CommissionFault.RunsSpent }
@@ -251,6 +254,7 @@ pub fn conduct<K: Keep, R: Read, W: Write, P: Watch>(
                 heard: machine.heard(),
                 found: machine.finding(),
                 tries: machine.tries(),
+                tally: *machine.tally(),
             });
         }
         match answer(keep, driver, &mut waiting, &order) {

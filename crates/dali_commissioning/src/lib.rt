@@ -17,6 +17,7 @@ mod watch;
 pub use beginning::{Begun, Checked, begin, check, outside};
 pub use census::{Reply, ask, is_known, take_census};
 pub use conducting::{Ended, PassEnd, conduct};
+pub use dali_controller::{Passed, Tally};
 pub use driver::{DriverFault, DriverLink};
 pub use fault::CommissionFault;
 pub use lighting::{light, light_at_last};

@@ -50,7 +50,7 @@ fn run<K: Keep, R: Read, W: Write, P: Watch>(
     ensures ran { IfOk result (λ pass. (run : Run) × IsRun K.is_up K.is_sound K.holds (K.block keep.old) start
         keep.old keep.new (talk_of R.remaining W.contents driver.old) (talk_of R.remaining W.contents driver.new) run
         × (run.ended ≡ pass.ended) × (run.heard ≡ pass.heard) × (run.found ≡ pass.found)
-        × (run.tries ≡ pass.tries) × (pass.committed ≡ has_committed run.steps)) }
+        × (run.tries ≡ pass.tries) × (run.tally ≡ pass.tally) × (pass.committed ≡ has_committed run.steps)) }
     ensures left { IfErr result (λ _. Grows K.is_up K.is_sound K.holds keep.old keep.new) }
     ensures stays { Stays K.is_up K.is_sound keep.old keep.new }
     ensures block { K.block keep.new ≡ K.block keep.old }

@@ -1,7 +1,6 @@
 use Rattle.std.proofs.Common.{◌≡◌, ℕ, ◌+◌, ◌-◌, ◌<◌, ◌≤◌, inl, inr, Bool, true, false, List, [], ◌∷◌, ◌++◌, refl, sym, ap, subst, ◌∙◌, arith, Option, Some}
 use Rattle.std.proofs.Common.{None}
-use Rattle.std.specs.Prelude.{◌==◌, MatchOption, is_some, suc, if◌then◌else◌}
-use Rattle.std.proofs.lemmas.Bool.{ne_eqb}
+use Rattle.std.specs.Prelude.{◌==◌, nat_lt, MatchOption, is_some, suc, if◌then◌else◌}
 use Rattle.std.proofs.lemmas.Bool.Decides.{nat_tests}
 use Rattle.dali_frame.specs.declared.frames.Forward.{Forward}
 use Rattle.dali_frame.specs.declared.frames.Answer.{Answer}
@@ -10,11 +9,11 @@ use Rattle.dali_frame.specs.Random.{value_of}
 use Rattle.dali_frame.specs.Priority.{LATER}
 use Rattle.dali_special.specs.declared.command.Command.{Command}
 use Rattle.dali_special.specs.Command.{frame_of}
-use Rattle.dali_script.specs.declared.trace.Entry.{Entry}
 use Rattle.dali_script.specs.declared.records.Record.{Record}
 use Rattle.dali_script.specs.declared.records.Record.TheVariants.{Reserve, Enrol}
 use Rattle.dali_script.specs.declared.stage.Stage.{Stage}
-use Rattle.dali_script.specs.declared.stage.Stage.TheVariants.{Free, Initialised, Opened, Probed, Unnamed, Unanswered, Inconclusive, HighAsked, Spelled, Hunted}
+use Rattle.dali_script.specs.declared.stage.Stage.TheVariants.{Free, Opened, Probed, Unnamed, Unanswered, Inconclusive, HighAsked, Spelled, Hunted, DrawBarred}
+use Rattle.dali_script.specs.declared.stage.Stage.TheVariants.{PassedOver}
 use Rattle.dali_script.specs.Records.{Assignment, Kept, Has, IsOnce, addresses, randoms, HasAddress, HasRandom}
 use Rattle.dali_script.specs.Stages.{stage_of}
 use Rattle.dali_script.proofs.Lists.{has_map}
@@ -27,71 +26,40 @@ use Rattle.dali_script.specs.declared.orders.Due.TheVariants as due
 use Rattle.dali_script.specs.Due.{due_after, frame_put, record_ordered}
 use Rattle.dali_search.specs.declared.step.Step.{Step}
 use Rattle.dali_search.specs.declared.step.Step.TheVariants.{Again, Found, Nobody}
-use Rattle.dali_search.specs.Ascending.{leads_to}
+use Rattle.dali_search.specs.Ascending.{leads_to, ascent_at_first}
 use Rattle.dali_search.specs.Least.{Search, step_after, probe_after, next_probe, answered}
 use Rattle.dali_controller.specs.declared.purpose.Purpose.{Purpose}
-use Rattle.dali_controller.specs.declared.purpose.Purpose.TheVariants.{Opening, Probing, Visiting, Resolving, Closing, Asking, Waking, Hunting}
-use Rattle.dali_controller.specs.Course.{Course, first_of, turn_of, is_yes, after_step, probed, number_at, address_for, unless_enrolled, unfinished_at}
-use Rattle.dali_controller.specs.Course.{unfinished_among, taking, missed, hunted, searching_on, searching_first, here_or_later, closing, going_on}
-use Rattle.dali_controller.specs.Course.{going_on_early, visit_or_opening, next_unfinished}
-use Rattle.dali_controller.specs.Machine.{Machine, machine_lost, machine_committed, machine_told, woken_after}
-use Rattle.dali_controller.specs.Next.{begins_at, course_by, course_on, next_course, beginning, probed_to, probed_in, draw_or_close, draws, draws_by}
-use Rattle.dali_controller.specs.Next.{BeginsWith, silenced, goes_on_to, goes_on_anew, hunted_to, question, unanswered, at_rest, asked_once}
+use Rattle.dali_controller.specs.declared.purpose.Purpose.TheVariants.{Opening, Probing, Visiting, Resolving, Closing, Asking, Hunting, Calling, Drawing}
+use Rattle.dali_controller.specs.declared.purpose.Purpose.TheVariants.{PassingOver}
+use Rattle.dali_controller.specs.Course.{Course, turn_of, call_turn, is_yes, after_step, number_at, address_for, unless_enrolled, unfinished_at}
+use Rattle.dali_controller.specs.Course.{unfinished_among, hunted, searching_on, searching_first, here_or_later, closing, going_on, ask_or_call, next_asked}
+use Rattle.dali_controller.specs.Course.{going_on_early, visit_or_opening, next_unfinished, drawing, calling, opening_at_last, opening_anew, hunting_first}
+use Rattle.dali_controller.specs.Tally.{asked_again, silent_call, heard_call}
+use Rattle.dali_controller.specs.Machine.{Machine, machine_lost, machine_committed, machine_told}
+use Rattle.dali_controller.specs.Next.{begins_at, course_by, course_on, asked_on, next_course, beginning, full, asks_again, undrawn, has_open, nobody_left}
+use Rattle.dali_controller.specs.Next.{BeginsWith, silenced, silenced_on, missed_again, is_failed, most_silent, goes_on_to, hunted_to, compared_in, called_to}
+use Rattle.dali_controller.specs.Next.{blocked, is_blocked, may_draw, ungiven, question, unanswered, at_rest, asked_once}
 use Rattle.dali_controller.specs.declared.way.Way.{Way}
-use Rattle.dali_controller.specs.declared.way.Way.TheVariants.{Fresh, Surveying, Drawing}
-use Rattle.dali_script.specs.declared.orders.End.{End}
+use Rattle.dali_controller.specs.declared.way.Way.TheVariants.{Fresh, Surveying}
 use Rattle.dali_script.specs.declared.orders.End.TheVariants.{AllFound, BlockFull, GaveUp}
 use Rattle.dali_controller.specs.Orders.{machine_ordered, AfterFinding, AfterEnrolled, IsFollowed, IsSought}
-use Rattle.dali_controller.specs.Moments.{Begun, IsMoment, IsNext}
+use Rattle.dali_controller.specs.Moments.{IsMoment, IsNext}
 use Rattle.dali_controller.specs.Whole.{IsWhole, Pending}
 
 -- THE COURSE OF A MACHINE is the one of the table of moments.
 
--- a transaction that begins where the trace has this stage
-pub started : (w : Machine) (s : Stage) (t : Machine) (o : Order) (new : Machine) (c : Course) → stage_of w.trace ≡ s → c ≡ begins_at w s
-    → Begun t c o new → new.course ≡ course_by w o
-started w s t o new c stage is begun = rw begun.order (begun.course ∙ is ∙ ap (λ x. begins_at w x) (sym stage))
-
--- a transaction that begins is a moment
-pub begins_moment : (t u : Machine) (c : Course) (o : Order) (new : Machine) → Begun u c o new → new.course ≡ course_by t o → IsNext t o new
-    → IsMoment t o new
-begins_moment t u c o new begun course next =
-    let first : frame_of (first_of c.purpose c.number) ≡ frame_of (first_of new.course.purpose new.course.number) =
-    ap (λ (x : Course). frame_of (first_of x.purpose x.number)) (sym begun.course) in
-    record { begins = rw begun.order (λ e. first); course = course; next = next; whole = begun.whole }
-
--- where the trace has this stage
-pub begun_at : (w : Machine) (s : Stage) (o : Order) (new : Machine) (c : Course) → stage_of w.trace ≡ s → c ≡ begins_at w s
-    → Begun w c o new → IsMoment w o new
-begun_at w s o new c stage is begun =
-    begins_moment w w c o new begun (started w s w o new c stage is begun) begun.next
-
--- and so is an order that leaves the course
+-- an order that leaves the course is a moment
 pub stays_moment : (t : Machine) (o : Order) (new : Machine) → BeginsWith new.course o → new ≡ machine_ordered t o → IsNext t o new → IsWhole new
     → IsMoment t o new
 stays_moment t o new begins state next whole =
     record { begins = begins; course = ap (λ (m : Machine). m.course) state; next = next; whole = whole }
 
--- a search that led to no gear goes on, where it was not the sixteenth in a row
-pub on_anew : (w : Machine) → (w.silent ≡ 16 → ⊥) → next_course w ≡ silenced w → goes_on_anew w ≡ next_course w
-on_anew w more next = ap (λ b. if b then closing w.course GaveUp else goes_on_anew w) (sym (ne_eqb w.silent 16 more)) ∙ sym next
-
--- a short address that was silent is asked again
-pub asked_again : (t : Machine) → (t.asked ≡ 0 → ⊥) → t.course ≡ asked_once t (t.asked == 0)
-asked_again t more = ap (asked_once t) (sym (ne_eqb t.asked 0 more))
-
 -- a transaction that goes on by its turn leaves the course
 course_stays : (t : Machine) (s : Stage) (c : Command) → turn_of t.course.purpose t.course.number s ≡ Some c → course_on t s ≡ t.course
-course_stays t (Hunted r (Some h) left) c e = absurd (go t.course.purpose e) where
-  go : (p : Purpose) → turn_of p t.course.number (Hunted r (Some h) left) ≡ Some c → ⊥
-  go Opening e = cc
-  go Probing e = cc
-  go Hunting e = cc
-  go Visiting e = cc
-  go (Resolving a) e = cc
-  go (Closing x) e = cc
-  go (Asking a) e = cc
-  go Waking e = cc
+course_stays t (Hunted r (Some h) left) c e = go t.course.purpose e where
+  go : (p : Purpose) → turn_of p t.course.number (Hunted r (Some h) left) ≡ Some c → asked_on t p h ≡ t.course
+  go Hunting e = absurd (cc)
+  go _ e = refl
 course_stays t _ c e = refl
 
 put_course : (w : Machine) (s : Stage) (c : Command) (o : Order) (new : Course) → stage_of w.trace ≡ s → turn_of w.course.purpose w.course.number s ≡ Some c
@@ -104,17 +72,6 @@ pub put_moment : (w : Machine) (s : Stage) (c : Command) (o : Order) (new : Mach
     → o ≡ Put LATER (frame_of c) → new.course ≡ w.course → IsNext w o new → IsWhole new → IsMoment w o new
 put_moment w s c o new stage turn is same next whole =
     record { begins = rw is (λ e. absurd (cc)); course = put_course w s c o new.course stage turn is same; next = next; whole = whole }
-
--- the same transaction once more, after it was lost
-pub lost_course : (w : Machine) (t : List Entry) (o : Order) (new : Machine) → due_after w.last ≡ due.Bus → t ≡ []
-    → Begun (record w { trace = t; tries = w.tries + 1 }) (taking w.course w.course.purpose w.course.number) o new
-    → new.course ≡ course_by (machine_lost w) o
-lost_course w t o new bus empty begun =
-    started (record w { trace = []; tries = w.tries + 1 }) Free _ o new (taking w.course w.course.purpose w.course.number) stage_none
-    (sym (rests w.last bus)) begun where
-      rests : (l : Option Order) → due_after l ≡ due.Bus → at_rest (record w { trace = []; tries = w.tries + 1 }) l ≡ w.course
-      rests (Some (Put p f)) bus = refl
-      rests _ bus = absurd (cc)
 
 -- ---------------------------------------------------------------- a search that is answered
 
@@ -136,21 +93,6 @@ answered_is old new said s running asked step next last kept =
     whole new _ _ _ answers
     (probe_is s _ old.probe _ new.probe after (λ e. next e ∙ ap probe_after answers) last)
     (kept ∙ after)
-
-pub probed_is : (t : Machine) (h : Answer) (said : Bool) (s : Search) (step : Step) → said ≡ is_yes h → s ≡ answered t.course.search said → s.step ≡ step
-    → probed_to t step (record t.course { search = s }) ≡ probed_in t h
-probed_is t h said s step yes_is is here =
-    ap (λ x. probed_to t x (record t.course { search = s })) (sym here)
-    ∙ ap (λ (q : Search). probed_to t q.step (record t.course { search = q })) (is ∙ ap (answered t.course.search) yes_is)
-
--- and the same of what was begun by Start
-pub probed_fresh : (t : Machine) (h : Answer) → t.course.way ≡ Fresh → probed_in t h ≡ probed t.course h
-probed_fresh t h fresh = go (answered t.course.search (is_yes h)).step where
-  go : (s : Step) → probed_to t s (record t.course { search = answered t.course.search (is_yes h) })
-      ≡ after_step s (record t.course { search = answered t.course.search (is_yes h) })
-  go Again = refl
-  go (Found r) = refl
-  go Nobody = ap (λ y. draw_or_close (draws_by t y) (record t.course { search = answered t.course.search (is_yes h) }) AllFound) fresh
 
 -- ---------------------------------------------------------------- what is reserved, and what is enrolled
 
@@ -243,8 +185,10 @@ no_turn p n s c free e = go p (subst (λ x. turn_of p n x ≡ Some c) free e) wh
   go (Resolving a) e = cc
   go (Closing x) e = cc
   go (Asking a) e = cc
-  go Waking e = cc
   go Hunting e = cc
+  go Calling e = cc
+  go Drawing e = cc
+  go PassingOver e = cc
 
 -- the start, and a transaction that was lost, follow neither queries nor an enrolment
 followed_free : (t : Machine) (o : Order) → stage_of t.trace ≡ Free → t.last ≡ None → IsFollowed t o
@@ -253,7 +197,8 @@ followed_free t o free none = record {
   told = λ b n s e. absurd (let there : Free ≡ Spelled b (Some n) = sym free ∙ s in cc);
   another = λ b n s e. absurd (let there : Free ≡ Spelled b (Some n) = sym free ∙ s in cc);
   unconfirmed = λ r x s. absurd (let there : Free ≡ Inconclusive r x = sym free ∙ s in cc);
-  hunted = λ r h left s. absurd (let there : Free ≡ Hunted r (Some h) left = sym free ∙ s in cc);
+  hunted = λ r h left s p. absurd (let there : Free ≡ Hunted r (Some h) left = sym free ∙ s in cc);
+  called = λ r h left s p x. absurd (let there : Free ≡ Hunted r (Some h) left = sym free ∙ s in cc);
   enrolled = λ b n e. absurd (let there : None ≡ Some (Commit (Enrol b n)) = sym none ∙ e in cc);
 }
 
@@ -269,7 +214,8 @@ followed_lost w o bus = record {
   told = λ b n s e. absurd (let there : Free ≡ Spelled b (Some n) = sym stage_none ∙ s in cc);
   another = λ b n s e. absurd (let there : Free ≡ Spelled b (Some n) = sym stage_none ∙ s in cc);
   unconfirmed = λ r x s. absurd (let there : Free ≡ Inconclusive r x = sym stage_none ∙ s in cc);
-  hunted = λ r h left s. absurd (let there : Free ≡ Hunted r (Some h) left = sym stage_none ∙ s in cc);
+  hunted = λ r h left s p. absurd (let there : Free ≡ Hunted r (Some h) left = sym stage_none ∙ s in cc);
+  called = λ r h left s p x. absurd (let there : Free ≡ Hunted r (Some h) left = sym stage_none ∙ s in cc);
   enrolled = λ b n e. absurd (let there = subst (λ l. due_after l ≡ due.Bus) e bus in cc);
 }
 
@@ -283,9 +229,12 @@ pub followed_heard : (w mid : Machine) (o : Order) (f : Forward) (h : Answer) �
     → ((b n : ℕ) → stage_of mid.trace ≡ Spelled b (Some n) → IsSought mid.course.purpose mid.course.number n → AfterFinding mid b n o)
     → ((b n : ℕ) → stage_of mid.trace ≡ Spelled b (Some n) → (IsSought mid.course.purpose mid.course.number n → ⊥) → o ≡ beginning (next_course mid))
     → ((r : SearchAddress) (x : Option ℕ) → stage_of mid.trace ≡ Inconclusive r x → o ≡ beginning (next_course mid))
-    → ((r : SearchAddress) (g : Answer) (left : ℕ) → stage_of mid.trace ≡ Hunted r (Some g) left → o ≡ question (next_course mid) r left)
+    → ((r : SearchAddress) (g : Answer) (left : ℕ) → stage_of mid.trace ≡ Hunted r (Some g) left → mid.course.purpose ≡ Hunting
+    → o ≡ question (next_course mid) r left)
+    → ((r : SearchAddress) (g : Answer) (left : ℕ) → stage_of mid.trace ≡ Hunted r (Some g) left → mid.course.purpose ≡ Calling
+    → call_turn (Some g) left ≡ None → o ≡ beginning (next_course mid))
     → IsFollowed (machine_told w (input.Heard h)) o
-followed_heard w mid o f h put is sent told another unconfirmed hunted = record {
+followed_heard w mid o f h put is sent told another unconfirmed hunted called = record {
   sent = subst (λ (t : Machine). (c : Command) → turn_of t.course.purpose t.course.number (stage_of t.trace) ≡ Some c → o ≡ Put LATER (frame_of c)) is sent;
   told = subst (λ (t : Machine). (b n : ℕ) → stage_of t.trace ≡ Spelled b (Some n) → IsSought t.course.purpose t.course.number n → AfterFinding t b n o)
       is told;
@@ -294,8 +243,11 @@ followed_heard w mid o f h put is sent told another unconfirmed hunted = record 
   unconfirmed = subst (λ (t : Machine). (r : SearchAddress) (x : Option ℕ) → stage_of t.trace ≡ Inconclusive r x → o ≡ beginning (next_course t))
       is unconfirmed;
   hunted = subst (λ (t : Machine). (r : SearchAddress) (g : Answer) (left : ℕ) → stage_of t.trace ≡ Hunted r (Some g) left
-      → o ≡ question (next_course t) r left)
+      → t.course.purpose ≡ Hunting → o ≡ question (next_course t) r left)
       is hunted;
+  called = subst (λ (t : Machine). (r : SearchAddress) (g : Answer) (left : ℕ) → stage_of t.trace ≡ Hunted r (Some g) left
+      → t.course.purpose ≡ Calling → call_turn (Some g) left ≡ None → o ≡ beginning (next_course t))
+      is called;
   enrolled = λ b n e. absurd (let there = subst (λ l. frame_put l ≡ Some f) (sym (heard_last w f h put) ∙ e) put in cc);
 }
 
@@ -313,7 +265,9 @@ followed_committed w x o whole ordered enrolled = record {
       ∙ subst (λ r. stage_of (machine_committed w r).trace ≡ Spelled b (Some n)) ordered s in cc);
   unconfirmed = λ r y s. absurd (let there : Free ≡ Inconclusive r y = sym (free_stored w w.last x ordered whole)
       ∙ subst (λ q. stage_of (machine_committed w q).trace ≡ Inconclusive r y) ordered s in cc);
-  hunted = λ r h left s. absurd (let there : Free ≡ Hunted r (Some h) left = sym (free_stored w w.last x ordered whole)
+  hunted = λ r h left s p. absurd (let there : Free ≡ Hunted r (Some h) left = sym (free_stored w w.last x ordered whole)
+      ∙ subst (λ q. stage_of (machine_committed w q).trace ≡ Hunted r (Some h) left) ordered s in cc);
+  called = λ r h left s p y. absurd (let there : Free ≡ Hunted r (Some h) left = sym (free_stored w w.last x ordered whole)
       ∙ subst (λ q. stage_of (machine_committed w q).trace ≡ Hunted r (Some h) left) ordered s in cc);
   enrolled = λ b n e. enrolled b n (same x b n (sym ordered ∙ ap record_ordered (sym (committed_stays w (record_ordered w.last)) ∙ e)));
 } where
@@ -331,122 +285,144 @@ followed_committed w x o whole ordered enrolled = record {
   free_stored w (Some (Done e)) x is p = absurd (cc)
   free_stored w (Some (Halt why)) x is p = absurd (cc)
 
--- ---------------------------------------------------------------- a machine that was begun by Start
+-- ---------------------------------------------------------------- how a machine began
 
--- draws no number again, and stays one
-pub never_draws : (t : Machine) → t.course.way ≡ Fresh → draws t ≡ false
-never_draws t fresh = ap (draws_by t) fresh
+-- stays as it is
+visit_way : (c : Course) (next : Option (ℕ × ℕ)) → (visit_or_opening c next).way ≡ c.way
+visit_way c None = refl
+visit_way c (Some next) = refl
+
+pub ask_way : (c : Course) (next : Option ℕ) → (ask_or_call c next).way ≡ c.way
+ask_way c None = refl
+ask_way c (Some a) = refl
+
+pub goes_on_way : (k : Kept) (o : Bool) (c : Course) → (going_on k o c).way ≡ c.way
+goes_on_way k o c = go o where
+  early : (y : Way) → (going_on_early k y c).way ≡ c.way
+  early Fresh = visit_way c (next_unfinished k c.from)
+  early Surveying = ask_way c (next_asked k c.from)
+
+  searches : (y : Way) → (searching_on y c).way ≡ c.way
+  searches Fresh = refl
+  searches Surveying = refl
+
+  go : (o : Bool) → (going_on k o c).way ≡ c.way
+  go true = searches c.way
+  go false = early c.way
+
+pub searches_first_way : (y : Way) (c : Course) → (searching_first y c).way ≡ c.way
+searches_first_way Fresh c = refl
+searches_first_way Surveying c = refl
+
+pub full_way : (t : Machine) (c : Course) → (full t c).way ≡ c.way
+full_way t c = go (asks_again t) where
+  again : Course
+  again = record c { from = 0; opened = false; ascent = ascent_at_first; tally = asked_again c.tally }
+
+  go : (b : Bool) → (if b then ask_or_call again (next_asked t.kept 0) else closing c BlockFull).way ≡ c.way
+  go true = ask_way again (next_asked t.kept 0)
+  go false = refl
+
+pub undrawn_way : (t : Machine) (c : Course) → (undrawn t c).way ≡ c.way
+undrawn_way t c = go (has_open t) (nat_lt c.tally.draws 3) where
+  go : (b d : Bool) → (if b then (if d then drawing c else closing c GaveUp) else full t c).way ≡ c.way
+  go true true = refl
+  go true false = refl
+  go false d = full_way t c
+
+pub nobody_left_way : (t : Machine) (c : Course) → (nobody_left t c).way ≡ c.way
+nobody_left_way t c = go (c.ascent.found == 0) where
+  go : (b : Bool) → (if b then undrawn t c else calling c).way ≡ c.way
+  go true = undrawn_way t c
+  go false = refl
+
+pub hunts_way : (t : Machine) (s : Step) (c : Course) → (hunted_to t s c).way ≡ c.way
+hunts_way t Again c = refl
+hunts_way t (Found r) c = refl
+hunts_way t Nobody c = nobody_left_way t c
+
+pub blocked_way : (t : Machine) → (blocked t).way ≡ t.course.way
+blocked_way t = go (may_draw t) where
+  go : (b : Bool) → (if b then opening_at_last t.course else closing t.course GaveUp).way ≡ t.course.way
+  go true = refl
+  go false = refl
+
+pub called_way : (t : Machine) (b : Bool) → (called_to t b t.course).way ≡ t.course.way
+called_way t false = go t.course.tally.is_silent where
+  go : (b : Bool) → (if b then closing t.course AllFound else calling (record t.course { tally = silent_call t.course.tally })).way ≡ t.course.way
+  go true = refl
+  go false = refl
+called_way t true = go (is_blocked t.course.tally) where
+  go : (b : Bool) → (if b then blocked t else hunting_first (record t.course { tally = heard_call t.course.tally })).way ≡ t.course.way
+  go true = blocked_way t
+  go false = refl
+
+pub ungiven_way : (t : Machine) (y : Way) → (ungiven t y).way ≡ t.course.way
+ungiven_way t Fresh = refl
+ungiven_way t Surveying = go (may_draw t) where
+  go : (b : Bool) → (if b then opening_anew t.course else full t t.course).way ≡ t.course.way
+  go true = refl
+  go false = full_way t t.course
+
+pub silenced_way : (t : Machine) → (silenced t).way ≡ t.course.way
+silenced_way t = go (t.silent == most_silent t.course.way) where
+  again : (b : Bool) → (missed_again b t.course).way ≡ t.course.way
+  again true = refl
+  again false = refl
+
+  on : (y : Way) → (silenced_on t y).way ≡ t.course.way
+  on Fresh = goes_on_way t.kept t.course.opened t.course
+  on Surveying = again (is_failed t.course.tally.failed (value_of t.course.number))
+
+  go : (b : Bool) → (if b then closing t.course GaveUp else silenced_on t t.course.way).way ≡ t.course.way
+  go true = refl
+  go false = on t.course.way
+
+pub keeps_way : (t : Machine) → (next_course t).way ≡ t.course.way
+keeps_way t = go (stage_of t.trace) where
+  on : (goes_on_to t).way ≡ t.course.way
+  on = goes_on_way t.kept t.course.opened t.course
+
+  unheard : (r : SearchAddress) (opened : Bool) (a : Option ℕ) → (unanswered t r opened a).way ≡ t.course.way
+  unheard r false (Some a) = refl
+  unheard r false None = silenced_way t
+  unheard r true a = silenced_way t
+
+  rest : (last : Option Order) → (at_rest t last).way ≡ t.course.way
+  rest (Some (Put p f)) = refl
+  rest (Some (Commit (Reserve a n))) = refl
+  rest _ = on
+
+  asks : (b : Bool) → (asked_once t b).way ≡ t.course.way
+  asks true = on
+  asks false = refl
+
+  answers : (s : Step) (c : Course) → (after_step s c).way ≡ c.way
+  answers Again c = refl
+  answers (Found r) c = refl
+  answers Nobody c = refl
+
+  compares : (p : Purpose) (h : Answer) → (compared_in t p h).way ≡ t.course.way
+  compares Calling h = called_way t (is_yes h)
+  compares _ h = hunts_way t (leads_to (hunted t.course h).ascent) (hunted t.course h)
+
+  go : (s : Stage) → (begins_at t s).way ≡ t.course.way
+  go Free = rest t.last
+  go Opened = searches_first_way t.course.way t.course
+  go DrawBarred = searches_first_way t.course.way t.course
+  go (Hunted r (Some h) left) = compares t.course.purpose h
+  go (HighAsked a high) = asks (t.asked == 0)
+  go (Probed r h) = answers (answered t.course.search (is_yes h)).step (record t.course { search = answered t.course.search (is_yes h) })
+  go (Unnamed r) = ungiven_way t t.course.way
+  go (Unanswered r) = unheard r t.course.opened (address_for t.kept.reserved (value_of r))
+  go (Inconclusive r other) = silenced_way t
+  go (PassedOver r) = refl
+  go _ = on
 
 pub keeps_fresh : (t : Machine) → t.course.way ≡ Fresh → (next_course t).way ≡ Fresh
-keeps_fresh t fresh = go (stage_of t.trace) where
-  visits : (next : Option (ℕ × ℕ)) → (visit_or_opening t.course next).way ≡ Fresh
-  visits None = fresh
-  visits (Some next) = fresh
+keeps_fresh t fresh = keeps_way t ∙ fresh
 
-  early : (y : Way) → y ≡ Fresh → (going_on_early t.kept y t.course).way ≡ Fresh
-  early Fresh is = visits (next_unfinished t.kept t.course.from)
-  early Surveying is = absurd (cc)
-  early Drawing is = absurd (cc)
-
-  searches : (y : Way) → y ≡ Fresh → (searching_on y t.course).way ≡ Fresh
-  searches Fresh is = fresh
-  searches Surveying is = absurd (cc)
-  searches Drawing is = absurd (cc)
-
-  searches_first : (y : Way) → y ≡ Fresh → (searching_first y t.course).way ≡ Fresh
-  searches_first Fresh is = fresh
-  searches_first Surveying is = absurd (cc)
-  searches_first Drawing is = absurd (cc)
-
-  on : (opened : Bool) → (going_on t.kept opened t.course).way ≡ Fresh
-  on true = searches t.course.way fresh
-  on false = early t.course.way fresh
-
-  visits_anew : (next : Option (ℕ × ℕ)) → (visit_or_opening (missed t.course) next).way ≡ Fresh
-  visits_anew None = fresh
-  visits_anew (Some next) = fresh
-
-  early_anew : (y : Way) → y ≡ Fresh → (going_on_early t.kept y (missed t.course)).way ≡ Fresh
-  early_anew Fresh is = visits_anew (next_unfinished t.kept t.course.from)
-  early_anew Surveying is = absurd (cc)
-  early_anew Drawing is = absurd (cc)
-
-  searches_anew : (y : Way) → y ≡ Fresh → (searching_on y (missed t.course)).way ≡ Fresh
-  searches_anew Fresh is = fresh
-  searches_anew Surveying is = absurd (cc)
-  searches_anew Drawing is = absurd (cc)
-
-  anew : (opened : Bool) → (going_on t.kept opened (missed t.course)).way ≡ Fresh
-  anew true = searches_anew t.course.way fresh
-  anew false = early_anew t.course.way fresh
-
-  over : (b : Bool) (c : Course) (e : End) → b ≡ false → c.way ≡ Fresh → (draw_or_close b c e).way ≡ Fresh
-  over true c e is there = absurd (cc)
-  over false c e is there = there
-
-  hunts : (s : Step) (c : Course) → c.way ≡ Fresh → (hunted_to t s c).way ≡ Fresh
-  hunts Again c there = there
-  hunts (Found r) c there = there
-  hunts Nobody c there = over (draws t) c AllFound (never_draws t fresh) there
-
-  answers : (s : Step) (c : Course) → c.way ≡ Fresh → (probed_to t s c).way ≡ Fresh
-  answers Again c there = there
-  answers (Found r) c there = there
-  answers Nobody c there = over (draws t) c AllFound (never_draws t fresh) there
-
-  silent : (b : Bool) → (if b then closing t.course GaveUp else goes_on_anew t).way ≡ Fresh
-  silent true = fresh
-  silent false = anew t.opened
-
-  unheard : (r : SearchAddress) (opened : Bool) (a : Option ℕ) → (unanswered t r opened a).way ≡ Fresh
-  unheard r false (Some a) = fresh
-  unheard r false None = silent (t.silent == 16)
-  unheard r true a = silent (t.silent == 16)
-
-  rest : (last : Option Order) → (at_rest t last).way ≡ Fresh
-  rest (Some (Put p f)) = fresh
-  rest (Some (Commit (Reserve a n))) = fresh
-  rest _ = on t.opened
-
-  asks : (b : Bool) → (asked_once t b).way ≡ Fresh
-  asks true = on t.opened
-  asks false = fresh
-
-  go : (s : Stage) → (begins_at t s).way ≡ Fresh
-  go Free = rest t.last
-  go Opened = searches_first t.course.way fresh
-  go Initialised = searches_first t.course.way fresh
-  go (Hunted r (Some h) left) = hunts (leads_to (hunted t.course h).ascent) (hunted t.course h) fresh
-  go (HighAsked a high) = asks (t.asked == 0)
-  go (Probed r h) = answers (answered t.course.search (is_yes h)).step (record t.course { search = answered t.course.search (is_yes h) }) fresh
-  go (Unnamed r) = over (draws t) t.course BlockFull (never_draws t fresh) fresh
-  go (Unanswered r) = unheard r t.opened (address_for t.kept.reserved (value_of r))
-  go (Inconclusive r other) = silent (t.silent == 16)
-  go _ = on t.opened
-
--- before its opening it visits what is unfinished
-pub goes_on_fresh : (t : Machine) → t.course.way ≡ Fresh → t.opened ≡ false → goes_on_to t ≡ visit_or_opening t.course (next_unfinished t.kept t.course.from)
+-- before its opening a machine that was begun by Start visits what is unfinished
+pub goes_on_fresh : (t : Machine) → t.course.way ≡ Fresh → t.course.opened ≡ false
+    → goes_on_to t ≡ visit_or_opening t.course (next_unfinished t.kept t.course.from)
 goes_on_fresh t fresh closed = ap (λ o. going_on t.kept o t.course) closed ∙ ap (λ y. going_on_early t.kept y t.course) fresh
-
--- gear are not woken by it
-pub not_woken : (s : Stage) (p : Purpose) (o : Bool) → (p ≡ Waking → ⊥) → woken_after s p o ≡ o
-not_woken Initialised Waking o other = absurd (other refl)
-not_woken Initialised Opening o other = refl
-not_woken Initialised Probing o other = refl
-not_woken Initialised Hunting o other = refl
-not_woken Initialised Visiting o other = refl
-not_woken Initialised (Resolving a) o other = refl
-not_woken Initialised (Closing e) o other = refl
-not_woken Initialised (Asking a) o other = refl
-not_woken _ p o other = refl
-
-pub closed_unwoken : (s : Stage) (p : Purpose) (o : Bool) → woken_after s p o ≡ false → o ≡ false
-closed_unwoken Initialised Waking o e = absurd (cc)
-closed_unwoken Initialised Opening o e = e
-closed_unwoken Initialised Probing o e = e
-closed_unwoken Initialised Hunting o e = e
-closed_unwoken Initialised Visiting o e = e
-closed_unwoken Initialised (Resolving a) o e = e
-closed_unwoken Initialised (Closing x) o e = e
-closed_unwoken Initialised (Asking a) o e = e
-closed_unwoken _ p o e = e

@@ -2,18 +2,25 @@ use Rattle.std.proofs.Common.{◌≡◌, ℕ, [], ◌∷◌, true, false, Some, 
 use Rattle.dali_frame.specs.declared.frames.Answer.TheVariants.{Silence, Damaged}
 use Rattle.dali_frame.specs.declared.frames.Forward.{Forward}
 use Rattle.dali_frame.specs.declared.numbers.SearchAddress.{SearchAddress}
-use Rattle.dali_script.specs.declared.stage.Stage.TheVariants.{Unanswered, Inconclusive, Withdrawn}
+use Rattle.dali_special.specs.declared.command.Command.TheVariants.{Compare, Randomise}
+use Rattle.dali_script.specs.declared.stage.Stage.TheVariants.{Unanswered, Inconclusive, Withdrawn, Hunted, DrawFree, DrawBarred}
 use Rattle.dali_script.specs.declared.records.Record.TheVariants.{Enrol, Release}
 use Rattle.dali_script.specs.Records.{Kept}
 use Rattle.dali_script.specs.Stages.{stage_of}
 use Rattle.dali_script.specs.declared.orders.Input.{Input}
 use Rattle.dali_script.specs.declared.orders.Order.TheVariants.{Put, Commit, Done}
 use Rattle.dali_script.specs.declared.orders.End.{End}
-use Rattle.dali_script.specs.declared.orders.End.TheVariants.{AllFound}
+use Rattle.dali_script.specs.declared.orders.End.TheVariants.{AllFound, BlockFull, GaveUp}
 use Rattle.dali_script.specs.Due.{due_after, accepts}
 use Rattle.dali_search.specs.Least.{answered, at_first as search_at_first}
-use Rattle.dali_controller.specs.Course.{course_at_first, sought, probed, searching_anew, closing, next_unfinished}
-use Rattle.dali_controller.specs.Next.{next_course}
+use Rattle.dali_controller.specs.Course.{course_at_first, sought, probed, searching_anew, closing, next_unfinished, turn_of, calling, hunting_first, drawing}
+use Rattle.dali_controller.specs.Course.{missed}
+use Rattle.dali_controller.specs.Course.{passing_over, opening_at_last, asking}
+use Rattle.dali_controller.specs.Next.{next_course, begins_at, called_in, nobody_left, silenced, ungiven}
+use Rattle.dali_controller.specs.Tally.{uncounted, none_passed, with_passed, silent_call, heard_call, missed_by, passed_over, asked_again}
+use Rattle.dali_controller.specs.declared.purpose.Purpose.TheVariants.{Calling, Drawing, Visiting}
+use Rattle.dali_controller.specs.declared.tally.Tally.{Tally}
+use Rattle.dali_controller.specs.declared.way.Way.TheVariants.{Surveying}
 use Rattle.dali_controller.specs.Machine.{Machine, at_first, machine_lost, silent_after}
 use Rattle.dali_controller.specs.Orders.{IsWarranted}
 
@@ -67,3 +74,97 @@ no_second_release t a n last w = let other : Some (Commit (Release a n)) ≡ Som
 
 no_release_of_what_was_given : (t : Machine) (a n : ℕ) → t.last ≡ Some (Commit (Enrol a n)) → IsWarranted t (Release a n) → ⊥
 no_release_of_what_was_given t a n last w = w.2 (let same : Some (Commit (Enrol a n)) ≡ Some (Commit (Enrol w.0 n)) = sym last ∙ w.1 in cc)
+
+-- A SURVEY. Its machine in a roll call: the search that goes up has found nobody, and one address of the block is open.
+abbrev one_open : Kept
+one_open = record { block = record { first = 0; last = 1 }; reserved = (0, 7) ∷ []; enrolled = [] }
+
+abbrev full_block : Kept
+full_block = record { block = record { first = 0; last = 0 }; reserved = (0, 7) ∷ []; enrolled = [] }
+
+abbrev surveyed : Kept → Tally → Machine
+surveyed k y = record (at_first 0 k) {
+  course = record course_at_first { way = Surveying; opened = true; from = 64; purpose = Calling; number = sought 0xFFFFFF; tally = y };
+}
+
+-- COMPARE is sent once more after silence, and not after a yes, nor a third time
+a_silent_call_asks_again : turn_of Calling (sought 0xFFFFFF) (Hunted (sought 0xFFFFFF) (Some Silence) 1) ≡ Some Compare
+a_silent_call_asks_again = refl
+
+an_answered_call_ends : turn_of Calling (sought 0xFFFFFF) (Hunted (sought 0xFFFFFF) (Some Damaged) 1) ≡ None
+an_answered_call_ends = refl
+
+a_call_asks_twice : turn_of Calling (sought 0xFFFFFF) (Hunted (sought 0xFFFFFF) (Some Silence) 0) ≡ None
+a_call_asks_twice = refl
+
+-- a roll call that was silent is followed by another one, and two in a row by the end
+one_silence_is_none : called_in (surveyed one_open uncounted) Silence
+    ≡ calling (record (surveyed one_open uncounted).course { tally = silent_call uncounted })
+one_silence_is_none = refl
+
+two_silences_are_the_end : called_in (surveyed one_open (silent_call uncounted)) Silence
+    ≡ closing (surveyed one_open (silent_call uncounted)).course AllFound
+two_silences_are_the_end = refl
+
+-- who answers is searched, and then a roll call must be silent twice again
+an_answer_is_searched : called_in (surveyed one_open (silent_call uncounted)) Damaged
+    ≡ hunting_first (record (surveyed one_open uncounted).course { tally = heard_call uncounted })
+an_answer_is_searched = refl
+
+-- where nobody is found who answered the roll call, gear draw; where COMPARE is answered before, they don't, and are
+-- searched
+nobody_drew : nobody_left (surveyed one_open uncounted) (surveyed one_open uncounted).course ≡ drawing (surveyed one_open uncounted).course
+nobody_drew = refl
+
+a_draw_of_nobody : (n : SearchAddress) → turn_of Drawing n DrawFree ≡ Some Randomise
+a_draw_of_nobody n = refl
+
+no_draw_of_somebody : (n : SearchAddress) → turn_of Drawing n DrawBarred ≡ None
+no_draw_of_somebody n = refl
+
+somebody_is_searched : (k : Kept) (y : Tally) → begins_at (surveyed k y) DrawBarred ≡ hunting_first (surveyed k y).course
+somebody_is_searched k y = refl
+
+-- a number whose visit failed is looked for once more, and passed over when that fails too
+abbrev visited : Kept → Tally → Machine
+visited k y = record (surveyed k y) { course = record (surveyed k y).course { purpose = Visiting; number = sought 5 } }
+
+a_first_failure : silenced (visited one_open uncounted) ≡ missed (visited one_open uncounted).course
+a_first_failure = refl
+
+a_second_failure : silenced (visited one_open (missed_by uncounted 5)) ≡ passing_over (visited one_open (missed_by uncounted 5)).course
+a_second_failure = refl
+
+another_failure : silenced (visited one_open (missed_by uncounted 6)) ≡ missed (visited one_open (missed_by uncounted 6)).course
+another_failure = refl
+
+the_number_is_known : (passing_over (visited one_open (missed_by uncounted 5)).course).tally.passed ≡ with_passed none_passed 5
+the_number_is_known = refl
+
+-- the fourth roll call that hears somebody, where somebody was passed over: gear draw for the last time, and then it
+-- gives up
+abbrev hard_to_reach : ℕ → Tally
+hard_to_reach draws = record (passed_over uncounted 5) { calls = 3; draws = draws }
+
+they_draw_at_last : called_in (surveyed one_open (hard_to_reach 0)) Damaged ≡ opening_at_last (surveyed one_open (hard_to_reach 0)).course
+they_draw_at_last = refl
+
+it_gives_up : called_in (surveyed one_open (hard_to_reach 3)) Damaged ≡ closing (surveyed one_open (hard_to_reach 3)).course GaveUp
+it_gives_up = refl
+
+nobody_passed_over : called_in (surveyed one_open (record uncounted { calls = 3; draws = 3 })) Damaged
+    ≡ hunting_first (record (surveyed one_open uncounted).course { tally = record uncounted { calls = 3; draws = 3 } })
+nobody_passed_over = refl
+
+-- no address is open: while a reservation is unfinished after a visit that failed, short addresses are asked again, six
+-- times in all, and then the block is full
+it_asks_again : ungiven (visited full_block (missed_by uncounted 5)) Surveying
+    ≡ asking (record (visited full_block uncounted).course { opened = false; tally = asked_again (missed_by uncounted 5) }) 0
+it_asks_again = refl
+
+it_asks_no_more : ungiven (visited full_block (record (missed_by uncounted 5) { askings = 6 })) Surveying
+    ≡ closing (visited full_block (record (missed_by uncounted 5) { askings = 6 })).course BlockFull
+it_asks_no_more = refl
+
+nothing_to_ask : ungiven (visited full_block uncounted) Surveying ≡ closing (visited full_block uncounted).course BlockFull
+nothing_to_ask = refl

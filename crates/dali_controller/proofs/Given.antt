@@ -30,8 +30,8 @@ use Rattle.dali_script.specs.declared.orders.End.TheVariants.{BlockFull, GaveUp}
 use Rattle.dali_script.specs.declared.orders.Fault.TheVariants as fault
 use Rattle.dali_controller.specs.declared.purpose.Purpose.TheVariants.{Closing}
 use Rattle.dali_controller.specs.declared.way.Way.{Way}
-use Rattle.dali_controller.specs.declared.way.Way.TheVariants.{Fresh, Surveying, Drawing}
-use Rattle.dali_controller.specs.Course.{Course, closing_of, turn_of, searching_on, going_on, going_on_early, visit_or_opening, next_unfinished, ask_or_wake}
+use Rattle.dali_controller.specs.declared.way.Way.TheVariants.{Fresh, Surveying}
+use Rattle.dali_controller.specs.Course.{Course, closing_of, turn_of, searching_on, going_on, going_on_early, visit_or_opening, next_unfinished, ask_or_call}
 use Rattle.dali_controller.specs.Course.{next_asked}
 use Rattle.dali_controller.specs.Machine.{Machine, machine_told}
 use Rattle.dali_controller.specs.Next.{next_course, begins_at, course_by, course_on, beginning, BeginsWith}
@@ -58,7 +58,6 @@ found_assigned reserved (Resolved a r) p may = may.0
 pub enrols_assigned : (y : Way) (reserved : List Assignment) (x : Finding) (p : Assignment) → MayEnrolOn y reserved x p → p ≡ assigned x
 enrols_assigned Fresh reserved x p may = found_assigned reserved x p may
 enrols_assigned Surveying reserved x p may = may
-enrols_assigned Drawing reserved x p may = may
 
 -- the last order was the commit of no enrolment
 abbrev pub IsNoEnrolment : Option Order → Type 0
@@ -261,25 +260,23 @@ releases t o b n c given last has other = go o given (given.followed.enrolled b 
   go (Halt why) given is = elim is [ ]
 
 -- A CLOSE THAT WAS HEARD is the end that it was begun with.
-goes_on_open : (t : Machine) → closing_of (going_on t.kept t.opened t.course).purpose ≡ None
-goes_on_open t = go t.opened where
+pub goes_on_open : (t : Machine) → closing_of (going_on t.kept t.course.opened t.course).purpose ≡ None
+goes_on_open t = go t.course.opened where
   visits : (next : Option (ℕ × ℕ)) → closing_of (visit_or_opening t.course next).purpose ≡ None
   visits None = refl
   visits (Some next) = refl
 
-  asks : (next : Option ℕ) → closing_of (ask_or_wake t.course next).purpose ≡ None
+  asks : (next : Option ℕ) → closing_of (ask_or_call t.course next).purpose ≡ None
   asks None = refl
   asks (Some a) = refl
 
   early : (y : Way) → closing_of (going_on_early t.kept y t.course).purpose ≡ None
   early Fresh = visits (next_unfinished t.kept t.course.from)
   early Surveying = asks (next_asked t.kept t.course.from)
-  early Drawing = refl
 
   searches : (y : Way) → closing_of (searching_on y t.course).purpose ≡ None
   searches Fresh = refl
   searches Surveying = refl
-  searches Drawing = refl
 
   go : (opened : Bool) → closing_of (going_on t.kept opened t.course).purpose ≡ None
   go true = searches t.course.way

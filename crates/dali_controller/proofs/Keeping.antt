@@ -1,6 +1,6 @@
 use Rattle.std.proofs.Common.{◌≡◌, ℕ, ◌<◌, Option, Some, None, Result, Ok, Err, sym, subst, ap, ◌∙◌}
 use Rattle.std.specs.Prelude.{IfSome, IfOk}
-use Rattle.dali_frame.specs.Random.{MASK24}
+use Rattle.dali_frame.specs.Random.{value_of, MASK24}
 use Rattle.dali_script.specs.declared.records.Record.{Record}
 use Rattle.dali_script.specs.declared.records.Record.TheVariants.{Reserve}
 use Rattle.dali_script.specs.declared.orders.Input.{Input}
@@ -15,7 +15,11 @@ use Rattle.dali_controller.specs.Machine.{Machine}
 use Rattle.dali_controller.specs.Next.{BeginsWith}
 use Rattle.dali_controller.specs.Orders.{IsGiven, IsAnswered, IsFollowedAt, machine_after}
 use Rattle.dali_controller.specs.States.{machine_with}
-use Rattle.dali_controller.specs.Whole.{IsWhole, IsStoring, Pending}
+use Rattle.dali_controller.specs.Legs.{way_on, is_searching, search_on, ascent_on}
+use Rattle.dali_controller.specs.declared.purpose.Purpose.TheVariants.{Visiting}
+use Rattle.dali_controller.specs.declared.way.Way.{Way}
+use Rattle.dali_controller.specs.declared.way.Way.TheVariants.{Fresh, Surveying}
+use Rattle.dali_controller.specs.Whole.{IsWhole, IsStoring, IsVisitedOn, Knows, Pending}
 use Rattle.dali_controller.specs.Steps.{IsBefore, with_some, kept_by}
 
 -- WHAT IS RESERVED FROM NOW ON was drawn.
@@ -25,6 +29,19 @@ reserved_now s k new a n before last =
     let stored : IsStoring (machine_with s k) (Reserve a n) = subst (Pending (machine_with s k)) last before.whole in
     let same : new ≡ with_record k (Reserve a n) = before.kept ∙ ap (λ l. with_some k (kept_by l input.Committed)) last in
     (stored.fits.1, rw same (has_map (λ q. q.1) (with_record k (Reserve a n)).reserved (a, n) (has_last k.reserved (a, n))))
+
+-- so its gear may be visited
+pub visited_now : (s : State) (k new : Kept) (a n : ℕ) → IsBefore s k input.Committed new → s.last ≡ Some (Commit (Reserve a n))
+    → (n < MASK24) × IsVisitedOn (way_on s.leg) new n (is_searching s.leg)
+visited_now s k new a n before last =
+    let stored : IsStoring (machine_with s k) (Reserve a n) = subst (Pending (machine_with s k)) last before.whole in
+    let visiting : Knows (way_on s.leg) k s.number (search_on s.leg) (ascent_on s.leg) (is_searching s.leg) Visiting =
+    subst (Knows (way_on s.leg) k s.number (search_on s.leg) (ascent_on s.leg) (is_searching s.leg)) stored.stored stored.ready.knows in
+    let there = reserved_now s k new a n before last in
+    (there.0, go (way_on s.leg) there.1 visiting.1) where
+      go : (y : Way) → HasRandom new.reserved n → IsVisitedOn y k (value_of s.number) (is_searching s.leg) → IsVisitedOn y new n (is_searching s.leg)
+      go Fresh there may = λ early. there
+      go Surveying there may = may
 
 -- A RECORD THAT AN INPUT SAYS IS KEPT fits, and may be added.
 pub kept_may : (s : State) (k : Kept) (i : Input) → IsWhole (machine_with s k) → IfSome (kept_by s.last i) (λ x. Fits k.block x × MayAdd k x)

@@ -3,31 +3,30 @@ use Rattle.std.proofs.Common.{subst, ◌∙◌, arith, Some, None}
 use Rattle.std.specs.Prelude.{◌&&◌, not, is_some}
 use Rattle.dali_frame.specs.declared.numbers.SearchAddress.{SearchAddress}
 use Rattle.dali_frame.specs.Random.{value_of, MASK24}
-use Rattle.dali_frame.specs.Priority.{FIRST, LATER}
+use Rattle.dali_frame.specs.Priority.{LATER}
 use Rattle.dali_special.specs.declared.command.Command.TheVariants.{Program}
 use Rattle.dali_special.specs.Command.{frame_of}
 use Rattle.dali_script.specs.declared.records.Record.TheVariants.{Reserve}
-use Rattle.dali_script.specs.declared.stage.Stage.TheVariants.{Unnamed, Withdrawn}
+use Rattle.dali_script.specs.declared.stage.Stage.TheVariants.{Unnamed}
 use Rattle.dali_script.specs.Records.{IsKept, IsMap, InBlock, HasAddress, Kept, Has, HasRandom, Fits, MayAdd}
 use Rattle.dali_script.specs.Stages.{stage_of}
 use Rattle.dali_script.specs.declared.orders.Order.{Order}
 use Rattle.dali_script.specs.declared.orders.Order.TheVariants.{Put, Commit}
-use Rattle.dali_script.specs.declared.orders.End.TheVariants.{BlockFull}
-use Rattle.dali_controller.specs.declared.purpose.Purpose.TheVariants.{Visiting, Closing}
+use Rattle.dali_controller.specs.declared.purpose.Purpose.TheVariants.{Visiting}
 use Rattle.dali_controller.specs.declared.shorts.Shorts.{Shorts}
 use Rattle.dali_controller.specs.declared.way.Way.{Way}
-use Rattle.dali_controller.specs.declared.way.Way.TheVariants.{Fresh, Surveying, Drawing}
-use Rattle.dali_controller.specs.Course.{Course, first_of, closing_of, address_for, least_open, is_anothers}
+use Rattle.dali_controller.specs.declared.way.Way.TheVariants.{Fresh, Surveying}
+use Rattle.dali_controller.specs.Course.{Course, closing_of, address_for, least_open, is_anothers}
 use Rattle.dali_controller.specs.Machine.{Machine, is_withheld, is_withheld_by}
-use Rattle.dali_controller.specs.Next.{begins_at, beginning, next_course, draws, draw_or_close}
+use Rattle.dali_controller.specs.Next.{most_silent}
 use Rattle.dali_controller.proofs.Courses.{address_is}
 use Rattle.dali_controller.proofs.Asked.{least_open_is, open_unreserved}
-use Rattle.dali_controller.specs.Orders.{AfterReserved, AfterMaskBy, AfterMaskOn, AfterMaskSurveyed, IsOrderedTo, IsLeft}
+use Rattle.dali_controller.specs.Orders.{AfterReserved, AfterMaskBy, AfterMaskOn, AfterMaskSurveyed, IsOrderedTo}
 use Rattle.dali_controller.specs.Orders.{is_left_by, machine_ordered}
-use Rattle.dali_controller.specs.Whole.{Knows}
-use Rattle.dali_controller.specs.Moments.{Closes, IsHeard, IsNext}
-use Rattle.dali_controller.specs.Moments.{IsFirstFree, IsUngiven, IsNextTo}
-use Rattle.dali_controller.proofs.Steps.{IsMasked, calm_less, but_course}
+use Rattle.dali_controller.specs.Whole.{Knows, IsVisitedOn}
+use Rattle.dali_controller.specs.Moments.{IsHeard, IsNext}
+use Rattle.dali_controller.specs.Moments.{IsFirstFree, IsUngiven}
+use Rattle.dali_controller.proofs.Steps.{IsMasked, calm_less, ordered_on}
 
 -- GEAR THAT ANSWERED MASK is given what is reserved for it, or an address is reserved, or it is left.
 
@@ -39,12 +38,11 @@ withheld_opened : (o b : Bool) → (o && b) ≡ true → o ≡ true
 withheld_opened true b e = refl
 withheld_opened false b e = absurd (cc)
 
-withheld_by : (y : Way) (t : Machine) (a r : ℕ) → is_withheld_by t y a r ≡ true → t.opened ≡ true
+withheld_by : (y : Way) (t : Machine) (a r : ℕ) → is_withheld_by t y a r ≡ true → t.course.opened ≡ true
 withheld_by Fresh t a r e = absurd (cc)
-withheld_by Surveying t a r e = withheld_opened t.opened (is_anothers t.kept t.heard a r) e
-withheld_by Drawing t a r e = withheld_opened t.opened (is_anothers t.kept t.heard a r) e
+withheld_by Surveying t a r e = withheld_opened t.course.opened (is_anothers t.kept t.heard a r) e
 
-pub withheld_searching : (w : Machine) (a m : ℕ) → is_withheld w a m ≡ true → w.opened ≡ true
+pub withheld_searching : (w : Machine) (a m : ℕ) → is_withheld w a m ≡ true → w.course.opened ≡ true
 withheld_searching w a m e = withheld_by w.course.way w a m e
 
 left_by_withheld : (y : Way) (w : Machine) (r : SearchAddress) (a : ℕ) → w.course.way ≡ y → IsKept w.kept → Has w.kept.reserved (a, value_of r)
@@ -53,8 +51,6 @@ left_by_withheld Fresh w r a way kept has withheld =
     absurd (let no : is_withheld_by w Fresh a (value_of r) ≡ true =
     subst (λ y. is_withheld_by w y a (value_of r) ≡ true) way withheld in cc)
 left_by_withheld Surveying w r a way kept has withheld =
-    ap (λ o. is_left_by w (value_of r) o (least_open w.kept w.heard)) (sym (reserved_for w.kept (value_of r) a kept has)) ∙ withheld
-left_by_withheld Drawing w r a way kept has withheld =
     ap (λ o. is_left_by w (value_of r) o (least_open w.kept w.heard)) (sym (reserved_for w.kept (value_of r) a kept has)) ∙ withheld
 
 pub withheld_left : (w : Machine) (r : SearchAddress) (a m : ℕ) → IsKept w.kept → Has w.kept.reserved (a, value_of r) → m ≡ value_of r
@@ -74,7 +70,6 @@ given_masked : (y : Way) (w : Machine) (r : SearchAddress) (a : ℕ) → IsKept 
     → is_withheld w a (value_of r) ≡ false → AfterMaskOn y w w.course r (Put LATER (frame_of (Program (Some a))))
 given_masked Fresh w r a kept has given = inl (a, has, refl, refl)
 given_masked Surveying w r a kept has given = given_surveyed w r a kept has given
-given_masked Drawing w r a kept has given = given_surveyed w r a kept has given
 
 same_unnamed : (r q : SearchAddress) → Unnamed r ≡ Unnamed q → r ≡ q
 same_unnamed r q e = cc
@@ -86,20 +81,20 @@ gives_masked w r a m h kept has is given q stage =
     (same_unnamed r q (sym h.stage ∙ stage)) (given_masked w.course.way w r a kept has (ap (is_withheld w a) (sym is) ∙ given))
 
 -- gear that answered MASK and for whose number nothing is reserved is found by a search
-pub free_searching : (w : Machine) (r : SearchAddress) → IsHeard w (Unnamed r) → (HasRandom w.kept.reserved (value_of r) → ⊥) → w.opened ≡ true
+pub free_searching : (w : Machine) (r : SearchAddress) → IsHeard w (Unnamed r) → (HasRandom w.kept.reserved (value_of r) → ⊥) → w.course.opened ≡ true
 free_searching w r h free =
-    let visiting : Knows w.course.way w.kept w.course.number w.course.search w.course.ascent w.opened Visiting =
-    subst (Knows w.course.way w.kept w.course.number w.course.search w.course.ascent w.opened) h.arrived.0 h.knows in
-    go w.opened (λ e. subst (λ q. HasRandom w.kept.reserved (value_of q)) (sym h.arrived.1) (visiting.1 e)) where
-      go : (o : Bool) → (o ≡ false → HasRandom w.kept.reserved (value_of r)) → o ≡ true
-      go true early = refl
-      go false early = absurd (free (early refl))
+    let visiting : Knows w.course.way w.kept w.course.number w.course.search w.course.ascent w.course.opened Visiting =
+    subst (Knows w.course.way w.kept w.course.number w.course.search w.course.ascent w.course.opened) h.arrived.0 h.knows in
+    go w.course.way w.course.opened (subst (λ q. IsVisitedOn w.course.way w.kept (value_of q) w.course.opened) (sym h.arrived.1) visiting.1) where
+      go : (y : Way) (o : Bool) → IsVisitedOn y w.kept (value_of r) o → o ≡ true
+      go Fresh true may = refl
+      go Fresh false may = absurd (free (may refl))
+      go Surveying o may = may
 
 -- The next free address is reserved; there is none where nothing is given.
 free_within : (y : Way) (k : Kept) (heard : Shorts) (a : ℕ) → IsFirstFree y k heard (Some a) → InBlock k.block a × (HasAddress k.reserved a → ⊥)
 free_within Fresh k heard a is = (is.within, is.free)
 free_within Surveying k heard a is = let x = least_open_is k heard a (sym is) in (x.0, open_unreserved k heard a x.1)
-free_within Drawing k heard a is = let x = least_open_is k heard a (sym is) in (x.0, open_unreserved k heard a x.1)
 
 none_reserved_for : (k : Kept) (r : ℕ) → IsMap k.reserved → (HasRandom k.reserved r → ⊥) → None ≡ address_for k.reserved r
 none_reserved_for k r map free = address_is k.reserved r None map.random_once free
@@ -108,9 +103,6 @@ pub unfree_left : (y : Way) (w : Machine) (r : SearchAddress) → IsMap w.kept.r
     → IsFirstFree y w.kept w.heard None → IsUngiven y w r
 unfree_left Fresh w r map free is = (free, is)
 unfree_left Surveying w r map free is =
-    ap (λ o. is_left_by w (value_of r) o (least_open w.kept w.heard)) (sym (none_reserved_for w.kept (value_of r) map free))
-    ∙ ap (λ o. not (is_some o)) (sym is)
-unfree_left Drawing w r map free is =
     ap (λ o. is_left_by w (value_of r) o (least_open w.kept w.heard)) (sym (none_reserved_for w.kept (value_of r) map free))
     ∙ ap (λ o. not (is_some o)) (sym is)
 
@@ -124,7 +116,6 @@ reserved_masked : (y : Way) (w : Machine) (c : Course) (r : SearchAddress) (a m 
     → IsFirstFree y w.kept w.heard (Some a) → m ≡ value_of r → AfterMaskOn y w c r (Commit (Reserve a m))
 reserved_masked Fresh w c r a m map free is same = (sym same, subst (λ n. HasRandom w.kept.reserved n → ⊥) (sym same) free, is)
 reserved_masked Surveying w c r a m map free is same = reserved_surveyed w r a m map free is same
-reserved_masked Drawing w c r a m map free is same = reserved_surveyed w r a m map free is same
 
 -- what may be reserved for gear that answered MASK
 pub record IsReservable (w : Machine) (a m : ℕ) : Type 0 where
@@ -134,8 +125,8 @@ pub record IsReservable (w : Machine) (a m : ℕ) : Type 0 where
 pub reservable : (w : Machine) (r : SearchAddress) (a m : ℕ) → IsHeard w (Unnamed r) → (HasRandom w.kept.reserved (value_of r) → ⊥)
     → IsFirstFree w.course.way w.kept w.heard (Some a) → m ≡ value_of r → IsReservable w a m
 reservable w r a m h free is same =
-    let visiting : Knows w.course.way w.kept w.course.number w.course.search w.course.ascent w.opened Visiting =
-    subst (Knows w.course.way w.kept w.course.number w.course.search w.course.ascent w.opened) h.arrived.0 h.knows in
+    let visiting : Knows w.course.way w.kept w.course.number w.course.search w.course.ascent w.course.opened Visiting =
+    subst (Knows w.course.way w.kept w.course.number w.course.search w.course.ascent w.course.opened) h.arrived.0 h.knows in
     let x = free_within w.course.way w.kept w.heard a is in
     let drawn : value_of r < MASK24 = subst (λ q. value_of q < MASK24) (sym h.arrived.1) visiting.0 in
     record {
@@ -149,7 +140,7 @@ reserves_at : (w : Machine) (c : Course) (r : SearchAddress) (a m : ℕ) → IsM
 reserves_at w c r a m map h free is same =
     let tries : w.tries < 8 = h.tries in
     let going : closing_of w.course.purpose ≡ None = ap closing_of h.arrived.0 in
-    let calm : w.silent < 16 = calm_less w.course.purpose w.silent going h.calm in
+    let calm : w.silent < most_silent w.course.way = calm_less w.course.way w.course.purpose w.silent going h.calm in
     let may = reservable w r a m h free is same in
     let stage : stage_of w.trace ≡ Unnamed r = h.stage in
     record {
@@ -168,33 +159,5 @@ pub reserves : (w : Machine) (r : SearchAddress) (a m : ℕ) (o : Order) (new : 
     → o ≡ Commit (Reserve a m) → new ≡ machine_ordered w o → IsNext w o new
 reserves w r a m o new map h free is same order state = record {
   order = subst (IsOrderedTo w new.course) (sym order) (reserves_at w new.course r a m map h free is same);
-  state = but_course new (machine_ordered w o) state;
+  state = ordered_on w o new state;
 }
-
--- gear that is left
-left_closes : (y : Way) (w : Machine) (r : SearchAddress) → w.course.way ≡ y → stage_of w.trace ≡ Unnamed r → draws w ≡ false → IsUngiven y w r
-    → IsLeft w y (value_of r) × IsNextTo y w (Closing BlockFull) w.course.number
-left_closes y w r way stage undrawn ungiven = go y ungiven where
-  next : Put FIRST (frame_of (first_of (Closing BlockFull) w.course.number)) ≡ beginning (next_course w)
-  next = sym (ap beginning (ap (begins_at w) stage ∙ ap (λ b. draw_or_close b w.course BlockFull) undrawn))
-
-  go : (y : Way) → IsUngiven y w r → IsLeft w y (value_of r) × IsNextTo y w (Closing BlockFull) w.course.number
-  go Fresh ungiven = (ungiven, refl)
-  go Surveying ungiven = ((ungiven, undrawn), next)
-  go Drawing ungiven = ((ungiven, undrawn), next)
-
-pub leaves : (w : Machine) (r : SearchAddress) → IsHeard w (Unnamed r) → w.opened ≡ true → IsUngiven w.course.way w r → draws w ≡ false
-    → Closes w BlockFull
-leaves w r h opened ungiven undrawn =
-    let going : closing_of w.course.purpose ≡ None = ap closing_of h.arrived.0 in
-    let calm : w.silent < 16 = calm_less w.course.purpose w.silent going h.calm in
-    let left = left_closes w.course.way w r refl h.stage undrawn ungiven in
-    record {
-      tries = h.tries;
-      calm = calm;
-      opened = opened;
-      going = going;
-      cause = (r, h.stage, left.0);
-      unnamed = λ q e. (subst (IsUngiven w.course.way w) (same_unnamed r q (sym h.stage ∙ e)) ungiven, left.1);
-      found = λ q b e. let other : Unnamed r ≡ Withdrawn q b = sym h.stage ∙ e in cc;
-    }

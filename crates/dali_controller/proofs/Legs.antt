@@ -1,10 +1,9 @@
-use Rattle.std.proofs.Common.{◌≡◌, ℕ, Bool, true, false, List, [], ◌∷◌, ◌++◌, refl, sym, ap, subst, ◌∙◌, Option, Some, None}
+use Rattle.std.proofs.Common.{◌≡◌, ℕ, true, false, List, [], ◌∷◌, ◌++◌, refl, sym, ap, subst, ◌∙◌, Option, Some, None}
 use Rattle.std.specs.Prelude.{◌||◌}
 use Rattle.dali_frame.specs.declared.frames.Forward.{Forward}
 use Rattle.dali_frame.specs.declared.frames.Answer.{Answer}
 use Rattle.dali_frame.specs.declared.numbers.SearchAddress.{SearchAddress}
 use Rattle.dali_script.specs.declared.stage.Stage.{Stage}
-use Rattle.dali_script.specs.declared.stage.Stage.TheVariants.{Initialised, Opened}
 use Rattle.dali_script.specs.declared.trace.Entry.{Entry}
 use Rattle.dali_script.specs.Records.{Kept}
 use Rattle.dali_script.specs.Stages.{stage_of}
@@ -15,20 +14,19 @@ use Rattle.dali_search.specs.Ascending.{ascent_at_first}
 use Rattle.dali_controller.specs.declared.leg.Leg.{Leg}
 use Rattle.dali_controller.specs.declared.leg.Leg.TheVariants as leg
 use Rattle.dali_controller.specs.declared.purpose.Purpose.{Purpose}
-use Rattle.dali_controller.specs.declared.purpose.Purpose.TheVariants.{Opening, Probing, Visiting, Resolving, Closing, Asking, Waking, Hunting}
+use Rattle.dali_controller.specs.declared.purpose.Purpose.TheVariants.{Opening, Asking}
 use Rattle.dali_controller.specs.declared.state.State.{State}
 use Rattle.dali_controller.specs.declared.way.Way.TheVariants.{Fresh, Surveying}
-use Rattle.dali_controller.specs.Course.{closing_of, opening}
-use Rattle.dali_controller.specs.Course.{missed}
-use Rattle.dali_controller.specs.Machine.{Machine, machine_told, machine_heard_to, opened_after, woken_after, asked_after, heard_after}
+use Rattle.dali_controller.specs.Course.{closing_of}
+use Rattle.dali_controller.specs.Machine.{Machine, machine_told, asked_after, heard_after}
 use Rattle.dali_controller.specs.Machine.{is_complete, is_ended, is_passed_by, silent_after, tries_after}
 use Rattle.dali_controller.specs.declared.shorts.Shorts.{Shorts}
 use Rattle.dali_script.specs.declared.finding.Finding.{Finding}
 use Rattle.dali_script.specs.Findings.{later, finding_of}
-use Rattle.dali_controller.specs.Legs.{way_drawn, way_on, is_searching, from_on, silences_on, search_on, ascent_on, with_silences, missed_on}
-use Rattle.dali_controller.specs.Moments.{is_searched_next}
-use Rattle.dali_controller.specs.States.{machine_with, course_of}
-use Rattle.dali_controller.specs.Whole.{IsEarly, IsUnstarted, IsWhole, Knows, Pending}
+use Rattle.dali_controller.specs.Legs.{way_on, is_searching, from_on, silences_on, search_on, ascent_on, with_silences}
+use Rattle.dali_controller.specs.Orders.{asked_by}
+use Rattle.dali_controller.specs.States.{machine_with}
+use Rattle.dali_controller.specs.Whole.{IsOpenedOn, IsUnstarted, IsWhole, Knows, Pending}
 use Rattle.dali_controller.proofs.Steps.{heard_by, sending, whole_at_first}
 
 -- THE LEG of a machine, and what contracts see of it.
@@ -51,15 +49,15 @@ counts_silences (leg.Revisiting from) k n p s h knows = sym (unasked p s h 0 (λ
 counts_silences (leg.Asking from silences) k n p s h knows = refl
 counts_silences (leg.Searching x) k n p s h knows = sym (unasked p s h 0 (λ a e.
     let here = subst (λ q. Knows Fresh k n x ascent_at_first true q) e knows in let no : true ≡ false = here.0 in cc))
-counts_silences (leg.Hunting up) k n p s h knows = sym (unasked p s h 0 (λ a e.
-    let here = subst (λ q. Knows (way_drawn up.drew) k n at_first up.ascent true q) e knows in let no : true ≡ false = here.0 in cc))
+counts_silences (leg.Hunting v) k n p s h knows = sym (unasked p s h 0 (λ a e.
+    let here = subst (λ q. Knows Surveying k n at_first v true q) e knows in let no : true ≡ false = here.0 in cc))
 
 counted_on : (s : State) (k : Kept) (l : Leg) (count n : ℕ) → silences_on (with_silences l count) ≡ n
     → machine_with (on_leg s (with_silences l count)) k ≡ record (machine_with (on_leg s l) k) { asked = n }
 counted_on s k (leg.Revisiting from) count n is = ap (λ x. record (machine_with (on_leg s (leg.Revisiting from)) k) { asked = x }) is
 counted_on s k (leg.Asking from silences) count n is = ap (λ x. record (machine_with (on_leg s (leg.Asking from silences)) k) { asked = x }) is
 counted_on s k (leg.Searching x) count n is = ap (λ y. record (machine_with (on_leg s (leg.Searching x)) k) { asked = y }) is
-counted_on s k (leg.Hunting up) count n is = ap (λ x. record (machine_with (on_leg s (leg.Hunting up)) k) { asked = x }) is
+counted_on s k (leg.Hunting a) count n is = ap (λ x. record (machine_with (on_leg s (leg.Hunting a)) k) { asked = x }) is
 
 -- the state that has heard a frame
 told_state : (s : State) (k : Kept) (f : Forward) (h : Answer) (t : List Entry) (found : Option Finding) (n i : ℕ) (shorts : Shorts) (count : ℕ)
@@ -83,53 +81,29 @@ pub hears_told : (s noted : State) (k : Kept) (f : Forward) (h : Answer) (t : Li
 hears_told s noted k f h t n i shorts count l whole put trace is tries silent marks counts leg =
     rw (leg, tries, silent, marks, counts, is, trace) (told_state s k f h _ _ _ _ _ _ whole put refl)
 
--- where gear are not searched from now on, all is told
-unsearched : (s : Stage) (p : Purpose) (o : Bool) → is_searched_next s p ≡ false → o ≡ woken_after s p (opened_after s o)
-unsearched Opened p o none = absurd (cc)
-unsearched Initialised Waking o none = absurd (cc)
-unsearched Initialised Opening o none = refl
-unsearched Initialised Probing o none = refl
-unsearched Initialised Hunting o none = refl
-unsearched Initialised Visiting o none = refl
-unsearched Initialised (Resolving a) o none = refl
-unsearched Initialised (Closing x) o none = refl
-unsearched Initialised (Asking a) o none = refl
-unsearched _ p o none = refl
+pub told_is : (w : Machine) (f : Forward) (h : Answer) → frame_put w.last ≡ Some f → heard_by w f h ≡ machine_told w (input.Heard h)
+told_is w f h put = rw put refl
 
-pub told_on : (w mid : Machine) (f : Forward) (h : Answer) → frame_put w.last ≡ Some f → mid ≡ heard_by w f h
-    → is_searched_next (stage_of mid.trace) mid.course.purpose ≡ false → mid ≡ machine_told w (input.Heard h)
-told_on w mid f h put is going =
-    let t : List Entry = w.trace ++ (record { frame = f; heard = h }) ∷ [] in
-    let here : is_searched_next (stage_of t) w.course.purpose ≡ false =
-    subst (λ (m : Machine). is_searched_next (stage_of m.trace) m.course.purpose ≡ false) is going in
-    let told : machine_heard_to w t h ≡ machine_told w (input.Heard h) = rw put refl in
-    is ∙ ap (λ o. record (machine_heard_to w t h) { opened = o }) (unsearched (stage_of t) w.course.purpose w.opened here) ∙ told
+-- ---------------------------------------------------------------- what is known of a leg
 
--- ---------------------------------------------------------------- what changes on a leg
-
-missed_at : (s : State) (k : Kept) (l : Leg) → machine_with (on_leg s (missed_on l)) k
-    ≡ record (machine_with (on_leg s l) k) { course = missed (course_of (on_leg s l)) }
-missed_at s k (leg.Revisiting from) = refl
-missed_at s k (leg.Asking from silences) = refl
-missed_at s k (leg.Searching x) = refl
-missed_at s k (leg.Hunting up) = refl
-
--- nobody answered under the number that was found
-pub misses : (s : State) (k : Kept) (l : Leg) → l ≡ missed_on s.leg
-    → machine_with (record s { leg = l }) k ≡ record (machine_with s k) { course = missed (course_of s) }
-misses s k l is = ap (λ x. machine_with (on_leg s x) k) is ∙ missed_at s k s.leg
+-- no silence is counted where gear are searched
+pub counted_leg : (l : Leg) → silences_on l ≡ asked_by (is_searching l) (silences_on l)
+counted_leg (leg.Revisiting from) = refl
+counted_leg (leg.Asking from silences) = refl
+counted_leg (leg.Searching x) = refl
+counted_leg (leg.Hunting a) = refl
 
 -- a machine that has not begun
 first_leg : (l : Leg) → is_searching l ≡ false → way_on l ≡ Fresh → from_on l ≡ 0 → l ≡ leg.Revisiting 0
 first_leg (leg.Revisiting from) early fresh first = ap leg.Revisiting first
 first_leg (leg.Asking from silences) early fresh first = absurd (cc)
 first_leg (leg.Searching x) early fresh first = absurd (cc)
-first_leg (leg.Hunting up) early fresh first = absurd (cc)
+first_leg (leg.Hunting a) early fresh first = absurd (cc)
 
 pub unstarted_leg : (s : State) (k : Kept) → IsWhole (machine_with s k) → s.last ≡ None → s.leg ≡ leg.Revisiting 0
 unstarted_leg s k whole none =
     let u : IsUnstarted (machine_with s k) = subst (Pending (machine_with s k)) none whole in
-    let early = subst (λ y. IsEarly y (is_searching s.leg)) u.fresh
+    let early = subst (λ y. IsOpenedOn y (is_searching s.leg)) u.fresh
     (subst (λ p. Knows (way_on s.leg) k s.number (search_on s.leg) (ascent_on s.leg) (is_searching s.leg) p) u.opening u.ready.knows) in
     first_leg s.leg early u.fresh u.first
 

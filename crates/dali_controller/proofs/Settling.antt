@@ -14,15 +14,15 @@ use Rattle.dali_script.specs.declared.orders.Order.TheVariants.{Commit, Halt}
 use Rattle.dali_script.specs.declared.orders.Fault.TheVariants as fault
 use Rattle.dali_controller.specs.declared.purpose.Purpose.TheVariants.{Visiting, Resolving, Asking}
 use Rattle.dali_controller.specs.declared.way.Way.{Way}
-use Rattle.dali_controller.specs.declared.way.Way.TheVariants.{Fresh, Surveying, Drawing}
+use Rattle.dali_controller.specs.declared.way.Way.TheVariants.{Fresh, Surveying}
 use Rattle.dali_controller.specs.Course.{Course, closing_of}
 use Rattle.dali_controller.specs.Machine.{Machine}
-use Rattle.dali_controller.specs.Next.{begins_at}
+use Rattle.dali_controller.specs.Next.{begins_at, most_silent}
 use Rattle.dali_controller.specs.Orders.{Contradicts, IsOrderedTo, IsSought}
 use Rattle.dali_controller.specs.Orders.{MayEnrolOn, machine_ordered}
 use Rattle.dali_controller.specs.Whole.{Knows, IsReady}
-use Rattle.dali_controller.specs.Moments.{Settles, IsHeard, IsNext}
-use Rattle.dali_controller.proofs.Steps.{calm_less, but_course}
+use Rattle.dali_controller.specs.Moments.{Settles, IsBetween, IsHeard, IsNext}
+use Rattle.dali_controller.proofs.Steps.{calm_less, ordered_on}
 
 -- TO SETTLE
 same_address : (r q : SearchAddress) (b d : ℕ) → Withdrawn r b ≡ Withdrawn q d → b ≡ d
@@ -35,18 +35,16 @@ same_number r q b d e = cc
 may_queried : (y : Way) (reserved : List Assignment) (b r : ℕ) → MayEnrolOn y reserved (Queried b r) (b, r)
 may_queried Fresh reserved b r = refl
 may_queried Surveying reserved b r = refl
-may_queried Drawing reserved b r = refl
 
 may_resolved : (y : Way) (reserved : List Assignment) (b n : ℕ) → Has reserved (b, n) → MayEnrolOn y reserved (Resolved b n) (b, n)
 may_resolved Fresh reserved b n has = (refl, has)
 may_resolved Surveying reserved b n has = refl
-may_resolved Drawing reserved b n has = refl
 
 pub settles_withdrawn : (w : Machine) (r : SearchAddress) (b n : ℕ) → IsHeard w (Withdrawn r b) → n ≡ value_of r → Settles w b n
 settles_withdrawn w r b n h is =
     let stage : stage_of w.trace ≡ Withdrawn r b = h.stage in
-    let visiting : Knows w.course.way w.kept w.course.number w.course.search w.course.ascent w.opened Visiting =
-    subst (Knows w.course.way w.kept w.course.number w.course.search w.course.ascent w.opened) h.arrived.0 h.knows in
+    let visiting : Knows w.course.way w.kept w.course.number w.course.search w.course.ascent w.course.opened Visiting =
+    subst (Knows w.course.way w.kept w.course.number w.course.search w.course.ascent w.course.opened) h.arrived.0 h.knows in
     subst (Settles w b) (sym is) (record {
       ready = record { tries = h.tries; calm = h.calm; knows = h.knows };
       going = ap closing_of h.arrived.0;
@@ -71,8 +69,8 @@ record IsTold (w : Machine) (b n : ℕ) : Type 0 where
 told_by : (w : Machine) (b n : ℕ) → IsReady w → (w.course.purpose ≡ Resolving b) ⊎ (w.course.purpose ≡ Asking b) → IsSought w.course.purpose w.course.number n
     → IsTold w b n
 told_by w b n ready (inl is) sought =
-    let resolving : Knows w.course.way w.kept w.course.number w.course.search w.course.ascent w.opened (Resolving b) =
-    subst (Knows w.course.way w.kept w.course.number w.course.search w.course.ascent w.opened) is ready.knows in
+    let resolving : Knows w.course.way w.kept w.course.number w.course.search w.course.ascent w.course.opened (Resolving b) =
+    subst (Knows w.course.way w.kept w.course.number w.course.search w.course.ascent w.course.opened) is ready.knows in
     let same : n ≡ value_of w.course.number = subst (λ p. IsSought p w.course.number n) is sought in
     record {
       going = ap closing_of is;
@@ -80,8 +78,8 @@ told_by w b n ready (inl is) sought =
       may = may_resolved w.course.way w.kept.reserved b n (subst (λ x. Has w.kept.reserved (b, x)) (sym same) resolving.3);
     }
 told_by w b n ready (inr is) sought =
-    let asking : Knows w.course.way w.kept w.course.number w.course.search w.course.ascent w.opened (Asking b) =
-    subst (Knows w.course.way w.kept w.course.number w.course.search w.course.ascent w.opened) is ready.knows in
+    let asking : Knows w.course.way w.kept w.course.number w.course.search w.course.ascent w.course.opened (Asking b) =
+    subst (Knows w.course.way w.kept w.course.number w.course.search w.course.ascent w.course.opened) is ready.knows in
     record {
       going = ap closing_of is;
       drawn = subst (λ p. IsSought p w.course.number n) is sought;
@@ -108,13 +106,25 @@ settles_resolved w b n h sought =
     }
 
 -- the count of silent searches is below its limit
-settled_calm : (w : Machine) (b n : ℕ) → Settles w b n → w.silent < 16
-settled_calm w b n h = calm_less w.course.purpose w.silent h.going h.ready.calm
+settled_calm : (w : Machine) (b n : ℕ) → Settles w b n → w.silent < most_silent w.course.way
+settled_calm w b n h = calm_less w.course.way w.course.purpose w.silent h.going h.ready.calm
+
+-- the table has it
+pub settled_between : (w : Machine) (b m n : ℕ) → Settles w b n → Has w.kept.enrolled (b, m) → m ≡ n → IsBetween w
+settled_between w b m n h has same = record {
+  tries = h.ready.tries;
+  silent = settled_calm w b n h;
+  going = h.going;
+  unnamed = h.unnamed;
+  found = λ r c e.
+      let there = h.withdrawn r c e in
+      subst (λ x. Has w.kept.enrolled (c, x)) (same ∙ sym there.1) (subst (λ x. Has w.kept.enrolled (x, m)) (sym there.0) has);
+}
 
 halted_at : (w : Machine) (c : Course) (b n : ℕ) → Settles w b n → Contradicts w.kept.enrolled b n → IsOrderedTo w c (Halt fault.Conflict)
 halted_at w c b n h conflict =
     let tries : w.tries < 8 = h.ready.tries in
-    let calm : w.silent < 16 = settled_calm w b n h in
+    let calm : w.silent < most_silent w.course.way = settled_calm w b n h in
     record {
       allowed = tt;
       addressing = tt;
@@ -132,7 +142,7 @@ halted : (w : Machine) (b n : ℕ) (o : Order) (new : Machine) → Settles w b n
 halted w b n o new h conflict is state =
     record {
       order = subst (IsOrderedTo w new.course) (sym is) (halted_at w new.course b n h conflict);
-      state = but_course new (machine_ordered w o) state;
+      state = ordered_on w o new state;
     }
 
 -- the table has the address for another gear
@@ -158,7 +168,7 @@ enrols_at : (w : Machine) (c : Course) (b n : ℕ) → Settles w b n → (HasAdd
     → IsOrderedTo w c (Commit (Enrol b n))
 enrols_at w c b n h none fresh =
     let tries : w.tries < 8 = h.ready.tries in
-    let calm : w.silent < 16 = settled_calm w b n h in
+    let calm : w.silent < most_silent w.course.way = settled_calm w b n h in
     record {
       allowed = record { fits = h.drawn; may = (none, fresh); warranted = (h.found, h.finding, h.trace_finding, h.may) };
       addressing = tt;
@@ -176,5 +186,5 @@ pub enrols : (w : Machine) (b n : ℕ) (o : Order) (new : Machine) → Settles w
 enrols w b n o new h none fresh order state = record {
   order = subst (IsOrderedTo w new.course) (sym order)
       (enrols_at w new.course b n h none fresh);
-  state = but_course new (machine_ordered w o) state;
+  state = ordered_on w o new state;
 }

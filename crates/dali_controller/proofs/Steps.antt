@@ -7,7 +7,7 @@ use Rattle.dali_frame.specs.declared.frames.Answer.{Answer}
 use Rattle.dali_frame.specs.declared.frames.Answer.TheVariants.{Silence, Byte, Damaged}
 use Rattle.dali_frame.specs.declared.numbers.SearchAddress.{SearchAddress}
 use Rattle.dali_frame.specs.Short.{short_of}
-use Rattle.dali_frame.specs.Random.{value_of, MASK24}
+use Rattle.dali_frame.specs.Random.{value_of}
 use Rattle.dali_frame.specs.Priority.{FIRST, LATER}
 use Rattle.dali_special.specs.declared.command.Target.TheVariants.{Unaddressed}
 use Rattle.dali_special.specs.declared.command.Part.TheVariants.{Middle, Low}
@@ -25,35 +25,36 @@ use Rattle.dali_script.specs.declared.stage.Stage.{Stage}
 use Rattle.dali_script.specs.declared.stage.Stage.TheVariants.{Free, Terminated, InitialisedOnce, Initialised, RandomisedOnce, HighSent, MiddleSent}
 use Rattle.dali_script.specs.declared.stage.Stage.TheVariants.{NumberSent, Found, Unnamed, Unanswered, Inconclusive, Programmed, Confirmed, Withdrawn}
 use Rattle.dali_script.specs.declared.stage.Stage.TheVariants.{HighAsked, MiddleAsked, Spelled, LowSent, Hunted, Over}
+use Rattle.dali_script.specs.declared.stage.Stage.TheVariants.{WokenHigh, WokenLow, WokenMiddle, DrawFree}
 use Rattle.dali_script.specs.Records.{IsKept, with_record, Kept, Has, HasRandom, Fits, MayAdd}
 use Rattle.dali_script.specs.Scripts.{MayGive, Lawful, is_asking, ASKING}
 use Rattle.dali_script.specs.Findings.{later, finding_of}
-use Rattle.dali_script.specs.Stages.{hunted, byte_heard, bytes_heard, finding_at, stage_of, next_stage, queried, named, verified, answered, Follows}
+use Rattle.dali_script.specs.Stages.{hunted, byte_heard, bytes_heard, finding_at, stage_of, next_stage, queried, named, verified, answered, doubted, Follows}
 use Rattle.dali_script.proofs.Transactions.{self, equal, middle_next, low_next, turn, gives, lawful_follows, stage_none, stage_more}
 use Rattle.dali_script.proofs.Found.{finding_after}
-use Rattle.dali_search.specs.declared.step.Step.TheVariants.{Again}
 use Rattle.dali_script.proofs.Lists.{has_map, has_last}
 use Rattle.dali_search.specs.Least.{Search}
-use Rattle.dali_search.specs.Ascending.{Ascent, asked_next, leads_to}
+use Rattle.dali_search.specs.Ascending.{Ascent}
 use Rattle.dali_script.specs.declared.orders.Order.{Order}
-use Rattle.dali_script.specs.declared.orders.Order.TheVariants.{Put, Commit, Done}
+use Rattle.dali_script.specs.declared.orders.Order.TheVariants.{Put, Commit, Done, Halt}
 use Rattle.dali_script.specs.declared.orders.End.{End}
-use Rattle.dali_script.specs.declared.orders.End.TheVariants.{BlockFull, GaveUp}
+use Rattle.dali_script.specs.declared.orders.End.TheVariants.{GaveUp}
 use Rattle.dali_script.specs.declared.orders.Due.TheVariants as due
 use Rattle.dali_controller.specs.declared.purpose.Purpose.{Purpose}
-use Rattle.dali_controller.specs.declared.purpose.Purpose.TheVariants.{Opening, Probing, Visiting, Resolving, Closing, Asking, Waking, Hunting}
+use Rattle.dali_controller.specs.declared.purpose.Purpose.TheVariants.{Opening, Probing, Visiting, Resolving, Closing, Asking, Hunting, Calling, Drawing}
+use Rattle.dali_controller.specs.declared.purpose.Purpose.TheVariants.{PassingOver}
 use Rattle.dali_controller.specs.declared.way.Way.{Way}
-use Rattle.dali_controller.specs.declared.way.Way.TheVariants.{Fresh, Surveying, Drawing}
+use Rattle.dali_controller.specs.declared.way.Way.TheVariants.{Fresh, Surveying}
 use Rattle.dali_script.specs.Due.{due_after, frame_put}
-use Rattle.dali_controller.specs.Course.{Course, taking, first_of, turn_of, closing_of, drawing, address_for, least_open, byte_to_send, bytes_to_send}
+use Rattle.dali_controller.specs.Course.{Course, first_of, turn_of, closing_of, address_for, least_open, byte_to_send, bytes_to_send, call_turn}
 use Rattle.dali_controller.specs.Machine.{machine_lost, machine_heard_to, Machine, silent_after, tries_after, is_complete, is_ended, is_passed_by}
-use Rattle.dali_controller.specs.Next.{begins_at, course_by, beginning, next_course, draw_or_close}
+use Rattle.dali_controller.specs.Next.{at_rest, begins_at, course_by, beginning, next_course, most_silent}
 use Rattle.dali_controller.specs.Orders.{IsBegun, AfterMaskBy, AfterMaskOn, IsOrderedTo}
-use Rattle.dali_controller.specs.Orders.{is_left, is_left_by, machine_ordered}
-use Rattle.dali_controller.specs.Orders.{running_close}
-use Rattle.dali_controller.specs.Whole.{IsWhole, IsSurvey, Sends, Knows, IsEarly, IsWithinSilence, IsReady, IsSending, Pending}
-use Rattle.dali_controller.specs.Moments.{FoundAt, IsBetween, Closes, Arrived, CalmAt, IsHeard, Turns, Begins, Begun, IsNext}
-use Rattle.dali_controller.specs.Moments.{Draws, IsUngiven, IsNextTo}
+use Rattle.dali_controller.specs.Orders.{is_left_by, machine_ordered, machine_ordered_on}
+use Rattle.dali_controller.specs.Orders.{running_close, asked_by}
+use Rattle.dali_controller.specs.Whole.{IsWhole, Sends, AsksOn, Knows, IsWithinSilence, IsReady, IsSending, IsStoredIn, Pending}
+use Rattle.dali_controller.specs.Moments.{FoundAt, Arrived, CalmAt, IsHeard, Begins, Begun, IsNext, IsMoment}
+use Rattle.dali_controller.specs.Moments.{IsUngiven, IsNextTo}
 
 -- THE COMMANDS OF A TRANSACTION. A command that is sent at a stage may follow there and is read from its frame; it is no
 -- direct arc power; past the first one no close runs; and what is known where it leads to.
@@ -95,12 +96,13 @@ arrives_middle k n p b None is small = unheard is small
 arrives_middle k n p b (Some bytes) is small = (RandomByte b Low, (turn_low p n b bytes is, (is, small), tt))
 
 goes_first : (k : Kept) (n : SearchAddress) (p : Purpose) → IsSpelled (first_of p n) → Goes k n p Free (first_of p n)
-goes_first k n Opening small = going (turn refl refl) tt (λ g x. cc) (λ later. refl) (λ h. inl refl)
+goes_first k n Opening small = going (turn refl refl) tt (λ g x. cc) (λ later. refl) (λ h. inl (Initialise Unaddressed, (refl, tt, tt)))
 goes_first k n (Resolving a) small =
     going (turn refl refl) small (λ g x. cc) (λ later. refl) (λ h. arrives_high k n (Resolving a) a (byte_heard h) (inl refl) small)
 goes_first k n (Asking a) small = going (turn refl refl) small (λ g x. cc) (λ later. refl) (λ h. arrives_high k n (Asking a) a (byte_heard h) (inr refl) small)
-goes_first k n Waking small = going (turn refl refl) tt (λ g x. cc) (λ later. refl) (λ h. inr (inl refl))
-goes_first k n (Closing e) small = going (turn refl refl) tt (λ g x. cc) (λ later. absurd (later refl)) (λ h. inr (inr (e, refl)))
+goes_first k n Calling small = going (turn refl refl) tt (λ g x. cc) (λ later. refl) (λ h. inl (Initialise Unaddressed, (refl, tt, tt)))
+goes_first k n Drawing small = going (turn refl refl) tt (λ g x. cc) (λ later. refl) (λ h. inl (Initialise Unaddressed, (refl, tt, tt)))
+goes_first k n (Closing e) small = going (turn refl refl) tt (λ g x. cc) (λ later. absurd (later refl)) (λ h. inr (e, refl))
 goes_first k n Hunting small = going (turn refl refl) tt (λ g x. cc) (λ later. refl) (λ h. (SearchLow n.low, (refl, refl, tt)))
 goes_first k n _ small = going (turn refl refl) tt (λ g x. cc) (λ later. refl) (λ h. (SearchMiddle n.middle, (refl, refl, tt)))
 
@@ -132,7 +134,7 @@ some_is x c e = cc
 
 -- in a hunt a search byte or COMPARE follows, until all bytes are those of the number
 hunts_none : (k : Kept) (n r : SearchAddress) (left : ℕ) → bytes_to_send n r < left → Arrived k n Hunting (Hunted r None left)
-hunts_none k n r left room = (byte_to_send n r, (refl, refl, room))
+hunts_none k n r left room = (byte_to_send n r, (refl, room))
 
 bytes_few : (n : SearchAddress) (high low : ℕ) → n.high ≡ high → n.low ≡ low → bytes_to_send n (record { high = high; middle = n.middle; low = low }) < ASKING
 bytes_few n high low one two = rw (← one, ← two, self n.high, self n.low, self n.middle) (lit< tt)
@@ -174,20 +176,71 @@ goes_hunted k n p r last left c hunting is room =
       go true one true two false three room =
           asks (SearchMiddle n.middle) refl (λ h. byte (record r { middle = n.middle }) (rw (three, self n.middle) (omega arith))) tt (λ g x. cc)
       go true one true two true three room =
-          asks Compare refl (λ h. (refl, same)) tt (λ g x. cc) where
+          asks Compare refl (λ h. (inl refl, same)) tt (λ g x. cc) where
             same : r ≡ n
             same = let high : r.high ≡ n.high = equal r.high n.high one in let low : r.low ≡ n.low = equal r.low n.low two in
                 let middle : r.middle ≡ n.middle = equal r.middle n.middle three in
                 ap (λ x. record { high = x; middle = r.middle; low = r.low }) high ∙ ap (λ x. record { high = n.high; middle = x; low = r.low }) middle
                 ∙ ap (λ x. record { high = n.high; middle = n.middle; low = x }) low
 
+-- in a roll call COMPARE
+call_is : (last : Option Answer) (left : ℕ) (c : Command) → call_turn last left ≡ Some c → c ≡ Compare
+call_is None left c e = some_is Compare c e
+call_is (Some Silence) left c e = go (left == 1) e where
+  go : (b : Bool) → (if b then Some Compare else None) ≡ Some c → c ≡ Compare
+  go true e = some_is Compare c e
+  go false e = absurd (cc)
+call_is (Some (Byte v)) left c e = absurd (cc)
+call_is (Some Damaged) left c e = absurd (cc)
+
+goes_called : (k : Kept) (n r : SearchAddress) (last : Option Answer) (left : ℕ) (c : Command) → c ≡ Compare → r ≡ n → 0 < left
+    → Goes k n Calling (Hunted r last left) c
+goes_called k n r last left c is same more =
+    let some : (left == 0) ≡ false = grind (arith, nat_tests, more) in
+    subst (λ d. Goes k n Calling (Hunted r last left) d) (sym is)
+    (going (turn (rw some refl) refl) tt (λ g x. cc) (λ later. refl) (λ h. rw some (inr refl, same)))
+
+goes_asked : (k : Kept) (n : SearchAddress) (p : Purpose) (r : SearchAddress) (last : Option Answer) (left : ℕ) (c : Command) → AsksOn p n r last left c
+    → Goes k n p (Hunted r last left) c
+goes_asked k n Hunting r last left c e = goes_hunted k n Hunting r last left c refl e.0 e.1
+goes_asked k n Calling r last left c e = goes_called k n r last left c (call_is last left c e.0) e.1 e.2
+goes_asked k n _ r last left c e = elim e [ ]
+
+whole_called : (n : SearchAddress) (high low : ℕ) → n.high ≡ high → n.low ≡ low → record { high = high; middle = n.middle; low = low } ≡ n
+whole_called n high low one two = rw (← one, ← two) refl
+
+arrives_doubted : (k : Kept) (n : SearchAddress) (h : Answer) → Arrived k n Drawing (doubted h)
+arrives_doubted k n Silence = (Randomise, (refl, tt, tt))
+arrives_doubted k n (Byte v) = refl
+arrives_doubted k n Damaged = refl
+
 goes : (k : Kept) (n : SearchAddress) (p : Purpose) (s : Stage) (c : Command) → Sends k n p s c → Goes k n p s c
 goes k n Opening Terminated c e = rw (some_is _ c e.0) (going (turn refl refl) tt (λ g x. cc) (λ later. refl) (λ h. (Initialise Unaddressed, (refl, tt, tt))))
-goes k n Opening InitialisedOnce c e = rw (some_is _ c e.0) (going (turn refl refl) tt (λ g x. cc) (λ later. refl) (λ h. inl refl))
-goes k n Waking Terminated c e = rw (some_is _ c e.0) (going (turn refl refl) tt (λ g x. cc) (λ later. refl) (λ h. (Initialise Unaddressed, (refl, tt, tt))))
-goes k n Waking InitialisedOnce c e = rw (some_is _ c e.0) (going (turn refl refl) tt (λ g x. cc) (λ later. refl) (λ h. inr refl))
+goes k n Opening InitialisedOnce c e = rw (some_is _ c e.0) (going (turn refl refl) tt (λ g x. cc) (λ later. refl) (λ h. (Randomise, (refl, tt, tt))))
 goes k n Opening Initialised c e = rw (some_is _ c e.0) (going (turn refl refl) tt (λ g x. cc) (λ later. refl) (λ h. (Randomise, (refl, tt, tt))))
-goes k n Opening RandomisedOnce c e = rw (some_is _ c e.0) (going (turn refl refl) tt (λ g x. cc) (λ later. refl) (λ h. refl))
+goes k n Opening RandomisedOnce c e = rw (some_is _ c e.0) (going (turn refl refl) tt (λ g x. cc) (λ later. refl) (λ h. inl refl))
+goes k n Calling Terminated c e = rw (some_is _ c e.0) (going (turn refl refl) tt (λ g x. cc) (λ later. refl) (λ h. (Initialise Unaddressed, (refl, tt, tt))))
+goes k n Calling InitialisedOnce c e = rw (some_is _ c e.0) (going (turn refl refl) tt (λ g x. cc) (λ later. refl) (λ h. (SearchHigh n.high, (refl, tt, tt))))
+goes k n Calling Initialised c e = rw (some_is _ c e.0) (going (turn refl refl) tt (λ g x. cc) (λ later. refl) (λ h. (SearchLow n.low, (refl, refl, tt))))
+goes k n Calling (WokenHigh high) c e =
+    rw (some_is _ c e.0) (going (turn refl refl) tt (λ g x. cc) (λ later. refl) (λ h. (SearchMiddle n.middle, (refl, (e.1, refl), tt))))
+goes k n Calling (WokenLow high low) c e =
+    rw (some_is _ c e.0) (going (turn refl refl) tt (λ g x. cc) (λ later. refl)
+    (λ h. (Compare, (refl, whole_called n high low e.1.0 e.1.1, lit< tt))))
+goes k n Drawing Terminated c e = rw (some_is _ c e.0) (going (turn refl refl) tt (λ g x. cc) (λ later. refl) (λ h. (Initialise Unaddressed, (refl, tt, tt))))
+goes k n Drawing InitialisedOnce c e = rw (some_is _ c e.0) (going (turn refl refl) tt (λ g x. cc) (λ later. refl) (λ h. (SearchHigh n.high, (refl, tt, tt))))
+goes k n Drawing Initialised c e = rw (some_is _ c e.0) (going (turn refl refl) tt (λ g x. cc) (λ later. refl) (λ h. (SearchMiddle n.middle, (refl, refl, tt))))
+goes k n Drawing (WokenHigh high) c e =
+    rw (some_is _ c e.0) (going (turn refl refl) tt (λ g x. cc) (λ later. refl) (λ h. (Compare, (refl, (e.1, refl), tt))))
+goes k n Drawing (WokenMiddle high middle) c e =
+    rw (some_is _ c e.0) (going (turn refl refl) tt (λ g x. cc) (λ later. refl) (λ h. arrives_doubted k n h))
+goes k n Drawing DrawFree c e = rw (some_is _ c e.0) (going (turn refl refl) tt (λ g x. cc) (λ later. refl) (λ h. (Randomise, (refl, tt, tt))))
+goes k n Drawing RandomisedOnce c e = rw (some_is _ c e.0) (going (turn refl refl) tt (λ g x. cc) (λ later. refl) (λ h. inr refl))
+goes k n PassingOver (HighSent high) c e =
+    rw (some_is _ c e.0) (going (turn refl refl) tt (λ g x. cc) (λ later. refl) (λ h. (SearchLow n.low, (refl, (e.1, refl), tt))))
+goes k n PassingOver (MiddleSent high middle) c e =
+    rw (some_is _ c e.0) (going (turn refl refl) tt (λ g x. cc) (λ later. refl) (λ h. (Withdraw, (refl, whole n high middle e.1.0 e.1.1, tt))))
+goes k n PassingOver (NumberSent r) c e = rw (some_is _ c e.0) (going (turn refl refl) tt (λ g x. cc) (λ later. refl) (λ h. refl))
 goes k n Probing (HighSent high) c e =
     rw (some_is _ c e.0) (going (turn refl refl) tt (λ g x. cc) (λ later. refl) (λ h. (SearchLow n.low, (refl, (e.1, refl), tt))))
 goes k n Visiting (HighSent high) c e =
@@ -201,7 +254,7 @@ goes k n Hunting (HighSent high) c e =
 goes k n Hunting (LowSent high low) c e =
     rw (some_is _ c e.0) (going (turn refl refl) tt (λ g x. cc) (λ later. refl)
     (λ h. hunts_none k n (record { high = high; middle = n.middle; low = low }) ASKING (bytes_few n high low e.1.0 e.1.1)))
-goes k n p (Hunted r last left) c e = goes_hunted k n p r last left c e.0 e.1 e.2
+goes k n p (Hunted r last left) c e = goes_asked k n p r last left c e
 goes k n Probing (NumberSent r) c e = rw (some_is _ c e.0) (going (turn refl refl) tt (λ g x. cc) (λ later. refl) (λ h. (refl, sym e.1)))
 goes k n Visiting (NumberSent r) c e = rw (some_is _ c e.0) (going (turn refl refl) tt (λ g x. cc) (λ later. refl) (λ h. arrives_queried k n r h (sym e.1)))
 goes k n Visiting (Found r b) c e = rw (some_is _ c e.0) (going (turn refl refl) tt (λ g x. cc) (λ later. refl) (λ h. (refl, sym e.1)))
@@ -227,45 +280,54 @@ goes k n _ _ c e = absurd (let none = e.0 in cc)
 pub sends_follow : (k : Kept) (n : SearchAddress) (p : Purpose) (s : Stage) (c : Command) → Sends k n p s c → Follows k.block k.reserved s c
 sends_follow k n p s c e = (goes k n p s c e).follows
 
+-- no close sends more than its first frame
+pub sends_open : (k : Kept) (n : SearchAddress) (p : Purpose) (s : Stage) (c : Command) → Sends k n p s c → (s ≡ Free → ⊥) → closing_of p ≡ None
+sends_open k n p s c e later = (goes k n p s c e).unclosed later
+
 not_withdrawn : (k : Kept) (n : SearchAddress) (p : Purpose) (r : SearchAddress) (b : ℕ) (c : Command) → Sends k n p (Withdrawn r b) c → ⊥
 not_withdrawn k n p r b c e = let on = (goes k n p (Withdrawn r b) c e).follows.leads_on in cc
 
-calm_unanswered : (o : Bool) (i : ℕ) → i < 16 → (r : SearchAddress) → CalmAt (Unanswered r) Visiting o (silent_after (Unanswered r) o i)
-calm_unanswered true i h r = (omega arith, λ e. refl)
-calm_unanswered false i h r = (omega arith, λ e. absurd (omega arith))
+calm_unanswered : (y : Way) (o : Bool) (i : ℕ) → i < most_silent y → (r : SearchAddress)
+    → CalmAt (Unanswered r) y Visiting o (silent_after (Unanswered r) o i)
+calm_unanswered y true i h r = (omega arith, λ e. refl)
+calm_unanswered y false i h r = (omega arith, λ e. absurd (omega arith))
 
-calm_visiting : (o : Bool) (i : ℕ) → i < 16 → (r : SearchAddress) (other : Option ℕ)
-    → CalmAt (Inconclusive r other) Visiting o (silent_after (Inconclusive r other) o i)
-calm_visiting true i h r other = (omega arith, λ e. refl)
-calm_visiting false i h r other = (omega arith, λ e. absurd (omega arith))
+calm_visiting : (y : Way) (o : Bool) (i : ℕ) → i < most_silent y → (r : SearchAddress) (other : Option ℕ)
+    → CalmAt (Inconclusive r other) y Visiting o (silent_after (Inconclusive r other) o i)
+calm_visiting y true i h r other = (omega arith, λ e. refl)
+calm_visiting y false i h r other = (omega arith, λ e. absurd (omega arith))
 
-pub calm_at : (k : Kept) (n : SearchAddress) (o : Bool) (p : Purpose) (i : ℕ) (there : Stage) → Arrived k n p there → IsWithinSilence p i
-    → CalmAt there p o (silent_after there o i)
-calm_at k n o p i (Unanswered r) there e =
-    let h : i < 16 = subst (λ q. IsWithinSilence q i) there.0 e in
-    calm_unanswered o i h r
-calm_at k n o p i (Inconclusive r other) there e =
-    let h : i < 16 = subst (λ q. IsWithinSilence q i) there.0 e in
-    calm_visiting o i h r other
-calm_at k n o p i (Withdrawn r b) there e = rw there.0 (zero_less i (subst (λ q. IsWithinSilence q i) there.0 e)) where
-  zero_less : (i : ℕ) → i < 16 → 0 < 16
-  zero_less i h = omega arith
-calm_at k n o p i _ there e = e
+pub calm_at : (k : Kept) (n : SearchAddress) (y : Way) (o : Bool) (p : Purpose) (i : ℕ) (there : Stage) → Arrived k n p there → IsWithinSilence y p i
+    → CalmAt there y p o (silent_after there o i)
+calm_at k n y o p i (Unanswered r) there e =
+    let h : i < most_silent y = subst (λ q. IsWithinSilence y q i) there.0 e in
+    calm_unanswered y o i h r
+calm_at k n y o p i (Inconclusive r other) there e =
+    let h : i < most_silent y = subst (λ q. IsWithinSilence y q i) there.0 e in
+    calm_visiting y o i h r other
+calm_at k n y o p i (Withdrawn r b) there e = rw there.0 (zero_less (most_silent y) i (subst (λ q. IsWithinSilence y q i) there.0 e)) where
+  zero_less : (most i : ℕ) → i < most → 0 < most
+  zero_less most i h = omega arith
+calm_at k n y o p i _ there e = e
 
 pub tries_less : (complete : Bool) (n : ℕ) → n < 8 → tries_after complete n < 8
 tries_less true n h = omega arith
 tries_less false n h = h
 
 -- and at the next command again
-pub sends_calm : (k : Kept) (n : SearchAddress) (p : Purpose) (s : Stage) (c : Command) (o : Bool) (i : ℕ) → Sends k n p s c → CalmAt s p o i
-    → IsWithinSilence p i
-sends_calm k n p (Unanswered r) c o i e calm = absurd (let on = (goes k n p (Unanswered r) c e).follows.leads_on in cc)
-sends_calm k n p (Inconclusive r other) c o i e calm = absurd (let on = (goes k n p (Inconclusive r other) c e).follows.leads_on in cc)
-sends_calm k n p _ c o i e calm = calm
+pub sends_calm : (k : Kept) (n : SearchAddress) (y : Way) (p : Purpose) (s : Stage) (c : Command) (o : Bool) (i : ℕ) → Sends k n p s c → CalmAt s y p o i
+    → IsWithinSilence y p i
+sends_calm k n y p (Unanswered r) c o i e calm = absurd (let on = (goes k n p (Unanswered r) c e).follows.leads_on in cc)
+sends_calm k n y p (Inconclusive r other) c o i e calm = absurd (let on = (goes k n p (Inconclusive r other) c e).follows.leads_on in cc)
+sends_calm k n y p _ c o i e calm = calm
 
-pub calm_less : (p : Purpose) (i : ℕ) → closing_of p ≡ None → IsWithinSilence p i → i < 16
-calm_less (Closing end) i e calm = absurd (cc)
-calm_less _ i e calm = calm
+pub calm_less : (y : Way) (p : Purpose) (i : ℕ) → closing_of p ≡ None → IsWithinSilence y p i → i < most_silent y
+calm_less y (Closing end) i e calm = absurd (cc)
+calm_less y _ i e calm = calm
+
+pub less_calm : (y : Way) (p : Purpose) (i : ℕ) → closing_of p ≡ None → i < most_silent y → IsWithinSilence y p i
+less_calm y (Closing end) i e less = absurd (cc)
+less_calm y _ i e less = less
 
 -- A FRAME THAT IS OUTSTANDING
 pub sending : (w : Machine) (l : Option Order) (f : Forward) → frame_put l ≡ Some f → Pending w l → IsSending w f
@@ -288,7 +350,7 @@ put_whole_at : (w : Machine) (s : Stage) (c : Command) (p : ℕ) (f : Forward) �
 put_whole_at w s c p f h e read = record {
   ready = record {
     tries = h.tries;
-    calm = sends_calm w.kept w.course.number w.course.purpose s c w.opened w.silent e h.calm;
+    calm = sends_calm w.kept w.course.number w.course.way w.course.purpose s c w.course.opened w.silent e h.calm;
     knows = h.knows;
   };
   sends = subst (λ x. Sends w.kept w.course.number w.course.purpose x (command_of f)) (sym h.stage)
@@ -309,11 +371,12 @@ abbrev pub IsMasked : Machine → Order → Type 0
 IsMasked w o = (r : SearchAddress) → stage_of w.trace ≡ Unnamed r → AfterMaskOn w.course.way w w.course r o
 
 put_next_at : (w : Machine) (s : Stage) (c : Command) → IsHeard w s → Sends w.kept w.course.number w.course.purpose s c → (s ≡ Free → ⊥)
-    → IsMasked w (Put LATER (frame_of c))
+    → IsMasked w (Put LATER (frame_of c)) → w.asked ≡ asked_by w.course.opened w.asked
     → IsNext w (Put LATER (frame_of c)) (record w { last = Some (Put LATER (frame_of c)) })
-put_next_at w s c h e later masked =
+put_next_at w s c h e later masked counted =
     let going : closing_of w.course.purpose ≡ None = (goes w.kept w.course.number w.course.purpose s c e).unclosed later in
-    let calm : w.silent < 16 = calm_less w.course.purpose w.silent going (sends_calm w.kept w.course.number w.course.purpose s c w.opened w.silent e h.calm) in
+    let calm : w.silent < most_silent w.course.way = calm_less w.course.way w.course.purpose w.silent going
+    (sends_calm w.kept w.course.number w.course.way w.course.purpose s c w.course.opened w.silent e h.calm) in
     let tries : w.tries < 8 = h.tries in
     let spelled : command_of (frame_of c) ≡ c = read_written c (goes w.kept w.course.number w.course.purpose s c e).spelled in
     let sends : Sends w.kept w.course.number w.course.purpose (stage_of w.trace) (command_of (frame_of c)) =
@@ -335,28 +398,24 @@ put_next_at w s c h e later masked =
         found = λ r b is. absurd (not_withdrawn w.kept w.course.number w.course.purpose r b c
             (subst (λ x. Sends w.kept w.course.number w.course.purpose x c) (sym h.stage ∙ is) e));
       };
-      state = refl;
+      state = ap (λ a. record w { last = Some (Put LATER (frame_of c)); asked = a }) counted;
     }
 
 pub put_next : (w : Machine) (s : Stage) (c : Command) (p : ℕ) (f : Forward) → IsHeard w s → Sends w.kept w.course.number w.course.purpose s c → (s ≡ Free → ⊥)
-    → IsMasked w (Put LATER (frame_of c)) → p ≡ LATER → f ≡ frame_of c
+    → IsMasked w (Put LATER (frame_of c)) → w.asked ≡ asked_by w.course.opened w.asked → p ≡ LATER → f ≡ frame_of c
     → IsNext w (Put p f) (record w { last = Some (Put p f) })
-put_next w s c p f h e later masked first is =
+put_next w s c p f h e later masked counted first is =
     subst (λ q. IsNext w (Put q f) (record w { last = Some (Put q f) })) (sym first)
-    (subst (λ g. IsNext w (Put LATER g) (record w { last = Some (Put LATER g) })) (sym is) (put_next_at w s c h e later masked))
+    (subst (λ g. IsNext w (Put LATER g) (record w { last = Some (Put LATER g) })) (sym is) (put_next_at w s c h e later masked counted))
 
 -- TO BEGIN
-begun : (w : Machine) (p : Purpose) → Turns w p → IsBegun w (closing_of p)
-begun w (Closing e) t = t.cause
-begun w _ t = t
-
 terminates : (p : Purpose) (n : SearchAddress) → (closing_of p ≡ None) ⊎ ((FIRST ≡ FIRST) × (frame_of (first_of p n) ≡ frame_of Terminate))
 terminates (Closing e) n = inr (refl, refl)
 terminates _ n = inl refl
 
-silent_closes : (p : Purpose) (i : ℕ) → IsWithinSilence p i → i ≡ 16 → p ≡ Closing GaveUp
-silent_closes (Closing GaveUp) i calm is = refl
-silent_closes _ i calm is = absurd (omega arith)
+silent_closes : (y : Way) (p : Purpose) (i : ℕ) → IsWithinSilence y p i → i ≡ most_silent y → p ≡ Closing GaveUp
+silent_closes y (Closing GaveUp) i calm is = refl
+silent_closes y _ i calm is = absurd (omega arith)
 
 pub first_spelled : (y : Way) (k : Kept) (n : SearchAddress) (s : Search) (v : Ascent) (o : Bool) (p : Purpose) → Knows y k n s v o p → IsSpelled (first_of p n)
 first_spelled y k n s v o (Resolving a) e = e.2
@@ -370,12 +429,10 @@ left_follows t r (Some a) free o left is = rw left is
 left_follows t r None (Some a) o left is = absurd (cc)
 left_follows t r None None o left is = is
 
-masked_first : (y : Way) (w : Machine) (c : Course) (r : SearchAddress) (n : SearchAddress) → IsUngiven y w r → IsNextTo y w c.purpose n
-    → AfterMaskOn y w c r (Put FIRST (frame_of (first_of c.purpose n)))
-masked_first Fresh w c r n ungiven next = inr (ungiven.0, ungiven.1, next)
-masked_first Surveying w c r n ungiven next =
-    left_follows w r (address_for w.kept.reserved (value_of r)) (least_open w.kept w.heard) _ ungiven next
-masked_first Drawing w c r n ungiven next =
+masked_first : (y : Way) (w : Machine) (c : Course) (r : SearchAddress) → IsUngiven y w r → IsNextTo y w c.purpose c.number
+    → AfterMaskOn y w c r (Put FIRST (frame_of (first_of c.purpose c.number)))
+masked_first Fresh w c r ungiven next = inr (ungiven.0, ungiven.1, next)
+masked_first Surveying w c r ungiven next =
     left_follows w r (address_for w.kept.reserved (value_of r)) (least_open w.kept w.heard) _ ungiven next
 
 first_read : (k : Kept) (p : Purpose) (n : SearchAddress) → IsSpelled (first_of p n) → command_of (frame_of (first_of p n)) ≡ first_of p n
@@ -385,81 +442,88 @@ first_lawful : (k : Kept) (p : Purpose) (n : SearchAddress) → IsSpelled (first
 first_lawful k p n small =
     lawful_follows k.block k.reserved [] (frame_of (first_of p n)) (rw (first_read k p n small, stage_none) (goes_first k n p small).follows)
 
-begin_next_at : (w : Machine) (p : Purpose) (n : SearchAddress) → Begins w p n
-    → IsNext w (Put FIRST (frame_of (first_of p n)))
-    (record w { trace = []; last = Some (Put FIRST (frame_of (first_of p n))); course = taking w.course p n })
-begin_next_at w p n b =
-    let tries : w.tries < 8 = b.tries in
-    let small : IsSpelled (first_of p n) = first_spelled w.course.way w.kept n w.course.search w.course.ascent w.opened p b.knows in
-    record {
-      order = record {
-        allowed = inl (refl, first_lawful w.kept p n small);
-        addressing = λ g is. (goes_first w.kept n p small).addressing g (sym (first_read w.kept p n small) ∙ is);
-        caused = (begun w p b.turns, terminates p n);
-        given_up = λ e. absurd (omega arith);
-        silent = λ e. silent_closes p w.silent b.calm e;
-        unnamed = λ r e. let x = b.unnamed r e in masked_first w.course.way w (record w.course { purpose = p; number = n }) r n x.0 x.1;
-        found = b.found;
-      };
-      state = refl;
-    }
+abbrev IsKnown : Machine → Course → Type 0
+IsKnown t c = Knows c.way t.kept c.number c.search c.ascent c.opened c.purpose
 
-pub begin_next : (w : Machine) (p : Purpose) (n : SearchAddress) (t : List Entry) (q : ℕ) (f : Forward) → Begins w p n → t ≡ [] → q ≡ FIRST
-    → f ≡ frame_of (first_of p n)
-    → IsNext w (Put q f) (record w { trace = t; last = Some (Put q f); course = taking w.course p n })
-begin_next w p n t q f b empty first is =
-    subst (λ u. IsNext w (Put q f) (record w { trace = u; last = Some (Put q f); course = taking w.course p n })) (sym empty)
-    (subst (λ x. IsNext w (Put x f) (record w { trace = []; last = Some (Put x f); course = taking w.course p n })) (sym first)
-    (subst (λ g. IsNext w (Put FIRST g) (record w { trace = []; last = Some (Put FIRST g); course = taking w.course p n })) (sym is)
-    (begin_next_at w p n b)))
+begin_ordered : (t : Machine) (c : Course) → Begins t c → IsKnown t c → IsOrderedTo t c (beginning c)
+begin_ordered t c b knows =
+    let tries : t.tries < 8 = b.tries in
+    let small : IsSpelled (first_of c.purpose c.number) = first_spelled c.way t.kept c.number c.search c.ascent c.opened c.purpose knows in
+    record {
+      allowed = inl (refl, first_lawful t.kept c.purpose c.number small);
+      addressing = λ g is. (goes_first t.kept c.number c.purpose small).addressing g (sym (first_read t.kept c.purpose c.number small) ∙ is);
+      caused = (b.turns, terminates c.purpose c.number);
+      given_up = λ e. absurd (omega arith);
+      silent = λ e. silent_closes c.way c.purpose t.silent b.calm (e ∙ ap most_silent (sym b.way));
+      unnamed = λ r e. let x = b.unnamed r e in masked_first t.course.way t c r x.0 x.1;
+      found = b.found;
+    }
 
 free_of : (t : List Entry) → t ≡ [] → stage_of t ≡ Free
 free_of t empty = ap stage_of empty ∙ stage_none
 
-first_sends : (w : Machine) (p : Purpose) (n : SearchAddress) (f : Forward) → Knows w.course.way w.kept n w.course.search w.course.ascent w.opened p
-    → f ≡ frame_of (first_of p n)
-    → (command_of f ≡ first_of p n) × IsSpelled (command_of f)
-first_sends w p n f knows is =
-    let small : IsSpelled (first_of p n) = first_spelled w.course.way w.kept n w.course.search w.course.ascent w.opened p knows in
-    let read : command_of f ≡ first_of p n = ap command_of is ∙ first_read w.kept p n small in
-    (read, subst IsSpelled (sym read) small)
+begin_whole : (t : Machine) (c : Course) → Begins t c → IsKnown t c → IsWhole (machine_ordered_on t c (beginning c))
+begin_whole t c b knows =
+    let small : IsSpelled (first_of c.purpose c.number) = first_spelled c.way t.kept c.number c.search c.ascent c.opened c.purpose knows in
+    let read : command_of (frame_of (first_of c.purpose c.number)) ≡ first_of c.purpose c.number = first_read t.kept c.purpose c.number small in
+    record {
+      ready = record { tries = b.tries; calm = b.calm; knows = knows };
+      sends = subst (λ s. Sends t.kept c.number c.purpose s (command_of (frame_of (first_of c.purpose c.number)))) (sym stage_none)
+          (read, subst IsSpelled (sym read) small);
+    }
 
-pub begin_whole : (w : Machine) (p : Purpose) (n : SearchAddress) (t : List Entry) (q : ℕ) (f : Forward) → Begins w p n → t ≡ [] → f ≡ frame_of (first_of p n)
-    → IsWhole (record w { trace = t; last = Some (Put q f); course = taking w.course p n })
-begin_whole w p n t q f b empty is = record {
-  ready = record { tries = b.tries; calm = b.calm; knows = b.knows };
-  sends = subst (λ s. Sends w.kept n p s (command_of f)) (sym (free_of t empty)) (first_sends w p n f b.knows is);
+pub begin_moment : (t : Machine) (c : Course) → c ≡ next_course t → Begins t c → IsKnown t c
+    → IsMoment t (beginning c) (machine_ordered_on t c (beginning c))
+begin_moment t c is b knows = record {
+  begins = λ e. refl;
+  course = is;
+  next = record { order = begin_ordered t c b knows; state = refl };
+  whole = begin_whole t c b knows;
 }
 
-pub begin_begun : (w : Machine) (p : Purpose) (n : SearchAddress) (t : List Entry) (q : ℕ) (f : Forward) → Begins w p n → t ≡ [] → q ≡ FIRST
-    → f ≡ frame_of (first_of p n)
-    → Begun w (taking w.course p n) (Put q f) (record w { trace = t; last = Some (Put q f); course = taking w.course p n })
-begin_begun w p n t q f b empty first is = record {
-  course = refl;
+-- a transaction that begins with the next course, where it may begin, is a moment
+pub begun_moment : (t : Machine) (c : Course) (o : Order) (new : Machine) → c ≡ next_course t → Begins t c → Begun t c o new → IsMoment t o new
+begun_moment t c o new is b begun =
+    subst (λ (n : Machine). IsMoment t o n) (sym begun.state)
+    (subst (λ x. IsMoment t x (machine_ordered_on t c x)) (sym begun.order) (begin_moment t c is b begun.knows))
+
+-- what begins a transaction
+pub begun_by : (t : Machine) (c : Course) (u : List Entry) (q : ℕ) (f : Forward) (asked : ℕ) → IsKnown t c → u ≡ [] → q ≡ FIRST
+    → f ≡ frame_of (first_of c.purpose c.number) → asked ≡ asked_by c.opened t.asked
+    → Begun t c (Put q f) (record (machine_ordered_on t c (Put q f)) { trace = u; asked = asked })
+begun_by t c u q f asked knows empty first is counted = record {
   order = ap₂ Put first is;
-  next = begin_next w p n t q f b empty first is;
-  whole = begin_whole w p n t q f b empty is;
+  state = subst (λ x. record (machine_ordered_on t c (Put x f)) { trace = u; asked = asked } ≡ machine_ordered_on t c (Put x f)) (sym first)
+      (ap₂ (λ v a. record (machine_ordered_on t c (Put FIRST f)) { trace = v; asked = a }) empty counted);
+  knows = knows;
 }
 
 -- TO STORE
 pub commit_whole : (w : Machine) (x : Record) (t : List Entry) → IsReady w → closing_of w.course.purpose ≡ None → Fits w.kept.block x → MayAdd w.kept x
-    → t ≡ []
+    → IsStoredIn x w.course.purpose → t ≡ []
     → IsWhole (record w { trace = t; last = Some (Commit x) })
-commit_whole w x t ready going fits may empty = record {
+commit_whole w x t ready going fits may stored empty = record {
   ready = record { tries = ready.tries; calm = ready.calm; knows = ready.knows };
   free = free_of t empty;
   going = going;
   fits = fits;
   may = may;
+  stored = stored;
 }
 
 -- TO HEAR
-calm_small : (p : Purpose) (i : ℕ) → IsWithinSilence p i → i ≤ 16
-calm_small (Closing GaveUp) i calm = calm
-calm_small _ i calm = omega arith
+most_small : (y : Way) → most_silent y < 255
+most_small Fresh = lit< tt
+most_small Surveying = lit< tt
+
+calm_small : (y : Way) (p : Purpose) (i : ℕ) → IsWithinSilence y p i → i ≤ most_silent y
+calm_small y (Closing GaveUp) i calm = calm
+calm_small y _ i calm = omega arith
 
 pub sending_small : (w : Machine) (f : Forward) → IsSending w f → w.silent < 255
-sending_small w f e = let small : w.silent ≤ 16 = calm_small w.course.purpose w.silent e.ready.calm in omega arith
+sending_small w f e =
+    let small : w.silent ≤ most_silent w.course.way = calm_small w.course.way w.course.purpose w.silent e.ready.calm in
+    let most : most_silent w.course.way < 255 = most_small w.course.way in omega (arith, small, most)
 
 found_at : (s : Stage) (earlier found : Option Finding) → found ≡ later earlier (finding_at s) → FoundAt s found
 found_at (Withdrawn r b) earlier found is = is
@@ -473,9 +537,9 @@ trace_found_at (Spelled b (Some n)) found is = is
 trace_found_at (Spelled b None) found is = tt
 trace_found_at _ found is = tt
 
--- what is told of a frame that was heard, but that gear are searched from now on
+-- what is told of a frame that was heard
 abbrev pub heard_by : Machine → Forward → Answer → Machine
-heard_by w f h = record (machine_heard_to w (w.trace ++ (record { frame = f; heard = h }) ∷ []) h) { opened = w.opened }
+heard_by w f h = machine_heard_to w (w.trace ++ (record { frame = f; heard = h }) ∷ []) h
 
 pub hear_heard : (w : Machine) (f : Forward) (h : Answer) → IsWhole w → frame_put w.last ≡ Some f
     → IsHeard (heard_by w f h) (stage_of (heard_by w f h).trace)
@@ -492,152 +556,44 @@ hear_heard w f h whole put =
       tries = tries_less (is_complete w.kept (closing_of w.course.purpose) (stage_of t) || is_ended w.course.purpose w.course.number (stage_of t)
           || is_passed_by w (stage_of t)) w.tries sent.ready.tries;
       arrived = arrived;
-      calm = calm_at w.kept w.course.number w.opened w.course.purpose w.silent (stage_of t) arrived sent.ready.calm;
+      calm = calm_at w.kept w.course.number w.course.way w.course.opened w.course.purpose w.silent (stage_of t) arrived sent.ready.calm;
       knows = sent.ready.knows;
       finding = found_at (stage_of t) w.finding (later w.finding (finding_of t)) (ap (later w.finding) found);
       trace_finding = trace_found_at (stage_of t) (finding_of t) found;
     }
 
--- THE TRANSACTIONS
-early : (y : Way) (o : Bool) → o ≡ false → IsEarly y o
-early Fresh o is = is
-early Surveying o is = tt
-early Drawing o is = tt
-
-pub opens : (w : Machine) (n : SearchAddress) → IsBetween w → w.opened ≡ false → Begins w Opening n
-opens w n b opened = record {
-  tries = b.tries;
-  calm = b.silent;
-  knows = early w.course.way w.opened opened;
-  turns = b.going;
-  unnamed = λ r e. absurd (b.unnamed r e);
-  found = b.found;
-}
-
-pub probes : (w : Machine) (n : SearchAddress) → IsBetween w → w.opened ≡ true → w.course.way ≡ Fresh → w.course.search.step ≡ Again
-    → value_of n ≡ w.course.search.probe
-    → Begins w Probing n
-probes w n b opened fresh running is = record {
-  tries = b.tries;
-  calm = b.silent;
-  knows = (opened, fresh, running, is);
-  turns = b.going;
-  unnamed = λ r e. absurd (b.unnamed r e);
-  found = b.found;
-}
-
-pub hunts : (w : Machine) (n : SearchAddress) → IsBetween w → w.opened ≡ true → IsSurvey w.course.way → leads_to w.course.ascent ≡ Again
-    → value_of n ≡ asked_next w.course.ascent
-    → Begins w Hunting n
-hunts w n b opened survey running is = record {
-  tries = b.tries;
-  calm = b.silent;
-  knows = (opened, survey, running, is);
-  turns = b.going;
-  unnamed = λ r e. absurd (b.unnamed r e);
-  found = b.found;
-}
-
-pub visits : (w : Machine) (n : SearchAddress) (r : ℕ) → IsBetween w → r < MASK24 → (w.opened ≡ false → HasRandom w.kept.reserved r) → value_of n ≡ r
-    → Begins w Visiting n
-visits w n r b drawn reserved is = record {
-  tries = b.tries;
-  calm = b.silent;
-  knows = (subst (λ x. x < MASK24) (sym is) drawn, λ early. subst (HasRandom w.kept.reserved) (sym is) (reserved early));
-  turns = b.going;
-  unnamed = λ q e. absurd (b.unnamed q e);
-  found = b.found;
-}
-
-pub asks : (w : Machine) (n : SearchAddress) (a : ℕ) → IsBetween w → w.opened ≡ false → w.course.way ≡ Surveying → a < 64 → Begins w (Asking a) n
-asks w n a b opened way small = record {
-  tries = b.tries;
-  calm = b.silent;
-  knows = (opened, way, small);
-  turns = b.going;
-  unnamed = λ r e. absurd (b.unnamed r e);
-  found = b.found;
-}
-
-pub wakes : (w : Machine) (n : SearchAddress) → IsBetween w → w.opened ≡ false → w.course.way ≡ Surveying → Begins w Waking n
-wakes w n b opened way = record {
-  tries = b.tries;
-  calm = b.silent;
-  knows = (opened, way);
-  turns = b.going;
-  unnamed = λ r e. absurd (b.unnamed r e);
-  found = b.found;
-}
-
-drawn_unnamed : (y : Way) (w : Machine) (r : SearchAddress) → y ≡ Surveying → is_left w (value_of r) ≡ true
-    → Put FIRST (frame_of (first_of Opening w.course.number)) ≡ beginning (next_course w) → IsUngiven y w r × IsNextTo y w Opening w.course.number
-drawn_unnamed Fresh w r is left next = absurd (cc)
-drawn_unnamed Surveying w r is left next = (left, next)
-drawn_unnamed Drawing w r is left next = absurd (cc)
-
-pub draws_again : (w : Machine) → Draws w → Begins w Opening w.course.number
-draws_again w d = record {
-  tries = d.tries;
-  calm = d.silent;
-  knows = rw d.surveying tt;
-  turns = d.going;
-  unnamed = λ r e.
-      let x = d.unnamed r e in
-      let next : next_course w ≡ drawing w.course =
-      ap (begins_at w) e ∙ ap (λ b. draw_or_close b w.course BlockFull) x.1 in
-      drawn_unnamed w.course.way w r d.surveying x.0 (sym (ap beginning next));
-  found = λ r b e. absurd (d.found r b e);
-}
-
-pub resolves : (w : Machine) (r : SearchAddress) (a : ℕ) → IsHeard w (Unanswered r) → w.opened ≡ false → a < 64 → Has w.kept.reserved (a, value_of r)
-    → Begins w (Resolving a) r
-resolves w r a h early small reserved =
-    let stage : stage_of w.trace ≡ Unanswered r = h.stage in
-    let visiting : Knows w.course.way w.kept w.course.number w.course.search w.course.ascent w.opened Visiting =
-    subst (Knows w.course.way w.kept w.course.number w.course.search w.course.ascent w.opened) h.arrived.0 h.knows in
-    record {
-      tries = h.tries;
-      calm = early_calm w.opened w.silent early h.calm;
-      knows = (early, subst (λ n. value_of n < MASK24) (sym h.arrived.1) visiting.0, small, reserved);
-      turns = ap closing_of h.arrived.0;
-      unnamed = λ q e. absurd (cc);
-      found = λ q b e. absurd (cc);
-    } where
-      early_calm : (o : Bool) (i : ℕ) → o ≡ false → (i ≤ 16) × (i ≡ 16 → o ≡ true) → i < 16
-      early_calm o i early calm = omega (arith, late) where
-        late : i ≡ 16 → ⊥
-        late e = let no : false ≡ true = sym early ∙ calm.1 e in cc
-
-pub closing : (w : Machine) (e : End) → Closes w e → Begins w (Closing e) w.course.number
-closing w e b = record {
-  tries = b.tries;
-  calm = b.calm;
-  knows = b.opened;
-  turns = record { opened = b.opened; cause = inr (b.going, b.cause) };
-  unnamed = b.unnamed;
-  found = λ r c is. absurd (b.found r c is);
-}
-
 -- LOST
-turns_same : (w : Machine) (p : Purpose) → w.course.purpose ≡ p → Knows w.course.way w.kept w.course.number w.course.search w.course.ascent w.opened p
-    → Turns w p
-turns_same w (Closing e) is knows = record { opened = knows; cause = inl (ap closing_of is) }
-turns_same w _ is knows = ap closing_of is
-
-pub lost_begins : (w : Machine) (t : List Entry) → IsWhole w → due_after w.last ≡ due.Bus → t ≡ [] → (w.tries + 1 ≡ 8 → ⊥)
-    → Begins (record w { trace = t; tries = w.tries + 1 }) w.course.purpose w.course.number
-lost_begins w t whole put empty more =
-    let ready : IsReady w = waiting w w.last put whole in
+lost_begins : (w : Machine) → IsReady w → (w.tries + 1 ≡ 8 → ⊥) → Begins (machine_lost w) w.course
+lost_begins w ready more =
     let less : w.tries < 8 = ready.tries in
-    let free : stage_of t ≡ Free = free_of t empty in
+    let free : stage_of [] ≡ Free = stage_none in
     record {
       tries = omega (arith, more);
+      way = refl;
       calm = ready.calm;
-      knows = ready.knows;
-      turns = turns_same (record w { trace = t; tries = w.tries + 1 }) w.course.purpose refl ready.knows;
+      turns = same (machine_lost w) w.course.purpose refl;
       unnamed = λ r e. absurd (cc);
       found = λ r b e. absurd (cc);
-    }
+    } where
+      same : (t : Machine) (p : Purpose) → t.course.purpose ≡ p → IsBegun t (closing_of p)
+      same t (Closing e) is = inl (ap closing_of is)
+      same t _ is = ap closing_of is
+
+rests : (w : Machine) → due_after w.last ≡ due.Bus → next_course (machine_lost w) ≡ w.course
+rests w bus = ap (begins_at (machine_lost w)) stage_none ∙ go w.last bus where
+  go : (l : Option Order) → due_after l ≡ due.Bus → at_rest (machine_lost w) l ≡ w.course
+  go (Some (Put p f)) bus = refl
+  go None bus = absurd (cc)
+  go (Some (Commit x)) bus = absurd (cc)
+  go (Some (Done e)) bus = absurd (cc)
+  go (Some (Halt y)) bus = absurd (cc)
+
+-- the same transaction once more, after it was lost
+pub lost_moment : (w : Machine) (t : List Entry) (o : Order) (new : Machine) → IsWhole w → due_after w.last ≡ due.Bus → t ≡ [] → (w.tries + 1 ≡ 8 → ⊥)
+    → Begun (record w { trace = t; tries = w.tries + 1 }) w.course o new → IsMoment (machine_lost w) o new
+lost_moment w t o new whole bus empty more begun =
+    begun_moment (machine_lost w) w.course o new (sym (rests w bus)) (lost_begins w (waiting w w.last bus whole) more)
+    (subst (λ u. Begun (record w { trace = u; tries = w.tries + 1 }) w.course o new) empty begun)
 
 lost_ended_at : (w : Machine) → IsReady w → w.tries + 1 ≡ 8 → IsOrderedTo (machine_lost w) w.course (Done GaveUp)
 lost_ended_at w ready is =
@@ -647,13 +603,13 @@ lost_ended_at w ready is =
       addressing = tt;
       caused = inl (refl, is);
       given_up = λ e. refl;
-      silent = λ e. silent_closes w.course.purpose w.silent ready.calm e;
+      silent = λ e. silent_closes w.course.way w.course.purpose w.silent ready.calm e;
       unnamed = λ r e. absurd (cc);
       found = λ r b e. absurd (cc);
     }
 
-pub but_course : (new m : Machine) → new ≡ m → new ≡ record m { course = new.course }
-but_course new m is = subst (λ (n : Machine). n ≡ record m { course = n.course }) (sym is) refl
+pub ordered_on : (t : Machine) (o : Order) (new : Machine) → new ≡ machine_ordered t o → new ≡ machine_ordered_on t new.course o
+ordered_on t o new state = state ∙ ap (λ c. machine_ordered_on t c o) (sym (ap (λ (m : Machine). m.course) state))
 
 pub lost_ended : (w : Machine) (t : List Entry) (o : Order) (new : Machine) → IsWhole w → due_after w.last ≡ due.Bus → t ≡ [] → w.tries + 1 ≡ 8
     → o ≡ Done GaveUp
@@ -662,13 +618,9 @@ lost_ended w t o new whole put empty is done state = record {
   order = subst (λ c. IsOrderedTo (machine_lost w) c o)
       (sym (ap (λ (m : Machine). m.course) state ∙ ap (course_by (record w { trace = t; tries = w.tries + 1 })) done))
       (subst (IsOrderedTo (machine_lost w) w.course) (sym done) (lost_ended_at w (waiting w w.last put whole) is));
-  state = but_course new (machine_ordered (machine_lost w) o)
+  state = ordered_on (machine_lost w) o new
       (state ∙ ap (λ u. machine_ordered (record w { trace = u; tries = w.tries + 1 }) o) empty);
 }
-
-pub lost_next : (w : Machine) (t : List Entry) (o : Order) (new : Machine) → t ≡ [] → IsNext (record w { trace = t; tries = w.tries + 1 }) o new
-    → IsNext (machine_lost w) o new
-lost_next w t o new empty next = subst (λ u. IsNext (record w { trace = u; tries = w.tries + 1 }) o new) empty next
 
 -- TO GIVE
 may_give : (k : Kept) (r : SearchAddress) (a : ℕ) → IsKept k → Has k.reserved (a, value_of r) → MayGive k.block k.reserved r a
@@ -694,8 +646,10 @@ turns_masked w c turn q stage = absurd (none w.course.purpose (subst (λ s. turn
   none (Resolving a) e = cc
   none (Closing x) e = cc
   none (Asking a) e = cc
-  none Waking e = cc
   none Hunting e = cc
+  none Calling e = cc
+  none Drawing e = cc
+  none PassingOver e = cc
 
 -- a number is reserved once its reservation is kept
 pub reserved_kept : (w new : Machine) (x : Record) (a n m : ℕ) → x ≡ Reserve a n → new ≡ record w { kept = with_record w.kept x } → m ≡ n
@@ -705,13 +659,13 @@ reserved_kept w new x a n m reserves is same =
     rw (is, reserves, same) there
 
 -- before the start
-pub whole_at_first : (w : Machine) → w.trace ≡ [] → w.last ≡ None → w.tries ≡ 0 → w.silent ≡ 0 → w.opened ≡ false → w.course.purpose ≡ Opening
+pub whole_at_first : (w : Machine) → w.trace ≡ [] → w.last ≡ None → w.tries ≡ 0 → w.silent ≡ 0 → w.course.opened ≡ false → w.course.purpose ≡ Opening
     → w.course.way ≡ Fresh → w.course.from ≡ 0
     → IsWhole w
 whole_at_first w trace last tries silent opened opening fresh first = rw last (record {
   ready = record {
     tries = rw tries (lit< tt);
-    calm = rw (opening, silent) (lit< tt);
+    calm = rw (opening, silent, fresh) (lit< tt);
     knows = rw (opening, opened, fresh) refl;
   };
   free = free_of w.trace trace;

@@ -15,6 +15,8 @@ use Rattle.dali_special.specs.declared.command.Part.TheVariants.{High, Middle, L
 use Rattle.dali_script.specs.declared.stage.Stage.{Stage}
 use Rattle.dali_script.specs.declared.stage.Stage.TheVariants.{Terminated, InitialisedOnce}
 use Rattle.dali_script.specs.declared.stage.Stage.TheVariants.{Initialised, RandomisedOnce}
+use Rattle.dali_script.specs.declared.stage.Stage.TheVariants.{WokenHigh, WokenLow, WokenMiddle}
+use Rattle.dali_script.specs.declared.stage.Stage.TheVariants.{DrawFree}
 use Rattle.dali_script.specs.declared.stage.Stage.TheVariants.{HighSent, MiddleSent}
 use Rattle.dali_script.specs.declared.stage.Stage.TheVariants.{NumberSent, LowSent, Hunted}
 use Rattle.dali_script.specs.declared.stage.Stage.TheVariants.{Found as Named, Programmed}
@@ -23,23 +25,28 @@ use Rattle.dali_script.specs.Records.{Assignment, Kept}
 use Rattle.dali_search.specs.declared.step.Step.{Step}
 use Rattle.dali_search.specs.declared.step.Step.TheVariants.{Again, Found, Nobody}
 use Rattle.dali_search.specs.Least.{Search, at_first, answered}
-use Rattle.dali_search.specs.Ascending.{Ascent, ascent_at_first, asked_next, ascended}
-use Rattle.dali_search.specs.Ascending.{begun_anew, gone_on, one_if}
+use Rattle.dali_search.specs.Ascending.{Ascent, ascent_at_first, asked_next}
+use Rattle.dali_search.specs.Ascending.{begun_anew, gone_on, one_if, ascended}
 use Rattle.dali_script.specs.declared.orders.End.{End}
 use Rattle.dali_script.specs.declared.orders.End.TheVariants.{AllFound}
 use Rattle.dali_controller.specs.declared.purpose.Purpose.{Purpose}
 use Rattle.dali_controller.specs.declared.purpose.Purpose.TheVariants.{Opening, Probing, Visiting}
 use Rattle.dali_controller.specs.declared.purpose.Purpose.TheVariants.{Resolving, Closing}
-use Rattle.dali_controller.specs.declared.purpose.Purpose.TheVariants.{Asking, Waking, Hunting}
+use Rattle.dali_controller.specs.declared.purpose.Purpose.TheVariants.{Asking, Hunting, Calling}
+use Rattle.dali_controller.specs.declared.purpose.Purpose.TheVariants.{Drawing, PassingOver}
 use Rattle.dali_controller.specs.declared.shorts.Shorts.{Shorts}
+use Rattle.dali_controller.specs.declared.tally.Tally.{Tally}
 use Rattle.dali_controller.specs.declared.way.Way.{Way}
-use Rattle.dali_controller.specs.declared.way.Way.TheVariants.{Fresh, Surveying, Drawing}
+use Rattle.dali_controller.specs.declared.way.Way.TheVariants.{Fresh, Surveying}
 use Rattle.dali_controller.specs.Shorts.{has_short}
+use Rattle.dali_controller.specs.Tally.{uncounted, served}
+use Rattle.dali_controller.specs.Tally.{drew, drew_at_last, asked_again, missed_by, passed_over}
+use Rattle.dali_frame.specs.Random.{value_of}
 
 -- THE COURSE of a machine: what its running transaction is for, and under which search address; its
 -- search, and in a survey the one that goes up; in the visits before the opening, or while short
--- addresses are asked, the first one that was not looked at, and 64 once gear are searched; and how
--- it began.
+-- addresses are asked, the first one that was not looked at, and 64 once gear are searched; how it
+-- began; whether gear are searched; and what a survey has counted.
 pub record Course : Type 0 where
   pub purpose : Purpose
   pub number : SearchAddress
@@ -47,6 +54,8 @@ pub record Course : Type 0 where
   pub ascent : Ascent
   pub from : ℕ
   pub way : Way
+  pub opened : Bool
+  pub tally : Tally
 
 -- the end with which a close was begun
 abbrev pub closing_of : Purpose → Option End
@@ -66,15 +75,18 @@ course_at_first = record {
   ascent = ascent_at_first;
   from = 0;
   way = Fresh;
+  opened = false;
+  tally = uncounted;
 }
 
 -- the first command of a transaction
 abbrev pub first_of : Purpose → SearchAddress → Command
 first_of Opening n = Terminate
+first_of Calling n = Terminate
+first_of Drawing n = Terminate
 first_of (Closing e) n = Terminate
 first_of (Resolving a) n = RandomByte a High
 first_of (Asking a) n = RandomByte a High
-first_of Waking n = Terminate
 first_of _ n = SearchHigh n.high
 
 -- THE TURN: which command a transaction sends at a stage past the first, except PROGRAM SHORT
@@ -99,6 +111,12 @@ bytes_to_send n r =
     one_if (not (r.high == n.high)) + one_if (not (r.low == n.low))
     + one_if (not (r.middle == n.middle))
 
+-- in a roll call COMPARE, and once more where the first was silent
+abbrev pub call_turn : Option Answer → ℕ → Option Command
+call_turn None left = Some Compare
+call_turn (Some Silence) left = if left == 1 then Some Compare else None
+call_turn (Some h) left = None
+
 abbrev pub turn_of : Purpose → SearchAddress → Stage → Option Command
 turn_of Opening n Terminated = Some (Initialise Unaddressed)
 turn_of Opening n InitialisedOnce = Some (Initialise Unaddressed)
@@ -118,8 +136,21 @@ turn_of (Resolving a) n (HighAsked b high) = Some (RandomByte b Middle)
 turn_of (Resolving a) n (MiddleAsked b bytes) = Some (RandomByte b Low)
 turn_of (Asking a) n (HighAsked b (Some high)) = Some (RandomByte b Middle)
 turn_of (Asking a) n (MiddleAsked b (Some bytes)) = Some (RandomByte b Low)
-turn_of Waking n Terminated = Some (Initialise Unaddressed)
-turn_of Waking n InitialisedOnce = Some (Initialise Unaddressed)
+turn_of Calling n Terminated = Some (Initialise Unaddressed)
+turn_of Calling n InitialisedOnce = Some (Initialise Unaddressed)
+turn_of Calling n Initialised = Some (SearchHigh n.high)
+turn_of Calling n (WokenHigh high) = Some (SearchLow n.low)
+turn_of Calling n (WokenLow high low) = Some (SearchMiddle n.middle)
+turn_of Calling n (Hunted r last left) = call_turn last left
+turn_of Drawing n Terminated = Some (Initialise Unaddressed)
+turn_of Drawing n InitialisedOnce = Some (Initialise Unaddressed)
+turn_of Drawing n Initialised = Some (SearchHigh n.high)
+turn_of Drawing n (WokenHigh high) = Some (SearchMiddle n.middle)
+turn_of Drawing n (WokenMiddle high middle) = Some Compare
+turn_of Drawing n DrawFree = Some Randomise
+turn_of Drawing n RandomisedOnce = Some Randomise
+turn_of PassingOver n (NumberSent r) = Some Withdraw
+turn_of PassingOver n s = search_turn n s
 turn_of _ n _ = None
 
 -- ---------------------------------------------------------------- the transactions that begin
@@ -136,18 +167,21 @@ probing c = taking c Probing (sought c.search.probe)
 
 -- Once gear are searched no short address is visited before the opening, or asked, any more.
 abbrev pub searching_anew : Course → Course
-searching_anew c = probing (record c { search = at_first; from = 64 })
+searching_anew c = probing (record c { search = at_first; from = 64; opened = true })
 
 -- under the number that the search that goes up asks next
 abbrev pub hunting : Course → Course
 hunting c = taking c Hunting (sought (asked_next c.ascent))
 
 abbrev pub hunting_first : Course → Course
-hunting_first c = hunting (record c { ascent = ascent_at_first; from = 64 })
+hunting_first c = hunting (record c { ascent = ascent_at_first })
 
--- above who was found and withdrawn
+-- above who was found: once it was withdrawn with its short address, or passed over
+abbrev pub hunting_above : Course → Course
+hunting_above c = hunting (record c { ascent = gone_on c.ascent })
+
 abbrev pub hunting_on : Course → Course
-hunting_on c = hunting (record c { ascent = gone_on c.ascent })
+hunting_on c = hunting_above (record c { tally = served c.tally })
 
 abbrev pub visiting : Course → ℕ → Course
 visiting c r = taking c Visiting (sought r)
@@ -162,13 +196,38 @@ closing c e = taking c (Closing e) c.number
 abbrev pub asking : Course → ℕ → Course
 asking c a = taking (record c { from = a + 1 }) (Asking a) c.number
 
--- gear without short address are initialised, and keep their random addresses
-abbrev pub waking : Course → Course
-waking c = taking c Waking c.number
+-- the roll is called: all gear without short address are asked, also those that never drew
+abbrev pub calling : Course → Course
+calling c = taking c Calling (sought 0xFFFFFF)
 
--- they draw new ones
+-- for the first time, where all short addresses were asked
+abbrev pub calling_first : Course → Course
+calling_first c = calling (record c { ascent = ascent_at_first; from = 64; opened = true })
+
+-- gear draw random addresses, unless somebody is heard under FFFExx; xx is as it was sent last
 abbrev pub drawing : Course → Course
-drawing c = opening (record c { way = Drawing })
+drawing c = taking (record c { tally = drew c.tally }) Drawing (sought 0xFFFEFE)
+
+-- gear without short address draw new random addresses, whichever they have
+abbrev pub opening_anew : Course → Course
+opening_anew c = opening (record c { tally = drew c.tally })
+
+-- and the last time
+abbrev pub opening_at_last : Course → Course
+opening_at_last c = opening (record c { tally = drew_at_last c.tally })
+
+-- whose visit failed twice is passed over
+abbrev pub passing_over : Course → Course
+passing_over c =
+    taking (record c { tally = passed_over c.tally (value_of c.number) }) PassingOver c.number
+
+-- nobody answered under the number that was found: the search that goes up begins anew
+abbrev pub missed : Course → Course
+missed c =
+    hunting (record c {
+      ascent = begun_anew c.ascent;
+      tally = missed_by c.tally (value_of c.number);
+    })
 
 -- ---------------------------------------------------------------- a search that is answered
 
@@ -190,10 +249,6 @@ probed c h =
 
 abbrev pub hunted : Course → Answer → Course
 hunted c h = record c { ascent = ascended c.ascent (is_yes h) }
-
--- nobody answered under the number that was found
-abbrev pub missed : Course → Course
-missed c = record c { ascent = begun_anew c.ascent }
 
 -- ---------------------------------------------------------------- what is unfinished
 
@@ -271,30 +326,37 @@ is_anothers k heard a r = has_short heard a || is_another r (number_at k.enrolle
 -- ---------------------------------------------------------------- to go on
 
 -- Before an opening was complete a visit to the next unfinished reservation, or the opening where
--- there is none; in a survey the next short address is asked, and where there is none gear are
--- woken. Afterwards a new search, and in a survey the one that goes up goes on.
+-- there is none; in a survey the next short address is asked, and where there is none the roll is
+-- called. Afterwards a new search, and in a survey the one that goes up goes on.
 abbrev pub visit_or_opening : Course → Option (ℕ × ℕ) → Course
 visit_or_opening c None = opening c
 visit_or_opening c (Some next) = visiting (record c { from = next.0 }) next.1
 
-abbrev pub ask_or_wake : Course → Option ℕ → Course
-ask_or_wake c None = waking c
-ask_or_wake c (Some a) = asking c a
+abbrev pub ask_or_call : Course → Option ℕ → Course
+ask_or_call c None = calling_first c
+ask_or_call c (Some a) = asking c a
 
 abbrev pub going_on_early : Kept → Way → Course → Course
 going_on_early k Fresh c = visit_or_opening c (next_unfinished k c.from)
-going_on_early k Surveying c = ask_or_wake c (next_asked k c.from)
-going_on_early k Drawing c = opening c
+going_on_early k Surveying c = ask_or_call c (next_asked k c.from)
+
+-- from the first short address on
+abbrev pub asking_again : Kept → Course → Course
+asking_again k c =
+    ask_or_call (record c {
+      from = 0;
+      opened = false;
+      ascent = ascent_at_first;
+      tally = asked_again c.tally;
+    }) (next_asked k 0)
 
 abbrev pub searching_first : Way → Course → Course
 searching_first Fresh c = searching_anew c
 searching_first Surveying c = hunting_first c
-searching_first Drawing c = hunting_first c
 
 abbrev pub searching_on : Way → Course → Course
 searching_on Fresh c = searching_anew c
 searching_on Surveying c = hunting_on c
-searching_on Drawing c = hunting_on c
 
 abbrev pub going_on : Kept → Bool → Course → Course
 going_on k true c = searching_on c.way c

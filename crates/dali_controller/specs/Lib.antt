@@ -1,5 +1,6 @@
 pub mod Refusals
 pub mod Shorts
+pub mod Tally
 pub mod Course
 pub mod Machine
 pub mod Next

@@ -9,8 +9,8 @@ use Rattle.dali_script.specs.declared.finding.Finding.{Finding}
 use Rattle.dali_script.specs.declared.records.Record.{Record}
 use Rattle.dali_script.specs.declared.trace.Entry.{Entry}
 use Rattle.dali_script.specs.declared.stage.Stage.{Stage}
-use Rattle.dali_script.specs.declared.stage.Stage.TheVariants.{Opened, Unanswered, Inconclusive}
-use Rattle.dali_script.specs.declared.stage.Stage.TheVariants.{Withdrawn, Initialised}
+use Rattle.dali_script.specs.declared.stage.Stage.TheVariants.{Unanswered, Inconclusive}
+use Rattle.dali_script.specs.declared.stage.Stage.TheVariants.{Withdrawn}
 use Rattle.dali_script.specs.declared.stage.Stage.TheVariants.{HighAsked, MiddleAsked, Spelled}
 use Rattle.dali_script.specs.declared.stage.Stage.TheVariants.{Unnamed}
 use Rattle.dali_script.specs.Records.{Kept, with_record}
@@ -22,19 +22,19 @@ use Rattle.dali_script.specs.declared.orders.Order.{Order}
 use Rattle.dali_script.specs.declared.orders.End.{End}
 use Rattle.dali_script.specs.Due.{frame_put, record_ordered}
 use Rattle.dali_controller.specs.declared.purpose.Purpose.{Purpose}
-use Rattle.dali_controller.specs.declared.purpose.Purpose.TheVariants.{Asking, Waking, Hunting}
+use Rattle.dali_controller.specs.declared.purpose.Purpose.TheVariants.{Asking, Hunting, Calling}
 use Rattle.dali_controller.specs.declared.shorts.Shorts.{Shorts}
 use Rattle.dali_controller.specs.declared.way.Way.{Way}
-use Rattle.dali_controller.specs.declared.way.Way.TheVariants.{Fresh, Surveying, Drawing}
+use Rattle.dali_controller.specs.declared.way.Way.TheVariants.{Fresh, Surveying}
 use Rattle.dali_controller.specs.Shorts.{with_short, without_short}
 use Rattle.dali_controller.specs.Course.{Course, course_at_first, closing_of, turn_of, address_for}
 use Rattle.dali_controller.specs.Course.{is_anothers}
+use Rattle.dali_controller.specs.Tally.{uncounted}
 
 -- What contracts see of a machine: its number; what it keeps; the running transaction; its last
 -- finding; its last order; how often the transaction was lost; how many searches in a row led to no
--- gear; whether an opening was complete since the start, or in a survey gear were woken; the course
--- that it takes; under which short addresses a survey heard what was no random address; and how
--- often in a row it heard silence under the one that it asks.
+-- gear; the course that it takes; under which short addresses a survey heard what was no random
+-- address; and how often in a row it heard silence under the one that it asks.
 pub record Machine : Type 0 where
   pub id : ℕ
   pub kept : Kept
@@ -43,7 +43,6 @@ pub record Machine : Type 0 where
   pub last : Option Order
   pub tries : ℕ
   pub silent : ℕ
-  pub opened : Bool
   pub course : Course
   pub heard : Shorts
   pub asked : ℕ
@@ -58,7 +57,6 @@ at_first id k = record {
   last = None;
   tries = 0;
   silent = 0;
-  opened = false;
   course = course_at_first;
   heard = record { bits = 0 };
   asked = 0;
@@ -71,11 +69,11 @@ abbrev pub is_complete : Kept → Option End → Stage → Bool
 is_complete k closing s = is_some closing || not (may_follow k.block k.reserved s)
 
 -- and in a survey a transaction may end before, where nothing more is to be heard; a hunt may after
--- each question
+-- each question, and a roll call after a yes
 abbrev pub is_front : Purpose → Bool
 is_front Hunting = true
 is_front (Asking a) = true
-is_front Waking = true
+is_front Calling = true
 is_front _ = false
 
 abbrev pub is_ended : Purpose → SearchAddress → Stage → Bool
@@ -85,8 +83,7 @@ is_ended p n s = is_front p && not (is_some (turn_of p n s))
 -- visit that found gear without short address ends before PROGRAM SHORT ADDRESS.
 abbrev pub is_withheld_by : Machine → Way → ℕ → ℕ → Bool
 is_withheld_by t Fresh a r = false
-is_withheld_by t Surveying a r = t.opened && is_anothers t.kept t.heard a r
-is_withheld_by t Drawing a r = t.opened && is_anothers t.kept t.heard a r
+is_withheld_by t Surveying a r = t.course.opened && is_anothers t.kept t.heard a r
 
 abbrev pub is_withheld : Machine → ℕ → ℕ → Bool
 is_withheld t a r = is_withheld_by t t.course.way a r
@@ -113,15 +110,6 @@ silent_after (Unanswered r) true n = n + 1
 silent_after (Inconclusive r other) true n = n + 1
 silent_after (Withdrawn r b) opened n = 0
 silent_after _ opened n = n
-
-abbrev pub opened_after : Stage → Bool → Bool
-opened_after Opened opened = true
-opened_after _ opened = opened
-
--- once gear were woken they are searched, as after an opening
-abbrev pub woken_after : Stage → Purpose → Bool → Bool
-woken_after Initialised Waking opened = true
-woken_after _ p opened = opened
 
 -- A short address that is asked is marked where somebody answers, until three bytes tell a number
 -- that gear draw; so it stays marked where one of them is not heard, or the number is none.
@@ -164,9 +152,7 @@ machine_heard_to m t h = record {
       tries_after (is_complete m.kept (closing_of m.course.purpose) (stage_of t)
       || is_ended m.course.purpose m.course.number (stage_of t)
       || is_passed_by m (stage_of t)) m.tries;
-  silent = silent_after (stage_of t) m.opened m.silent;
-  opened =
-      woken_after (stage_of t) m.course.purpose (opened_after (stage_of t) m.opened);
+  silent = silent_after (stage_of t) m.course.opened m.silent;
   course = m.course;
   heard = heard_after m.course.purpose (stage_of t) h m.heard;
   asked = asked_after m.course.purpose (stage_of t) h m.asked;
@@ -189,7 +175,9 @@ machine_committed m None = m
 
 -- a survey begins
 abbrev pub machine_surveying : Machine → Machine
-machine_surveying m = record m { course = record m.course { way = Surveying } }
+machine_surveying m = record m {
+  course = record m.course { way = Surveying; tally = uncounted };
+}
 
 abbrev pub machine_told : Machine → Input → Machine
 machine_told m input.Start = m

@@ -1,4 +1,4 @@
-use Rattle.std.specs.Prelude.{◌≡◌, ℕ, ◌<◌, ◌⊎◌, Bool, true, false, not, ◌==◌}
+use Rattle.std.specs.Prelude.{◌≡◌, ℕ, ◌<◌, ◌⊎◌, Bool, true, false, not, ◌==◌, nat_lt}
 use Rattle.std.specs.Prelude.{if◌then◌else◌, List, [], Option, Some, None, is_some}
 use Rattle.dali_frame.specs.declared.frames.Forward.{Forward}
 use Rattle.dali_frame.specs.declared.frames.Answer.{Answer}
@@ -13,7 +13,6 @@ use Rattle.dali_script.specs.declared.finding.Finding.{Finding}
 use Rattle.dali_script.specs.declared.records.Record.{Record}
 use Rattle.dali_script.specs.declared.records.Record.TheVariants.{Reserve, Enrol, Release}
 use Rattle.dali_script.specs.declared.trace.Entry.{Entry}
-use Rattle.dali_script.specs.declared.stage.Stage.{Stage}
 use Rattle.dali_script.specs.declared.stage.Stage.TheVariants.{Terminated, Probed, Unnamed, Hunted}
 use Rattle.dali_script.specs.declared.stage.Stage.TheVariants.{Inconclusive, Withdrawn, Spelled}
 use Rattle.dali_script.specs.Records.{Assignment, Has, HasRandom, Fits, MayAdd, IsLeastFree}
@@ -30,12 +29,16 @@ use Rattle.dali_script.specs.declared.orders.End.TheVariants.{AllFound, BlockFul
 use Rattle.dali_script.specs.declared.orders.Fault.TheVariants as fault
 use Rattle.dali_controller.specs.Machine.{Machine, machine_told, is_withheld}
 use Rattle.dali_controller.specs.declared.purpose.Purpose.{Purpose}
-use Rattle.dali_controller.specs.declared.purpose.Purpose.TheVariants.{Closing, Asking}
+use Rattle.dali_controller.specs.declared.purpose.Purpose.TheVariants.{Closing, Asking, Hunting}
+use Rattle.dali_controller.specs.declared.purpose.Purpose.TheVariants.{Calling}
 use Rattle.dali_controller.specs.declared.way.Way.{Way}
-use Rattle.dali_controller.specs.declared.way.Way.TheVariants.{Fresh, Surveying, Drawing}
+use Rattle.dali_controller.specs.declared.way.Way.TheVariants.{Fresh, Surveying}
 use Rattle.dali_controller.specs.Course.{Course, closing_of, turn_of, address_for, least_open}
+use Rattle.dali_controller.specs.Course.{call_turn, is_yes}
 use Rattle.dali_controller.specs.Next.{course_by, next_course, beginning, question, BeginsWith}
-use Rattle.dali_controller.specs.Next.{draws}
+use Rattle.dali_controller.specs.Next.{has_open, may_draw, asks_again, is_blocked, most_silent}
+use Rattle.dali_search.specs.declared.step.Step.TheVariants.{Nobody}
+use Rattle.dali_search.specs.Ascending.{leads_to, ascended}
 
 -- WHAT AN ORDER DOES, to a machine that was told an input.
 
@@ -46,8 +49,14 @@ trace_by t (Commit x) = []
 trace_by t (Done e) = []
 trace_by t (Halt w) = []
 
-abbrev pub machine_ordered : Machine → Order → Machine
-machine_ordered t o = record {
+-- no silence is counted any more once gear are searched
+abbrev pub asked_by : Bool → ℕ → ℕ
+asked_by true n = 0
+asked_by false n = n
+
+-- with the course that the machine takes from then on
+abbrev pub machine_ordered_on : Machine → Course → Order → Machine
+machine_ordered_on t c o = record {
   id = t.id;
   kept = t.kept;
   trace = trace_by t o;
@@ -55,11 +64,13 @@ machine_ordered t o = record {
   last = Some o;
   tries = t.tries;
   silent = t.silent;
-  opened = t.opened;
-  course = course_by t o;
+  course = c;
   heard = t.heard;
-  asked = t.asked;
+  asked = asked_by c.opened t.asked;
 }
+
+abbrev pub machine_ordered : Machine → Order → Machine
+machine_ordered t o = machine_ordered_on t (course_by t o) o
 
 -- WHICH ORDERS A SITE ALLOWS. A first frame at 3, or a later one that is lawful after the running
 -- transaction, at 1.
@@ -75,7 +86,6 @@ MayOrderPut t p f =
 abbrev pub MayEnrolOn : Way → List Assignment → Finding → Assignment → Type 0
 MayEnrolOn Fresh reserved x pair = MayEnrol reserved x pair
 MayEnrolOn Surveying reserved x pair = pair ≡ assigned x
-MayEnrolOn Drawing reserved x pair = pair ≡ assigned x
 
 abbrev pub IsWarranted : Machine → Record → Type 0
 IsWarranted t (Reserve a r) =
@@ -104,9 +114,9 @@ IsAllowed t (Commit x) = MayCommit t x
 IsAllowed t (Done e) = Unit {0}
 IsAllowed t (Halt w) = Unit {0}
 
--- GEAR THAT IS LEFT without a short address: none is reserved for its number, and each of the
--- block is reserved. In a survey: what is reserved for its number is another's, or none is
--- reserved for it and none is open; and gear draw no new numbers any more.
+-- GEAR TO WHICH NO ADDRESS CAN BE GIVEN: none is reserved for its number, and each of the block is
+-- reserved. In a survey: what is reserved for its number is another's, or none is reserved for it
+-- and none is open.
 abbrev pub is_left_by : Machine → ℕ → Option ℕ → Option ℕ → Bool
 is_left_by t r (Some a) free = is_withheld t a r
 is_left_by t r None free = not (is_some free)
@@ -114,27 +124,71 @@ is_left_by t r None free = not (is_some free)
 abbrev pub is_left : Machine → ℕ → Bool
 is_left t r = is_left_by t r (address_for t.kept.reserved r) (least_open t.kept t.heard)
 
-abbrev pub IsLeft : Machine → Way → ℕ → Type 0
-IsLeft t Fresh r =
-    (HasRandom t.kept.reserved r → ⊥) × IsFull t.kept.block t.kept.reserved
-IsLeft t Surveying r = (is_left t r ≡ true) × (draws t ≡ false)
-IsLeft t Drawing r = (is_left t r ≡ true) × (draws t ≡ false)
-
 -- THE CAUSES OF AN END.
 
--- a close is begun with all-found only where the last COMPARE, under FFFFFE, was heard as silence:
--- that of a probe, or of a hunt
-abbrev pub AsksFor : SearchAddress → Stage → Type 0
-AsksFor r s =
-    (s ≡ Probed r Silence) ⊎ ((left : ℕ) × (s ≡ Hunted r (Some Silence) left))
+-- a close is begun with all-found only where the last COMPARE, under FFFFFE, was heard as silence,
+-- after a start; in a survey where that of a roll call was, under FFFFFF, after another silent one
+pub record IsSilentProbe (t : Machine) : Type 0 where
+  pub number : SearchAddress
+  pub stage : stage_of t.trace ≡ Probed number Silence
+  pub last : value_of number ≡ 0xFFFFFE
+
+pub record IsSilentCall (t : Machine) : Type 0 where
+  pub number : SearchAddress
+  pub left : ℕ
+  pub stage : stage_of t.trace ≡ Hunted number (Some Silence) left
+  pub calling : t.course.purpose ≡ Calling
+  pub last : value_of number ≡ MASK24
+  pub before : t.course.tally.is_silent ≡ true
+
+abbrev pub AllAreFound : Machine → Way → Type 0
+AllAreFound t Fresh = IsSilentProbe t
+AllAreFound t Surveying = IsSilentCall t
+
+-- In a hunt that found nobody, nobody is left: somebody never drew a random address.
+pub record IsUndrawn (t : Machine) : Type 0 where
+  pub number : SearchAddress
+  pub heard : Answer
+  pub left : ℕ
+  pub stage : stage_of t.trace ≡ Hunted number (Some heard) left
+  pub hunting : t.course.purpose ≡ Hunting
+  pub nobody : leads_to (ascended t.course.ascent (is_yes heard)) ≡ Nobody
+  pub none : (ascended t.course.ascent (is_yes heard)).found ≡ 0
+
+-- no address can be given to gear that answered MASK, or none is open and somebody never drew
+abbrev pub IsUngivable : Machine → Type 0
+IsUngivable t =
+    ((r : SearchAddress) × (stage_of t.trace ≡ Unnamed r) × (is_left t (value_of r) ≡ true)
+    × (may_draw t ≡ false))
+    ⊎ (IsUndrawn t × (has_open t ≡ false))
+
+abbrev pub IsBlockFull : Machine → Way → Type 0
+IsBlockFull t Fresh =
+    (r : SearchAddress) × (stage_of t.trace ≡ Unnamed r)
+    × ((HasRandom t.kept.reserved (value_of r) → ⊥) × IsFull t.kept.block t.kept.reserved)
+IsBlockFull t Surveying = IsUngivable t × (asks_again t ≡ false)
+
+-- Too many searches in a row led to no gear. In a survey as well: somebody answered the fourth roll
+-- call since a visit succeeded, some gear were passed over, and may draw no more; or somebody never
+-- drew, and may draw no more.
+pub record IsBlocked (t : Machine) : Type 0 where
+  pub number : SearchAddress
+  pub heard : Answer
+  pub left : ℕ
+  pub stage : stage_of t.trace ≡ Hunted number (Some heard) left
+  pub calling : t.course.purpose ≡ Calling
+  pub yes : is_yes heard ≡ true
+  pub passed : is_blocked t.course.tally ≡ true
+  pub spent : may_draw t ≡ false
+
+abbrev pub IsStuck : Machine → Way → Type 0
+IsStuck t Fresh = ⊥
+IsStuck t Surveying = IsBlocked t ⊎ (IsUndrawn t × (nat_lt t.course.tally.draws 3 ≡ false))
 
 abbrev pub Cause : Machine → End → Type 0
-Cause t AllFound =
-    (t.opened ≡ true)
-    × ((r : SearchAddress) × AsksFor r (stage_of t.trace) × (value_of r ≡ 0xFFFFFE))
-Cause t BlockFull =
-    (r : SearchAddress) × (stage_of t.trace ≡ Unnamed r) × IsLeft t t.course.way (value_of r)
-Cause t GaveUp = t.silent ≡ 16
+Cause t AllFound = (t.course.opened ≡ true) × AllAreFound t t.course.way
+Cause t BlockFull = IsBlockFull t t.course.way
+Cause t GaveUp = (t.silent ≡ most_silent t.course.way) ⊎ IsStuck t t.course.way
 
 -- the end with which a close runs, if one does
 abbrev pub running_close : Machine → Option End
@@ -199,7 +253,6 @@ AfterMaskSurveyed t r o =
 abbrev pub AfterMaskOn : Way → Machine → Course → SearchAddress → Order → Type 0
 AfterMaskOn Fresh t c r o = AfterMask t c r o
 AfterMaskOn Surveying t c r o = AfterMaskSurveyed t r o
-AfterMaskOn Drawing t c r o = AfterMaskSurveyed t r o
 
 -- gear that was found is enrolled, unless the table has it or contradicts it
 abbrev pub AfterFinding : Machine → ℕ → ℕ → Order → Type 0
@@ -236,7 +289,11 @@ pub record IsFollowed (t : Machine) (o : Order) : Type 0 where
       → o ≡ beginning (next_course t)
   pub enrolled : (b n : ℕ) → t.last ≡ Some (Commit (Enrol b n)) → AfterEnrolled t b n o
   pub hunted : (r : SearchAddress) (h : Answer) (left : ℕ)
-      → stage_of t.trace ≡ Hunted r (Some h) left → o ≡ question (next_course t) r left
+      → stage_of t.trace ≡ Hunted r (Some h) left → t.course.purpose ≡ Hunting
+      → o ≡ question (next_course t) r left
+  pub called : (r : SearchAddress) (h : Answer) (left : ℕ)
+      → stage_of t.trace ≡ Hunted r (Some h) left → t.course.purpose ≡ Calling
+      → call_turn (Some h) left ≡ None → o ≡ beginning (next_course t)
 
 -- THE ORDERS of a machine that was told an input, and that takes a course from then on.
 pub record IsOrderedTo (t : Machine) (c : Course) (o : Order) : Type 0 where
@@ -244,7 +301,7 @@ pub record IsOrderedTo (t : Machine) (c : Course) (o : Order) : Type 0 where
   pub addressing : IsAddressing o
   pub caused : IsCaused t c o
   pub given_up : t.tries ≡ 8 → o ≡ Done GaveUp
-  pub silent : t.silent ≡ 16 → c.purpose ≡ Closing GaveUp
+  pub silent : t.silent ≡ most_silent t.course.way → c.purpose ≡ Closing GaveUp
   pub unnamed : (r : SearchAddress) → stage_of t.trace ≡ Unnamed r
       → AfterMaskOn t.course.way t c r o
   pub found : (r : SearchAddress) (b : ℕ) → stage_of t.trace ≡ Withdrawn r b

@@ -14,6 +14,8 @@ course_of s = record {
   ascent = ascent_on s.leg;
   from = from_on s.leg;
   way = way_on s.leg;
+  opened = is_searching s.leg;
+  tally = s.tally;
 }
 
 -- THE MACHINE in this state, with these records: what contracts see of it
@@ -26,7 +28,6 @@ machine_with s k = record {
   last = s.last;
   tries = s.tries;
   silent = s.silent;
-  opened = is_searching s.leg;
   course = course_of s;
   heard = s.heard;
   asked = silences_on s.leg;

@@ -1,36 +1,35 @@
-//! The moments of a hunt: question after question in one transaction, as long as it has room.
+//! The moments of a hunt: question after question in one transaction, as long as it has room; and whom it leads to in
+//! vain.
 
-ghost use Rattle.std.specs.Prelude.{◌≡◌, ◌<◌, true, Option, Some, None};
+ghost use Rattle.std.specs.Prelude.{◌≡◌, Some, None};
 ghost use Rattle.dali_frame.specs.declared.numbers.SearchAddress.{SearchAddress};
-ghost use Rattle.dali_frame.specs.declared.frames.Answer.{Answer};
+ghost use Rattle.dali_frame.specs.Random.{value_of};
 ghost use Rattle.dali_script.specs.declared.stage.Stage.TheVariants as stage;
 ghost use Rattle.dali_controller.specs.declared.purpose.Purpose.TheVariants as purpose;
+ghost use Rattle.dali_controller.specs.declared.way.Way.TheVariants as way;
+ghost use Rattle.dali_controller.specs.declared.leg.Leg.TheVariants as leg;
 ghost use Rattle.dali_search.specs.declared.step.Step.TheVariants as search;
-ghost use Rattle.dali_controller.specs.Course.{is_yes};
 
-use crate::leg::{Leg, Upward};
+use crate::leg::Leg;
 use crate::moments::is_yes;
 use crate::purpose::{Purpose, bytes_to_send};
 use crate::state::State;
 use dali_frame::{Answer, Random24, SearchAddress};
 use dali_script::{Order, Records};
-use dali_search::Step;
+use dali_search::{Ascent, Step};
 
 impl State {
     ghost use Rattle.dali_controller.specs.States.{machine_with, course_of};
-    ghost use Rattle.dali_controller.specs.Whole.{IsWhole, IsSurvey};
-    ghost use Rattle.dali_controller.specs.Moments.{IsHeard, IsBetween, IsMoment, Begun, IsNext, AsksNext};
-    ghost use Rattle.dali_controller.specs.Course.{turn_of, hunting};
-    ghost use Rattle.dali_controller.specs.Next.{next_course, question};
-    ghost use Rattle.dali_controller.specs.Legs.{is_searching, way_on, ascent_on};
+    ghost use Rattle.dali_controller.specs.Moments.{IsHeard, IsMoment, Begun, AsksNext};
+    ghost use Rattle.dali_controller.specs.Course.{turn_of, hunting, hunting_first, hunting_on, hunting_above};
+    ghost use Rattle.dali_controller.specs.Course.{passing_over};
+    ghost use Rattle.dali_controller.specs.Next.{next_course, question, beginning, silenced_on, hunted_in};
+    ghost use Rattle.dali_controller.specs.Legs.{ascent_on};
     ghost use Rattle.dali_search.specs.Ascending.{leads_to, asked_next};
 
     /// The transaction that asks under the number of the search that goes up.
-    #[tactic(auto, using(crate::proofs::Steps::hunts))]
     pub(crate) fn hunt(&mut self, kept: &Records<'_>, number: Random24) -> Order
-        requires between { IsBetween (machine_with self.old kept.now) }
-        requires opened { is_searching self.old.leg ≡ true }
-        requires survey { IsSurvey (way_on self.old.leg) }
+        requires hunting { self.old.leg ≡ leg.Hunting (ascent_on self.old.leg) }
         requires running { leads_to (ascent_on self.old.leg) ≡ search.Again }
         requires asked { number ≡ asked_next (ascent_on self.old.leg) }
 
@@ -40,8 +39,90 @@ impl State {
         self.begin(kept, Purpose::Hunting, SearchAddress::of(number))
     }
 
-    /// COMPARE was sent in a hunt, and this was heard; so many frames may follow.
-    pub(crate) fn hunted(
+    /// A search that has found nobody.
+    pub(crate) fn hunt_first(&mut self, kept: &Records<'_>) -> Order
+        requires hunting { self.old.leg ≡ leg.Hunting (ascent_on self.old.leg) }
+
+        ensures { Begun (machine_with self.old kept.now) (hunting_first (course_of self.old))
+            result (machine_with self.new kept.now) }
+    {
+        let ascent = Ascent::new();
+        let number = ascent.probe();
+        self.leg = Leg::Hunting(ascent);
+        self.hunt(kept, number)
+    }
+
+    /// The search goes on above whom it found, who was withdrawn with a short address.
+    pub(crate) fn hunt_on(&mut self, kept: &Records<'_>) -> Order
+        requires hunting { self.old.leg ≡ leg.Hunting (ascent_on self.old.leg) }
+
+        ensures { Begun (machine_with self.old kept.now) (hunting_on (course_of self.old))
+            result (machine_with self.new kept.now) }
+    {
+        self.tally.note_served();
+        self.hunt_above(kept)
+    }
+
+    /// The search goes on above whom it found.
+    pub(crate) fn hunt_above(&mut self, kept: &Records<'_>) -> Order
+        requires hunting { self.old.leg ≡ leg.Hunting (ascent_on self.old.leg) }
+
+        ensures { Begun (machine_with self.old kept.now) (hunting_above (course_of self.old))
+            result (machine_with self.new kept.now) }
+    {
+        let Leg::Hunting(ascent) = &mut self.leg else {
+            unreachable!()
+        };
+        ascent.go_on();
+        let number = ascent.probe();
+        self.hunt(kept, number)
+    }
+
+    /// The visit of a number failed: the search begins anew, and where it leads to that number again, and in vain, the
+    /// number is passed over.
+    pub(crate) fn missed(&mut self, kept: &Records<'_>) -> Order
+        requires hunting { self.old.leg ≡ leg.Hunting (ascent_on self.old.leg) }
+
+        ensures { Begun (machine_with self.old kept.now)
+            (silenced_on (machine_with self.old kept.now) way.Surveying) result (machine_with self.new kept.now) }
+    {
+        let random = self.number.value();
+        if self.tally.is_failed(random) {
+            return self.pass_over(kept, random);
+        }
+        self.tally.note_miss(random);
+        let Leg::Hunting(ascent) = &mut self.leg else {
+            unreachable!()
+        };
+        ascent.begin_anew();
+        let number = ascent.probe();
+        self.hunt(kept, number)
+    }
+
+    /// The transaction that takes the gear at this number out of the search, without a short address.
+    fn pass_over(&mut self, kept: &Records<'_>, random: Random24) -> Order
+        requires hunting { self.old.leg ≡ leg.Hunting (ascent_on self.old.leg) }
+        requires number { random ≡ value_of self.old.number }
+
+        ensures { Begun (machine_with self.old kept.now) (passing_over (course_of self.old))
+            result (machine_with self.new kept.now) }
+    {
+        self.tally.note_passed(random);
+        let number = self.number;
+        self.begin(kept, Purpose::PassingOver, number)
+    }
+
+    /// The gear at a number was taken out of the search, without a short address.
+    pub(crate) fn passed_over(&mut self, kept: &Records<'_>) -> Order
+        requires { (number : SearchAddress) × IsHeard (machine_with self.old kept.now) (stage.PassedOver number) }
+
+        ensures { IsMoment (machine_with self.old kept.now) result (machine_with self.new kept.now) }
+    {
+        self.hunt_above(kept)
+    }
+
+    /// COMPARE was sent in a hunt or a roll call, and this was heard; so many frames may follow.
+    pub(crate) fn compared(
         &mut self,
         kept: &Records<'_>,
         sent: SearchAddress,
@@ -51,12 +132,16 @@ impl State {
         requires heard { IsHeard (machine_with self.old kept.now) (stage.Hunted sent last left) }
         requires over { turn_of self.old.purpose self.old.number (stage.Hunted sent last left) ≡ None }
 
-        ensures asked { result ≡ question (next_course (machine_with self.old kept.now)) sent left }
+        ensures hunted { self.old.purpose ≡ purpose.Hunting
+            → result ≡ question (next_course (machine_with self.old kept.now)) sent left }
+        ensures called { self.old.purpose ≡ purpose.Calling
+            → result ≡ beginning (next_course (machine_with self.old kept.now)) }
         ensures moment { IsMoment (machine_with self.old kept.now) result (machine_with self.new kept.now) }
     {
-        match last {
-            Some(heard) => self.answered(kept, sent, heard, left),
-            None => unreachable!(),
+        match (self.purpose, last) {
+            (Purpose::Hunting, Some(heard)) => self.answered(kept, sent, heard, left),
+            (Purpose::Calling, Some(heard)) => self.called(kept, heard),
+            _ => unreachable!(),
         }
     }
 
@@ -68,12 +153,14 @@ impl State {
         heard: Answer,
         left: u8,
     ) -> Order
-        requires { IsHeard (machine_with self.old kept.now) (stage.Hunted sent (Some heard) left) }
+        requires hunting { self.old.leg ≡ leg.Hunting (ascent_on self.old.leg) }
+        requires asked { self.old.purpose ≡ purpose.Hunting }
+        requires running { leads_to (ascent_on self.old.leg) ≡ search.Again }
 
-        ensures asked { result ≡ question (next_course (machine_with self.old kept.now)) sent left }
-        ensures moment { IsMoment (machine_with self.old kept.now) result (machine_with self.new kept.now) }
+        ensures { AsksNext (machine_with self.old kept.now) (hunted_in (machine_with self.old kept.now) heard)
+            sent left result (machine_with self.new kept.now) }
     {
-        let Leg::Hunting(Upward { ascent, .. }) = &mut self.leg else {
+        let Leg::Hunting(ascent) = &mut self.leg else {
             unreachable!()
         };
         match ascent.answer(is_yes(heard)) {
@@ -82,7 +169,10 @@ impl State {
                 self.ask_next(kept, number, sent, left)
             }
             Step::Found(found) => self.visit(kept, found),
-            Step::Nobody => self.nobody(kept),
+            Step::Nobody => {
+                let found = ascent.found();
+                self.nobody_left(kept, found)
+            }
         }
     }
 
@@ -94,13 +184,13 @@ impl State {
         sent: SearchAddress,
         left: u8,
     ) -> Order
-        requires next { AsksNext (machine_with self.old kept.now) sent left }
+        requires hunting { self.old.leg ≡ leg.Hunting (ascent_on self.old.leg) }
+        requires running { leads_to (ascent_on self.old.leg) ≡ search.Again }
         requires asked { random ≡ asked_next (ascent_on self.old.leg) }
+        requires runs { self.old.purpose ≡ purpose.Hunting }
 
-        ensures asked { result ≡ question (hunting (course_of self.old)) sent left }
-        ensures course { course_of self.new ≡ hunting (course_of self.old) }
-        ensures next { IsNext (machine_with self.old kept.now) result (machine_with self.new kept.now) }
-        ensures whole { IsWhole (machine_with self.new kept.now) }
+        ensures { AsksNext (machine_with self.old kept.now) (hunting (course_of self.old)) sent left result
+            (machine_with self.new kept.now) }
     {
         let number = SearchAddress::of(random);
         if bytes_to_send(number, sent) < left {

@@ -1,6 +1,6 @@
 ghost use Rattle.std.specs.Prelude.{◌≡◌};
 ghost use Rattle.dali_controller.specs.Legs.{way_on, is_searching, from_on, silences_on, search_on, ascent_on};
-ghost use Rattle.dali_controller.specs.Legs.{with_silences, missed_on, drawn_on};
+ghost use Rattle.dali_controller.specs.Legs.{with_silences};
 
 use crate::way::Way;
 use dali_search::{Ascent, Search};
@@ -16,17 +16,8 @@ pub enum Leg {
     Asking { from: u8, silences: u8 },
     /// Gear are searched, after a start.
     Searching(Search),
-    /// Gear are searched, in a survey.
-    Hunting(Upward),
-}
-
-/// The search of a survey.
-#[derive(Drop)]
-pub struct Upward {
-    /// It goes up from the random address that was found last.
-    pub ascent: Ascent,
-    /// Whether gear without short address drew new random addresses since they were woken.
-    pub drew: bool,
+    /// Gear are searched, in a survey, with a search that goes up from the random address that was found last.
+    Hunting(Ascent),
 }
 
 impl Leg {
@@ -41,27 +32,17 @@ impl Leg {
                 silences: *silences,
             },
             Leg::Searching(search) => Leg::Searching(search.copy()),
-            Leg::Hunting(up) => Leg::Hunting(Upward {
-                ascent: up.ascent.copy(),
-                drew: up.drew,
-            }),
+            Leg::Hunting(ascent) => Leg::Hunting(ascent.copy()),
         }
     }
 
-    /// How the machine began, and how far a survey has come.
+    /// How the machine began.
     pub fn way(&self) -> Way
         ensures { result ≡ way_on self.now }
     {
         match self {
             Leg::Revisiting { .. } | Leg::Searching(_) => Way::Fresh,
-            Leg::Asking { .. } => Way::Surveying,
-            Leg::Hunting(up) => {
-                if up.drew {
-                    Way::Drawing
-                } else {
-                    Way::Surveying
-                }
-            }
+            Leg::Asking { .. } | Leg::Hunting(_) => Way::Surveying,
         }
     }
 
@@ -110,7 +91,7 @@ impl Leg {
         ensures { result ≡ ascent_on self.now }
     {
         match self {
-            Leg::Hunting(up) => up.ascent.copy(),
+            Leg::Hunting(ascent) => ascent.copy(),
             Leg::Revisiting { .. } | Leg::Asking { .. } | Leg::Searching(_) => Ascent::new(),
         }
     }
@@ -121,24 +102,6 @@ impl Leg {
     {
         if let Leg::Asking { silences, .. } = self {
             *silences = count;
-        }
-    }
-
-    /// Nobody answered under the number that was found: the search that goes up begins anew.
-    pub(crate) fn begin_anew(&mut self)
-        ensures { self.new ≡ missed_on self.old }
-    {
-        if let Leg::Hunting(up) = self {
-            up.ascent.begin_anew();
-        }
-    }
-
-    /// In a survey: gear draw new random addresses.
-    pub(crate) fn note_draw(&mut self)
-        ensures { self.new ≡ drawn_on self.old }
-    {
-        if let Leg::Hunting(up) = self {
-            up.drew = true;
         }
     }
 }

@@ -4,6 +4,7 @@
 //! A [`Machine`] knows nothing of a bus or a store, and takes no memory.
 #![tactic(auto)]
 
+mod calls;
 mod error;
 mod hunts;
 mod leg;
@@ -16,6 +17,7 @@ mod shorts;
 mod state;
 mod stepping;
 mod surveying;
+mod tally;
 mod unfinished;
 mod visits;
 mod way;
@@ -23,9 +25,10 @@ mod whole;
 
 pub use dali_script::{Due, End, Fault, Input, Order};
 pub use error::StepError;
-pub use leg::{Leg, Upward};
+pub use leg::Leg;
 pub use machine::Machine;
 pub use purpose::Purpose;
 pub use shorts::Shorts;
 pub use state::State;
+pub use tally::{Passed, Tally};
 pub use way::Way;

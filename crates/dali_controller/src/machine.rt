@@ -12,6 +12,7 @@ ghost use Rattle.dali_controller.specs.Orders.{IsAnswered, IsFollowedAt, IsGiven
 use crate::error::StepError;
 use crate::shorts::Shorts;
 use crate::state::State;
+use crate::tally::Tally;
 use dali_script::{Due, Finding, Input, Kept, Order, Record, Table, Trace};
 use std::marker::Model;
 
@@ -26,8 +27,9 @@ use std::marker::Model;
 /// It begins in one of two ways. Told `Start`, it lets gear without short address draw new random addresses at once.
 /// Told `Survey`, it first asks each short address that its table does not name, or that it has reserved, who is there;
 /// enrols who tells its random address; searches gear without short address under the random addresses that they have;
-/// and gives no address under which somebody was heard. Survey is right wherever gear may have addresses already: after
-/// a restart, beside other controllers, and with gear from elsewhere. It sees no gear without power.
+/// and gives no address under which somebody was heard. It ends with all-found only where two roll calls in a row were
+/// silent, which each gear without short address answers. Survey is right wherever gear may have addresses already:
+/// after a restart, beside other controllers, and with gear from elsewhere. It sees no gear without power.
 ///
 /// How to drive it: make one with `new`, give `step` the input `Start` or `Survey`, do what it orders, give it what
 /// came of that, and so on until the order is `Done` or `Halt`. `step` alone changes it; `due`, `table`, `kept`,
@@ -189,6 +191,13 @@ impl Machine {
         ensures { result ≡ self.now.heard }
     {
         self.state.heard
+    }
+
+    /// What a survey has counted, and who was passed over.
+    pub fn tally(&self) -> &Tally
+        ensures { result.now ≡ self.now.course.tally }
+    {
+        &self.state.tally
     }
 
     /// The records that are kept.

@@ -7,20 +7,20 @@ ghost use Rattle.dali_frame.specs.Priority.{LATER};
 ghost use Rattle.dali_special.specs.declared.command.Command.{Command};
 ghost use Rattle.dali_special.specs.Command.{frame_of};
 ghost use Rattle.dali_script.specs.declared.stage.Stage.TheVariants as stage;
-ghost use Rattle.dali_script.specs.Records.{HasRandom};
 ghost use Rattle.dali_controller.specs.declared.purpose.Purpose.TheVariants as purpose;
 ghost use Rattle.dali_controller.specs.declared.way.Way.TheVariants as way;
 ghost use Rattle.dali_script.specs.declared.orders.Input.TheVariants as input;
 ghost use Rattle.dali_script.specs.declared.orders.Order.TheVariants as order;
 ghost use Rattle.dali_script.specs.Due.{due_after, frame_put};
 ghost use Rattle.dali_script.specs.declared.orders.Due.TheVariants as due;
-ghost use Rattle.dali_controller.specs.Course.{is_yes};
+ghost use Rattle.dali_controller.specs.Course.{is_yes, call_turn};
+ghost use Rattle.dali_controller.specs.Next.{most_silent};
 ghost use Rattle.dali_controller.specs.Machine.{machine_lost};
 
 use crate::leg::Leg;
 use crate::purpose::Purpose;
 use crate::state::State;
-use crate::surveying::least_open;
+use crate::tally::Tally;
 use crate::way::Way;
 use dali_frame::{Answer, Forward, Random24, SearchAddress, Short};
 use dali_script::{End, Fault, Order, Record, Records, Stage, Trace};
@@ -29,8 +29,12 @@ use dali_special::Command;
 /// The tries of one transaction.
 pub(crate) const TRIES: u8 = 8;
 
-/// The silent searches in a row.
-pub(crate) const SILENT: u8 = 16;
+/// The silent searches in a row, after a start.
+const SILENT: u8 = 16;
+
+/// The silent searches in a row of a survey. They are more, since what another controller addressed meanwhile does not
+/// answer either.
+const SILENT_IN_SURVEY: u8 = 80;
 
 /// Whether an answer to COMPARE is a yes: a damaged one is, as of several gear that answer together.
 pub(crate) fn is_yes(heard: Answer) -> bool
@@ -42,14 +46,24 @@ pub(crate) fn is_yes(heard: Answer) -> bool
     }
 }
 
+/// How many silent searches in a row end it.
+pub(crate) fn most_silent(way: Way) -> u8
+    ensures { result ≡ most_silent way }
+{
+    match way {
+        Way::Fresh => SILENT,
+        Way::Surveying => SILENT_IN_SURVEY,
+    }
+}
+
 impl State {
     ghost use Rattle.dali_controller.specs.States.{machine_with, course_of};
-    ghost use Rattle.dali_controller.specs.Whole.{IsWhole};
-    ghost use Rattle.dali_controller.specs.Moments.{IsHeard, IsBetween, Closes, Settles, IsMoment, Begun, Enrolled};
-    ghost use Rattle.dali_controller.specs.Moments.{IsStep, Draws, is_searched_next};
-    ghost use Rattle.dali_controller.specs.Legs.{is_searching};
-    ghost use Rattle.dali_controller.specs.Course.{opening, closing, going_on, turn_of, drawing};
-    ghost use Rattle.dali_controller.specs.Next.{next_course, beginning, silenced, BeginsWith, draws, question};
+    ghost use Rattle.dali_controller.specs.Whole.{IsWhole, IsOpenedOn, IsVisitedOn};
+    ghost use Rattle.dali_controller.specs.Moments.{IsHeard, IsBetween, Settles, IsMoment, Begun, Enrolled};
+    ghost use Rattle.dali_controller.specs.Moments.{IsStep};
+    ghost use Rattle.dali_controller.specs.Legs.{is_searching, way_on};
+    ghost use Rattle.dali_controller.specs.Course.{opening, closing, going_on, turn_of};
+    ghost use Rattle.dali_controller.specs.Next.{next_course, beginning, silenced, BeginsWith, question};
     ghost use Rattle.dali_controller.specs.Machine.{machine_told};
     ghost use Rattle.dali_controller.specs.Orders.{AfterFinding, AfterEnrolled, IsFollowed, IsSought};
     ghost use Rattle.dali_script.specs.declared.records.Record.TheVariants.{Reserve, Enrol};
@@ -71,7 +85,8 @@ impl State {
         self.go_on(kept)
     }
 
-    /// The start of a survey: each short address is asked that is not accounted for, and then gear are woken.
+    /// The start of a survey: each short address is asked that is not accounted for, and then the roll is
+    /// called.
     pub(crate) fn survey(&mut self, kept: &Records<'_>) -> Order
         requires whole { IsWhole (machine_with self.old kept.now) }
         requires unstarted { self.old.last ≡ None }
@@ -86,14 +101,13 @@ impl State {
             from: 0,
             silences: 0,
         };
+        self.tally = Tally::NONE;
         self.go_on(kept)
     }
 
     /// The next transaction: before the opening was complete another visit or the opening, in a survey the next short
-    /// address or the waking; afterwards a new search.
+    /// address or the roll call; afterwards a new search.
     pub(crate) fn go_on(&mut self, kept: &Records<'_>) -> Order
-        requires { IsBetween (machine_with self.old kept.now) }
-
         ensures { Begun (machine_with self.old kept.now)
             (going_on kept.now (is_searching self.old.leg) (course_of self.old))
             result (machine_with self.new kept.now) }
@@ -105,42 +119,16 @@ impl State {
             }
             Leg::Asking { from, silences } => {
                 let (from, silences) = (*from, *silences);
-                self.ask_or_wake(kept, from, silences)
+                self.ask_or_call(kept, from, silences)
             }
             Leg::Searching(_) => self.search_anew(kept),
-            Leg::Hunting(up) => {
-                up.ascent.go_on();
-                let number = up.ascent.probe();
-                self.hunt(kept, number)
-            }
+            Leg::Hunting(_) => self.hunt_on(kept),
         }
     }
 
-    /// In a survey: whether gear draw new random addresses once no more can be given under the old ones.
-    pub(crate) fn draws(&self, kept: &Records<'_>) -> bool
-        ensures { result ≡ draws (machine_with self.now kept.now) }
-    {
-        matches!(self.leg.way(), Way::Surveying) && least_open(kept, self.heard).is_some()
-    }
-
-    /// In a survey, where no more can be given under the old random addresses: gear draw new ones.
-    pub(crate) fn draw(&mut self, kept: &Records<'_>) -> Order
-        requires { Draws (machine_with self.old kept.now) }
-
-        ensures { Begun (machine_with self.old kept.now) (drawing (course_of self.old))
-            result (machine_with self.new kept.now) }
-    {
-        let number = self.number;
-        let order = self.begin(kept, Purpose::Opening, number);
-        self.leg.note_draw();
-        order
-    }
-
     /// The transaction that lets all gear without short address draw a random address.
-    #[tactic(auto, using(crate::proofs::Steps::opens))]
     pub(crate) fn open(&mut self, kept: &Records<'_>) -> Order
-        requires between { IsBetween (machine_with self.old kept.now) }
-        requires early { is_searching self.old.leg ≡ false }
+        requires { IsOpenedOn (way_on self.old.leg) (is_searching self.old.leg) }
 
         ensures { Begun (machine_with self.old kept.now) (opening (course_of self.old))
             result (machine_with self.new kept.now) }
@@ -151,7 +139,7 @@ impl State {
 
     /// The transaction that ends the initialisation of all gear, before this end.
     pub(crate) fn close(&mut self, kept: &Records<'_>, end: End) -> Order
-        requires { Closes (machine_with self.old kept.now) end }
+        requires { is_searching self.old.leg ≡ true }
 
         ensures { Begun (machine_with self.old kept.now) (closing (course_of self.old) end)
             result (machine_with self.new kept.now) }
@@ -173,28 +161,12 @@ impl State {
         ensures whole { IsWhole (machine_with self.new kept.now) }
     {
         let stage = self.hear(kept, frame, heard);
-        if self.is_searched_next(&stage) {
-            self.search_first(kept)
-        } else {
-            self.after(kept, stage)
-        }
+        self.after(kept, stage)
     }
 
-    /// Whether gear are searched from now on: an opening is complete, or in a survey gear were woken.
-    fn is_searched_next(&self, stage: &Stage) -> bool
-        ensures { result ≡ is_searched_next stage.now self.now.purpose }
-    {
-        match *stage {
-            Stage::Opened => true,
-            Stage::Initialised => matches!(self.purpose, Purpose::Waking),
-            _ => false,
-        }
-    }
-
-    /// What follows at each stage of a transaction, but where gear are searched from now on.
+    /// What follows at each stage of a transaction.
     fn after(&mut self, kept: &Records<'_>, stage: Stage) -> Order
         requires heard { IsHeard (machine_with self.old kept.now) stage }
-        requires going { is_searched_next stage self.old.purpose ≡ false }
 
         ensures sent { (c : Command) → turn_of self.old.purpose self.old.number (stage_of self.old.trace) ≡ Some c
             → result ≡ order.Put LATER (frame_of c) }
@@ -206,20 +178,35 @@ impl State {
         ensures unconfirmed { (r : SearchAddress) (other : Option ℕ) → stage_of self.old.trace ≡ Inconclusive r other
             → result ≡ beginning (next_course (machine_with self.old kept.now)) }
         ensures hunted { (r : SearchAddress) (h : Answer) (left : ℕ) → stage_of self.old.trace ≡ Hunted r (Some h) left
+            → self.old.purpose ≡ purpose.Hunting
             → result ≡ question (next_course (machine_with self.old kept.now)) r left }
+        ensures called { (r : SearchAddress) (h : Answer) (left : ℕ) → stage_of self.old.trace ≡ Hunted r (Some h) left
+            → self.old.purpose ≡ purpose.Calling → call_turn (Some h) left ≡ None
+            → result ≡ beginning (next_course (machine_with self.old kept.now)) }
         ensures moment { IsMoment (machine_with self.old kept.now) result (machine_with self.new kept.now) }
     {
         match self.purpose.turn(self.number, &stage) {
-            Some(command) => self.put(kept, command),
+            Some(command) => self.turn(kept, &stage, command),
             None => self.over(kept, stage),
         }
+    }
+
+    /// The transaction goes on with the command of its turn.
+    fn turn(&mut self, kept: &Records<'_>, stage: &Stage, command: Command) -> Order
+        requires heard { IsHeard (machine_with self.old kept.now) stage.now }
+        requires turn { turn_of self.old.purpose self.old.number stage.now ≡ Some command }
+
+        ensures order { result ≡ order.Put LATER (frame_of command) }
+        ensures moment { IsMoment (machine_with self.old kept.now) result (machine_with self.new kept.now) }
+    {
+        let _ = stage;
+        self.put(kept, command)
     }
 
     /// What follows where the transaction sends no more, or PROGRAM SHORT ADDRESS.
     fn over(&mut self, kept: &Records<'_>, stage: Stage) -> Order
         requires heard { IsHeard (machine_with self.old kept.now) stage }
         requires over { turn_of self.old.purpose self.old.number stage ≡ None }
-        requires going { is_searched_next stage self.old.purpose ≡ false }
 
         ensures told { (b n : ℕ) → stage_of self.old.trace ≡ Spelled b (Some n)
             → IsSought self.old.purpose self.old.number n → AfterFinding (machine_with self.old kept.now) b n result }
@@ -229,25 +216,34 @@ impl State {
         ensures unconfirmed { (r : SearchAddress) (other : Option ℕ) → stage_of self.old.trace ≡ Inconclusive r other
             → result ≡ beginning (next_course (machine_with self.old kept.now)) }
         ensures hunted { (r : SearchAddress) (h : Answer) (left : ℕ) → stage_of self.old.trace ≡ Hunted r (Some h) left
+            → self.old.purpose ≡ purpose.Hunting
             → result ≡ question (next_course (machine_with self.old kept.now)) r left }
+        ensures called { (r : SearchAddress) (h : Answer) (left : ℕ) → stage_of self.old.trace ≡ Hunted r (Some h) left
+            → self.old.purpose ≡ purpose.Calling → call_turn (Some h) left ≡ None
+            → result ≡ beginning (next_course (machine_with self.old kept.now)) }
         ensures moment { IsMoment (machine_with self.old kept.now) result (machine_with self.new kept.now) }
     {
         match stage {
             Stage::Terminated => self.terminated(kept),
+            Stage::Opened | Stage::DrawBarred => self.search_first(kept),
             Stage::Probed(_, heard) => self.probed(kept, heard),
-            Stage::Hunted(sent, heard, left) => self.hunted(kept, sent, heard, left),
+            Stage::Hunted(sent, heard, left) => self.compared(kept, sent, heard, left),
             Stage::Unnamed(number) => self.unnamed(kept, number),
             Stage::Unanswered(number) => self.unanswered(kept, number),
             Stage::Inconclusive(..) => self.silenced(kept),
             Stage::Withdrawn(number, short) => self.withdrawn(kept, number, short),
+            Stage::PassedOver(_) => self.passed_over(kept),
             Stage::HighAsked(..) => self.asked_once(kept),
-            Stage::MiddleAsked(..) => self.go_on(kept),
+            Stage::MiddleAsked(..) => self.unheard(kept),
             Stage::Spelled(short, number) => self.resolved(kept, short, number),
             Stage::Free
             | Stage::InitialisedOnce
             | Stage::Initialised
+            | Stage::WokenHigh(_)
+            | Stage::WokenLow(..)
+            | Stage::WokenMiddle(..)
+            | Stage::DrawFree
             | Stage::RandomisedOnce
-            | Stage::Opened
             | Stage::HighSent(_)
             | Stage::MiddleSent(..)
             | Stage::NumberSent(_)
@@ -282,11 +278,13 @@ impl State {
         ensures starts { result ≡ beginning (next_course (machine_with self.old kept.now)) }
         ensures moment { IsMoment (machine_with self.old kept.now) result (machine_with self.new kept.now) }
     {
-        if self.silent == SILENT {
+        if self.silent == most_silent(self.leg.way()) {
             return self.close(kept, End::GaveUp);
         }
-        self.leg.begin_anew();
-        self.go_on(kept)
+        match self.leg {
+            Leg::Hunting(_) => self.missed(kept),
+            Leg::Revisiting { .. } | Leg::Asking { .. } | Leg::Searching(_) => self.go_on(kept),
+        }
     }
 
     /// The gear with this short address and this random address was found.
@@ -330,7 +328,8 @@ impl State {
         requires ordered { self.old.last ≡ Some (Commit added) }
         requires free { stage_of self.old.trace ≡ stage.Free }
         requires between { IsBetween (machine_with self.old kept.now) }
-        requires reserved { (a n : ℕ) → added ≡ Reserve a n → (n < MASK24) × HasRandom kept.now.reserved n }
+        requires reserved { (a n : ℕ) → added ≡ Reserve a n
+            → (n < MASK24) × IsVisitedOn (way_on self.old.leg) kept.now n (is_searching self.old.leg) }
         requires enrolled { (b n : ℕ) → added ≡ Enrol b n → Enrolled (machine_with self.old kept.now) b n }
 
         ensures enrolled { (b n : ℕ) → added ≡ Enrol b n → AfterEnrolled (machine_with self.old kept.now) b n result }

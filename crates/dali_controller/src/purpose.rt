@@ -1,7 +1,7 @@
 ghost use Rattle.std.specs.Prelude.{◌≡◌, ◌≤◌};
-ghost use Rattle.dali_controller.specs.Course.{search_turn, byte_to_send, bytes_to_send};
+ghost use Rattle.dali_controller.specs.Course.{search_turn, call_turn, byte_to_send, bytes_to_send};
 
-use dali_frame::{SearchAddress, Short};
+use dali_frame::{Answer, SearchAddress, Short};
 use dali_script::{End, Stage};
 use dali_special::{Command, Part, Target};
 
@@ -23,8 +23,14 @@ pub enum Purpose {
     Closing(End),
     /// To ask whoever has a short address for its random address, in a survey.
     Asking(Short),
-    /// To initialise all gear without short address, which keep their random addresses.
-    Waking,
+    /// To call the roll: to ask all gear without short address whether one of them is there, in a survey. Gear that
+    /// never drew a random address answer too.
+    Calling,
+    /// To let gear without short address draw a random address, unless one of them is heard that has drawn one, in a
+    /// survey.
+    Drawing,
+    /// To take the gear at a number out of the search, without a short address, in a survey: its visits failed.
+    PassingOver,
 }
 
 impl Purpose {
@@ -43,7 +49,9 @@ impl Purpose {
             | Purpose::Visiting
             | Purpose::Resolving(_)
             | Purpose::Asking(_)
-            | Purpose::Waking => None,
+            | Purpose::Calling
+            | Purpose::Drawing
+            | Purpose::PassingOver => None,
         }
     }
 
@@ -52,8 +60,10 @@ impl Purpose {
         ensures { result ≡ first_of self.now number }
     {
         match *self {
-            Purpose::Opening | Purpose::Closing(_) | Purpose::Waking => Command::Terminate,
-            Purpose::Probing | Purpose::Hunting | Purpose::Visiting => {
+            Purpose::Opening | Purpose::Calling | Purpose::Drawing | Purpose::Closing(_) => {
+                Command::Terminate
+            }
+            Purpose::Probing | Purpose::Hunting | Purpose::Visiting | Purpose::PassingOver => {
                 Command::SearchHigh(number.high)
             }
             Purpose::Resolving(short) | Purpose::Asking(short) => {
@@ -100,13 +110,42 @@ impl Purpose {
                 Stage::MiddleAsked(short, Some(_)) => Some(Command::RandomByte(short, Part::Low)),
                 _ => None,
             },
-            Purpose::Waking => match *stage {
+            Purpose::Calling => match *stage {
                 Stage::Terminated | Stage::InitialisedOnce => {
                     Some(Command::Initialise(Target::Unaddressed))
                 }
+                Stage::Initialised => Some(Command::SearchHigh(number.high)),
+                Stage::WokenHigh(_) => Some(Command::SearchLow(number.low)),
+                Stage::WokenLow(..) => Some(Command::SearchMiddle(number.middle)),
+                Stage::Hunted(_, last, left) => call_turn(last, left),
                 _ => None,
             },
+            Purpose::Drawing => match *stage {
+                Stage::Terminated | Stage::InitialisedOnce => {
+                    Some(Command::Initialise(Target::Unaddressed))
+                }
+                Stage::Initialised => Some(Command::SearchHigh(number.high)),
+                Stage::WokenHigh(_) => Some(Command::SearchMiddle(number.middle)),
+                Stage::WokenMiddle(..) => Some(Command::Compare),
+                Stage::DrawFree | Stage::RandomisedOnce => Some(Command::Randomise),
+                _ => None,
+            },
+            Purpose::PassingOver => match *stage {
+                Stage::NumberSent(_) => Some(Command::Withdraw),
+                _ => search_turn(number, stage),
+            },
         }
+    }
+}
+
+/// In a roll call COMPARE, and once more where the first was silent.
+pub(crate) fn call_turn(last: Option<Answer>, left: u8) -> Option<Command>
+    ensures { result ≡ call_turn last left }
+{
+    match last {
+        None => Some(Command::Compare),
+        Some(Answer::Silence) if left == 1 => Some(Command::Compare),
+        Some(Answer::Silence | Answer::Byte(_) | Answer::Damaged) => None,
     }
 }
 

@@ -1,7 +1,7 @@
 //! The moments of queries: whoever has a short address is asked for its random address.
 
 ghost use Rattle.std.specs.Prelude.{◌≡◌, ◌↔◌, ℕ, ◌<◌, false, Option, Some, None, IsTrue};
-ghost use Rattle.dali_frame.specs.Random.{value_of};
+ghost use Rattle.dali_frame.specs.Random.{value_of, MASK24};
 ghost use Rattle.dali_frame.specs.declared.numbers.SearchAddress.{SearchAddress};
 ghost use Rattle.dali_script.specs.declared.stage.Stage.TheVariants as stage;
 ghost use Rattle.dali_script.specs.Records.{Has};
@@ -15,23 +15,23 @@ use crate::state::State;
 use crate::surveying::next_asked;
 use dali_frame::{Random24, SearchAddress, Short};
 use dali_script::{Order, Records};
+use dali_search::Ascent;
 
 impl State {
     ghost use Rattle.dali_controller.specs.States.{machine_with, course_of};
     ghost use Rattle.dali_controller.specs.Legs.{is_searching, way_on};
-    ghost use Rattle.dali_controller.specs.Moments.{IsHeard, IsBetween, IsMoment, Begun};
-    ghost use Rattle.dali_controller.specs.Course.{resolving, turn_of, taking, ask_or_wake, next_asked, waking};
+    ghost use Rattle.dali_controller.specs.Moments.{IsHeard, IsMoment, Begun};
+    ghost use Rattle.dali_controller.specs.Course.{resolving, turn_of, taking, ask_or_call, next_asked};
     ghost use Rattle.dali_controller.specs.Next.{next_course, beginning};
     ghost use Rattle.dali_controller.specs.Orders.{AfterFinding, IsSought};
     ghost use Rattle.dali_script.specs.Stages.{stage_of};
 
-    /// In a survey: the next short address is asked, or gear are woken.
-    pub(crate) fn ask_or_wake(&mut self, kept: &Records<'_>, from: u8, silences: u8) -> Order
-        requires between { IsBetween (machine_with self.old kept.now) }
+    /// In a survey: the next short address is asked, or the roll is called for the first time.
+    pub(crate) fn ask_or_call(&mut self, kept: &Records<'_>, from: u8, silences: u8) -> Order
         requires asking { self.old.leg ≡ leg.Asking from silences }
 
         ensures { Begun (machine_with self.old kept.now)
-            (ask_or_wake (course_of self.old) (next_asked kept.now from))
+            (ask_or_call (course_of self.old) (next_asked kept.now from))
             result (machine_with self.new kept.now) }
     {
         match next_asked(kept, from) {
@@ -40,14 +40,15 @@ impl State {
                 self.leg = Leg::Asking { from, silences };
                 self.ask(kept, short)
             }
-            None => self.wake(kept),
+            None => {
+                self.leg = Leg::Hunting(Ascent::new());
+                self.call(kept)
+            }
         }
     }
 
     /// The transaction that asks whoever has a short address for its random address.
-    #[tactic(auto, using(crate::proofs::Steps::asks))]
     fn ask(&mut self, kept: &Records<'_>, short: Short) -> Order
-        requires between { IsBetween (machine_with self.old kept.now) }
         requires early { is_searching self.old.leg ≡ false }
         requires surveying { way_on self.old.leg ≡ way.Surveying }
         requires range { short < 64 }
@@ -77,30 +78,27 @@ impl State {
         self.begin(kept, same, number)
     }
 
-    /// The transaction that initialises all gear without short address, which keep their random addresses.
-    #[tactic(auto, using(crate::proofs::Steps::wakes))]
-    fn wake(&mut self, kept: &Records<'_>) -> Order
-        requires between { IsBetween (machine_with self.old kept.now) }
-        requires early { is_searching self.old.leg ≡ false }
-        requires surveying { way_on self.old.leg ≡ way.Surveying }
+    /// The second byte of a random address was not heard.
+    pub(crate) fn unheard(&mut self, kept: &Records<'_>) -> Order
+        requires heard { (b : ℕ) × (bytes : Option (ℕ × ℕ))
+            × IsHeard (machine_with self.old kept.now) (stage.MiddleAsked b bytes) }
+        requires over { turn_of self.old.purpose self.old.number (stage_of self.old.trace) ≡ None }
 
-        ensures { Begun (machine_with self.old kept.now) (waking (course_of self.old))
-            result (machine_with self.new kept.now) }
+        ensures { IsMoment (machine_with self.old kept.now) result (machine_with self.new kept.now) }
     {
-        let number = self.number;
-        self.begin(kept, Purpose::Waking, number)
+        self.go_on(kept)
     }
 
     /// The transaction that asks the gear with a short address for its random address.
-    #[tactic(auto, using(crate::proofs::Steps::resolves))]
     pub(crate) fn resolve(
         &mut self,
         kept: &Records<'_>,
         short: Short,
         number: SearchAddress,
     ) -> Order
-        requires heard { IsHeard (machine_with self.old kept.now) (stage.Unanswered number) }
         requires early { is_searching self.old.leg ≡ false }
+        requires drawn { value_of number < MASK24 }
+        requires short { short < 64 }
         requires reserved { Has kept.now.reserved (short, value_of number) }
 
         ensures { Begun (machine_with self.old kept.now) (resolving (course_of self.old) short number)
@@ -127,8 +125,18 @@ impl State {
     {
         match number {
             Some(random) if self.seeks(random) => self.settle(kept, short, random),
-            _ => self.go_on(kept),
+            _ => self.untold(kept, short, number),
         }
+    }
+
+    /// The gear with this short address told no random address that its queries were for.
+    fn untold(&mut self, kept: &Records<'_>, short: Short, number: Option<Random24>) -> Order
+        requires { IsHeard (machine_with self.old kept.now) (stage.Spelled short number) }
+
+        ensures starts { result ≡ beginning (next_course (machine_with self.old kept.now)) }
+        ensures moment { IsMoment (machine_with self.old kept.now) result (machine_with self.new kept.now) }
+    {
+        self.go_on(kept)
     }
 
     /// Whether gear that told this random address is what its queries were for: in a survey any that gear draw.
@@ -143,7 +151,9 @@ impl State {
             | Purpose::Visiting
             | Purpose::Resolving(_)
             | Purpose::Closing(_)
-            | Purpose::Waking => random == self.number.value(),
+            | Purpose::Calling
+            | Purpose::Drawing
+            | Purpose::PassingOver => random == self.number.value(),
         }
     }
 }

@@ -1,52 +1,48 @@
 //! The moments of a search.
 
-ghost use Rattle.std.specs.Prelude.{◌≡◌, ◌<◌, true};
+ghost use Rattle.std.specs.Prelude.{◌≡◌, ◌⊎◌, true};
 ghost use Rattle.dali_frame.specs.declared.numbers.SearchAddress.{SearchAddress};
 ghost use Rattle.dali_frame.specs.declared.frames.Answer.{Answer};
+ghost use Rattle.dali_script.specs.declared.stage.Stage.{Stage};
 ghost use Rattle.dali_script.specs.declared.stage.Stage.TheVariants as stage;
-ghost use Rattle.dali_script.specs.declared.orders.End.TheVariants.{AllFound};
 ghost use Rattle.dali_controller.specs.declared.way.Way.TheVariants as way;
 ghost use Rattle.dali_search.specs.declared.step.Step.TheVariants as search;
 ghost use Rattle.dali_controller.specs.Course.{is_yes};
 
-use crate::leg::{Leg, Upward};
+use crate::leg::Leg;
 use crate::moments::is_yes;
 use crate::purpose::Purpose;
 use crate::state::State;
 use crate::way::Way;
 use dali_frame::{Answer, Random24, SearchAddress};
 use dali_script::{End, Order, Records};
-use dali_search::{Ascent, Search, Step};
+use dali_search::{Search, Step};
 
 impl State {
     ghost use Rattle.dali_controller.specs.States.{machine_with, course_of};
-    ghost use Rattle.dali_controller.specs.Legs.{is_searching, way_on, way_drawn, silences_on, search_on};
-    ghost use Rattle.dali_controller.specs.Moments.{IsHeard, IsBetween, Closes, IsMoment, Begun, machine_searching};
-    ghost use Rattle.dali_controller.specs.Course.{probing, searching_anew, searching_first, hunting_first};
-    ghost use Rattle.dali_controller.specs.Next.{draws, draw_or_close};
+    ghost use Rattle.dali_controller.specs.Legs.{is_searching, way_on, search_on};
+    ghost use Rattle.dali_controller.specs.Moments.{IsHeard, IsMoment, Begun};
+    ghost use Rattle.dali_controller.specs.Course.{probing, searching_anew};
 
-    /// Gear are searched from now on: each search begins anew, but in a survey, where one goes up.
+    /// An opening is complete, or nobody draws: gear are searched from now on, in a survey with a search that has found
+    /// nobody.
     pub(crate) fn search_first(&mut self, kept: &Records<'_>) -> Order
-        requires between { IsBetween (machine_with self.old kept.now) }
-        requires rested { silences_on self.old.leg ≡ 0 }
+        requires heard { (s : Stage) × IsHeard (machine_with self.old kept.now) s
+            × ((s ≡ stage.Opened) ⊎ (s ≡ stage.DrawBarred)) }
 
-        ensures { Begun (machine_searching (machine_with self.old kept.now))
-            (searching_first (way_on self.old.leg) (course_of self.old))
-            result (machine_with self.new kept.now) }
+        ensures { IsMoment (machine_with self.old kept.now) result (machine_with self.new kept.now) }
     {
         match self.leg.way() {
             Way::Fresh => self.search_anew(kept),
-            Way::Surveying => self.hunt_first(kept, false),
-            Way::Drawing => self.hunt_first(kept, true),
+            Way::Surveying => self.hunt_first(kept),
         }
     }
 
     /// After a start: a new search.
     pub(crate) fn search_anew(&mut self, kept: &Records<'_>) -> Order
-        requires between { IsBetween (machine_with self.old kept.now) }
         requires fresh { way_on self.old.leg ≡ way.Fresh }
 
-        ensures { Begun (machine_searching (machine_with self.old kept.now)) (searching_anew (course_of self.old))
+        ensures { Begun (machine_with self.old kept.now) (searching_anew (course_of self.old))
             result (machine_with self.new kept.now) }
     {
         let search = Search::new();
@@ -55,25 +51,8 @@ impl State {
         self.probe(kept, number)
     }
 
-    /// In a survey: a search that has found nobody. Whether its gear drew new random addresses is told.
-    fn hunt_first(&mut self, kept: &Records<'_>, drew: bool) -> Order
-        requires between { IsBetween (machine_with self.old kept.now) }
-        requires rested { silences_on self.old.leg ≡ 0 }
-        requires drawn { way_on self.old.leg ≡ way_drawn drew }
-
-        ensures { Begun (machine_searching (machine_with self.old kept.now)) (hunting_first (course_of self.old))
-            result (machine_with self.new kept.now) }
-    {
-        let ascent = Ascent::new();
-        let number = ascent.probe();
-        self.leg = Leg::Hunting(Upward { ascent, drew });
-        self.hunt(kept, number)
-    }
-
     /// The transaction that asks whether some gear is at most the search's number.
-    #[tactic(auto, using(crate::proofs::Steps::probes))]
     pub(crate) fn probe(&mut self, kept: &Records<'_>, number: Random24) -> Order
-        requires between { IsBetween (machine_with self.old kept.now) }
         requires opened { is_searching self.old.leg ≡ true }
         requires fresh { way_on self.old.leg ≡ way.Fresh }
         requires running { (search_on self.old.leg).step ≡ search.Again }
@@ -100,22 +79,7 @@ impl State {
                 self.probe(kept, number)
             }
             Step::Found(found) => self.visit(kept, found),
-            Step::Nobody => self.nobody(kept),
-        }
-    }
-
-    /// Nobody answers the search any more.
-    pub(crate) fn nobody(&mut self, kept: &Records<'_>) -> Order
-        requires { Closes (machine_with self.old kept.now) AllFound }
-
-        ensures { Begun (machine_with self.old kept.now)
-            (draw_or_close (draws (machine_with self.old kept.now)) (course_of self.old) AllFound)
-            result (machine_with self.new kept.now) }
-    {
-        if self.draws(kept) {
-            self.draw(kept)
-        } else {
-            self.close(kept, End::AllFound)
+            Step::Nobody => self.close(kept, End::AllFound),
         }
     }
 }

@@ -1,4 +1,4 @@
-ghost use Rattle.std.specs.Prelude.{◌≡◌, ◌+◌, ◌<◌, ◌||◌, true, false, Some};
+ghost use Rattle.std.specs.Prelude.{◌≡◌, ◌+◌, ◌<◌, ◌||◌, false, Some};
 ghost use Rattle.dali_frame.specs.Priority.{FIRST, LATER};
 ghost use Rattle.dali_special.specs.Command.{frame_of};
 ghost use Rattle.dali_frame.specs.declared.numbers.SearchAddress.{SearchAddress};
@@ -14,11 +14,12 @@ ghost use Rattle.dali_controller.specs.Machine.{machine_told, is_complete, is_en
 ghost use Rattle.dali_controller.specs.Machine.{silent_after};
 ghost use Rattle.dali_controller.specs.Machine.{heard_after, asked_after};
 ghost use Rattle.dali_controller.specs.Machine.{marked_at, asked_at};
-ghost use Rattle.dali_controller.specs.Orders.{machine_ordered, AfterMaskOn};
+ghost use Rattle.dali_controller.specs.Orders.{machine_ordered, machine_ordered_on, AfterMaskOn};
 
 use crate::leg::Leg;
 use crate::purpose::{Purpose, byte_to_send};
 use crate::shorts::Shorts;
+use crate::tally::Tally;
 use dali_frame::{Answer, Forward, Priority, Random24, SearchAddress};
 use dali_script::{End, Fault, Finding, Order, Record, Records, Stage, Trace};
 use dali_special::Command;
@@ -52,14 +53,15 @@ pub struct State {
     pub leg: Leg,
     /// Under which short addresses a survey heard somebody whose random address it does not know.
     pub heard: Shorts,
+    /// What a survey has counted, and whose visits failed.
+    pub tally: Tally,
 }
 
 impl State {
     ghost use Rattle.dali_controller.specs.States.{machine_with, course_of};
-    ghost use Rattle.dali_controller.specs.Legs.{way_on, is_searching, silences_on};
-    ghost use Rattle.dali_controller.specs.Moments.{IsHeard, Begins, is_searched_next, machine_searching};
-    ghost use Rattle.dali_controller.specs.Whole.{IsWhole, Sends, IsReady};
-    ghost use Rattle.dali_controller.specs.Moments.{IsNext, Begun, AsksOn};
+    ghost use Rattle.dali_controller.specs.Legs.{way_on, is_searching, silences_on, search_on, ascent_on};
+    ghost use Rattle.dali_controller.specs.Moments.{IsHeard, IsNext, Begun};
+    ghost use Rattle.dali_controller.specs.Whole.{IsWhole, Sends, IsReady, Knows, IsStoredIn};
     ghost use Rattle.dali_controller.specs.Course.{closing_of, taking, byte_to_send};
 
     /// The same state once more.
@@ -77,6 +79,7 @@ impl State {
             number: self.number,
             leg: self.leg.copy(),
             heard: self.heard,
+            tally: self.tally,
         }
     }
 
@@ -133,7 +136,7 @@ impl State {
     {
         let is_front = matches!(
             self.purpose,
-            Purpose::Asking(_) | Purpose::Waking | Purpose::Hunting
+            Purpose::Asking(_) | Purpose::Calling | Purpose::Hunting
         );
         is_front
             && self
@@ -148,8 +151,16 @@ impl State {
     {
         match self.purpose {
             Purpose::Asking(_) => marked_at(&self.trace.stage(), heard, self.heard),
-            // No other transaction asks a short address.
-            _ => self.heard,
+            // No other transaction of a survey asks a short address.
+            Purpose::Opening
+            | Purpose::Probing
+            | Purpose::Hunting
+            | Purpose::Visiting
+            | Purpose::Resolving(_)
+            | Purpose::Closing(_)
+            | Purpose::Calling
+            | Purpose::Drawing
+            | Purpose::PassingOver => self.heard,
         }
     }
 
@@ -159,8 +170,16 @@ impl State {
     {
         match self.purpose {
             Purpose::Asking(_) => asked_at(&self.trace.stage(), heard, self.leg.silences()),
-            // No other transaction asks a short address.
-            _ => 0,
+            // No other transaction of a survey asks a short address.
+            Purpose::Opening
+            | Purpose::Probing
+            | Purpose::Hunting
+            | Purpose::Visiting
+            | Purpose::Resolving(_)
+            | Purpose::Closing(_)
+            | Purpose::Calling
+            | Purpose::Drawing
+            | Purpose::PassingOver => 0,
         }
     }
 
@@ -173,18 +192,13 @@ impl State {
         }
     }
 
-    /// Takes what was heard after the frame that was put, and says how far the transaction is. Where gear are searched
-    /// from now on, the leg is still the one before: the next order begins the search.
+    /// Takes what was heard after the frame that was put, and says how far the transaction is.
     pub(crate) fn hear(&mut self, kept: &Records<'_>, frame: Forward, heard: Answer) -> Stage
         requires whole { IsWhole (machine_with self.old kept.now) }
         requires put { frame_put self.old.last ≡ Some frame }
 
-        ensures told { is_searched_next result self.new.purpose ≡ false → machine_with self.new kept.now
+        ensures told { machine_with self.new kept.now
             ≡ machine_told (machine_with self.old kept.now) (input.Heard heard) }
-        ensures searched { is_searched_next result self.new.purpose ≡ true
-            → machine_searching (machine_with self.new kept.now)
-            ≡ machine_told (machine_with self.old kept.now) (input.Heard heard) }
-        ensures rested { is_searched_next result self.new.purpose ≡ true → silences_on self.new.leg ≡ 0 }
         ensures heard { IsHeard (machine_with self.new kept.now) result }
     {
         self.trace.push(frame, heard);
@@ -225,12 +239,11 @@ impl State {
         number: SearchAddress,
         sent: SearchAddress,
     ) -> Order
-        requires { AsksOn (machine_with self.old kept.now) number sent }
+        requires { self.old.purpose ≡ purpose.Hunting }
 
         ensures order { result ≡ order.Put LATER (frame_of (byte_to_send number sent)) }
-        ensures course { course_of self.new ≡ taking (course_of self.old) purpose.Hunting number }
-        ensures next { IsNext (machine_with self.old kept.now) result (machine_with self.new kept.now) }
-        ensures whole { IsWhole (machine_with self.new kept.now) }
+        ensures state { machine_with self.new kept.now ≡ machine_ordered_on (machine_with self.old kept.now)
+            (taking (course_of self.old) purpose.Hunting number) result }
     {
         let priority = Priority::LATER;
         let frame = byte_to_send(number, sent).write();
@@ -246,7 +259,8 @@ impl State {
         purpose: Purpose,
         number: SearchAddress,
     ) -> Order
-        requires { Begins (machine_with self.old kept.now) purpose number }
+        requires { Knows (way_on self.old.leg) kept.now number (search_on self.old.leg) (ascent_on self.old.leg)
+            (is_searching self.old.leg) purpose }
 
         ensures { Begun (machine_with self.old kept.now) (taking (course_of self.old) purpose number)
             result (machine_with self.new kept.now) }
@@ -266,6 +280,7 @@ impl State {
         requires going { closing_of self.old.purpose ≡ None }
         requires fits { Fits kept.now.block added }
         requires may { MayAdd kept.now added }
+        requires stored { IsStoredIn added self.old.purpose }
 
         ensures order { result ≡ order.Commit added }
         ensures course { course_of self.new ≡ course_of self.old }

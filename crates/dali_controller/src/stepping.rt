@@ -8,6 +8,7 @@ use crate::leg::Leg;
 use crate::purpose::Purpose;
 use crate::shorts::Shorts;
 use crate::state::State;
+use crate::tally::Tally;
 use dali_frame::SearchAddress;
 use dali_script::{Due, Input, Order, Record, Records, Trace};
 
@@ -33,6 +34,7 @@ impl State {
             number: SearchAddress::MASK,
             leg: Leg::Revisiting { from: 0 },
             heard: Shorts::NONE,
+            tally: Tally::NONE,
         }
     }
 

@@ -21,15 +21,14 @@ use dali_special::Command;
 impl State {
     ghost use Rattle.dali_controller.specs.States.{machine_with, course_of};
     ghost use Rattle.dali_controller.specs.Legs.{is_searching, way_on};
-    ghost use Rattle.dali_controller.specs.Moments.{IsHeard, IsBetween, IsMoment, Begun, IsFirstFree, IsUngiven};
+    ghost use Rattle.dali_controller.specs.Moments.{IsHeard, IsMoment, Begun, IsFirstFree, IsUngiven};
+    ghost use Rattle.dali_controller.specs.Whole.{IsVisitedOn};
     ghost use Rattle.dali_controller.specs.Course.{visiting, visit_or_opening, next_unfinished, address_for};
-    ghost use Rattle.dali_controller.specs.Next.{draws};
     ghost use Rattle.dali_controller.specs.Machine.{is_withheld, withholds};
     ghost use Rattle.dali_script.specs.declared.records.Record.TheVariants.{Reserve};
 
     /// Before the opening was complete: a visit to the next unfinished reservation, or the opening.
     pub(crate) fn visit_or_open(&mut self, kept: &Records<'_>, from: u8) -> Order
-        requires between { IsBetween (machine_with self.old kept.now) }
         requires revisiting { self.old.leg ≡ leg.Revisiting from }
 
         ensures { Begun (machine_with self.old kept.now)
@@ -46,11 +45,9 @@ impl State {
     }
 
     /// The transaction that asks the gear at a number for its short address.
-    #[tactic(auto, using(crate::proofs::Steps::visits))]
     pub(crate) fn visit(&mut self, kept: &Records<'_>, number: Random24) -> Order
-        requires between { IsBetween (machine_with self.old kept.now) }
         requires drawn { number < MASK24 }
-        requires reserved { is_searching self.old.leg ≡ false → HasRandom kept.now.reserved number }
+        requires may { IsVisitedOn (way_on self.old.leg) kept.now number (is_searching self.old.leg) }
 
         ensures { Begun (machine_with self.old kept.now) (visiting (course_of self.old) number)
             result (machine_with self.new kept.now) }
@@ -125,12 +122,11 @@ impl State {
     {
         match self.leg.way() {
             Way::Fresh => kept.first_free(),
-            Way::Surveying | Way::Drawing => least_open(kept, self.heard),
+            Way::Surveying => least_open(kept, self.heard),
         }
     }
 
-    /// The gear at this number has no short address, and none can be given to it: it draws a new random address, or is
-    /// left.
+    /// The gear at this number has no short address, and none can be given to it.
     fn leave(&mut self, kept: &Records<'_>, number: SearchAddress) -> Order
         requires heard { IsHeard (machine_with self.old kept.now) (stage.Unnamed number) }
         requires opened { is_searching self.old.leg ≡ true }
@@ -138,10 +134,9 @@ impl State {
 
         ensures { IsMoment (machine_with self.old kept.now) result (machine_with self.new kept.now) }
     {
-        if self.draws(kept) {
-            self.draw(kept)
-        } else {
-            self.close(kept, End::BlockFull)
+        match self.leg.way() {
+            Way::Fresh => self.close(kept, End::BlockFull),
+            Way::Surveying => self.ungiven(kept),
         }
     }
 

@@ -5,15 +5,16 @@ ghost use Rattle.dali_special.specs.Command.{command_of};
 ghost use Rattle.dali_script.specs.Records.{Fits, MayAdd, Has, HasRandom};
 ghost use Rattle.dali_script.specs.Stages.{stage_of};
 ghost use Rattle.dali_script.specs.declared.stage.Stage.TheVariants as stage;
-ghost use Rattle.dali_controller.specs.declared.purpose.Purpose.TheVariants.{Opening, Resolving, Asking, Hunting};
+ghost use Rattle.dali_controller.specs.declared.purpose.Purpose.TheVariants.{Opening, Resolving, Asking};
 ghost use Rattle.dali_controller.specs.declared.way.Way.TheVariants.{Fresh};
 ghost use Rattle.dali_controller.specs.Whole.{IsWithinSilence, IsMet};
 
 use crate::leg::Leg;
-use crate::moments::{SILENT, TRIES};
-use crate::purpose::{Purpose, byte_to_send, bytes_to_send};
+use crate::moments::{TRIES, most_silent};
+use crate::purpose::{Purpose, byte_to_send, bytes_to_send, call_turn};
 use crate::state::State;
-use dali_frame::{Forward, Random24, SearchAddress, Short};
+use crate::way::Way;
+use dali_frame::{Answer, Forward, Random24, SearchAddress, Short};
 use dali_script::{End, Order, Record, Records, Stage};
 use dali_search::Step;
 use dali_special::Command;
@@ -21,8 +22,9 @@ use dali_special::Command;
 impl State {
     ghost use Rattle.dali_controller.specs.States.{machine_with};
     ghost use Rattle.dali_controller.specs.Legs.{way_on, is_searching, from_on, search_on, ascent_on};
-    ghost use Rattle.dali_controller.specs.Course.{turn_of, byte_to_send, bytes_to_send};
-    ghost use Rattle.dali_controller.specs.Whole.{IsWhole, IsReady, Knows, Sends, IsChosen};
+    ghost use Rattle.dali_controller.specs.Course.{turn_of};
+    ghost use Rattle.dali_controller.specs.Whole.{IsWhole, IsReady, Knows, Sends, IsChosen, AsksOn, IsVisitedOn};
+    ghost use Rattle.dali_controller.specs.Whole.{IsStoredIn};
 
     /// Whether the last order is one that a machine gives in this state.
     pub fn is_whole(&self, kept: &Records<'_>) -> bool
@@ -35,6 +37,7 @@ impl State {
                 self.is_ready(kept)
                     && self.is_free()
                     && self.purpose.end().is_none()
+                    && self.is_stored_in(&added)
                     && self.may_keep(kept, added)
             }
             Some(Order::Done(_) | Order::Halt(_)) => true,
@@ -63,10 +66,22 @@ impl State {
         kept.fits(&added) && kept.refusal(&added).is_none()
     }
 
+    /// Whether its transaction is one that leads to the record.
+    fn is_stored_in(&self, added: &Record) -> bool
+        ensures { IsTrue result ↔ IsStoredIn added.now self.now.purpose }
+    {
+        match added {
+            Record::Reserve(..) => matches!(self.purpose, Purpose::Visiting),
+            Record::Enrol(..) | Record::Release(..) => true,
+        }
+    }
+
     fn is_ready(&self, kept: &Records<'_>) -> bool
         ensures { IsTrue result ↔ IsReady (machine_with self.now kept.now) }
     {
-        self.tries < TRIES && is_within_silence(self.purpose, self.silent) && self.knows(kept)
+        self.tries < TRIES
+            && is_within_silence(self.leg.way(), self.purpose, self.silent)
+            && self.knows(kept)
     }
 
     /// Whether what is known while its transaction runs is so.
@@ -76,20 +91,20 @@ impl State {
             (ascent_on self.now.leg) (is_searching self.now.leg) self.now.purpose }
     {
         let number = self.number.value();
+        let is_hunting = matches!(self.leg, Leg::Hunting(_));
         match self.purpose {
-            Purpose::Opening => !matches!(self.leg, Leg::Searching(_)),
+            Purpose::Opening => matches!(self.leg, Leg::Revisiting { .. } | Leg::Hunting(_)),
+            Purpose::Calling => is_hunting && number == Random24::MASK,
+            Purpose::Drawing | Purpose::PassingOver => is_hunting,
             Purpose::Probing => match &self.leg {
                 Leg::Searching(search) => search.step() == Step::Again && number == search.probe(),
                 Leg::Revisiting { .. } | Leg::Asking { .. } | Leg::Hunting(_) => false,
             },
             Purpose::Hunting => match &self.leg {
-                Leg::Hunting(up) => up.ascent.step() == Step::Again && number == up.ascent.probe(),
+                Leg::Hunting(ascent) => ascent.step() == Step::Again && number == ascent.probe(),
                 Leg::Revisiting { .. } | Leg::Asking { .. } | Leg::Searching(_) => false,
             },
-            Purpose::Visiting => {
-                number < Random24::MASK
-                    && (self.leg.is_searching() || self.is_visited(kept, number))
-            }
+            Purpose::Visiting => number < Random24::MASK && self.may_visit(kept, number),
             Purpose::Resolving(short) => {
                 !self.leg.is_searching()
                     && number < Random24::MASK
@@ -99,7 +114,18 @@ impl State {
             Purpose::Asking(short) => {
                 matches!(self.leg, Leg::Asking { .. }) && short.number() < 64
             }
-            Purpose::Waking => matches!(self.leg, Leg::Asking { .. }),
+        }
+    }
+
+    /// Whether gear at this number may be visited: once gear are searched any, before that those for which an address
+    /// is reserved.
+    fn may_visit(&self, kept: &Records<'_>, number: Random24) -> bool
+        ensures { IsTrue result ↔ IsVisitedOn (way_on self.now.leg) kept.now number (is_searching self.now.leg) }
+    {
+        match self.leg {
+            Leg::Searching(_) | Leg::Hunting(_) => true,
+            Leg::Revisiting { .. } => self.is_visited(kept, number),
+            Leg::Asking { .. } => false,
         }
     }
 
@@ -144,20 +170,37 @@ impl State {
             Stage::Unnamed(number) => {
                 matches!(self.purpose, Purpose::Visiting) && number == self.number
             }
-            Stage::Hunted(sent, _, left) => self.asks(sent, left, command),
+            Stage::Hunted(sent, last, left) => self.asks(sent, last, left, command),
             _ => self.turns(stage, command),
         }
     }
 
-    /// Whether a hunt sends this command after those that have sent a search address, where so many frames may follow.
-    fn asks(&self, sent: SearchAddress, left: u8, command: Command) -> bool
-        ensures { IsTrue result ↔ ((self.now.purpose ≡ Hunting) × (command ≡ byte_to_send self.now.number sent)
-            × (bytes_to_send self.now.number sent < left)) }
+    /// Whether a hunt or a roll call sends this command after those that have sent a search address, where so many
+    /// frames may follow.
+    fn asks(&self, sent: SearchAddress, last: Option<Answer>, left: u8, command: Command) -> bool
+        ensures { IsTrue result ↔ AsksOn self.now.purpose self.now.number sent last left command }
     {
-        let is_hunting = matches!(self.purpose, Purpose::Hunting);
-        is_hunting
-            && command == byte_to_send(self.number, sent)
-            && bytes_to_send(self.number, sent) < left
+        match self.purpose {
+            Purpose::Hunting => {
+                command == byte_to_send(self.number, sent)
+                    && bytes_to_send(self.number, sent) < left
+            }
+            Purpose::Calling => {
+                let is_turn = match call_turn(last, left) {
+                    Some(turn) => turn == command,
+                    None => false,
+                };
+                is_turn && sent == self.number && left > 0
+            }
+            Purpose::Opening
+            | Purpose::Probing
+            | Purpose::Visiting
+            | Purpose::Resolving(_)
+            | Purpose::Closing(_)
+            | Purpose::Asking(_)
+            | Purpose::Drawing
+            | Purpose::PassingOver => false,
+        }
     }
 
     /// Whether the transaction sends this command at a stage past the first, but PROGRAM SHORT ADDRESS.
@@ -173,11 +216,11 @@ impl State {
 }
 
 /// Whether the count of silent searches is below its limit, but for a close that was begun for it.
-fn is_within_silence(purpose: Purpose, silent: u8) -> bool
-    ensures { IsTrue result ↔ IsWithinSilence purpose silent }
+fn is_within_silence(way: Way, purpose: Purpose, silent: u8) -> bool
+    ensures { IsTrue result ↔ IsWithinSilence way purpose silent }
 {
     match purpose {
-        Purpose::Closing(End::GaveUp) => silent <= SILENT,
+        Purpose::Closing(End::GaveUp) => silent <= most_silent(way),
         Purpose::Closing(_)
         | Purpose::Opening
         | Purpose::Probing
@@ -185,7 +228,9 @@ fn is_within_silence(purpose: Purpose, silent: u8) -> bool
         | Purpose::Visiting
         | Purpose::Resolving(_)
         | Purpose::Asking(_)
-        | Purpose::Waking => silent < SILENT,
+        | Purpose::Calling
+        | Purpose::Drawing
+        | Purpose::PassingOver => silent < most_silent(way),
     }
 }
 
@@ -194,9 +239,13 @@ fn is_met(stage: &Stage, purpose: Purpose, number: SearchAddress) -> bool
     ensures { IsTrue result ↔ IsMet stage.now purpose number }
 {
     match *stage {
-        Stage::HighSent(high) => number.high == high,
-        Stage::MiddleSent(high, middle) => number.high == high && number.middle == middle,
-        Stage::LowSent(high, low) => number.high == high && number.low == low,
+        Stage::HighSent(high) | Stage::WokenHigh(high) => number.high == high,
+        Stage::MiddleSent(high, middle) | Stage::WokenMiddle(high, middle) => {
+            number.high == high && number.middle == middle
+        }
+        Stage::LowSent(high, low) | Stage::WokenLow(high, low) => {
+            number.high == high && number.low == low
+        }
         Stage::NumberSent(sent)
         | Stage::Hunted(sent, ..)
         | Stage::Probed(sent, _)
@@ -206,7 +255,8 @@ fn is_met(stage: &Stage, purpose: Purpose, number: SearchAddress) -> bool
         | Stage::Inconclusive(sent, _)
         | Stage::Programmed(sent, _)
         | Stage::Confirmed(sent, _)
-        | Stage::Withdrawn(sent, _) => number == sent,
+        | Stage::Withdrawn(sent, _)
+        | Stage::PassedOver(sent) => number == sent,
         Stage::HighAsked(asked, _) | Stage::MiddleAsked(asked, _) => asks(purpose, asked),
         _ => true,
     }
@@ -223,6 +273,8 @@ fn asks(purpose: Purpose, asked: Short) -> bool
         | Purpose::Hunting
         | Purpose::Visiting
         | Purpose::Closing(_)
-        | Purpose::Waking => false,
+        | Purpose::Calling
+        | Purpose::Drawing
+        | Purpose::PassingOver => false,
     }
 }

@@ -2,6 +2,7 @@
 pub mod Halves
 pub mod Opening
 pub mod AllFound
+pub mod Called
 pub mod Wanted
 pub mod Leaving
 pub mod Heard

@@ -8,5 +8,6 @@ pub mod Runs
 pub mod Promise
 pub mod Laws
 pub mod Searching
+pub mod Calling
 pub mod Wanted
 pub mod Troubles

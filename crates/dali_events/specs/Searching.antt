@@ -2,7 +2,7 @@ use Rattle.std.specs.Prelude.{◌≡◌, ℕ, ◌<◌, true, List, [], ◌∷◌
 use Rattle.dali_frame.specs.declared.frames.Forward.{Forward}
 use Rattle.dali_frame.specs.declared.numbers.SearchAddress.{SearchAddress}
 use Rattle.dali_frame.specs.Random.{value_of}
-use Rattle.dali_special.specs.declared.command.Command.TheVariants.{Terminate, Compare}
+use Rattle.dali_special.specs.declared.command.Command.TheVariants.{Terminate, Compare, Withdraw}
 use Rattle.dali_special.specs.Command.{command_of}
 use Rattle.dali_gear.specs.declared.row.Reach.TheVariants.{Everyone}
 use Rattle.dali_gear.specs.Gear.{Gear, is_active}
@@ -13,11 +13,12 @@ use Rattle.dali_script.specs.declared.stage.Stage.TheVariants.{NumberSent, Hunte
 use Rattle.dali_script.specs.declared.stage.Stage.TheVariants.{Programmed, Confirmed}
 use Rattle.dali_script.specs.Scripts.{Open, steps, IsFront}
 use Rattle.dali_script.specs.Findings.{search_of}
+use Rattle.dali_script.specs.Stages.{stage_of}
 use Rattle.dali_events.specs.declared.event.Event.{Event}
 use Rattle.dali_events.specs.declared.event.Event.TheVariants as event
 use Rattle.dali_events.specs.Plan.{Plan}
 use Rattle.dali_events.specs.World.{World, gear_at}
-use Rattle.dali_events.specs.Happens.{trace_running}
+use Rattle.dali_events.specs.Happens.{trace_running, happens}
 use Rattle.dali_events.specs.Runs.{after, IsRun}
 
 -- WHAT THE LAWS SAY OF GEAR AND FRAMES.
@@ -31,7 +32,7 @@ abbrev pub EachActive : World → (Gear → Type 0) → Type 0
 EachActive w P = EachPowered w (λ g. is_active g.state ≡ true → P g)
 
 -- the search address of a transaction: from the third of its search bytes on, until the COMPARE of
--- a probe or a WITHDRAW; in a hunt always
+-- a probe or a WITHDRAW; in a hunt and in a roll call always
 abbrev pub number_at : Stage → Option SearchAddress
 number_at (NumberSent r) = Some r
 number_at (Hunted r last left) = Some r
@@ -61,6 +62,22 @@ IsCalm (event.Up c kept) = Unit {0}
 abbrev pub AreCalm : List Event → Type 0
 AreCalm [] = Unit {0}
 AreCalm (e ∷ es) = IsCalm e × AreCalm es
+
+-- and nobody was passed over: WITHDRAW was not sent where gear were not asked for their short
+-- address
+abbrev pub PassesOver : World → ℕ → Forward → Type 0
+PassesOver w c f =
+    (command_of f ≡ Withdraw)
+    × ((r : SearchAddress) × (stage_of (trace_running w c) ≡ NumberSent r))
+
+abbrev pub PassesNobody : World → Event → Type 0
+PassesNobody w (event.Sent c f h) = PassesOver w c f → ⊥
+PassesNobody w (event.Destroyed c f set) = PassesOver w c f → ⊥
+PassesNobody w _ = Unit {0}
+
+abbrev pub PassNobody : World → List Event → Type 0
+PassNobody w [] = Unit {0}
+PassNobody w (e ∷ es) = PassesNobody w e × PassNobody (happens w e) es
 
 -- controller c owns the bus, and this frame is the last of its opening
 pub record CompletesOpening (w : World) (c : ℕ) (f : Forward) : Type 0 where
@@ -97,7 +114,13 @@ pub record SearchesAll (p : Plan) (capacity : ℕ) (front : List Event) (c : ℕ
       c last.frame
   -- and from then on
   pub calm_since : AreCalm middle
+  pub nobody_passed : PassNobody (after p capacity (up_to_compare front c first opening last []))
+      middle
   pub compare_sent : command_of compare.frame ≡ Compare
+  pub searched : (r : SearchAddress)
+      × (number_at (stage_of
+      (trace_running (after p capacity (up_to_compare front c first opening last middle)) c))
+      ≡ Some r)
   pub highest : value_of
       (search_of (trace_running (after p capacity (up_to_compare front c first opening last middle))
       c)) ≡ HIGHEST

@@ -35,6 +35,7 @@ ghost use Rattle.dali_events.specs.Laws.{KeepsRecords};
 ghost use Rattle.dali_events.specs.Events.{frame_in};
 ghost use Rattle.dali_events.specs.Searching.{EachPowered, EachActive, number_at, sent_event, up_to_compare};
 ghost use Rattle.dali_events.specs.Searching.{SearchesAll, NobodyAnswers, HasShort};
+ghost use Rattle.dali_events.specs.Calling.{CallsFor, IsCalled};
 
 /// The plain hearing of a row of gear is one that may be heard.
 pub fn plain_hearing_is_heard()
@@ -166,6 +167,16 @@ pub fn silence_is_nobody()
 pub fn records_are_kept()
     ensures { (p : Plan) (capacity : ℕ) (front rest : List Event) → IsRun p capacity (front ++ rest)
         → KeepsRecords p (after p capacity front) }
+{}
+
+/// ROLL CALLS ARE ANSWERED, gear by gear, in every run. Where a controller initialises gear, and in the same
+/// transaction asks with COMPARE who is at most `FFFFFF`, each gear that had power from the first INITIALISE on has a
+/// short address by then, or answers. Its initialisation did not run out in that time, and the bus was not quiet
+/// between the two INITIALISE. Nothing is supposed of other gear, of other controllers or of what happened before.
+pub fn roll_calls_are_answered()
+    ensures { (p : Plan) (capacity : ℕ) (front : List Event) (c : ℕ) (first : Entry) (es : List Event) (compare : Entry)
+        (g : ℕ) → CallsFor p capacity front c first es compare g
+        → IsCalled (after p capacity (front ++ sent_event c first ∷ es)) g }
 {}
 
 /// ALL FOUND IS TRUE. Where a controller sent a whole opening, and later a COMPARE under the search address `FFFFFE`

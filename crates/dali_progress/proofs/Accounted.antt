@@ -30,7 +30,7 @@ use Rattle.dali_controller.specs.declared.shorts.Shorts.{Shorts}
 use Rattle.dali_controller.specs.Shorts.{has_short, with_short, without_short}
 use Rattle.dali_controller.specs.Machine.{Machine, machine_told, machine_heard, machine_committed, heard_after, marked_at, is_withheld, is_withheld_by}
 use Rattle.dali_controller.specs.declared.way.Way.{Way}
-use Rattle.dali_controller.specs.declared.way.Way.TheVariants.{Fresh, Surveying, Drawing}
+use Rattle.dali_controller.specs.declared.way.Way.TheVariants.{Fresh, Surveying}
 use Rattle.dali_controller.specs.Course.{Course, first_of, number_at, address_for, is_open, open_among, least_open, is_another, is_anothers}
 use Rattle.dali_controller.specs.Next.{course_by, next_course, beginning}
 use Rattle.dali_frame.specs.Priority.{FIRST, LATER}
@@ -259,7 +259,6 @@ surveys_open : (y : Way) (t : Machine) (c : Course) (r : SearchAddress) (a n : �
     → is_open t.kept t.heard a ≡ true
 surveys_open Fresh t c r a n other is = absurd (other refl)
 surveys_open Surveying t c r a n other is = reserves_open t r a n (address_for t.kept.reserved (value_of r)) (least_open t.kept t.heard) refl is
-surveys_open Drawing t c r a n other is = reserves_open t r a n (address_for t.kept.reserved (value_of r)) (least_open t.kept t.heard) refl is
 
 ordered_open : (t : Machine) (a n : ℕ) → (t.course.way ≡ Fresh → ⊥) → IsOrdered t (Commit (Reserve a n)) → is_open t.kept t.heard a ≡ true
 ordered_open t a n other ordered =
@@ -302,10 +301,10 @@ false_both : (one two : Bool) → (one || two) ≡ false → (one ≡ false) × 
 false_both true two e = absurd (cc)
 false_both false two e = (refl, e)
 
-unwithheld : (t : Machine) (y : Way) (a r : ℕ) → (y ≡ Fresh → ⊥) → t.opened ≡ true → is_withheld_by t y a r ≡ false → is_anothers t.kept t.heard a r ≡ false
+unwithheld : (t : Machine) (y : Way) (a r : ℕ) → (y ≡ Fresh → ⊥) → t.course.opened ≡ true → is_withheld_by t y a r ≡ false
+    → is_anothers t.kept t.heard a r ≡ false
 unwithheld t Fresh a r other opened e = absurd (other refl)
 unwithheld t Surveying a r other opened e = ap (λ o. o && is_anothers t.kept t.heard a r) (sym opened) ∙ e
-unwithheld t Drawing a r other opened e = ap (λ o. o && is_anothers t.kept t.heard a r) (sym opened) ∙ e
 
 same_number : (k r : ℕ) → not (k == r) ≡ false → k ≡ r
 same_number k r e = grind (arith, nat_tests)
@@ -332,10 +331,10 @@ programs_own t q a o false is p f put later = refl
 pub surveyed_mask : (y : Way) (t : Machine) (c : Course) (q : SearchAddress) (o : Order) → (y ≡ Fresh → ⊥) → AfterMaskOn y t c q o → AfterMaskSurveyed t q o
 surveyed_mask Fresh t c q o other is = absurd (other refl)
 surveyed_mask Surveying t c q o other is = is
-surveyed_mask Drawing t c q o other is = is
 
 -- so where somebody was heard, the address is the gear's own
-gives_own : (t : Machine) (q : SearchAddress) (a : ℕ) (p : ℕ) (f : Forward) → (t.course.way ≡ Fresh → ⊥) → t.opened ≡ true → stage_of t.trace ≡ stage.Unnamed q
+gives_own : (t : Machine) (q : SearchAddress) (a : ℕ) (p : ℕ) (f : Forward) → (t.course.way ≡ Fresh → ⊥) → t.course.opened ≡ true
+    → stage_of t.trace ≡ stage.Unnamed q
     → address_for t.kept.reserved (value_of q) ≡ Some a → IsOrdered t (Put p f) → p ≡ LATER → IsAccounted (machine_ordered t (Put p f)) a
     → Has t.kept.enrolled (a, value_of q)
 gives_own t q a p f other opened told reserved ordered later held =
@@ -359,14 +358,14 @@ given_ordered m input.CommitFailed p f answered = absurd (cc)
 given_ordered m _ p f answered = answered
 
 pub never_given : (s : Step) (earlier : List Step) (n : Machine) (a : ℕ) (q : SearchAddress) (f : Forward) → a < 64 → IsCourse (s ∷ earlier) n
-    → ArePlain (s ∷ earlier) → s.order ≡ Put LATER f → (n.course.way ≡ Fresh → ⊥) → n.opened ≡ true → stage_told s ≡ stage.Unnamed q
+    → ArePlain (s ∷ earlier) → s.order ≡ Put LATER f → (n.course.way ≡ Fresh → ⊥) → n.course.opened ≡ true → stage_told s ≡ stage.Unnamed q
     → address_for n.kept.reserved (value_of q) ≡ Some a → WasHeard (s ∷ earlier) a → Has n.kept.enrolled (a, value_of q)
 never_given s earlier n a q f small course plain is other opened told reserved heard =
     let t : Machine = machine_told s.before s.told in
     let after : n ≡ machine_ordered t (Put LATER f) = course.1.after ∙ ap (machine_ordered t) is in
     let own =
     gives_own t q a LATER f (λ e. other (ap (λ (x : Machine). x.course.way) (after ∙ later_leaves t f (stage.Unnamed q) told tt) ∙ e))
-    (sym (ap (λ (x : Machine). x.opened) after) ∙ opened) told
+    (sym (ap (λ (x : Machine). x.course.opened) (after ∙ later_leaves t f (stage.Unnamed q) told tt)) ∙ opened) told
     (sym (ap (λ (x : Machine). address_for x.kept.reserved (value_of q)) after) ∙ reserved)
     (given_ordered s.before s.told LATER f (subst (IsAnswered s.before s.told) is course.1.given.answered)) refl
     (subst (λ (x : Machine). IsAccounted x a) after (accounted (s ∷ earlier) n a small course plain heard)) in

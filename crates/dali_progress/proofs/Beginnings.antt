@@ -1,26 +1,30 @@
-use Rattle.dali_progress.specs.Rounds.{most_events, Beginning, most_frames, Any, Rounds, GoesOn, by_survey, IsAlone, HasEnded, ByStart, frames, Settled, bare}
+use Rattle.dali_progress.specs.Rounds.{most_events, most_draws, Beginning, most_frames, Any, Rounds, GoesOn, by_survey, IsAlone, HasEnded, ByStart, frames}
+use Rattle.dali_progress.specs.Rounds.{Settled, bare}
 use Rattle.dali_progress.specs.Rounds.{HasNext, IsSettled, site_after, BeginsAlone}
 use Rattle.dali_progress.specs.Ends.{NamesAll, IsTrueEnd, table_at}
 use Rattle.dali_progress.proofs.Lone.{due_by, IsDueIn, IsLone}
-use Rattle.std.proofs.Common.{◌≡◌, ℕ, ◌+◌, ◌≤◌, ◌⊎◌, None, inl, inr, List, refl, sym, subst, arith, length, Some, true, false}
+use Rattle.std.proofs.Common.{◌≡◌, ℕ, ◌+◌, ◌*◌, ◌≤◌, ◌⊎◌, None, inl, inr, Bool, List, refl, sym, subst, arith, length, Some, true, false}
 use Rattle.dali_arbiter.specs.Arbiter.{next}
 use Rattle.dali_script.specs.declared.orders.Order.TheVariants.{Halt}
 use Rattle.dali_script.specs.declared.orders.End.{End}
-use Rattle.dali_controller.specs.Machine.{Machine}
+use Rattle.dali_controller.specs.Machine.{Machine, at_first}
 use Rattle.dali_events.specs.declared.event.Event.{Event}
 use Rattle.dali_events.specs.World.{controller_at}
-use Rattle.dali_world.specs.Site.{SiteState, world, IsPumpRefused}
+use Rattle.dali_world.specs.Site.{SiteState, world, machine_at, IsPumpRefused}
+use Rattle.dali_standing.specs.Seats.{informed_by}
 use Rattle.dali_standing.specs.declared.refusal.Refusal.TheVariants as refusal
 use Rattle.dali_events.specs.declared.trouble.Trouble.TheVariants as trouble
 use Rattle.dali_script.specs.declared.orders.Fault.{Fault}
-use Rattle.dali_progress.proofs.Along.{Measure, Argument, RunsAll, runs_all, few_all, never_halts}
+use Rattle.dali_progress.proofs.Logged.{same_some}
+use Rattle.dali_progress.proofs.Along.{Measure, Argument, Runs, RunsAll, runs_all, few_all, never_halts}
 use Rattle.dali_progress.proofs.Start.Goes.{of_start}
 use Rattle.dali_progress.proofs.Survey.Goes.{of_survey}
 use Rattle.dali_progress.proofs.Start.Bounded as start
 use Rattle.dali_progress.proofs.Survey.Bounded as survey
 use Rattle.dali_progress.proofs.Drawing as drawing
 use Rattle.dali_progress.proofs.Start.Numbers.{LeavesDraws, start_draws}
-use Rattle.dali_progress.proofs.Survey.Numbers.{HasNumbers, survey_draws}
+use Rattle.dali_progress.proofs.Survey.Stands.{most_drawn}
+use Rattle.dali_progress.proofs.Survey.Numbers.{numbers_for, HasNumbers, survey_draws}
 
 -- THE LAWS BY CASES, over what is proved of a start and of a survey.
 
@@ -129,16 +133,25 @@ named Any s c es e a rounds ended =
 
 -- ---------------------------------------------------------------- its numbers
 
-survey_spent : (s : SiteState) (c : ℕ) (es : List Event) → IsAlone s c → length (world s).gear ≤ length (world s).left → Rounds true s c es
+survey_spent : (any : Bool) (s : SiteState) (c left : ℕ) (es : List Event) → IsAlone s c → Runs (of_survey (survey.began_at any s)) s c left
+    → numbers_for (most_drawn any) (length (world s).gear) ≤ length (world s).left → Rounds true s c es
     → IsPumpRefused (site_after s es) trouble.None refusal.DrawsSpent → ⊥
-survey_spent s c es a enough rounds =
-    drawing.never_spent (measure Any s) (argues Any s) HasNumbers (survey_draws (survey.began_at true s)) s c (most_frames Any (bare s)) es
-    (survey.starts_any s c a) rounds (λ m there undrawn. enough)
+survey_spent any s c left es a runs enough rounds =
+    drawing.never_spent (of_survey (survey.began_at any s)) (survey.argument (survey.began_at any s)) (HasNumbers any)
+    (survey_draws (survey.began_at any s)) s c
+    left es runs rounds
+    (λ m there. subst (λ t. HasNumbers any (informed_by m t) (world s).gear (world s).left) (sym a.told)
+    (subst (λ n. HasNumbers any n (world s).gear (world s).left)
+    (same_some (machine_at s c) (at_first c (controller_at (world s) c).records) m a.machine there) enough))
 
-pub never_spent : (b : Beginning) (s : SiteState) (c : ℕ) (es : List Event) → BeginsAlone b s c → length (world s).gear ≤ length (world s).left
-    → Rounds (by_survey b) s c es → IsPumpRefused (site_after s es) trouble.None refusal.DrawsSpent → ⊥
+pub never_spent : (b : Beginning) (s : SiteState) (c : ℕ) (es : List Event) → BeginsAlone b s c
+    → most_draws b * length (world s).gear ≤ length (world s).left → Rounds (by_survey b) s c es
+    → IsPumpRefused (site_after s es) trouble.None refusal.DrawsSpent → ⊥
 never_spent ByStart s c es a enough rounds =
     drawing.never_spent (measure ByStart s) (argues ByStart s) LeavesDraws (start_draws (world s).gear) s c (most_frames ByStart (bare s)) es
-    (start.starts s c a) rounds (λ m there closed. enough)
-never_spent Settled s c es a enough rounds = survey_spent s c es a.0 enough rounds
-never_spent Any s c es a enough rounds = survey_spent s c es a enough rounds
+    (start.starts s c a) rounds (λ m there closed. omega (arith, enough))
+never_spent Settled s c es a enough rounds =
+    survey_spent false s c (most_frames Settled (bare s)) es a.0 (survey.starts false s c (most_frames Settled (bare s)) (omega arith) a.0 (λ e. a.1))
+    (omega (arith, enough)) rounds
+never_spent Any s c es a enough rounds =
+    survey_spent true s c (most_frames Any (bare s)) es a (survey.starts_any s c a) (omega (arith, enough)) rounds

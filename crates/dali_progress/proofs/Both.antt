@@ -21,7 +21,7 @@ use Rattle.dali_script.specs.declared.orders.End.{End}
 use Rattle.dali_controller.specs.declared.purpose.Purpose.{Purpose}
 use Rattle.dali_controller.specs.declared.purpose.Purpose.TheVariants.{Opening, Probing, Visiting, Closing}
 use Rattle.dali_controller.specs.Course.{sought}
-use Rattle.dali_controller.specs.Machine.{Machine, tries_after, opened_after}
+use Rattle.dali_controller.specs.Machine.{Machine, tries_after}
 use Rattle.dali_controller.proofs.Given.{IsNoEnrolment}
 use Rattle.dali_frame.specs.declared.frames.Forward.{Forward}
 use Rattle.dali_frame.specs.declared.frames.Answer.{Answer}
@@ -171,7 +171,7 @@ one_first k g half = go (g.powered) refl where
   go true on = rw (on, half on) refl
   go false off = rw off refl
 
-none_first : (k : ℕ) (gs : List Gear) → AreOpening stage.Initialised gs → draws_needed Everyone Randomise k gs ≡ 0
+pub none_first : (k : ℕ) (gs : List Gear) → AreOpening stage.Initialised gs → draws_needed Everyone Randomise k gs ≡ 0
 none_first k [] all = refl
 none_first k (g ∷ gs) all =
     sum (takes Everyone k g && draws_a_number Randomise g) (draws_needed Everyone Randomise (k + 1) gs) (one_first k g (λ on. (all 0 (omega arith) on).0))
@@ -182,14 +182,17 @@ none_first k (g ∷ gs) all =
 
 pub probing_never : (n : SearchAddress) (k : Kept) (s : Stage) → Sends Probing n k s Randomise → ⊥
 probing_never n k (stage.Unnamed r) (a, small, has, is) = cc
+probing_never n k (stage.Hunted r last left) is = absurd is
 probing_never n k _ is = cc
 
 pub visiting_never : (n : SearchAddress) (k : Kept) (s : Stage) → Sends Visiting n k s Randomise → ⊥
 visiting_never n k (stage.Unnamed r) (a, small, has, is) = cc
+visiting_never n k (stage.Hunted r last left) is = absurd is
 visiting_never n k _ is = cc
 
 pub closing_never : (e : End) (n : SearchAddress) (k : Kept) (s : Stage) → Sends (Closing e) n k s Randomise → ⊥
 closing_never e n k (stage.Unnamed r) (a, small, has, is) = cc
+closing_never e n k (stage.Hunted r last left) is = absurd is
 closing_never e n k _ is = cc
 
 -- only an opening draws
@@ -200,23 +203,28 @@ none_apart p n k s gs c never is = needs_none Everyone c 0 gs (λ e. never (subs
 pub enough_left : (gs : List Gear) (numbers : List ℕ) (c : Command) → length gs ≤ length numbers → draws_needed Everyone c 0 gs ≤ length numbers
 enough_left gs numbers c enough = let few = needs_few Everyone c 0 gs in omega (arith, few, enough)
 
+-- whether an opening is complete
+abbrev pub is_complete : Stage → Bool
+is_complete stage.Opened = true
+is_complete _ = false
+
 -- where the opening is still not complete, none was drawn
-pub opening_none : (s : Stage) (k : Kept) (opened : Bool) (n : SearchAddress) (gs : List Gear) (left : ℕ) (c : Command) (h : Answer) → Opens s opened gs left
-    → Sends Opening n k s c → opened_after (next_stage s c h) opened ≡ false
+pub opening_none : (s : Stage) (k : Kept) (n : SearchAddress) (gs : List Gear) (left : ℕ) (c : Command) (h : Answer) → Opens s gs left
+    → Sends Opening n k s c → is_complete (next_stage s c h) ≡ false
     → draws_needed Everyone c 0 gs ≡ 0
-opening_none stage.Free k opened n gs left c h o is closed = needs_none Everyone c 0 gs (λ e. (let other : Terminate ≡ Randomise = sym is ∙ e in cc))
-opening_none stage.Terminated k opened n gs left c h o is closed =
+opening_none stage.Free k n gs left c h o is closed = needs_none Everyone c 0 gs (λ e. (let other : Terminate ≡ Randomise = sym is ∙ e in cc))
+opening_none stage.Terminated k n gs left c h o is closed =
     needs_none Everyone c 0 gs (λ e. (let other : Some (Initialise Unaddressed) ≡ Some Randomise = subst (λ d. Some (Initialise Unaddressed) ≡ Some d) e is in
     cc))
-opening_none stage.InitialisedOnce k opened n gs left c h o is closed =
+opening_none stage.InitialisedOnce k n gs left c h o is closed =
     needs_none Everyone c 0 gs (λ e. (let other : Some (Initialise Unaddressed) ≡ Some Randomise = subst (λ d. Some (Initialise Unaddressed) ≡ Some d) e is in
     cc))
-opening_none stage.Initialised k opened n gs left c h o is closed =
+opening_none stage.Initialised k n gs left c h o is closed =
     let same : Randomise ≡ c = cc in
     subst (λ d. draws_needed Everyone d 0 gs ≡ 0) same (none_first 0 gs o.gear)
-opening_none stage.RandomisedOnce k opened n gs left c h o is closed =
+opening_none stage.RandomisedOnce k n gs left c h o is closed =
     let same : Randomise ≡ c = cc in
-    let both : true ≡ false = subst (λ d. opened_after (next_stage stage.RandomisedOnce d h) opened ≡ false) (sym same) closed in
+    let both : true ≡ false = subst (λ d. is_complete (next_stage stage.RandomisedOnce d h) ≡ false) (sym same) closed in
     absurd (cc)
-opening_none stage.Opened k opened n gs left c h o is closed = absurd (cc)
-opening_none _ k opened n gs left c h o is closed = absurd o.stage_is
+opening_none stage.Opened k n gs left c h o is closed = absurd (cc)
+opening_none _ k n gs left c h o is closed = absurd o.stage_is

@@ -27,7 +27,6 @@ use Rattle.dali_search.specs.Least.{Search, Agrees, Gives, HasAtMost}
 use Rattle.dali_controller.specs.declared.purpose.Purpose.{Purpose}
 use Rattle.dali_controller.specs.declared.purpose.Purpose.TheVariants.{Opening, Probing, Visiting, Closing}
 use Rattle.dali_controller.specs.Course.{sought, is_yes}
-use Rattle.dali_controller.specs.Machine.{opened_after}
 use Rattle.dali_events.specs.Searching.{number_at}
 use Rattle.dali_events.specs.Wanted.{is_wanted, wants, is_bare, OfPowered, Seek, AreApart, IsOpened, NoneNamedBut, AreNamed}
 use Rattle.dali_events.proofs.Invariant.Takes.{row_length}
@@ -58,7 +57,7 @@ Seeks s gs = (r : SearchAddress) → number_at s ≡ Some r → Seek gs r
 
 abbrev pub IsSentTo : Purpose → Stage → Kept → Bool → Search → SearchAddress → List Gear → List ℕ → ℕ → Command → Answer → Type 0
 IsSentTo p s k opened x n gs numbers left c h =
-    (l : ℕ) × (left ≡ suc l) × At p (next_stage s c h) k (opened_after (next_stage s c h) opened) x n (row_after Everyone c 0 gs numbers) l
+    (l : ℕ) × (left ≡ suc l) × At p (next_stage s c h) k opened x n (row_after Everyone c 0 gs numbers) l
 
 -- one frame less
 pub one_less : (need left sent : ℕ) → need ≤ left + sent → sent < need → (l : ℕ) × (left ≡ suc l) × (need ≤ l + (sent + 1))
@@ -79,39 +78,39 @@ opens_less c gs numbers left sent leaves enough small =
     (less.0, less.1, rw (leaving.count_bare_after c gs numbers leaves) less.2)
 
 opening_sent : (s : Stage) (k : Kept) (opened : Bool) (x : Search) (n : SearchAddress) (gs : List Gear) (numbers : List ℕ) (left : ℕ) (c : Command) (h : Answer)
-    → Opens s opened gs left → Sends Opening n k s c → IsTaken c gs numbers h → IsSentTo Opening s k opened x n gs numbers left c h
-opening_sent stage.Free k opened x n gs numbers left c h o is taken =
+    → opened ≡ false → Opens s gs left → Sends Opening n k s c → IsTaken c gs numbers h → IsSentTo Opening s k opened x n gs numbers left c h
+opening_sent stage.Free k opened x n gs numbers left c h closed o is taken =
     subst (λ d. IsSentTo Opening stage.Free k opened x n gs numbers left d h) (sym is) go where
       go : IsSentTo Opening stage.Free k opened x n gs numbers left Terminate h
       go =
           let less = opens_less Terminate gs numbers left 0 tt o.frames (omega arith) in
-          (less.0, less.1, record { stage_is = o.stage_is; gear = opening.opening_terminated gs numbers; frames = less.2 })
-opening_sent stage.Terminated k opened x n gs numbers left c h o is taken =
+          (less.0, less.1, (closed, record { stage_is = tt; gear = opening.opening_terminated gs numbers; frames = less.2 }))
+opening_sent stage.Terminated k opened x n gs numbers left c h closed o is taken =
     subst (λ d. IsSentTo Opening stage.Terminated k opened x n gs numbers left d h) (some_is (Initialise Unaddressed) c is) go where
       go : IsSentTo Opening stage.Terminated k opened x n gs numbers left (Initialise Unaddressed) h
       go =
           let less = opens_less (Initialise Unaddressed) gs numbers left 1 tt o.frames (omega arith) in
-          (less.0, less.1, record { stage_is = o.stage_is; gear = opening.opening_initialised_once gs numbers o.gear; frames = less.2 })
-opening_sent stage.InitialisedOnce k opened x n gs numbers left c h o is taken =
+          (less.0, less.1, (closed, record { stage_is = tt; gear = opening.opening_initialised_once gs numbers o.gear; frames = less.2 }))
+opening_sent stage.InitialisedOnce k opened x n gs numbers left c h closed o is taken =
     subst (λ d. IsSentTo Opening stage.InitialisedOnce k opened x n gs numbers left d h) (some_is (Initialise Unaddressed) c is) go where
       go : IsSentTo Opening stage.InitialisedOnce k opened x n gs numbers left (Initialise Unaddressed) h
       go =
           let less = opens_less (Initialise Unaddressed) gs numbers left 2 tt o.frames (omega arith) in
-          (less.0, less.1, record { stage_is = o.stage_is; gear = opening.opening_initialised gs numbers o.gear; frames = less.2 })
-opening_sent stage.Initialised k opened x n gs numbers left c h o is taken =
+          (less.0, less.1, (closed, record { stage_is = tt; gear = opening.opening_initialised gs numbers o.gear; frames = less.2 }))
+opening_sent stage.Initialised k opened x n gs numbers left c h closed o is taken =
     subst (λ d. IsSentTo Opening stage.Initialised k opened x n gs numbers left d h) (some_is Randomise c is) go where
       go : IsSentTo Opening stage.Initialised k opened x n gs numbers left Randomise h
       go =
           let less = opens_less Randomise gs numbers left 3 tt o.frames (omega arith) in
-          (less.0, less.1, record { stage_is = o.stage_is; gear = opening.opening_randomised_once gs numbers o.gear; frames = less.2 })
-opening_sent stage.RandomisedOnce k opened x n gs numbers left c h o is taken =
+          (less.0, less.1, (closed, record { stage_is = tt; gear = opening.opening_randomised_once gs numbers o.gear; frames = less.2 }))
+opening_sent stage.RandomisedOnce k opened x n gs numbers left c h closed o is taken =
     subst (λ d. IsTaken d gs numbers h → IsSentTo Opening stage.RandomisedOnce k opened x n gs numbers left d h) (some_is Randomise c is) go taken where
       go : IsTaken Randomise gs numbers h → IsSentTo Opening stage.RandomisedOnce k opened x n gs numbers left Randomise h
       go t =
           let less = opens_less Randomise gs numbers left 4 tt o.frames (omega arith) in
-          (less.0, less.1, record { stage_is = refl; gear = opening.opening_opened gs numbers t.enough t.below o.gear; frames = less.2 })
-opening_sent stage.Opened k opened x n gs numbers left c h o is taken = absurd (cc)
-opening_sent _ k opened x n gs numbers left c h o is taken = absurd o.stage_is
+          (less.0, less.1, (closed, record { stage_is = tt; gear = opening.opening_opened gs numbers t.enough t.below o.gear; frames = less.2 }))
+opening_sent stage.Opened k opened x n gs numbers left c h closed o is taken = absurd (cc)
+opening_sent _ k opened x n gs numbers left c h closed o is taken = absurd o.stage_is
 
 -- ---------------------------------------------------------------- a probe
 
@@ -486,7 +485,7 @@ closing_sent e _ k opened x n gs numbers left c h v is = absurd v.stage_is
 pub at_sent : (p : Purpose) (s : Stage) (k : Kept) (opened : Bool) (x : Search) (n : SearchAddress) (gs : List Gear) (numbers : List ℕ) (left : ℕ) (c : Command)
     (h : Answer)
     → At p s k opened x n gs left → Sends p n k s c → IsTaken c gs numbers h → Seeks s gs → IsSentTo p s k opened x n gs numbers left c h
-at_sent Opening s k opened x n gs numbers left c h at is taken seek = opening_sent s k opened x n gs numbers left c h at is taken
+at_sent Opening s k opened x n gs numbers left c h at is taken seek = opening_sent s k opened x n gs numbers left c h at.0 at.1 is taken
 at_sent Probing s k opened x n gs numbers left c h at is taken seek =
     subst (λ b. IsSentTo Probing s k b x n gs numbers left c h) (sym at.0) (probing_sent s k x n gs numbers left c h at.1 is taken seek)
 at_sent Visiting s k opened x n gs numbers left c h at is taken seek =

@@ -14,9 +14,12 @@ use Rattle.dali_script.specs.declared.orders.Input.TheVariants as input
 use Rattle.dali_script.specs.declared.orders.Order.{Order}
 use Rattle.dali_script.specs.declared.orders.Order.TheVariants.{Put, Commit, Done}
 use Rattle.dali_script.specs.declared.orders.End.{End}
+use Rattle.dali_controller.specs.declared.purpose.Purpose.{Purpose}
+use Rattle.dali_controller.specs.declared.way.Way.{Way}
+use Rattle.dali_controller.specs.declared.way.Way.TheVariants.{Fresh, Surveying}
 use Rattle.dali_controller.specs.Machine.{Machine, machine_told}
 use Rattle.dali_controller.specs.Course.{turn_of, first_of}
-use Rattle.dali_controller.specs.Next.{next_course, course_by, BeginsWith}
+use Rattle.dali_controller.specs.Next.{next_course, course_by, most_silent, BeginsWith}
 use Rattle.dali_controller.specs.Orders.{IsAllowed, IsAddressing, IsBegun, IsCaused, IsOrdered, IsFollowed, IsGiven, machine_after, running_close}
 use Rattle.dali_progress.proofs.Later.{IsUnasked, course_stays}
 
@@ -44,9 +47,13 @@ pub record IsAt (t : Machine) (s : Stage) : Type 0 where
   pub silent : t.silent ≡ 0
   pub last : IsNoCommit t.last
 
-plain_unasked : (s : Stage) → IsPlain s → IsUnasked s
-plain_unasked (Hunted r (Some h) left) plain = plain
-plain_unasked _ plain = tt
+plain_unasked : (s : Stage) (p : Purpose) → IsPlain s → IsUnasked s p
+plain_unasked (Hunted r (Some h) left) p plain = absurd plain
+plain_unasked _ p plain = tt
+
+never_most : (y : Way) → 0 ≡ most_silent y → ⊥
+never_most Fresh e = omega (arith, e)
+never_most Surveying e = omega (arith, e)
 
 not_plain : (s r : Stage) → IsPlain s → s ≡ r → (IsPlain r → ⊥) → ⊥
 not_plain s r plain same bad = bad (subst IsPlain same plain)
@@ -60,7 +67,7 @@ ordered t s o at allowed addressing caused = record {
   addressing = addressing;
   caused = caused;
   given_up = λ e. let tries = at.tries in absurd (omega (arith, e, tries));
-  silent = λ e. let silent = at.silent in absurd (omega (arith, e, silent));
+  silent = λ e. absurd (never_most t.course.way (sym at.silent ∙ e));
   unnamed = λ r e. absurd (not_plain s (Unnamed r) at.plain (sym at.stage ∙ e) (λ x. x));
   found = λ r b e. absurd (not_plain s (Withdrawn r b) at.plain (sym at.stage ∙ e) (λ x. x));
 }
@@ -73,7 +80,8 @@ followed t s o at turns = record {
   another = λ b n e other. absurd (not_plain s (Spelled b (Some n)) at.plain (sym at.stage ∙ e) (λ x. x));
   unconfirmed = λ r x e. absurd (not_plain s (Inconclusive r x) at.plain (sym at.stage ∙ e) (λ y. y));
   enrolled = λ b n e. absurd (no_enrolment t.last b n at.last e);
-  hunted = λ r h left e. absurd (not_plain s (Hunted r (Some h) left) at.plain (sym at.stage ∙ e) (λ x. x));
+  hunted = λ r h left e hunts. absurd (not_plain s (Hunted r (Some h) left) at.plain (sym at.stage ∙ e) (λ x. x));
+  called = λ r h left e calls turn. absurd (not_plain s (Hunted r (Some h) left) at.plain (sym at.stage ∙ e) (λ x. x));
 }
 
 -- all inputs but one are answered so
@@ -97,7 +105,8 @@ pub later_given : (m : Machine) (i : Input) (s : Stage) (x : Command) → (i ≡
 later_given m i s x other at unclosed turn some lawful addressing =
     given m i (Put LATER (frame_of x)) other
     (ordered (machine_told m i) s (Put LATER (frame_of x)) at (inr (refl, some, lawful)) addressing
-    (subst (λ d. IsCaused (machine_told m i) d (Put LATER (frame_of x))) (sym (course_stays (machine_told m i) s at.stage (plain_unasked s at.plain)))
+    (subst (λ d. IsCaused (machine_told m i) d (Put LATER (frame_of x)))
+    (sym (course_stays (machine_told m i) s at.stage (plain_unasked s (machine_told m i).course.purpose at.plain)))
     (subst (λ e. IsBegun (machine_told m i) e) (sym unclosed) unclosed, inl unclosed)))
     (λ e. absurd (omega (arith, e)))
     (followed (machine_told m i) s (Put LATER (frame_of x)) at (λ c e. ap (λ y. Put LATER (frame_of y)) (some_same x c (sym turn ∙ e))))

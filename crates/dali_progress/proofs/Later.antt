@@ -1,4 +1,5 @@
-use Rattle.std.proofs.Common.{◌≡◌, refl, ap, ◌∙◌, Some}
+use Rattle.std.proofs.Common.{◌≡◌, ℕ, refl, sym, ap, ◌∙◌, Some, None}
+use Rattle.dali_frame.specs.declared.frames.Answer.{Answer}
 use Rattle.dali_frame.specs.declared.frames.Forward.{Forward}
 use Rattle.dali_frame.specs.declared.numbers.SearchAddress.{SearchAddress}
 use Rattle.dali_frame.specs.Priority.{LATER}
@@ -8,37 +9,47 @@ use Rattle.dali_script.specs.declared.stage.Stage.TheVariants as stage
 use Rattle.dali_script.specs.Stages.{stage_of}
 use Rattle.dali_script.specs.declared.orders.Order.TheVariants.{Put}
 use Rattle.dali_controller.specs.declared.purpose.Purpose.{Purpose}
-use Rattle.dali_controller.specs.declared.purpose.Purpose.TheVariants.{Opening, Probing, Visiting, Resolving, Closing, Asking, Waking, Hunting}
-use Rattle.dali_controller.specs.Course.{turn_of}
+use Rattle.dali_controller.specs.declared.purpose.Purpose.TheVariants.{Asking, Hunting}
+use Rattle.dali_controller.specs.Course.{Course, turn_of}
 use Rattle.dali_controller.specs.Machine.{Machine}
-use Rattle.dali_controller.specs.Next.{course_on}
-use Rattle.dali_controller.specs.Orders.{machine_ordered}
+use Rattle.dali_controller.specs.Next.{course_on, asked_on}
+use Rattle.dali_controller.specs.Orders.{machine_ordered, asked_by}
 
 -- A LATER FRAME LEAVES THE COURSE, but for the next question of a hunt.
 
-abbrev pub IsUnasked : Stage → Type 0
-IsUnasked (stage.Hunted r (Some h) left) = ⊥
-IsUnasked _ = Unit {0}
+abbrev pub IsUnasked : Stage → Purpose → Type 0
+IsUnasked (stage.Hunted r (Some h) left) Hunting = ⊥
+IsUnasked s p = Unit {0}
 
-pub stays_at : (t : Machine) (s : Stage) → IsUnasked s → course_on t s ≡ t.course
-stays_at t (stage.Hunted r (Some h) left) unasked = absurd unasked
+pub unasked_but : (s : Stage) (p : Purpose) → (p ≡ Hunting → ⊥) → IsUnasked s p
+unasked_but (stage.Hunted r (Some h) left) Hunting other = absurd (other refl)
+unasked_but (stage.Hunted r (Some h) left) _ other = tt
+unasked_but _ p other = tt
+
+pub asking_unasked : (s : Stage) (p : Purpose) (b : ℕ) → p ≡ Asking b → IsUnasked s p
+asking_unasked s p b is = unasked_but s p (λ e. (let never : Asking b ≡ Hunting = sym is ∙ e in cc))
+
+asked_stays : (t : Machine) (r : SearchAddress) (h : Answer) (left : ℕ) (p : Purpose) → IsUnasked (stage.Hunted r (Some h) left) p → asked_on t p h ≡ t.course
+asked_stays t r h left Hunting unasked = absurd unasked
+asked_stays t r h left _ unasked = refl
+
+pub stays_at : (t : Machine) (s : Stage) → IsUnasked s t.course.purpose → course_on t s ≡ t.course
+stays_at t (stage.Hunted r (Some h) left) unasked = asked_stays t r h left t.course.purpose unasked
 stays_at t _ unasked = refl
 
-pub course_stays : (t : Machine) (s : Stage) → stage_of t.trace ≡ s → IsUnasked s → course_on t (stage_of t.trace) ≡ t.course
+pub course_stays : (t : Machine) (s : Stage) → stage_of t.trace ≡ s → IsUnasked s t.course.purpose → course_on t (stage_of t.trace) ≡ t.course
 course_stays t s at unasked = ap (course_on t) at ∙ stays_at t s unasked
 
-pub later_leaves : (t : Machine) (f : Forward) (s : Stage) → stage_of t.trace ≡ s → IsUnasked s
-    → machine_ordered t (Put LATER f) ≡ record t { last = Some (Put LATER f) }
-later_leaves t f s at unasked = ap (λ c. record t { last = Some (Put LATER f); course = c }) (course_stays t s at unasked)
+pub later_leaves : (t : Machine) (f : Forward) (s : Stage) → stage_of t.trace ≡ s → IsUnasked s t.course.purpose
+    → machine_ordered t (Put LATER f) ≡ record t { last = Some (Put LATER f); asked = asked_by t.course.opened t.asked }
+later_leaves t f s at unasked =
+    ap (λ (c : Course). record t { last = Some (Put LATER f); course = c; asked = asked_by c.opened t.asked }) (course_stays t s at unasked)
 
 -- the next frame of a transaction is none
-pub turn_unasked : (p : Purpose) (n : SearchAddress) (s : Stage) (c : Command) → turn_of p n s ≡ Some c → IsUnasked s
-turn_unasked Opening n (stage.Hunted r (Some h) left) c turn = absurd (cc)
-turn_unasked Probing n (stage.Hunted r (Some h) left) c turn = absurd (cc)
-turn_unasked Hunting n (stage.Hunted r (Some h) left) c turn = absurd (cc)
-turn_unasked Visiting n (stage.Hunted r (Some h) left) c turn = absurd (cc)
-turn_unasked (Resolving a) n (stage.Hunted r (Some h) left) c turn = absurd (cc)
-turn_unasked (Closing e) n (stage.Hunted r (Some h) left) c turn = absurd (cc)
-turn_unasked (Asking a) n (stage.Hunted r (Some h) left) c turn = absurd (cc)
-turn_unasked Waking n (stage.Hunted r (Some h) left) c turn = absurd (cc)
-turn_unasked p n _ c turn = tt
+pub turn_unasked : (p : Purpose) (n : SearchAddress) (s : Stage) (c : Command) → turn_of p n s ≡ Some c → IsUnasked s p
+turn_unasked p n s c turn = go s turn where
+  go : (s : Stage) → turn_of p n s ≡ Some c → IsUnasked s p
+  go (stage.Hunted r (Some h) left) turn =
+      unasked_but (stage.Hunted r (Some h) left) p
+      (λ e. (let never : None ≡ Some c = sym (ap (λ x. turn_of x n (stage.Hunted r (Some h) left)) e) ∙ turn in cc))
+  go _ turn = tt

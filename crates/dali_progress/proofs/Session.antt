@@ -169,7 +169,7 @@ pub given_close : IsGiven comparing silent (Put 3 (frame 0xA1 0))
 unfolding command_of stage_of
 given_close = first_given comparing silent (Probed highest Silence) Terminate heard
     (record { stage = refl; plain = tt; tries = refl; silent = refl; last = tt }) refl refl
-    (inr (refl, (refl, (highest, inl refl, refl))), inr (refl, refl)) (Close, tt, refl) (λ g e. cc)
+    (inr (refl, (refl, record { number = highest; stage = refl; last = refl })), inr (refl, refl)) (Close, tt, refl) (λ g e. cc)
 
 pub given_done : IsGiven closing silent (Done AllFound)
 unfolding command_of stage_of

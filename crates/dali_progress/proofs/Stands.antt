@@ -1,5 +1,6 @@
-use Rattle.std.proofs.Common.{◌≡◌, ℕ, ◌+◌, ◌-◌, ◌*◌, ◌<◌, ◌≤◌, ◌⊎◌, Bool, true, false, zero, suc, List, ◌∷◌, length, Some}
+use Rattle.std.proofs.Common.{◌≡◌, ℕ, ◌+◌, ◌-◌, ◌*◌, ◌<◌, ◌≤◌, ◌⊎◌, Bool, true, false, zero, suc, List, ◌∷◌, length, Option, Some}
 use Rattle.std.specs.List.{count_by}
+use Rattle.dali_frame.specs.declared.frames.Answer.{Answer}
 use Rattle.dali_frame.specs.declared.numbers.SearchAddress.{SearchAddress}
 use Rattle.dali_frame.specs.Random.{value_of, MASK24}
 use Rattle.dali_special.specs.declared.command.Command.{Command}
@@ -14,9 +15,9 @@ use Rattle.dali_search.specs.declared.step.Step.TheVariants.{Again}
 use Rattle.dali_search.specs.Least.{Search, Agrees, Gives}
 use Rattle.dali_search.specs.Narrowing.{IsNarrowing}
 use Rattle.dali_controller.specs.declared.purpose.Purpose.{Purpose}
-use Rattle.dali_controller.specs.declared.purpose.Purpose.TheVariants.{Opening, Probing, Visiting, Closing, Hunting}
+use Rattle.dali_controller.specs.declared.purpose.Purpose.TheVariants.{Opening, Probing, Visiting, Closing, Hunting, Calling}
 use Rattle.dali_controller.specs.declared.way.Way.TheVariants.{Fresh}
-use Rattle.dali_controller.specs.Course.{first_of, turn_of, sought, is_yes, byte_to_send}
+use Rattle.dali_controller.specs.Course.{first_of, turn_of, sought, is_yes, byte_to_send, call_turn}
 use Rattle.dali_controller.specs.Machine.{Machine}
 use Rattle.dali_events.specs.Wanted.{is_wanted, wants, is_bare, OfPowered, IsOpened, NoneNamed, NoneNamedBut}
 use Rattle.dali_events.proofs.Search.Opened.{AreOpening}
@@ -52,17 +53,17 @@ probe_frames answers (suc more) = 4 + (4 * (24 - answers) + 11 + search_frames m
 
 -- ---------------------------------------------------------------- an opening
 
-abbrev pub OpeningStage : Stage → Bool → Type 0
-OpeningStage stage.Free opened = opened ≡ false
-OpeningStage stage.Terminated opened = opened ≡ false
-OpeningStage stage.InitialisedOnce opened = opened ≡ false
-OpeningStage stage.Initialised opened = opened ≡ false
-OpeningStage stage.RandomisedOnce opened = opened ≡ false
-OpeningStage stage.Opened opened = opened ≡ true
-OpeningStage _ opened = ⊥
+abbrev pub OpeningStage : Stage → Type 0
+OpeningStage stage.Free = Unit {0}
+OpeningStage stage.Terminated = Unit {0}
+OpeningStage stage.InitialisedOnce = Unit {0}
+OpeningStage stage.Initialised = Unit {0}
+OpeningStage stage.RandomisedOnce = Unit {0}
+OpeningStage stage.Opened = Unit {0}
+OpeningStage _ = ⊥
 
-pub record Opens (s : Stage) (opened : Bool) (gs : List Gear) (left : ℕ) : Type 0 where
-  pub stage_is : OpeningStage s opened
+pub record Opens (s : Stage) (gs : List Gear) (left : ℕ) : Type 0 where
+  pub stage_is : OpeningStage s
   pub gear : AreOpening s gs
   pub frames : 5 + search_frames (count_by is_bare gs) ≤ left + sent_at s
 
@@ -173,7 +174,7 @@ pub record Closes (e : End) (s : Stage) (k : Kept) (gs : List Gear) (left : ℕ)
 -- ---------------------------------------------------------------- the table
 
 abbrev pub At : Purpose → Stage → Kept → Bool → Search → SearchAddress → List Gear → ℕ → Type 0
-At Opening s k opened x n gs left = Opens s opened gs left
+At Opening s k opened x n gs left = (opened ≡ false) × Opens s gs left
 At Probing s k opened x n gs left = (opened ≡ true) × Probes s x n gs left
 At Visiting s k opened x n gs left = (opened ≡ true) × VisitsAt s k n gs left
 At (Closing e) s k opened x n gs left = Closes e s k gs left
@@ -197,12 +198,18 @@ pub record Stands (before : List Gear) (m : Machine) (gs : List Gear) (left : �
   pub trace : IsTrace (stage_of m.trace) m.trace
   pub within : IsWithin m.kept
   pub tabled : AreTabled before (to_come (stage_of m.trace) m.course.number m.kept.enrolled) gs
-  pub at : At m.course.purpose (stage_of m.trace) m.kept m.opened m.course.search m.course.number gs left
+  pub at : At m.course.purpose (stage_of m.trace) m.kept m.course.opened m.course.search m.course.number gs left
 
 -- ---------------------------------------------------------------- the frame that is to be sent
+
+-- the next question of a hunt, or COMPARE of a roll call
+abbrev pub AsksBy : Purpose → SearchAddress → SearchAddress → Option Answer → ℕ → Command → Type 0
+AsksBy Hunting n r last left c = c ≡ byte_to_send n r
+AsksBy Calling n r last left c = call_turn last left ≡ Some c
+AsksBy p n r last left c = ⊥
 
 abbrev pub Sends : Purpose → SearchAddress → Kept → Stage → Command → Type 0
 Sends p n k stage.Free c = c ≡ first_of p n
 Sends p n k (stage.Unnamed r) c = (a : ℕ) × (a < 64) × Has k.reserved (a, value_of r) × (c ≡ Program (Some a))
-Sends p n k (stage.Hunted r last left) c = (p ≡ Hunting) × (c ≡ byte_to_send n r)
+Sends p n k (stage.Hunted r last left) c = AsksBy p n r last left c
 Sends p n k s c = turn_of p n s ≡ Some c

@@ -1,5 +1,5 @@
 use Rattle.std.proofs.Common.{◌≡◌, ℕ, ◌<◌, ◌⊎◌, inl, inr, Bool, true, false, List, ◌∷◌, refl, sym, ap, subst, ◌∙◌, length, Option, Some, None}
-use Rattle.std.specs.Prelude.{◌==◌, ◌&&◌, if◌then◌else◌}
+use Rattle.std.specs.Prelude.{◌==◌, if◌then◌else◌}
 use Rattle.dali_frame.specs.declared.frames.Answer.{Answer}
 use Rattle.dali_frame.specs.declared.frames.Answer.TheVariants.{Silence, Byte, Damaged}
 use Rattle.dali_frame.specs.Short.{short_of}
@@ -70,21 +70,17 @@ tabled_left before xs gs numbers c leaves tabled =
 abbrev StandsStill : Gear → Type 0
 StandsStill g = (a : ℕ) → g.short ≡ Some a → draws_a_number Randomise g ≡ false
 
-tabled_drawn : (before : List Gear) (xs : List Assignment) (gs : List Gear) (numbers : List ℕ) → OfPowered gs StandsStill → AreTabled before xs gs
+pub tabled_drawn : (before : List Gear) (xs : List Assignment) (gs : List Gear) (numbers : List ℕ) → OfPowered gs StandsStill → AreTabled before xs gs
     → AreTabled before xs (row_after Everyone Randomise 0 gs numbers)
 tabled_drawn before xs gs numbers still tabled =
     tabled_by before xs gs (row_after Everyone Randomise 0 gs numbers) (row_length Everyone Randomise 0 gs numbers)
     (λ k in_row. after_at Randomise (λ g h. (g.powered ≡ true → StandsStill g) → KeepsName g h) (λ g off was. names_self g)
     (λ g x on was. names_drawn g x (was on)) gs numbers k in_row (still k in_row)) tabled
 
-still_once : (gs : List Gear) → AreOpening stage.Initialised gs → OfPowered gs StandsStill
+pub still_once : (gs : List Gear) → AreOpening stage.Initialised gs → OfPowered gs StandsStill
 still_once gs all k in_row on a short = rw ((all k in_row on).0) refl
 
-both_false : (b : Bool) → (b && false) ≡ false
-both_false true = refl
-both_false false = refl
-
-still_twice : (gs : List Gear) → AreOpening stage.RandomisedOnce gs → OfPowered gs StandsStill
+pub still_twice : (gs : List Gear) → AreOpening stage.RandomisedOnce gs → OfPowered gs StandsStill
 still_twice gs all k in_row on a short = rw ((all k in_row on).0, (all k in_row on).1.1 a short) refl
 
 -- PROGRAM SHORT ADDRESS names the one that is visited
@@ -154,7 +150,7 @@ some_is : (x c : Command) → Some x ≡ Some c → x ≡ c
 some_is x c e = cc
 
 opening_tabled : (before : List Gear) (s : Stage) (k : Kept) (opened : Bool) (n : SearchAddress) (gs : List Gear) (numbers : List ℕ) (left : ℕ) (c : Command)
-    (h : Answer) → Opens s opened gs left → Sends Opening n k s c
+    (h : Answer) → Opens s gs left → Sends Opening n k s c
     → AreTabled before (to_come s n k.enrolled) gs → IsTabledTo before s n k.enrolled gs numbers c h
 opening_tabled before stage.Free k opened n gs numbers left c h o is tabled = left_to before stage.Free n k.enrolled gs numbers c Terminate h (sym is) tt tabled
 opening_tabled before stage.Terminated k opened n gs numbers left c h o is tabled =
@@ -241,7 +237,7 @@ pub at_tabled : (before : List Gear) (p : Purpose) (s : Stage) (k : Kept) (opene
     → At p s k opened x n gs left → Sends p n k s c → Seeks s gs → At p (next_stage s c h) k now x n (row_after Everyone c 0 gs numbers) rest
     → AreTabled before (to_come s n k.enrolled) gs → IsTabledTo before s n k.enrolled gs numbers c h
 at_tabled before Opening s k opened now x n gs numbers left rest c h at is seek next tabled =
-    opening_tabled before s k opened n gs numbers left c h at is tabled
+    opening_tabled before s k opened n gs numbers left c h at.1 is tabled
 at_tabled before Probing s k opened now x n gs numbers left rest c h at is seek next tabled = probing_tabled before s k x n gs numbers left c h at.1 is tabled
 at_tabled before Visiting s k opened now x n gs numbers left rest c h at is seek next tabled =
     visiting_tabled before s k n gs numbers left rest c h at.1 is seek next.1 tabled

@@ -1,4 +1,4 @@
-use Rattle.std.specs.Prelude.{◌≡◌, ◌⊎◌, ℕ, ◌<◌, Bool, true, false, List, length, Some, None}
+use Rattle.std.specs.Prelude.{◌≡◌, ◌⊎◌, ℕ, ◌<◌, Bool, true, false, List, length, Some}
 use Rattle.dali_frame.specs.Random.{MASK24}
 use Rattle.dali_gear.specs.Gear.{Gear}
 use Rattle.dali_script.specs.Records.{Assignment, Kept, Has, HasAddress, InBlock, IsFull}
@@ -42,15 +42,10 @@ abbrev pub HoldsAnothers : Machine → Type 0
 HoldsAnothers m =
     (a : ℕ) × (r : ℕ) × Has m.kept.reserved (a, r) × (is_anothers m.kept m.heard a r ≡ true)
 
--- OF A SURVEY. With all-found, each gear with power has a short address; or each address of the
--- block is taken, and gear with power and without short address have no number yet. With
--- block-full, each address of the block is taken, or one that it has reserved is another's. It
--- never gives up.
-abbrev pub NoneButUndrawn : List Gear → Type 0
-NoneButUndrawn gs = OfPowered gs (λ g. g.short ≡ None → g.random ≡ MASK24)
-
+-- OF A SURVEY. With all-found, each gear with power has a short address. With block-full, each
+-- address of the block is taken, or one that it has reserved is another's. It never gives up.
 abbrev pub SurveyEndsWell : End → Machine → List Gear → Type 0
-SurveyEndsWell AllFound m gs = OfPowered gs HasShort ⊎ (IsBlockTaken m × NoneButUndrawn gs)
+SurveyEndsWell AllFound m gs = OfPowered gs HasShort
 SurveyEndsWell BlockFull m gs = IsBlockTaken m ⊎ HoldsAnothers m
 SurveyEndsWell GaveUp m gs = ⊥
 

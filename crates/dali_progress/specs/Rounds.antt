@@ -131,13 +131,20 @@ bare s = count_by is_bare (world s).gear
 -- HOW MANY FRAMES a controller sends, and how many events come, where n gear are so; at the most
 abbrev pub most_frames : Beginning → ℕ → ℕ
 most_frames ByStart n = 111 * n + 10
-most_frames Settled n = 106 * n + 219
-most_frames Any n = 106 * n + 291
+most_frames Settled n = 106 * n + 258
+most_frames Any n = 106 * n + 516
 
 abbrev pub most_events : Beginning → ℕ → ℕ
 most_events ByStart n = 333 * n + 31
-most_events Settled n = 318 * n + 658
-most_events Any n = 424 * n + 1165
+most_events Settled n = 318 * n + 775
+most_events Any n = 424 * n + 2065
+
+-- HOW OFTEN gear draw a random address, at the most: of any records what is reserved for a number
+-- may be another's, and then they draw new ones
+abbrev pub most_draws : Beginning → ℕ
+most_draws ByStart = 1
+most_draws Settled = 1
+most_draws Any = 3
 
 -- ---------------------------------------------------------------- it goes on
 

@@ -100,7 +100,7 @@ HearsUsed p c es =
 -- ITS QUESTIONS ARE OVER, where it has gone on to the gear that have no short address; and it does
 -- not begin anew.
 abbrev pub HasAsked : SiteState → ℕ → Type 0
-HasAsked s c = (m : Machine) × (machine_at s c ≡ Some m) × (m.opened ≡ true)
+HasAsked s c = (m : Machine) × (machine_at s c ≡ Some m) × (m.course.opened ≡ true)
 
 abbrev pub StaysBegun : ℕ → Event → Type 0
 StaysBegun c (event.Up d kept) = d ≡ c → ⊥

@@ -41,7 +41,7 @@ ghost use Rattle.dali_replay.specs.Installation.{Installation, installation_of};
 ghost use Rattle.dali_replay.specs.Rounds.{Ran};
 ghost use Rattle.dali_progress.specs.Rounds.{Beginning, ByStart, Settled, Any, by_survey, BeginsAlone, IsSettledAt};
 ghost use Rattle.dali_progress.specs.Rounds.{restarted, Rounds, site_after, frames, bare, most_frames, most_events};
-ghost use Rattle.dali_progress.specs.Rounds.{GoesOn, HasEnded};
+ghost use Rattle.dali_progress.specs.Rounds.{most_draws, GoesOn, HasEnded};
 ghost use Rattle.dali_progress.specs.Ends.{IsTrueEnd, table_at, NamesAll, CommitsNothing};
 ghost use Rattle.dali_progress.specs.Running.{RanAlone, HasBegun, begun, HasRoom, HasEndedBy, WasRefused};
 ghost use Rattle.dali_progress.specs.Surveyed.{Step, IsCourse, ArePlain, WasHeard, IsAccounted, HasSurveyed};
@@ -73,15 +73,17 @@ pub fn who_begins_alone()
 ///
 /// - By Start 111 n + 10: for each gear at most 25 probes of four frames, and 11 frames of visits; and the opening of
 ///   five frames, a last probe of four, and the close.
-/// - By a survey with settled records 106 n + 219. Three go to each of the 64 short addresses at the most: three
-///   questions where nobody answers, and the three queries of a random address where a gear does. Three wake gear. Then
-///   come two searches that go up, under the old numbers and, after an opening of five, under new ones: for each of the
-///   n at most 95 frames of questions and 11 of visits, and 19 more for both, with the close. The gear may have short
-///   addresses from before, whoever gave them, and numbers that they drew or none.
-/// - By a survey with any records 106 n + 291: a gear may be found whose reservation is another's, and then all draw
-///   new numbers.
+/// - By a survey with settled records 106 n + 258. Three go to each of the 64 short addresses at the most: three
+///   questions where nobody answers, and the three queries of a random address where a gear does. Then the roll is
+///   called, in seven frames where somebody answers. A search that goes up finds the gear that drew numbers; the roll
+///   is called again; a search in vain of nine frames tells that gear are left that never drew; they draw, in eight;
+///   and a search finds them. For each of the n that are at most 95 frames of questions and 11 of visits, and nine more
+///   for each search. Two roll calls of eight frames where nobody answers, and the close, end it. The gear may have
+///   short addresses from before, whoever gave them, and numbers that they drew or none.
+/// - By a survey with any records 106 n + 516: a gear may be found whose reservation is another's, and then all draw
+///   new numbers, up to three times. Each costs 86 frames at the most: the opening, and the search and visit before it.
 ///
-/// No more than 333 n + 31, 318 n + 658 or 424 n + 1165 events come (`events`), so a log with room for these never
+/// No more than 333 n + 31, 318 n + 775 or 424 n + 2065 events come (`events`), so a log with room for these never
 /// fills.
 pub fn it_is_bounded()
     ensures frames { (b : Beginning) (s : SiteState) (c : ℕ) (es : List Event) → BeginsAlone b s c
@@ -104,12 +106,11 @@ pub fn it_goes_on()
 /// where it ends with block-full, every address of its block is reserved; and it never gives up. Its table has each
 /// gear that has a short address, but one that had it before (`table`).
 ///
-/// After a survey: where it ends with all-found, every gear with power has a short address; or each address of its
-/// block is taken, and gear with power and without short address never drew a number. Where it ends with block-full,
-/// each address of its block is taken: reserved, or in the table, or one under which somebody was heard whose number it
-/// does not know; or one that it has reserved is another's. It never gives up. Its table names each gear that has a
-/// short address, with its random address, whoever gave it; but one that had it before the survey, and then had no
-/// power or no number that gear draw.
+/// After a survey: where it ends with all-found, every gear with power has a short address. Where it ends with
+/// block-full, each address of its block is taken: reserved, or in the table, or one under which somebody was heard
+/// whose number it does not know; or one that it has reserved is another's. It never gives up. Its table names each
+/// gear that has a short address, with its random address, whoever gave it; but one that had it before the survey, and
+/// then had no power or no number that gear draw.
 ///
 /// With settled records nothing is another's, and they are settled at the end.
 ///
@@ -129,7 +130,7 @@ pub fn its_end_is_true()
 /// A RUN OF ENOUGH ROUNDS ENDS. On an installation with one controller that begins alone, with n gear that have power
 /// and no short address, a run ends with the end of the controller, which is true, or at a call that was refused
 /// (`ends`): a run of more than 333 n + 31 rounds where it starts; and, once it began by a survey (`survey 0` of a
-/// script), one of more than 318 n + 657 with settled records, and of more than 424 n + 1164 with any. A run of any
+/// script), one of more than 318 n + 774 with settled records, and of more than 424 n + 2064 with any. A run of any
 /// length sends no more frames than `it_is_bounded` says (`frames`).
 ///
 /// Where a request may wait, and the log has room for all events to come, and no gear is used, the one call that may be
@@ -153,14 +154,14 @@ pub fn a_run_ends()
         → HasEndedBy b (installation_of p).site m.site 0 ⊎ IsPumpRefused m.site trouble.None refusal.DrawsSpent }
 {}
 
-/// AND WITH NUMBERS IT COMMISSIONS. Where there also is a number to be drawn for each gear, no call is refused, and the
-/// run ends with the end of the controller, which is true (`alone`). So it does on a new installation of such a plan
-/// with no fewer numbers than gear (`new`).
+/// AND WITH NUMBERS IT COMMISSIONS. Where there also are numbers to be drawn for each gear as often as it draws one, no
+/// call is refused, and the run ends with the end of the controller, which is true (`alone`). So it does on a new
+/// installation of such a plan with no fewer numbers than gear (`new`), however the controller begins.
 pub fn a_run_commissions()
     ensures alone { (b : Beginning) (limit : ℕ) (n between : Installation) (sent : ℕ) (text : List ℕ)
         (m : Installation) → RanAlone b limit n between sent text m
         → most_events b (bare n.site) < limit + begun (by_survey b) → HasRoom b n.site
-        → length (world n.site).gear ≤ length (world n.site).left → HasEndedBy b n.site m.site 0 }
+        → most_draws b * length (world n.site).gear ≤ length (world n.site).left → HasEndedBy b n.site m.site 0 }
     ensures new { (b : Beginning) (limit : ℕ) (p : Plan) (k : Block) (between : Installation) (sent : ℕ)
         (text : List ℕ) (m : Installation) → IsPlan p → p.used ≡ [] → p.blocks ≡ k ∷ [] → p.gear ≤ 128
         → p.gear ≤ length p.draws → most_events b p.gear < limit + begun (by_survey b)
@@ -172,14 +173,17 @@ pub fn a_run_commissions()
 /// controllers do: while a machine asks short addresses for their random addresses, at most 320 of its frames are sent
 /// and heard, five for each short address, and at most five more for each that was destroyed or not sent. Where whoever
 /// is there answers at once, so that no answer follows a silence, they are at most 192, and three more for each that
-/// was lost.
+/// was lost. So it is each time that it asks, at the start and as often as it asks again (`askings`).
 ///
-/// So the census ends: after so many answers the machine asks no more.
+/// So each census ends: after so many answers the machine asks no more. It asks again at most six times (`again`).
 pub fn a_census_is_bounded()
     ensures any { (steps : List Step) (n : Machine) → IsCourse steps n → BeginsBySurvey steps → AreWhole steps
-        → IsWhole n → frames_asked steps ≤ 320 + 5 * frames_lost steps }
+        → IsWhole n → frames_asked steps ≤ 320 * (1 + n.course.tally.askings) + 5 * frames_lost steps }
     ensures steady { (steps : List Step) (n : Machine) → IsCourse steps n → BeginsBySurvey steps → AreWhole steps
-        → IsWhole n → AreSteady steps → frames_asked steps ≤ 192 + 3 * frames_lost steps }
+        → IsWhole n → AreSteady steps
+        → frames_asked steps ≤ 192 * (1 + n.course.tally.askings) + 3 * frames_lost steps }
+    ensures again { (steps : List Step) (n : Machine) → IsCourse steps n → BeginsBySurvey steps → AreWhole steps
+        → IsWhole n → n.course.tally.askings ≤ 6 }
 {}
 
 /// A SURVEY GIVES NOTHING AWAY WHERE IT HEARD SOMEBODY. Where a machine that began by a survey heard somebody under a
@@ -197,9 +201,9 @@ pub fn nothing_is_given_where_somebody_was_heard()
     ensures reserved { (s : Step) (earlier : List Step) (n : Machine) (a r : ℕ) → a < 64 → IsCourse (s ∷ earlier) n
         → ArePlain (s ∷ earlier) → s.order ≡ Commit (Reserve a r) → HasSurveyed n → WasHeard (s ∷ earlier) a → ⊥ }
     ensures given { (s : Step) (earlier : List Step) (n : Machine) (a : ℕ) (q : SearchAddress) (f : Forward) → a < 64
-        → IsCourse (s ∷ earlier) n → ArePlain (s ∷ earlier) → s.order ≡ Put LATER f → HasSurveyed n → n.opened ≡ true
-        → stage_told s ≡ Unnamed q → address_for n.kept.reserved (value_of q) ≡ Some a → WasHeard (s ∷ earlier) a
-        → Has n.kept.enrolled (a, value_of q) }
+        → IsCourse (s ∷ earlier) n → ArePlain (s ∷ earlier) → s.order ≡ Put LATER f → HasSurveyed n
+        → n.course.opened ≡ true → stage_told s ≡ Unnamed q → address_for n.kept.reserved (value_of q) ≡ Some a
+        → WasHeard (s ∷ earlier) a → Has n.kept.enrolled (a, value_of q) }
     ensures silent { (s : Step) (earlier : List Step) (n : Machine) (a r : ℕ) → a < 64 → IsCourse (s ∷ earlier) n
         → BeginsBySurvey (s ∷ earlier) → ArePlain (s ∷ earlier) → AreWhole (s ∷ earlier) → IsWhole n
         → s.order ≡ Commit (Reserve a r) → HasSurveyed n → WasSilent (s ∷ earlier) a }

@@ -10,11 +10,9 @@ use Rattle.dali_special.proofs.Table.{read_written}
 use Rattle.dali_script.specs.declared.block.Block.{Block}
 use Rattle.dali_script.specs.declared.trace.Entry.{Entry}
 use Rattle.dali_script.specs.declared.stage.Stage.{Stage}
-use Rattle.dali_script.specs.declared.stage.Stage.TheVariants.{Free}
-use Rattle.dali_script.specs.declared.stage.Stage.TheVariants.{Hunted}
+use Rattle.dali_script.specs.declared.stage.Stage.TheVariants.{Free, Initialised, Hunted}
 use Rattle.dali_script.specs.Records.{Assignment}
-use Rattle.dali_script.specs.Scripts.{Step, sends, Script, Open, Probe, Hunt, Look, Give}
-use Rattle.dali_script.specs.Scripts.{Resolve}
+use Rattle.dali_script.specs.Scripts.{Step, sends, Script, Open, Call, Draw, Probe, Hunt, Look, Give, PassOver, Resolve}
 use Rattle.dali_script.specs.Scripts.{AreAsking, Close, ArcPower, steps, MaySend, IsFront, Lawful, IsFirst}
 use Rattle.dali_script.specs.Stages.{IsHunting}
 use Rattle.dali_script.specs.Stages.{stage_of, Follows}
@@ -61,7 +59,10 @@ script_first : (b : Block) (xs : List Assignment) (s : Script) → MaySend b xs 
 unfolding is_first
 script_first b xs Open may = (refl, (refl, (refl, (refl, tt))))
 script_first b xs (Probe r) may = (refl, (refl, (refl, tt)))
+script_first b xs (Call r cs) may = (refl, (refl, (refl, (refl, (refl, none_asking cs may.0)))))
+script_first b xs (Draw high middle) may = (refl, (refl, (refl, (refl, (refl, (refl, (refl, tt)))))))
 script_first b xs (Hunt r cs) may = (refl, (refl, none_asking cs may.0))
+script_first b xs (PassOver r) may = (refl, (refl, (refl, tt)))
 script_first b xs (Look r) may = (refl, (refl, (refl, (refl, tt))))
 script_first b xs (Give r a) may = (refl, (refl, (refl, (refl, (refl, (refl, tt))))))
 script_first b xs (Resolve a) may = (refl, (refl, tt))
@@ -90,19 +91,20 @@ free_is_empty t e =
     let read : command_of (frame_of Terminate) ≡ Terminate = read_written Terminate tt in
     terminate_first b [] t (frame_of Terminate) (lawful_follows b [] t (frame_of Terminate) (rw (e, read) (turn refl refl))) read
 
--- SEARCHADDRH stands first, or in a hunt
+-- SEARCHADDRH stands first, in a hunt, or once gear were initialised
 at_search_high : (b : Block) (xs : List Assignment) (s : Stage) (c : Command) (high : ℕ) → Follows b xs s c → c ≡ SearchHigh high
-    → (s ≡ Free) ⊎ IsHunting s
+    → (s ≡ Free) ⊎ (IsHunting s ⊎ (s ≡ Initialised))
 at_search_high b xs Free (SearchHigh n) high on e = inl refl
-at_search_high b xs (Hunted r last left) c high on e = inr (asks_hunting r last left c on.leads_on).0
+at_search_high b xs Initialised (SearchHigh n) high on e = inr (inr refl)
+at_search_high b xs (Hunted r last left) c high on e = inr (inl (asks_hunting r last left c on.leads_on).0)
 at_search_high b xs _ _ high k e = absurd (let none = k.leads_on in cc)
 
 pub search_high_first : (b : Block) (xs : List Assignment) (t : List Entry) (f : Forward) (high : ℕ) → Lawful b xs t f → command_of f ≡ SearchHigh high
-    → (t ≡ []) ⊎ IsHunting (stage_of t)
+    → (t ≡ []) ⊎ (IsHunting (stage_of t) ⊎ (stage_of t ≡ Initialised))
 search_high_first b xs t f high lawful e = go (at_search_high b xs (stage_of t) (command_of f) high (follows_lawful b xs t f lawful) e) where
-  go : (stage_of t ≡ Free) ⊎ IsHunting (stage_of t) → (t ≡ []) ⊎ IsHunting (stage_of t)
+  go : (stage_of t ≡ Free) ⊎ (IsHunting (stage_of t) ⊎ (stage_of t ≡ Initialised)) → (t ≡ []) ⊎ (IsHunting (stage_of t) ⊎ (stage_of t ≡ Initialised))
   go (inl free) = inl (free_is_empty t free)
-  go (inr hunting) = inr hunting
+  go (inr later) = inr later
 
 first_of : (b : Block) (xs : List Assignment) (s : Stage) (c : Command) → Follows b xs s c → s ≡ Free
     → (c ≡ Terminate) ⊎ (((high : ℕ) × (c ≡ SearchHigh high)) ⊎ (((g : Forward) × (c ≡ Arc g)) ⊎ ((a : ℕ) × (c ≡ RandomByte a High))))

@@ -17,7 +17,7 @@ use Rattle.dali_script.specs.declared.block.Block.{Block}
 use Rattle.dali_script.specs.declared.trace.Entry.{Entry}
 use Rattle.dali_script.specs.declared.stage.Stage.{Stage}
 use Rattle.dali_script.specs.declared.stage.Stage.TheVariants.{Free, Terminated, InitialisedOnce, Initialised, RandomisedOnce, HighSent, MiddleSent, LowSent}
-use Rattle.dali_script.specs.declared.stage.Stage.TheVariants.{Hunted, NumberSent}
+use Rattle.dali_script.specs.declared.stage.Stage.TheVariants.{Hunted, NumberSent, WokenHigh, WokenLow, WokenMiddle, DrawFree}
 use Rattle.dali_script.specs.declared.stage.Stage.TheVariants.{Found, Unnamed, Inconclusive, Programmed, Confirmed, HighAsked, MiddleAsked, Spelled, Over}
 use Rattle.dali_script.specs.declared.finding.Finding.{Finding}
 use Rattle.dali_script.specs.declared.finding.Finding.TheVariants.{Queried, Resolved}
@@ -28,7 +28,8 @@ use Rattle.dali_script.specs.Findings.{finding_from, finding_of}
 use Rattle.dali_script.proofs.Transactions.{positive, asks_hunting, self, equal, middle_next, low_next, middle_same, low_same, Tracks, tracks, follows_lawful}
 use Rattle.dali_script.proofs.Transactions.{stage_none, stage_more}
 use Rattle.dali_script.proofs.Senders.{sent_more}
-use Rattle.dali_script.specs.Stages.{hunted, named, queried, answered, verified, byte_heard, bytes_heard, number_heard, next_stage, stage_from, stage_of}
+use Rattle.dali_script.specs.Stages.{hunted, doubted, named, queried, answered, verified, byte_heard, bytes_heard, number_heard, next_stage, stage_from}
+use Rattle.dali_script.specs.Stages.{stage_of}
 use Rattle.dali_script.specs.Stages.{Follows}
 use Rattle.dali_script.specs.Stages.{finding_at, IsSearched, IsAsked, IsTrace}
 
@@ -77,6 +78,11 @@ pub record Says (s : Stage) (r : SearchAddress) (q : Asked) (found : Option Find
   pub searched : IsSearched s r
   pub asked : IsAsked s q
   pub finding : found ≡ finding_at s
+
+doubted_says : (h : Answer) (r : SearchAddress) (q : Asked) (found : Option Finding) → found ≡ None → Says (doubted h) r q found
+doubted_says Silence r q found none = record { searched = tt; asked = tt; finding = none }
+doubted_says (Byte v) r q found none = record { searched = tt; asked = tt; finding = none }
+doubted_says Damaged r q found none = record { searched = tt; asked = tt; finding = none }
 
 queried_says : (r : SearchAddress) (p q : Asked) (h : Answer) → Says (queried r h) r q (found_by r p QueryShort h)
 queried_says r p q Silence = record { searched = refl; asked = tt; finding = refl }
@@ -175,6 +181,16 @@ says_more b xs Free (Arc f) h r q found on k = record { searched = tt; asked = t
 says_more b xs Terminated (Initialise Unaddressed) h r q found on k = record { searched = tt; asked = tt; finding = k.finding }
 says_more b xs InitialisedOnce (Initialise Unaddressed) h r q found on k = record { searched = tt; asked = tt; finding = k.finding }
 says_more b xs Initialised Randomise h r q found on k = record { searched = tt; asked = tt; finding = k.finding }
+says_more b xs Initialised (SearchHigh high) h r q found on k = record { searched = refl; asked = tt; finding = k.finding }
+says_more b xs (WokenHigh high) (SearchLow low) h r q found on k = record { searched = (k.searched, refl); asked = tt; finding = k.finding }
+says_more b xs (WokenHigh high) (SearchMiddle middle) h r q found on k = record { searched = (k.searched, refl); asked = tt; finding = k.finding }
+says_more b xs (WokenLow high low) (SearchMiddle middle) h r q found on k = record {
+  searched = ap (λ n. record { high = n; middle = middle; low = r.low }) k.searched.0 ∙ ap (λ n. record { high = high; middle = middle; low = n }) k.searched.1;
+  asked = tt;
+  finding = k.finding;
+}
+says_more b xs (WokenMiddle high middle) Compare h r q found on k = doubted_says h r (asked_after Compare h q) found k.finding
+says_more b xs DrawFree Randomise h r q found on k = record { searched = tt; asked = tt; finding = k.finding }
 says_more b xs RandomisedOnce Randomise h r q found on k = record { searched = tt; asked = tt; finding = k.finding }
 says_more b xs (HighSent high) (SearchMiddle middle) h r q found on k = record { searched = (k.searched, refl); asked = tt; finding = k.finding }
 says_more b xs (MiddleSent high middle) (SearchLow low) h r q found on k = record {
@@ -191,6 +207,7 @@ says_more b xs (LowSent high low) (SearchMiddle middle) h r q found on k = recor
 says_more b xs (Hunted n last left) c h r q found on k = says_asking b xs n last left c h r q found on k
 says_more b xs (NumberSent n) Compare h r q found on k = record { searched = k.searched; asked = tt; finding = k.finding }
 says_more b xs (NumberSent n) QueryShort h r q found on k = says_at (queried n h) r n q nothing found h k.searched k.finding (queried_says n q nothing h)
+says_more b xs (NumberSent n) Withdraw h r q found on k = record { searched = k.searched; asked = tt; finding = k.finding }
 says_more b xs (Found n c) Withdraw h r q found on k = record { searched = k.searched; asked = tt; finding = k.finding }
 says_more b xs (Unnamed n) (Program (Some a)) h r q found on k = record { searched = k.searched; asked = tt; finding = k.finding }
 says_more b xs (Programmed n a) QueryShort h r q found on k =

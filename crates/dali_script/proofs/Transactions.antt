@@ -22,16 +22,18 @@ use Rattle.dali_script.specs.declared.trace.Entry.{Entry}
 use Rattle.dali_script.specs.declared.stage.Stage.{Stage}
 use Rattle.dali_script.specs.declared.stage.Stage.TheVariants.{Free, Terminated, InitialisedOnce, Initialised, RandomisedOnce, Opened, HighSent, MiddleSent}
 use Rattle.dali_script.specs.declared.stage.Stage.TheVariants.{LowSent, Hunted}
+use Rattle.dali_script.specs.declared.stage.Stage.TheVariants.{WokenHigh, WokenLow, WokenMiddle, DrawFree, DrawBarred, PassedOver}
 use Rattle.dali_script.specs.declared.stage.Stage.TheVariants.{NumberSent, Probed, Found, Unnamed, Unanswered, Inconclusive, Programmed, Confirmed}
 use Rattle.dali_script.specs.declared.stage.Stage.TheVariants.{HighAsked, MiddleAsked, Spelled, Over}
 use Rattle.dali_script.specs.Records.{Assignment, HasAddress}
-use Rattle.dali_script.specs.Scripts.{no_address, some_address, address, IsHeard, Step, sends, queries, search_at, Script, Open, Probe, Hunt, Look, Give}
-use Rattle.dali_script.specs.Scripts.{Resolve}
+use Rattle.dali_script.specs.Scripts.{nobody, no_address, some_address, address, IsHeard, Step, sends, queries, search_at, Script, Open, Call, Draw, Probe}
+use Rattle.dali_script.specs.Scripts.{Hunt, Look, Give, PassOver, Resolve, woken, drawing, hunts, CALLING}
 use Rattle.dali_script.specs.Scripts.{is_asking, AreAsking, ASKING, Close, ArcPower, steps, MayGive, MaySend, IsFront, Lawful, IsComplete, IsFrame}
 use Rattle.dali_script.specs.Scripts.{GoesOn}
 use Rattle.dali_script.proofs.Lists.{has_map}
 use Rattle.dali_script.proofs.Giving.{first_of_both, second_of_both, may_give_by, may_give_from, may_give_some_by, may_give_some_from}
-use Rattle.dali_script.specs.Stages.{leads, hunted, IsHunting, given, may_give_if, follows, may_follow, named, queried, answered, verified, byte_heard}
+use Rattle.dali_script.specs.Stages.{leads, hunted, IsHunting, IsBeforeDraw, IsDoubting, given, may_give_if, follows, may_follow, doubted, named, queried}
+use Rattle.dali_script.specs.Stages.{answered, verified, byte_heard}
 use Rattle.dali_script.specs.Stages.{bytes_heard, number_heard}
 use Rattle.dali_script.specs.Stages.{next_stage, stage_from, stage_of, Follows}
 
@@ -146,10 +148,49 @@ tracks_hunt b xs r last left (c ∷ cs) ask few =
           subst (λ s. Tracks b xs s (map sends cs)) (sym there.2) (tracks_hunt b xs there.0 there.1 (left - 1) cs ask.1 (omega arith)),
     )
 
+-- once gear were initialised
+tracks_woken : (b : Block) (xs : List Assignment) (ss : List Step) → Tracks b xs Initialised ss → Tracks b xs Free (woken ss)
+unfolding Tracks
+tracks_woken b xs ss rest = (turn refl refl, λ a h w. (turn refl refl, λ a h w. (turn refl refl, λ a h w. rest)))
+
+tracks_call : (b : Block) (xs : List Assignment) (r : SearchAddress) (cs : List Command) → AreAsking cs → length cs ≤ CALLING
+    → Tracks b xs Initialised (hunts r cs)
+unfolding Tracks
+tracks_call b xs r cs ask few = (
+  turn refl refl,
+  λ a h w. (
+    turn refl refl,
+    λ a h w. (
+      turn refl refl,
+      λ a h w. tracks_hunt b xs (record { high = r.high; middle = r.middle; low = r.low })
+          None CALLING cs ask few,
+    ),
+  ),
+)
+
+tracks_draw : (b : Block) (xs : List Assignment) (high middle : ℕ)
+    → Tracks b xs Initialised (sends (SearchHigh high) ∷ sends (SearchMiddle middle) ∷ record { command = Compare; wanted = nobody } ∷ drawing)
+unfolding Tracks
+tracks_draw b xs high middle = (
+  turn refl refl,
+  λ a h w. (
+    turn refl refl,
+    λ a h w. (
+      turn refl refl,
+      λ a h silence. subst (λ x. Tracks b xs (doubted x) drawing) (sym silence) (turn refl refl, λ a h w. (turn refl refl, λ a h w. tt)),
+    ),
+  ),
+)
+
 pub tracks : (b : Block) (xs : List Assignment) (s : Script) → MaySend b xs s → Tracks b xs Free (steps s)
 unfolding Tracks
-tracks b xs Open may =
-    (turn refl refl, λ a h w. (turn refl refl, λ a h w. (turn refl refl, λ a h w. (turn refl refl, λ a h w. (turn refl refl, λ a h w. tt)))))
+tracks b xs Open may = tracks_woken b xs drawing (turn refl refl, λ a h w. (turn refl refl, λ a h w. tt))
+tracks b xs (Call r cs) may = tracks_woken b xs (hunts r cs) (tracks_call b xs r cs may.0 may.1)
+tracks b xs (Draw high middle) may =
+    tracks_woken b xs (sends (SearchHigh high) ∷ sends (SearchMiddle middle) ∷ record { command = Compare; wanted = nobody } ∷ drawing)
+    (tracks_draw b xs high middle)
+tracks b xs (PassOver r) may =
+    (turn refl refl, λ a h w. (turn refl refl, λ a h w. (turn refl refl, λ a h w. (turn refl refl, λ a h w. tt))))
 tracks b xs (Probe r) may =
     (turn refl refl, λ a h w. (turn refl refl, λ a h w. (turn refl refl, λ a h w. (turn refl refl, λ a h w. tt))))
 tracks b xs (Hunt r cs) may = (
@@ -190,14 +231,28 @@ follows_lawful b xs t f lawful = follows_from b xs t Free f (steps lawful.0) law
 -- FRAMES THAT FOLLOW ARE LAWFUL. What may be left of a script once its search address was sent, and at each stage.
 data Tail (b : Block) (xs : List Assignment) (r : SearchAddress) : List Step → Type 0 where
   probing : Tail b xs r (sends Compare ∷ [])
+  passing : Tail b xs r (sends Withdraw ∷ [])
   looking : Tail b xs r (queries some_address ∷ sends Withdraw ∷ [])
   giving : (a : ℕ) → MayGive b xs r a → Tail b xs r (queries no_address ∷ sends (Program (Some a)) ∷ queries (address a) ∷ sends Withdraw ∷ [])
 
+-- and once gear were initialised
+data Woken (b : Block) (xs : List Assignment) : List Step → Type 0 where
+  opening : Woken b xs drawing
+  calling : (r : SearchAddress) (cs : List Command) → AreAsking cs → length cs ≤ CALLING → Woken b xs (hunts r cs)
+  doubting : (high middle : ℕ) → Woken b xs (sends (SearchHigh high) ∷ sends (SearchMiddle middle) ∷ record { command = Compare; wanted = nobody } ∷ drawing)
+
 data Rest (b : Block) (xs : List Assignment) : Stage → List Step → Type 0 where
   at_free : (s : Script) → MaySend b xs s → Rest b xs Free (steps s)
-  at_terminated : Rest b xs Terminated (sends (Initialise Unaddressed) ∷ sends (Initialise Unaddressed) ∷ sends Randomise ∷ sends Randomise ∷ [])
-  at_initialised_once : Rest b xs InitialisedOnce (sends (Initialise Unaddressed) ∷ sends Randomise ∷ sends Randomise ∷ [])
-  at_initialised : Rest b xs Initialised (sends Randomise ∷ sends Randomise ∷ [])
+  at_terminated : (ss : List Step) → Woken b xs ss → Rest b xs Terminated (sends (Initialise Unaddressed) ∷ sends (Initialise Unaddressed) ∷ ss)
+  at_initialised_once : (ss : List Step) → Woken b xs ss → Rest b xs InitialisedOnce (sends (Initialise Unaddressed) ∷ ss)
+  at_initialised : (ss : List Step) → Woken b xs ss → Rest b xs Initialised ss
+  at_woken_high_low : (r : SearchAddress) (cs : List Command) → AreAsking cs → length cs ≤ CALLING
+      → Rest b xs (WokenHigh r.high) (sends (SearchLow r.low) ∷ sends (SearchMiddle r.middle) ∷ map sends cs)
+  at_woken_low : (r : SearchAddress) (cs : List Command) → AreAsking cs → length cs ≤ CALLING
+      → Rest b xs (WokenLow r.high r.low) (sends (SearchMiddle r.middle) ∷ map sends cs)
+  at_woken_high : (high middle : ℕ) → Rest b xs (WokenHigh high) (sends (SearchMiddle middle) ∷ record { command = Compare; wanted = nobody } ∷ drawing)
+  at_woken_middle : (high middle : ℕ) → Rest b xs (WokenMiddle high middle) (record { command = Compare; wanted = nobody } ∷ drawing)
+  at_draw_free : Rest b xs DrawFree drawing
   at_randomised_once : Rest b xs RandomisedOnce (sends Randomise ∷ [])
   at_high : (high middle low : ℕ) (ss : List Step) → Tail b xs (record { high = high; middle = middle; low = low }) ss
       → Rest b xs (HighSent high) (sends (SearchMiddle middle) ∷ sends (SearchLow low) ∷ ss)
@@ -235,8 +290,21 @@ nothing_over b xs ss k = elim k [ ]
 
 whole : (b : Block) (xs : List Assignment) (r : SearchAddress) (ss : List Step) → Tail b xs r ss → Rest b xs Free (search_at r ss)
 whole b xs r _ probing = at_free (Probe r) tt
+whole b xs r _ passing = at_free (PassOver r) tt
 whole b xs r _ looking = at_free (Look r) tt
 whole b xs r _ (giving a may) = at_free (Give r a) may
+
+whole_woken : (b : Block) (xs : List Assignment) (ss : List Step) → Woken b xs ss → Rest b xs Free (woken ss)
+whole_woken b xs _ opening = at_free Open tt
+whole_woken b xs _ (calling r cs ask few) = at_free (Call r cs) (ask, few)
+whole_woken b xs _ (doubting high middle) = at_free (Draw high middle) tt
+
+-- who draws was initialised just before, or was asked for once more
+before_draw : (b : Block) (xs : List Assignment) (high middle : ℕ) (h : Answer) (ss : List Step) → Rest b xs (doubted h) ss
+    → Before b xs (WokenMiddle high middle) Compare h ss
+before_draw b xs high middle Silence _ at_draw_free = (_, refl, refl, at_woken_middle high middle)
+before_draw b xs high middle (Byte v) ss k = elim k [ ]
+before_draw b xs high middle Damaged ss k = elim k [ ]
 
 before_number : (b : Block) (xs : List Assignment) (high middle low : ℕ) (r : SearchAddress) (h : Answer) (ss : List Step)
     → r ≡ record { high = high; middle = middle; low = low }
@@ -307,6 +375,13 @@ before_low b xs a c bytes h ss k = go (c == a) k where
   go true k = absurd (nothing_spelled b xs a (number_heard bytes h) ss k)
   go false k = absurd (nothing_over b xs ss k)
 
+before_calling : (b : Block) (xs : List Assignment) (high middle low left : ℕ) (r : SearchAddress) (last : Option Answer) (h : Answer) (ss : List Step)
+    → r ≡ record { high = high; middle = middle; low = low } → left ≡ CALLING → Rest b xs (Hunted r last left) ss
+    → Before b xs (WokenLow high low) (SearchMiddle middle) h ss
+before_calling b xs high middle low _ _ _ h _ is room (at_hunted r last left cs ask few) =
+    let n : SearchAddress = record { high = high; middle = middle; low = low } in
+    (sends (SearchMiddle middle), refl, tt, at_woken_low n cs ask (subst (λ m. length cs ≤ m) room few))
+
 before_hunting : (b : Block) (xs : List Assignment) (high middle low left : ℕ) (r : SearchAddress) (last : Option Answer) (h : Answer) (ss : List Step)
     → r ≡ record { high = high; middle = middle; low = low } → left ≡ ASKING → Rest b xs (Hunted r last left) ss
     → Before b xs (LowSent high low) (SearchMiddle middle) h ss
@@ -336,13 +411,21 @@ before_hunted b xs r last left c h ss k = go (left == 0) refl k where
   go false some k = asked c (let there : 0 < left = grind (arith, nat_tests) in there) k
 
 before : (b : Block) (xs : List Assignment) (s : Stage) (c : Command) (h : Answer) (ss : List Step) → Rest b xs (next_stage s c h) ss → Before b xs s c h ss
-before b xs Free Terminate h _ at_terminated = (_, refl, tt, at_free Open tt)
+before b xs Free Terminate h _ (at_terminated ss w) = (_, refl, tt, whole_woken b xs ss w)
 before b xs Free (SearchHigh _) h _ (at_high high middle low ss tail) = (_, refl, tt, whole b xs (record { high = high; middle = middle; low = low }) ss tail)
 before b xs Free (SearchHigh _) h _ (at_high_low r cs ask few) = (_, refl, tt, at_free (Hunt r cs) (ask, few))
 before b xs Free (RandomByte a High) h ss k = before_high_asked b xs a (byte_heard h) h ss k
-before b xs Terminated (Initialise Unaddressed) h _ at_initialised_once = (_, refl, tt, at_terminated)
-before b xs InitialisedOnce (Initialise Unaddressed) h _ at_initialised = (_, refl, tt, at_initialised_once)
-before b xs Initialised Randomise h _ at_randomised_once = (_, refl, tt, at_initialised)
+before b xs Terminated (Initialise Unaddressed) h _ (at_initialised_once ss w) = (_, refl, tt, at_terminated ss w)
+before b xs InitialisedOnce (Initialise Unaddressed) h _ (at_initialised ss w) = (_, refl, tt, at_initialised_once ss w)
+before b xs Initialised Randomise h _ at_randomised_once = (_, refl, tt, at_initialised _ opening)
+before b xs Initialised (SearchHigh _) h _ (at_woken_high_low r cs ask few) = (_, refl, tt, at_initialised _ (calling r cs ask few))
+before b xs Initialised (SearchHigh _) h _ (at_woken_high high middle) = (_, refl, tt, at_initialised _ (doubting high middle))
+before b xs (WokenHigh _) (SearchLow _) h _ (at_woken_low r cs ask few) = (_, refl, tt, at_woken_high_low r cs ask few)
+before b xs (WokenHigh _) (SearchMiddle _) h _ (at_woken_middle high middle) = (_, refl, tt, at_woken_high high middle)
+before b xs (WokenLow high low) (SearchMiddle middle) h ss k =
+    before_calling b xs high middle low CALLING (record { high = high; middle = middle; low = low }) None h ss refl refl k
+before b xs (WokenMiddle high middle) Compare h ss k = before_draw b xs high middle h ss k
+before b xs DrawFree Randomise h _ at_randomised_once = (_, refl, tt, at_draw_free)
 before b xs RandomisedOnce Randomise h ss k = elim k [ ]
 before b xs (HighSent _) (SearchMiddle _) h _ (at_middle high middle low ss tail) = (_, refl, tt, at_high high middle low ss tail)
 before b xs (HighSent _) (SearchLow _) h _ (at_low r cs ask few) = (_, refl, tt, at_high_low r cs ask few)
@@ -353,6 +436,7 @@ before b xs (MiddleSent high middle) (SearchLow low) h ss k =
     before_number b xs high middle low (record { high = high; middle = middle; low = low }) h ss refl k
 before b xs (NumberSent r) Compare h ss k = elim k [ ]
 before b xs (NumberSent r) QueryShort h ss k = before_queried b xs r h ss k
+before b xs (NumberSent r) Withdraw h ss k = elim k [ ]
 before b xs (Found r c) Withdraw h ss k = elim k [ ]
 before b xs (Unnamed _) (Program (Some _)) h _ (at_programmed r a may) = (_, refl, tt, at_unnamed r a may)
 before b xs (Programmed r a) QueryShort h ss k = before_verified b xs r a h ss k
@@ -383,9 +467,17 @@ ends : (b : Block) (xs : List Assignment) (s : Stage) (c : Command) → Follows 
 ends b xs Free Terminate on = (_, _, refl, at_free Close tt)
 ends b xs Free (SearchHigh high) on = (_, _, refl, at_free (Probe (record { high = high; middle = 0; low = 0 })) tt)
 ends b xs Free (Arc f) on = (_, _, refl, at_free (ArcPower f) tt)
-ends b xs Terminated (Initialise Unaddressed) on = (_, _, refl, at_terminated)
-ends b xs InitialisedOnce (Initialise Unaddressed) on = (_, _, refl, at_initialised_once)
-ends b xs Initialised Randomise on = (_, _, refl, at_initialised)
+ends b xs Terminated (Initialise Unaddressed) on = (_, _, refl, at_terminated _ opening)
+ends b xs InitialisedOnce (Initialise Unaddressed) on = (_, _, refl, at_initialised_once _ opening)
+ends b xs Initialised Randomise on = (_, _, refl, at_initialised _ opening)
+ends b xs Initialised (SearchHigh high) on = (_, _, refl, at_initialised _ (doubting high 0))
+ends b xs (WokenHigh high) (SearchLow low) on =
+    (_, _, refl, at_woken_high_low (record { high = high; middle = 0; low = low }) [] tt (lit≤ tt))
+ends b xs (WokenHigh high) (SearchMiddle middle) on = (_, _, refl, at_woken_high high middle)
+ends b xs (WokenLow high low) (SearchMiddle middle) on =
+    (_, _, refl, at_woken_low (record { high = high; middle = middle; low = low }) [] tt (lit≤ tt))
+ends b xs (WokenMiddle high middle) Compare on = (_, _, refl, at_woken_middle high middle)
+ends b xs DrawFree Randomise on = (_, _, refl, at_draw_free)
 ends b xs RandomisedOnce Randomise on = (_, _, refl, at_randomised_once)
 ends b xs (HighSent high) (SearchMiddle middle) on = (_, _, refl, at_high high middle 0 _ probing)
 ends b xs (HighSent high) (SearchLow low) on =
@@ -398,6 +490,7 @@ ends b xs (Hunted r last left) c on =
 ends b xs (MiddleSent high middle) (SearchLow low) on = (_, _, refl, at_middle high middle low _ probing)
 ends b xs (NumberSent r) Compare on = (_, _, refl, at_number r _ probing)
 ends b xs (NumberSent r) QueryShort on = (_, _, refl, at_number r _ looking)
+ends b xs (NumberSent r) Withdraw on = (_, _, refl, at_number r _ passing)
 ends b xs (Found r c) Withdraw on = (_, _, refl, at_found r c)
 ends b xs (Unnamed r) (Program (Some a)) on = (_, _, refl, at_unnamed r a on.may)
 ends b xs (Programmed r a) QueryShort on = (_, _, refl, at_programmed r a on.may)
@@ -461,6 +554,11 @@ Small (HighAsked a high) = a < 64
 Small (MiddleAsked a bytes) = a < 64
 Small _ = Unit {0}
 
+small_doubted : (h : Answer) → Small (doubted h)
+small_doubted Silence = tt
+small_doubted (Byte v) = tt
+small_doubted Damaged = tt
+
 small_queried : (r : SearchAddress) (h : Answer) → Small (queried r h)
 small_queried r Silence = tt
 small_queried r Damaged = tt
@@ -511,6 +609,12 @@ small_next Free (RandomByte a High) h spelled small = spelled
 small_next Terminated (Initialise Unaddressed) h spelled small = tt
 small_next InitialisedOnce (Initialise Unaddressed) h spelled small = tt
 small_next Initialised Randomise h spelled small = tt
+small_next Initialised (SearchHigh high) h spelled small = tt
+small_next (WokenHigh high) (SearchLow low) h spelled small = tt
+small_next (WokenHigh high) (SearchMiddle middle) h spelled small = tt
+small_next (WokenLow high low) (SearchMiddle middle) h spelled small = tt
+small_next (WokenMiddle high middle) Compare h spelled small = small_doubted h
+small_next DrawFree Randomise h spelled small = tt
 small_next RandomisedOnce Randomise h spelled small = tt
 small_next (HighSent high) (SearchMiddle middle) h spelled small = tt
 small_next (MiddleSent high middle) (SearchLow low) h spelled small = tt
@@ -560,6 +664,10 @@ next_at b xs small Free here e = (Terminate, tt, (lit< tt, lit< tt), turn refl r
 next_at b xs small Terminated here e = (Initialise Unaddressed, tt, (lit< tt, lit< tt), turn refl refl)
 next_at b xs small InitialisedOnce here e = (Initialise Unaddressed, tt, (lit< tt, lit< tt), turn refl refl)
 next_at b xs small Initialised here e = (Randomise, tt, (lit< tt, lit< tt), turn refl refl)
+next_at b xs small (WokenHigh high) here e = (SearchLow 0, tt, (lit< tt, lit< tt), turn refl refl)
+next_at b xs small (WokenLow high low) here e = (SearchMiddle 0, tt, (lit< tt, lit< tt), turn refl refl)
+next_at b xs small (WokenMiddle high middle) here e = (Compare, tt, (lit< tt, lit< tt), turn refl refl)
+next_at b xs small DrawFree here e = (Randomise, tt, (lit< tt, lit< tt), turn refl refl)
 next_at b xs small RandomisedOnce here e = (Randomise, tt, (lit< tt, lit< tt), turn refl refl)
 next_at b xs small Opened here e = absurd (cc)
 next_at b xs small (HighSent high) here e = (SearchMiddle 0, tt, (lit< tt, lit< tt), turn refl refl)
@@ -608,6 +716,7 @@ front_short [] f (s ∷ ss) front = omega arith
 front_short (e ∷ t) f (s ∷ ss) front = let less : length t < length ss = front_short t f ss front.2 in omega arith
 
 script_short : (b : Block) (xs : List Assignment) (s : Script) → MaySend b xs s → length (steps s) ≤ 8
+script_short b xs (Call r cs) may = let few : length cs ≤ 2 = may.1 in let same : length (map sends cs) ≡ length cs = length-map cs sends in omega arith
 script_short b xs (Hunt r cs) may = let few : length cs ≤ 5 = may.1 in let same : length (map sends cs) ≡ length cs = length-map cs sends in omega arith
 script_short b xs _ may = lit≤ tt
 
@@ -630,16 +739,18 @@ at_initialise b xs InitialisedOnce (Initialise Unaddressed) g on e = (cc, inr re
 at_initialise b xs (Hunted r last left) c g k e = absurd (none_else r last left c k.leads_on (ap is_asking e))
 at_initialise b xs _ _ g k e = absurd (let none = k.leads_on in cc)
 
-at_randomise : (b : Block) (xs : List Assignment) (s : Stage) (c : Command) → Follows b xs s c → c ≡ Randomise → (s ≡ Initialised) ⊎ (s ≡ RandomisedOnce)
-at_randomise b xs Initialised Randomise on e = inl refl
+at_randomise : (b : Block) (xs : List Assignment) (s : Stage) (c : Command) → Follows b xs s c → c ≡ Randomise → IsBeforeDraw s ⊎ (s ≡ RandomisedOnce)
+at_randomise b xs Initialised Randomise on e = inl tt
+at_randomise b xs DrawFree Randomise on e = inl tt
 at_randomise b xs RandomisedOnce Randomise on e = inr refl
 at_randomise b xs (Hunted r last left) c k e = absurd (none_else r last left c k.leads_on (ap is_asking e))
 at_randomise b xs _ _ k e = absurd (let none = k.leads_on in cc)
 
 at_compare : (b : Block) (xs : List Assignment) (s : Stage) (c : Command) → Follows b xs s c → c ≡ Compare
-    → ((r : SearchAddress) × (s ≡ NumberSent r)) ⊎ IsHunting s
+    → ((r : SearchAddress) × (s ≡ NumberSent r)) ⊎ (IsHunting s ⊎ IsDoubting s)
 at_compare b xs (NumberSent r) Compare on e = inl (r, refl)
-at_compare b xs (Hunted r last left) c on e = inr (asks_hunting r last left c on.leads_on).0
+at_compare b xs (WokenMiddle high middle) Compare on e = inr (inr tt)
+at_compare b xs (Hunted r last left) c on e = inr (inl (asks_hunting r last left c on.leads_on).0)
 at_compare b xs _ _ k e = absurd (let none = k.leads_on in cc)
 
 at_query : (b : Block) (xs : List Assignment) (s : Stage) (c : Command) → Follows b xs s c → c ≡ QueryShort
@@ -656,9 +767,10 @@ at_program b xs (Hunted r last left) c o k e = absurd (none_else r last left c k
 at_program b xs _ _ o k e = absurd (let none = k.leads_on in cc)
 
 at_withdraw : (b : Block) (xs : List Assignment) (s : Stage) (c : Command) → Follows b xs s c → c ≡ Withdraw
-    → (r : SearchAddress) × (a : ℕ) × ((s ≡ Found r a) ⊎ ((s ≡ Confirmed r a) × MayGive b xs r a))
-at_withdraw b xs (Found r a) Withdraw on e = (r, a, inl refl)
-at_withdraw b xs (Confirmed r a) Withdraw on e = (r, a, inr (refl, on.may))
+    → (r : SearchAddress) × ((s ≡ NumberSent r) ⊎ ((a : ℕ) × ((s ≡ Found r a) ⊎ ((s ≡ Confirmed r a) × MayGive b xs r a))))
+at_withdraw b xs (NumberSent r) Withdraw on e = (r, inl refl)
+at_withdraw b xs (Found r a) Withdraw on e = (r, inr (a, inl refl))
+at_withdraw b xs (Confirmed r a) Withdraw on e = (r, inr (a, inr (refl, on.may)))
 at_withdraw b xs (Hunted r last left) c k e = absurd (none_else r last left c k.leads_on (ap is_asking e))
 at_withdraw b xs _ _ k e = absurd (let none = k.leads_on in cc)
 
@@ -667,11 +779,11 @@ pub initialise_at : (b : Block) (xs : List Assignment) (t : List Entry) (f : For
 initialise_at b xs t f g lawful e = at_initialise b xs (stage_of t) (command_of f) g (follows_lawful b xs t f lawful) e
 
 pub randomise_at : (b : Block) (xs : List Assignment) (t : List Entry) (f : Forward) → Lawful b xs t f → command_of f ≡ Randomise
-    → (stage_of t ≡ Initialised) ⊎ (stage_of t ≡ RandomisedOnce)
+    → IsBeforeDraw (stage_of t) ⊎ (stage_of t ≡ RandomisedOnce)
 randomise_at b xs t f lawful e = at_randomise b xs (stage_of t) (command_of f) (follows_lawful b xs t f lawful) e
 
 pub compare_at : (b : Block) (xs : List Assignment) (t : List Entry) (f : Forward) → Lawful b xs t f → command_of f ≡ Compare
-    → ((r : SearchAddress) × (stage_of t ≡ NumberSent r)) ⊎ IsHunting (stage_of t)
+    → ((r : SearchAddress) × (stage_of t ≡ NumberSent r)) ⊎ (IsHunting (stage_of t) ⊎ IsDoubting (stage_of t))
 compare_at b xs t f lawful e = at_compare b xs (stage_of t) (command_of f) (follows_lawful b xs t f lawful) e
 
 pub query_at : (b : Block) (xs : List Assignment) (t : List Entry) (f : Forward) → Lawful b xs t f → command_of f ≡ QueryShort
@@ -683,5 +795,5 @@ pub program_at : (b : Block) (xs : List Assignment) (t : List Entry) (f : Forwar
 program_at b xs t f o lawful e = at_program b xs (stage_of t) (command_of f) o (follows_lawful b xs t f lawful) e
 
 pub withdraw_at : (b : Block) (xs : List Assignment) (t : List Entry) (f : Forward) → Lawful b xs t f → command_of f ≡ Withdraw
-    → (r : SearchAddress) × (a : ℕ) × ((stage_of t ≡ Found r a) ⊎ ((stage_of t ≡ Confirmed r a) × MayGive b xs r a))
+    → (r : SearchAddress) × ((stage_of t ≡ NumberSent r) ⊎ ((a : ℕ) × ((stage_of t ≡ Found r a) ⊎ ((stage_of t ≡ Confirmed r a) × MayGive b xs r a))))
 withdraw_at b xs t f lawful e = at_withdraw b xs (stage_of t) (command_of f) (follows_lawful b xs t f lawful) e

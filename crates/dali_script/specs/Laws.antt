@@ -25,7 +25,7 @@ use Rattle.dali_script.specs.Scripts.{Lawful, IsFirst, MayGive, IsComplete, Goes
 use Rattle.dali_script.specs.Findings.{search_after, search_of, asked_after, asked_of}
 use Rattle.dali_script.specs.Findings.{found_by, later, finding_of}
 use Rattle.dali_script.specs.Stages.{Follows, follows, may_follow, next_stage, stage_of, finding_at}
-use Rattle.dali_script.specs.Stages.{IsSearched, IsAsked, IsHunting}
+use Rattle.dali_script.specs.Stages.{IsSearched, IsAsked, IsHunting, IsBeforeDraw, IsDoubting}
 
 -- What a front of a script says, in the words that a site and a machine use. Each is proved: see
 -- the module `laws`.
@@ -69,7 +69,7 @@ pub record StagesSayWhatWasSentAndFound : Type 0 where
       → Lawful b xs t e.frame → finding_of (t ++ e ∷ []) ≡ finding_at (stage_of (t ++ e ∷ []))
 
 -- A transaction begins with TERMINATE, SEARCHADDRH, QUERY RANDOM ADDRESS (H) or direct arc power,
--- and none of these comes later in one, but SEARCHADDRH in a hunt.
+-- and none of these comes later in one, but SEARCHADDRH in a hunt and once gear were initialised.
 pub record TransactionsBeginOnce : Type 0 where
   pub begins : (b : Block) (xs : List Assignment) (f : Forward) → Lawful b xs [] f ↔ IsFirst f
   pub first : (f : Forward)
@@ -80,7 +80,8 @@ pub record TransactionsBeginOnce : Type 0 where
   pub terminate : (b : Block) (xs : List Assignment) (t : List Entry) (f : Forward)
       → Lawful b xs t f → command_of f ≡ Terminate → t ≡ []
   pub search_high : (b : Block) (xs : List Assignment) (t : List Entry) (f : Forward) (high : ℕ)
-      → Lawful b xs t f → command_of f ≡ SearchHigh high → (t ≡ []) ⊎ IsHunting (stage_of t)
+      → Lawful b xs t f → command_of f ≡ SearchHigh high
+      → (t ≡ []) ⊎ (IsHunting (stage_of t) ⊎ (stage_of t ≡ Initialised))
   pub arc : (b : Block) (xs : List Assignment) (t : List Entry) (f g : Forward) → Lawful b xs t f
       → command_of f ≡ Arc g → t ≡ []
   pub random_high : (b : Block) (xs : List Assignment) (t : List Entry) (f : Forward) (a : ℕ)
@@ -93,16 +94,17 @@ pub record OpeningsBeginWithTerminate : Type 0 where
       → Lawful b xs t f → command_of f ≡ Initialise g
       → (g ≡ Unaddressed) × ((stage_of t ≡ Terminated) ⊎ (stage_of t ≡ InitialisedOnce))
   pub randomise : (b : Block) (xs : List Assignment) (t : List Entry) (f : Forward)
-      → Lawful b xs t f → command_of f ≡ Randomise → (stage_of t ≡ Initialised)
-      ⊎ (stage_of t ≡ RandomisedOnce)
+      → Lawful b xs t f → command_of f ≡ Randomise
+      → IsBeforeDraw (stage_of t) ⊎ (stage_of t ≡ RandomisedOnce)
 
 -- COMPARE, QUERY SHORT ADDRESS, PROGRAM SHORT ADDRESS and WITHDRAW come only after all three search
--- commands; PROGRAM of an address only where gear without short address answered, and with what is
--- reserved for their number.
+-- commands, but for the COMPARE before a draw; PROGRAM of an address only where gear without short
+-- address answered, and with what is reserved for their number.
 pub record GearAreSearchedAnew : Type 0 where
   pub compare : (b : Block) (xs : List Assignment) (t : List Entry) (f : Forward) → Lawful b xs t f
       → command_of f ≡ Compare
-      → ((r : SearchAddress) × (stage_of t ≡ NumberSent r)) ⊎ IsHunting (stage_of t)
+      → ((r : SearchAddress) × (stage_of t ≡ NumberSent r))
+      ⊎ (IsHunting (stage_of t) ⊎ IsDoubting (stage_of t))
   pub query : (b : Block) (xs : List Assignment) (t : List Entry) (f : Forward) → Lawful b xs t f
       → command_of f ≡ QueryShort
       → (r : SearchAddress)
@@ -112,8 +114,9 @@ pub record GearAreSearchedAnew : Type 0 where
       → (a : ℕ) × (r : SearchAddress) × (o ≡ Some a) × (stage_of t ≡ Unnamed r) × MayGive b xs r a
   pub withdraw : (b : Block) (xs : List Assignment) (t : List Entry) (f : Forward) → Lawful b xs t f
       → command_of f ≡ Withdraw
-      → (r : SearchAddress) × (a : ℕ)
-      × ((stage_of t ≡ Found r a) ⊎ ((stage_of t ≡ Confirmed r a) × MayGive b xs r a))
+      → (r : SearchAddress)
+      × ((stage_of t ≡ NumberSent r)
+      ⊎ ((a : ℕ) × ((stage_of t ≡ Found r a) ⊎ ((stage_of t ≡ Confirmed r a) × MayGive b xs r a))))
 
 -- No script has more than eight frames; and where the test says so, no frame may follow, else one
 -- may.

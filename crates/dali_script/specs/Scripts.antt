@@ -2,7 +2,7 @@ use Rattle.std.specs.Prelude.{◌≡◌, ℕ, ◌<◌, ◌≤◌, Bool, true, fa
 use Rattle.std.specs.Prelude.{Some}
 use Rattle.dali_frame.specs.declared.frames.Forward.{Forward}
 use Rattle.dali_frame.specs.declared.frames.Answer.{Answer}
-use Rattle.dali_frame.specs.declared.frames.Answer.TheVariants.{Byte}
+use Rattle.dali_frame.specs.declared.frames.Answer.TheVariants.{Silence, Byte}
 use Rattle.dali_frame.specs.declared.numbers.SearchAddress.{SearchAddress}
 use Rattle.dali_frame.specs.Short.{code_of}
 use Rattle.dali_frame.specs.Random.{value_of, MASK24}
@@ -22,12 +22,14 @@ use Rattle.dali_script.specs.Records.{Assignment, Has, InBlock}
 -- What must be heard after a frame for its script to go on.
 pub data Wanted : Type 0 where
   anything : Wanted
+  nobody : Wanted
   no_address : Wanted
   some_address : Wanted
   address : ℕ → Wanted
 
 abbrev pub IsHeard : Wanted → Answer → Type 0
 IsHeard anything h = Unit {0}
+IsHeard nobody h = h ≡ Silence
 IsHeard no_address h = h ≡ Byte MASK
 IsHeard some_address h = (b : ℕ) × (b < 64) × (h ≡ Byte (code_of b))
 IsHeard (address a) h = h ≡ Byte (code_of a)
@@ -65,31 +67,53 @@ AreAsking (c ∷ cs) = (is_asking c ≡ true) × AreAsking cs
 abbrev pub ASKING : ℕ
 ASKING = 5
 
+-- and how many of a roll call its first six
+abbrev pub CALLING : ℕ
+CALLING = 2
+
 -- THE SCRIPTS: all that a transaction of commissioning may be (this project's profile of IEC
 -- 62386-102:2014, special commands and queries of the random address).
 pub data Script : Type 0 where
   Open : Script
+  Call : SearchAddress → List Command → Script
+  Draw : ℕ → ℕ → Script
   Probe : SearchAddress → Script
   Hunt : SearchAddress → List Command → Script
   Look : SearchAddress → Script
   Give : SearchAddress → ℕ → Script
+  PassOver : SearchAddress → Script
   Resolve : ℕ → Script
   Close : Script
   ArcPower : Forward → Script
 
-abbrev pub steps : Script → List Step
-steps Open =
-    sends Terminate ∷ sends (Initialise Unaddressed) ∷ sends (Initialise Unaddressed)
-    ∷ sends Randomise ∷ sends Randomise ∷ []
-steps (Probe r) = search_at r (sends Compare ∷ [])
--- the low byte before the middle one, so that it is no probe from there on
-steps (Hunt r cs) =
+-- gear without short address are initialised, who were not before
+abbrev pub woken : List Step → List Step
+woken more =
+    sends Terminate ∷ sends (Initialise Unaddressed) ∷ sends (Initialise Unaddressed) ∷ more
+
+abbrev pub drawing : List Step
+drawing = sends Randomise ∷ sends Randomise ∷ []
+
+-- what a hunt and a roll call begin with: the low byte before the middle one, so that it is no
+-- probe from there on
+abbrev pub hunts : SearchAddress → List Command → List Step
+hunts r cs =
     sends (SearchHigh r.high) ∷ sends (SearchLow r.low) ∷ sends (SearchMiddle r.middle)
     ∷ map sends cs
+
+abbrev pub steps : Script → List Step
+steps Open = woken drawing
+steps (Call r cs) = woken (hunts r cs)
+steps (Draw high middle) =
+    woken (sends (SearchHigh high) ∷ sends (SearchMiddle middle)
+    ∷ record { command = Compare; wanted = nobody } ∷ drawing)
+steps (Probe r) = search_at r (sends Compare ∷ [])
+steps (Hunt r cs) = hunts r cs
 steps (Look r) = search_at r (queries some_address ∷ sends Withdraw ∷ [])
 steps (Give r a) =
     search_at r (queries no_address ∷ sends (Program (Some a)) ∷ queries (address a)
     ∷ sends Withdraw ∷ [])
+steps (PassOver r) = search_at r (sends Withdraw ∷ [])
 steps (Resolve a) =
     sends (RandomByte a High) ∷ sends (RandomByte a Middle) ∷ sends (RandomByte a Low) ∷ []
 steps Close = sends Terminate ∷ []
@@ -104,6 +128,7 @@ pub record MayGive (b : Block) (reserved : List Assignment) (r : SearchAddress)
   pub reserved_for : Has reserved (a, value_of r)
 
 abbrev pub MaySend : Block → List Assignment → Script → Type 0
+MaySend b reserved (Call r cs) = AreAsking cs × (length cs ≤ CALLING)
 MaySend b reserved (Hunt r cs) = AreAsking cs × (length cs ≤ ASKING)
 MaySend b reserved (Give r a) = MayGive b reserved r a
 MaySend b reserved _ = Unit {0}

@@ -24,6 +24,8 @@ use Rattle.dali_script.specs.declared.stage.Stage.TheVariants.{Free, Terminated,
 use Rattle.dali_script.specs.declared.stage.Stage.TheVariants.{Initialised, RandomisedOnce, Opened}
 use Rattle.dali_script.specs.declared.stage.Stage.TheVariants.{HighSent, MiddleSent}
 use Rattle.dali_script.specs.declared.stage.Stage.TheVariants.{NumberSent, LowSent, Hunted}
+use Rattle.dali_script.specs.declared.stage.Stage.TheVariants.{WokenHigh, WokenLow, WokenMiddle}
+use Rattle.dali_script.specs.declared.stage.Stage.TheVariants.{DrawFree, DrawBarred, PassedOver}
 use Rattle.dali_script.specs.declared.stage.Stage.TheVariants.{Probed, Found, Unnamed, Unanswered}
 use Rattle.dali_script.specs.declared.stage.Stage.TheVariants.{Inconclusive, Programmed, Confirmed}
 use Rattle.dali_script.specs.declared.stage.Stage.TheVariants.{Withdrawn, HighAsked}
@@ -31,7 +33,7 @@ use Rattle.dali_script.specs.declared.stage.Stage.TheVariants.{MiddleAsked, Spel
 use Rattle.dali_script.specs.declared.finding.Finding.{Finding}
 use Rattle.dali_script.specs.declared.finding.Finding.TheVariants.{Queried, Resolved}
 use Rattle.dali_script.specs.Records.{Assignment}
-use Rattle.dali_script.specs.Scripts.{MayGive, IsTransaction, ASKING}
+use Rattle.dali_script.specs.Scripts.{MayGive, IsTransaction, ASKING, CALLING}
 use Rattle.dali_script.specs.Findings.{search_of, Asked, nothing, high_byte, two_bytes}
 use Rattle.dali_script.specs.Findings.{asked_of, finding_of}
 
@@ -65,6 +67,11 @@ hunted r left (SearchLow low) h = Some (Hunted (record r { low = low }) None lef
 hunted r left Compare h = Some (Hunted r (Some h) left)
 hunted r left _ h = None
 
+-- after the question whether somebody is to be searched: gear may draw where nobody answered
+abbrev pub doubted : Answer → Stage
+doubted Silence = DrawFree
+doubted _ = DrawBarred
+
 -- after a query of a byte of a random address: all bytes so far, where each was heard
 abbrev pub byte_heard : Answer → Option ℕ
 byte_heard (Byte v) = Some v
@@ -88,6 +95,13 @@ leads Free (Arc f) h = Some Over
 leads Terminated (Initialise Unaddressed) h = Some InitialisedOnce
 leads InitialisedOnce (Initialise Unaddressed) h = Some Initialised
 leads Initialised Randomise h = Some RandomisedOnce
+leads Initialised (SearchHigh high) h = Some (WokenHigh high)
+leads (WokenHigh high) (SearchLow low) h = Some (WokenLow high low)
+leads (WokenHigh high) (SearchMiddle middle) h = Some (WokenMiddle high middle)
+leads (WokenLow high low) (SearchMiddle middle) h =
+    Some (Hunted (record { high = high; middle = middle; low = low }) None CALLING)
+leads (WokenMiddle high middle) Compare h = Some (doubted h)
+leads DrawFree Randomise h = Some RandomisedOnce
 leads RandomisedOnce Randomise h = Some Opened
 leads (HighSent high) (SearchMiddle middle) h = Some (MiddleSent high middle)
 leads (HighSent high) (SearchLow low) h = Some (LowSent high low)
@@ -98,6 +112,7 @@ leads (MiddleSent high middle) (SearchLow low) h =
     Some (NumberSent (record { high = high; middle = middle; low = low }))
 leads (NumberSent r) Compare h = Some (Probed r h)
 leads (NumberSent r) QueryShort h = Some (queried r h)
+leads (NumberSent r) Withdraw h = Some (PassedOver r)
 leads (Found r b) Withdraw h = Some (Withdrawn r b)
 leads (Unnamed r) (Program (Some a)) h = Some (Programmed r a)
 leads (Programmed r a) QueryShort h = Some (verified r a h)
@@ -120,10 +135,21 @@ stage_from s (e ∷ t) = stage_from (next_stage s (command_of e.frame) e.heard) 
 unfoldable pub stage_of : List Entry → Stage
 stage_of t = stage_from Free t
 
--- a hunt that goes on: all three bytes of its search address were sent
+-- a hunt or a roll call that goes on: all three bytes of its search address were sent
 abbrev pub IsHunting : Stage → Type 0
 IsHunting (Hunted r last left) = 0 < left
 IsHunting _ = ⊥
+
+-- gear were initialised, and are to draw: at once, or where nobody answered before
+abbrev pub IsBeforeDraw : Stage → Type 0
+IsBeforeDraw Initialised = Unit {0}
+IsBeforeDraw DrawFree = Unit {0}
+IsBeforeDraw _ = ⊥
+
+-- whether somebody is to be searched is asked once more before gear draw
+abbrev pub IsDoubting : Stage → Type 0
+IsDoubting (WokenMiddle high middle) = Unit {0}
+IsDoubting _ = ⊥
 
 -- which address is given to the gear at which search address, by PROGRAM SHORT ADDRESS and by what
 -- comes after it
@@ -170,6 +196,8 @@ may_give_some b reserved n =
 -- whether some command may come next at a stage
 abbrev pub may_follow : Block → List Assignment → Stage → Bool
 may_follow b reserved Opened = false
+may_follow b reserved DrawBarred = false
+may_follow b reserved (PassedOver r) = false
 may_follow b reserved (Probed r h) = false
 may_follow b reserved (Hunted r last left) = not (left == 0)
 may_follow b reserved (Unnamed r) = may_give_some b reserved (value_of r)
@@ -194,6 +222,10 @@ finding_at _ = None
 -- what the frames so far have set of the search address
 abbrev pub IsSearched : Stage → SearchAddress → Type 0
 IsSearched (HighSent high) r = r.high ≡ high
+IsSearched (WokenHigh high) r = r.high ≡ high
+IsSearched (WokenLow high low) r = (r.high ≡ high) × (r.low ≡ low)
+IsSearched (WokenMiddle high middle) r = (r.high ≡ high) × (r.middle ≡ middle)
+IsSearched (PassedOver n) r = r ≡ n
 IsSearched (MiddleSent high middle) r = (r.high ≡ high) × (r.middle ≡ middle)
 IsSearched (NumberSent n) r = r ≡ n
 IsSearched (LowSent high low) r = (r.high ≡ high) × (r.low ≡ low)

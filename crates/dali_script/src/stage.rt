@@ -19,6 +19,16 @@ pub enum Stage {
     InitialisedOnce,
     /// INITIALISE was sent twice.
     Initialised,
+    /// SEARCHADDRH was sent once gear were initialised: in a roll call, or to ask once more before they draw.
+    WokenHigh(u8),
+    /// SEARCHADDRH and SEARCHADDRL were sent once gear were initialised: in a roll call.
+    WokenLow(u8, u8),
+    /// SEARCHADDRH and SEARCHADDRM were sent once gear were initialised, to ask once more before they draw.
+    WokenMiddle(u8, u8),
+    /// COMPARE was sent before gear draw, and nobody was heard: they may draw.
+    DrawFree,
+    /// COMPARE was sent before gear draw, and somebody was heard: nobody draws.
+    DrawBarred,
     /// RANDOMISE was sent once.
     RandomisedOnce,
     /// RANDOMISE was sent twice: the opening is complete.
@@ -31,8 +41,8 @@ pub enum Stage {
     NumberSent(SearchAddress),
     /// SEARCHADDRH and SEARCHADDRL were sent: the start of a hunt.
     LowSent(u8, u8),
-    /// A hunt is under way: its search address as it is now; what was heard after COMPARE, where that was sent last;
-    /// and how many frames may follow.
+    /// A hunt or a roll call is under way: its search address as it is now; what was heard after COMPARE, where that
+    /// was sent last; and how many frames may follow.
     Hunted(SearchAddress, Option<Answer>, u8),
     /// COMPARE was sent, and this was heard.
     Probed(SearchAddress, Answer),
@@ -51,6 +61,8 @@ pub enum Stage {
     Confirmed(SearchAddress, Short),
     /// WITHDRAW was sent to the gear with this short address.
     Withdrawn(SearchAddress, Short),
+    /// WITHDRAW was sent to the gear at this search address, which was not asked for its short address.
+    PassedOver(SearchAddress),
     /// QUERY RANDOM ADDRESS (H) was sent to this short address, and heard as this byte, or not as a byte.
     HighAsked(Short, Option<u8>),
     /// QUERY RANDOM ADDRESS (H) and (M) were sent to this short address, and both heard as these bytes, or not.
@@ -63,11 +75,14 @@ pub enum Stage {
 }
 
 impl Stage {
-    ghost use Rattle.dali_script.specs.Stages.{leads, next_stage, queried, verified, follows, given, may_follow};
-    ghost use Rattle.dali_script.specs.Stages.{finding_at, may_come};
+    ghost use Rattle.dali_script.specs.Stages.{leads, next_stage, doubted, queried, verified, follows, given};
+    ghost use Rattle.dali_script.specs.Stages.{may_follow, finding_at, may_come};
 
     /// How many frames of a hunt may follow its first three: eight in all.
     const ASKING: u8 = 5;
+
+    /// How many frames of a roll call may follow its first six: eight in all.
+    const CALLING: u8 = 2;
 
     /// The stage that the first command of a script leads to.
     fn first(command: Command, heard: Answer) -> Option<Stage>
@@ -93,9 +108,27 @@ impl Stage {
             Stage::Free => Stage::first(command, heard),
             Stage::Terminated if is_initialise(command) => Some(Stage::InitialisedOnce),
             Stage::InitialisedOnce if is_initialise(command) => Some(Stage::Initialised),
-            Stage::Initialised if matches!(command, Command::Randomise) => Some(
-                Stage::RandomisedOnce,
-            ),
+            Stage::Initialised => match command {
+                Command::Randomise => Some(Stage::RandomisedOnce),
+                Command::SearchHigh(high) => Some(Stage::WokenHigh(high)),
+                _ => None,
+            },
+            Stage::WokenHigh(high) => match command {
+                Command::SearchLow(low) => Some(Stage::WokenLow(high, low)),
+                Command::SearchMiddle(middle) => Some(Stage::WokenMiddle(high, middle)),
+                _ => None,
+            },
+            Stage::WokenLow(high, low) => match command {
+                Command::SearchMiddle(middle) => {
+                    let number = SearchAddress { high, middle, low };
+                    Some(Stage::Hunted(number, None, Stage::CALLING))
+                }
+                _ => None,
+            },
+            Stage::WokenMiddle(..) if matches!(command, Command::Compare) => {
+                Some(Stage::doubted(heard))
+            }
+            Stage::DrawFree if matches!(command, Command::Randomise) => Some(Stage::RandomisedOnce),
             Stage::RandomisedOnce if matches!(command, Command::Randomise) => Some(Stage::Opened),
             Stage::HighSent(high) => match command {
                 Command::SearchMiddle(middle) => Some(Stage::MiddleSent(high, middle)),
@@ -119,6 +152,7 @@ impl Stage {
             Stage::NumberSent(number) => match command {
                 Command::Compare => Some(Stage::Probed(number, heard)),
                 Command::QueryShort => Some(Stage::queried(number, heard)),
+                Command::Withdraw => Some(Stage::PassedOver(number)),
                 _ => None,
             },
             Stage::Unnamed(number) => match command {
@@ -204,6 +238,8 @@ impl Stage {
                 kept.may_give(number.value(), short)
             }
             Stage::Opened
+            | Stage::DrawBarred
+            | Stage::PassedOver(_)
             | Stage::Probed(..)
             | Stage::Unanswered(_)
             | Stage::Inconclusive(..)
@@ -228,6 +264,16 @@ impl Stage {
             _ => return None,
         };
         Some(Finding::Queried(found?, number.value()))
+    }
+
+    /// The stage after the question whether somebody is to be searched, before gear draw.
+    fn doubted(heard: Answer) -> Stage
+        ensures { result ≡ doubted heard }
+    {
+        match heard {
+            Answer::Silence => Stage::DrawFree,
+            Answer::Byte(_) | Answer::Damaged => Stage::DrawBarred,
+        }
     }
 
     /// The stage after the first QUERY SHORT ADDRESS.

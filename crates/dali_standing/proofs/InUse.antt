@@ -13,7 +13,7 @@ use Rattle.dali_script.specs.declared.orders.Input.TheVariants as input
 use Rattle.dali_script.specs.declared.orders.Order.{Order}
 use Rattle.dali_script.specs.declared.orders.Order.TheVariants.{Put, Commit, Done, Halt}
 use Rattle.dali_controller.specs.declared.way.Way.{Way}
-use Rattle.dali_controller.specs.declared.way.Way.TheVariants.{Fresh, Surveying, Drawing}
+use Rattle.dali_controller.specs.declared.way.Way.TheVariants.{Fresh, Surveying}
 use Rattle.dali_controller.specs.Course.{Course, address_for, least_open}
 use Rattle.dali_controller.specs.Machine.{Machine, machine_told, is_withheld}
 use Rattle.dali_controller.specs.Orders.{AfterMask, AfterReserved, AfterMaskBy, AfterMaskSurveyed, AfterMaskOn, IsOrdered, IsAnswered}
@@ -92,7 +92,6 @@ way_alone : (w : Way) (t : Machine) (c d : Course) (n : SearchAddress) (a r : �
     → o ≡ Commit (Reserve a r)
 way_alone Fresh t c d n a r o one two = mask_alone t c d n a r o one two
 way_alone Surveying t c d n a r o one two = surveyed_alone t n a r o one two
-way_alone Drawing t c d n a r o one two = surveyed_alone t n a r o one two
 
 ordered_alone : (t : Machine) (a r : ℕ) (o : Order) → IsOrdered t (Commit (Reserve a r)) → IsOrdered t o → o ≡ Commit (Reserve a r)
 ordered_alone t a r o one two =

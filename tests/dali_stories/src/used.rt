@@ -32,7 +32,7 @@ const STORIES: [(&str, &str); 6] = [
          > 0: commit reserve 1 123456
          > 0: commit enrol 1 123456
          > 0: done all-found
-         > ran 299
+         > ran 322
          show > gear 0 on disabled 0ABCDE FFFFFF 0
          > gear 1 on disabled 123456 FFFFFE 1
          > table 0: 0=0ABCDE 1=123456",
@@ -58,7 +58,7 @@ const STORIES: [(&str, &str); 6] = [
          > 0: commit reserve 1 123456
          > 0: commit enrol 1 123456
          > 0: done all-found
-         > ran 299
+         > ran 309
          show > gear 0 on disabled 0ABCDE FFFFFF 0
          > gear 1 on disabled 123456 FFFFFE 1
          > table 0: 0=0ABCDE 1=123456",
@@ -87,7 +87,7 @@ const STORIES: [(&str, &str); 6] = [
          off 0 > ok
          survey 0 > 0: put 3 01C2
          run 1000 > refused 10 AddressInUse
-         > ran 278
+         > ran 285
          on 0 > ok
          go 0 > refused 10 AddressInUse
          down 0 > ok
@@ -97,7 +97,7 @@ const STORIES: [(&str, &str); 6] = [
          > 0: commit reserve 1 123456
          > 0: commit enrol 1 123456
          > 0: done all-found
-         > ran 299
+         > ran 309
          show > gear 0 on disabled 0ABCDE FFFFFF 0
          > gear 1 on disabled 123456 FFFFFE 1
          > table 0: 0=0ABCDE 1=123456",

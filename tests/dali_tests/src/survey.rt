@@ -15,20 +15,68 @@ use std::test::Fail;
 /// After which frame what is heard; after all others it is silence.
 type Heard = (u16, Input);
 
-/// Gear without short address are initialised, and draw no number.
-const WAKE: [Moment; 3] = [
+/// A roll call up to its first COMPARE: all gear without short address are initialised and asked under FFFFFF. They
+/// draw no number.
+const CALLED: [Moment; 7] = [
     (SILENCE, Put(3, 0xA100)),
     (SILENCE, Put(1, 0xA5FF)),
     (SILENCE, Put(1, 0xA5FF)),
+    (SILENCE, Put(1, 0xB1FF)),
+    (SILENCE, Put(1, 0xB5FF)),
+    (SILENCE, Put(1, 0xB3FF)),
+    (SILENCE, Put(1, 0xA900)),
 ];
+
+/// The first COMPARE was silent: one more, and that is silent too.
+const ONCE_MORE: [Moment; 1] = [(SILENCE, Put(1, 0xA900))];
 
 /// A hunt that finds nobody: COMPARE under FFFFFE, and once more, with no search byte again.
 const NOBODY: [Moment; 5] = [
+    (YES, Put(3, 0xB1FF)),
+    (SILENCE, Put(1, 0xB5FE)),
+    (SILENCE, Put(1, 0xB3FF)),
+    (SILENCE, Put(1, 0xA900)),
+    (SILENCE, Put(1, 0xA900)),
+];
+
+/// Who was heard in the roll call never drew: whether somebody is to be searched is asked once more, under FFFExx, and
+/// nobody is heard.
+const DRAWN: [Moment; 8] = [
+    (SILENCE, Put(3, 0xA100)),
+    (SILENCE, Put(1, 0xA5FF)),
+    (SILENCE, Put(1, 0xA5FF)),
+    (SILENCE, Put(1, 0xB1FF)),
+    (SILENCE, Put(1, 0xB3FE)),
+    (SILENCE, Put(1, 0xA900)),
+    (SILENCE, Put(1, 0xA700)),
+    (SILENCE, Put(1, 0xA700)),
+];
+
+/// The hunt after a draw finds nobody.
+const DREW_NOBODY: [Moment; 5] = [
     (SILENCE, Put(3, 0xB1FF)),
     (SILENCE, Put(1, 0xB5FE)),
     (SILENCE, Put(1, 0xB3FF)),
     (SILENCE, Put(1, 0xA900)),
     (SILENCE, Put(1, 0xA900)),
+];
+
+/// Somebody is heard before gear draw, so nobody does: gear are searched.
+const BARRED: [Moment; 7] = [
+    (SILENCE, Put(3, 0xA100)),
+    (SILENCE, Put(1, 0xA5FF)),
+    (SILENCE, Put(1, 0xA5FF)),
+    (SILENCE, Put(1, 0xB1FF)),
+    (SILENCE, Put(1, 0xB3FE)),
+    (SILENCE, Put(1, 0xA900)),
+    (YES, Put(3, 0xB1FF)),
+];
+
+/// A close, once a second roll call in a row was silent.
+const ALL_FOUND: [Moment; 3] = [
+    (SILENCE, Put(3, 0xA100)),
+    (SILENCE, Done(End::AllFound)),
+    (Input::Survey, NotDue),
 ];
 
 /// How many frames the questions have that find 000000. A first transaction asks FFFFFE and 7FFFFF; seven of eight
@@ -130,11 +178,11 @@ const TOLD: [Heard; 3] = [
     (0x01C4, Input::Heard(Answer::Byte(0x56))),
 ];
 
-/// With no other address in the block no gear draws a number.
+/// With no other address in the block nobody draws a number, though somebody is there who has none.
 const NOTHING_TO_GIVE: [&[Moment]; 3] = [
-    &WAKE,
+    &CALLED,
     &NOBODY,
-    &[(SILENCE, Put(3, 0xA100)), (SILENCE, Done(End::AllFound))],
+    &[(SILENCE, Put(3, 0xA100)), (SILENCE, Done(End::BlockFull))],
 ];
 
 /// Plays stories of surveys: one more costs no proof.
@@ -145,7 +193,7 @@ fn all_play<R: Abort>(rt: &R, stories: &[Surveyed<'_>]) -> Result<(), Fail> {
     Ok(())
 }
 
-const SURVEYS: [Surveyed<'static>; 5] = [
+const SURVEYS: [Surveyed<'static>; 9] = [
     (
         "silence is asked three times under each address",
         (0, 3),
@@ -153,18 +201,53 @@ const SURVEYS: [Surveyed<'static>; 5] = [
         &[],
         &[],
         192,
+        &[&CALLED, &ONCE_MORE, &CALLED, &ONCE_MORE, &ALL_FOUND],
+    ),
+    (
+        "a roll call is silent, and somebody answers the second one",
+        (0, 3),
+        &[],
+        &[],
+        &[],
+        192,
+        &[&CALLED, &ONCE_MORE, &CALLED, &NOBODY, &DRAWN],
+    ),
+    (
+        "the second question of a roll call is answered",
+        (0, 3),
+        &[],
+        &[],
+        &[],
+        192,
+        &[&CALLED, &ONCE_MORE, &NOBODY, &DRAWN],
+    ),
+    (
+        "three draws are the most",
+        (0, 3),
+        &[],
+        &[],
+        &[],
+        192,
         &[
-            &WAKE,
+            &CALLED,
             &NOBODY,
-            &[(SILENCE, Put(3, 0xA100))],
-            &OPENED,
-            &NOBODY,
-            &[
-                (SILENCE, Put(3, 0xA100)),
-                (SILENCE, Done(End::AllFound)),
-                (Input::Survey, NotDue),
-            ],
+            &DRAWN,
+            &DREW_NOBODY,
+            &DRAWN,
+            &DREW_NOBODY,
+            &DRAWN,
+            &DREW_NOBODY,
+            &[(SILENCE, Put(3, 0xA100)), (SILENCE, Done(End::GaveUp))],
         ],
+    ),
+    (
+        "nobody draws where somebody is heard",
+        (0, 3),
+        &[],
+        &[],
+        &[],
+        192,
+        &[&CALLED, &NOBODY, &BARRED],
     ),
     (
         "gear that tells a number is enrolled",
@@ -173,7 +256,7 @@ const SURVEYS: [Surveyed<'static>; 5] = [
         &TOLD,
         &[Enrol(0, 0x123456)],
         193,
-        &[&WAKE],
+        &[&CALLED],
     ),
     (
         "another address that is reserved for the number is given back",
@@ -182,7 +265,7 @@ const SURVEYS: [Surveyed<'static>; 5] = [
         &TOLD,
         &[Enrol(0, 0x123456), Release(9, 0x123456)],
         194,
-        &[&WAKE],
+        &[&CALLED],
     ),
     (
         "what the table names is asked only where it is reserved",
@@ -191,7 +274,7 @@ const SURVEYS: [Surveyed<'static>; 5] = [
         &[],
         &[],
         186,
-        &[&WAKE],
+        &[&CALLED],
     ),
     (
         "another number at an address of the table is a conflict",
@@ -294,9 +377,9 @@ type Reserved<'a> = ((u8, u8), &'a [Heard], u32, &'a [&'a [Moment]]);
 fn gives<R: Abort>(rt: &R, reserved: &Reserved<'_>) -> Result<(), Fail> {
     let (block, heard, orders, parts) = *reserved;
     let records = [Reserve(0, 0x000000)];
-    let story: Surveyed<'_> = ("reserved", block, &records, heard, &[], orders, &[&WAKE]);
+    let story: Surveyed<'_> = ("reserved", block, &records, heard, &[], orders, &[&CALLED]);
     let mut machine = played(rt, &story)?;
-    searches(rt, &mut machine, SILENCE, HUNTED);
+    searches(rt, &mut machine, YES, HUNTED);
     goes_on(rt, "found", &mut machine, &[&FOUND]);
     goes_on(rt, "found", &mut machine, parts);
     Ok(())
@@ -332,7 +415,7 @@ type Hunt<'a> = (&'a str, &'a [(Input, u32, &'a [Moment])]);
 
 fn hunts<R: Abort>(rt: &R, hunt: &Hunt<'_>) -> Result<(), Fail> {
     let (name, parts) = *hunt;
-    let story: Surveyed<'_> = (name, (0, 3), &[], &[], &[], 192, &[&WAKE]);
+    let story: Surveyed<'_> = (name, (0, 3), &[], &[], &[], 192, &[&CALLED]);
     let mut machine = played(rt, &story)?;
     for (told, frames, moments) in parts {
         searches(rt, &mut machine, *told, *frames);
@@ -407,7 +490,7 @@ const ASKED_ON: [Moment; 3] = [
 
 /// The gear at 000000 has short address 0. The search goes on above it, with a step up to 000001, finds somebody there,
 /// and the visit hears nothing.
-const PASSED_OVER: [Moment; 14] = [
+const HUNTED_ON: [Moment; 14] = [
     (YES, Put(3, 0xB100)),
     (SILENCE, Put(1, 0xB300)),
     (SILENCE, Put(1, 0xB500)),
@@ -425,7 +508,7 @@ const PASSED_OVER: [Moment; 14] = [
 ];
 
 /// So it begins anew: it asks first whether somebody is up to 000000, the greatest number that was found; then one,
-/// two, four and eight numbers further; and then twice under FFFFFE. An address is left, so gear draw new numbers.
+/// two, four and eight numbers further; and then twice under FFFFFE. It had found somebody, so the roll is called.
 const BEGUN_ANEW: [Moment; 20] = [
     (SILENCE, Put(3, 0xB100)),
     (SILENCE, Put(1, 0xB500)),
@@ -457,6 +540,18 @@ const FIRST_VISIT: [Moment; 4] = [
     (SILENCE, Put(1, 0xA900)),
 ];
 
+/// The visit of 000000 fails once more: it is passed over, and the search goes on above it.
+const PASSED_OVER: [Moment; 8] = [
+    (SILENCE, Put(3, 0xB100)),
+    (SILENCE, Put(1, 0xB300)),
+    (SILENCE, Put(1, 0xB500)),
+    (SILENCE, Put(1, 0xAB00)),
+    (SILENCE, Put(3, 0xB100)),
+    (SILENCE, Put(1, 0xB501)),
+    (SILENCE, Put(1, 0xB300)),
+    (SILENCE, Put(1, 0xA900)),
+];
+
 /// A no under FFFFFE, and then a yes: who answered can be at FFFFFE alone.
 const NO_AND_YES: [Moment; 6] = [
     (SILENCE, Put(1, 0xA900)),
@@ -467,25 +562,34 @@ const NO_AND_YES: [Moment; 6] = [
     (Input::Survey, NotDue),
 ];
 
-const HUNTS: [Hunt<'static>; 6] = [
-    ("asks on", &[(SILENCE, 4, &ASKS_ON)]),
+const HUNTS: [Hunt<'static>; 7] = [
+    ("asks on", &[(YES, 4, &ASKS_ON)]),
     (
         "two bytes change",
-        &[(SILENCE, 27, &HIGH_AND_MIDDLE), (YES, 20, &LOW_AND_MIDDLE)],
+        &[(YES, 27, &HIGH_AND_MIDDLE), (YES, 20, &LOW_AND_MIDDLE)],
     ),
     (
         "a question is lost",
-        &[(SILENCE, 4, &ASKED_ANEW), (YES, 0, &ASKED_ON)],
+        &[(YES, 4, &ASKED_ANEW), (YES, 0, &ASKED_ON)],
     ),
     (
-        "passed over",
-        &[(SILENCE, HUNTED, &PASSED_OVER), (SILENCE, 0, &BEGUN_ANEW)],
+        "begun anew",
+        &[(YES, HUNTED, &HUNTED_ON), (SILENCE, 0, &BEGUN_ANEW)],
     ),
     (
         "a first visit that heard nothing",
-        &[(SILENCE, HUNTED, &FOUND), (SILENCE, 0, &FIRST_VISIT)],
+        &[(YES, HUNTED, &FOUND), (SILENCE, 0, &FIRST_VISIT)],
     ),
-    ("a no and a yes", &[(SILENCE, 4, &NO_AND_YES)]),
+    (
+        "passed over",
+        &[
+            (YES, HUNTED, &FOUND),
+            (SILENCE, 0, &FIRST_VISIT),
+            (YES, HUNTED - 4, &FOUND),
+            (SILENCE, 0, &PASSED_OVER),
+        ],
+    ),
+    ("a no and a yes", &[(YES, 4, &NO_AND_YES)]),
 ];
 
 #[test]

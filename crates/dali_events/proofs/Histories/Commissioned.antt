@@ -100,7 +100,45 @@ searches = record {
   calm_opening = (λ e. cc, (λ e. cc, (λ e. cc, tt)));
   complete = record { owner = refl; opening = (refl, tt, (refl, tt, (refl, tt, (refl, tt, refl)))); last = refl };
   calm_since = (tt, (tt, (λ e. cc, (λ e. cc, (λ e. cc, (λ e. cc, (λ e. cc, (λ e. cc, (λ e. cc, (λ e. cc, (λ e. cc, (λ e. cc, tt))))))))))));
+  nobody_passed = (
+    tt,
+    (
+      tt,
+      (
+        λ e. let a = e.0 in let b = e.1.1 in cc,
+        (
+          λ e. let a = e.0 in let b = e.1.1 in cc,
+          (
+            λ e. let a = e.0 in let b = e.1.1 in
+                cc,
+            (
+              λ e. let a = e.0 in let b = e.1.1 in
+                  cc,
+              (
+                λ e. let a = e.0 in let b = e.1.1 in
+                    cc,
+                (
+                  λ e. let a = e.0 in let b = e.1.1 in
+                      cc,
+                  (
+                    λ e. let a = e.0 in let b = e.1.1 in
+                        cc,
+                    (
+                      λ e. let a = e.0 in let b = e.1.1 in
+                          cc,
+                      (λ e. let a = e.0 in let b = e.1.1 in cc, (λ e. let a = e.0 in let b = e.1.1 in cc, tt)),
+                    ),
+                  ),
+                ),
+              ),
+            ),
+          ),
+        ),
+      ),
+    ),
+  );
   compare_sent = refl;
+  searched = (_, refl);
   highest = refl;
 }
 

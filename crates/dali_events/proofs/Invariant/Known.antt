@@ -23,7 +23,7 @@ use Rattle.dali_script.specs.declared.stage.Stage.TheVariants as stage
 use Rattle.dali_script.specs.Records.{Assignment}
 use Rattle.dali_script.specs.Scripts.{MayGive}
 use Rattle.dali_script.proofs.Transactions.{asks_hunting}
-use Rattle.dali_script.specs.Stages.{Follows, next_stage, hunted, queried, named, verified, answered, bytes_heard, number_heard, IsSearched}
+use Rattle.dali_script.specs.Stages.{Follows, next_stage, hunted, doubted, queried, named, verified, answered, bytes_heard, number_heard, IsSearched}
 
 -- WHAT A STAGE SAYS OF EACH POWERED GEAR that takes part in the initialisation
 abbrev pub IsActive : Gear → Type 0
@@ -39,6 +39,10 @@ abbrev pub Knows : Stage → Gear → Type 0
 Knows stage.Terminated g = Unnumbered g
 Knows stage.InitialisedOnce g = Unnumbered g
 Knows stage.Initialised g = Unnumbered g
+Knows (stage.WokenHigh high) g = IsActive g → (g.short ≡ None) × (g.search.high ≡ high)
+Knows (stage.WokenLow high low) g = IsActive g → (g.search.high ≡ high) × (g.search.low ≡ low)
+Knows (stage.WokenMiddle high middle) g = Unnumbered g
+Knows stage.DrawFree g = Unnumbered g
 Knows stage.RandomisedOnce g = Unnumbered g
 Knows (stage.HighSent high) g = IsActive g → g.search.high ≡ high
 Knows (stage.MiddleSent high middle) g = IsActive g → (g.search.high ≡ high) × (g.search.middle ≡ middle)
@@ -82,6 +86,11 @@ pub found_random : (g : Gear) (r : SearchAddress) → g.search ≡ r → is_foun
 found_random g r search found = test (g.random) (value_of g.search) found ∙ ap value_of search where
   test : (m n : ℕ) → (m == n) ≡ true → m ≡ n
   test m n e = grind (arith, nat_tests)
+
+knows_doubted : (h : Answer) (g : Gear) → Unnumbered g → Knows (doubted h) g
+knows_doubted Silence g k = k
+knows_doubted (Byte v) g k = tt
+knows_doubted Damaged g k = tt
 
 knows_queried : (r : SearchAddress) (h : Answer) (g : Gear) (x : ℕ) → IsShort g → Agrees QueryShort g h → Seeks r g
     → Knows (queried r h) (gear_taken QueryShort x g)
@@ -166,6 +175,14 @@ knows_step b xs stage.Free (SearchHigh high) h g x on small agrees k = λ active
 knows_step b xs stage.Terminated (Initialise Unaddressed) h g x on small agrees k = initialised_none g k
 knows_step b xs stage.InitialisedOnce (Initialise Unaddressed) h g x on small agrees k = initialised_none g k
 knows_step b xs stage.Initialised Randomise h g x on small agrees k = k
+knows_step b xs stage.Initialised (SearchHigh high) h g x on small agrees k = λ active. rw active (k active, refl)
+knows_step b xs (stage.WokenHigh high) (SearchLow low) h g x on small agrees k = λ active. rw active ((k active).1, refl)
+knows_step b xs (stage.WokenHigh high) (SearchMiddle middle) h g x on small agrees k = λ active. (k active).0
+knows_step b xs (stage.WokenLow high low) (SearchMiddle middle) h g x on small agrees k = λ active.
+    rw active (ap (λ n. record { high = n; middle = middle; low = g.search.low }) (k active).0
+    ∙ ap (λ n. record { high = high; middle = middle; low = n }) (k active).1)
+knows_step b xs (stage.WokenMiddle high middle) Compare h g x on small agrees k = knows_doubted h (gear_taken Compare x g) k
+knows_step b xs stage.DrawFree Randomise h g x on small agrees k = k
 knows_step b xs (stage.HighSent high) (SearchMiddle middle) h g x on small agrees k = λ active. rw active (k active, refl)
 knows_step b xs (stage.MiddleSent high middle) (SearchLow low) h g x on small agrees k = λ active.
     rw active (ap (λ n. record { high = n; middle = g.search.middle; low = low }) (k active).0
@@ -182,6 +199,7 @@ knows_step b xs stage.RandomisedOnce Randomise h g x on small agrees k = tt
 knows_step b xs stage.Free (RandomByte a High) h g x on small agrees k = tt
 knows_step b xs (stage.HighAsked a high) (RandomByte d Middle) h g x on small agrees k = knows_middle a d high h (gear_taken (RandomByte d Middle) x g)
 knows_step b xs (stage.MiddleAsked a bytes) (RandomByte d Low) h g x on small agrees k = knows_low a d bytes h (gear_taken (RandomByte d Low) x g)
+knows_step b xs (stage.NumberSent r) Withdraw h g x on small agrees k = tt
 knows_step b xs (stage.Found r a) Withdraw h g x on small agrees k = tt
 knows_step b xs (stage.Confirmed r a) Withdraw h g x on small agrees k = tt
 knows_step b xs _ _ h g x on small agrees k = tt
@@ -191,6 +209,10 @@ pub knows_inactive : (s : Stage) (g : Gear) → is_active g.state ≡ false → 
 knows_inactive stage.Terminated g off = λ active. absurd (cc)
 knows_inactive stage.InitialisedOnce g off = λ active. absurd (cc)
 knows_inactive stage.Initialised g off = λ active. absurd (cc)
+knows_inactive (stage.WokenHigh high) g off = λ active. absurd (cc)
+knows_inactive (stage.WokenLow high low) g off = λ active. absurd (cc)
+knows_inactive (stage.WokenMiddle high middle) g off = λ active. absurd (cc)
+knows_inactive stage.DrawFree g off = λ active. absurd (cc)
 knows_inactive stage.RandomisedOnce g off = λ active. absurd (cc)
 knows_inactive (stage.HighSent high) g off = λ active. absurd (cc)
 knows_inactive (stage.MiddleSent high middle) g off = λ active. absurd (cc)
@@ -208,6 +230,10 @@ pub knows_quieted : (s : Stage) (g : Gear) → Knows s g → Knows s (gear_quiet
 knows_quieted stage.Terminated g k = k
 knows_quieted stage.InitialisedOnce g k = k
 knows_quieted stage.Initialised g k = k
+knows_quieted (stage.WokenHigh high) g k = k
+knows_quieted (stage.WokenLow high low) g k = k
+knows_quieted (stage.WokenMiddle high middle) g k = k
+knows_quieted stage.DrawFree g k = k
 knows_quieted stage.RandomisedOnce g k = k
 knows_quieted (stage.HighSent high) g k = k
 knows_quieted (stage.MiddleSent high middle) g k = k
@@ -298,6 +324,7 @@ drawing_none g a k e = go (is_second Randomise g.half) (is_active g.state) refl 
 pub random_stays : (b : Block) (xs : List Assignment) (s : Stage) (c : Command) (g : Gear) (x a : ℕ) → Follows b xs s c → Knows s g → g.short ≡ Some a
     → random_after c x g ≡ g.random
 random_stays b xs stage.Initialised Randomise g x a on k e = rw (drawing_none g a k e) refl
+random_stays b xs stage.DrawFree Randomise g x a on k e = rw (drawing_none g a k e) refl
 random_stays b xs stage.RandomisedOnce Randomise g x a on k e = rw (drawing_none g a k e) refl
 random_stays b xs (stage.Hunted r last left) Randomise g x a on k e =
     absurd (let asks = asks_hunting r last left Randomise on.leads_on in let other = asks.1 in cc)

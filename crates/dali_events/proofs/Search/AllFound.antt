@@ -7,7 +7,7 @@ use Rattle.dali_frame.specs.declared.frames.Answer.{Answer}
 use Rattle.dali_frame.specs.declared.numbers.SearchAddress.{SearchAddress}
 use Rattle.dali_frame.specs.Random.{value_of, MASK24}
 use Rattle.dali_special.specs.declared.command.Command.{Command}
-use Rattle.dali_special.specs.declared.command.Command.TheVariants.{Terminate, Randomise, Compare}
+use Rattle.dali_special.specs.declared.command.Command.TheVariants.{Terminate, Randomise, Compare, Withdraw}
 use Rattle.dali_special.specs.Command.{command_of}
 use Rattle.dali_gear.specs.declared.state.InitialisationState.TheVariants.{Enabled}
 use Rattle.dali_gear.specs.declared.row.Reach.{Reach}
@@ -22,8 +22,8 @@ use Rattle.dali_script.specs.declared.stage.Stage.TheVariants as stage
 use Rattle.dali_script.specs.Records.{Assignment, Has}
 use Rattle.dali_script.specs.Scripts.{Open, steps, IsFront}
 use Rattle.dali_script.specs.Findings.{search_of}
-use Rattle.dali_script.specs.Stages.{Follows, next_stage, stage_of, IsSearched, IsHunting}
-use Rattle.dali_script.proofs.Transactions.{stage_more, stage_none, compare_at}
+use Rattle.dali_script.specs.Stages.{Follows, next_stage, stage_of, IsSearched}
+use Rattle.dali_script.proofs.Transactions.{stage_more, stage_none}
 use Rattle.dali_script.proofs.Firsts.{terminate_first}
 use Rattle.dali_script.proofs.Found.{searched_lawful}
 use Rattle.dali_events.specs.declared.event.Event.{Event}
@@ -34,7 +34,8 @@ use Rattle.dali_events.specs.Happens.{happens, trace_running, entry, goes_on}
 use Rattle.dali_events.specs.Allowed.{Allowed, MaySend}
 use Rattle.dali_events.specs.Runs.{after, after_all, AllAllowed}
 use Rattle.dali_events.specs.Searching.{EachPowered, IsCalm, AreCalm, CompletesOpening, HIGHEST, sent_event, up_to_compare, SearchesAll, NobodyAnswers}
-use Rattle.dali_events.specs.Searching.{HasShort}
+use Rattle.dali_events.specs.Searching.{number_at}
+use Rattle.dali_events.specs.Searching.{HasShort, PassesOver, PassesNobody, PassNobody}
 use Rattle.dali_events.proofs.Invariant.Growing.{after_both, allowed_front, allowed_rest}
 use Rattle.dali_script.proofs.Members.{Each, has_right}
 use Rattle.dali_events.proofs.Invariant.Takes.{Moved, stays, goes, moves_at, row_length}
@@ -159,44 +160,49 @@ ready_opened p plan w c f h here draws complete opens =
 
 -- it stays ready
 ready_taken_one : (b : Block) (xs : List Assignment) (s : Stage) (c : Command) (reach : Reach) (ds : List (ℕ × ℕ)) (k : ℕ) (g g' : Gear) → Follows b xs s c
-    → (c ≡ Terminate → ⊥)
+    → (c ≡ Terminate → ⊥) → ((n : SearchAddress) → c ≡ Withdraw → s ≡ stage.NumberSent n → ⊥)
     → ((x : ℕ × ℕ) → Has ds x → x.1 < MASK24) → (g.powered ≡ true → Knows s g) → (g.powered ≡ true → Ready g) → Moved reach c ds k g g' → g'.powered ≡ true
     → Ready g'
-ready_taken_one b xs s c reach ds k g _ follows calm below knows ready (stays off) on = ready on
-ready_taken_one b xs s c reach ds k g _ follows calm below knows ready (goes r there drew) on =
-    ready_step b xs s c g r follows calm (λ w. go (drew w)) (knows on) (ready on) where
+ready_taken_one b xs s c reach ds k g _ follows calm kept below knows ready (stays off) on = ready on
+ready_taken_one b xs s c reach ds k g _ follows calm kept below knows ready (goes r there drew) on =
+    ready_step b xs s c g r follows calm kept (λ w. go (drew w)) (knows on) (ready on) where
       go : (r ≡ g.random) ⊎ Has ds (k, r) → (r ≡ g.random) ⊎ (r < MASK24)
       go (inl e) = inl e
       go (inr h) = inr (below (k, r) h)
 
-ready_taken : (w : World) (c : ℕ) (f : Forward) (reach : Reach) → MaySend w c f → IsKnown w → (command_of f ≡ Terminate → ⊥)
+ready_taken : (w : World) (c : ℕ) (f : Forward) (reach : Reach) → MaySend w c f → IsKnown w → (command_of f ≡ Terminate → ⊥) → (PassesOver w c f → ⊥)
     → ((x : ℕ × ℕ) → Has (drawn_of reach (command_of f) 0 w.gear w.left) x → x.1 < MASK24) → ReadyAll w.gear
     → ReadyAll (row_after reach (command_of f) 0 w.gear w.left)
-ready_taken w c f reach may known calm below ready i in_row =
+ready_taken w c f reach may known calm kept below ready i in_row =
     let there : i < length w.gear = subst (λ n. i < n) (row_length reach (command_of f) 0 w.gear w.left) in_row in
     ready_taken_one (controller_at w c).records.block (controller_at w c).records.reserved (stage_of (trace_running w c)) (command_of f) reach
     (drawn_of reach (command_of f) 0 w.gear w.left) i (gear_at w i)
-    (get_or (row_after reach (command_of f) 0 w.gear w.left) i fresh) (follows_of w c f may) calm below (knows_running w c known.knows i there) (ready i there)
+    (get_or (row_after reach (command_of f) 0 w.gear w.left) i fresh) (follows_of w c f may) calm (λ n is at. kept (is, (n, at))) below
+    (knows_running w c known.knows i there) (ready i there)
     (moves_at reach (command_of f) w.gear w.left i there)
 
-ready_event : (p : Plan) → IsPlan p → (w : World) (e : Event) → Allowed w e → IsCalm e → IsKnown w → Draws (numbers_of p) w.gear w.drawn w.left
+ready_event : (p : Plan) → IsPlan p → (w : World) (e : Event) → Allowed w e → IsCalm e → PassesNobody w e → IsKnown w
+    → Draws (numbers_of p) w.gear w.drawn w.left
     → ReadyAll w.gear
     → ReadyAll (happens w e).gear
-ready_event p plan w (event.Sent c f h) here calm known draws ready =
-    ready_taken w c f Everyone here.may known calm (below_of p plan w (event.Sent c f h) (drawn_of Everyone (command_of f) 0 w.gear w.left) draws refl) ready
-ready_event p plan w (event.Destroyed c f set) here calm known draws ready =
-    ready_taken w c f (Only set) here.may known calm (below_of p plan w (event.Destroyed c f set)
+ready_event p plan w (event.Sent c f h) here calm kept known draws ready =
+    ready_taken w c f Everyone here.may known calm kept (below_of p plan w (event.Sent c f h) (drawn_of Everyone (command_of f) 0 w.gear w.left) draws refl)
+    ready
+ready_event p plan w (event.Destroyed c f set) here calm kept known draws ready =
+    ready_taken w c f (Only set) here.may known calm kept (below_of p plan w (event.Destroyed c f set)
     (drawn_of (Only set) (command_of f) 0 w.gear w.left) draws refl) ready
-ready_event p plan w event.Quiet here calm known draws ready = absurd calm
-ready_event p plan w (event.Power g on) here calm known draws ready = absurd calm
-ready_event p plan w (event.Expired g) here calm known draws ready = absurd calm
-ready_event p plan w _ here calm known draws ready = ready
+ready_event p plan w event.Quiet here calm kept known draws ready = absurd calm
+ready_event p plan w (event.Power g on) here calm kept known draws ready = absurd calm
+ready_event p plan w (event.Expired g) here calm kept known draws ready = absurd calm
+ready_event p plan w _ here calm kept known draws ready = ready
 
-ready_all : (p : Plan) → IsPlan p → (w : World) (es : List Event) → AllAllowed w es → AreCalm es → IsKnown w → Draws (numbers_of p) w.gear w.drawn w.left
+ready_all : (p : Plan) → IsPlan p → (w : World) (es : List Event) → AllAllowed w es → AreCalm es → PassNobody w es → IsKnown w
+    → Draws (numbers_of p) w.gear w.drawn w.left
     → ReadyAll w.gear → ReadyAll (after_all w es).gear
-ready_all p plan w [] all calm known draws ready = ready
-ready_all p plan w (e ∷ es) all calm known draws ready =
-    ready_all p plan (happens w e) es all.1 calm.1 (known_step w e all.0 known) (draws_step p w e draws) (ready_event p plan w e all.0 calm.0 known draws ready)
+ready_all p plan w [] all calm kept known draws ready = ready
+ready_all p plan w (e ∷ es) all calm kept known draws ready =
+    ready_all p plan (happens w e) es all.1 calm.1 kept.1 (known_step w e all.0 known) (draws_step p w e draws)
+    (ready_event p plan w e all.0 calm.0 kept.0 known draws ready)
 
 -- THE COMPARE: a ready gear would have answered it
 ready_answers : (g : Gear) (r : SearchAddress) → g.state ≡ Enabled → g.random < MASK24 → g.search ≡ r → value_of r ≡ HIGHEST → answer Compare g ≡ Some YES
@@ -212,22 +218,23 @@ ready_answers g r enabled below search highest =
         let below : m ≤ n = omega arith in
         grind (arith, nat_tests)
 
-number_seeks : (s : Stage) (g : Gear) (q : SearchAddress) → ((r : SearchAddress) × (s ≡ stage.NumberSent r)) ⊎ IsHunting s → IsSearched s q → Knows s g
-    → IsActive g
-    → g.search ≡ q
-number_seeks s g q (inl at) search_of knows active =
-    subst (λ x. Knows x g) at.1 knows active ∙ sym (subst (λ x. IsSearched x q) at.1 search_of)
-number_seeks (stage.Hunted r last left) g q (inr some) search_of knows active = knows active ∙ sym search_of
-number_seeks _ g q (inr none) search_of knows active = absurd none
+number_seeks : (s : Stage) (g : Gear) (q r : SearchAddress) → number_at s ≡ Some r → IsSearched s q → Knows s g → IsActive g → g.search ≡ q
+number_seeks (stage.NumberSent n) g q r at searched knows active = knows active ∙ sym searched
+number_seeks (stage.Hunted n last left) g q r at searched knows active = knows active ∙ sym searched
+number_seeks (stage.Found n b) g q r at searched knows active = (knows active).0 ∙ sym searched
+number_seeks (stage.Unnamed n) g q r at searched knows active = (knows active).0 ∙ sym searched
+number_seeks (stage.Programmed n a) g q r at searched knows active = knows active ∙ sym searched
+number_seeks (stage.Confirmed n a) g q r at searched knows active = (knows active).0 ∙ sym searched
+number_seeks _ g q r at searched knows active = absurd (cc)
 
 compare_finds : (w : World) (c : ℕ) (f : Forward) (h : Answer) → Allowed w (event.Sent c f h) → IsKnown w → command_of f ≡ Compare
+    → (r : SearchAddress) × (number_at (stage_of (trace_running w c)) ≡ Some r)
     → value_of (search_of (trace_running w c)) ≡ HIGHEST
     → NobodyAnswers w → ReadyAll w.gear → EachPowered w HasShort
-compare_finds w c f h here known is highest nobody ready g there on = go (gear_at w g).short refl where
+compare_finds w c f h here known is searched highest nobody ready g there on = go (gear_at w g).short refl where
   seeks : IsActive (gear_at w g) → (gear_at w g).search ≡ search_of (trace_running w c)
   seeks active =
-      number_seeks (stage_of (trace_running w c)) (gear_at w g) (search_of (trace_running w c))
-      (compare_at (controller_at w c).records.block (controller_at w c).records.reserved (trace_running w c) f (lawful_of w c f here.may) is)
+      number_seeks (stage_of (trace_running w c)) (gear_at w g) (search_of (trace_running w c)) searched.0 searched.1
       (searched_lawful (controller_at w c).records.block (controller_at w c).records.reserved (trace_running w c) f (lawful_of w c f here.may))
       (knows_running w c known.knows g there on) active
 
@@ -259,11 +266,14 @@ module _ (p : Plan) (plan : IsPlan p) (w : World) (known : IsKnown w) (draws : D
     (opening middle : List Event)
     (all : AllAllowed w (sent_event c first ∷ (opening ++ sent_event c last ∷ (middle ++ sent_event c compare ∷ [])))) where
   pub found_from : command_of first.frame ≡ Terminate → AreCalm opening → CompletesOpening (after_all (happens w (sent_event c first)) opening) c last.frame
-      → AreCalm middle → command_of compare.frame ≡ Compare
+      → AreCalm middle → PassNobody (happens (after_all (happens w (sent_event c first)) opening) (sent_event c last)) middle
+      → command_of compare.frame ≡ Compare
+      → (r : SearchAddress)
+      × (number_at (stage_of (trace_running (after_all (happens (after_all (happens w (sent_event c first)) opening) (sent_event c last)) middle) c)) ≡ Some r)
       → value_of (search_of (trace_running (after_all (happens (after_all (happens w (sent_event c first)) opening) (sent_event c last)) middle) c)) ≡ HIGHEST
       → NobodyAnswers (after_all (happens (after_all (happens w (sent_event c first)) opening) (sent_event c last)) middle)
       → EachPowered (after_all (happens (after_all (happens w (sent_event c first)) opening) (sent_event c last)) middle) HasShort
-  found_from is calm complete calm_since compares highest nobody =
+  found_from is calm complete calm_since kept compares searched highest nobody =
       let w1 : World = happens w (sent_event c first) in
       let opening_allowed : AllAllowed (happens w (sent_event c first)) opening = allowed_front (happens w (sent_event c first)) opening _ all.1 in
       let rest = allowed_rest (happens w (sent_event c first)) opening (sent_event c last ∷ (middle ++ sent_event c compare ∷ [])) all.1 in
@@ -282,9 +292,9 @@ module _ (p : Plan) (plan : IsPlan p) (w : World) (known : IsKnown w) (draws : D
       (allowed_rest (happens (after_all (happens w (sent_event c first)) opening) (sent_event c last)) middle (sent_event c compare ∷ []) rest.1).0 in
       let known6 = known_all (happens (after_all (happens w (sent_event c first)) opening) (sent_event c last)) middle middle_allowed known5 in
       let ready6 = ready_all p plan (happens (after_all (happens w (sent_event c first)) opening) (sent_event c last))
-      middle middle_allowed calm_since known5 draws5 ready5 in
+      middle middle_allowed calm_since kept known5 draws5 ready5 in
       compare_finds (after_all (happens (after_all (happens w (sent_event c first)) opening) (sent_event c last)) middle)
-      c compare.frame compare.heard compare_allowed known6 compares highest nobody ready6
+      c compare.frame compare.heard compare_allowed known6 compares searched highest nobody ready6
 
 -- the world of the search, from the front
 world_of : (w : World) (front opening middle : List Event) (a b : Event)
@@ -302,7 +312,9 @@ all_found p capacity front c first opening last middle compare s nobody =
     (found_from p s.run.plan (after p capacity front) (known_after p capacity s.run.plan.used front (allowed_front (start p capacity) front _ s.run.allowed))
     (draws_after p capacity front) c first last compare opening middle
     (allowed_rest (start p capacity) front (sent_event c first ∷ (opening ++ sent_event c last ∷ (middle ++ sent_event c compare ∷ []))) s.run.allowed)
-    s.terminate s.calm_opening (subst (λ v. CompletesOpening v c last.frame) half s.complete) s.calm_since s.compare_sent
+    s.terminate s.calm_opening (subst (λ v. CompletesOpening v c last.frame) half s.complete) s.calm_since
+    (subst (λ v. PassNobody v middle) (world_of (start p capacity) front opening [] (sent_event c first) (sent_event c last)) s.nobody_passed) s.compare_sent
+    (subst (λ v. (r : SearchAddress) × (number_at (stage_of (trace_running v c)) ≡ Some r)) there s.searched)
     (subst (λ v. value_of (search_of (trace_running v c)) ≡ HIGHEST) there s.highest) (subst NobodyAnswers there nobody))
 
 -- and in the world after the COMPARE

@@ -17,7 +17,7 @@ use Rattle.dali_script.specs.declared.stage.Stage.{Stage}
 use Rattle.dali_script.specs.declared.stage.Stage.TheVariants as stage
 use Rattle.dali_script.specs.Records.{Assignment}
 use Rattle.dali_script.specs.Scripts.{IsFirst}
-use Rattle.dali_script.specs.Stages.{Follows, stage_of}
+use Rattle.dali_script.specs.Stages.{Follows, stage_of, IsBeforeDraw}
 use Rattle.dali_script.proofs.Transactions.{stage_none, follows_lawful, randomise_at}
 use Rattle.dali_script.proofs.Firsts.{first_for_all}
 use Rattle.dali_events.specs.declared.event.Event.{Event}
@@ -132,8 +132,10 @@ no_half_at_first p capacity log c f a run first =
           (moves_at Everyone (command_of f) w.gear w.left i there)
 
 -- RANDOMISE
-unnumbered_at : (s : Stage) (g : Gear) → (s ≡ stage.Initialised) ⊎ (s ≡ stage.RandomisedOnce) → Knows s g → Unnumbered g
-unnumbered_at s g (inl e) k = subst (λ x. Knows x g) e k
+unnumbered_at : (s : Stage) (g : Gear) → IsBeforeDraw s ⊎ (s ≡ stage.RandomisedOnce) → Knows s g → Unnumbered g
+unnumbered_at stage.Initialised g (inl before) k = k
+unnumbered_at stage.DrawFree g (inl before) k = k
+unnumbered_at _ g (inl before) k = absurd before
 unnumbered_at s g (inr e) k = subst (λ x. Knows x g) e k
 
 unnumbered_sent : (w : World) (c : ℕ) (f : Forward) → MaySend w c f → IsKnown w → command_of f ≡ Randomise → EachActive w (λ g. g.short ≡ None)

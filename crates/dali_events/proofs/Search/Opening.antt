@@ -24,7 +24,7 @@ use Rattle.dali_script.specs.declared.stage.Stage.TheVariants as stage
 use Rattle.dali_script.specs.Records.{Assignment, Has}
 use Rattle.dali_script.specs.Scripts.{is_asking}
 use Rattle.dali_script.proofs.Transactions.{asks_hunting}
-use Rattle.dali_script.specs.Stages.{Follows, next_stage, hunted, queried, named, verified, answered, bytes_heard, number_heard}
+use Rattle.dali_script.specs.Stages.{Follows, next_stage, hunted, doubted, queried, named, verified, answered, bytes_heard, number_heard}
 use Rattle.dali_events.proofs.Invariant.Known.{Knows, IsActive, found_random}
 
 -- WITH NUMBERS ENOUGH, who would draw draws one of them
@@ -84,8 +84,16 @@ abbrev pub Opens : Stage → Gear → Type 0
 Opens stage.Terminated g = g.half ≡ None
 Opens stage.InitialisedOnce g = g.half ≡ Some (Initialise Unaddressed)
 Opens stage.Initialised g = (g.half ≡ None) × (g.state ≡ Enabled)
+Opens (stage.WokenHigh high) g = (g.half ≡ None) × (g.state ≡ Enabled)
+Opens (stage.WokenMiddle high middle) g = (g.half ≡ None) × (g.state ≡ Enabled)
+Opens stage.DrawFree g = (g.half ≡ None) × (g.state ≡ Enabled)
 Opens stage.RandomisedOnce g = (g.half ≡ Some Randomise) × (g.state ≡ Enabled)
 Opens _ g = Unit {0}
+
+opens_doubted : (h : Answer) (g : Gear) → (g.half ≡ None) × (g.state ≡ Enabled) → Opens (doubted h) g
+opens_doubted Silence g k = k
+opens_doubted (Byte v) g k = tt
+opens_doubted Damaged g k = tt
 
 opens_queried : (r : SearchAddress) (h : Answer) (g : Gear) → Opens (queried r h) g
 opens_queried r Silence g = tt
@@ -149,6 +157,12 @@ opens_step b xs stage.Free Terminate h g x on k none = refl
 opens_step b xs stage.Terminated (Initialise Unaddressed) h g x on k none = remembers_initialise g (k none)
 opens_step b xs stage.InitialisedOnce (Initialise Unaddressed) h g x on k none = enables g (k none) none
 opens_step b xs stage.Initialised Randomise h g x on k none = (remembers_randomise g (k none).0, (k none).1)
+opens_step b xs stage.Initialised (SearchHigh high) h g x on k none = (refl, (k none).1)
+opens_step b xs (stage.WokenHigh high) (SearchLow low) h g x on k none = tt
+opens_step b xs (stage.WokenHigh high) (SearchMiddle middle) h g x on k none = (refl, (k none).1)
+opens_step b xs (stage.WokenLow high low) (SearchMiddle middle) h g x on k none = tt
+opens_step b xs (stage.WokenMiddle high middle) Compare h g x on k none = opens_doubted h (gear_taken Compare x g) (refl, (k none).1)
+opens_step b xs stage.DrawFree Randomise h g x on k none = (remembers_randomise g (k none).0, (k none).1)
 opens_step b xs (stage.NumberSent r) QueryShort h g x on k none = opens_queried r h (gear_taken QueryShort x g)
 opens_step b xs (stage.Programmed r a) QueryShort h g x on k none = opens_verified r a h (gear_taken QueryShort x g)
 opens_step b xs stage.RandomisedOnce Randomise h g x on k none = tt
@@ -160,6 +174,7 @@ opens_step b xs (stage.Hunted r last left) c h g x on k none = opens_hunted r la
 opens_step b xs stage.Free (RandomByte a High) h g x on k none = tt
 opens_step b xs (stage.HighAsked a high) (RandomByte d Middle) h g x on k none = opens_middle a d high h (gear_taken (RandomByte d Middle) x g)
 opens_step b xs (stage.MiddleAsked a bytes) (RandomByte d Low) h g x on k none = opens_low a d bytes h (gear_taken (RandomByte d Low) x g)
+opens_step b xs (stage.NumberSent r) Withdraw h g x on k none = tt
 opens_step b xs (stage.Found r a) Withdraw h g x on k none = tt
 opens_step b xs (stage.Unnamed r) (Program (Some a)) h g x on k none = tt
 opens_step b xs (stage.Confirmed r a) Withdraw h g x on k none = tt
@@ -223,16 +238,18 @@ ready_asking Compare g r asks k = k
 ready_asking _ g r asks k = absurd (cc)
 
 pub ready_step : (b : Block) (xs : List Assignment) (s : Stage) (c : Command) (g : Gear) (r : ℕ)
-    → Follows b xs s c → (c ≡ Terminate → ⊥) → (draws_a_number c g ≡ true → (r ≡ g.random) ⊎ (r < MASK24)) → Knows s g → Ready g → Ready (gear_taken c r g)
-ready_step b xs stage.Terminated (Initialise Unaddressed) g r on calm drew knows k = λ none. (initialised_ready g k none, (k none).1)
-ready_step b xs stage.InitialisedOnce (Initialise Unaddressed) g r on calm drew knows k = λ none. (initialised_ready g k none, (k none).1)
-ready_step b xs (stage.Found n a) Withdraw g r on calm drew knows k = λ none. (withdrawn_ready g n a knows k none, (k none).1)
-ready_step b xs (stage.Unnamed n) (Program (Some a)) g r on calm drew knows k = programmed_ready g a k
-ready_step b xs (stage.Confirmed n a) Withdraw g r on calm drew knows k = λ none. (withdrawn_ready g n a knows k none, (k none).1)
-ready_step b xs (stage.Hunted n last left) c g r on calm drew knows k = ready_asking c g r (asks_hunting n last left c on.leads_on).1 k
-ready_step b xs _ Terminate g r on calm drew knows k = absurd (calm refl)
-ready_step b xs _ (Initialise target) g r on calm drew knows k = absurd (let none = on.leads_on in cc)
-ready_step b xs _ Randomise g r on calm drew knows k = randomised_ready g r drew k
-ready_step b xs _ (Program short) g r on calm drew knows k = absurd (let none = on.leads_on in cc)
-ready_step b xs _ Withdraw g r on calm drew knows k = absurd (let none = on.leads_on in cc)
-ready_step b xs _ _ g r on calm drew knows k = k
+    → Follows b xs s c → (c ≡ Terminate → ⊥) → ((n : SearchAddress) → c ≡ Withdraw → s ≡ stage.NumberSent n → ⊥)
+    → (draws_a_number c g ≡ true → (r ≡ g.random) ⊎ (r < MASK24)) → Knows s g → Ready g → Ready (gear_taken c r g)
+ready_step b xs stage.Terminated (Initialise Unaddressed) g r on calm stays drew knows k = λ none. (initialised_ready g k none, (k none).1)
+ready_step b xs stage.InitialisedOnce (Initialise Unaddressed) g r on calm stays drew knows k = λ none. (initialised_ready g k none, (k none).1)
+ready_step b xs (stage.NumberSent n) Withdraw g r on calm stays drew knows k = absurd (stays n refl refl)
+ready_step b xs (stage.Found n a) Withdraw g r on calm stays drew knows k = λ none. (withdrawn_ready g n a knows k none, (k none).1)
+ready_step b xs (stage.Unnamed n) (Program (Some a)) g r on calm stays drew knows k = programmed_ready g a k
+ready_step b xs (stage.Confirmed n a) Withdraw g r on calm stays drew knows k = λ none. (withdrawn_ready g n a knows k none, (k none).1)
+ready_step b xs (stage.Hunted n last left) c g r on calm stays drew knows k = ready_asking c g r (asks_hunting n last left c on.leads_on).1 k
+ready_step b xs _ Terminate g r on calm stays drew knows k = absurd (calm refl)
+ready_step b xs _ (Initialise target) g r on calm stays drew knows k = absurd (let none = on.leads_on in cc)
+ready_step b xs _ Randomise g r on calm stays drew knows k = randomised_ready g r drew k
+ready_step b xs _ (Program short) g r on calm stays drew knows k = absurd (let none = on.leads_on in cc)
+ready_step b xs _ Withdraw g r on calm stays drew knows k = absurd (let none = on.leads_on in cc)
+ready_step b xs _ _ g r on calm stays drew knows k = k

@@ -1,5 +1,5 @@
-use Rattle.std.proofs.Common.{◌≡◌, ℕ, ◌+◌, ◌<◌, ◌≤◌, ◌⊎◌, inl, inr, Bool, true, false, [], refl, sym, ap, subst, ◌∙◌, arith, Option, Some, None}
-use Rattle.std.specs.Prelude.{◌==◌, ◌-◌, nat_lt, zero, suc}
+use Rattle.std.proofs.Common.{◌≡◌, ℕ, ◌+◌, ◌*◌, ◌<◌, ◌≤◌, ◌⊎◌, inl, inr, Bool, true, false, [], refl, sym, ap, subst, ◌∙◌, arith, Option, Some, None}
+use Rattle.std.specs.Prelude.{◌==◌, nat_lt, zero, suc}
 use Rattle.std.proofs.Math.Nat.{mul-le-mul_left}
 use Rattle.std.proofs.lemmas.Bool.Decides.{nat_tests}
 use Rattle.dali_frame.specs.declared.frames.Answer.{Answer}
@@ -21,17 +21,16 @@ use Rattle.dali_script.specs.declared.orders.Order.{Order}
 use Rattle.dali_script.specs.declared.orders.Order.TheVariants.{Put, Commit, Done, Halt}
 use Rattle.dali_script.specs.declared.orders.End.{End}
 use Rattle.dali_script.specs.declared.orders.Fault.{Fault}
-use Rattle.dali_controller.specs.declared.purpose.Purpose.{Purpose}
 use Rattle.dali_controller.specs.declared.purpose.Purpose.TheVariants.{Resolving, Asking}
-use Rattle.dali_controller.specs.declared.way.Way.TheVariants.{Surveying, Drawing}
+use Rattle.dali_controller.specs.declared.way.Way.TheVariants.{Surveying}
 use Rattle.dali_controller.specs.Course.{Course}
 use Rattle.dali_controller.specs.Machine.{Machine, machine_heard, asked_at, asked_after_silence}
-use Rattle.dali_controller.specs.Next.{next_course, begins_at, goes_on_to, asked_once, draws}
-use Rattle.dali_controller.specs.Orders.{IsAllowed, machine_ordered}
-use Rattle.dali_controller.specs.Whole.{IsWhole, IsSending, Pending, Sends}
+use Rattle.dali_controller.specs.Next.{next_course, begins_at, goes_on_to, asked_once, course_on}
+use Rattle.dali_controller.specs.Orders.{IsAllowed, machine_ordered, asked_by}
+use Rattle.dali_controller.specs.Whole.{IsWhole, IsSending, Knows, Pending, Sends}
 use Rattle.dali_progress.proofs.Later.{IsUnasked, course_stays}
-use Rattle.dali_progress.proofs.Census.Left.{waits, at_stage, of_purpose, of_last, beyond, left, beyond_less, waits_most, waits_least, goes_moves, Moves}
-use Rattle.dali_progress.proofs.Census.Left.{IsQuiet}
+use Rattle.dali_progress.proofs.Census.Left.{waits, at_stage, of_purpose, of_last, beyond, left, granted, beyond_less, beyond_most, granted_more, waits_least}
+use Rattle.dali_progress.proofs.Census.Left.{of_purpose_most, goes_moves, Further, Moves}
 
 -- A CENSUS IS BOUNDED: what each order leaves once a frame of it was heard.
 
@@ -46,54 +45,55 @@ by_order t P first later commit done halt (Commit x) may = commit x
 by_order t P first later commit done halt (Done e) may = done e
 by_order t P first later commit done halt (Halt w) may = halt w
 
--- a transaction that begins on another course: no more than to the addresses that were not looked at
-pub moved_left : (u : ℕ) (t n : Machine) (d : Course) → n.course ≡ d → n.trace ≡ [] → Moves t.course d → left u n ≤ beyond u t.course.from
-moved_left u t n d is free moves = go moves.way where
-  go : (d.way ≡ Drawing) ⊎ (d.way ≡ Surveying) → left u n ≤ beyond u t.course.from
-  go (inl draws) = let way : n.course.way ≡ Drawing = ap (λ c. c.way) is ∙ draws in rw way (omega arith)
-  go (inr surveys) =
-      let way : n.course.way ≡ Surveying = ap (λ c. c.way) is ∙ surveys in
-      let from : n.course.from ≡ d.from = ap (λ c. c.from) is in
-      rw (way, from) (on n.last moves.on) where
-        purpose : n.course.purpose ≡ d.purpose
-        purpose = ap (λ c. c.purpose) is
+-- WHAT IS LEFT at most, of a machine that was told something, once it has ordered: more only where short addresses are asked again
+abbrev pub Leaves : ℕ → Machine → Machine → ℕ → Type 0
+Leaves u t n most = left u n + granted u t.course.tally.askings ≤ most + granted u n.course.tally.askings
 
-        waiting : (p : Purpose) → of_purpose u n.asked p (stage_of n.trace) ≤ u + 2
-        waiting (Asking a) = rw (free, stage_none) (waits_most u n.asked)
-        waiting _ = omega arith
+-- on another course: no more than to the addresses that were not looked at
+pub moved_left : (u : ℕ) (t n : Machine) (d : Course) → n.course ≡ d → Moves t.course d → Leaves u t n (beyond u t.course.from)
+moved_left u t n d is moves =
+    subst (λ k. left u n + granted u t.course.tally.askings ≤ beyond u t.course.from + granted u k) (sym askings) (rw (way, from) (go moves.on)) where
+      way : n.course.way ≡ Surveying
+      way = ap (λ (c : Course). c.way) is ∙ moves.way
 
-        most : (last : Option Order) → of_last u n last ≤ u + 2
-        most (Some (Put p f)) = waiting n.course.purpose
-        most _ = omega arith
+      from : n.course.from ≡ d.from
+      from = ap (λ (c : Course). c.from) is
 
-        none : (last : Option Order) → ((k j : ℕ) (s : Stage) → of_purpose k j d.purpose s ≡ 0) → of_last u n last ≡ 0
-        none (Some (Put p f)) asks = rw purpose (asks u n.asked (stage_of n.trace))
-        none _ asks = refl
+      askings : n.course.tally.askings ≡ d.tally.askings
+      askings = ap (λ (c : Course). c.tally.askings) is
 
-        on : (last : Option Order)
-            → ((64 - d.from ≤ 64 - t.course.from) × ((k j : ℕ) (s : Stage) → of_purpose k j d.purpose s ≡ 0)) ⊎ ((t.course.from < d.from) × (d.from ≤ 64))
-            → beyond u d.from + of_last u n last ≤ beyond u t.course.from
-        on last (inl same) =
-            let fewer : beyond u d.from ≤ beyond u t.course.from = mul-le-mul_left (u + 2) same.0 in
-            rw (none last same.1) (omega (arith, fewer))
-        on last (inr less) =
-            let fewer : beyond u d.from + (u + 2) ≤ beyond u t.course.from = beyond_less u t.course.from d.from less.0 less.1 in
-            let some : of_last u n last ≤ u + 2 = most last in
-            omega (arith, fewer, some)
+      most : (last : Option Order) → of_last u n last ≤ u + 2
+      most (Some (Put p f)) = of_purpose_most u n.asked n.course.purpose (stage_of n.trace)
+      most _ = omega arith
 
--- a course on which none is asked
-pub quiet_left : (u : ℕ) (t n : Machine) (d : Course) → n.course ≡ d → IsQuiet t.course d → left u n ≤ beyond u t.course.from
-quiet_left u t n d is quiet = go quiet.way where
-  none : (last : Option Order) → of_last u n last ≡ 0
-  none (Some (Put p f)) = rw (ap (λ c. c.purpose) is) (quiet.calm u n.asked (stage_of n.trace))
-  none _ = refl
+      none : (last : Option Order) → ((k j : ℕ) (s : Stage) → of_purpose k j d.purpose s ≡ 0) → of_last u n last ≡ 0
+      none (Some (Put p f)) asks = rw (ap (λ (c : Course). c.purpose) is) (asks u n.asked (stage_of n.trace))
+      none _ asks = refl
 
-  go : (d.way ≡ Drawing) ⊎ (d.way ≡ Surveying) → left u n ≤ beyond u t.course.from
-  go (inl draws) = let way : n.course.way ≡ Drawing = ap (λ c. c.way) is ∙ draws in rw way (omega arith)
-  go (inr surveys) =
-      let way : n.course.way ≡ Surveying = ap (λ c. c.way) is ∙ surveys in
-      let from : n.course.from ≡ t.course.from = ap (λ c. c.from) is ∙ quiet.from in
-      rw (way, from, none n.last) (omega arith)
+      further : (first : ℕ) → Further first d → beyond u d.from + of_last u n n.last ≤ beyond u first
+      further first (inl same) =
+          let fewer : beyond u d.from ≤ beyond u first = mul-le-mul_left (u + 2) same.0 in
+          rw (none n.last same.1) (omega (arith, fewer))
+      further first (inr less) =
+          let fewer : beyond u d.from + (u + 2) ≤ beyond u first = beyond_less u first d.from less.0 less.1 in
+          let some : of_last u n n.last ≤ u + 2 = most n.last in
+          omega (arith, fewer, some)
+
+      go : ((d.tally.askings ≡ t.course.tally.askings) × Further t.course.from d)
+          ⊎ ((t.course.tally.askings < 6) × (d.tally.askings ≡ t.course.tally.askings + 1) × Further 0 d)
+          → beyond u d.from + of_last u n n.last + granted u t.course.tally.askings ≤ beyond u t.course.from + granted u d.tally.askings
+      go (inl same) = let fewer = further t.course.from same.1 in rw same.0 (omega (arith, fewer))
+      go (inr again) =
+          let fewer : beyond u d.from + of_last u n n.last ≤ beyond u 0 = further 0 again.2 in
+          let all : beyond u 0 ≤ (u + 2) * 64 = beyond_most u 0 in
+          let more : granted u d.tally.askings ≡ granted u t.course.tally.askings + (u + 2) * 64 =
+          ap (granted u) again.1 ∙ granted_more u t.course.tally.askings in
+          omega (arith, fewer, all, more)
+
+-- on the same course
+pub still_left : (u : ℕ) (t n : Machine) (most : ℕ) → n.course ≡ t.course → left u n ≤ most → Leaves u t n most
+still_left u t n most is few =
+    let same : n.course.tally.askings ≡ t.course.tally.askings = ap (λ (c : Course). c.tally.askings) is in rw same (omega (arith, few))
 
 -- on the same course: what the outstanding frame leaves, too
 pub same_left : (u : ℕ) (t n : Machine) → n.course ≡ t.course → t.course.way ≡ Surveying → left u n ≡ beyond u t.course.from + of_last u n n.last
@@ -123,10 +123,11 @@ asks_of k n a stage.Free c sends = inl (refl, sends.0)
 asks_of k n a (stage.HighAsked b (Some x)) c sends = inr (inl (b, x, refl, sym (some_same (RandomByte b Middle) c sends.0), same_asked a b sends.1.0))
 asks_of k n a (stage.MiddleAsked b (Some x)) c sends = inr (inr (b, x, refl, sym (some_same (RandomByte b Low) c sends.0), same_asked a b sends.1.0))
 asks_of k n a (stage.Unnamed r) c sends = absurd (let other = sends.0 in cc)
+asks_of k n a (stage.Hunted r last left) c sends = absurd sends
 asks_of k n a _ c sends = absurd (let none = sends.0 in cc)
 
 -- a machine that sends a later frame is where that frame is sent
-pub later_asks : (t : Machine) (f : Forward) (a : ℕ) (s : Stage) → t.course.purpose ≡ Asking a → stage_of t.trace ≡ s → IsUnasked s
+pub later_asks : (t : Machine) (f : Forward) (a : ℕ) (s : Stage) → t.course.purpose ≡ Asking a → stage_of t.trace ≡ s → IsUnasked s t.course.purpose
     → IsWhole (machine_ordered t (Put LATER f))
     → Asks a s (command_of f)
 later_asks t f a s purpose at unasked whole =
@@ -146,78 +147,90 @@ silent_less u (suc (suc k)) a j Silence is some =
 silent_less u k a j (Byte v) is some = absurd (let none : (j == 0) ≡ true = rw is refl in cc)
 silent_less u k a j Damaged is some = absurd (let none : (j == 0) ≡ true = rw is refl in cc)
 
+-- one frame less, with so many that may still be sent to the address that is asked
+abbrev pub OneLess : ℕ → Machine → Machine → ℕ → Type 0
+OneLess u t n some = 1 + left u n + granted u t.course.tally.askings ≤ beyond u t.course.from + some + granted u n.course.tally.askings
+
+one_still : (u : ℕ) (t n : Machine) (some : ℕ) → n.course ≡ t.course → 1 + left u n ≤ beyond u t.course.from + some → OneLess u t n some
+one_still u t n some is less =
+    let same : n.course.tally.askings ≡ t.course.tally.askings = ap (λ (c : Course). c.tally.askings) is in rw same (omega (arith, less))
+
+one_moved : (u : ℕ) (t n : Machine) (d : Course) (some : ℕ) → 1 ≤ some → n.course ≡ d → Moves t.course d → OneLess u t n some
+one_moved u t n d some one is moves = let few = moved_left u t n d is moves in omega (arith, few, one)
+
 -- the first query was heard
-first_left : (u : ℕ) (t : Machine) (a k : ℕ) (h : Answer) → 1 ≤ u → t.course.way ≡ Surveying → t.course.purpose ≡ Asking a
+first_left : (u : ℕ) (t : Machine) (a k : ℕ) (h : Answer) → 1 ≤ u → t.course.way ≡ Surveying → t.course.purpose ≡ Asking a → t.course.opened ≡ false
     → stage_of t.trace ≡ stage.HighAsked a (byte_heard h) → t.asked ≡ asked_at (stage.HighAsked a (byte_heard h)) h k → (h ≡ Silence) ⊎ (3 ≤ waits u k)
-    → (o : Order) → IsAllowed t o → IsWhole (machine_ordered t o) → 1 + left u (machine_ordered t o) ≤ beyond u t.course.from + waits u k
-first_left u t a k h one surveys purpose at asked steady =
-    by_order t (λ o. IsWhole (machine_ordered t o) → 1 + left u (machine_ordered t o) ≤ beyond u t.course.from + waits u k) first later
+    → (o : Order) → IsAllowed t o → IsWhole (machine_ordered t o) → OneLess u t (machine_ordered t o) (waits u k)
+first_left u t a k h one surveys purpose unopened at asked steady =
+    by_order t (λ o. IsWhole (machine_ordered t o) → OneLess u t (machine_ordered t o) (waits u k)) first later
     (λ x whole. rest (machine_ordered t (Commit x)) refl refl) (λ e whole. rest (machine_ordered t (Done e)) refl refl)
     (λ w whole. rest (machine_ordered t (Halt w)) refl refl) where
       least : 1 ≤ waits u k
       least = waits_least u k one
 
-      rest : (n : Machine) → n.course ≡ t.course → of_last u n n.last ≡ 0 → 1 + left u n ≤ beyond u t.course.from + waits u k
-      rest n is none = rw (same_left u t n is surveys, none) (omega (arith, least))
+      rest : (n : Machine) → n.course ≡ t.course → of_last u n n.last ≡ 0 → OneLess u t n (waits u k)
+      rest n is none = one_still u t n (waits u k) is (rw (same_left u t n is surveys, none) (omega (arith, least)))
 
-      first : (f : Forward) → IsWhole (machine_ordered t (Put FIRST f)) → 1 + left u (machine_ordered t (Put FIRST f)) ≤ beyond u t.course.from + waits u k
+      first : (f : Forward) → IsWhole (machine_ordered t (Put FIRST f)) → OneLess u t (machine_ordered t (Put FIRST f)) (waits u k)
       first f whole = go (t.asked == 0) refl where
         begins : next_course t ≡ asked_once t (t.asked == 0)
         begins = ap (begins_at t) at
 
-        go : (b : Bool) → (t.asked == 0) ≡ b → 1 + left u (machine_ordered t (Put FIRST f)) ≤ beyond u t.course.from + waits u k
+        go : (b : Bool) → (t.asked == 0) ≡ b → OneLess u t (machine_ordered t (Put FIRST f)) (waits u k)
         go true is =
-            let on : next_course t ≡ goes_on_to t = begins ∙ ap (asked_once t) is in
-            let fewer : left u (machine_ordered t (Put FIRST f)) ≤ beyond u t.course.from =
-            moved_left u t (machine_ordered t (Put FIRST f)) (goes_on_to t) on refl (goes_moves t surveys) in
-            omega (arith, fewer, least)
+            one_moved u t (machine_ordered t (Put FIRST f)) (goes_on_to t) (waits u k) least (begins ∙ ap (asked_once t) is) (goes_moves t surveys)
         go false is =
             let on : next_course t ≡ t.course = begins ∙ ap (asked_once t) is in
-            let again : of_last u (machine_ordered t (Put FIRST f)) (Some (Put FIRST f)) ≡ waits u t.asked = rw (on, purpose, stage_none) refl in
+            let again : of_last u (machine_ordered t (Put FIRST f)) (Some (Put FIRST f)) ≡ waits u t.asked = rw (on, purpose, stage_none, unopened) refl in
             let fewer : waits u t.asked + 1 ≤ waits u k = silent_less u k a t.asked h asked is in
-            rw (same_left u t (machine_ordered t (Put FIRST f)) on surveys, again) (omega (arith, fewer))
+            one_still u t (machine_ordered t (Put FIRST f)) (waits u k) on
+            (rw (same_left u t (machine_ordered t (Put FIRST f)) on surveys, again) (omega (arith, fewer)))
 
-      later : (f : Forward) → (t.trace ≡ [] → ⊥) → IsWhole (machine_ordered t (Put LATER f))
-          → 1 + left u (machine_ordered t (Put LATER f)) ≤ beyond u t.course.from + waits u k
-      later f running whole = go steady (later_asks t f a (stage.HighAsked a (byte_heard h)) purpose at tt whole) where
-        two : of_last u (machine_ordered t (Put LATER f)) (Some (Put LATER f)) ≡ 2
-        two = rw (at, purpose) refl
+      stays : course_on t (stage_of t.trace) ≡ t.course
+      stays = course_stays t (stage.HighAsked a (byte_heard h)) at tt
 
-        go : (h ≡ Silence) ⊎ (3 ≤ waits u k) → Asks a (stage.HighAsked a (byte_heard h)) (command_of f)
-            → 1 + left u (machine_ordered t (Put LATER f)) ≤ beyond u t.course.from + waits u k
-        go (inr enough) asks =
-            rw (same_left u t (machine_ordered t (Put LATER f)) (course_stays t (stage.HighAsked a (byte_heard h)) at tt) surveys, two) (omega (arith, enough))
-        go (inl silent) (inl other) = absurd (let never = other.0 in cc)
-        go (inl silent) (inr (inl (b, x, same, c, here))) =
-            absurd (let none : stage.HighAsked a None ≡ stage.HighAsked b (Some x) = ap (λ r. stage.HighAsked a (byte_heard r)) (sym silent) ∙ same in cc)
-        go (inl silent) (inr (inr (b, x, same, c, here))) = absurd (cc)
+      later : (f : Forward) → (t.trace ≡ [] → ⊥) → IsWhole (machine_ordered t (Put LATER f)) → OneLess u t (machine_ordered t (Put LATER f)) (waits u k)
+      later f running whole =
+          go steady (later_asks t f a (stage.HighAsked a (byte_heard h)) purpose at tt whole) where
+            two : of_last u (machine_ordered t (Put LATER f)) (Some (Put LATER f)) ≡ 2
+            two = rw (stays, at, purpose) refl
+
+            go : (h ≡ Silence) ⊎ (3 ≤ waits u k) → Asks a (stage.HighAsked a (byte_heard h)) (command_of f)
+                → OneLess u t (machine_ordered t (Put LATER f)) (waits u k)
+            go (inr enough) asks =
+                one_still u t (machine_ordered t (Put LATER f)) (waits u k) stays
+                (rw (same_left u t (machine_ordered t (Put LATER f)) stays surveys, two) (omega (arith, enough)))
+            go (inl silent) (inl other) = absurd (let never = other.0 in cc)
+            go (inl silent) (inr (inl (b, x, same, c, here))) =
+                absurd (let none : stage.HighAsked a None ≡ stage.HighAsked b (Some x) = ap (λ r. stage.HighAsked a (byte_heard r)) (sym silent) ∙ same in cc)
+            go (inl silent) (inr (inr (b, x, same, c, here))) = absurd (cc)
 
 -- a later query was heard: more of the transaction follows, or another begins
 over_left : (u : ℕ) (t : Machine) (a r : ℕ) (s : Stage) → 1 ≤ r → t.course.way ≡ Surveying → t.course.purpose ≡ Asking a → stage_of t.trace ≡ s
-    → IsUnasked s
-    → begins_at t s ≡ goes_on_to t → ((c : Command) → Asks a s c → at_stage u t.asked s + 1 ≤ r)
-    → (o : Order) → IsAllowed t o → IsWhole (machine_ordered t o) → 1 + left u (machine_ordered t o) ≤ beyond u t.course.from + r
+    → IsUnasked s t.course.purpose
+    → begins_at t s ≡ goes_on_to t → ((k : ℕ) (c : Command) → Asks a s c → at_stage u k s + 1 ≤ r)
+    → (o : Order) → IsAllowed t o → IsWhole (machine_ordered t o) → OneLess u t (machine_ordered t o) r
 over_left u t a r s one surveys purpose at unasked over more =
-    by_order t (λ o. IsWhole (machine_ordered t o) → 1 + left u (machine_ordered t o) ≤ beyond u t.course.from + r) first later
+    by_order t (λ o. IsWhole (machine_ordered t o) → OneLess u t (machine_ordered t o) r) first later
     (λ x whole. rest (machine_ordered t (Commit x)) refl refl) (λ e whole. rest (machine_ordered t (Done e)) refl refl)
     (λ w whole. rest (machine_ordered t (Halt w)) refl refl) where
-      rest : (n : Machine) → n.course ≡ t.course → of_last u n n.last ≡ 0 → 1 + left u n ≤ beyond u t.course.from + r
-      rest n is none = rw (same_left u t n is surveys, none) (omega (arith, one))
+      rest : (n : Machine) → n.course ≡ t.course → of_last u n n.last ≡ 0 → OneLess u t n r
+      rest n is none = one_still u t n r is (rw (same_left u t n is surveys, none) (omega (arith, one)))
 
-      first : (f : Forward) → IsWhole (machine_ordered t (Put FIRST f)) → 1 + left u (machine_ordered t (Put FIRST f)) ≤ beyond u t.course.from + r
+      first : (f : Forward) → IsWhole (machine_ordered t (Put FIRST f)) → OneLess u t (machine_ordered t (Put FIRST f)) r
       first f whole =
-          let on : next_course t ≡ goes_on_to t = ap (begins_at t) at ∙ over in
-          let fewer : left u (machine_ordered t (Put FIRST f)) ≤ beyond u t.course.from =
-          moved_left u t (machine_ordered t (Put FIRST f)) (goes_on_to t) on refl (goes_moves t surveys) in
-          omega (arith, fewer, one)
+          one_moved u t (machine_ordered t (Put FIRST f)) (goes_on_to t) r one (ap (begins_at t) at ∙ over) (goes_moves t surveys)
 
-      later : (f : Forward) → (t.trace ≡ [] → ⊥) → IsWhole (machine_ordered t (Put LATER f))
-          → 1 + left u (machine_ordered t (Put LATER f)) ≤ beyond u t.course.from + r
+      later : (f : Forward) → (t.trace ≡ [] → ⊥) → IsWhole (machine_ordered t (Put LATER f)) → OneLess u t (machine_ordered t (Put LATER f)) r
       later f running whole =
-          let here : of_last u (machine_ordered t (Put LATER f)) (Some (Put LATER f)) ≡ at_stage u t.asked s =
-          rw (course_stays t s at unasked, purpose, at) refl in
-          let fewer : at_stage u t.asked s + 1 ≤ r = more (command_of f) (later_asks t f a s purpose at unasked whole) in
-          rw (same_left u t (machine_ordered t (Put LATER f)) (course_stays t s at unasked) surveys, here) (omega (arith, fewer))
+          let stays : course_on t (stage_of t.trace) ≡ t.course = course_stays t s at unasked in
+          let here : of_last u (machine_ordered t (Put LATER f)) (Some (Put LATER f)) ≡ at_stage u (asked_by t.course.opened t.asked) s =
+          rw (stays, purpose, at) refl in
+          let fewer : at_stage u (asked_by t.course.opened t.asked) s + 1 ≤ r =
+          more (asked_by t.course.opened t.asked) (command_of f) (later_asks t f a s purpose at unasked whole) in
+          one_still u t (machine_ordered t (Put LATER f)) r stays
+          (rw (same_left u t (machine_ordered t (Put LATER f)) stays surveys, here) (omega (arith, fewer)))
 
 pub self : (b : ℕ) → (b == b) ≡ true
 self b = grind (arith, nat_tests)
@@ -232,9 +245,12 @@ sending_of m p f = go m.last where
 -- a frame of the census that was heard
 pub sent_left : (u : ℕ) (m : Machine) (h : Answer) (p : ℕ) (f : Forward) (a : ℕ) → 1 ≤ u → m.course.way ≡ Surveying → m.course.purpose ≡ Asking a
     → m.last ≡ Some (Put p f) → IsWhole m → (h ≡ Silence) ⊎ (3 ≤ waits u m.asked) → (o : Order) → IsAllowed (machine_heard m (Some f) h) o
-    → IsWhole (machine_ordered (machine_heard m (Some f) h) o) → 1 + left u (machine_ordered (machine_heard m (Some f) h) o) ≤ left u m
+    → IsWhole (machine_ordered (machine_heard m (Some f) h) o)
+    → 1 + left u (machine_ordered (machine_heard m (Some f) h) o) + granted u m.course.tally.askings
+    ≤ left u m + granted u (machine_ordered (machine_heard m (Some f) h) o).course.tally.askings
 sent_left u m h p f a one surveys purpose last whole steady o may after =
-    subst (λ r. 1 + left u (machine_ordered (machine_heard m (Some f) h) o) ≤ r) (sym here)
+    subst (λ r. 1 + left u (machine_ordered (machine_heard m (Some f) h) o) + granted u m.course.tally.askings
+    ≤ r + granted u (machine_ordered (machine_heard m (Some f) h) o).course.tally.askings) (sym here)
     (go (asks_of m.kept m.course.number a (stage_of m.trace) (command_of f) sends)) where
       waiting : of_last u m m.last ≡ at_stage u m.asked (stage_of m.trace)
       waiting = rw (last, purpose) refl
@@ -248,20 +264,24 @@ sent_left u m h p f a one surveys purpose last whole steady o may after =
       at : stage_of (machine_heard m (Some f) h).trace ≡ next_stage (stage_of m.trace) (command_of f) h
       at = stage_more m.trace (record { frame = f; heard = h })
 
+      unopened : m.course.opened ≡ false
+      unopened = (subst (λ q. Knows m.course.way m.kept m.course.number m.course.search m.course.ascent m.course.opened q) purpose
+          (sending_of m p f last whole).ready.knows).0
+
       go : Asks a (stage_of m.trace) (command_of f)
-          → 1 + left u (machine_ordered (machine_heard m (Some f) h) o) ≤ beyond u m.course.from + at_stage u m.asked (stage_of m.trace)
+          → OneLess u (machine_heard m (Some f) h) (machine_ordered (machine_heard m (Some f) h) o) (at_stage u m.asked (stage_of m.trace))
       go (inl (free, high)) =
           let next : next_stage (stage_of m.trace) (command_of f) h ≡ stage.HighAsked a (byte_heard h) = rw (free, high) refl in
           let silent : (machine_heard m (Some f) h).asked ≡ asked_at (stage.HighAsked a (byte_heard h)) h m.asked = rw (purpose, at ∙ next) refl in
-          rw free (first_left u (machine_heard m (Some f) h) a m.asked h one surveys purpose (at ∙ next) silent steady o may after)
+          rw free (first_left u (machine_heard m (Some f) h) a m.asked h one surveys purpose unopened (at ∙ next) silent steady o may after)
       go (inr (inl (b, x, same, middle, one_asked))) =
           let next : next_stage (stage_of m.trace) (command_of f) h ≡ stage.MiddleAsked b (bytes_heard (Some x) h) = rw (same, middle, self b) refl in
-          rw same (over_left u (machine_heard m (Some f) h) a 2 (stage.MiddleAsked b (bytes_heard (Some x) h)) (omega arith) surveys purpose (at ∙ next) tt refl
-          (λ c asks. omega arith) o may after)
+          rw same (over_left u (machine_heard m (Some f) h) a 2 (stage.MiddleAsked b (bytes_heard (Some x) h)) (omega arith) surveys purpose (at ∙ next)
+          tt refl (λ k c asks. omega arith) o may after)
       go (inr (inr (b, x, same, low, one_asked))) =
           let next : next_stage (stage_of m.trace) (command_of f) h ≡ stage.Spelled b (number_heard (Some x) h) = rw (same, low, self b) refl in
-          rw same (over_left u (machine_heard m (Some f) h) a 1 (stage.Spelled b (number_heard (Some x) h)) (omega arith) surveys purpose (at ∙ next) tt refl
-          (λ c asks. absurd (never asks)) o may after) where
+          rw same (over_left u (machine_heard m (Some f) h) a 1 (stage.Spelled b (number_heard (Some x) h)) (omega arith) surveys purpose (at ∙ next)
+          tt refl (λ k c asks. absurd (never asks)) o may after) where
             never : {n : Option ℕ} {c : Command} → Asks a (stage.Spelled b n) c → ⊥
             never (inl is) = let other = is.0 in cc
             never (inr (inl is)) = let other = is.2 in cc

@@ -28,17 +28,17 @@ use Rattle.dali_script.specs.Due.{due_after, accepts, frame_put, record_ordered}
 use Rattle.dali_controller.specs.declared.purpose.Purpose.{Purpose}
 use Rattle.dali_controller.specs.declared.purpose.Purpose.TheVariants.{Asking}
 use Rattle.dali_controller.specs.declared.way.Way.TheVariants.{Surveying}
-use Rattle.dali_controller.specs.Course.{Course, number_at, is_asked, asked_among, next_asked, going_on, going_on_early, ask_or_wake}
+use Rattle.dali_controller.specs.Course.{Course, number_at, is_asked, asked_among, next_asked, going_on, going_on_early, ask_or_call}
 use Rattle.dali_controller.proofs.Courses.{found_number}
 use Rattle.dali_controller.proofs.Given.{unwarranted}
 use Rattle.dali_controller.specs.Machine.{Machine, at_first, machine_told, machine_heard, machine_committed, asked_at, asked_after, asked_after_silence}
-use Rattle.dali_controller.specs.Next.{next_course, begins_at, goes_on_to, at_rest, asked_once, course_on}
-use Rattle.dali_controller.specs.Orders.{IsGiven, IsAllowed, MayCommit, machine_after, machine_ordered}
+use Rattle.dali_controller.specs.Next.{next_course, begins_at, goes_on_to, at_rest, asked_once, course_by, course_on}
+use Rattle.dali_controller.specs.Orders.{IsGiven, IsAllowed, MayCommit, machine_after, machine_ordered, asked_by}
 use Rattle.dali_controller.specs.Whole.{IsWhole, IsReady, IsSending, Pending, Sends, Knows}
 use Rattle.dali_progress.specs.Surveyed.{Step, IsTaken, IsCourse, IsPlain, ArePlain, stage_told}
 use Rattle.dali_progress.specs.Census.{IsSurveyed, BeginsBySurvey, AreWhole}
 use Rattle.dali_progress.proofs.Accounted.{unreserved}
-use Rattle.dali_progress.proofs.Later.{IsUnasked, stays_at}
+use Rattle.dali_progress.proofs.Later.{IsUnasked, asking_unasked, stays_at}
 use Rattle.dali_progress.proofs.Census.Asked.{by_order, Asks, asks_of, self, sending_of}
 use Rattle.dali_progress.proofs.Census.Course.{IsAlone, alone_after, put_is, commit_is, started, runs_after}
 
@@ -92,15 +92,16 @@ abbrev pub IsEnded : Machine → Type 0
 IsEnded n = ((e : End) × (n.last ≡ Some (Done e))) ⊎ ((w : Fault) × (n.last ≡ Some (Halt w)))
 
 -- a transaction that begins: the next short address is asked, or all are accounted for
-pub begins_on : (t : Machine) (f : Forward) (a : ℕ) → a < 64 → t.course.way ≡ Surveying → t.opened ≡ false → t.course.from ≤ a → next_course t ≡ goes_on_to t
+pub begins_on : (t : Machine) (f : Forward) (a : ℕ) → a < 64 → t.course.way ≡ Surveying → t.course.opened ≡ false → t.course.from ≤ a
+    → next_course t ≡ goes_on_to t
     → IsTabled (machine_ordered t (Put FIRST f)) a ⊎ IsToCome (machine_ordered t (Put FIRST f)) a
 begins_on t f a small surveys opened low on =
     go (next_asked t.kept t.course.from) (on ∙ course) (asked_later t.kept (64 - t.course.from) t.course.from)
     (asked_before t.kept (64 - t.course.from) t.course.from) where
-      course : goes_on_to t ≡ ask_or_wake t.course (next_asked t.kept t.course.from)
+      course : goes_on_to t ≡ ask_or_call t.course (next_asked t.kept t.course.from)
       course = ap (λ b. going_on t.kept b t.course) opened ∙ ap (λ y. going_on_early t.kept y t.course) surveys
 
-      go : (o : Option ℕ) → next_course t ≡ ask_or_wake t.course o
+      go : (o : Option ℕ) → next_course t ≡ ask_or_call t.course o
           → (o ≡ None → (c : ℕ) → t.course.from ≤ c → c < t.course.from + (64 - t.course.from) → is_asked t.kept c ≡ false)
           → ((d : ℕ) → o ≡ Some d → (c : ℕ) → t.course.from ≤ c → c < d → is_asked t.kept c ≡ false)
           → IsTabled (machine_ordered t (Put FIRST f)) a ⊎ IsToCome (machine_ordered t (Put FIRST f)) a
@@ -135,7 +136,7 @@ no_reservation t s c r at named may = named may.warranted.0 (sym at ∙ may.warr
 pub record Hearing (m t : Machine) (b : ℕ) (h : Answer) : Type 0 where
   pub course : t.course ≡ m.course
   pub last : t.last ≡ m.last
-  pub opened : t.opened ≡ false
+  pub opened : t.course.opened ≡ false
   pub finding : finding_of t.trace ≡ finding_at (stage_of t.trace)
   pub at : ((stage_of t.trace ≡ stage.HighAsked b (byte_heard h)) × (t.asked ≡ asked_at (stage.HighAsked b (byte_heard h)) h m.asked))
       ⊎ (((y : Option (ℕ × ℕ)) × (stage_of t.trace ≡ stage.MiddleAsked b y)) ⊎ ((y : Option ℕ) × (stage_of t.trace ≡ stage.Spelled b y)))
@@ -145,11 +146,11 @@ pub record Hearing (m t : Machine) (b : ℕ) (h : Answer) : Type 0 where
 
 pub record Counting (m : Machine) (b : ℕ) : Type 0 where
   pub way : m.course.way ≡ Surveying
-  pub opened : m.opened ≡ false
+  pub opened : m.course.opened ≡ false
 
 pub counting_ready : (m : Machine) (b : ℕ) → m.course.purpose ≡ Asking b → IsReady m → Counting m b
 counting_ready m b purpose ready =
-    let knows = subst (λ q. Knows m.course.way m.kept m.course.number m.course.search m.course.ascent m.opened q) purpose ready.knows in
+    let knows = subst (λ q. Knows m.course.way m.kept m.course.number m.course.search m.course.ascent m.course.opened q) purpose ready.knows in
     record { way = knows.1; opened = knows.0 }
 
 pub storing_of : (m : Machine) (x : Record) → m.last ≡ Some (Commit x) → IsWhole m → IsReady m
@@ -188,7 +189,7 @@ hearing_of m h p f b purpose last whole = go (asks_of m.kept m.course.number b (
       record {
         course = refl;
         last = refl;
-        opened = rw (purpose, at ∙ next) counting.opened;
+        opened = counting.opened;
         finding = found (rw (free, high) refl) (rw free refl);
         at = inl (at ∙ next, rw (purpose, at ∙ next) refl);
         clean = λ v is. inl (at ∙ next ∙ ap (λ k. stage.HighAsked b (byte_heard k)) is);
@@ -198,7 +199,7 @@ hearing_of m h p f b purpose last whole = go (asks_of m.kept m.course.number b (
       record {
         course = refl;
         last = refl;
-        opened = rw (purpose, at ∙ next) counting.opened;
+        opened = counting.opened;
         finding = found (rw (same, middle, self c) refl) (rw same refl);
         at = inr (inl (bytes_heard (Some x) h, at ∙ next));
         clean = λ v is. inr (inl ((x, v), at ∙ next ∙ ap (λ k. stage.MiddleAsked b (bytes_heard (Some x) k)) is));
@@ -208,7 +209,7 @@ hearing_of m h p f b purpose last whole = go (asks_of m.kept m.course.number b (
       record {
         course = refl;
         last = refl;
-        opened = rw (purpose, at ∙ next) counting.opened;
+        opened = counting.opened;
         finding = found (rw (same, low, self c) refl) (rw same refl);
         at = inr (inr (number_heard (Some x) h, at ∙ next));
         clean = λ v is. inr (inr (number_of x.0 x.1 v, at ∙ next ∙ ap (λ k. stage.Spelled b (number_heard (Some x) k)) is));
@@ -221,8 +222,8 @@ abbrev pub StaysOrGoes : Machine → Type 0
 StaysOrGoes t = (next_course t ≡ t.course) ⊎ (next_course t ≡ goes_on_to t)
 
 -- an address that comes later
-pub ahead : (t : Machine) (a b : ℕ) → a < 64 → t.course.purpose ≡ Asking b → t.course.way ≡ Surveying → t.opened ≡ false → t.course.from ≤ a
-    → IsUnasked (stage_of t.trace) → StaysOrGoes t
+pub ahead : (t : Machine) (a b : ℕ) → a < 64 → t.course.purpose ≡ Asking b → t.course.way ≡ Surveying → t.course.opened ≡ false → t.course.from ≤ a
+    → IsUnasked (stage_of t.trace) t.course.purpose → StaysOrGoes t
     → (o : Order) → IsAllowed t o → IsEnded (machine_ordered t o) ⊎ (IsTabled (machine_ordered t o) a ⊎ IsToCome (machine_ordered t o) a)
 ahead t a b small purpose surveys opened low unasked next =
     by_order t (λ o. IsEnded (machine_ordered t o) ⊎ (IsTabled (machine_ordered t o) a ⊎ IsToCome (machine_ordered t o) a)) (λ f. first f next)
@@ -294,6 +295,10 @@ told_small m input.Committed small = go (record_ordered m.last) where
   go (Some x) = small
 told_small m _ small = small
 
+asked_small : (opened : Bool) (n : ℕ) → n ≤ 2 → asked_by opened n ≤ 2
+asked_small true n small = omega arith
+asked_small false n small = small
+
 -- no stage of a question is one after MASK was answered
 hears_no_mask : (m t : Machine) (b : ℕ) (h : Answer) (c r : ℕ) → Hearing m t b h → MayCommit t (Reserve c r) → ⊥
 hears_no_mask m t b h c r hears may = go hears.at where
@@ -358,15 +363,6 @@ begins_by_stage t b h m hears = go hears.at where
   go (inr (inl is)) = inr (ap (begins_at t) is.1)
   go (inr (inr is)) = inr (ap (begins_at t) is.1)
 
-hears_unasked : (m t : Machine) (b : ℕ) (h : Answer) → Hearing m t b h → IsUnasked (stage_of t.trace)
-hears_unasked m t b h hears = go hears.at where
-  go : ((stage_of t.trace ≡ stage.HighAsked b (byte_heard h)) × (t.asked ≡ asked_at (stage.HighAsked b (byte_heard h)) h m.asked))
-      ⊎ (((y : Option (ℕ × ℕ)) × (stage_of t.trace ≡ stage.MiddleAsked b y)) ⊎ ((y : Option ℕ) × (stage_of t.trace ≡ stage.Spelled b y)))
-      → IsUnasked (stage_of t.trace)
-  go (inl is) = subst IsUnasked (sym is.0) tt
-  go (inr (inl is)) = subst IsUnasked (sym is.1) tt
-  go (inr (inr is)) = subst IsUnasked (sym is.1) tt
-
 -- while another one is asked
 heard_next : (m : Machine) (h : Answer) (o : Order) (a b p : ℕ) (f : Forward) → a < 64 → m.course.purpose ≡ Asking b → m.last ≡ Some (Put p f)
     → IsGiven m (input.Heard h) o → IsWhole m → ((m.course.from ≤ a) ⊎ ((b ≡ a) × ((x : Record) → m.last ≡ Some (Commit x) → ⊥)))
@@ -374,7 +370,8 @@ heard_next : (m : Machine) (h : Answer) (o : Order) (a b p : ℕ) (f : Forward) 
 heard_next m h o a b p f small purpose last given whole (inr (here, none)) = inl (h, refl, here)
 heard_next m h o a b p f small purpose last given whole (inl low) =
     inr (subst (λ t. IsEnded (machine_ordered t o) ⊎ (IsTabled (machine_ordered t o) a ⊎ IsToCome (machine_ordered t o) a)) (sym told)
-    (ahead (machine_heard m (Some f) h) a b small purpose counts.way hears.opened low (hears_unasked m (machine_heard m (Some f) h) b h hears)
+    (ahead (machine_heard m (Some f) h) a b small purpose counts.way hears.opened low
+    (asking_unasked (stage_of (machine_heard m (Some f) h).trace) m.course.purpose b purpose)
     (begins_by_stage (machine_heard m (Some f) h) b h m hears) o
     (subst (λ t. IsAllowed t o) told given.answered.allowed))) where
       told : machine_told m (input.Heard h) ≡ machine_heard m (Some f) h
@@ -388,10 +385,10 @@ heard_next m h o a b p f small purpose last given whole (inl low) =
 
 -- a question that was lost is put again
 lost_next : (m t : Machine) (o : Order) (a b p : ℕ) (f : Forward) → a < 64 → m.course.purpose ≡ Asking b → m.last ≡ Some (Put p f) → IsWhole m
-    → t.course ≡ m.course → t.last ≡ m.last → t.opened ≡ m.opened → t.trace ≡ [] → IsAllowed t o → IsWhole (machine_ordered t o)
+    → t.course ≡ m.course → t.last ≡ m.last → t.trace ≡ [] → IsAllowed t o → IsWhole (machine_ordered t o)
     → ((m.course.from ≤ a) ⊎ ((b ≡ a) × ((x : Record) → m.last ≡ Some (Commit x) → ⊥)))
     → IsEnded (machine_ordered t o) ⊎ (IsTabled (machine_ordered t o) a ⊎ IsToCome (machine_ordered t o) a)
-lost_next m t o a b p f small purpose last whole course same_last opened free may after which = go which where
+lost_next m t o a b p f small purpose last whole course same_last free may after which = go which where
   counts : Counting m b
   counts = counting_ready m b purpose (sending_of m p f last whole).ready
 
@@ -407,8 +404,9 @@ lost_next m t o a b p f small purpose last whole course same_last opened free ma
   go : (m.course.from ≤ a) ⊎ ((b ≡ a) × ((x : Record) → m.last ≡ Some (Commit x) → ⊥))
       → IsEnded (machine_ordered t o) ⊎ (IsTabled (machine_ordered t o) a ⊎ IsToCome (machine_ordered t o) a)
   go (inl low) =
-      ahead t a b small asks (ap (λ c. c.way) course ∙ counts.way) (opened ∙ counts.opened) (subst (λ (c : Course). c.from ≤ a) (sym course) low)
-      (subst IsUnasked (sym at) tt) (inl same) o may
+      ahead t a b small asks (ap (λ (c : Course). c.way) course ∙ counts.way) (ap (λ (c : Course). c.opened) course ∙ counts.opened)
+      (subst (λ (c : Course). c.from ≤ a) (sym course) low)
+      (asking_unasked (stage_of t.trace) t.course.purpose b asks) (inl same) o may
   go (inr (here, none)) =
       by (again t a b stage.Free asks here same at (λ n e. cc) (ap finding_of free ∙ none_found)
       (λ c n e. let other : Some (Put p f) ≡ Some (Commit (Enrol c n)) = sym last ∙ (sym same_last ∙ e) in cc)
@@ -427,7 +425,7 @@ kept_next : (m : Machine) (x : Record) (o : Order) (a b : ℕ) → a < 64 → m.
     ⊎ (IsTabled (machine_ordered (machine_committed m (Some x)) o) a ⊎ IsToCome (machine_ordered (machine_committed m (Some x)) o) a)
 kept_next m x o a b small purpose last whole free unreserved may (inr (here, none)) = absurd (none x last)
 kept_next m x o a b small purpose last whole free unreserved may (inl low) =
-    ahead (machine_committed m (Some x)) a b small purpose counts.way counts.opened low (subst IsUnasked (sym at) tt)
+    ahead (machine_committed m (Some x)) a b small purpose counts.way counts.opened low (asking_unasked (stage_of m.trace) m.course.purpose b purpose)
     (inr (ap (begins_at (machine_committed m (Some x))) at
     ∙ ap (at_rest (machine_committed m (Some x))) last ∙ goes x unreserved)) o may where
       counts : Counting m b
@@ -453,10 +451,10 @@ comes_next m (input.Heard h) o a b small running purpose due given whole alone a
     let put = put_is m.last (input.Heard h) refl due in heard_next m h o a b put.0 put.1 small purpose put.2 given whole which
 comes_next m input.Destroyed o a b small running purpose due given whole alone after unreserved which =
     let put = put_is m.last input.Destroyed refl due in
-    inr (lost_next m (machine_told m input.Destroyed) o a b put.0 put.1 small purpose put.2 whole refl refl refl refl given.answered.allowed after which)
+    inr (lost_next m (machine_told m input.Destroyed) o a b put.0 put.1 small purpose put.2 whole refl refl refl given.answered.allowed after which)
 comes_next m input.Lapsed o a b small running purpose due given whole alone after unreserved which =
     let put = put_is m.last input.Lapsed refl due in
-    inr (lost_next m (machine_told m input.Lapsed) o a b put.0 put.1 small purpose put.2 whole refl refl refl refl given.answered.allowed after which)
+    inr (lost_next m (machine_told m input.Lapsed) o a b put.0 put.1 small purpose put.2 whole refl refl refl given.answered.allowed after which)
 comes_next m input.Committed o a b small running purpose due given whole alone after unreserved which =
     let kept = commit_is m.last due in
     let told : machine_told m input.Committed ≡ machine_committed m (Some kept.0) = ap (λ l. machine_committed m (record_ordered l)) kept.1 in
@@ -541,7 +539,9 @@ module _ (Q : Step → Type 0) (L : List Step → Machine → ℕ → Type 0) (a
   watched_more s earlier n taken plain supposed whole after was = record {
     running = subst (λ (x : Machine). x.last ≡ None → ⊥) (sym taken.after) (runs_after (machine_told s.before s.told) s.order);
     alone = subst IsAlone (sym taken.after) (alone_after (machine_told s.before s.told) s.order);
-    asked = subst (λ (x : Machine). x.asked ≤ 2) (sym taken.after) (told_small s.before s.told was.asked);
+    asked = subst (λ (x : Machine). x.asked ≤ 2) (sym taken.after)
+        (asked_small (course_by (machine_told s.before s.told) s.order).opened (machine_told s.before s.told).asked
+        (told_small s.before s.told was.asked));
     unreserving = subst (λ (x : Machine). (b : ℕ) → x.course.purpose ≡ Asking b → (c r : ℕ) → x.last ≡ Some (Commit (Reserve c r)) → ⊥) (sym taken.after)
         (unreserving_after s.before s.told s.order was.running taken.due taken.given whole was.alone);
     seen = seen_more s earlier n taken plain supposed whole after was;
@@ -560,7 +560,7 @@ module _ (Q : Step → Type 0) (L : List Step → Machine → ℕ → Type 0) (a
               first g = record {
                 running = runs_after (machine_told (at_first id k) input.Survey) s.order;
                 alone = alone_after (machine_told (at_first id k) input.Survey) s.order;
-                asked = omega arith;
+                asked = asked_small (course_by (machine_told (at_first id k) input.Survey) s.order).opened 0 (omega arith);
                 unreserving = λ b purpose c r last. unreserved b c r purpose last;
                 seen = by (seen_first id k s.order a small g.answered.allowed);
               } where

@@ -13,17 +13,17 @@ use Rattle.dali_script.specs.declared.orders.Fault.{Fault}
 use Rattle.dali_script.specs.declared.orders.Fault.TheVariants as fault
 use Rattle.dali_script.specs.declared.orders.Due.TheVariants as due
 use Rattle.dali_script.specs.Due.{due_after, accepts, frame_put, record_ordered}
-use Rattle.dali_controller.specs.declared.purpose.Purpose.TheVariants.{Opening, Asking}
-use Rattle.dali_controller.specs.declared.way.Way.{Way}
-use Rattle.dali_controller.specs.declared.way.Way.TheVariants.{Fresh, Surveying, Drawing}
+use Rattle.dali_controller.specs.declared.purpose.Purpose.TheVariants.{Asking}
+use Rattle.dali_controller.specs.declared.way.Way.TheVariants.{Surveying}
+use Rattle.dali_controller.specs.Course.{Course}
 use Rattle.dali_controller.specs.Machine.{Machine, at_first, machine_told, machine_heard, machine_committed}
 use Rattle.dali_controller.specs.Orders.{IsGiven, IsAllowed, machine_after, machine_ordered}
-use Rattle.dali_controller.specs.Whole.{IsWhole, Knows}
+use Rattle.dali_controller.specs.Whole.{IsWhole}
 use Rattle.dali_progress.specs.Surveyed.{Step, IsTaken, IsCourse}
 use Rattle.dali_progress.specs.Census.{IsSurveyed, BeginsBySurvey, AreWhole, was_sent, was_lost, frames_asked, frames_lost, IsSteady, AreSteady}
-use Rattle.dali_progress.proofs.Census.Left.{waits, of_purpose, of_last, beyond, left, beyond_most}
-use Rattle.dali_progress.proofs.Census.Asked.{same_left, sent_left, sending_of}
-use Rattle.dali_progress.proofs.Census.Others.{Rests, asking_or, any_left, calm_left, kept_left, other_left}
+use Rattle.dali_progress.proofs.Census.Left.{waits, of_purpose, of_last, beyond, left, granted, beyond_most}
+use Rattle.dali_progress.proofs.Census.Asked.{same_left, sent_left}
+use Rattle.dali_progress.proofs.Census.Others.{Rests, asking_or, any_left, calm_left, kept_left, ordered_way, ordered_askings}
 
 -- A CENSUS IS BOUNDED: each step, and all of a course.
 
@@ -60,7 +60,9 @@ IsCounted u m i = (h : Answer) → i ≡ input.Heard h → (h ≡ Silence) ⊎ (
 
 -- WHAT A STEP SENDS of a census it makes fewer
 abbrev Counts : ℕ → Machine → Input → Machine → Type 0
-Counts u m i n = was_sent i m.course.purpose + left u n ≤ left u m + (u + 2) * was_lost i m.course.purpose
+Counts u m i n =
+    was_sent i m.course.purpose + left u n + granted u m.course.tally.askings
+    ≤ left u m + (u + 2) * was_lost i m.course.purpose + granted u n.course.tally.askings
 
 lost_counts : (u : ℕ) (m t : Machine) (i : Input) (o : Order) → t.course ≡ m.course → m.course.way ≡ Surveying
     → ((a : ℕ) → m.course.purpose ≡ Asking a → (was_sent i m.course.purpose ≡ 0) × (was_lost i m.course.purpose ≡ 1))
@@ -68,10 +70,13 @@ lost_counts : (u : ℕ) (m t : Machine) (i : Input) (o : Order) → t.course ≡
     → Counts u m i (machine_ordered t o)
 lost_counts u m t i o same surveys asks rests may = go (asking_or m.course.purpose) where
   way : t.course.way ≡ Surveying
-  way = ap (λ c. c.way) same ∙ surveys
+  way = ap (λ (c : Course). c.way) same ∙ surveys
 
   from : beyond u t.course.from ≡ beyond u m.course.from
-  from = ap (λ c. beyond u c.from) same
+  from = ap (λ (c : Course). beyond u c.from) same
+
+  askings : granted u t.course.tally.askings ≡ granted u m.course.tally.askings
+  askings = ap (λ (c : Course). granted u c.tally.askings) same
 
   here : left u m ≡ beyond u m.course.from + of_last u m m.last
   here = same_left u m m refl surveys
@@ -85,13 +90,12 @@ lost_counts u m t i o same surveys asks rests may = go (asking_or m.course.purpo
   go : ((a : ℕ) × (m.course.purpose ≡ Asking a)) ⊎ Rests m.course.purpose → Counts u m i (machine_ordered t o)
   go (inl (a, is)) =
       let both = asks a is in
-      let most : left u (machine_ordered t o) ≤ beyond u t.course.from + (u + 2) = any_left u t way o may in
-      rw (both.0, both.1, here, one_more) (omega (arith, most, from))
+      let most = any_left u t way o may in
+      rw (both.0, both.1, here, one_more) (omega (arith, most, from, askings))
   go (inr calm) =
       let both = rests calm in
-      let fewer : left u (machine_ordered t o) ≤ beyond u t.course.from =
-      calm_left u t way (λ k j s. ap (λ c. of_purpose k j c.purpose s) same ∙ calm.0 k j s) o may in
-      rw (both.0, both.1, here, no_more) (omega (arith, fewer, from))
+      let fewer = calm_left u t way (λ k j s. ap (λ (c : Course). of_purpose k j c.purpose s) same ∙ calm.0 k j s) o may in
+      rw (both.0, both.1, here, no_more) (omega (arith, fewer, from, askings))
 
 no_more : (n : ℕ) → n * 0 ≡ 0
 no_more n = omega arith
@@ -103,21 +107,18 @@ heard_counts u m h p f o one surveys last whole counted may after = go (asking_o
   go : ((a : ℕ) × (m.course.purpose ≡ Asking a)) ⊎ Rests m.course.purpose → Counts u m (input.Heard h) (machine_ordered (machine_heard m (Some f) h) o)
   go (inl (a, is)) =
       let sent : was_sent (input.Heard h) m.course.purpose ≡ 1 = rw is refl in
-      let fewer : 1 + left u (machine_ordered (machine_heard m (Some f) h) o) ≤ left u m =
-      sent_left u m h p f a one surveys is last whole counted o may after in
+      let fewer = sent_left u m h p f a one surveys is last whole counted o may after in
       rw (sent, no_more) (omega (arith, fewer))
   go (inr calm) =
       let sent : was_sent (input.Heard h) m.course.purpose ≡ 0 = calm.1 h in
-      let fewer : left u (machine_ordered (machine_heard m (Some f) h) o) ≤ beyond u m.course.from =
-      calm_left u (machine_heard m (Some f) h) surveys (λ k j s. calm.0 k j s) o may in
+      let fewer = calm_left u (machine_heard m (Some f) h) surveys (λ k j s. calm.0 k j s) o may in
       let here : left u m ≡ beyond u m.course.from + of_last u m m.last = same_left u m m refl surveys in
       rw (sent, no_more) (omega (arith, fewer, here))
 
 committed_counts : (u : ℕ) (m : Machine) (x : Record) (o : Order) → m.course.way ≡ Surveying → m.last ≡ Some (Commit x) → m.trace ≡ []
     → IsAllowed (machine_committed m (Some x)) o → Counts u m input.Committed (machine_ordered (machine_committed m (Some x)) o)
 committed_counts u m x o surveys last free may =
-    let fewer : left u (machine_ordered (machine_committed m (Some x)) o) ≤ beyond u m.course.from =
-    kept_left u (machine_committed m (Some x)) x surveys last free o may in
+    let fewer = kept_left u (machine_committed m (Some x)) x surveys last free o may in
     let here : left u m ≡ beyond u m.course.from + of_last u m m.last = same_left u m m refl surveys in
     rw no_more (omega (arith, fewer, here))
 
@@ -150,53 +151,30 @@ survey_counts u m input.Committed o one surveys running due given whole alone af
 survey_counts u m input.CommitFailed o one surveys running due given whole alone after counted =
     subst (λ q. Counts u m input.CommitFailed (machine_ordered m q)) (sym given.answered) (failed_counts u m fault.Store surveys)
 
--- where no survey counts nobody is asked
-nothing_counts : (u : ℕ) (m t : Machine) (i : Input) (o : Order) → t.course ≡ m.course → (m.course.way ≡ Surveying → ⊥) → was_sent i m.course.purpose ≡ 0
-    → IsAllowed t o → Counts u m i (machine_ordered t o)
-nothing_counts u m t i o same other sent may =
-    let none : left u (machine_ordered t o) ≡ 0 = other_left u t (λ is. other (ap (λ c. c.way) (sym same) ∙ is)) o may in
-    rw (sent, none) (omega arith)
+-- the way of a survey stays
+told_way : (m : Machine) (i : Input) → m.course.way ≡ Surveying → (machine_told m i).course.way ≡ Surveying
+told_way m input.Survey is = refl
+told_way m (input.Heard h) is = go (frame_put m.last) where
+  go : (f : Option Forward) → (machine_heard m f h).course.way ≡ Surveying
+  go None = is
+  go (Some f) = is
+told_way m input.Committed is = go (record_ordered m.last) where
+  go : (x : Option Record) → (machine_committed m x).course.way ≡ Surveying
+  go None = is
+  go (Some x) = is
+told_way m _ is = is
 
-unasked : (m : Machine) (p : ℕ) (f : Forward) (h : Answer) → (m.course.way ≡ Surveying → ⊥) → m.last ≡ Some (Put p f) → IsWhole m
-    → was_sent (input.Heard h) m.course.purpose ≡ 0
-unasked m p f h other last whole = go (asking_or m.course.purpose) where
-  go : ((a : ℕ) × (m.course.purpose ≡ Asking a)) ⊎ Rests m.course.purpose → was_sent (input.Heard h) m.course.purpose ≡ 0
-  go (inl (a, is)) =
-      absurd (other (subst (λ q. Knows m.course.way m.kept m.course.number m.course.search m.course.ascent m.opened q) is
-      (sending_of m p f last whole).ready.knows).1)
-  go (inr calm) = calm.1 h
-
-other_counts : (u : ℕ) (m : Machine) (i : Input) (o : Order) → (m.course.way ≡ Surveying → ⊥) → (m.last ≡ None → ⊥) → accepts (due_after m.last) i ≡ true
-    → IsGiven m i o → IsWhole m → Counts u m i (machine_after m i o)
-other_counts u m input.Start o other running due given whole = absurd (running (started m.last input.Start refl due))
-other_counts u m input.Survey o other running due given whole = absurd (running (started m.last input.Survey refl due))
-other_counts u m (input.Heard h) o other running due given whole =
-    let put = put_is m.last (input.Heard h) refl due in
-    let same : (machine_told m (input.Heard h)).course ≡ m.course = rw put.2 refl in
-    nothing_counts u m (machine_told m (input.Heard h)) (input.Heard h) o same other (unasked m put.0 put.1 h other put.2 whole) given.answered.allowed
-other_counts u m input.Destroyed o other running due given whole =
-    nothing_counts u m (machine_told m input.Destroyed) input.Destroyed o refl other refl given.answered.allowed
-other_counts u m input.Lapsed o other running due given whole =
-    nothing_counts u m (machine_told m input.Lapsed) input.Lapsed o refl other refl given.answered.allowed
-other_counts u m input.Committed o other running due given whole =
-    let kept = commit_is m.last due in
-    let same : (machine_told m input.Committed).course ≡ m.course = rw kept.1 refl in
-    nothing_counts u m (machine_told m input.Committed) input.Committed o same other refl given.answered.allowed
-other_counts u m input.CommitFailed o other running due given whole =
-    subst (λ q. Counts u m input.CommitFailed (machine_ordered m q)) (sym given.answered)
-    (nothing_counts u m m input.CommitFailed (Halt fault.Store) refl other refl tt)
-
-way_is : (y : Way) → (y ≡ Surveying) ⊎ (y ≡ Surveying → ⊥)
-way_is Surveying = inl refl
-way_is Fresh = inr (λ e. cc)
-way_is Drawing = inr (λ e. cc)
-
-step_counts : (u : ℕ) (m : Machine) (i : Input) (o : Order) → 1 ≤ u → (m.last ≡ None → ⊥) → accepts (due_after m.last) i ≡ true → IsGiven m i o → IsWhole m
-    → IsAlone m → IsWhole (machine_after m i o) → IsCounted u m i → Counts u m i (machine_after m i o)
-step_counts u m i o one running due given whole alone after counted = go (way_is m.course.way) where
-  go : (m.course.way ≡ Surveying) ⊎ (m.course.way ≡ Surveying → ⊥) → Counts u m i (machine_after m i o)
-  go (inl surveys) = survey_counts u m i o one surveys running due given whole alone after counted
-  go (inr other) = other_counts u m i o other running due given whole
+told_few : (m : Machine) (i : Input) → m.course.tally.askings ≤ 6 → (machine_told m i).course.tally.askings ≤ 6
+told_few m input.Survey few = omega arith
+told_few m (input.Heard h) few = go (frame_put m.last) where
+  go : (f : Option Forward) → (machine_heard m f h).course.tally.askings ≤ 6
+  go None = few
+  go (Some f) = few
+told_few m input.Committed few = go (record_ordered m.last) where
+  go : (x : Option Record) → (machine_committed m x).course.tally.askings ≤ 6
+  go None = few
+  go (Some x) = few
+told_few m _ few = few
 
 -- ---------------------------------------------------------------- a course
 
@@ -207,30 +185,43 @@ AreCounted u (s ∷ earlier) = IsCounted u s.before s.told × AreCounted u earli
 record Bounded (u : ℕ) (steps : List Step) (n : Machine) : Type 0 where
   running : n.last ≡ None → ⊥
   alone : IsAlone n
-  frames : frames_asked steps + left u n ≤ (u + 2) * 64 + (u + 2) * frames_lost steps
+  surveys : n.course.way ≡ Surveying
+  few : n.course.tally.askings ≤ 6
+  frames : frames_asked steps + left u n ≤ (u + 2) * 64 + (u + 2) * frames_lost steps + granted u n.course.tally.askings
 
 pub runs_after : (t : Machine) (o : Order) → (machine_ordered t o).last ≡ None → ⊥
 runs_after t o e = cc
+
+surveys_first : (s : Step) → IsSurveyed s → (machine_told s.before s.told).course.way ≡ Surveying
+surveys_first s begins = ap (λ i. (machine_told s.before i).course.way) begins.0
 
 first_bounded : (u : ℕ) (s : Step) (n : Machine) → IsSurveyed s → IsTaken s n → Bounded u (s ∷ []) n
 first_bounded u s n begins taken =
     subst (λ (x : Machine). Bounded u (s ∷ []) x) (sym taken.after) (record {
       running = runs_after (machine_told s.before s.told) s.order;
       alone = alone_after (machine_told s.before s.told) s.order;
+      surveys = ordered_way (machine_told s.before s.told) s.order ∙ surveys_first s begins;
+      few = ordered_askings (machine_told s.before s.told) s.order (surveys_first s begins)
+          (subst (λ i. (machine_told s.before i).course.tally.askings ≤ 6) (sym begins.0) (omega arith));
       frames = from s.before s.told begins.1.0 begins.1.1 begins.1.2 begins.0 taken.given;
     }) where
-      from : (m : Machine) (i : Input) (id : ℕ) (k : Kept) → m ≡ at_first id k → i ≡ input.Survey → IsGiven m i s.order
-          → (was_sent i m.course.purpose + 0) + left u (machine_after m i s.order) ≤ (u + 2) * 64 + (u + 2) * (was_lost i m.course.purpose + 0)
+      Few : Machine → Input → Type 0
+      Few m i =
+          (was_sent i m.course.purpose + 0) + left u (machine_after m i s.order)
+          ≤ (u + 2) * 64 + (u + 2) * (was_lost i m.course.purpose + 0) + granted u (machine_after m i s.order).course.tally.askings
+
+      none : (m : ℕ) → m * 0 ≡ 0
+      none m = omega arith
+
+      from : (m : Machine) (i : Input) (id : ℕ) (k : Kept) → m ≡ at_first id k → i ≡ input.Survey → IsGiven m i s.order → Few m i
       from m i id k is told given =
-          subst (λ (x : Machine). IsGiven x i s.order
-          → (was_sent i x.course.purpose + 0) + left u (machine_after x i s.order) ≤ (u + 2) * 64 + (u + 2) * (was_lost i x.course.purpose + 0)) (sym is)
-          (subst (λ j. IsGiven (at_first id k) j s.order
-          → (was_sent j Opening + 0) + left u (machine_after (at_first id k) j s.order) ≤ (u + 2) * 64 + (u + 2) * (was_lost j Opening + 0)) (sym told)
+          subst (λ (x : Machine). IsGiven x i s.order → Few x i) (sym is)
+          (subst (λ j. IsGiven (at_first id k) j s.order → Few (at_first id k) j) (sym told)
           (λ g.
-          let fewer : left u (machine_after (at_first id k) input.Survey s.order) ≤ beyond u 0 =
-          calm_left u (machine_told (at_first id k) input.Survey) refl (λ a b c. refl) s.order g.answered.allowed in
+          let fewer = calm_left u (machine_told (at_first id k) input.Survey) refl (λ a b c. refl) s.order g.answered.allowed in
           let most : beyond u 0 ≤ (u + 2) * 64 = beyond_most u 0 in
-          rw no_more (omega (arith, fewer, most)))) given
+          let first : granted u 0 ≡ 0 = none ((u + 2) * 64) in
+          rw no_more (omega (arith, fewer, most, first)))) given
 
 more_bounded : (u : ℕ) (s : Step) (earlier : List Step) (n : Machine) → 1 ≤ u → Bounded u earlier s.before → IsTaken s n → IsWhole s.before → IsWhole n
     → IsCounted u s.before s.told → Bounded u (s ∷ earlier) n
@@ -238,16 +229,19 @@ more_bounded u s earlier n one before taken whole after counted =
     subst (λ (x : Machine). IsWhole x → Bounded u (s ∷ earlier) x) (sym taken.after) (λ w. record {
       running = runs_after (machine_told s.before s.told) s.order;
       alone = alone_after (machine_told s.before s.told) s.order;
+      surveys = ordered_way (machine_told s.before s.told) s.order ∙ told_way s.before s.told before.surveys;
+      few = ordered_askings (machine_told s.before s.told) s.order (told_way s.before s.told before.surveys) (told_few s.before s.told before.few);
       frames = sum (was_sent s.told s.before.course.purpose) (frames_asked earlier) (left u (machine_after s.before s.told s.order)) (left u s.before)
-          ((u + 2) * 64) (u + 2) (was_lost s.told s.before.course.purpose) (frames_lost earlier)
-          (step_counts u s.before s.told s.order one before.running taken.due taken.given whole before.alone w counted) before.frames;
+          ((u + 2) * 64) (u + 2) (was_lost s.told s.before.course.purpose) (frames_lost earlier) (granted u s.before.course.tally.askings)
+          (granted u (machine_after s.before s.told s.order).course.tally.askings)
+          (survey_counts u s.before s.told s.order one before.surveys before.running taken.due taken.given whole before.alone w counted) before.frames;
     }) after where
       times : (m a b : ℕ) → m * (a + b) ≡ m * a + m * b
       times m a b = omega arith
 
-      sum : (sent asked now before_it top m lost old : ℕ) → sent + now ≤ before_it + m * lost → asked + before_it ≤ top + m * old
-          → (sent + asked) + now ≤ top + m * (lost + old)
-      sum sent asked now before_it top m lost old step was = rw times (omega (arith, step, was))
+      sum : (sent asked now before_it top m lost old was_granted is_granted : ℕ) → sent + now + was_granted ≤ before_it + m * lost + is_granted
+          → asked + before_it ≤ top + m * old + was_granted → (sent + asked) + now ≤ top + m * (lost + old) + is_granted
+      sum sent asked now before_it top m lost old was_granted is_granted step was = rw times (omega (arith, step, was))
 
 bounded : (u : ℕ) (steps : List Step) (n : Machine) → 1 ≤ u → IsCourse steps n → BeginsBySurvey steps → AreWhole steps → IsWhole n → AreCounted u steps
     → Bounded u steps n
@@ -269,9 +263,9 @@ all_counted [] = tt
 all_counted (s ∷ earlier) = (always_counted s.before s.told, all_counted earlier)
 
 pub any_bounded : (steps : List Step) (n : Machine) → IsCourse steps n → BeginsBySurvey steps → AreWhole steps → IsWhole n
-    → frames_asked steps ≤ 320 + 5 * frames_lost steps
+    → frames_asked steps ≤ 320 * (1 + n.course.tally.askings) + 5 * frames_lost steps
 any_bounded steps n course begins are whole =
-    let most : frames_asked steps + left 3 n ≤ 320 + 5 * frames_lost steps =
+    let most : frames_asked steps + left 3 n ≤ 320 + 5 * frames_lost steps + 320 * n.course.tally.askings =
     (bounded 3 steps n (omega arith) course begins are whole (all_counted steps)).frames in
     omega (arith, most)
 
@@ -288,8 +282,12 @@ all_steady [] are = tt
 all_steady (s ∷ earlier) are = (steady_counted s are.0, all_steady earlier are.1)
 
 pub steady_bounded : (steps : List Step) (n : Machine) → IsCourse steps n → BeginsBySurvey steps → AreWhole steps → IsWhole n → AreSteady steps
-    → frames_asked steps ≤ 192 + 3 * frames_lost steps
+    → frames_asked steps ≤ 192 * (1 + n.course.tally.askings) + 3 * frames_lost steps
 steady_bounded steps n course begins are whole steady =
-    let most : frames_asked steps + left 1 n ≤ 192 + 3 * frames_lost steps =
+    let most : frames_asked steps + left 1 n ≤ 192 + 3 * frames_lost steps + 192 * n.course.tally.askings =
     (bounded 1 steps n (omega arith) course begins are whole (all_steady steps steady)).frames in
     omega (arith, most)
+
+-- short addresses are asked again six times at the most
+pub few_again : (steps : List Step) (n : Machine) → IsCourse steps n → BeginsBySurvey steps → AreWhole steps → IsWhole n → n.course.tally.askings ≤ 6
+few_again steps n course begins are whole = (bounded 3 steps n (omega arith) course begins are whole (all_counted steps)).few

@@ -1,5 +1,6 @@
-use Rattle.std.proofs.Common.{◌≡◌, ℕ, ◌+◌, ◌*◌, ◌<◌, ◌≤◌, ◌⊎◌, inl, inr, Bool, true, false, refl, sym, subst, ◌∙◌, arith, Option, Some, None}
-use Rattle.std.specs.Prelude.{◌==◌, ◌-◌, zero, suc, if◌then◌else◌}
+use Rattle.std.proofs.Common.{◌≡◌, ℕ, ◌+◌, ◌*◌, ◌<◌, ◌≤◌, ◌⊎◌, inl, inr, Bool, true, false, refl, sym, ap, subst, ◌∙◌, arith, Option, Some, None}
+use Rattle.std.specs.Prelude.{◌==◌, ◌&&◌, ◌-◌, nat_lt, zero, suc, is_some, if◌then◌else◌}
+use Rattle.std.proofs.lemmas.Bool.Decides.{nat_tests}
 use Rattle.std.proofs.Math.Nat.{mul-le-mul_left}
 use Rattle.dali_frame.specs.declared.frames.Answer.{Answer}
 use Rattle.dali_frame.specs.declared.numbers.SearchAddress.{SearchAddress}
@@ -11,21 +12,23 @@ use Rattle.dali_script.specs.Records.{Kept}
 use Rattle.dali_script.specs.Stages.{stage_of}
 use Rattle.dali_script.specs.declared.orders.Order.{Order}
 use Rattle.dali_script.specs.declared.orders.Order.TheVariants.{Put, Commit}
-use Rattle.dali_script.specs.declared.orders.End.{End}
 use Rattle.dali_script.specs.declared.orders.End.TheVariants.{AllFound, BlockFull, GaveUp}
 use Rattle.dali_search.specs.declared.step.Step.{Step}
 use Rattle.dali_search.specs.declared.step.Step.TheVariants.{Again, Found, Nobody}
 use Rattle.dali_search.specs.Least.{answered}
-use Rattle.dali_search.specs.Ascending.{leads_to}
+use Rattle.dali_search.specs.Ascending.{leads_to, ascent_at_first}
 use Rattle.dali_controller.specs.declared.purpose.Purpose.{Purpose}
-use Rattle.dali_controller.specs.declared.purpose.Purpose.TheVariants.{Asking}
+use Rattle.dali_controller.specs.declared.purpose.Purpose.TheVariants.{Asking, Hunting, Calling}
 use Rattle.dali_controller.specs.declared.way.Way.{Way}
-use Rattle.dali_controller.specs.declared.way.Way.TheVariants.{Fresh, Surveying, Drawing}
-use Rattle.dali_controller.specs.Course.{Course, address_for, is_asked, asked_among, next_asked, is_yes, closing, going_on, going_on_early, ask_or_wake}
-use Rattle.dali_controller.specs.Course.{hunting_on, searching_first, searching_on, hunted, missed}
+use Rattle.dali_controller.specs.declared.way.Way.TheVariants.{Fresh, Surveying}
+use Rattle.dali_controller.specs.Course.{Course, address_for, is_asked, asked_among, next_asked, is_yes, closing, going_on, going_on_early, ask_or_call}
+use Rattle.dali_controller.specs.Course.{hunting_on, hunting_first, hunting_above, searching_first, searching_on, hunted, missed, asking_again, opening_anew}
+use Rattle.dali_controller.specs.Course.{next_unfinished, opening_at_last, drawing, calling, passing_over, probed, after_step}
+use Rattle.dali_controller.specs.Tally.{asked_again, silent_call, heard_call}
 use Rattle.dali_controller.specs.Machine.{Machine}
-use Rattle.dali_controller.specs.Next.{begins_at, goes_on_to, at_rest, asked_once, probed_to, draw_or_close, draws, silenced, unanswered, hunted_in, hunted_to}
-use Rattle.dali_controller.specs.Next.{goes_on_anew}
+use Rattle.dali_controller.specs.Next.{begins_at, goes_on_to, at_rest, asked_once, silenced, silenced_on, missed_again, is_failed, most_silent, unanswered}
+use Rattle.dali_controller.specs.Next.{hunted_in, hunted_to}
+use Rattle.dali_controller.specs.Next.{has_open, may_draw, asks_again, full, ungiven, undrawn, is_blocked, blocked, called_to, compared_in, asked_on, course_on}
 
 -- A CENSUS IS BOUNDED: by how many of its frames may still be sent, which each of them makes fewer. What may still be sent, and
 -- that a transaction that begins never makes it more. `u` is 3 where whoever is there may be silent twice and answer then, and 1
@@ -61,7 +64,10 @@ beyond u from = (u + 2) * (64 - from)
 abbrev pub left_on : ℕ → Machine → Way → ℕ
 left_on u n Surveying = beyond u n.course.from + of_last u n n.last
 left_on u n Fresh = 0
-left_on u n Drawing = 0
+
+-- and as often as short addresses are asked again, to all of them
+abbrev pub granted : ℕ → ℕ → ℕ
+granted u askings = (u + 2) * 64 * askings
 
 abbrev pub left : ℕ → Machine → ℕ
 left u n = left_on u n n.course.way
@@ -74,6 +80,11 @@ beyond_less u from next less within =
   where
     plus_one : (m n : ℕ) → m * (n + 1) ≡ m * n + m
     plus_one m n = omega arith
+
+pub granted_more : (u askings : ℕ) → granted u (askings + 1) ≡ granted u askings + (u + 2) * 64
+granted_more u askings = plus_one ((u + 2) * 64) askings where
+  plus_one : (m n : ℕ) → m * (n + 1) ≡ m * n + m
+  plus_one m n = omega arith
 
 pub beyond_most : (u from : ℕ) → beyond u from ≤ (u + 2) * 64
 beyond_most u from = mul-le-mul_left (u + 2) (let few : 64 - from ≤ 64 = omega arith in few)
@@ -88,18 +99,32 @@ waits_least u zero one = omega (arith, one)
 waits_least u (suc zero) one = omega (arith, one)
 waits_least u (suc (suc k)) one = one
 
+at_stage_most : (u k : ℕ) (s : Stage) → at_stage u k s ≤ u + 2
+at_stage_most u k stage.Free = waits_most u k
+at_stage_most u k (stage.HighAsked a high) = omega arith
+at_stage_most u k (stage.MiddleAsked a bytes) = omega arith
+at_stage_most u k _ = omega arith
+
+pub of_purpose_most : (u k : ℕ) (p : Purpose) (s : Stage) → of_purpose u k p s ≤ u + 2
+of_purpose_most u k (Asking a) s = at_stage_most u k s
+of_purpose_most u k _ s = omega arith
+
 -- ---------------------------------------------------------------- which transaction begins
 
--- a course that asks nothing, and no more later, or asks an address further on
+-- a course that asks nothing, and no more later, or asks an address further on; or one that asks from the first one on again
+abbrev pub Further : ℕ → Course → Type 0
+Further from d = ((64 - d.from ≤ 64 - from) × ((u k : ℕ) (s : Stage) → of_purpose u k d.purpose s ≡ 0)) ⊎ ((from < d.from) × (d.from ≤ 64))
+
 pub record Moves (c d : Course) : Type 0 where
-  pub way : (d.way ≡ Drawing) ⊎ (d.way ≡ Surveying)
-  pub on : ((64 - d.from ≤ 64 - c.from) × ((u k : ℕ) (s : Stage) → of_purpose u k d.purpose s ≡ 0)) ⊎ ((c.from < d.from) × (d.from ≤ 64))
+  pub way : d.way ≡ Surveying
+  pub on : ((d.tally.askings ≡ c.tally.askings) × Further c.from d) ⊎ ((c.tally.askings < 6) × (d.tally.askings ≡ c.tally.askings + 1) × Further 0 d)
 
 same_later : (n m : ℕ) → n ≡ m → 64 - n ≤ 64 - m
 same_later n m is = rw is (omega arith)
 
-pub quiet : (c d : Course) → c.way ≡ Surveying → d.way ≡ c.way → d.from ≡ c.from → ((u k : ℕ) (s : Stage) → of_purpose u k d.purpose s ≡ 0) → Moves c d
-quiet c d is way from none = record { way = inr (way ∙ is); on = inl (same_later d.from c.from from, none) }
+pub quiet : (c d : Course) → d.way ≡ Surveying → d.tally.askings ≡ c.tally.askings → d.from ≡ c.from → ((u k : ℕ) (s : Stage) → of_purpose u k d.purpose s ≡ 0)
+    → Moves c d
+quiet c d way askings from none = record { way = way; on = inl (askings, inl (same_later d.from c.from from, none)) }
 
 asked_within : (k : Kept) (n from a : ℕ) → asked_among k n from ≡ Some a → (from ≤ a) × (a < from + n)
 asked_within k zero from a e = absurd (cc)
@@ -109,66 +134,120 @@ asked_within k (suc n) from a e = go (is_asked k from) e (asked_within k n (from
   go true e more = let same : from ≡ a = cc in (omega (arith, same), omega (arith, same))
   go false e more = let is = more e in (omega (arith, is.0), omega (arith, is.1))
 
-asks_next : (k : Kept) (c : Course) → c.way ≡ Surveying → Moves c (ask_or_wake c (next_asked k c.from))
-asks_next k c is = go (next_asked k c.from) (asked_within k (64 - c.from) c.from) where
-  go : (o : Option ℕ) → ((a : ℕ) → o ≡ Some a → (c.from ≤ a) × (a < c.from + (64 - c.from))) → Moves c (ask_or_wake c o)
-  go None within = quiet c (ask_or_wake c None) is refl refl (λ u n s. refl)
+asks_further : (k : Kept) (c : Course) → Further c.from (ask_or_call c (next_asked k c.from))
+asks_further k c = go (next_asked k c.from) (asked_within k (64 - c.from) c.from) where
+  go : (o : Option ℕ) → ((a : ℕ) → o ≡ Some a → (c.from ≤ a) × (a < c.from + (64 - c.from))) → Further c.from (ask_or_call c o)
+  go None within = inl (omega arith, λ u n s. refl)
   go (Some a) within =
       let low : c.from ≤ a = (within a refl).0 in
       let high : a < c.from + (64 - c.from) = (within a refl).1 in
-      record { way = inr is; on = inr (omega (arith, low), omega (arith, low, high)) }
+      inr (omega (arith, low), omega (arith, low, high))
+
+-- with the way and the count that it has
+asks_with : (c : Course) (o : Option ℕ) → ((ask_or_call c o).way ≡ c.way) × ((ask_or_call c o).tally.askings ≡ c.tally.askings)
+asks_with c None = (refl, refl)
+asks_with c (Some a) = (refl, refl)
+
+asks_next : (k : Kept) (c : Course) → c.way ≡ Surveying → Moves c (ask_or_call c (next_asked k c.from))
+asks_next k c is =
+    let with_it = asks_with c (next_asked k c.from) in record { way = with_it.0 ∙ is; on = inl (with_it.1, asks_further k c) }
 
 going_moves : (k : Kept) (opened : Bool) (c : Course) → c.way ≡ Surveying → Moves c (going_on k opened c)
 going_moves k true c is = subst (λ y. Moves c (searching_on y c)) (sym is) (quiet c (hunting_on c) is refl refl (λ u n s. refl))
 going_moves k false c is = subst (λ y. Moves c (going_on_early k y c)) (sym is) (asks_next k c is)
 
 pub goes_moves : (t : Machine) → t.course.way ≡ Surveying → Moves t.course (goes_on_to t)
-goes_moves t is = going_moves t.kept t.opened t.course is
+goes_moves t is = going_moves t.kept t.course.opened t.course is
 
-closes_moves : (b : Bool) (c d : Course) (e : End) → c.way ≡ Surveying → d.way ≡ c.way → d.from ≡ c.from → Moves c (draw_or_close b d e)
-closes_moves true c d e is way from = record { way = inl refl; on = inl (same_later d.from c.from from, λ u n s. refl) }
-closes_moves false c d e is way from = quiet c (draw_or_close false d e) is way from (λ u n s. refl)
+-- no address can be given, or none is open
+asking_moves : (k : Kept) (c d : Course) → c.tally.askings < 6 → d.way ≡ Surveying → d.tally.askings ≡ c.tally.askings → Moves c (asking_again k d)
+asking_moves k c d few way askings =
+    let from_first : Course = record d { from = 0; opened = false; ascent = ascent_at_first; tally = asked_again d.tally } in
+    let with_it = asks_with from_first (next_asked k 0) in
+    record { way = with_it.0 ∙ way; on = inr (few, with_it.1 ∙ ap (λ n. n + 1) askings, asks_further k from_first) }
 
-probed_moves : (t : Machine) (h : Answer) → t.course.way ≡ Surveying → Moves t.course (begins_at t (stage.Probed (record { high = 0; middle = 0; low = 0 }) h))
+first_passes : (a b c : Bool) → (a && b && c) ≡ true → a ≡ true
+first_passes true b c e = refl
+first_passes false b c e = absurd (cc)
+
+full_moves : (t : Machine) (d : Course) → d.way ≡ Surveying → d.tally.askings ≡ t.course.tally.askings → d.from ≡ t.course.from → Moves t.course (full t d)
+full_moves t d way askings from = go (asks_again t) refl where
+  go : (b : Bool) → asks_again t ≡ b → Moves t.course (if b then asking_again t.kept d else closing d BlockFull)
+  go true again =
+      let less : nat_lt t.course.tally.askings 6 ≡ true =
+      first_passes (nat_lt t.course.tally.askings 6) t.course.tally.is_missed (is_some (next_unfinished t.kept 0)) again in
+      asking_moves t.kept t.course d (let few : t.course.tally.askings < 6 = grind (arith, nat_tests, less) in few) way askings
+  go false none = quiet t.course (closing d BlockFull) way askings from (λ u n s. refl)
+
+undrawn_moves : (t : Machine) (d : Course) → d.way ≡ Surveying → d.tally.askings ≡ t.course.tally.askings → d.from ≡ t.course.from
+    → Moves t.course (undrawn t d)
+undrawn_moves t d way askings from = go (has_open t) where
+  draws : (b : Bool) → Moves t.course (if b then drawing d else closing d GaveUp)
+  draws true = quiet t.course (drawing d) way askings from (λ u n s. refl)
+  draws false = quiet t.course (closing d GaveUp) way askings from (λ u n s. refl)
+
+  go : (b : Bool) → Moves t.course (if b then (if nat_lt d.tally.draws 3 then drawing d else closing d GaveUp) else full t d)
+  go true = draws (nat_lt d.tally.draws 3)
+  go false = full_moves t d way askings from
+
+-- a question of a search, of a hunt or of a roll call was answered
+probed_moves : (t : Machine) (h : Answer) → t.course.way ≡ Surveying → Moves t.course (probed t.course h)
 probed_moves t h is = go (answered t.course.search (is_yes h)) where
-  go : (s : _) → Moves t.course (probed_to t s.step (record t.course { search = s }))
+  go : (s : _) → Moves t.course (after_step s.step (record t.course { search = s }))
   go s = by s.step where
-    by : (x : _) → Moves t.course (probed_to t x (record t.course { search = s }))
-    by Again = quiet t.course (probed_to t Again (record t.course { search = s })) is refl refl (λ u n s. refl)
-    by (Found r) = quiet t.course (probed_to t (Found r) (record t.course { search = s })) is refl refl (λ u n s. refl)
-    by Nobody = closes_moves (draws t) t.course (record t.course { search = s }) AllFound is refl refl
+    by : (x : _) → Moves t.course (after_step x (record t.course { search = s }))
+    by Again = quiet t.course (after_step Again (record t.course { search = s })) is refl refl (λ u n s. refl)
+    by (Found r) = quiet t.course (after_step (Found r) (record t.course { search = s })) is refl refl (λ u n s. refl)
+    by Nobody = quiet t.course (after_step Nobody (record t.course { search = s })) is refl refl (λ u n s. refl)
 
--- in a hunt none is asked
-pub record IsQuiet (c d : Course) : Type 0 where
-  pub way : (d.way ≡ Drawing) ⊎ (d.way ≡ Surveying)
-  pub from : d.from ≡ c.from
-  pub calm : (u k : ℕ) (s : Stage) → of_purpose u k d.purpose s ≡ 0
+pub hunted_moves : (t : Machine) (h : Answer) → t.course.way ≡ Surveying → Moves t.course (hunted_in t h)
+hunted_moves t h is = go (leads_to (hunted t.course h).ascent) where
+  nobody : (b : Bool) → Moves t.course (if b then undrawn t (hunted t.course h) else calling (hunted t.course h))
+  nobody true = undrawn_moves t (hunted t.course h) is refl refl
+  nobody false = quiet t.course (calling (hunted t.course h)) is refl refl (λ u n s. refl)
 
-pub hunted_quiet : (t : Machine) (h : Answer) → t.course.way ≡ Surveying → IsQuiet t.course (hunted_in t h)
-hunted_quiet t h is = go (leads_to (hunted t.course h).ascent) where
-  closes : (b : Bool) → IsQuiet t.course (draw_or_close b (hunted t.course h) AllFound)
-  closes true = record { way = inl refl; from = refl; calm = λ u k s. refl }
-  closes false = record { way = inr is; from = refl; calm = λ u k s. refl }
+  go : (x : Step) → Moves t.course (hunted_to t x (hunted t.course h))
+  go Again = quiet t.course (hunted_to t Again (hunted t.course h)) is refl refl (λ u n s. refl)
+  go (Found r) = quiet t.course (hunted_to t (Found r) (hunted t.course h)) is refl refl (λ u n s. refl)
+  go Nobody = nobody ((hunted t.course h).ascent.found == 0)
 
-  go : (x : Step) → IsQuiet t.course (hunted_to t x (hunted t.course h))
-  go Again = record { way = inr is; from = refl; calm = λ u k s. refl }
-  go (Found r) = record { way = inr is; from = refl; calm = λ u k s. refl }
-  go Nobody = closes (draws t)
+called_moves : (t : Machine) (b : Bool) → t.course.way ≡ Surveying → Moves t.course (called_to t b t.course)
+called_moves t false is = go t.course.tally.is_silent where
+  go : (b : Bool) → Moves t.course (if b then closing t.course AllFound else calling (record t.course { tally = silent_call t.course.tally }))
+  go true = quiet t.course (closing t.course AllFound) is refl refl (λ u n s. refl)
+  go false = quiet t.course (calling (record t.course { tally = silent_call t.course.tally })) is refl refl (λ u n s. refl)
+called_moves t true is = go (is_blocked t.course.tally) where
+  draws : (b : Bool) → Moves t.course (if b then opening_at_last t.course else closing t.course GaveUp)
+  draws true = quiet t.course (opening_at_last t.course) is refl refl (λ u n s. refl)
+  draws false = quiet t.course (closing t.course GaveUp) is refl refl (λ u n s. refl)
 
-hunted_moves : (t : Machine) (h : Answer) → t.course.way ≡ Surveying → Moves t.course (hunted_in t h)
-hunted_moves t h is =
-    let still = hunted_quiet t h is in
-    record { way = still.way; on = inl (same_later (hunted_in t h).from t.course.from still.from, still.calm) }
+  go : (b : Bool) → Moves t.course (if b then blocked t else hunting_first (record t.course { tally = heard_call t.course.tally }))
+  go true = draws (may_draw t)
+  go false = quiet t.course (hunting_first (record t.course { tally = heard_call t.course.tally })) is refl refl (λ u n s. refl)
+
+compared_moves : (t : Machine) (p : Purpose) (h : Answer) → t.course.way ≡ Surveying → Moves t.course (compared_in t p h)
+compared_moves t Calling h is = called_moves t (is_yes h) is
+compared_moves t _ h is = hunted_moves t h is
 
 first_moves : (t : Machine) → t.course.way ≡ Surveying → Moves t.course (searching_first t.course.way t.course)
 first_moves t is =
-    subst (λ y. Moves t.course (searching_first y t.course)) (sym is) (record { way = inr is; on = inl (omega arith, λ u k s. refl) })
+    subst (λ y. Moves t.course (searching_first y t.course)) (sym is) (quiet t.course (hunting_first t.course) is refl refl (λ u n s. refl))
+
+ungiven_moves : (t : Machine) → t.course.way ≡ Surveying → Moves t.course (ungiven t t.course.way)
+ungiven_moves t is = subst (λ y. Moves t.course (ungiven t y)) (sym is) (go (may_draw t)) where
+  go : (b : Bool) → Moves t.course (if b then opening_anew t.course else full t t.course)
+  go true = quiet t.course (opening_anew t.course) is refl refl (λ u n s. refl)
+  go false = full_moves t t.course is refl refl
 
 silenced_moves : (t : Machine) → t.course.way ≡ Surveying → Moves t.course (silenced t)
-silenced_moves t is = go (t.silent == 16) where
-  go : (b : Bool) → Moves t.course (if b then closing t.course GaveUp else goes_on_anew t)
+silenced_moves t is = go (t.silent == most_silent t.course.way) where
+  again : (b : Bool) → Moves t.course (missed_again b t.course)
+  again true = quiet t.course (passing_over t.course) is refl refl (λ u n s. refl)
+  again false = quiet t.course (missed t.course) is refl refl (λ u n s. refl)
+
+  go : (b : Bool) → Moves t.course (if b then closing t.course GaveUp else silenced_on t t.course.way)
   go true = quiet t.course (closing t.course GaveUp) is refl refl (λ u n s. refl)
-  go false = let moved = going_moves t.kept t.opened (missed t.course) is in record { way = moved.way; on = moved.on }
+  go false = subst (λ y. Moves t.course (silenced_on t y)) (sym is) (again (is_failed t.course.tally.failed (value_of t.course.number)))
 
 unanswered_moves : (t : Machine) (r : SearchAddress) (opened : Bool) (o : Option ℕ) → t.course.way ≡ Surveying → Moves t.course (unanswered t r opened o)
 unanswered_moves t r false (Some a) is = quiet t.course (unanswered t r false (Some a)) is refl refl (λ u n s. refl)
@@ -191,11 +270,30 @@ once_moves t false is = inl refl
 pub begins_moves : (t : Machine) (s : Stage) → t.course.way ≡ Surveying → StaysOrMoves t.course (begins_at t s)
 begins_moves t stage.Free is = rest_moves t t.last is
 begins_moves t stage.Opened is = inr (first_moves t is)
-begins_moves t stage.Initialised is = inr (first_moves t is)
+begins_moves t stage.DrawBarred is = inr (first_moves t is)
 begins_moves t (stage.HighAsked a high) is = once_moves t (t.asked == 0) is
 begins_moves t (stage.Probed r h) is = inr (probed_moves t h is)
-begins_moves t (stage.Hunted r (Some h) left) is = inr (hunted_moves t h is)
-begins_moves t (stage.Unnamed r) is = inr (closes_moves (draws t) t.course t.course BlockFull is refl refl)
-begins_moves t (stage.Unanswered r) is = inr (unanswered_moves t r t.opened (address_for t.kept.reserved (value_of r)) is)
+begins_moves t (stage.Hunted r (Some h) left) is = inr (compared_moves t t.course.purpose h is)
+begins_moves t (stage.Unnamed r) is = inr (ungiven_moves t is)
+begins_moves t (stage.Unanswered r) is = inr (unanswered_moves t r t.course.opened (address_for t.kept.reserved (value_of r)) is)
 begins_moves t (stage.Inconclusive r other) is = inr (silenced_moves t is)
+begins_moves t (stage.PassedOver r) is = inr (quiet t.course (hunting_above t.course) is refl refl (λ u k s. refl))
 begins_moves t _ is = inr (goes_moves t is)
+
+-- a later frame leaves the course, or it is the next question of a hunt
+asks_moves : (t : Machine) (p : Purpose) (h : Answer) → t.course.way ≡ Surveying → StaysOrMoves t.course (asked_on t p h)
+asks_moves t Hunting h is = inr (hunted_moves t h is)
+asks_moves t _ h is = inl refl
+
+pub on_moves : (t : Machine) (s : Stage) → t.course.way ≡ Surveying → StaysOrMoves t.course (course_on t s)
+on_moves t (stage.Hunted r (Some h) left) is = asks_moves t t.course.purpose h is
+on_moves t _ is = inl refl
+
+-- short addresses are asked again six times at the most
+pub few_askings : (c d : Course) → StaysOrMoves c d → c.tally.askings ≤ 6 → d.tally.askings ≤ 6
+few_askings c d (inl is) few = subst (λ (x : Course). x.tally.askings ≤ 6) (sym is) few
+few_askings c d (inr moves) few = go moves.on where
+  go : ((d.tally.askings ≡ c.tally.askings) × Further c.from d) ⊎ ((c.tally.askings < 6) × (d.tally.askings ≡ c.tally.askings + 1) × Further 0 d)
+      → d.tally.askings ≤ 6
+  go (inl same) = let is : d.tally.askings ≡ c.tally.askings = same.0 in omega (arith, is, few)
+  go (inr again) = let less : c.tally.askings < 6 = again.0 in let is : d.tally.askings ≡ c.tally.askings + 1 = again.1 in omega (arith, less, is)

@@ -18,7 +18,7 @@ use Rattle.dali_controller.specs.Orders.{IsGiven, machine_after, machine_ordered
 use Rattle.dali_controller.specs.Whole.{IsWhole}
 use Rattle.dali_progress.specs.Surveyed.{Step, IsTaken, IsCourse, IsPlain, ArePlain}
 use Rattle.dali_progress.specs.Census.{IsClean, WasSpelled, HasTakenCensus, IsNamed, BeginsBySurvey, AreWhole}
-use Rattle.dali_progress.proofs.Later.{course_stays, turn_unasked}
+use Rattle.dali_progress.proofs.Later.{IsUnasked, course_stays, turn_unasked}
 use Rattle.dali_progress.proofs.Census.Coming.{IsTabled, IsToCome, IsEnded, Hearing, hearing_of, Looks, watched}
 use Rattle.dali_progress.proofs.Census.Told.{who_told}
 use Rattle.dali_progress.proofs.Accounted.{told_enrolled}
@@ -59,7 +59,8 @@ spelled_now s earlier a b p v f h byte is purpose here last given whole = by (he
       (stage_of (machine_told s.before (input.Heard h)).trace) ≡ Some c = rw (asks, number, stage_is r at) turn in
       subst (λ o. IsToCome (machine_ordered (machine_told s.before (input.Heard h)) o) a) (sym (given.followed.sent c turns)) (
         b,
-        ap (λ c. c.purpose) (course_stays (machine_told s.before (input.Heard h)) r (stage_is r at) (turn_unasked (Asking b) s.before.course.number r c turn))
+        ap (λ c. c.purpose) (course_stays (machine_told s.before (input.Heard h)) r (stage_is r at)
+            (subst (IsUnasked r) (sym asks) (turn_unasked (Asking b) s.before.course.number r c turn)))
             ∙ asks,
         inr (here, λ x e. cc),
       )

@@ -18,7 +18,7 @@ use Rattle.dali_gear.specs.Gear.{Gear, answer, byte_at, has_short}
 use Rattle.dali_gear.specs.Row.{takes, option_cons, answers_of}
 use Rattle.dali_script.specs.declared.stage.Stage.{Stage}
 use Rattle.dali_script.specs.declared.stage.Stage.TheVariants as stage
-use Rattle.dali_script.specs.Stages.{next_stage, named, queried, answered, verified, hunted, byte_heard, bytes_heard, number_heard}
+use Rattle.dali_script.specs.Stages.{next_stage, named, queried, answered, verified, hunted, byte_heard, bytes_heard, number_heard, doubted}
 use Rattle.dali_events.specs.World.{World, gear_at}
 use Rattle.dali_events.specs.Runs.{IsDrawer, AreDrawn}
 use Rattle.dali_events.specs.Allowed.{Hears}
@@ -162,12 +162,23 @@ hunted_read r last left c h = go (left == 0) where
   go true = tt
   go false = asked c
 
+doubted_read : (h : Answer) → IsRead (doubted h)
+doubted_read Silence = tt
+doubted_read (Byte v) = tt
+doubted_read Damaged = tt
+
 -- one frame more
 pub next_read : (s : Stage) (c : Command) (h : Answer) → IsSpelled c → IsByteOf c h → IsRead s → IsRead (next_stage s c h)
 next_read stage.Free (RandomByte a High) h spelled byte read = (spelled, first_read a h byte)
 next_read stage.Terminated (Initialise Unaddressed) h spelled byte read = tt
 next_read stage.InitialisedOnce (Initialise Unaddressed) h spelled byte read = tt
 next_read stage.Initialised Randomise h spelled byte read = tt
+next_read stage.Initialised (SearchHigh high) h spelled byte read = tt
+next_read (stage.WokenHigh high) (SearchLow low) h spelled byte read = tt
+next_read (stage.WokenHigh high) (SearchMiddle middle) h spelled byte read = tt
+next_read (stage.WokenLow high low) (SearchMiddle middle) h spelled byte read = tt
+next_read (stage.WokenMiddle high middle) Compare h spelled byte read = doubted_read h
+next_read stage.DrawFree Randomise h spelled byte read = tt
 next_read stage.RandomisedOnce Randomise h spelled byte read = tt
 next_read (stage.HighSent high) (SearchMiddle middle) h spelled byte read = tt
 next_read (stage.MiddleSent high middle) (SearchLow low) h spelled byte read = tt

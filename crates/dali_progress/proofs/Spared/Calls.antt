@@ -39,7 +39,7 @@ use Rattle.dali_progress.specs.Spared.{HearsUsed}
 use Rattle.dali_progress.proofs.Lone.{acted_there}
 use Rattle.dali_progress.proofs.Logged.{world_logged, machines_logged, some_within}
 use Rattle.dali_progress.proofs.Spared.Bytes.{AreSmall, drawn_small, IsByteOf, byte_heard_of}
-use Rattle.dali_progress.proofs.Spared.Lives.{IsWellHeard, IsFair, Lives, lives_first, lives_told, lives_more, counted_asked, lives_acted, leaves_used}
+use Rattle.dali_progress.proofs.Spared.Lives.{IsWellHeard, IsFair, IsFewAt, Lives, lives_first, lives_told, lives_more, counted_asked, lives_acted, leaves_used}
 
 -- EACH EVENT THAT CALLS ADD goes on with the life of a controller that surveys and hears the used gear.
 
@@ -85,10 +85,11 @@ by_place P d c here there = go (nat_eq d c) refl where
 
 -- ---------------------------------------------------------------- it acts
 
-acted_here : (U : ℕ → Type 0) (z : Block) (v : ℕ → ℕ) (w : World) (ms : List (Option Machine)) (c : ℕ) (i : Input) (o : Order) → IsActed w c i o
+acted_here : (U : ℕ → Type 0) (z : Block) (v : ℕ → ℕ) (w : World) (ms : List (Option Machine)) (c : ℕ) (i : Input) (o : Order) → ((a : ℕ) → U a → a < 64)
+    → IsActed w c i o
     → (i ≡ input.Start → ⊥) → Waits (machine_in ms c) i × MayAnswer (machine_in ms c) i o × LeavesWhole (machine_in ms c) i o → IsLived U z v w ms c
     → IsLived U z v (happens w (event.Acted c i o)) (machines_after w ms (event.Acted c i o)) c
-acted_here U z v w ms c i o here unstarted of l n there = go (machine_in ms c) refl of where
+acted_here U z v w ms c i o below here unstarted of l n there = go (machine_in ms c) refl of where
   go : (x : Option Machine) → machine_in ms c ≡ x → Waits x i × MayAnswer x i o × LeavesWhole x i o
       → Lives U z v (controller_at (happens w (event.Acted c i o)) c) n
   go None has of = elim of.1 [ ]
@@ -99,16 +100,17 @@ acted_here U z v w ms c i o here unstarted of l n there = go (machine_in ms c) r
       let is : machine_after m i o ≡ n = some_same (machine_after m i o) n (sym next ∙ there) in
       subst (λ (x : Machine). Lives U z v (controller_at (happens w (event.Acted c i o)) c) x) is
       (subst (λ (k : Controller). Lives U z v k (machine_after m i o)) (sym (acted_there w c i o here.up))
-      (lives_acted U z v (controller_at w c) m i o (l m has) here.due unstarted of.0 of.1 of.2))
+      (lives_acted U z v (controller_at w c) m i o below (l m has) here.due unstarted of.0 of.1 of.2))
 
-acted_lived : (U : ℕ → Type 0) (z : Block) (v : ℕ → ℕ) (w : World) (ms : List (Option Machine)) (c d : ℕ) (i : Input) (o : Order) → IsActed w d i o → (d ≡ c
+acted_lived : (U : ℕ → Type 0) (z : Block) (v : ℕ → ℕ) (w : World) (ms : List (Option Machine)) (c d : ℕ) (i : Input) (o : Order)
+    → ((a : ℕ) → U a → a < 64) → IsActed w d i o → (d ≡ c
     → i ≡ input.Start → ⊥)
     → Waits (machine_in ms d) i × MayAnswer (machine_in ms d) i o × LeavesWhole (machine_in ms d) i o → IsLived U z v w ms c
     → IsLived U z v (happens w (event.Acted d i o)) (machines_after w ms (event.Acted d i o)) c
-acted_lived U z v w ms c d i o here unstarted of l =
+acted_lived U z v w ms c d i o below here unstarted of l =
     by_place _ d c
     (λ same. subst (λ n. IsLived U z v w ms n → IsLived U z v (happens w (event.Acted d i o)) (machines_after w ms (event.Acted d i o)) n) same
-    (acted_here U z v w ms d i o here (unstarted same) of) l)
+    (acted_here U z v w ms d i o below here (unstarted same) of) l)
     (λ other. elsewhere U z v w (happens w (event.Acted d i o)) ms (machines_after w ms (event.Acted d i o)) c
     (get_or-set_other w.controllers d c (controller_acted (controller_at w d) i o) nobody other)
     (get_or-set_other ms d c (option_map (λ x. machine_after x i o) (machine_in ms d)) None other) l)
@@ -138,7 +140,7 @@ fair_destroyed U v opened asked c last was fair = go (is_arc c) where
 
 sent_lived : (U : ℕ → Type 0) (z : Block) (v v' : ℕ → ℕ) (w : World) (ms : List (Option Machine)) (c d : ℕ) (f : Forward) (h : Answer)
     → IsSent w d f h → AreSmall w.gear → IsArc f ⊎ (frame_put (controller_at w d).last ≡ Some f) → ((a : ℕ) → U a → v a ≤ v' a)
-    → ((m : Machine) → machine_in ms c ≡ Some m → m.opened ≡ false → (a : ℕ) → U a → v' a < 3)
+    → ((m : Machine) → machine_in ms c ≡ Some m → (a : ℕ) → U a → IsFewAt v' m a)
     → ((a : ℕ) → d ≡ c → command_of f ≡ RandomByte a High → h ≡ Silence → v' a ≡ v a + 1) → IsLived U z v w ms c
     → IsLived U z v' (happens w (event.Sent d f h)) ms c
 sent_lived U z v v' w ms c d f h here small ordered more few counts l m there =
@@ -150,10 +152,10 @@ sent_lived U z v v' w ms c d f h here small ordered more few counts l m there =
       byte = byte_heard_of (command_of f) h w.gear small here.heard
 
       heard : d ≡ c → Lives U z v' (controller_at w c) m → IsArc f ⊎ (frame_put (controller_at w c).last ≡ Some f)
-          → IsFair U v' m.opened m.asked (controller_at w c).last (told_of (command_of f) (input.Heard h) (controller_at w c).told)
-      heard same k (inl arc) = fair_arc U v' m.opened m.asked f h (controller_at w c).last (controller_at w c).told arc k.told
+          → IsFair U v' m.course.opened m.asked (controller_at w c).last (told_of (command_of f) (input.Heard h) (controller_at w c).told)
+      heard same k (inl arc) = fair_arc U v' m.course.opened m.asked f h (controller_at w c).last (controller_at w c).told arc k.told
       heard same k (inr put) =
-          fair_heard U v' m.opened m.asked f h (controller_at w c).last (controller_at w c).told put (
+          fair_heard U v' m.course.opened m.asked f h (controller_at w c).last (controller_at w c).told put (
             (λ early a used asks silent.
                 let was : m.asked ≤ v a = counted_asked U z v (controller_at w c) m f a (l m there) (ap frame_put (l m there).last ∙ put) asks used in
                 let one : v' a ≡ v a + 1 = counts a same asks silent in omega (arith, was, one)),
@@ -165,7 +167,7 @@ lost_at : (U : ℕ → Type 0) (z : Block) (v : ℕ → ℕ) (cs : List Controll
 lost_at U z v cs c d f m l =
     changed_at (λ k. Lives U z v k m) cs d c (told_destroyed f) l
     (λ same k. lives_told U z v (get_or cs c nobody) (told_destroyed f (get_or cs c nobody)) m k refl
-    (fair_destroyed U v m.opened m.asked (command_of f) (get_or cs c nobody).last (get_or cs c nobody).told k.told))
+    (fair_destroyed U v m.course.opened m.asked (command_of f) (get_or cs c nobody).last (get_or cs c nobody).told k.told))
 
 lapsed_at : (U : ℕ → Type 0) (z : Block) (v : ℕ → ℕ) (cs : List Controller) (c : ℕ) (owner : Option ℕ) (m : Machine) → Lives U z v (get_or cs c nobody) m
     → Lives U z v (get_or (owner_told cs owner) c nobody) m
@@ -235,7 +237,11 @@ up_lived U z v v' w ms c d kept down block anew else_same l =
     still : ((a : ℕ) → v' a ≡ v a) → IsLived U z v' w ms c
     still same m there =
         lives_more U z v v' (controller_at w c) m (λ a used. let is : v' a ≡ v a = same a in omega (arith, is))
-        (λ early a used. let is : v' a ≡ v a = same a in let few : v a < 3 = (l m there).few early a used in omega (arith, few, is)) (l m there)
+        (λ a used. few_as a (same a) ((l m there).few a used)) (l m there)
+      where
+        few_as : (a : ℕ) → v' a ≡ v a → IsFewAt v m a → IsFewAt v' m a
+        few_as a is (inl few) = inl (λ early. (let less : v a < 3 = few early in omega (arith, less, is)))
+        few_as a is (inr safe) = inr safe
 
     begins : ((a : ℕ) → v' a ≡ 0) → (controller_at w d).records.block ≡ z
         → IsLived U z v' (happens w (event.Up d kept)) (machines_after w ms (event.Up d kept)) d
@@ -263,20 +269,20 @@ small_now s plan = drawn_small (world s) (are_drawn s.plan (world s) plan (draws
 abbrev pub counts_after : ℕ → (ℕ → ℕ) → Event → ℕ → ℕ
 counts_after c v e a = silences_after c a (v a) e
 
--- what is supposed of it: it begins by surveys, and hears the used gear in time until gear were woken
+-- what is supposed of it: it begins by surveys, and hears the used gear in time while it asks short addresses
 abbrev pub Heeds : SiteState → ℕ → (ℕ → ℕ) → Event → Type 0
 Heeds s c v (event.Acted d i o) = d ≡ c → i ≡ input.Start → ⊥
 Heeds s c v (event.Sent d f h) =
-    (m : Machine) → machine_at s c ≡ Some m → m.opened ≡ false → (a : ℕ) → IsUsedOf s.plan c a → counts_after c v (event.Sent d f h) a < 3
+    (m : Machine) → machine_at s c ≡ Some m → (a : ℕ) → IsUsedOf s.plan c a → IsFewAt (counts_after c v (event.Sent d f h)) m a
 Heeds s c v _ = Unit {0}
 
 hears_heeds : (s : SiteState) (c : ℕ) (v : ℕ → ℕ) (e : Event) → BeginsBySurveys c e → ((a : ℕ) → IsUsedOf s.plan c a → counts_after c v e a < 3)
     → Heeds s c v e
 hears_heeds s c v (event.Acted d i o) begins few = begins
-hears_heeds s c v (event.Sent d f h) begins few = λ m there early a used. few a used
+hears_heeds s c v (event.Sent d f h) begins few = λ m there a used. inl (λ early. few a used)
 hears_heeds s c v _ begins few = tt
 
-counts_more : (c : ℕ) (v : ℕ → ℕ) (d : ℕ) (f : Forward) (h : Answer) (a : ℕ) → v a ≤ counts_after c v (event.Sent d f h) a
+pub counts_more : (c : ℕ) (v : ℕ → ℕ) (d : ℕ) (f : Forward) (h : Answer) (a : ℕ) → v a ≤ counts_after c v (event.Sent d f h) a
 counts_more c v d f h a = go ((d == c) && (asks_first a (command_of f) && is_silence h)) where
   go : (b : Bool) → v a ≤ (if b then v a + 1 else v a)
   go true = omega arith
@@ -292,7 +298,7 @@ counts_one c v d f h a same asks silent =
 counts_anew : (c : ℕ) (v : ℕ → ℕ) (d : ℕ) (kept : Bool) (a : ℕ) → d ≡ c → counts_after c v (event.Up d kept) a ≡ 0
 counts_anew c v d kept a same = let mine : (d == c) ≡ true = grind (arith, nat_tests) in rw mine refl
 
-counts_still : (c : ℕ) (v : ℕ → ℕ) (d : ℕ) (kept : Bool) (a : ℕ) → (c ≡ d → ⊥) → counts_after c v (event.Up d kept) a ≡ v a
+pub counts_still : (c : ℕ) (v : ℕ → ℕ) (d : ℕ) (kept : Bool) (a : ℕ) → (c ≡ d → ⊥) → counts_after c v (event.Up d kept) a ≡ v a
 counts_still c v d kept a other = let others : (d == c) ≡ false = grind (arith, nat_tests) in rw others refl
 
 lived_moved : (s : SiteState) (c : ℕ) (v : ℕ → ℕ) (e : Event) → IsPlan s.plan → Allowed (world s) e → IsOfCall s e → Heeds s c v e → IsLivedAt s c v
@@ -309,7 +315,7 @@ lived_moved s c v e plan here of heeds l = go e here of heeds where
 
   go : (e : Event) → Allowed (world s) e → IsOfCall s e → Heeds s c v e
       → Goes s (happens (world s) e) (machines_after (world s) (machines s) e) c (counts_after c v e)
-  go (event.Acted d i o) here of heeds = acted_lived U z v w (machines s) c d i o here heeds of l.lives
+  go (event.Acted d i o) here of heeds = acted_lived U z v w (machines s) c d i o (λ a used. plan.used.short a used.1) here heeds of l.lives
   go (event.Sent d f h) here of heeds =
       sent_lived U z v (counts_after c v (event.Sent d f h)) w (machines s) c d f h here (small_now s plan) of (λ a used. counts_more c v d f h a) heeds
       (λ a same asks silent. counts_one c v d f h a same asks silent) l.lives

@@ -19,8 +19,8 @@ use Rattle.dali_script.specs.Due.{due_after, accepts, frame_put, record_ordered}
 use Rattle.dali_controller.specs.declared.purpose.Purpose.{Purpose}
 use Rattle.dali_controller.specs.declared.purpose.Purpose.TheVariants.{Asking}
 use Rattle.dali_controller.specs.Machine.{Machine, machine_told, machine_heard, machine_committed, asked_at, asked_after, asked_after_silence}
-use Rattle.dali_controller.specs.Next.{next_course, begins_at, at_rest, asked_once}
-use Rattle.dali_controller.specs.Orders.{IsGiven, IsAllowed, machine_after, machine_ordered}
+use Rattle.dali_controller.specs.Next.{next_course, course_by, begins_at, at_rest, asked_once}
+use Rattle.dali_controller.specs.Orders.{IsGiven, IsAllowed, machine_after, machine_ordered, asked_by}
 use Rattle.dali_controller.specs.Whole.{IsWhole}
 use Rattle.dali_progress.proofs.Later.{IsUnasked, course_stays}
 use Rattle.dali_progress.proofs.Census.Course.{put_is}
@@ -43,7 +43,7 @@ counted_more U n n' m more (inr (inr (b, purpose, put, bound))) =
     inr (inr (b, purpose, put, λ used. let less : m.asked ≤ n b = bound used in let on : n b ≤ n' b = more b used in omega (arith, less, on)))
 
 -- the question that is asked again stays the one that is asked
-stays_or_ends : (t : Machine) (b : ℕ) (s : Stage) → t.course.purpose ≡ Asking b → next_course t ≡ t.course → stage_of t.trace ≡ s → IsUnasked s
+stays_or_ends : (t : Machine) (b : ℕ) (s : Stage) → t.course.purpose ≡ Asking b → next_course t ≡ t.course → stage_of t.trace ≡ s → IsUnasked s t.course.purpose
     → ((n : _) → s ≡ stage.Unnamed n → ⊥) → finding_of t.trace ≡ None → ((c n : ℕ) → t.last ≡ Some (Commit (Enrol c n)) → ⊥)
     → (o : Order) → IsAllowed t o → IsEnded (machine_ordered t o) ⊎ (((machine_ordered t o).course.purpose ≡ Asking b) × IsPut (machine_ordered t o).last)
 stays_or_ends t b s purpose same at unasked named none last =
@@ -52,11 +52,21 @@ stays_or_ends t b s purpose same at unasked named none last =
     (λ f running. inr (ap (λ c. c.purpose) (course_stays t s at unasked) ∙ purpose, (_, f, refl)))
     (λ x may. absurd (no_record t s x at named none last may)) (λ e. inl (inl (e, refl))) (λ w. inl (inr (w, refl)))
 
+-- no silence is counted any more once gear are searched
+asked_less : (opened : Bool) (k most : ℕ) → k ≤ most → asked_by opened k ≤ most
+asked_less true k most less = omega arith
+asked_less false k most less = less
+
+asked_none : (opened : Bool) (k : ℕ) → k ≡ 0 → asked_by opened k ≡ 0
+asked_none true k none = refl
+asked_none false k none = none
+
 counted_by : (U : ℕ → Type 0) (n : ℕ → ℕ) (t : Machine) (b : ℕ) (o : Order) → (U b → t.asked ≤ n b)
     → IsEnded (machine_ordered t o) ⊎ (((machine_ordered t o).course.purpose ≡ Asking b) × IsPut (machine_ordered t o).last)
     → IsCounted U n (machine_ordered t o)
 counted_by U n t b o bound (inl ends) = inr (inl ends)
-counted_by U n t b o bound (inr on) = inr (inr (b, on.0, on.1, bound))
+counted_by U n t b o bound (inr on) =
+    inr (inr (b, on.0, on.1, λ used. asked_less (course_by t o).opened t.asked (n b) (bound used)))
 
 never_commits : (last : Option Order) → IsPut last → (c n : ℕ) → last ≡ Some (Commit (Enrol c n)) → ⊥
 never_commits last put c n is = let other : Some (Put put.0 put.1) ≡ Some (Commit (Enrol c n)) = sym put.2 ∙ is in cc
@@ -102,11 +112,11 @@ heard_counted U n m h p f b o purpose last whole bound may = go hears.at where
       ⊎ (((y : Option (ℕ × ℕ)) × (stage_of (machine_heard m (Some f) h).trace ≡ stage.MiddleAsked b y))
       ⊎ ((y : Option ℕ) × (stage_of (machine_heard m (Some f) h).trace ≡ stage.Spelled b y)))
       → IsCounted U n (machine_ordered (machine_heard m (Some f) h) o)
-  go (inr (inl (y, at))) = inl (zero_at (stage.MiddleAsked b y) at refl)
-  go (inr (inr (y, at))) = inl (zero_at (stage.Spelled b y) at refl)
+  go (inr (inl (y, at))) = inl (asked_none (course_by t o).opened t.asked (zero_at (stage.MiddleAsked b y) at refl))
+  go (inr (inr (y, at))) = inl (asked_none (course_by t o).opened t.asked (zero_at (stage.Spelled b y) at refl))
   go (inl (at, asked)) = by (first_asked b h m.asked) where
     by : (h ≡ Silence) ⊎ (asked_at (stage.HighAsked b (byte_heard h)) h m.asked ≡ 0) → IsCounted U n (machine_ordered (machine_heard m (Some f) h) o)
-    by (inr none) = inl (asked ∙ none)
+    by (inr none) = inl (asked_none (course_by t o).opened t.asked (asked ∙ none))
     by (inl is) =
         let none : stage_of (machine_heard m (Some f) h).trace ≡ stage.HighAsked b None = at ∙ ap (λ k. stage.HighAsked b (byte_heard k)) is in
         let count : (machine_heard m (Some f) h).asked ≡ asked_after_silence m.asked =
@@ -115,7 +125,7 @@ heard_counted U n m h p f b o purpose last whole bound may = go hears.at where
       where
         next : stage_of (machine_heard m (Some f) h).trace ≡ stage.HighAsked b None → (machine_heard m (Some f) h).asked ≡ asked_after_silence m.asked
             → (asked_after_silence m.asked ≡ 0) ⊎ (asked_after_silence m.asked ≡ m.asked + 1) → IsCounted U n (machine_ordered (machine_heard m (Some f) h) o)
-        next none count (inl zero) = inl (count ∙ zero)
+        next none count (inl zero) = inl (asked_none (course_by t o).opened t.asked (count ∙ zero))
         next none count (inr more) = silent is none (count ∙ more)
 
 -- whether a short address is asked, or nothing is counted
@@ -136,7 +146,9 @@ heard_on U n m h p f o last whole bound was may = go was where
     by : ((b : ℕ) × (m.course.purpose ≡ Asking b)) ⊎ ((s : Stage) (h : Answer) (k : ℕ) → asked_after m.course.purpose s h k ≡ 0)
         → IsCounted U n (machine_ordered (machine_heard m (Some f) h) o)
     by (inl (b, purpose)) = heard_counted U n m h p f b o purpose last whole (bound b purpose) may
-    by (inr none) = inl (none (stage_of (machine_heard m (Some f) h).trace) h m.asked)
+    by (inr none) =
+        inl (asked_none (course_by (machine_heard m (Some f) h) o).opened (machine_heard m (Some f) h).asked
+        (none (stage_of (machine_heard m (Some f) h).trace) h m.asked))
 
 -- ---------------------------------------------------------------- nothing was heard
 
@@ -147,7 +159,7 @@ lost_on U n m t i o waits course last asked free was may = go was where
   at = ap stage_of free ∙ stage_none
 
   go : IsCounted U n m → IsCounted U n (machine_ordered t o)
-  go (inl zero) = inl (asked ∙ zero)
+  go (inl zero) = inl (asked_none (course_by t o).opened t.asked (asked ∙ zero))
   go (inr (inl ends)) = absurd (over_ends m.last i ends waits)
   go (inr (inr (b, purpose, put, less))) =
       counted_by U n t b o (λ used. let most : m.asked ≤ n b = less used in omega (arith, most, asked))
@@ -163,7 +175,8 @@ never_put m i waits put none =
 
 rest_on : (U : ℕ → Type 0) (n : ℕ → ℕ) (m : Machine) (i : Input) (o : Order) → accepts (due_after m.last) i ≡ true → (machine_told m i).asked ≡ m.asked
     → ((p : ℕ) (f : Forward) → accepts (due_after (Some (Put p f))) i ≡ false) → IsCounted U n m → IsCounted U n (machine_after m i o)
-rest_on U n m i o waits asked none (inl zero) = inl (asked ∙ zero)
+rest_on U n m i o waits asked none (inl zero) =
+    inl (asked_none (course_by (machine_told m i) o).opened (machine_told m i).asked (asked ∙ zero))
 rest_on U n m i o waits asked none (inr (inl ends)) = absurd (over_ends m.last i ends waits)
 rest_on U n m i o waits asked none (inr (inr (b, purpose, put, less))) = absurd (never_put m i waits put none)
 

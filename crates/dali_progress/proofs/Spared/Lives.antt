@@ -3,7 +3,7 @@ use Rattle.std.specs.Prelude.{◌==◌, if◌then◌else◌}
 use Rattle.dali_frame.specs.declared.frames.Answer.{Answer}
 use Rattle.dali_frame.specs.declared.frames.Answer.TheVariants.{Silence}
 use Rattle.dali_frame.specs.declared.frames.Forward.{Forward}
-use Rattle.dali_frame.specs.Priority.{FIRST, LATER}
+use Rattle.dali_frame.specs.Priority.{LATER}
 use Rattle.dali_special.specs.declared.command.Command.TheVariants.{RandomByte}
 use Rattle.dali_special.specs.declared.command.Part.TheVariants.{High, Middle, Low}
 use Rattle.dali_special.specs.Command.{command_of}
@@ -11,7 +11,6 @@ use Rattle.dali_special.proofs.Table.{read_spelled}
 use Rattle.dali_script.specs.declared.block.Block.{Block}
 use Rattle.dali_script.specs.declared.records.Record.{Record}
 use Rattle.dali_script.specs.declared.records.Record.TheVariants.{Reserve}
-use Rattle.dali_script.specs.declared.stage.Stage.{Stage}
 use Rattle.dali_script.specs.declared.stage.Stage.TheVariants as stage
 use Rattle.dali_script.specs.Records.{Kept, Has, InBlock}
 use Rattle.dali_script.specs.Stages.{stage_of, next_stage, bytes_heard, number_heard}
@@ -23,32 +22,30 @@ use Rattle.dali_script.specs.declared.orders.Order.{Order}
 use Rattle.dali_script.specs.declared.orders.Order.TheVariants.{Put, Commit, Done, Halt}
 use Rattle.dali_script.specs.declared.orders.Due.TheVariants as due
 use Rattle.dali_script.specs.Due.{due_after, accepts, frame_put, record_ordered}
-use Rattle.dali_controller.specs.declared.purpose.Purpose.TheVariants.{Asking, Waking}
-use Rattle.dali_controller.specs.declared.purpose.Purpose.{Purpose}
-use Rattle.dali_controller.specs.declared.way.Way.TheVariants.{Fresh, Surveying, Drawing}
-use Rattle.dali_controller.specs.Machine.{Machine, at_first, machine_told, machine_heard, machine_committed, opened_after, woken_after}
-use Rattle.dali_controller.specs.Next.{next_course, course_on, course_by}
+use Rattle.dali_controller.specs.declared.purpose.Purpose.TheVariants.{Opening, Asking}
+use Rattle.dali_controller.specs.declared.way.Way.TheVariants.{Fresh, Surveying}
+use Rattle.dali_controller.specs.Machine.{Machine, at_first, machine_told, machine_heard, machine_committed}
 use Rattle.dali_controller.specs.Orders.{IsGiven, MayCommit, machine_after, machine_ordered}
-use Rattle.dali_controller.specs.Whole.{IsWhole, Pending, Sends}
+use Rattle.dali_controller.specs.Whole.{IsWhole, IsReady, IsUnstarted, IsOpenedOn, Knows, Pending, Sends}
 use Rattle.dali_events.specs.declared.used.Used.{Used}
 use Rattle.dali_events.specs.Used.{used_shorts}
 use Rattle.dali_events.specs.World.{Controller}
 use Rattle.dali_events.specs.Happens.{controller_acted, entry}
 use Rattle.dali_events.specs.Allowed.{IsDue, IsCommit}
 use Rattle.dali_standing.specs.Seats.{ReservesUsed}
-use Rattle.dali_progress.specs.Surveyed.{Step, IsTaken, IsCourse, ArePlain, stage_told}
+use Rattle.dali_progress.specs.Surveyed.{Step, IsTaken, IsCourse, ArePlain, stage_told, IsPlain, IsAccounted}
 use Rattle.dali_progress.specs.Census.{BeginsBySurvey, AreWhole, FallsSilent, WasSilent}
 use Rattle.dali_progress.proofs.Accounted.{accounted_stays, unreserved}
 use Rattle.dali_progress.proofs.Census.Asked.{Asks, asks_of, self, sending_of}
-use Rattle.dali_progress.proofs.Census.Others.{KeepsWay, begins_way, on_way}
-use Rattle.dali_progress.proofs.Census.Coming.{IsToCome, IsEnded, Watched, no_reservation, counting_ready, unreserved_on, over_ends}
+use Rattle.dali_progress.proofs.Census.Others.{ordered_way}
+use Rattle.dali_progress.proofs.Census.Coming.{IsToCome, IsEnded, Watched, no_reservation, counting_ready, storing_of, unreserved_on, over_ends}
 use Rattle.dali_progress.proofs.Census.Silent.{IsLooked, watched_looked}
 use Rattle.dali_progress.proofs.Spared.Counted.{IsCounted, counted_more, counted_on}
 use Rattle.dali_progress.proofs.Spared.Bytes.{IsByteOf, IsRead, read_plain, next_read}
 
 -- THE LIFE OF A CONTROLLER since it began, by what its machine was told and ordered.
 
--- what is heard of a frame: no silence of a used gear that is asked, until gear were woken; and bytes of random addresses
+-- what is heard of a frame: each silence of a used gear that is asked is counted; and bytes of random addresses
 abbrev pub IsAnswered : (ℕ → Type 0) → (ℕ → ℕ) → Bool → ℕ → Forward → Answer → Type 0
 IsAnswered U n opened asked f h =
     opened ≡ false → (a : ℕ) → U a → command_of f ≡ RandomByte a High → h ≡ Silence → asked + 1 ≤ n a
@@ -67,6 +64,14 @@ abbrev pub HasBegun : List Step → Machine → Type 0
 HasBegun [] m = (id : ℕ) × (k : Kept) × (m ≡ at_first id k)
 HasBegun (s ∷ earlier) m = BeginsBySurvey (s ∷ earlier) × (m.course.way ≡ Fresh → ⊥)
 
+-- it has ended, or whoever has the address is accounted for: so it never reserves it
+abbrev pub IsSafe : Machine → ℕ → Type 0
+IsSafe m a = IsEnded m ⊎ IsAccounted m a
+
+-- while it asks, the address was silent less than three times; or it is safe
+abbrev pub IsFewAt : (ℕ → ℕ) → Machine → ℕ → Type 0
+IsFewAt n m a = (m.course.opened ≡ false → n a < 3) ⊎ IsSafe m a
+
 pub record Lives (U : ℕ → Type 0) (z : Block) (n : ℕ → ℕ) (k : Controller) (m : Machine) : Type 0 where
   pub steps : List Step
   pub course : IsCourse steps m
@@ -75,12 +80,12 @@ pub record Lives (U : ℕ → Type 0) (z : Block) (n : ℕ → ℕ) (k : Control
   pub whole : IsWhole m
   pub begun : HasBegun steps m
   pub read : IsRead (stage_of m.trace)
-  pub unsilent : (a : ℕ) → U a → WasSilent steps a → ⊥
+  pub unsilent : (a : ℕ) → U a → WasSilent steps a → IsSafe m a
   pub counted : IsCounted U n m
-  pub few : m.opened ≡ false → (a : ℕ) → U a → n a < 3
+  pub few : (a : ℕ) → U a → IsFewAt n m a
   pub block : m.kept.block ≡ z
   pub last : m.last ≡ k.last
-  pub told : IsFair U n m.opened m.asked k.last k.told
+  pub told : IsFair U n m.course.opened m.asked k.last k.told
 
 -- ---------------------------------------------------------------- it begins, and it is told something
 
@@ -107,16 +112,16 @@ lives_first U z n k id kept block few told last = record {
   whole = first_whole id kept;
   begun = (id, kept, refl);
   read = free_read;
-  unsilent = λ a used silent. silent;
+  unsilent = λ a used silent. absurd silent;
   counted = inl refl;
-  few = λ early. few;
+  few = λ a used. inl (λ early. few a used);
   block = block;
   last = sym last;
   told = subst (λ t. IsFair U n false 0 k.last t) (sym told) last;
 }
 
 pub lives_told : (U : ℕ → Type 0) (z : Block) (n : ℕ → ℕ) (k k' : Controller) (m : Machine) → Lives U z n k m → k'.last ≡ k.last
-    → IsFair U n m.opened m.asked k.last k'.told
+    → IsFair U n m.course.opened m.asked k.last k'.told
     → Lives U z n k' m
 lives_told U z n k k' m l last told = record {
   steps = l.steps;
@@ -131,7 +136,7 @@ lives_told U z n k k' m l last told = record {
   few = l.few;
   block = l.block;
   last = l.last ∙ sym last;
-  told = subst (λ o. IsFair U n m.opened m.asked o k'.told) (sym last) told;
+  told = subst (λ o. IsFair U n m.course.opened m.asked o k'.told) (sym last) told;
 }
 
 -- silences are counted on
@@ -150,7 +155,7 @@ fair_more U n n' opened asked last (Some input.Start) more fair = fair
 fair_more U n n' opened asked last _ more fair = tt
 
 pub lives_more : (U : ℕ → Type 0) (z : Block) (n n' : ℕ → ℕ) (k : Controller) (m : Machine) → ((a : ℕ) → U a → n a ≤ n' a)
-    → (m.opened ≡ false → (a : ℕ) → U a → n' a < 3) → Lives U z n k m → Lives U z n' k m
+    → ((a : ℕ) → U a → IsFewAt n' m a) → Lives U z n k m → Lives U z n' k m
 lives_more U z n n' k m more few l = record {
   steps = l.steps;
   course = l.course;
@@ -164,16 +169,16 @@ lives_more U z n n' k m more few l = record {
   few = few;
   block = l.block;
   last = l.last;
-  told = fair_more U n n' m.opened m.asked k.last k.told more l.told;
+  told = fair_more U n n' m.course.opened m.asked k.last k.told more l.told;
 }
 
 -- ---------------------------------------------------------------- what was told and put
 
 -- what was heard, where that is due
 heard_of : (U : ℕ → Type 0) (z : Block) (n : ℕ → ℕ) (k : Controller) (m : Machine) (h : Answer) → Lives U z n k m → k.told ≡ Some (input.Heard h)
-    → (f : Forward) × (frame_put m.last ≡ Some f) × IsWellHeard U n m.opened m.asked f h
+    → (f : Forward) × (frame_put m.last ≡ Some f) × IsWellHeard U n m.course.opened m.asked f h
 heard_of U z n k m h l due =
-    let fair : IsFair U n m.opened m.asked k.last (Some (input.Heard h)) = subst (λ t. IsFair U n m.opened m.asked k.last t) due l.told in
+    let fair : IsFair U n m.course.opened m.asked k.last (Some (input.Heard h)) = subst (λ t. IsFair U n m.course.opened m.asked k.last t) due l.told in
     (fair.0, ap frame_put l.last ∙ fair.1, fair.2)
 
 put_of_frame : (last : Option Order) (f : Forward) → frame_put last ≡ Some f → (p : ℕ) × (last ≡ Some (Put p f))
@@ -227,20 +232,8 @@ told_surveyed m input.Committed other = go (record_ordered m.last) where
   go (Some x) = other
 told_surveyed m _ other = other
 
-ordered_way : (t : Machine) (o : Order) → KeepsWay t.course (course_by t o)
-ordered_way t (Put p f) = go (p == FIRST) where
-  go : (b : Bool) → KeepsWay t.course (if b then next_course t else course_on t (stage_of t.trace))
-  go true = begins_way t (stage_of t.trace)
-  go false = on_way t (stage_of t.trace)
-ordered_way t (Commit x) = inl refl
-ordered_way t (Done e) = inl refl
-ordered_way t (Halt w) = inl refl
-
 ordered_surveyed : (t : Machine) (o : Order) → (t.course.way ≡ Fresh → ⊥) → (machine_ordered t o).course.way ≡ Fresh → ⊥
-ordered_surveyed t o other = go (ordered_way t o) where
-  go : KeepsWay t.course (course_by t o) → (course_by t o).way ≡ Fresh → ⊥
-  go (inl same) e = other (sym same ∙ e)
-  go (inr drawn) e = let never : Drawing ≡ Fresh = sym drawn ∙ e in cc
+ordered_surveyed t o other e = other (sym (ordered_way t o) ∙ e)
 
 -- what begins is a start or a survey
 surveys : (i : Input) → accepts due.Start i ≡ true → (i ≡ input.Start → ⊥) → i ≡ input.Survey
@@ -256,30 +249,6 @@ begun_on m i o [] b unstarted waits =
     let told : (machine_told m i).course.way ≡ Surveying = ap (λ j. (machine_told m j).course.way) survey in
     ((survey, b), ordered_surveyed (machine_told m i) o (λ e. let never : Surveying ≡ Fresh = sym told ∙ e in cc))
 begun_on m i o (r ∷ earlier) b unstarted waits = (b.0, ordered_surveyed (machine_told m i) o (told_surveyed m i b.1))
-
--- ---------------------------------------------------------------- once gear were woken
-
-woken_stays : (s : Stage) (p : Purpose) → woken_after s p true ≡ true
-woken_stays stage.Initialised Waking = refl
-woken_stays _ _ = refl
-
-opened_stays : (s : Stage) → opened_after s true ≡ true
-opened_stays stage.Opened = refl
-opened_stays _ = refl
-
-pub told_opened : (m : Machine) (i : Input) → m.opened ≡ true → (machine_told m i).opened ≡ true
-told_opened m (input.Heard h) opened = go (frame_put m.last) where
-  go : (f : Option Forward) → (machine_heard m f h).opened ≡ true
-  go None = opened
-  go (Some f) =
-      let s : Stage = stage_of (machine_heard m (Some f) h).trace in
-      ap (λ b. woken_after s m.course.purpose (opened_after s b)) opened ∙ ap (woken_after s m.course.purpose) (opened_stays s)
-      ∙ woken_stays s m.course.purpose
-told_opened m input.Committed opened = go (record_ordered m.last) where
-  go : (x : Option Record) → (machine_committed m x).opened ≡ true
-  go None = opened
-  go (Some x) = opened
-told_opened m _ opened = opened
 
 -- ---------------------------------------------------------------- it acts
 
@@ -340,7 +309,7 @@ counted_asked U z n k m f a l put asks used = go l.counted where
 
 -- no used gear falls silent
 asked_silent : (U : ℕ → Type 0) (z : Block) (n : ℕ → ℕ) (k : Controller) (m : Machine) (i : Input) (o : Order) (a : ℕ) → Lives U z n k m → IsDue k i → U a
-    → FallsSilent (record { before = m; told = i; order = o }) a → ⊥
+    → FallsSilent (record { before = m; told = i; order = o }) a → IsSafe m a
 asked_silent U z n k m i o a l due used falls =
     let now : k.told ≡ Some (input.Heard Silence) = subst (λ j. IsDue k j) falls.told due in
     let heard = heard_of U z n k m Silence l now in
@@ -349,10 +318,13 @@ asked_silent U z n k m i o a l due used falls =
     ap (λ (t : Machine). stage_of t.trace) (sym (heard_is m Silence heard.0 heard.1)) ∙ ap (λ j. stage_of (machine_told m j).trace) (sym falls.told)
     ∙ falls.question in
     let more : m.asked + 1 ≤ n a = answered U z n k m Silence heard.0 l now heard.1 a falls.asking at refl used in
-    let early : m.opened ≡ false = (counting_ready m a falls.asking (sending_of m last.0 heard.0 last.1 l.whole).ready).opened in
-    let few : n a < 3 = l.few early a used in
+    let early : m.course.opened ≡ false = (counting_ready m a falls.asking (sending_of m last.0 heard.0 last.1 l.whole).ready).opened in
     let two : m.asked ≡ 2 = falls.twice in
-    omega (arith, more, few, two)
+    go early more two (l.few a used)
+  where
+    go : m.course.opened ≡ false → m.asked + 1 ≤ n a → m.asked ≡ 2 → IsFewAt n m a → IsSafe m a
+    go early more two (inl few) = absurd (let less : n a < 3 = few early in omega (arith, more, less, two))
+    go early more two (inr safe) = safe
 
 -- its records are of one block
 told_block : (m : Machine) (i : Input) → (machine_told m i).kept.block ≡ m.kept.block
@@ -366,13 +338,62 @@ told_block m input.Committed = go (record_ordered m.last) where
   go (Some x) = block_stays m.kept x
 told_block m _ = refl
 
-pub lives_acted : (U : ℕ → Type 0) (z : Block) (n : ℕ → ℕ) (k : Controller) (m : Machine) (i : Input) (o : Order) → Lives U z n k m → IsDue k i
+-- once its questions are over, each of them is safe
+safe_opened : (U : ℕ → Type 0) (z : Block) (n : ℕ → ℕ) (k : Controller) (m : Machine) (a : ℕ) → Lives U z n k m → (m.last ≡ None → ⊥) → U a → a < 64
+    → m.course.opened ≡ true → IsSafe m a
+safe_opened U z n k m a l running used small opened = by l.steps l.course l.plain l.were l.begun l.unsilent where
+  by : (steps : List Step) → IsCourse steps m → ArePlain steps → AreWhole steps → HasBegun steps m → ((b : ℕ) → U b → WasSilent steps b → IsSafe m b)
+      → IsSafe m a
+  by [] course plain were begun unsilent = absurd (running (ap (λ (x : Machine). x.last) begun.2))
+  by (s ∷ earlier) course plain were begun unsilent = go w.seen where
+    w : Watched IsLooked (s ∷ earlier) m a
+    w = watched_looked (s ∷ earlier) m a small course begun.0 plain were l.whole
+
+    go : IsEnded m ⊎ (IsLooked (s ∷ earlier) m a ⊎ IsToCome m a) → IsSafe m a
+    go (inl ends) = inl ends
+    go (inr (inl (inl silent))) = unsilent a used silent
+    go (inr (inl (inr counts))) = inr counts
+    go (inr (inr comes)) = by_last m.last refl where
+      never : IsReady m → IsSafe m a
+      never ready =
+          let early : m.course.opened ≡ false = (counting_ready m comes.0 comes.1 ready).opened in
+          absurd (let both : true ≡ false = sym opened ∙ early in cc)
+
+      by_last : (last : Option Order) → m.last ≡ last → IsSafe m a
+      by_last None is = absurd (running is)
+      by_last (Some (Put p f)) is = never (sending_of m p f is l.whole).ready
+      by_last (Some (Commit x)) is = never (storing_of m x is l.whole)
+      by_last (Some (Done e)) is = inl (inl (e, is))
+      by_last (Some (Halt why)) is = inl (inr (why, is))
+
+-- and it stays so
+safe_acted : (m : Machine) (i : Input) (o : Order) (a : ℕ) → a < 64 → accepts (due_after m.last) i ≡ true → IsGiven m i o
+    → IsPlain (stage_of (machine_told m i).trace) → IsSafe m a → IsSafe (machine_after m i o) a
+safe_acted m i o a small waits given plain (inl ends) = absurd (over_ends m.last i ends waits)
+safe_acted m i o a small waits given plain (inr counts) =
+    inr (accounted_stays (record { before = m; told = i; order = o }) (machine_after m i o) a small
+    (record { due = waits; given = given; after = refl }) plain counts)
+
+pub unstarted_unopened : (m : Machine) → m.last ≡ None → IsWhole m → m.course.opened ≡ true → ⊥
+unstarted_unopened m = go m.last where
+  early : (m : Machine) → IsUnstarted m → m.course.opened ≡ false
+  early m u =
+      let knows : Knows m.course.way m.kept m.course.number m.course.search m.course.ascent m.course.opened Opening =
+      subst (λ p. Knows m.course.way m.kept m.course.number m.course.search m.course.ascent m.course.opened p) u.opening u.ready.knows in
+      subst (λ y. IsOpenedOn y m.course.opened) u.fresh knows
+
+  go : (l : Option Order) → l ≡ None → Pending m l → m.course.opened ≡ true → ⊥
+  go None e w opened = let never : true ≡ false = sym opened ∙ early m w in cc
+  go (Some o) e w opened = cc
+
+pub lives_acted : (U : ℕ → Type 0) (z : Block) (n : ℕ → ℕ) (k : Controller) (m : Machine) (i : Input) (o : Order) → ((a : ℕ) → U a → a < 64)
+    → Lives U z n k m → IsDue k i
     → (i ≡ input.Start → ⊥)
     → accepts (due_after m.last) i ≡ true → IsGiven m i o → IsWhole (machine_after m i o) → Lives U z n (controller_acted k i o) (machine_after m i o)
-lives_acted U z n k m i o l due unstarted waits given whole = record {
+lives_acted U z n k m i o below l due unstarted waits given whole = record {
   steps = (record { before = m; told = i; order = o }) ∷ l.steps;
   course = (l.course, record { due = waits; given = given; after = refl });
-  plain = (read_plain (stage_of (machine_told m i).trace) (told_read U z n k m i l due), l.plain);
+  plain = (plain, l.plain);
   were = (l.whole, l.were);
   whole = whole;
   begun = begun_on m i o l.steps l.begun unstarted waits;
@@ -380,18 +401,28 @@ lives_acted U z n k m i o l due unstarted waits given whole = record {
   unsilent = λ a used silent. go a used silent;
   counted = counted_on U n m i o waits given l.whole
       (λ h f is put b purpose at silent used. answered U z n k m h f l (subst (λ j. IsDue k j) is due) put b purpose at silent used) l.counted;
-  few = λ early. few_told m.opened refl early;
+  few = λ a used. few_on a used m.course.opened refl;
   block = told_block m i ∙ l.block;
   last = refl;
   told = tt;
 } where
-  few_told : (b : Bool) → m.opened ≡ b → (machine_told m i).opened ≡ false → (a : ℕ) → U a → n a < 3
-  few_told true is early = absurd (let never : true ≡ false = sym (told_opened m i is) ∙ early in cc)
-  few_told false is early = l.few is
+  plain : IsPlain (stage_of (machine_told m i).trace)
+  plain = read_plain (stage_of (machine_told m i).trace) (told_read U z n k m i l due)
 
-  go : (a : ℕ) → U a → FallsSilent (record { before = m; told = i; order = o }) a ⊎ WasSilent l.steps a → ⊥
-  go a used (inl falls) = asked_silent U z n k m i o a l due used falls
-  go a used (inr before) = l.unsilent a used before
+  stays : (a : ℕ) → U a → IsSafe m a → IsSafe (machine_after m i o) a
+  stays a used safe = safe_acted m i o a (below a used) waits given plain safe
+
+  few_on : (a : ℕ) → U a → (b : Bool) → m.course.opened ≡ b → IsFewAt n (machine_after m i o) a
+  few_on a used true is =
+      inr (stays a used (safe_opened U z n k m a l (λ none. unstarted_unopened m none l.whole is) used (below a used) is))
+  few_on a used false is = by (l.few a used) where
+    by : IsFewAt n m a → IsFewAt n (machine_after m i o) a
+    by (inl few) = inl (λ early. few is)
+    by (inr safe) = inr (stays a used safe)
+
+  go : (a : ℕ) → U a → FallsSilent (record { before = m; told = i; order = o }) a ⊎ WasSilent l.steps a → IsSafe (machine_after m i o) a
+  go a used (inl falls) = stays a used (asked_silent U z n k m i o a l due used falls)
+  go a used (inr before) = stays a used (l.unsilent a used before)
 
 -- ---------------------------------------------------------------- it would reserve none of their addresses
 
@@ -414,7 +445,7 @@ heard_reserves : (U : ℕ → Type 0) (z : Block) (n : ℕ → ℕ) (k : Control
     → k.told ≡ Some (input.Heard h)
     → ((b : ℕ) → U b → b < 64) → (InBlock z a → U a) → IsGiven m (input.Heard h) (Commit (Reserve a r)) → ⊥
 heard_reserves U z n k m h a r l due below its given = by l.steps l.course l.plain l.were l.begun l.unsilent where
-  heard : (f : Forward) × (frame_put m.last ≡ Some f) × IsWellHeard U n m.opened m.asked f h
+  heard : (f : Forward) × (frame_put m.last ≡ Some f) × IsWellHeard U n m.course.opened m.asked f h
   heard = heard_of U z n k m h l due
 
   put : (p : ℕ) × (m.last ≡ Some (Put p heard.0))
@@ -436,7 +467,7 @@ heard_reserves U z n k m h a r l due below its given = by l.steps l.course l.pla
   next = machine_after m (input.Heard h) (Commit (Reserve a r))
 
   by : (steps : List Step) → IsCourse steps m → ArePlain steps → AreWhole steps → HasBegun steps m
-      → ((b : ℕ) → U b → WasSilent steps b → ⊥) → ⊥
+      → ((b : ℕ) → U b → WasSilent steps b → IsSafe m b) → ⊥
   by [] course plain were begun unsilent =
       let none : m.last ≡ None = ap (λ (x : Machine). x.last) begun.2 in
       let never : None ≡ Some (Put put.0 heard.0) = sym none ∙ put.1 in cc
@@ -453,22 +484,26 @@ heard_reserves U z n k m h a r l due below its given = by l.steps l.course l.pla
     purpose : (b : ℕ) → m.course.purpose ≡ Asking b → (machine_told m (input.Heard h)).course.purpose ≡ Asking b
     purpose b asks = ap (λ (t : Machine). t.course.purpose) (heard_is m h heard.0 heard.1) ∙ asks
 
-    go : IsEnded m ⊎ (IsLooked (s ∷ earlier) m a ⊎ IsToCome m a) → ⊥
-    go (inl ends) = over_ends m.last (input.Heard h) ends waits
-    go (inr (inl (inl silent))) = unsilent a used silent
-    go (inr (inl (inr counts))) =
+    safe : IsSafe m a → ⊥
+    safe (inl ends) = over_ends m.last (input.Heard h) ends waits
+    safe (inr counts) =
         unreserved step next a r taken refl surveyed
         (accounted_stays step next a small taken (read_plain (stage_told step) (told_read U z n k m (input.Heard h) l due)) counts)
+
+    go : IsEnded m ⊎ (IsLooked (s ∷ earlier) m a ⊎ IsToCome m a) → ⊥
+    go (inl ends) = over_ends m.last (input.Heard h) ends waits
+    go (inr (inl (inl silent))) = safe (unsilent a used silent)
+    go (inr (inl (inr counts))) = safe (inr counts)
     go (inr (inr comes)) = unreserved_on m (input.Heard h) comes.0 a r w.running waits given l.whole w.alone (purpose comes.0 comes.1)
 
 reserves_none : (U : ℕ → Type 0) (z : Block) (n : ℕ → ℕ) (k : Controller) (m : Machine) (i : Input) (a r : ℕ) → Lives U z n k m → IsDue k i
     → ((b : ℕ) → U b → b < 64) → (InBlock z a → U a) → IsGiven m i (Commit (Reserve a r)) → ⊥
 reserves_none U z n k m (input.Heard h) a r l due below its given = heard_reserves U z n k m h a r l due below its given
 reserves_none U z n k m input.Start a r l due below its given =
-    let none : k.last ≡ None = subst (λ t. IsFair U n m.opened m.asked k.last t) due l.told in
+    let none : k.last ≡ None = subst (λ t. IsFair U n m.course.opened m.asked k.last t) due l.told in
     free_reserves m a r (start_free m (l.last ∙ none) l.whole) given.answered.allowed
 reserves_none U z n k m input.Survey a r l due below its given =
-    let none : k.last ≡ None = subst (λ t. IsFair U n m.opened m.asked k.last t) due l.told in
+    let none : k.last ≡ None = subst (λ t. IsFair U n m.course.opened m.asked k.last t) due l.told in
     free_reserves (machine_told m input.Survey) a r (start_free m (l.last ∙ none) l.whole) given.answered.allowed
 reserves_none U z n k m input.Destroyed a r l due below its given = free_reserves (machine_told m input.Destroyed) a r stage_none given.answered.allowed
 reserves_none U z n k m input.Lapsed a r l due below its given = free_reserves (machine_told m input.Lapsed) a r stage_none given.answered.allowed

@@ -1,4 +1,4 @@
-use Rattle.std.proofs.Common.{◌≡◌, ℕ, ◌+◌, ◌<◌, Bool, true, false, List, [], ◌∷◌, ◌++◌, append-nil, append_assoc, refl, sym, ap, subst, ◌∙◌, length, arith}
+use Rattle.std.proofs.Common.{◌≡◌, ℕ, ◌+◌, ◌<◌, inl, Bool, true, false, List, [], ◌∷◌, ◌++◌, append-nil, append_assoc, refl, sym, ap, subst, ◌∙◌, length, arith}
 use Rattle.std.proofs.Common.{zero, suc, Some, None, map, get_or}
 use Rattle.std.specs.Prelude.{◌==◌, ◌&&◌, if◌then◌else◌}
 use Rattle.std.specs.List.{AllByRecursion}
@@ -121,7 +121,7 @@ lived_again : (s : SiteState) (c : ℕ) (v : ℕ → ℕ) → ((a : ℕ) → IsU
 lived_again s c v none l = record {
   block = l.block;
   lives = λ m there. lives_more (IsUsedOf s.plan c) (block_at s.plan c) v none_yet (controller_at (world s) c) m
-      (λ a used. let is : v a ≡ 0 = none a used in omega (arith, is)) (λ early a used. omega arith) (l.lives m there);
+      (λ a used. let is : v a ≡ 0 = none a used in omega (arith, is)) (λ a used. inl (λ early. omega arith)) (l.lives m there);
 }
 
 event_leaves : (s : SiteState) (e : Event) (v : ℕ → ℕ → ℕ) → IsPlan s.plan → ((c : ℕ) → IsLivedAt s c (v c)) → Allowed (world s) e → IsOfCall s e

@@ -23,9 +23,8 @@ use Rattle.dali_script.specs.declared.orders.Order.{Order}
 use Rattle.dali_script.specs.declared.orders.Order.TheVariants.{Put, Commit, Done, Halt}
 use Rattle.dali_search.specs.Least.{Search}
 use Rattle.dali_controller.specs.declared.purpose.Purpose.{Purpose}
-use Rattle.dali_controller.specs.declared.purpose.Purpose.TheVariants.{Opening, Probing, Visiting, Closing, Waking}
-use Rattle.dali_controller.proofs.Courses.{not_woken}
-use Rattle.dali_controller.specs.Machine.{Machine, machine_heard, machine_committed, machine_told, silent_after, opened_after}
+use Rattle.dali_controller.specs.declared.purpose.Purpose.TheVariants.{Opening, Probing, Visiting, Closing}
+use Rattle.dali_controller.specs.Machine.{Machine, machine_heard, machine_committed, machine_told, silent_after}
 use Rattle.dali_controller.specs.Orders.{machine_ordered, machine_after}
 use Rattle.dali_controller.specs.Course.{Course}
 use Rattle.dali_controller.specs.Next.{next_course, beginning}
@@ -54,7 +53,7 @@ pub record IsFresh (before : List Gear) (m : Machine) (gs : List Gear) (left : �
   pub tabled : AreTabled before m.kept.enrolled gs
   pub free : m.trace ≡ []
   pub nothing : m.kept.reserved ≡ []
-  pub unopened : m.opened ≡ false
+  pub unopened : m.course.opened ≡ false
   pub opening : m.course.purpose ≡ Opening
   pub frames : 5 + search_frames (count_by is_bare gs) ≤ left
 
@@ -163,8 +162,8 @@ start_acts before w q c m i o left goes good here given kept =
 -- no stage on the way is one of a search that led to no gear
 never_silent : (p : Purpose) (s : Stage) (k : Kept) (opened o : Bool) (x : Search) (n : SearchAddress) (gs : List Gear) (left : ℕ) → At p s k opened x n gs left
     → silent_after s o 0 ≡ 0
-never_silent Opening (stage.Unanswered r) k opened o x n gs left at = absurd at.stage_is
-never_silent Opening (stage.Inconclusive r other) k opened o x n gs left at = absurd at.stage_is
+never_silent Opening (stage.Unanswered r) k opened o x n gs left at = absurd at.1.stage_is
+never_silent Opening (stage.Inconclusive r other) k opened o x n gs left at = absurd at.1.stage_is
 never_silent Probing (stage.Unanswered r) k opened o x n gs left at = absurd at.1.stage_is
 never_silent Probing (stage.Inconclusive r other) k opened o x n gs left at = absurd at.1.stage_is
 never_silent Visiting (stage.Unanswered r) k opened o x n gs left at = absurd at.1.stage_is
@@ -179,26 +178,20 @@ never_silent p _ k opened o x n gs left at = refl
 -- the machine stands so once it is told what was heard
 stands_heard : (before : List Gear) (m : Machine) (f : Forward) (h : Answer) (gs : List Gear) (numbers : List ℕ) (left l : ℕ) → Stands before m gs left
     → IsLawful m.trace f → IsTabledTo before (stage_of m.trace) m.course.number m.kept.enrolled gs numbers (command_of f) h
-    → At m.course.purpose (next_stage (stage_of m.trace) (command_of f) h) m.kept
-    (opened_after (next_stage (stage_of m.trace) (command_of f) h) m.opened) m.course.search m.course.number (row_after Everyone (command_of f) 0 gs numbers) l
+    → At m.course.purpose (next_stage (stage_of m.trace) (command_of f) h) m.kept m.course.opened m.course.search m.course.number
+    (row_after Everyone (command_of f) 0 gs numbers) l
     → Stands before (machine_heard m (Some f) h) (row_after Everyone (command_of f) 0 gs numbers) l
 stands_heard before m f h gs numbers left l st lawful tabled at =
     let more : stage_of (m.trace ++ entry f h ∷ []) ≡ next_stage (stage_of m.trace) (command_of f) h = stage_more m.trace (entry f h) in
-    let unwoken : m.course.purpose ≡ Waking → ⊥ = λ e. subst (λ q. At q (next_stage (stage_of m.trace) (command_of f) h) m.kept
-    (opened_after (next_stage (stage_of m.trace) (command_of f) h) m.opened) m.course.search m.course.number
-    (row_after Everyone (command_of f) 0 gs numbers) l) e at in
     record {
       tries = no_tries _ m.tries st.tries;
       fresh = st.fresh;
-      silent = rw (more, st.silent) (never_silent m.course.purpose (next_stage (stage_of m.trace) (command_of f) h) m.kept
-          (opened_after (next_stage (stage_of m.trace) (command_of f) h) m.opened) m.opened m.course.search m.course.number
-          (row_after Everyone (command_of f) 0 gs numbers) l at);
+      silent = rw (more, st.silent) (never_silent m.course.purpose (next_stage (stage_of m.trace) (command_of f) h) m.kept m.course.opened m.course.opened
+          m.course.search m.course.number (row_after Everyone (command_of f) 0 gs numbers) l at);
       trace = subst (λ s. IsTrace s (m.trace ++ entry f h ∷ [])) (sym more) (trace_more (stage_of m.trace) m.trace f h lawful st.trace);
       within = st.within;
       tabled = subst (λ s. AreTabled before (to_come s m.course.number m.kept.enrolled) (row_after Everyone (command_of f) 0 gs numbers)) (sym more) tabled;
-      at = rw more (subst (λ o. At m.course.purpose (next_stage (stage_of m.trace) (command_of f) h) m.kept o m.course.search m.course.number
-          (row_after Everyone (command_of f) 0 gs numbers) l) (sym (not_woken (next_stage (stage_of m.trace) (command_of f) h) m.course.purpose
-          (opened_after (next_stage (stage_of m.trace) (command_of f) h) m.opened) unwoken)) at);
+      at = rw more at;
     }
 
 pub start_sends : (before : List Gear) (w : World) (q c : ℕ) (m : Machine) (p : ℕ) (f : Forward) (h : Answer) (left : ℕ) → Goes (of_start before) w q c m left
@@ -209,9 +202,9 @@ start_sends before w q c m p f h left goes last told here known heard =
     let lone = lone_sent w q c m p f h goes.lone last told in
     let holds : IsNext before m (Put p f) w.gear left = next_holds before m (Put p f) w.gear left (rw (sym goes.lone.last ∙ last, told) at goes.holds) in
     let same : w.trace ≡ m.trace = lone.3 in
-    let sent = at_sent m.course.purpose (stage_of m.trace) m.kept m.opened m.course.search m.course.number w.gear w.left left
+    let sent = at_sent m.course.purpose (stage_of m.trace) m.kept m.course.opened m.course.search m.course.number w.gear w.left left
     (command_of f) h holds.0.at holds.1 (taken_of w c f h here known heard) (subst (λ t. Seeks (stage_of t) w.gear) same known.seeks) in
-    let tabled = at_tabled before m.course.purpose (stage_of m.trace) m.kept m.opened _ m.course.search m.course.number w.gear w.left left sent.0
+    let tabled = at_tabled before m.course.purpose (stage_of m.trace) m.kept m.course.opened _ m.course.search m.course.number w.gear w.left left sent.0
     (command_of f) h holds.0.at holds.1 (subst (λ t. Seeks (stage_of t) w.gear) same known.seeks) sent.2 holds.0.tabled in
     let lawful : IsLawful m.trace f = (
       (controller_at w c).records.block,

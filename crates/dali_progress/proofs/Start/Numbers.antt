@@ -1,4 +1,5 @@
-use Rattle.std.proofs.Common.{◌≡◌, ℕ, ◌≤◌, Bool, false, List, [], ◌∷◌, ◌++◌, refl, sym, ap, subst, ◌∙◌, arith, length, Option, Some, None}
+use Rattle.std.proofs.Common.{◌≡◌, ℕ, ◌≤◌, inl, inr, Bool, true, false, List, [], ◌∷◌, ◌++◌, refl, sym, ap, subst, ◌∙◌, arith, length, Option, Some, None}
+use Rattle.std.specs.Prelude.{◌==◌, if◌then◌else◌}
 use Rattle.dali_frame.specs.declared.frames.Forward.{Forward}
 use Rattle.dali_frame.specs.declared.frames.Answer.{Answer}
 use Rattle.dali_frame.specs.declared.numbers.SearchAddress.{SearchAddress}
@@ -12,120 +13,276 @@ use Rattle.dali_script.specs.declared.stage.Stage.{Stage}
 use Rattle.dali_script.specs.declared.stage.Stage.TheVariants as stage
 use Rattle.dali_script.specs.Stages.{stage_of, next_stage}
 use Rattle.dali_script.specs.Due.{frame_put, record_ordered}
-use Rattle.dali_script.proofs.Transactions.{stage_more}
+use Rattle.dali_script.proofs.Transactions.{stage_more, stage_none}
 use Rattle.dali_script.specs.declared.records.Record.{Record}
+use Rattle.dali_script.specs.declared.records.Record.TheVariants.{Reserve, Enrol}
 use Rattle.dali_script.specs.declared.orders.Input.{Input}
 use Rattle.dali_script.specs.declared.orders.Input.TheVariants as input
-use Rattle.dali_script.specs.declared.orders.Order.TheVariants.{Put}
+use Rattle.dali_script.specs.declared.orders.Order.{Order}
+use Rattle.dali_script.specs.declared.orders.Order.TheVariants.{Put, Commit, Done, Halt}
+use Rattle.dali_script.specs.declared.orders.End.TheVariants.{GaveUp}
+use Rattle.dali_search.specs.declared.step.Step.{Step}
+use Rattle.dali_search.specs.declared.step.Step.TheVariants.{Again, Found, Nobody}
 use Rattle.dali_search.specs.Least.{Search}
 use Rattle.dali_controller.specs.declared.purpose.Purpose.{Purpose}
-use Rattle.dali_controller.specs.declared.purpose.Purpose.TheVariants.{Opening, Probing, Visiting, Resolving, Closing, Asking, Waking, Hunting}
-use Rattle.dali_controller.proofs.Courses.{closed_unwoken}
-use Rattle.dali_controller.specs.Machine.{Machine, machine_heard, machine_committed, machine_told, opened_after}
+use Rattle.dali_controller.specs.declared.purpose.Purpose.TheVariants.{Opening, Probing, Visiting, Closing, Hunting}
+use Rattle.dali_controller.specs.declared.way.Way.TheVariants.{Fresh}
+use Rattle.dali_controller.specs.Course.{Course, searching_first, closing, after_step}
+use Rattle.dali_controller.specs.Machine.{Machine, machine_heard, machine_committed, machine_told}
+use Rattle.dali_controller.specs.Next.{next_course, begins_at, course_on, goes_on_to, at_rest, asked_once, silenced_on, most_silent, unanswered, ungiven}
+use Rattle.dali_controller.specs.Orders.{machine_ordered, machine_after, IsAllowed}
+use Rattle.dali_controller.proofs.Given.{given_by}
 use Rattle.dali_events.specs.World.{World, controller_at}
 use Rattle.dali_events.specs.Happens.{entry}
-use Rattle.dali_events.specs.Allowed.{IsDue}
 use Rattle.dali_events.proofs.Invariant.Takes.{row_length}
 use Rattle.dali_standing.specs.Seats.{informed_by}
 use Rattle.dali_world.specs.Site.{world}
 use Rattle.dali_progress.specs.Rounds.{Succeeds}
-use Rattle.dali_progress.proofs.Lone.{due_of, Moment, acts_by}
-use Rattle.dali_progress.proofs.Stands.{Opens, At, Sends}
-use Rattle.dali_progress.proofs.Start.Turns.{IsNext}
-use Rattle.dali_progress.proofs.Start.Goes.{next_holds, of_start}
-use Rattle.dali_progress.proofs.Both.{closing_never, none_apart, enough_left, visiting_never, probing_never, left_same, opening_none}
+use Rattle.dali_progress.proofs.Lone.{due_of, IsDueOf, Moment, acts_by}
+use Rattle.dali_progress.proofs.Later.{unasked_but, stays_at}
+use Rattle.dali_progress.proofs.Stands.{Opens, CloseStage, At, Stands, Sends}
+use Rattle.dali_progress.proofs.Start.Turns.{IsNext, CommitsTo, goes_on_anew}
+use Rattle.dali_progress.proofs.Start.Goes.{Hears, Holds, next_holds, of_start}
+use Rattle.dali_progress.proofs.Both.{closing_never, none_apart, enough_left, visiting_never, probing_never, left_same, opening_none, is_complete, with_kept}
+use Rattle.dali_progress.proofs.Both.{not_failed}
 use Rattle.dali_progress.proofs.Drawing.{Draws}
 
 -- THE NUMBERS THAT GEAR DRAW: where there is one for each gear at the start, they are never spent. Gear draw once, at the
 -- last frame of the one opening.
 
--- ---------------------------------------------------------------- a row of gear
+-- ---------------------------------------------------------------- until they have drawn
+
+-- they have not drawn before the opening, and until it is complete
+abbrev pub Undrawn : Option Order → Bool → Stage → Type 0
+Undrawn None opened s = Unit {0}
+Undrawn (Some (Put p f)) opened s = (opened ≡ false) × (is_complete s ≡ false)
+Undrawn (Some (Commit x)) opened s = ⊥
+Undrawn (Some (Done e)) opened s = ⊥
+Undrawn (Some (Halt w)) opened s = ⊥
+
+abbrev pub UndrawnAt : Machine → Type 0
+UndrawnAt m = Undrawn m.last m.course.opened (stage_of m.trace)
 
 -- ---------------------------------------------------------------- the frame that is to be sent
-
--- before the opening is complete there is a number for each gear
-abbrev pub HasDraws : Bool → List Gear → List ℕ → Type 0
-HasDraws opened gs numbers = opened ≡ false → length gs ≤ length numbers
 
 enough_none : (x y : ℕ) → x ≡ 0 → x ≤ y
 enough_none x y none = omega (arith, none)
 
-opening_enough : (s : Stage) (k : Kept) (opened : Bool) (n : SearchAddress) (gs : List Gear) (numbers : List ℕ) (left : ℕ) (c : Command)
-    → Opens s opened gs left → Sends Opening n k s c → HasDraws opened gs numbers
+opening_enough : (s : Stage) (k : Kept) (n : SearchAddress) (gs : List Gear) (numbers : List ℕ) (left : ℕ) (c : Command)
+    → Opens s gs left → Sends Opening n k s c → (is_complete s ≡ false → length gs ≤ length numbers)
     → draws_needed Everyone c 0 gs ≤ length numbers
-opening_enough stage.Free k opened n gs numbers left c o is has = enough_left gs numbers c (has o.stage_is)
-opening_enough stage.Terminated k opened n gs numbers left c o is has = enough_left gs numbers c (has o.stage_is)
-opening_enough stage.InitialisedOnce k opened n gs numbers left c o is has = enough_left gs numbers c (has o.stage_is)
-opening_enough stage.Initialised k opened n gs numbers left c o is has = enough_left gs numbers c (has o.stage_is)
-opening_enough stage.RandomisedOnce k opened n gs numbers left c o is has = enough_left gs numbers c (has o.stage_is)
-opening_enough stage.Opened k opened n gs numbers left c o is has = absurd (cc)
-opening_enough _ k opened n gs numbers left c o is has = absurd o.stage_is
+opening_enough stage.Opened k n gs numbers left c o is has = absurd (cc)
+opening_enough stage.Free k n gs numbers left c o is has = enough_left gs numbers c (has refl)
+opening_enough stage.Terminated k n gs numbers left c o is has = enough_left gs numbers c (has refl)
+opening_enough stage.InitialisedOnce k n gs numbers left c o is has = enough_left gs numbers c (has refl)
+opening_enough stage.Initialised k n gs numbers left c o is has = enough_left gs numbers c (has refl)
+opening_enough stage.RandomisedOnce k n gs numbers left c o is has = enough_left gs numbers c (has refl)
+opening_enough _ k n gs numbers left c o is has = absurd o.stage_is
 
 draws_enough : (p : Purpose) (s : Stage) (k : Kept) (opened : Bool) (x : Search) (n : SearchAddress) (gs : List Gear) (numbers : List ℕ) (left : ℕ)
-    (c : Command) → At p s k opened x n gs left → Sends p n k s c → HasDraws opened gs numbers
+    (c : Command) → At p s k opened x n gs left → Sends p n k s c → (opened ≡ false → is_complete s ≡ false → length gs ≤ length numbers)
     → draws_needed Everyone c 0 gs ≤ length numbers
-draws_enough Opening s k opened x n gs numbers left c at is has = opening_enough s k opened n gs numbers left c at is has
+draws_enough Opening s k opened x n gs numbers left c at is has = opening_enough s k n gs numbers left c at.1 is (has at.0)
 draws_enough Probing s k opened x n gs numbers left c at is has =
     enough_none (draws_needed Everyone c 0 gs) (length numbers) (none_apart Probing n k s gs c (probing_never n k s) is)
 draws_enough Visiting s k opened x n gs numbers left c at is has =
     enough_none (draws_needed Everyone c 0 gs) (length numbers) (none_apart Visiting n k s gs c (visiting_never n k s) is)
-draws_enough (Resolving a) s k opened x n gs numbers left c at is has = absurd at
-draws_enough (Asking a) s k opened x n gs numbers left c at is has = absurd at
-draws_enough Waking s k opened x n gs numbers left c at is has = absurd at
-draws_enough Hunting s k opened x n gs numbers left c at is has = absurd at
 draws_enough (Closing e) s k opened x n gs numbers left c at is has =
     enough_none (draws_needed Everyone c 0 gs) (length numbers) (none_apart (Closing e) n k s gs c (closing_never e n k s) is)
+draws_enough _ s k opened x n gs numbers left c at is has = absurd at
+
+opening_early : (s : Stage) (n : SearchAddress) (k : Kept) (c : Command) → Sends Opening n k s c → is_complete s ≡ false
+opening_early stage.Opened n k c is = absurd (cc)
+opening_early _ n k c is = refl
 
 none_drawn : (p : Purpose) (s : Stage) (k : Kept) (opened : Bool) (x : Search) (n : SearchAddress) (gs : List Gear) (left : ℕ) (c : Command) (h : Answer)
-    → At p s k opened x n gs left → Sends p n k s c → opened_after (next_stage s c h) opened ≡ false
-    → draws_needed Everyone c 0 gs ≡ 0
-none_drawn Opening s k opened x n gs left c h at is closed = opening_none s k opened n gs left c h at is closed
-none_drawn Probing s k opened x n gs left c h at is closed = none_apart Probing n k s gs c (probing_never n k s) is
-none_drawn Visiting s k opened x n gs left c h at is closed = none_apart Visiting n k s gs c (visiting_never n k s) is
-none_drawn (Closing e) s k opened x n gs left c h at is closed = none_apart (Closing e) n k s gs c (closing_never e n k s) is
-none_drawn _ s k opened x n gs left c h at is closed = absurd at
+    → At p s k opened x n gs left → Sends p n k s c → opened ≡ false → is_complete (next_stage s c h) ≡ false
+    → (draws_needed Everyone c 0 gs ≡ 0) × (is_complete s ≡ false)
+none_drawn Opening s k opened x n gs left c h at is early closed = (opening_none s k n gs left c h at.1 is closed, opening_early s n k c is)
+none_drawn Probing s k opened x n gs left c h at is early closed = absurd (let both : true ≡ false = sym at.0 ∙ early in cc)
+none_drawn Visiting s k opened x n gs left c h at is early closed = absurd (let both : true ≡ false = sym at.0 ∙ early in cc)
+none_drawn (Closing e) s k opened x n gs left c h at is early closed =
+    (none_apart (Closing e) n k s gs c (closing_never e n k s) is, close_early s at.stage_is)
+  where
+    close_early : (s : Stage) → CloseStage s → is_complete s ≡ false
+    close_early stage.Opened at = absurd at
+    close_early _ at = refl
+none_drawn _ s k opened x n gs left c h at is early closed = absurd at
 
-was_closed : (s : Stage) (opened : Bool) → opened_after s opened ≡ false → opened ≡ false
-was_closed stage.Opened opened closed = absurd (cc)
-was_closed _ opened closed = closed
+-- ---------------------------------------------------------------- the transaction that begins
+
+-- no hunt stands so
+never_hunted : (p : Purpose) (s : Stage) (k : Kept) (opened : Bool) (x : Search) (n : SearchAddress) (gs : List Gear) (left : ℕ) (r : SearchAddress)
+    (h : Answer)
+    (room : ℕ) → At p s k opened x n gs left → s ≡ stage.Hunted r (Some h) room → ⊥
+never_hunted p s k opened x n gs left r h room at is = go p (subst (λ q. At p q k opened x n gs left) is at) where
+  go : (p : Purpose) → At p (stage.Hunted r (Some h) room) k opened x n gs left → ⊥
+  go Opening at = at.1.stage_is
+  go Probing at = at.1.stage_is
+  go Visiting at = at.1.stage_is
+  go (Closing e) at = at.stage_is
+  go _ at = at
+
+-- where gear are searched, they are afterwards
+stays_open : (t : Machine) (s : Stage) → t.course.way ≡ Fresh → t.course.opened ≡ true → ((r : SearchAddress) (h : Answer) (room : ℕ)
+    → s ≡ stage.Hunted r (Some h) room → ⊥) → (begins_at t s).opened ≡ true
+stays_open t s fresh opened never = go s never where
+  on : (goes_on_to t).opened ≡ true
+  on = ap (λ (c : Course). c.opened) (goes_on_anew t opened fresh)
+
+  first : (searching_first t.course.way t.course).opened ≡ true
+  first = ap (λ y. (searching_first y t.course).opened) fresh
+
+  rest : (l : Option Order) → (at_rest t l).opened ≡ true
+  rest (Some (Put p f)) = opened
+  rest (Some (Commit (Reserve a n))) = opened
+  rest _ = on
+
+  once : (b : Bool) → (asked_once t b).opened ≡ true
+  once true = on
+  once false = opened
+
+  silent : (b : Bool) → (if b then closing t.course GaveUp else silenced_on t t.course.way).opened ≡ true
+  silent true = opened
+  silent false = ap (λ y. (silenced_on t y).opened) fresh ∙ on
+
+  unheard : (r : SearchAddress) (b : Bool) (x : Option ℕ) → (unanswered t r b x).opened ≡ true
+  unheard r false (Some a) = opened
+  unheard r false None = silent (t.silent == most_silent t.course.way)
+  unheard r true x = silent (t.silent == most_silent t.course.way)
+
+  step : (x : Step) (c : Course) → c.opened ≡ true → (after_step x c).opened ≡ true
+  step Again c is = is
+  step (Found r) c is = is
+  step Nobody c is = is
+
+  go : (s : Stage) → ((r : SearchAddress) (h : Answer) (room : ℕ) → s ≡ stage.Hunted r (Some h) room → ⊥) → (begins_at t s).opened ≡ true
+  go stage.Free never = rest t.last
+  go stage.Opened never = first
+  go stage.DrawBarred never = first
+  go (stage.HighAsked a high) never = once (t.asked == 0)
+  go (stage.Probed r h) never = step _ _ opened
+  go (stage.Hunted r (Some h) room) never = absurd (never r h room refl)
+  go (stage.Unnamed r) never = ap (λ y. (ungiven t y).opened) fresh ∙ opened
+  go (stage.Unanswered r) never = unheard r t.course.opened _
+  go (stage.Inconclusive r other) never = silent (t.silent == most_silent t.course.way)
+  go (stage.PassedOver r) never = opened
+  go _ never = on
+
+-- once an opening is complete, they are
+early_before : (t : Machine) (s : Stage) → t.course.way ≡ Fresh → (begins_at t s).opened ≡ false → is_complete s ≡ false
+early_before t stage.Opened fresh is =
+    absurd (let opened : (searching_first t.course.way t.course).opened ≡ true = ap (λ y. (searching_first y t.course).opened) fresh in
+    let both : true ≡ false = sym opened ∙ is in cc)
+early_before t _ fresh is = refl
 
 -- ---------------------------------------------------------------- event by event
 
+heard_undrawn : (before : List Gear) (t : Machine) (o : Order) (gs : List Gear) (left : ℕ) → Stands before t gs left → IsAllowed t o
+    → UndrawnAt (machine_ordered t o) → (t.course.opened ≡ false) × (is_complete (stage_of t.trace) ≡ false)
+heard_undrawn before t (Put p f) gs left st (inl (first, lawful)) undrawn =
+    go t.course.opened refl (subst (λ q. UndrawnAt (machine_ordered t (Put q f))) first undrawn).0 where
+      go : (b : Bool) → t.course.opened ≡ b → (next_course t).opened ≡ false → (t.course.opened ≡ false) × (is_complete (stage_of t.trace) ≡ false)
+      go true is closed =
+          let opened : (next_course t).opened ≡ true = stays_open t (stage_of t.trace) st.fresh is
+          (λ r h room e. never_hunted t.course.purpose (stage_of t.trace) t.kept t.course.opened t.course.search t.course.number gs left r h room st.at e) in
+          absurd (let both : true ≡ false = sym opened ∙ closed in cc)
+      go false is closed = (is, early_before t (stage_of t.trace) st.fresh closed)
+heard_undrawn before t (Put p f) gs left st (inr (later, runs, lawful)) undrawn =
+    let here = subst (λ q. UndrawnAt (machine_ordered t (Put q f))) later undrawn in
+    let stays : course_on t (stage_of t.trace) ≡ t.course =
+    stays_at t (stage_of t.trace) (unasked_but (stage_of t.trace) t.course.purpose (λ e. never_hunts t.course.purpose st.at e)) in
+    (sym (ap (λ (c : Course). c.opened) stays) ∙ here.0, here.1)
+  where
+    never_hunts : (p : Purpose) → At p (stage_of t.trace) t.kept t.course.opened t.course.search t.course.number gs left → p ≡ Hunting → ⊥
+    never_hunts Hunting at e = at
+    never_hunts Opening at e = cc
+    never_hunts Probing at e = cc
+    never_hunts Visiting at e = cc
+    never_hunts (Closing x) at e = cc
+    never_hunts _ at e = at
+heard_undrawn before t (Commit x) gs left st allowed undrawn = absurd undrawn
+heard_undrawn before t (Done e) gs left st allowed undrawn = absurd undrawn
+heard_undrawn before t (Halt w) gs left st allowed undrawn = absurd undrawn
+
+-- once a record is kept they have drawn
+commits_opened : (before : List Gear) (m : Machine) (x : Record) (gs : List Gear) (left : ℕ) → CommitsTo before m x gs left → m.course.opened ≡ true
+commits_opened before m (Reserve a r) gs left v = v.opened
+commits_opened before m (Enrol b r) gs left v = v.opened
+commits_opened before m _ gs left v = absurd v
+
+kept_undrawn : (t : Machine) (o : Order) → t.course.way ≡ Fresh → t.course.opened ≡ true → t.trace ≡ [] → IsAllowed t o
+    → UndrawnAt (machine_ordered t o) → ⊥
+kept_undrawn t (Put p f) fresh opened free (inl (first, lawful)) undrawn =
+    let at : stage_of t.trace ≡ stage.Free = ap stage_of free ∙ stage_none in
+    let here = subst (λ q. UndrawnAt (machine_ordered t (Put q f))) first undrawn in
+    let wide : (next_course t).opened ≡ true =
+    stays_open t (stage_of t.trace) fresh opened (λ r h room e. (let other : stage.Free ≡ stage.Hunted r (Some h) room = sym at ∙ e in cc)) in
+    (let both : true ≡ false = sym wide ∙ here.0 in cc)
+kept_undrawn t (Put p f) fresh opened free (inr (later, runs, lawful)) undrawn = runs free
+kept_undrawn t (Commit x) fresh opened free allowed undrawn = undrawn
+kept_undrawn t (Done e) fresh opened free allowed undrawn = undrawn
+kept_undrawn t (Halt w) fresh opened free allowed undrawn = undrawn
+
+-- THERE IS A NUMBER FOR EACH GEAR, while they have not drawn
+abbrev pub LeavesDraws : Machine → List Gear → List ℕ → Type 0
+LeavesDraws m gs numbers = UndrawnAt m → length gs ≤ length numbers
+
+undrawn_last : (t : Machine) (l : Option Order) → t.last ≡ l → Undrawn l t.course.opened (stage_of t.trace) → UndrawnAt t
+undrawn_last t l is undrawn = subst (λ k. Undrawn k t.course.opened (stage_of t.trace)) (sym is) undrawn
+
+acts_has : (before : List Gear) (w : World) (q c : ℕ) (m : Machine) (out : Option Record) (last : Option Order) (told : Option Input) (i : Input) (o : Order)
+    (gs : List Gear) (numbers : List ℕ) (left : ℕ) → Moment w q c m out last told → m.last ≡ last → IsDueOf last told i → Succeeds false i
+    → IsAllowed (machine_told m i) o → Holds before m last told gs left → LeavesDraws (informed_by m told) gs numbers
+    → LeavesDraws (machine_after m i o) gs numbers
+acts_has before w q c m out last told i o gs numbers left at is due good allowed holds has =
+    acts_by false (λ k t j. Moment w q c m out k t → m.last ≡ k → IsAllowed (machine_told m j) o → Holds before m k t gs left
+    → LeavesDraws (informed_by m t) gs numbers → LeavesDraws (machine_after m j o) gs numbers)
+    (λ at is allowed holds has undrawn. has (undrawn_last m None is tt)) heard keeps w q c m out last told i at due good at is allowed holds has
+  where
+    heard : (p : ℕ) (f : Forward) (h : Answer) → Moment w q c m out (Some (Put p f)) (Some (input.Heard h)) → m.last ≡ Some (Put p f)
+        → IsAllowed (machine_told m (input.Heard h)) o → Hears before m f h gs left
+        → LeavesDraws (informed_by m (Some (input.Heard h))) gs numbers → LeavesDraws (machine_after m (input.Heard h) o) gs numbers
+    heard p f h at is allowed holds has undrawn =
+        let told : machine_told m (input.Heard h) ≡ machine_heard m (Some f) h = ap (λ x. machine_heard m (frame_put x) h) is in
+        let stands : Stands before (machine_told m (input.Heard h)) gs left = subst (λ t. Stands before t gs left) (sym told) holds.stands in
+        has (undrawn_last (machine_told m (input.Heard h)) (Some (Put p f)) (ap (λ (t : Machine). t.last) told ∙ is)
+        (heard_undrawn before (machine_told m (input.Heard h)) o gs left stands allowed undrawn))
+
+    keeps : (x : Record) → Moment w q c m out (Some (Commit x)) None → m.last ≡ Some (Commit x) → IsAllowed (machine_told m input.Committed) o
+        → Holds before m (Some (Commit x)) None gs left
+        → LeavesDraws (informed_by m None) gs numbers → LeavesDraws (machine_after m input.Committed o) gs numbers
+    keeps x at is allowed holds has undrawn =
+        let told : machine_told m input.Committed ≡ with_kept m x = ap (λ l. machine_committed m (record_ordered l)) is in
+        absurd (kept_undrawn (with_kept m x) o holds.0.fresh (commits_opened before m x gs left holds.1) at.1
+        (subst (λ t. IsAllowed t o) told allowed) (subst (λ t. UndrawnAt (machine_ordered t o)) told undrawn))
+
 has_heard : (m : Machine) (p : ℕ) (f : Forward) (h : Answer) (before : List Gear) (gs : List Gear) (numbers : List ℕ) (left : ℕ) → m.last ≡ Some (Put p f)
-    → IsNext before m (Put p f) gs left → HasDraws m.opened gs numbers
-    → HasDraws (machine_told m (input.Heard h)).opened (row_after Everyone (command_of f) 0 gs numbers) (row_left Everyone (command_of f) 0 gs numbers)
-has_heard m p f h before gs numbers left last next has closed =
-    let heard : machine_told m (input.Heard h) ≡ machine_heard m (Some f) h = ap (λ l. machine_heard m (frame_put l) h) last in
-    let heard_so : opened_after (stage_of (m.trace ++ entry f h ∷ [])) m.opened ≡ false =
-    closed_unwoken (stage_of (m.trace ++ entry f h ∷ [])) m.course.purpose (opened_after (stage_of (m.trace ++ entry f h ∷ [])) m.opened)
-    (sym (ap (λ (t : Machine). t.opened) heard) ∙ closed) in
-    let after : opened_after (next_stage (stage_of m.trace) (command_of f) h) m.opened ≡ false =
-    subst (λ s. opened_after s m.opened ≡ false) (stage_more m.trace (entry f h)) heard_so in
-    let none = none_drawn m.course.purpose (stage_of m.trace) m.kept m.opened m.course.search m.course.number gs left (command_of f) h next.0.at next.1 after in
-    rw (row_length Everyone (command_of f) 0 gs numbers, left_same Everyone (command_of f) 0 gs numbers none) (has (was_closed _ m.opened after))
-
--- what the controller acts on
-committed_opened : (m : Machine) (x : Option Record) → (machine_committed m x).opened ≡ m.opened
-committed_opened m None = refl
-committed_opened m (Some x) = refl
-
-told_has : (w : World) (q c : ℕ) (m : Machine) (i : Input) → Moment w q c m (controller_at w c).outstanding (controller_at w c).last (controller_at w c).told
-    → Succeeds false i → IsDue (controller_at w c) i
-    → HasDraws (informed_by m (controller_at w c).told).opened w.gear w.left → HasDraws (machine_told m i).opened w.gear w.left
-told_has w q c m i at good due has =
-    acts_by false (λ l t j. HasDraws (informed_by m t).opened w.gear w.left → HasDraws (machine_told m j).opened w.gear w.left) (λ has. has) (λ p f h has. has)
-    (λ x has. subst (λ b. HasDraws b w.gear w.left) (sym (committed_opened m (record_ordered m.last))) has) w q c m (controller_at w c).outstanding
-    (controller_at w c).last (controller_at w c).told i at (due_of (controller_at w c) i due) good has
+    → IsNext before m (Put p f) gs left → LeavesDraws m gs numbers
+    → LeavesDraws (machine_told m (input.Heard h)) (row_after Everyone (command_of f) 0 gs numbers) (row_left Everyone (command_of f) 0 gs numbers)
+has_heard m p f h before gs numbers left last next has =
+    subst (λ t. LeavesDraws t (row_after Everyone (command_of f) 0 gs numbers) (row_left Everyone (command_of f) 0 gs numbers))
+    (sym (ap (λ l. machine_heard m (frame_put l) h) last)) go
+  where
+    go : LeavesDraws (machine_heard m (Some f) h) (row_after Everyone (command_of f) 0 gs numbers) (row_left Everyone (command_of f) 0 gs numbers)
+    go undrawn =
+        let now = subst (λ l. Undrawn l m.course.opened (stage_of (m.trace ++ entry f h ∷ []))) last undrawn in
+        let none = none_drawn m.course.purpose (stage_of m.trace) m.kept m.course.opened m.course.search m.course.number gs left (command_of f) h next.0.at
+        next.1 now.0 (subst (λ s. is_complete s ≡ false) (stage_more m.trace (entry f h)) now.1) in
+        rw (row_length Everyone (command_of f) 0 gs numbers, left_same Everyone (command_of f) 0 gs numbers none.0)
+        (has (undrawn_last m (Some (Put p f)) last (now.0, none.1)))
 
 -- so they are never spent
-abbrev pub LeavesDraws : Machine → List Gear → List ℕ → Type 0
-LeavesDraws m gs numbers = HasDraws m.opened gs numbers
-
 pub start_draws : (before : List Gear) → Draws (of_start before) LeavesDraws
 start_draws before = record {
-  acts = λ s c left l i o u here good given holds has. told_has (world s) s.queue c u.machine i u.goes.lone.moment good here.due has;
+  acts = λ s c left l i o u here good given holds has.
+      acts_has before (world s) s.queue c u.machine (controller_at (world s) c).outstanding (controller_at (world s) c).last
+      (controller_at (world s) c).told i o
+      (world s).gear (world s).left left u.goes.lone.moment u.goes.lone.last (due_of (controller_at (world s) c) i here.due) good
+      (given_by u.machine i o (not_failed false i good) given).ordered.allowed u.goes.holds has;
   sends = λ m p f h gs numbers left last holds has. has_heard m p f h before gs numbers left last (next_holds before m (Put p f) gs left holds) has;
   enough = λ m p f gs numbers left last holds has.
       let next = next_holds before m (Put p f) gs left holds in
-      draws_enough m.course.purpose (stage_of m.trace) m.kept m.opened m.course.search m.course.number gs numbers left (command_of f) next.0.at next.1 has;
+      draws_enough m.course.purpose (stage_of m.trace) m.kept m.course.opened m.course.search m.course.number gs numbers left (command_of f) next.0.at next.1
+      (λ early before_it. has (undrawn_last m (Some (Put p f)) last (early, before_it)));
 }

@@ -37,10 +37,10 @@ use Rattle.dali_controller.specs.declared.purpose.Purpose.TheVariants.{Opening, 
 use Rattle.dali_controller.specs.Course.{Course, first_of, turn_of, is_yes, closing_of, searching_anew, visiting, probed, after_step, closing as closing_by}
 use Rattle.dali_controller.specs.Course.{opening as opening_of, unfinished_at, unfinished_among, visit_or_opening, going_on, searching_first, searching_on}
 use Rattle.dali_controller.specs.Machine.{Machine}
-use Rattle.dali_controller.specs.Next.{next_course, begins_at, at_rest, beginning, goes_on_to, draw_or_close}
+use Rattle.dali_controller.specs.Next.{next_course, begins_at, at_rest, beginning, goes_on_to, ungiven}
 use Rattle.dali_controller.specs.declared.way.Way.TheVariants.{Fresh}
 use Rattle.dali_controller.specs.Orders.{machine_ordered, Contradicts, AfterFinding}
-use Rattle.dali_controller.proofs.Courses.{keeps_fresh, never_draws, probed_fresh, goes_on_fresh}
+use Rattle.dali_controller.proofs.Courses.{keeps_fresh, goes_on_fresh}
 use Rattle.dali_controller.proofs.Given as given
 use Rattle.dali_controller.proofs.Given.{IsGivenBy, IsNoEnrolment}
 use Rattle.dali_events.specs.Searching.{HasShort}
@@ -66,7 +66,7 @@ pub record IsUndisturbed (m : Machine) : Type 0 where
 
 -- a reservation is to be kept, and then its gear is visited once more
 pub record Reserves (before : List Gear) (m : Machine) (r : ℕ) (gs : List Gear) (left : ℕ) : Type 0 where
-  pub opened : m.opened ≡ true
+  pub opened : m.course.opened ≡ true
   pub ready : IsOpened gs
   pub unnamed : NoneNamed gs
   pub wanted : wants gs r ≡ true
@@ -78,7 +78,7 @@ pub record Reserves (before : List Gear) (m : Machine) (r : ℕ) (gs : List Gear
 
 -- an enrolment is to be kept, and then a new search begins
 pub record Enrols (before : List Gear) (m : Machine) (b r : ℕ) (gs : List Gear) (left : ℕ) : Type 0 where
-  pub opened : m.opened ≡ true
+  pub opened : m.course.opened ≡ true
   pub ready : IsOpened gs
   pub unnamed : NoneNamed gs
   pub reserved : Has m.kept.reserved (b, r)
@@ -103,7 +103,7 @@ calm_of before t gs left st = record { tries = st.tries; fresh = st.fresh; silen
 -- ---------------------------------------------------------------- a later frame, and a first one
 
 goes_later : (before : List Gear) (t : Machine) (o : Order) (s : Stage) (c : Command) (gs : List Gear) (left : ℕ) → Stands before t gs left
-    → stage_of t.trace ≡ s → IsUnasked s → o ≡ Put LATER (frame_of c) → IsSpelled c
+    → stage_of t.trace ≡ s → IsUnasked s t.course.purpose → o ≡ Put LATER (frame_of c) → IsSpelled c
     → Sends t.course.purpose t.course.number t.kept (stage_of t.trace) c → IsNext before (machine_ordered t o) o gs left
 goes_later before t o s c gs left st at unasked is spelled sends = subst (λ q. IsNext before (machine_ordered t q) q gs left) (sym is)
     (subst (λ m. IsNext before m (Put LATER (frame_of c)) gs left) (sym (later_leaves t (frame_of c) s at unasked)) (
@@ -114,7 +114,7 @@ goes_later before t o s c gs left st at unasked is spelled sends = subst (λ q. 
 goes_first : (before : List Gear) (t : Machine) (o : Order) (gs : List Gear) (left : ℕ) → IsUndisturbed t → AreTabled before t.kept.enrolled gs
     → o ≡ beginning (next_course t)
     → IsSpelled (first_of (next_course t).purpose (next_course t).number)
-    → At (next_course t).purpose stage.Free t.kept t.opened (next_course t).search (next_course t).number gs left
+    → At (next_course t).purpose stage.Free t.kept (next_course t).opened (next_course t).search (next_course t).number gs left
     → IsNext before (machine_ordered t o) o gs left
 goes_first before t o gs left calm tabled is spelled at = subst (λ q. IsNext before (machine_ordered t q) q gs left) (sym is) (
   record {
@@ -124,7 +124,7 @@ goes_first before t o gs left calm tabled is spelled at = subst (λ q. IsNext be
     trace = subst (λ s. IsTrace s []) (sym stage_none) trace_none;
     within = calm.within;
     tabled = subst (λ s. AreTabled before (to_come s (next_course t).number t.kept.enrolled) gs) (sym stage_none) tabled;
-    at = subst (λ s. At (next_course t).purpose s t.kept t.opened (next_course t).search (next_course t).number gs left) (sym stage_none) at;
+    at = subst (λ s. At (next_course t).purpose s t.kept (next_course t).opened (next_course t).search (next_course t).number gs left) (sym stage_none) at;
   },
   subst (λ s. Sends (next_course t).purpose (next_course t).number t.kept s (command_of (frame_of (first_of (next_course t).purpose (next_course t).number))))
       (sym stage_none)
@@ -134,11 +134,11 @@ goes_first before t o gs left calm tabled is spelled at = subst (λ q. IsNext be
 -- of a course that is known
 goes_by : (before : List Gear) (t : Machine) (o : Order) (cs : Course) (gs : List Gear) (left : ℕ) → IsUndisturbed t → AreTabled before t.kept.enrolled gs
     → o ≡ beginning (next_course t) → next_course t ≡ cs
-    → IsSpelled (first_of cs.purpose cs.number) → At cs.purpose stage.Free t.kept t.opened cs.search cs.number gs left
+    → IsSpelled (first_of cs.purpose cs.number) → At cs.purpose stage.Free t.kept cs.opened cs.search cs.number gs left
     → IsNext before (machine_ordered t o) o gs left
 goes_by before t o cs gs left calm tabled is same spelled at =
     goes_first before t o gs left calm tabled is (subst (λ (d : Course). IsSpelled (first_of d.purpose d.number)) (sym same) spelled)
-    (subst (λ (d : Course). At d.purpose stage.Free t.kept t.opened d.search d.number gs left) (sym same) at)
+    (subst (λ (d : Course). At d.purpose stage.Free t.kept d.opened d.search d.number gs left) (sym same) at)
 
 -- the finding of a transaction by its stage
 found_none : (before : List Gear) (t : Machine) (gs : List Gear) (left : ℕ) (s : Stage) → Stands before t gs left → stage_of t.trace ≡ s → finding_at s ≡ None
@@ -171,13 +171,13 @@ begins_search c gs left ready unnamed enough = record {
 }
 
 searches_anew : (before : List Gear) (t : Machine) (o : Order) (gs : List Gear) (left : ℕ) → IsUndisturbed t → AreTabled before t.kept.enrolled gs
-    → o ≡ beginning (next_course t) → next_course t ≡ searching_anew t.course → t.opened ≡ true
+    → o ≡ beginning (next_course t) → next_course t ≡ searching_anew t.course
     → IsOpened gs → NoneNamed gs → search_frames (count_by is_wanted gs) ≤ left → IsNext before (machine_ordered t o) o gs left
-searches_anew before t o gs left calm tabled is same opened ready unnamed enough =
-    goes_by before t o (searching_anew t.course) gs left calm tabled is same tt (opened, begins_search t.course gs left ready unnamed enough)
+searches_anew before t o gs left calm tabled is same ready unnamed enough =
+    goes_by before t o (searching_anew t.course) gs left calm tabled is same tt (refl, begins_search t.course gs left ready unnamed enough)
 
 -- after an opening before which an opening was complete
-pub goes_on_anew : (t : Machine) → t.opened ≡ true → t.course.way ≡ Fresh → goes_on_to t ≡ searching_anew t.course
+pub goes_on_anew : (t : Machine) → t.course.opened ≡ true → t.course.way ≡ Fresh → goes_on_to t ≡ searching_anew t.course
 goes_on_anew t opened fresh = ap (λ b. going_on t.kept b t.course) opened ∙ ap (λ y. searching_on y t.course) fresh
 
 -- ---------------------------------------------------------------- the opening
@@ -187,12 +187,13 @@ turns_later : (before : List Gear) (t : Machine) (o : Order) (p : Purpose) (s : 
     → Stands before t gs left → t.course.purpose ≡ p → stage_of t.trace ≡ s
     → turn_of p t.course.number s ≡ Some c → IsSpelled c → Sends p t.course.number t.kept s c → IsNext before (machine_ordered t o) o gs left
 turns_later before t o p s c gs left g st purpose is turn spelled sends =
-    goes_later before t o s c gs left st is (turn_unasked p t.course.number s c turn) (given.turns t o c g (rw (purpose, is) turn)) spelled
+    goes_later before t o s c gs left st is (subst (IsUnasked s) (sym purpose) (turn_unasked p t.course.number s c turn))
+    (given.turns t o c g (rw (purpose, is) turn)) spelled
     (rw (purpose, is) sends)
 
 opening_turns : (before : List Gear) (t : Machine) (o : Order) (s : Stage) (gs : List Gear) (left : ℕ) → IsGivenBy t o → Stands before t gs left
     → IsNoEnrolment t.last → t.course.purpose ≡ Opening → stage_of t.trace ≡ s → (s ≡ stage.Free → ⊥)
-    → Opens s t.opened gs left → IsNext before (machine_ordered t o) o gs left
+    → Opens s gs left → IsNext before (machine_ordered t o) o gs left
 opening_turns before t o stage.Free gs left g st last purpose is running opens = absurd (running refl)
 opening_turns before t o stage.Terminated gs left g st last purpose is running opens =
     turns_later before t o Opening stage.Terminated _ gs left g st purpose is refl tt refl
@@ -207,7 +208,7 @@ opening_turns before t o stage.Opened gs left g st last purpose is running opens
     let enough : 5 + search_frames (count_by is_bare gs) ≤ left + 5 = opens.frames in
     searches_anew before t o gs left (calm_of before t gs left st) (tabled_at before t gs left stage.Opened st is)
     (given.begins_after t o stage.Opened g is tt (found_none before t gs left stage.Opened st is refl) last (never_eight t.tries st.tries))
-    (ap (begins_at t) is ∙ ap (λ y. searching_first y t.course) st.fresh) opens.stage_is (opening.opened_is gs opens.gear)
+    (ap (begins_at t) is ∙ ap (λ y. searching_first y t.course) st.fresh) (opening.opened_is gs opens.gear)
     (opening.opened_none_named gs opens.gear) (omega (arith, count, enough))
 opening_turns before t o _ gs left g st last purpose is running opens = absurd opens.stage_is
 
@@ -346,9 +347,14 @@ probed_at Nobody k c said gs left is ready unnamed narrowing agrees enough = (
   },
 )
 
+step_opened : (s : Step) (c : Course) → (after_step s c).opened ≡ c.opened
+step_opened Again c = refl
+step_opened (Found r) c = refl
+step_opened Nobody c = refl
+
 probing_turns : (before : List Gear) (t : Machine) (o : Order) (s : Stage) (gs : List Gear) (left : ℕ) → IsGivenBy t o → Stands before t gs left
     → IsNoEnrolment t.last → t.course.purpose ≡ Probing → stage_of t.trace ≡ s → (s ≡ stage.Free → ⊥)
-    → t.opened ≡ true → Probes s t.course.search t.course.number gs left → IsNext before (machine_ordered t o) o gs left
+    → t.course.opened ≡ true → Probes s t.course.search t.course.number gs left → IsNext before (machine_ordered t o) o gs left
 probing_turns before t o stage.Free gs left g st last purpose is running opened p = absurd (running refl)
 probing_turns before t o (stage.HighSent high) gs left g st last purpose is running opened p =
     turns_later before t o Probing (stage.HighSent high) _ gs left g st purpose is refl tt refl
@@ -364,16 +370,16 @@ probing_turns before t o (stage.Probed r h) gs left g st last purpose is running
     let there = probed_at (answered t.course.search (is_yes h)).step t.kept t.course (is_yes h) gs left refl p.ready p.unnamed narrowing agrees p.frames in
     goes_by before t o (probed t.course h) gs left (calm_of before t gs left st) (tabled_at before t gs left (stage.Probed r h) st is)
     (given.begins_after t o (stage.Probed r h) g is tt (found_none before t gs left (stage.Probed r h) st is refl) last (never_eight t.tries st.tries))
-    (ap (begins_at t) is ∙ probed_fresh t h st.fresh) there.0
+    (ap (begins_at t) is) there.0
     (subst (λ b. At (probed t.course h).purpose stage.Free t.kept b (probed t.course h).search (probed t.course h).number gs left)
-    (sym opened) there.1)
+    (sym (step_opened (answered t.course.search (is_yes h)).step (record t.course { search = answered t.course.search (is_yes h) }) ∙ opened)) there.1)
 probing_turns before t o _ gs left g st last purpose is running opened p = absurd p.stage_is
 
 -- ---------------------------------------------------------------- a visit
 
 unnamed_turns : (before : List Gear) (t : Machine) (o : Order) (r : SearchAddress) (gs : List Gear) (left : ℕ) → IsGivenBy t o → Stands before t gs left
     → IsKept t.kept → t.course.purpose ≡ Visiting → stage_of t.trace ≡ stage.Unnamed r
-    → t.opened ≡ true → Visits (stage.Unnamed r) t.kept t.course.number gs left → IsNext before (machine_ordered t o) o gs left
+    → t.course.opened ≡ true → Visits (stage.Unnamed r) t.kept t.course.number gs left → IsNext before (machine_ordered t o) o gs left
 unnamed_turns before t o r gs left g st kept purpose is opened v = go (given.unnamed t o r st.fresh g is) where
   same : value_of r ≡ value_of t.course.number
   same = ap value_of (sym v.searched)
@@ -405,8 +411,7 @@ unnamed_turns before t o r gs left g st kept purpose is opened v = go (given.unn
     },
   )
   go (inr (inr e)) =
-      let next : next_course t ≡ closing_by t.course BlockFull = ap (begins_at t) is
-      ∙ ap (λ b. draw_or_close b t.course BlockFull) (never_draws t st.fresh) in
+      let next : next_course t ≡ closing_by t.course BlockFull = ap (begins_at t) is ∙ ap (ungiven t) st.fresh in
       goes_by before t o (closing_by t.course BlockFull) gs left (calm_of before t gs left st) (tabled_at before t gs left (stage.Unnamed r) st is)
       (e.2 ∙ sym (ap beginning next)) next tt (record { stage_is = tt; well = e.1; frames = some v.frames })
 
@@ -421,7 +426,7 @@ no_contradiction k b n kept within has (inr is) =
 
 withdrawn_turns : (before : List Gear) (t : Machine) (o : Order) (r : SearchAddress) (a : ℕ) (gs : List Gear) (left : ℕ) → IsGivenBy t o
     → Stands before t gs left → IsKept t.kept → t.course.purpose ≡ Visiting → stage_of t.trace ≡ stage.Withdrawn r a
-    → t.opened ≡ true → Leaves r a t.kept t.course.number gs left → IsNext before (machine_ordered t o) o gs left
+    → t.course.opened ≡ true → Leaves r a t.kept t.course.number gs left → IsNext before (machine_ordered t o) o gs left
 withdrawn_turns before t o r a gs left g st kept purpose is opened v = go o g (g.ordered.found r a is) where
   reserved : Has t.kept.reserved (a, value_of r)
   reserved = subst (λ (m : SearchAddress). Has t.kept.reserved (a, value_of m)) (sym v.searched) v.reserved
@@ -438,7 +443,7 @@ withdrawn_turns before t o r a gs left g st kept purpose is opened v = go o g (g
   go (Put p f) g has =
       searches_anew before t (Put p f) gs left (calm_of before t gs left st)
       (tabled_over before ((a, value_of r) ∷ t.kept.enrolled) t.kept.enrolled gs (λ x h. twice x h has) tabled)
-      (given.withdrawn_known t (Put p f) r a g is kept.enrolled has) (ap (begins_at t) is ∙ goes_on_anew t opened st.fresh) opened v.ready v.unnamed v.frames
+      (given.withdrawn_known t (Put p f) r a g is kept.enrolled has) (ap (begins_at t) is ∙ goes_on_anew t opened st.fresh) v.ready v.unnamed v.frames
   go (Commit x) g has = subst (λ y. IsNext before (machine_ordered t (Commit y)) (Commit y) gs left) (sym has) (
     record { tries = st.tries; fresh = st.fresh; silent = st.silent; within = st.within },
     record { opened = opened; ready = v.ready; unnamed = v.unnamed; reserved = reserved; tabled = tabled; frames = v.frames },
@@ -448,7 +453,7 @@ withdrawn_turns before t o r a gs left g st kept purpose is opened v = go o g (g
 
 visiting_turns : (before : List Gear) (t : Machine) (o : Order) (s : Stage) (gs : List Gear) (left : ℕ) → IsGivenBy t o → Stands before t gs left
     → IsKept t.kept → t.course.purpose ≡ Visiting → stage_of t.trace ≡ s → (s ≡ stage.Free → ⊥)
-    → t.opened ≡ true → VisitsAt s t.kept t.course.number gs left → IsNext before (machine_ordered t o) o gs left
+    → t.course.opened ≡ true → VisitsAt s t.kept t.course.number gs left → IsNext before (machine_ordered t o) o gs left
 visiting_turns before t o stage.Free gs left g st kept purpose is running opened v = absurd (running refl)
 visiting_turns before t o (stage.HighSent high) gs left g st kept purpose is running opened v =
     turns_later before t o Visiting (stage.HighSent high) _ gs left g st purpose is refl tt refl
@@ -483,9 +488,9 @@ closing_turns before t o e _ gs left g st purpose is running v = absurd v.stage_
 pub turned : (before : List Gear) (t : Machine) (o : Order) (gs : List Gear) (left : ℕ) → IsGivenBy t o → Stands before t gs left → IsKept t.kept
     → IsNoEnrolment t.last → (stage_of t.trace ≡ stage.Free → ⊥) → IsNext before (machine_ordered t o) o gs left
 turned before t o gs left g st kept last running = go t.course.purpose refl st.at where
-  go : (p : Purpose) → t.course.purpose ≡ p → At p (stage_of t.trace) t.kept t.opened t.course.search t.course.number gs left
+  go : (p : Purpose) → t.course.purpose ≡ p → At p (stage_of t.trace) t.kept t.course.opened t.course.search t.course.number gs left
       → IsNext before (machine_ordered t o) o gs left
-  go Opening purpose at = opening_turns before t o (stage_of t.trace) gs left g st last purpose refl running at
+  go Opening purpose at = opening_turns before t o (stage_of t.trace) gs left g st last purpose refl running at.1
   go Probing purpose at = probing_turns before t o (stage_of t.trace) gs left g st last purpose refl running at.0 at.1
   go Visiting purpose at = visiting_turns before t o (stage_of t.trace) gs left g st kept purpose refl running at.0 at.1
   go (Closing e) purpose at = closing_turns before t o e (stage_of t.trace) gs left g st purpose refl running at
@@ -506,7 +511,7 @@ pub started_begins : (t : Machine) (o : Order) → IsGivenBy t o → IsUndisturb
 started_begins t o g calm free last = given.begins_free t o g free (subst IsNoEnrolment (sym last) no_enrolment_yet) (never_eight t.tries calm.tries)
 
 pub started : (before : List Gear) (t : Machine) (o : Order) (gs : List Gear) (left : ℕ) → IsGivenBy t o → IsUndisturbed t → AreTabled before t.kept.enrolled gs
-    → t.trace ≡ [] → t.last ≡ None → t.kept.reserved ≡ [] → t.opened ≡ false → t.course.purpose ≡ Opening
+    → t.trace ≡ [] → t.last ≡ None → t.kept.reserved ≡ [] → t.course.opened ≡ false → t.course.purpose ≡ Opening
     → 5 + search_frames (count_by is_bare gs) ≤ left → IsNext before (machine_ordered t o) o gs left
 started before t o gs left g calm tabled free last none unopened purpose enough =
     let stage : stage_of t.trace ≡ stage.Free = ap stage_of free ∙ stage_none in
@@ -515,7 +520,7 @@ started before t o gs left g calm tabled free last none unopened purpose enough 
     ∙ ap (visit_or_opening t.course) (nothing_unfinished t.kept (64 - t.course.from) t.course.from none) in
     goes_by before t o (opening_of t.course) gs left calm tabled
     (started_begins t o g calm free last)
-    next tt (record { stage_is = unopened; gear = λ k in_row on. tt; frames = omega (arith, enough) })
+    next tt (unopened, record { stage_is = tt; gear = λ k in_row on. tt; frames = omega (arith, enough) })
 
 -- ---------------------------------------------------------------- a record that is kept
 
@@ -585,7 +590,7 @@ enrolled_next before m b r o gs left calm v free last map g =
     (tabled_over before ((b, r) ∷ m.kept.enrolled) (m.kept.enrolled ++ (b, r) ∷ []) gs (entry_last m.kept.enrolled (b, r)) v.tabled)
     (enrolled_begins before m b r o gs left v free last map g)
     (ap (begins_at (with_kept m (Enrol b r))) stage ∙ ap (at_rest (with_kept m (Enrol b r))) last ∙ goes_on_anew (with_kept m (Enrol b r)) v.opened calm.fresh)
-    v.opened v.ready v.unnamed v.frames
+    v.ready v.unnamed v.frames
 
 pub committed : (before : List Gear) (m : Machine) (x : Record) (o : Order) (gs : List Gear) (left : ℕ) → IsUndisturbed m → CommitsTo before m x gs left
     → m.trace ≡ []

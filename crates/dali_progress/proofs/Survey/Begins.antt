@@ -1,6 +1,6 @@
 use Rattle.std.proofs.Common.{◌≡◌, ℕ, ◌+◌, ◌-◌, ◌*◌, ◌<◌, ◌≤◌, ◌⊎◌, inl, inr, Bool, true, false, zero, suc, List, [], ◌∷◌, ◌++◌, refl, sym, ap, subst, ◌∙◌}
 use Rattle.std.proofs.Common.{arith, Option, Some, None}
-use Rattle.std.specs.Prelude.{◌==◌, ◌&&◌, ◌||◌, not, is_some, MatchOption, if◌then◌else◌}
+use Rattle.std.specs.Prelude.{min, ◌==◌, ◌&&◌, ◌||◌, not, is_some, MatchOption, if◌then◌else◌}
 use Rattle.std.specs.List.{count_by}
 use Rattle.std.proofs.lemmas.Bool.Decides.{nat_tests}
 use Rattle.dali_frame.specs.declared.numbers.SearchAddress.{SearchAddress}
@@ -13,7 +13,7 @@ use Rattle.dali_special.proofs.Table.{read_written}
 use Rattle.dali_gear.specs.Gear.{Gear}
 use Rattle.dali_script.specs.declared.records.Record.{Record}
 use Rattle.dali_script.specs.declared.records.Record.TheVariants.{Reserve, Enrol, Release}
-use Rattle.dali_script.specs.Records.{Assignment, Kept, Has, HasAddress, with_record, IsMap}
+use Rattle.dali_script.specs.Records.{Assignment, Kept, Has, HasAddress, with_record}
 use Rattle.dali_script.specs.declared.stage.Stage.{Stage}
 use Rattle.dali_script.specs.declared.stage.Stage.TheVariants as stage
 use Rattle.dali_script.specs.Findings.{finding_of}
@@ -27,32 +27,33 @@ use Rattle.dali_script.specs.declared.orders.Order.{Order}
 use Rattle.dali_script.specs.declared.orders.Order.TheVariants.{Put, Commit, Done, Halt}
 use Rattle.dali_script.specs.declared.orders.Fault.TheVariants as fault
 use Rattle.dali_controller.specs.declared.purpose.Purpose.{Purpose}
-use Rattle.dali_controller.specs.declared.purpose.Purpose.TheVariants.{Opening, Hunting, Visiting}
+use Rattle.dali_controller.specs.declared.purpose.Purpose.TheVariants.{Hunting, Visiting, Asking as Counting}
 use Rattle.dali_controller.specs.declared.shorts.Shorts.{Shorts}
-use Rattle.dali_controller.specs.declared.way.Way.{Way}
-use Rattle.dali_controller.specs.declared.way.Way.TheVariants.{Fresh, Surveying, Drawing}
+use Rattle.dali_controller.specs.declared.tally.Tally.{Tally}
 use Rattle.dali_controller.specs.Shorts.{has_short}
 use Rattle.dali_controller.specs.Course.{Course, first_of, turn_of, number_at, is_open, open_among, least_open, is_another, is_anothers, is_asked, asked_among}
-use Rattle.dali_controller.specs.Course.{next_asked, ask_or_wake, asking, waking, going_on, going_on_early, sought, hunting, hunting_first, hunting_on}
-use Rattle.dali_controller.specs.Course.{searching_first, searching_on}
+use Rattle.dali_controller.specs.Course.{next_asked, ask_or_call, asking, calling_first, going_on, going_on_early, sought, hunting, hunting_first, searching_on}
+use Rattle.dali_controller.specs.Tally.{served}
 use Rattle.dali_controller.specs.Machine.{Machine}
 use Rattle.dali_controller.specs.Next.{next_course, course_by, beginning, goes_on_to, BeginsWith}
-use Rattle.dali_controller.specs.Orders.{machine_ordered, IsAllowed, IsCaused}
+use Rattle.dali_controller.specs.Orders.{machine_ordered, asked_by, IsAllowed, IsCaused}
 use Rattle.dali_controller.specs.Whole.{IsWhole}
 use Rattle.dali_controller.proofs.Courses.{found_number}
 use Rattle.dali_controller.proofs.Given as given
 use Rattle.dali_controller.proofs.Given.{IsGivenBy, IsNoEnrolment}
-use Rattle.dali_events.specs.Wanted.{is_wanted, wants, IsOpened, NoneNamed}
+use Rattle.dali_events.specs.Wanted.{gear_of, is_bare, is_wanted, wants, IsOpened, NoneNamed}
 use Rattle.dali_events.proofs.Search.Leaving.{SameCore}
 use Rattle.dali_progress.specs.Ends.{AreTabled}
 use Rattle.dali_progress.specs.Rounds.{IsSettled}
 use Rattle.dali_progress.proofs.Census.Coming.{asked_later, asked_before, unasked_enrolled}
-use Rattle.dali_script.proofs.Members.{same_member}
 use Rattle.dali_progress.proofs.Stands.{Sends}
 use Rattle.dali_progress.proofs.Later.{IsUnasked, later_leaves, turn_unasked}
 use Rattle.dali_progress.proofs.Survey.Queried.{OneShort, IsTrue, TabledBelow, unseen, below_all, below_named}
-use Rattle.dali_progress.proofs.Survey.Stands.{Begun, IsClear, wake_frames, IsOwn, searched_by, frames_after, Rises, HuntAt, Hunts, AreTaken, SurveyEnds}
-use Rattle.dali_progress.proofs.Survey.Stands.{opened_at, SurveyAt, SurveyStands}
+use Rattle.dali_progress.proofs.Survey.Drawn.{those_drawn, is_lost, bare_split}
+use Rattle.dali_progress.proofs.Survey.Woken.{AreLow}
+use Rattle.dali_progress.proofs.Survey.Stands.{Begun, spare, survey_frames, IsClear, Counts, IsUncalled, IsOwn, IsFirstDraw, IsCalledFor, called_after}
+use Rattle.dali_progress.proofs.Survey.Stands.{hunted_after}
+use Rattle.dali_progress.proofs.Survey.Stands.{roll_frames, frames_after, Rises, HuntAt, Hunts, AreTaken, SurveyEnds, IsSmooth, SurveyAt, SurveyStands}
 use Rattle.dali_progress.proofs.Survey.Rising.{rises_so, rises_first, rises_above}
 
 -- A TRANSACTION OF A SURVEY BEGINS, or goes on; and what is to come of an order.
@@ -61,11 +62,11 @@ use Rattle.dali_progress.proofs.Survey.Rising.{rises_so, rises_first, rises_abov
 pub record Calm (m : Machine) : Type 0 where
   pub tries : m.tries ≡ 0
   pub silent : m.silent ≡ 0
+  pub smooth : IsSmooth m.course
 
 -- a gear that told its number is to be enrolled, and then the next short address is asked
 pub record EnrolsCounted (start : Begun) (m : Machine) (a r : ℕ) (gs : List Gear) (left : ℕ) : Type 0 where
-  pub way : m.course.way ≡ Surveying
-  pub opened : m.opened ≡ false
+  pub uncalled : IsUncalled m.course
   pub asked : m.asked ≡ 0
   pub small : a < 64
   pub from_is : m.course.from ≡ a + 1
@@ -74,19 +75,18 @@ pub record EnrolsCounted (start : Begun) (m : Machine) (a r : ℕ) (gs : List Ge
   pub unreserved : start.any ≡ false → (c : ℕ) → Has m.kept.reserved (c, r) → ⊥
   pub same : SameCore start.gear gs
   pub tabled : TabledBelow (a + 1) start.gear (m.kept.enrolled ++ (a, r) ∷ []) gs
-  pub frames : 3 * (63 - a) + wake_frames start gs ≤ left
+  pub frames : 3 * (63 - a) + survey_frames start gs ≤ left
 
 -- what was reserved for it is to be released, and then the next short address is asked
 pub record ReleasesCounted (start : Begun) (m : Machine) (a : ℕ) (gs : List Gear) (left : ℕ) : Type 0 where
   pub any : start.any ≡ true
-  pub way : m.course.way ≡ Surveying
-  pub opened : m.opened ≡ false
+  pub uncalled : IsUncalled m.course
   pub asked : m.asked ≡ 0
   pub small : a < 64
   pub from_is : m.course.from ≡ a + 1
   pub same : SameCore start.gear gs
   pub tabled : TabledBelow (a + 1) start.gear m.kept.enrolled gs
-  pub frames : 3 * (63 - a) + wake_frames start gs ≤ left
+  pub frames : 3 * (63 - a) + survey_frames start gs ≤ left
 
 -- an ascent goes on above who was found, where who is left is above it
 pub record Above (x : Ascent) (r : ℕ) (gs : List Gear) : Type 0 where
@@ -95,37 +95,42 @@ pub record Above (x : Ascent) (r : ℕ) (gs : List Gear) : Type 0 where
   pub drawn : r < MASK24
   pub past : (k : ℕ) → wants gs k ≡ true → r < k
 
+-- what is known while gear are hunted, whichever transaction is to come
+pub record IsHunted (c : Course) (gs : List Gear) : Type 0 where
+  pub opened : c.opened ≡ true
+  pub loud : c.tally.is_silent ≡ false
+  pub first : IsFirstDraw c.tally gs
+  pub low : AreLow gs
+
 -- a gear that was given its address is to be enrolled, and then the search goes on above it
 pub record EnrolsHunted (start : Begun) (m : Machine) (b r : ℕ) (gs : List Gear) (left : ℕ) : Type 0 where
-  pub way : m.course.way ≡ Fresh → ⊥
-  pub opened : m.opened ≡ true
+  pub hunted : IsHunted m.course gs
   pub own : start.any ≡ false → IsOwn m.kept m.heard
-  pub ready : IsOpened (searched_by m.course.way gs)
-  pub unnamed : NoneNamed (searched_by m.course.way gs)
-  pub above : Above m.course.ascent r (searched_by m.course.way gs)
+  pub ready : IsOpened (those_drawn gs)
+  pub unnamed : NoneNamed (those_drawn gs)
+  pub above : Above m.course.ascent r (those_drawn gs)
   pub reserved : Has m.kept.reserved (b, r)
   pub settled : start.any ≡ false → (x : Assignment) → Has m.kept.reserved x → Has m.kept.enrolled x ⊎ (x.1 ≡ r)
-  pub tabled : AreTabled (unseen start.gear) ((b, r) ∷ m.kept.enrolled) (searched_by m.course.way gs)
-  pub frames : 106 * count_by is_wanted (searched_by m.course.way gs) + 32 + frames_after m.course.way start gs ≤ left
+  pub tabled : AreTabled (unseen start.gear) ((b, r) ∷ m.kept.enrolled) (those_drawn gs)
+  pub frames : 106 * count_by is_wanted (those_drawn gs) + 32 + (called_after (count_by is_lost gs) + spare start.any m.course.tally.draws) ≤ left
 
 -- a reservation is to be kept, and then its gear is visited once more
 pub record ReservesHunted (start : Begun) (m : Machine) (a r : ℕ) (gs : List Gear) (left : ℕ) : Type 0 where
-  pub way : m.course.way ≡ Fresh → ⊥
-  pub opened : m.opened ≡ true
+  pub hunted : IsHunted m.course gs
   pub own : start.any ≡ false → IsOwn m.kept m.heard
   pub settled : start.any ≡ false → IsSettled m.kept
   pub open_is : is_open m.kept m.heard a ≡ true
-  pub ready : IsOpened (searched_by m.course.way gs)
-  pub unnamed : NoneNamed (searched_by m.course.way gs)
+  pub ready : IsOpened (those_drawn gs)
+  pub unnamed : NoneNamed (those_drawn gs)
   pub is : IsAscent m.course.ascent
   pub reached : leads_to m.course.ascent ≡ Found r
-  pub least : (k : ℕ) → wants (searched_by m.course.way gs) k ≡ true → r ≤ k
-  pub wanted : wants (searched_by m.course.way gs) r ≡ true
+  pub least : (k : ℕ) → wants (those_drawn gs) k ≡ true → r ≤ k
+  pub wanted : wants (those_drawn gs) r ≡ true
   pub drawn : r < MASK24
   pub more : ℕ
-  pub count : count_by is_wanted (searched_by m.course.way gs) ≡ suc more
-  pub tabled : AreTabled (unseen start.gear) m.kept.enrolled (searched_by m.course.way gs)
-  pub frames : 39 + 106 * more + frames_after m.course.way start gs ≤ left
+  pub count : count_by is_wanted (those_drawn gs) ≡ suc more
+  pub tabled : AreTabled (unseen start.gear) m.kept.enrolled (those_drawn gs)
+  pub frames : 39 + 106 * more + (called_after (count_by is_lost gs) + spare start.any m.course.tally.draws) ≤ left
 
 abbrev pub SurveyCommits : Begun → Machine → Record → List Gear → ℕ → Type 0
 SurveyCommits start m (Enrol a r) gs left = EnrolsCounted start m a r gs left ⊎ EnrolsHunted start m a r gs left
@@ -140,17 +145,26 @@ IsNext start m (Done e) gs left =
     SurveyEnds start.any e m.kept m.heard gs × AreTabled (unseen start.gear) m.kept.enrolled gs × (start.any ≡ false → IsSettled m.kept)
 IsNext start m (Halt why) gs left = ⊥
 
-pub calm_ordered : {told : Bool} (start : Begun) (t : Machine) (o : Order) (gs : List Gear) (left : ℕ) → SurveyStands told start t gs left
-    → Calm (machine_ordered t o)
-calm_ordered start t o gs left st = record { tries = st.tries; silent = st.silent }
-
 pub calm_of : {told : Bool} (start : Begun) (t : Machine) (gs : List Gear) (left : ℕ) → SurveyStands told start t gs left → Calm t
-calm_of start t gs left st = record { tries = st.tries; silent = st.silent }
+calm_of start t gs left st = record { tries = st.tries; silent = st.silent; smooth = st.smooth }
+
+pub calm_ordered : {told : Bool} (start : Begun) (t : Machine) (x : Record) (gs : List Gear) (left : ℕ) → SurveyStands told start t gs left
+    → Calm (machine_ordered t (Commit x))
+calm_ordered start t x gs left st = record { tries = st.tries; silent = st.silent; smooth = st.smooth }
+
+-- with the same way, and what is counted the same
+pub smooth_as : (c d : Course) → d.way ≡ c.way → d.tally ≡ c.tally → IsSmooth c → IsSmooth d
+smooth_as c d way tally smooth = record {
+  way = way ∙ smooth.way;
+  passed = ap (λ (y : Tally). y.passed) tally ∙ smooth.passed;
+  unmissed = ap (λ (y : Tally). y.is_missed) tally ∙ smooth.unmissed;
+}
 
 -- ---------------------------------------------------------------- a later frame, and a first one
 
 -- where no answer in a hunt stands last, the machine that has acted stands as it did when it was told
-rises_untold : (s : Stage) (x : Ascent) (n : SearchAddress) (gs : List Gear) (left : ℕ) → IsUnasked s → Rises true s x n gs left → Rises false s x n gs left
+rises_untold : (s : Stage) (x : Ascent) (n : SearchAddress) (gs : List Gear) (left : ℕ) → IsUnasked s Hunting → Rises true s x n gs left
+    → Rises false s x n gs left
 rises_untold stage.Free x n gs left unasked v = rises_so stage.Free x n gs left v v.stage_is v.frames
 rises_untold (stage.HighSent high) x n gs left unasked v = rises_so (stage.HighSent high) x n gs left v v.stage_is v.frames
 rises_untold (stage.LowSent high low) x n gs left unasked v = rises_so (stage.LowSent high low) x n gs left v v.stage_is v.frames
@@ -158,50 +172,56 @@ rises_untold (stage.Hunted r None room) x n gs left unasked v = rises_so (stage.
 rises_untold (stage.Hunted r (Some h) room) x n gs left unasked v = absurd unasked
 rises_untold _ x n gs left unasked v = absurd v.stage_is
 
-hunt_untold : (p : Purpose) (s : Stage) (k : Kept) (opened : Bool) (x : Ascent) (n : SearchAddress) (gs : List Gear) (left : ℕ) → IsUnasked s
-    → HuntAt true p s k opened x n gs left → HuntAt false p s k opened x n gs left
-hunt_untold Opening s k opened x n gs left unasked at = at
-hunt_untold Hunting s k opened x n gs left unasked at = (at.0, rises_untold s x n gs left unasked at.1)
-hunt_untold Visiting s k opened x n gs left unasked at = at
-hunt_untold _ s k opened x n gs left unasked at = absurd at
+hunt_untold : (p : Purpose) (s : Stage) (k : Kept) (x : Ascent) (n : SearchAddress) (gs : List Gear) (left : ℕ) → IsUnasked s p
+    → HuntAt true p s k x n gs left → HuntAt false p s k x n gs left
+hunt_untold Hunting s k x n gs left unasked at = rises_untold s x n gs left unasked at
+hunt_untold Visiting s k x n gs left unasked at = at
+hunt_untold _ s k x n gs left unasked at = absurd at
 
-hunts_untold : (p : Purpose) (y : Way) (s : Stage) (k : Kept) (heard : Shorts) (opened : Bool) (x : Ascent) (n : SearchAddress) (start : Begun)
-    (gs : List Gear) (left : ℕ) → IsUnasked s → Hunts true p y s k heard opened x n start gs left → Hunts false p y s k heard opened x n start gs left
-hunts_untold p y s k heard opened x n start gs left unasked v = record {
-  way = v.way;
+hunts_untold : (p : Purpose) (s : Stage) (k : Kept) (heard : Shorts) (c : Course) (start : Begun)
+    (gs : List Gear) (left : ℕ) → IsUnasked s p → Hunts true p s k heard c start gs left → Hunts false p s k heard c start gs left
+hunts_untold p s k heard c start gs left unasked v = record {
   opened_is = v.opened_is;
+  loud = v.loud;
+  first = v.first;
+  called = v.called;
+  low = v.low;
   own = v.own;
   settled = v.settled;
   rest = v.rest;
-  at = hunt_untold p s k (opened_at p s) x n (searched_by y gs) v.rest unasked v.at;
+  at = hunt_untold p s k c.ascent c.number (those_drawn gs) v.rest unasked v.at;
   tabled = v.tabled;
   behind = v.behind;
   behind_is = v.behind_is;
   frames = v.frames;
 }
 
-untold : (p : Purpose) (y : Way) (s : Stage) (k : Kept) (heard : Shorts) (opened : Bool) (asked : ℕ) (x : Ascent) (n : SearchAddress) (from : ℕ) (start : Begun)
-    (gs : List Gear) (left : ℕ) → IsUnasked s → SurveyAt true p y s k heard opened asked x n from start gs left
-    → SurveyAt false p y s k heard opened asked x n from start gs left
-untold Opening y s k heard opened asked x n from start gs left unasked at = hunts_untold Opening y s k heard opened x n start gs left unasked at
-untold Hunting y s k heard opened asked x n from start gs left unasked at = hunts_untold Hunting y s k heard opened x n start gs left unasked at
-untold Visiting y s k heard opened asked x n from start gs left unasked at = hunts_untold Visiting y s k heard opened x n start gs left unasked at
-untold _ y s k heard opened asked x n from start gs left unasked at = at
+untold : (p : Purpose) (s : Stage) (k : Kept) (heard : Shorts) (asked : ℕ) (c : Course) (start : Begun) (gs : List Gear) (left : ℕ) → IsUnasked s p
+    → SurveyAt true p s k heard asked c start gs left → SurveyAt false p s k heard (asked_by c.opened asked) c start gs left
+untold (Counting a) s k heard asked c start gs left unasked at =
+    (at.0, subst (λ b. Counts a s k heard (asked_by b asked) c.from start gs left) (sym at.0.unopened) at.1)
+untold Hunting s k heard asked c start gs left unasked at = hunts_untold Hunting s k heard c start gs left unasked at
+untold Visiting s k heard asked c start gs left unasked at = hunts_untold Visiting s k heard c start gs left unasked at
+untold _ s k heard asked c start gs left unasked at = at
 
 pub later_by : (start : Begun) (t : Machine) (o : Order) (p : Purpose) (s : Stage) (c : Command) (gs : List Gear) (left : ℕ) → SurveyStands true start t gs left
-    → o ≡ Put LATER (frame_of c) → IsSpelled c → t.course.purpose ≡ p → stage_of t.trace ≡ s → IsUnasked s → Sends p t.course.number t.kept s c
+    → o ≡ Put LATER (frame_of c) → IsSpelled c → t.course.purpose ≡ p → stage_of t.trace ≡ s → IsUnasked s p → Sends p t.course.number t.kept s c
     → IsNext start (machine_ordered t o) o gs left
 later_by start t o p s c gs left st is spelled purpose at unasked sends = subst (λ q. IsNext start (machine_ordered t q) q gs left) (sym is)
-    (subst (λ m. IsNext start m (Put LATER (frame_of c)) gs left) (sym (later_leaves t (frame_of c) s at unasked)) (
+    (subst (λ m. IsNext start m (Put LATER (frame_of c)) gs left) (sym (later_leaves t (frame_of c) s at here)) (
       record {
         tries = st.tries;
         silent = st.silent;
+        smooth = st.smooth;
         trace = st.trace;
-        at = untold t.course.purpose t.course.way (stage_of t.trace) t.kept t.heard t.opened t.asked t.course.ascent t.course.number t.course.from start gs left
-            (subst IsUnasked (sym at) unasked) st.at;
+        at = untold t.course.purpose (stage_of t.trace) t.kept t.heard t.asked t.course start gs left
+            (subst (λ q. IsUnasked q t.course.purpose) (sym at) here) st.at;
       },
       subst (λ d. Sends t.course.purpose t.course.number t.kept (stage_of t.trace) d) (sym (read_written c spelled)) (rw (purpose, at) sends),
     ))
+  where
+    here : IsUnasked s t.course.purpose
+    here = subst (IsUnasked s) (sym purpose) unasked
 
 pub turns_by : (start : Begun) (t : Machine) (o : Order) (p : Purpose) (s : Stage) (c : Command) (gs : List Gear) (left : ℕ) → IsGivenBy t o
     → SurveyStands true start t gs left → t.course.purpose ≡ p → stage_of t.trace ≡ s → turn_of p t.course.number s ≡ Some c → IsSpelled c
@@ -209,18 +229,18 @@ pub turns_by : (start : Begun) (t : Machine) (o : Order) (p : Purpose) (s : Stag
 turns_by start t o p s c gs left g st purpose at turn spelled sends =
     later_by start t o p s c gs left st (given.turns t o c g (rw (purpose, at) turn)) spelled purpose at (turn_unasked p t.course.number s c turn) sends
 
-goes_first : (start : Begun) (t : Machine) (o : Order) (gs : List Gear) (left : ℕ) → Calm t → o ≡ beginning (next_course t)
+goes_first : (start : Begun) (t : Machine) (o : Order) (gs : List Gear) (left : ℕ) → Calm t → o ≡ beginning (next_course t) → IsSmooth (next_course t)
     → IsSpelled (first_of (next_course t).purpose (next_course t).number)
-    → SurveyAt false (next_course t).purpose (next_course t).way stage.Free t.kept t.heard t.opened t.asked (next_course t).ascent (next_course t).number
-    (next_course t).from start gs left
+    → SurveyAt false (next_course t).purpose stage.Free t.kept t.heard (asked_by (next_course t).opened t.asked) (next_course t) start gs left
     → IsNext start (machine_ordered t o) o gs left
-goes_first start t o gs left calm is spelled at = subst (λ q. IsNext start (machine_ordered t q) q gs left) (sym is) (
+goes_first start t o gs left calm is smooth spelled at = subst (λ q. IsNext start (machine_ordered t q) q gs left) (sym is) (
   record {
     tries = calm.tries;
     silent = calm.silent;
+    smooth = smooth;
     trace = subst (λ s. IsTrace s []) (sym stage_none) trace_none;
-    at = subst (λ s. SurveyAt false (next_course t).purpose (next_course t).way s t.kept t.heard t.opened t.asked (next_course t).ascent (next_course t).number
-        (next_course t).from start gs left) (sym stage_none) at;
+    at = subst (λ s. SurveyAt false (next_course t).purpose s t.kept t.heard (asked_by (next_course t).opened t.asked) (next_course t) start gs left)
+        (sym stage_none) at;
   },
   subst (λ s. Sends (next_course t).purpose (next_course t).number t.kept s (command_of (frame_of (first_of (next_course t).purpose (next_course t).number))))
       (sym stage_none)
@@ -228,12 +248,13 @@ goes_first start t o gs left calm is spelled at = subst (λ q. IsNext start (mac
 )
 
 pub first_by : (start : Begun) (t : Machine) (o : Order) (cs : Course) (gs : List Gear) (left : ℕ) → Calm t → o ≡ beginning (next_course t)
-    → next_course t ≡ cs → IsSpelled (first_of cs.purpose cs.number)
-    → SurveyAt false cs.purpose cs.way stage.Free t.kept t.heard t.opened t.asked cs.ascent cs.number cs.from start gs left
+    → next_course t ≡ cs → IsSmooth cs → IsSpelled (first_of cs.purpose cs.number)
+    → SurveyAt false cs.purpose stage.Free t.kept t.heard (asked_by cs.opened t.asked) cs start gs left
     → IsNext start (machine_ordered t o) o gs left
-first_by start t o cs gs left calm is same spelled at =
-    goes_first start t o gs left calm is (subst (λ (d : Course). IsSpelled (first_of d.purpose d.number)) (sym same) spelled)
-    (subst (λ (d : Course). SurveyAt false d.purpose d.way stage.Free t.kept t.heard t.opened t.asked d.ascent d.number d.from start gs left) (sym same) at)
+first_by start t o cs gs left calm is same smooth spelled at =
+    goes_first start t o gs left calm is (subst IsSmooth (sym same) smooth)
+    (subst (λ (d : Course). IsSpelled (first_of d.purpose d.number)) (sym same) spelled)
+    (subst (λ (d : Course). SurveyAt false d.purpose stage.Free t.kept t.heard (asked_by d.opened t.asked) d start gs left) (sym same) at)
 
 -- ---------------------------------------------------------------- a transaction that is over although a frame might follow
 
@@ -259,134 +280,6 @@ begins_whole t o s g at named closed found last tries later = go o g where
     by : IsCaused t t.course (Halt fault.Conflict) → ⊥
     by cause = let none = cause.2 in cc
   go (Halt fault.Store) g whole = absurd g.ordered.caused
-
--- ---------------------------------------------------------------- the next short address, or the wake
-
-asked_within : (k : Kept) (n from c : ℕ) → asked_among k n from ≡ Some c → (from ≤ c) × (c < from + n)
-asked_within k zero from c e = absurd (cc)
-asked_within k (suc n) from c e = go (is_asked k from) e (asked_within k n (from + 1) c) where
-  go : (b : Bool) → (if b then Some from else asked_among k n (from + 1)) ≡ Some c
-      → (asked_among k n (from + 1) ≡ Some c → (from + 1 ≤ c) × (c < from + 1 + n)) → (from ≤ c) × (c < from + suc n)
-  go true e more = let same : from ≡ c = cc in (omega (arith, same), omega (arith, same))
-  go false e more = let there = more e in let low : from + 1 ≤ c = there.0 in let high : c < from + 1 + n = there.1 in (omega (arith, low), omega (arith, high))
-
-pub asks_on : (start : Begun) (t : Machine) (o : Order) (f : ℕ) (gs : List Gear) (left : ℕ) → Calm t → o ≡ beginning (next_course t)
-    → next_course t ≡ goes_on_to t → t.course.way ≡ Surveying → t.opened ≡ false → t.asked ≡ 0 → t.course.from ≡ f → f ≤ 64
-    → (start.any ≡ false → IsSettled t.kept)
-    → (start.any ≡ false → IsClear t.kept t.heard) → OneShort gs → IsTrue t.kept.enrolled gs → SameCore start.gear gs
-    → TabledBelow f start.gear t.kept.enrolled gs
-    → 3 * (64 - f) + wake_frames start gs ≤ left → IsNext start (machine_ordered t o) o gs left
-asks_on start t o f gs left calm is next surveys opened asked from few settled clear one holds same tabled enough =
-    go (next_asked t.kept f) course (asked_later t.kept (64 - f) f) (asked_before t.kept (64 - f) f) (asked_within t.kept (64 - f) f) where
-      course : next_course t ≡ ask_or_wake t.course (next_asked t.kept f)
-      course =
-          next ∙ ap (λ b. going_on t.kept b t.course) opened ∙ ap (λ y. going_on_early t.kept y t.course) surveys
-          ∙ ap (λ n. ask_or_wake t.course (next_asked t.kept n)) from
-
-      go : (p : Option ℕ) → next_course t ≡ ask_or_wake t.course p
-          → (p ≡ None → (c : ℕ) → f ≤ c → c < f + (64 - f) → is_asked t.kept c ≡ false)
-          → ((d : ℕ) → p ≡ Some d → (c : ℕ) → f ≤ c → c < d → is_asked t.kept c ≡ false)
-          → ((d : ℕ) → p ≡ Some d → (f ≤ d) × (d < f + (64 - f))) → IsNext start (machine_ordered t o) o gs left
-      go (Some d) at none before within =
-          let there = within d refl in
-          let low : f ≤ d = there.0 in
-          let high : d < f + (64 - f) = there.1 in
-          let small : d < 64 = omega (arith, high, few) in
-          first_by start t o (asking t.course d) gs left calm is at small (
-            surveys,
-            opened,
-            record {
-              small = small;
-              from_is = refl;
-              settled = settled;
-              clear = clear;
-              same = same;
-              stage_is = inl asked;
-              tabled = below_named f d start.gear t.kept.enrolled gs one holds tabled
-                  (λ c past under. unasked_enrolled t.kept c (before d refl c past under));
-              frames = count (wake_frames start gs) d t.asked low small asked enough;
-            },
-          )
-        where
-          count : (wake d asked : ℕ) → f ≤ d → d < 64 → asked ≡ 0 → 3 * (64 - f) + wake ≤ left → 3 * (63 - d) + (3 - asked) + wake ≤ left
-          count wake d asked low small none enough = omega (arith, low, small, none, enough)
-      go None at none before within =
-          first_by start t o (waking t.course) gs left calm is at tt (
-            surveys,
-            asked,
-            record {
-              stage_is = opened;
-              settled = settled;
-              clear = clear;
-              gear = λ k in_row on. tt;
-              tabled = below_all start.gear t.kept.enrolled gs same
-                  (below_named f 64 start.gear t.kept.enrolled gs one holds tabled
-                  (λ c past under. unasked_enrolled t.kept c (none refl c past (omega (arith, under, few)))));
-              frames = count (wake_frames start gs) enough;
-            },
-          )
-        where
-          count : (wake : ℕ) → 3 * (64 - f) + wake ≤ left → wake ≤ left + 0
-          count wake enough = omega (arith, enough)
-
--- ---------------------------------------------------------------- the search that goes up
-
-no_surplus : (rest after left : ℕ) → rest + after ≤ left → rest + 0 + after ≤ left + 5 * 0
-no_surplus rest after left enough = omega (arith, enough)
-
-pub hunts_by : (start : Begun) (t : Machine) (o : Order) (cs : Course) (y : Way) (rest : ℕ) (gs : List Gear) (left : ℕ) → Calm t → o ≡ beginning (next_course t)
-    → next_course t ≡ hunting cs → cs.way ≡ y → (y ≡ Fresh → ⊥) → t.opened ≡ true → (start.any ≡ false → IsOwn t.kept t.heard)
-    → (start.any ≡ false → IsSettled t.kept) → Rises false stage.Free cs.ascent (sought (asked_next cs.ascent)) (searched_by y gs) rest
-    → AreTabled (unseen start.gear) t.kept.enrolled (searched_by y gs) → rest + frames_after y start gs ≤ left → IsNext start (machine_ordered t o) o gs left
-hunts_by start t o cs y rest gs left calm is next way other opened own settled rises tabled frames =
-    first_by start t o (hunting cs) gs left calm is next tt
-    (subst (λ z. Hunts false Hunting z stage.Free t.kept t.heard t.opened cs.ascent (sought (asked_next cs.ascent)) start gs left) (sym way)
-    (record {
-      way = other;
-      opened_is = opened;
-      own = own;
-      settled = settled;
-      rest = rest;
-      at = (refl, rises);
-      tabled = tabled;
-      behind = 0;
-      behind_is = refl;
-      frames = no_surplus rest (frames_after y start gs) left frames;
-    }))
-
--- behind an opening or a wake it begins
-first_way : (y : Way) (c : Course) → (y ≡ Fresh → ⊥) → searching_first y c ≡ hunting_first c
-first_way Fresh c other = absurd (other refl)
-first_way Surveying c other = refl
-first_way Drawing c other = refl
-
-pub hunts_first : (start : Begun) (t : Machine) (o : Order) (y : Way) (rest : ℕ) (gs : List Gear) (left : ℕ) → Calm t → o ≡ beginning (next_course t)
-    → next_course t ≡ searching_first t.course.way t.course → t.course.way ≡ y → (y ≡ Fresh → ⊥) → t.opened ≡ true
-    → (start.any ≡ false → IsOwn t.kept t.heard) → (start.any ≡ false → IsSettled t.kept) → IsOpened (searched_by y gs) → NoneNamed (searched_by y gs)
-    → AreTabled (unseen start.gear) t.kept.enrolled (searched_by y gs)
-    → 106 * count_by is_wanted (searched_by y gs) + 10 ≤ rest → rest + frames_after y start gs ≤ left → IsNext start (machine_ordered t o) o gs left
-hunts_first start t o y rest gs left calm is next way other opened own settled ready unnamed tabled enough frames =
-    hunts_by start t o (record t.course { ascent = ascent_at_first; from = 64 }) y rest gs left calm is
-    (next ∙ ap (λ z. searching_first z t.course) way ∙ first_way y t.course other) way other opened own settled
-    (rises_first (searched_by y gs) rest ready unnamed enough) tabled frames
-
--- and it goes on above who was found
-on_way : (y : Way) (c : Course) → (y ≡ Fresh → ⊥) → searching_on y c ≡ hunting_on c
-on_way Fresh c other = absurd (other refl)
-on_way Surveying c other = refl
-on_way Drawing c other = refl
-
-pub hunts_on : (start : Begun) (t : Machine) (o : Order) (r rest : ℕ) (gs : List Gear) (left : ℕ) → Calm t → o ≡ beginning (next_course t)
-    → next_course t ≡ goes_on_to t → (t.course.way ≡ Fresh → ⊥) → t.opened ≡ true → (start.any ≡ false → IsOwn t.kept t.heard)
-    → (start.any ≡ false → IsSettled t.kept) → Above t.course.ascent r (searched_by t.course.way gs) → IsOpened (searched_by t.course.way gs)
-    → NoneNamed (searched_by t.course.way gs) → AreTabled (unseen start.gear) t.kept.enrolled (searched_by t.course.way gs)
-    → 106 * count_by is_wanted (searched_by t.course.way gs) + 32 ≤ rest → rest + frames_after t.course.way start gs ≤ left
-    → IsNext start (machine_ordered t o) o gs left
-hunts_on start t o r rest gs left calm is next other opened own settled up ready unnamed tabled enough frames =
-    hunts_by start t o (record t.course { ascent = above t.course.ascent r }) t.course.way rest gs left calm is
-    (next ∙ ap (λ b. going_on t.kept b t.course) opened ∙ on_way t.course.way t.course other
-    ∙ ap (λ x. hunting (record t.course { ascent = gone_on_from x t.course.ascent })) up.reached) refl other opened own settled
-    (rises_above t.course.ascent r (searched_by t.course.way gs) rest up.is up.drawn up.past ready unnamed enough) tabled frames
 
 -- ---------------------------------------------------------------- what is reserved stays nobody else's
 
@@ -444,20 +337,21 @@ own_reserved k heard a r own is c q has = go (has_cases k.reserved (a, r) (c, q)
       let two : r ≡ q = ap (λ (x : Assignment). x.1) same in
       subst (λ n. is_anothers k heard n q ≡ false) one (subst (λ n. is_anothers k heard a n ≡ false) two (open_own k heard a r is))
 
-pub own_settled : (k : Kept) (heard : Shorts) → IsMap k.enrolled → IsSettled k → IsClear k heard → IsOwn k heard
-own_settled k heard map settled clear c q has =
+-- settled records are told by the gear, one for each address
+pub own_settled : (k : Kept) (heard : Shorts) (gs : List Gear) → OneShort gs → IsTrue k.enrolled gs → IsSettled k → IsClear k heard → IsOwn k heard
+own_settled k heard gs one holds settled clear c q has =
     not_both (has_short heard c) (is_another q (number_at k.enrolled c)) (clear c q has)
     (go (number_at k.enrolled c) (found_number k.enrolled c)) where
-      entry : Has k.enrolled (c, q)
-      entry = settled (c, q) has
-
       same : (m n : ℕ) → m ≡ n → not (m == n) ≡ false
       same m n e = grind (arith, nat_tests, e)
 
       go : (o : Option ℕ) → MatchOption o (HasAddress k.enrolled c → ⊥) (λ n. Has k.enrolled (c, n)) → is_another q o ≡ false
       go None none = refl
       go (Some n) there =
-          same n q (ap (λ (x : Assignment). x.1) (same_member (λ (x : Assignment). x.0) k.enrolled (c, n) (c, q) map.address_once there entry refl))
+          let first = holds c n there in
+          let second = holds c q (settled (c, q) has) in
+          let at : first.0 ≡ second.0 = one first.0 second.0 c first.1 second.1 first.2 second.2 in
+          same n q (sym first.3 ∙ ap (λ i. (gear_of gs i).random) at ∙ second.3)
 
 -- ---------------------------------------------------------------- where none is open, all are taken
 
@@ -489,3 +383,205 @@ pub all_taken : (k : Kept) (heard : Shorts) → least_open k heard ≡ None → 
 all_taken k heard none a within =
     taken_at k heard a (none_open k heard (k.block.last + 1 - k.block.first) k.block.first none a within.0
     (let low : k.block.first ≤ a = within.0 in let high : a ≤ k.block.last = within.1 in omega (arith, low, high)))
+
+-- ---------------------------------------------------------------- how many frames follow
+
+pub hunted_some : (n lost : ℕ) → 0 < n → hunted_after n lost ≡ called_after lost
+hunted_some zero lost some = absurd (omega (arith, some))
+hunted_some (suc n) lost some = refl
+
+called_most : (lost : ℕ) → called_after lost ≤ 106 * lost + 49
+called_most zero = omega arith
+called_most (suc lost) = omega arith
+
+hunted_most : (n lost : ℕ) → hunted_after n lost ≤ 106 * lost + 49
+hunted_most zero lost = omega arith
+hunted_most (suc n) lost = called_most lost
+
+pub roll_some : (silent : Bool) (drawn lost : ℕ) → 0 < drawn + lost → roll_frames silent drawn lost ≡ 106 * drawn + 17 + hunted_after drawn lost
+roll_some silent drawn lost some =
+    ap (λ b. if b then (if silent then 9 else 17) else 106 * drawn + 17 + hunted_after drawn lost) (not_zero (drawn + lost) some) where
+      not_zero : (n : ℕ) → 0 < n → (n == 0) ≡ false
+      not_zero n h = grind (arith, nat_tests, h)
+
+pub roll_none : (silent : Bool) (drawn lost : ℕ) → drawn + lost ≡ 0 → roll_frames silent drawn lost ≡ (if silent then 9 else 17)
+roll_none silent drawn lost none =
+    ap (λ b. if b then (if silent then 9 else 17) else 106 * drawn + 17 + hunted_after drawn lost) (is_zero (drawn + lost) none) where
+      is_zero : (n : ℕ) → n ≡ 0 → (n == 0) ≡ true
+      is_zero n h = grind (arith, nat_tests, h)
+
+roll_most : (silent : Bool) (drawn lost bare : ℕ) → bare ≡ drawn + lost → roll_frames silent drawn lost ≤ 106 * bare + 66
+roll_most silent drawn lost bare split = go (drawn + lost) refl where
+  ends : (b : Bool) → (if b then 9 else 17) ≤ 17
+  ends true = omega arith
+  ends false = omega arith
+
+  go : (n : ℕ) → drawn + lost ≡ n → roll_frames silent drawn lost ≤ 106 * bare + 66
+  go zero is = let last = ends silent in rw (roll_none silent drawn lost is) (omega (arith, last))
+  go (suc n) is =
+      let most = hunted_most drawn lost in
+      rw (roll_some silent drawn lost (omega (arith, is))) (omega (arith, most, split))
+
+-- nobody is lost, or those that never drew follow
+pub called_roll : (drawn lost : ℕ) → drawn ≡ 0 → roll_frames false drawn lost ≡ called_after lost + 1
+called_roll drawn zero none = roll_none false drawn zero (omega (arith, none))
+called_roll drawn (suc lost) none =
+    roll_some false drawn (suc lost) (omega arith) ∙ go drawn none where
+      go : (n : ℕ) → n ≡ 0 → 106 * n + 17 + hunted_after n (suc lost) ≡ called_after (suc lost) + 1
+      go zero is = omega arith
+      go (suc n) is = absurd (omega (arith, is))
+
+-- ---------------------------------------------------------------- the next short address, or the roll call
+
+pub asked_none : (opened : Bool) (n : ℕ) → n ≡ 0 → asked_by opened n ≡ 0
+asked_none true n none = refl
+asked_none false n none = none
+
+asked_within : (k : Kept) (n from c : ℕ) → asked_among k n from ≡ Some c → (from ≤ c) × (c < from + n)
+asked_within k zero from c e = absurd (cc)
+asked_within k (suc n) from c e = go (is_asked k from) e (asked_within k n (from + 1) c) where
+  go : (b : Bool) → (if b then Some from else asked_among k n (from + 1)) ≡ Some c
+      → (asked_among k n (from + 1) ≡ Some c → (from + 1 ≤ c) × (c < from + 1 + n)) → (from ≤ c) × (c < from + suc n)
+  go true e more = let same : from ≡ c = cc in (omega (arith, same), omega (arith, same))
+  go false e more = let there = more e in let low : from + 1 ≤ c = there.0 in let high : c < from + 1 + n = there.1 in (omega (arith, low), omega (arith, high))
+
+pub asks_on : (start : Begun) (t : Machine) (o : Order) (f : ℕ) (gs : List Gear) (left : ℕ) → Calm t → o ≡ beginning (next_course t)
+    → next_course t ≡ goes_on_to t → IsUncalled t.course → t.asked ≡ 0 → t.course.from ≡ f → f ≤ 64
+    → (start.any ≡ false → IsSettled t.kept)
+    → (start.any ≡ false → IsClear t.kept t.heard) → OneShort gs → IsTrue t.kept.enrolled gs → SameCore start.gear gs
+    → TabledBelow f start.gear t.kept.enrolled gs
+    → 3 * (64 - f) + survey_frames start gs ≤ left → IsNext start (machine_ordered t o) o gs left
+asks_on start t o f gs left calm is next uncalled asked from few settled clear one holds same tabled enough =
+    go (next_asked t.kept f) course (asked_later t.kept (64 - f) f) (asked_before t.kept (64 - f) f) (asked_within t.kept (64 - f) f) where
+      course : next_course t ≡ ask_or_call t.course (next_asked t.kept f)
+      course =
+          next ∙ ap (λ b. going_on t.kept b t.course) uncalled.unopened ∙ ap (λ y. going_on_early t.kept y t.course) calm.smooth.way
+          ∙ ap (λ n. ask_or_call t.course (next_asked t.kept n)) from
+
+      go : (p : Option ℕ) → next_course t ≡ ask_or_call t.course p
+          → (p ≡ None → (c : ℕ) → f ≤ c → c < f + (64 - f) → is_asked t.kept c ≡ false)
+          → ((d : ℕ) → p ≡ Some d → (c : ℕ) → f ≤ c → c < d → is_asked t.kept c ≡ false)
+          → ((d : ℕ) → p ≡ Some d → (f ≤ d) × (d < f + (64 - f))) → IsNext start (machine_ordered t o) o gs left
+      go (Some d) at none before within =
+          let there = within d refl in
+          let low : f ≤ d = there.0 in
+          let high : d < f + (64 - f) = there.1 in
+          let small : d < 64 = omega (arith, high, few) in
+          let unasked : asked_by t.course.opened t.asked ≡ 0 = asked_none t.course.opened t.asked asked in
+          first_by start t o (asking t.course d) gs left calm is at (smooth_as t.course (asking t.course d) refl refl calm.smooth) small (
+            record { unopened = uncalled.unopened; undrawn = uncalled.undrawn; loud = uncalled.loud },
+            record {
+              small = small;
+              from_is = refl;
+              settled = settled;
+              clear = clear;
+              same = same;
+              stage_is = inl unasked;
+              tabled = below_named f d start.gear t.kept.enrolled gs one holds tabled
+                  (λ c past under. unasked_enrolled t.kept c (before d refl c past under));
+              frames = count (survey_frames start gs) d (asked_by t.course.opened t.asked) low small unasked enough;
+            },
+          )
+        where
+          count : (rest d asked : ℕ) → f ≤ d → d < 64 → asked ≡ 0 → 3 * (64 - f) + rest ≤ left → 3 * (63 - d) + (3 - asked) + rest ≤ left
+          count rest d asked low small none enough = omega (arith, low, small, none, enough)
+      go None at none before within =
+          first_by start t o (calling_first t.course) gs left calm is at (smooth_as t.course (calling_first t.course) refl refl calm.smooth) tt
+          (record {
+            opened_is = refl;
+            number = refl;
+            stage_is = tt;
+            quiet = λ silent. absurd (let both : true ≡ false = sym silent ∙ uncalled.loud in cc);
+            first = λ some. uncalled.undrawn;
+            own = λ e. own_settled t.kept t.heard gs one holds (settled e) (clear e);
+            settled = settled;
+            gear = λ k in_row on. tt;
+            low = tt;
+            tabled = below_all start.gear t.kept.enrolled gs same
+                (below_named f 64 start.gear t.kept.enrolled gs one holds tabled
+                (λ c past under. unasked_enrolled t.kept c (none refl c past (omega (arith, under, few)))));
+            frames = count (roll_frames t.course.tally.is_silent (count_by is_bare (those_drawn gs)) (count_by is_lost gs)) (count_by is_bare gs)
+                (spare start.any 0) (spare start.any t.course.tally.draws)
+                (roll_most t.course.tally.is_silent (count_by is_bare (those_drawn gs)) (count_by is_lost gs) (count_by is_bare gs) (bare_split gs))
+                (ap (spare start.any) uncalled.undrawn) enough;
+          })
+        where
+          count : (roll bare some now : ℕ) → roll ≤ 106 * bare + 66 → now ≡ some → 3 * (64 - f) + (106 * bare + 66 + some) ≤ left → roll + now ≤ left + 0
+          count roll bare some now most same enough = omega (arith, most, same, enough)
+
+-- ---------------------------------------------------------------- the search that goes up
+
+no_surplus : (rest after left : ℕ) → rest + after ≤ left → rest + 0 + after ≤ left + 5 * 0
+no_surplus rest after left enough = omega (arith, enough)
+
+pub hunts_by : (start : Begun) (t : Machine) (o : Order) (cs : Course) (rest : ℕ) (gs : List Gear) (left : ℕ) → Calm t → o ≡ beginning (next_course t)
+    → next_course t ≡ hunting cs → IsSmooth cs → IsHunted cs gs → IsCalledFor Hunting cs.ascent gs → (start.any ≡ false → IsOwn t.kept t.heard)
+    → (start.any ≡ false → IsSettled t.kept) → Rises false stage.Free cs.ascent (sought (asked_next cs.ascent)) (those_drawn gs) rest
+    → AreTabled (unseen start.gear) t.kept.enrolled (those_drawn gs)
+    → rest + (frames_after Hunting cs.ascent gs + spare start.any cs.tally.draws) ≤ left → IsNext start (machine_ordered t o) o gs left
+hunts_by start t o cs rest gs left calm is next smooth hunted called own settled rises tabled frames =
+    first_by start t o (hunting cs) gs left calm is next (smooth_as cs (hunting cs) refl refl smooth) tt
+    (record {
+      opened_is = hunted.opened;
+      loud = hunted.loud;
+      first = hunted.first;
+      called = called;
+      low = hunted.low;
+      own = own;
+      settled = settled;
+      rest = rest;
+      at = rises;
+      tabled = tabled;
+      behind = 0;
+      behind_is = refl;
+      frames = no_surplus rest (frames_after Hunting cs.ascent gs + spare start.any cs.tally.draws) left frames;
+    })
+
+-- from the least number on
+pub hunts_first : (start : Begun) (t : Machine) (o : Order) (cs : Course) (gs : List Gear) (left : ℕ) → Calm t → o ≡ beginning (next_course t)
+    → next_course t ≡ hunting_first cs → IsSmooth cs → IsHunted cs gs → 0 < count_by is_bare gs
+    → (start.any ≡ false → IsOwn t.kept t.heard) → (start.any ≡ false → IsSettled t.kept) → IsOpened (those_drawn gs) → NoneNamed (those_drawn gs)
+    → AreTabled (unseen start.gear) t.kept.enrolled (those_drawn gs)
+    → 106 * count_by is_wanted (those_drawn gs) + 10
+    + (hunted_after (count_by is_wanted (those_drawn gs)) (count_by is_lost gs) + spare start.any cs.tally.draws) ≤ left
+    → IsNext start (machine_ordered t o) o gs left
+hunts_first start t o cs gs left calm is next smooth hunted some own settled ready unnamed tabled frames =
+    hunts_by start t o (record cs { ascent = ascent_at_first }) (106 * count_by is_wanted (those_drawn gs) + 10) gs left calm is next
+    (smooth_as cs (record cs { ascent = ascent_at_first }) refl refl smooth)
+    (record { opened = hunted.opened; loud = hunted.loud; first = hunted.first; low = hunted.low }) (λ none. some) own settled
+    (rises_first (those_drawn gs) (106 * count_by is_wanted (those_drawn gs) + 10) ready unnamed (omega arith)) tabled
+    (subst (λ n. 106 * count_by is_wanted (those_drawn gs) + 10 + (hunted_after n (count_by is_lost gs) + spare start.any cs.tally.draws) ≤ left)
+    (no_more (count_by is_wanted (those_drawn gs))) frames)
+  where
+    no_more : (n : ℕ) → n ≡ 0 + n
+    no_more n = omega arith
+
+-- and above who was found
+pub hunts_on : (start : Begun) (t : Machine) (o : Order) (r : ℕ) (gs : List Gear) (left : ℕ) → Calm t → o ≡ beginning (next_course t)
+    → next_course t ≡ goes_on_to t → IsHunted t.course gs → (start.any ≡ false → IsOwn t.kept t.heard)
+    → (start.any ≡ false → IsSettled t.kept) → Above t.course.ascent r (those_drawn gs) → IsOpened (those_drawn gs)
+    → NoneNamed (those_drawn gs) → AreTabled (unseen start.gear) t.kept.enrolled (those_drawn gs)
+    → 106 * count_by is_wanted (those_drawn gs) + 32 + (called_after (count_by is_lost gs) + spare start.any t.course.tally.draws) ≤ left
+    → IsNext start (machine_ordered t o) o gs left
+hunts_on start t o r gs left calm is next hunted own settled up ready unnamed tabled frames =
+    hunts_by start t o served_above (106 * count_by is_wanted (those_drawn gs) + 32) gs left calm is
+    (next ∙ ap (λ b. going_on t.kept b t.course) hunted.opened ∙ ap (λ y. searching_on y t.course) calm.smooth.way
+    ∙ ap (λ x. hunting (record t.course { tally = served t.course.tally; ascent = gone_on_from x t.course.ascent })) up.reached)
+    (record { way = calm.smooth.way; passed = refl; unmissed = calm.smooth.unmissed })
+    (record { opened = hunted.opened; loud = hunted.loud; first = hunted.first; low = hunted.low })
+    (λ none. absurd (let some : 0 < (above t.course.ascent r).found = found in omega (arith, some, none))) own settled
+    (rises_above t.course.ascent r (those_drawn gs) (106 * count_by is_wanted (those_drawn gs) + 32) up.is up.drawn up.past ready unnamed (omega arith)) tabled
+    (subst (λ n. 106 * count_by is_wanted (those_drawn gs) + 32 + (n + spare start.any t.course.tally.draws) ≤ left)
+    (sym (hunted_some ((above t.course.ascent r).found + count_by is_wanted (those_drawn gs)) (count_by is_lost gs)
+    (more (above t.course.ascent r).found (count_by is_wanted (those_drawn gs)) found))) frames)
+  where
+    served_above : Course
+    served_above = record t.course { tally = served t.course.tally; ascent = above t.course.ascent r }
+
+    found : 0 < (above t.course.ascent r).found
+    found = one t.course.ascent.found where
+      one : (n : ℕ) → 0 < min (n + 1) 255
+      one n = omega arith
+
+    more : (m n : ℕ) → 0 < m → 0 < m + n
+    more m n some = omega (arith, some)

@@ -6,10 +6,9 @@ use Rattle.dali_frame.specs.declared.frames.Answer.TheVariants.{Silence, Byte, D
 use Rattle.dali_frame.specs.declared.numbers.SearchAddress.{SearchAddress}
 use Rattle.dali_frame.specs.Random.{value_of}
 use Rattle.dali_special.specs.declared.command.Command.{Command}
-use Rattle.dali_special.specs.declared.command.Command.TheVariants.{Initialise, Withdraw, SearchHigh, SearchMiddle, SearchLow, Randomise, QueryShort}
+use Rattle.dali_special.specs.declared.command.Command.TheVariants.{Withdraw, SearchHigh, SearchMiddle, SearchLow, QueryShort}
 use Rattle.dali_frame.specs.Short.{short_of}
 use Rattle.dali_special.specs.Command.{MASK}
-use Rattle.dali_special.specs.declared.command.Target.TheVariants.{Unaddressed}
 use Rattle.dali_gear.specs.declared.row.Reach.TheVariants.{Everyone}
 use Rattle.dali_gear.specs.Gear.{Gear}
 use Rattle.dali_gear.specs.Row.{row_after}
@@ -19,22 +18,21 @@ use Rattle.dali_script.specs.declared.stage.Stage.TheVariants as stage
 use Rattle.dali_script.specs.Stages.{next_stage, queried, named, verified, answered}
 use Rattle.dali_search.specs.Ascending.{Ascent}
 use Rattle.dali_controller.specs.declared.purpose.Purpose.{Purpose}
-use Rattle.dali_controller.specs.declared.purpose.Purpose.TheVariants.{Opening, Visiting, Hunting}
-use Rattle.dali_events.specs.Wanted.{wants, is_wanted, is_bare}
+use Rattle.dali_controller.specs.declared.purpose.Purpose.TheVariants.{Visiting, Hunting}
+use Rattle.dali_events.specs.Wanted.{wants, is_wanted}
 use Rattle.dali_events.proofs.Search.Programming as programming
 use Rattle.dali_events.proofs.Search.Withdrawing as withdrawing
 use Rattle.dali_events.proofs.Search.Leaving as leaving
 use Rattle.dali_events.proofs.Search.Leaving.{SameCore, LeavesShort}
-use Rattle.dali_progress.proofs.Stands.{search_frames, Opens, VisitFrames, VisitsAt, Sends}
+use Rattle.dali_progress.proofs.Stands.{search_frames, VisitFrames, VisitsAt, Sends}
 use Rattle.dali_progress.proofs.Frames.{Seeks}
-use Rattle.dali_progress.proofs.Survey.Stands.{opened_at, IsBehind, IsLeastAt, IsReached, HuntAt}
+use Rattle.dali_progress.proofs.Survey.Stands.{IsBehind, IsLeastAt, IsReached, HuntAt}
 
 -- THE GEAR THAT IS VISITED is the least that is wanted; and how many gear are behind: that are counted with more frames than
 -- the search needs for them.
 
 -- of which transactions this is said
 abbrev pub IsHunt : Purpose → Type 0
-IsHunt Opening = Unit {0}
 IsHunt Hunting = Unit {0}
 IsHunt Visiting = Unit {0}
 IsHunt _ = ⊥
@@ -142,25 +140,12 @@ visit_behind (stage.Confirmed r a) k n gs numbers left l behind c h less v is se
 visit_behind (stage.Withdrawn r a) k n gs numbers left l behind c h less v is seek count = absurd (cc)
 visit_behind _ k n gs numbers left l behind c h less v is seek count = absurd v.stage_is
 
--- an opening gives no short address
-opening_leaves : (s : Stage) (k : Kept) (opened : Bool) (n : SearchAddress) (gs : List Gear) (left : ℕ) (c : Command) → Opens s opened gs left
-    → Sends Opening n k s c → LeavesShort c
-opening_leaves stage.Free k opened n gs left c o is = subst LeavesShort (sym is) tt
-opening_leaves stage.Terminated k opened n gs left c o is = subst LeavesShort (some_is (Initialise Unaddressed) c is) tt
-opening_leaves stage.InitialisedOnce k opened n gs left c o is = subst LeavesShort (some_is (Initialise Unaddressed) c is) tt
-opening_leaves stage.Initialised k opened n gs left c o is = subst LeavesShort (some_is Randomise c is) tt
-opening_leaves stage.RandomisedOnce k opened n gs left c o is = subst LeavesShort (some_is Randomise c is) tt
-opening_leaves stage.Opened k opened n gs left c o is = absurd (cc)
-opening_leaves _ k opened n gs left c o is = absurd o.stage_is
-
 pub behind_sent : (p : Purpose) (s : Stage) (k : Kept) (x : Ascent) (n : SearchAddress) (gs : List Gear) (numbers : List ℕ) (left l behind : ℕ) (c : Command)
-    (h : Answer) → IsHunt p → left ≡ suc l → HuntAt false p s k (opened_at p s) x n gs left → Sends p n k s c → Seeks s gs → IsBehind p s behind gs left
+    (h : Answer) → IsHunt p → left ≡ suc l → HuntAt false p s k x n gs left → Sends p n k s c → Seeks s gs → IsBehind p s behind gs left
     → IsBehind p (next_stage s c h) behind (row_after Everyone c 0 gs numbers) l
-behind_sent Opening s k x n gs numbers left l behind c h hunt less at is seek count =
-    count ∙ sym (leaving.count_bare_after c gs numbers (opening_leaves s k (opened_at Opening s) n gs left c at is))
 behind_sent Hunting s k x n gs numbers left l behind c h hunt less at is seek count = count
 behind_sent Visiting s k x n gs numbers left l behind c h hunt less at is seek count =
-    visit_behind s k n gs numbers left l behind c h less at.1 is seek count
+    visit_behind s k n gs numbers left l behind c h less at.0 is seek count
 behind_sent _ s k x n gs numbers left l behind c h hunt less at is seek count = absurd hunt
 
 -- and more frames are left than it is behind
@@ -186,24 +171,8 @@ visit_deep (stage.Confirmed r a) k n gs left behind v count =
 visit_deep (stage.Withdrawn r a) k n gs left behind v count = let enough : search_frames behind ≤ left = count.1 in omega (arith, enough)
 visit_deep _ k n gs left behind v count = absurd v.stage_is
 
-opening_deep : (s : Stage) (opened : Bool) (gs : List Gear) (left behind : ℕ) → Opens s opened gs left → behind ≡ count_by is_bare gs → 5 * behind < left
-opening_deep stage.Free opened gs left behind o count = let enough : 5 + search_frames (count_by is_bare gs) ≤ left + 0 =
-    o.frames in omega (arith, count, enough)
-opening_deep stage.Terminated opened gs left behind o count =
-    let enough : 5 + search_frames (count_by is_bare gs) ≤ left + 1 = o.frames in omega (arith, count, enough)
-opening_deep stage.InitialisedOnce opened gs left behind o count =
-    let enough : 5 + search_frames (count_by is_bare gs) ≤ left + 2 = o.frames in omega (arith, count, enough)
-opening_deep stage.Initialised opened gs left behind o count =
-    let enough : 5 + search_frames (count_by is_bare gs) ≤ left + 3 = o.frames in omega (arith, count, enough)
-opening_deep stage.RandomisedOnce opened gs left behind o count =
-    let enough : 5 + search_frames (count_by is_bare gs) ≤ left + 4 = o.frames in omega (arith, count, enough)
-opening_deep stage.Opened opened gs left behind o count =
-    let enough : 5 + search_frames (count_by is_bare gs) ≤ left + 5 = o.frames in omega (arith, count, enough)
-opening_deep _ opened gs left behind o count = absurd o.stage_is
-
 pub hunt_deep : (p : Purpose) (s : Stage) (k : Kept) (x : Ascent) (n : SearchAddress) (gs : List Gear) (left l behind : ℕ) → IsHunt p → left ≡ suc l
-    → HuntAt false p s k (opened_at p s) x n gs left → IsBehind p s behind gs left → 5 * behind < left
-hunt_deep Opening s k x n gs left l behind hunt less at count = opening_deep s (opened_at Opening s) gs left behind at count
+    → HuntAt false p s k x n gs left → IsBehind p s behind gs left → 5 * behind < left
 hunt_deep Hunting s k x n gs left l behind hunt less at count = omega (arith, less, count)
-hunt_deep Visiting s k x n gs left l behind hunt less at count = visit_deep s k n gs left behind at.1 count
+hunt_deep Visiting s k x n gs left l behind hunt less at count = visit_deep s k n gs left behind at.0 count
 hunt_deep _ s k x n gs left l behind hunt less at count = absurd hunt

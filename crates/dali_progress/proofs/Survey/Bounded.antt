@@ -74,7 +74,7 @@ argument start = record {
 }
 
 -- THE START
-pub starts : (any : Bool) (s : SiteState) (c left : ℕ) → 106 * bare s + 219 + spare any ≤ left → IsAlone s c → (any ≡ false → IsSettledAt s c)
+pub starts : (any : Bool) (s : SiteState) (c left : ℕ) → 106 * bare s + 258 + spare any 0 ≤ left → IsAlone s c → (any ≡ false → IsSettledAt s c)
     → Runs (of_survey (began_at any s)) s c left
 starts any s c left enough a settled = record {
   run = a.run;
@@ -90,7 +90,8 @@ starts any s c left enough a settled = record {
     };
     known = rw a.told refl;
     holds = rw (a.last, a.told) (record {
-      calm = record { tries = refl; silent = refl };
+      tries = refl;
+      silent = refl;
       free = refl;
       settled = settled;
       unmarked = λ b. ap (λ n. n == 1) (bit_at-zero b);

@@ -23,7 +23,7 @@ use Rattle.dali_events.proofs.Search.Wanted.{both_pass, same_number, number_same
 use Rattle.dali_events.proofs.Search.Opened.{AreOpening, OpenedBy}
 use Rattle.dali_progress.specs.Ends.{AreTabled}
 
--- A SEARCH UNDER THE OLD NUMBERS sees the gear that drew one. Gear without short address whose number is FFFFFF are left out of the row,
+-- A HUNT sees the gear that drew a number. Gear without short address whose number is FFFFFF are left out of the row,
 -- as gear without power would be; so what is known of a search after an opening is known of this one.
 abbrev pub is_undrawn : Gear → Bool
 is_undrawn g = (g.random == MASK24) && not (is_some g.short)
@@ -103,10 +103,6 @@ IsSearching _ = ⊥
 -- one that is left out neither answers nor stores an address
 abbrev pub Still : Command → Gear → Type 0
 Still c g = is_undrawn g ≡ true → g.powered ≡ true → (short_after c g ≡ None) × (answer c g ≡ None)
-
-both_false : (b : Bool) → (b && false) ≡ false
-both_false true = refl
-both_false false = refl
 
 given_undrawn : (g : Gear) (o : Option ℕ) (b : Bool) → is_undrawn g ≡ b → (b ≡ true → o ≡ None) → (b ≡ false → (g.random == MASK24) ≡ true → is_some o ≡ true)
     → ((g.random == MASK24) && not (is_some o)) ≡ b
@@ -301,7 +297,7 @@ still_of gs _ is i h = absurd is
 abbrev pub is_lost : Gear → Bool
 is_lost g = g.powered && is_undrawn g
 
-count_first : (p : Gear → Bool) (g : Gear) (gs : List Gear) → count_by p (g ∷ gs) ≡ (if p g then 1 else 0) + count_by p gs
+pub count_first : (p : Gear → Bool) (g : Gear) (gs : List Gear) → count_by p (g ∷ gs) ≡ (if p g then 1 else 0) + count_by p gs
 count_first p g gs = sum_by-cons (λ x. if p x then 1 else 0) g gs
 
 bare_left : (b : Bool) (g : Gear) → is_bare (drop_one b g) ≡ (not b && is_bare g)
@@ -383,7 +379,7 @@ apart_drawn w drawn opened j k h i on up live awake same =
             absurd (let small : (gear_of (those_drawn w.gear) g).random < MASK24 = opened.drawn g there on active in omega (arith, none, random, small))
         go (inr has) = subst (λ n. Has w.drawn (g, n)) (sym random) has
 
-woken_short : (g : Gear) → OpenedBy g → is_active g.state ≡ true → g.short ≡ None
+pub woken_short : (g : Gear) → OpenedBy g → is_active g.state ≡ true → g.short ≡ None
 woken_short g opened active = go g.short refl where
   go : (o : Option ℕ) → g.short ≡ o → g.short ≡ None
   go None e = e

@@ -10,8 +10,6 @@ use Rattle.dali_gear.specs.Gear.{Gear}
 use Rattle.dali_gear.specs.Row.{row_after, answers_of, heard_of}
 use Rattle.dali_controller.specs.declared.shorts.Shorts.{Shorts}
 use Rattle.dali_script.specs.Records.{Kept, Assignment, Has, IsKept}
-use Rattle.dali_search.specs.Ascending.{Ascent}
-use Rattle.dali_frame.specs.declared.numbers.SearchAddress.{SearchAddress}
 use Rattle.dali_arbiter.specs.Arbiter.{next}
 use Rattle.dali_script.specs.declared.finding.Finding.{Finding}
 use Rattle.dali_script.specs.declared.records.Record.{Record}
@@ -29,10 +27,10 @@ use Rattle.dali_script.specs.declared.orders.Input.TheVariants as input
 use Rattle.dali_script.specs.declared.orders.Order.{Order}
 use Rattle.dali_script.specs.declared.orders.Order.TheVariants.{Put, Commit, Done, Halt}
 use Rattle.dali_controller.specs.declared.purpose.Purpose.{Purpose}
-use Rattle.dali_controller.specs.declared.purpose.Purpose.TheVariants.{Opening, Probing, Hunting, Visiting, Resolving, Closing, Asking, Waking}
-use Rattle.dali_controller.specs.declared.way.Way.{Way}
+use Rattle.dali_controller.specs.declared.purpose.Purpose.TheVariants.{Opening, Probing, Hunting, Visiting, Resolving, Closing, Asking, Calling, Drawing}
+use Rattle.dali_controller.specs.declared.purpose.Purpose.TheVariants.{PassingOver}
+use Rattle.dali_controller.specs.Course.{Course}
 use Rattle.dali_controller.specs.Machine.{Machine, machine_heard, machine_committed, machine_surveying, machine_told, silent_after, heard_after, asked_after}
-use Rattle.dali_controller.specs.Machine.{opened_after, woken_after}
 use Rattle.dali_controller.specs.Next.{next_course, begins_at, at_rest, beginning}
 use Rattle.dali_controller.specs.Orders.{Contradicts, machine_ordered, machine_after}
 use Rattle.dali_controller.specs.Whole.{IsWhole}
@@ -54,11 +52,12 @@ use Rattle.dali_progress.proofs.Frames.{Seeks}
 use Rattle.dali_progress.proofs.Both.{never_eight, with_kept, not_free, no_tries, addresses_by, put_no_enrolment, IsKnown, taken_of}
 use Rattle.dali_progress.proofs.Survey.Drawn.{AreNumbered, apart_drawn}
 use Rattle.dali_progress.proofs.Survey.Queried.{OneShort, IsTrue, below_none}
-use Rattle.dali_progress.proofs.Survey.Stands.{Begun, wake_frames, SurveyAt, SurveyStands}
-use Rattle.dali_progress.proofs.Survey.Sent.{IsSurveyTaken, IsTold, SurveySent, survey_sent}
+use Rattle.dali_progress.proofs.Survey.Stands.{Begun, survey_frames, SurveyAt, SurveyStands}
+use Rattle.dali_progress.proofs.Survey.Rolls.{IsSurveyTaken}
+use Rattle.dali_progress.proofs.Survey.Sent.{IsTold, SurveySent, survey_sent}
 use Rattle.dali_progress.proofs.Survey.Begins.{Calm, SurveyCommits, IsNext, asks_on}
 use Rattle.dali_progress.proofs.Survey.Turns.{IsUncontradicted}
-use Rattle.dali_progress.proofs.Survey.Hunting.{turned}
+use Rattle.dali_progress.proofs.Survey.Visits.{turned}
 use Rattle.dali_progress.proofs.Survey.Kept.{committed, begins_less, enrol_slack, enrol_one, survey_slack}
 use Rattle.dali_progress.proofs.Along.{Measure, Goes, slack_at}
 
@@ -66,15 +65,16 @@ use Rattle.dali_progress.proofs.Along.{Measure, Goes, slack_at}
 
 -- before the start
 pub record IsUnsurveyed (start : Begun) (m : Machine) (gs : List Gear) (left : ℕ) : Type 0 where
-  pub calm : Calm m
+  pub tries : m.tries ≡ 0
+  pub silent : m.silent ≡ 0
   pub free : m.trace ≡ []
   pub settled : start.any ≡ false → IsSettled m.kept
   pub unmarked : (c : ℕ) → has_short m.heard c ≡ false
-  pub unopened : m.opened ≡ false
+  pub unopened : m.course.opened ≡ false
   pub unasked : m.asked ≡ 0
   pub first : m.course.from ≡ 0
   pub same : SameCore start.gear gs
-  pub frames : 192 + wake_frames start gs ≤ left
+  pub frames : 192 + survey_frames start gs ≤ left
 
 -- a frame was heard: the machine stands so, once it is told
 pub record Hears (start : Begun) (m : Machine) (f : Forward) (h : Answer) (gs : List Gear) (left : ℕ) : Type 0 where
@@ -162,10 +162,15 @@ first_acts : (start : Begun) (m : Machine) (o : Order) (gs : List Gear) (left : 
 first_acts start m o gs left told last g one holds v =
     let at : stage_of m.trace ≡ stage.Free = ap stage_of v.free ∙ stage_none in
     let begins : o ≡ beginning (next_course (machine_surveying m)) =
-    given.begins_free (machine_surveying m) o g v.free (subst IsNoEnrolment (sym last) no_enrolment_yet) (never_eight m.tries v.calm.tries) in (
-      asks_on start (machine_surveying m) o 0 gs left (record { tries = v.calm.tries; silent = v.calm.silent }) begins
-          (ap (begins_at (machine_surveying m)) at ∙ ap (at_rest (machine_surveying m)) last) refl v.unopened v.unasked v.first (omega arith) v.settled
-          (λ e c q has. v.unmarked c) one holds v.same (below_none start.gear m.kept.enrolled gs) (count (wake_frames start gs) v.frames),
+    given.begins_free (machine_surveying m) o g v.free (subst IsNoEnrolment (sym last) no_enrolment_yet) (never_eight m.tries v.tries) in (
+      asks_on start (machine_surveying m) o 0 gs left (record {
+        tries = v.tries;
+        silent = v.silent;
+        smooth = record { way = refl; passed = refl; unmissed = refl };
+      }) begins
+          (ap (begins_at (machine_surveying m)) at ∙ ap (at_rest (machine_surveying m)) last)
+          (record { unopened = v.unopened; undrawn = refl; loud = refl }) v.unasked v.first (omega arith) v.settled
+          (λ e c q has. v.unmarked c) one holds v.same (below_none start.gear m.kept.enrolled gs) (count (survey_frames start gs) v.frames),
       begins_less o (machine_surveying m) start.any 1 begins (omega arith),
     )
   where
@@ -280,37 +285,38 @@ survey_acts start w q c m i o left goes surveys here by whole known promise = (
 -- ---------------------------------------------------------------- its frame is sent
 
 -- no stage on the way is one of a search that led to no gear
-never_silent : (told : Bool) (p : Purpose) (y : Way) (s : Stage) (k : Kept) (heard : Shorts) (opened o : Bool) (asked : ℕ) (x : Ascent) (n : SearchAddress)
-    (from : ℕ)
-    (start : Begun) (gs : List Gear) (left : ℕ)
-    → SurveyAt told p y s k heard opened asked x n from start gs left → silent_after s o 0 ≡ 0
-never_silent told (Asking a) y (stage.Unanswered r) k heard opened o asked x n from start gs left at = absurd at.2.stage_is
-never_silent told (Asking a) y (stage.Inconclusive r other) k heard opened o asked x n from start gs left at = absurd at.2.stage_is
-never_silent told Waking y (stage.Unanswered r) k heard opened o asked x n from start gs left at = absurd at.2.stage_is
-never_silent told Waking y (stage.Inconclusive r other) k heard opened o asked x n from start gs left at = absurd at.2.stage_is
-never_silent told Opening y (stage.Unanswered r) k heard opened o asked x n from start gs left at = absurd at.at.stage_is
-never_silent told Opening y (stage.Inconclusive r other) k heard opened o asked x n from start gs left at = absurd at.at.stage_is
-never_silent told Hunting y (stage.Unanswered r) k heard opened o asked x n from start gs left at = absurd at.at.1.stage_is
-never_silent told Hunting y (stage.Inconclusive r other) k heard opened o asked x n from start gs left at = absurd at.at.1.stage_is
-never_silent told Probing y s k heard opened o asked x n from start gs left at = absurd at
-never_silent told Visiting y (stage.Unanswered r) k heard opened o asked x n from start gs left at = absurd at.at.1.stage_is
-never_silent told Visiting y (stage.Inconclusive r other) k heard opened o asked x n from start gs left at = absurd at.at.1.stage_is
-never_silent told (Closing e) y (stage.Unanswered r) k heard opened o asked x n from start gs left at = absurd at.stage_is
-never_silent told (Closing e) y (stage.Inconclusive r other) k heard opened o asked x n from start gs left at = absurd at.stage_is
-never_silent told (Resolving a) y s k heard opened o asked x n from start gs left at = absurd at
-never_silent told p y _ k heard opened o asked x n from start gs left at = refl
+never_silent : (told : Bool) (p : Purpose) (s : Stage) (k : Kept) (heard : Shorts) (asked : ℕ) (c : Course) (opened : Bool) (start : Begun)
+    (gs : List Gear) (left : ℕ) → SurveyAt told p s k heard asked c start gs left → silent_after s opened 0 ≡ 0
+never_silent told (Asking a) (stage.Unanswered r) k heard asked c opened start gs left at = absurd at.1.stage_is
+never_silent told (Asking a) (stage.Inconclusive r other) k heard asked c opened start gs left at = absurd at.1.stage_is
+never_silent told Calling (stage.Unanswered r) k heard asked c opened start gs left at = absurd at.stage_is
+never_silent told Calling (stage.Inconclusive r other) k heard asked c opened start gs left at = absurd at.stage_is
+never_silent told Opening (stage.Unanswered r) k heard asked c opened start gs left at = absurd at.1.stage_is
+never_silent told Opening (stage.Inconclusive r other) k heard asked c opened start gs left at = absurd at.1.stage_is
+never_silent told Drawing (stage.Unanswered r) k heard asked c opened start gs left at = absurd at.stage_is
+never_silent told Drawing (stage.Inconclusive r other) k heard asked c opened start gs left at = absurd at.stage_is
+never_silent told Hunting (stage.Unanswered r) k heard asked c opened start gs left at = absurd at.at.stage_is
+never_silent told Hunting (stage.Inconclusive r other) k heard asked c opened start gs left at = absurd at.at.stage_is
+never_silent told Visiting (stage.Unanswered r) k heard asked c opened start gs left at = absurd at.at.0.stage_is
+never_silent told Visiting (stage.Inconclusive r other) k heard asked c opened start gs left at = absurd at.at.0.stage_is
+never_silent told (Closing e) (stage.Unanswered r) k heard asked c opened start gs left at = absurd at.stage_is
+never_silent told (Closing e) (stage.Inconclusive r other) k heard asked c opened start gs left at = absurd at.stage_is
+never_silent told Probing s k heard asked c opened start gs left at = absurd at
+never_silent told PassingOver s k heard asked c opened start gs left at = absurd at
+never_silent told (Resolving a) s k heard asked c opened start gs left at = absurd at
+never_silent told p _ k heard asked c opened start gs left at = refl
 
 stands_heard : (start : Begun) (m : Machine) (f : Forward) (h : Answer) (gs : List Gear) (numbers : List ℕ) (left : ℕ) → SurveyStands false start m gs left
     → IsLawful m.trace f
-    → (sent : SurveySent m.course.purpose m.course.way (stage_of m.trace) m.kept m.heard m.opened m.asked m.course.ascent m.course.number m.course.from start gs
-    numbers left (command_of f) h) → SurveyStands true start (machine_heard m (Some f) h) (row_after Everyone (command_of f) 0 gs numbers) sent.0
+    → (sent : SurveySent m.course.purpose (stage_of m.trace) m.kept m.heard m.asked m.course start gs numbers left (command_of f) h)
+    → SurveyStands true start (machine_heard m (Some f) h) (row_after Everyone (command_of f) 0 gs numbers) sent.0
 stands_heard start m f h gs numbers left st lawful sent = record {
   tries = no_tries _ m.tries st.tries;
-  silent = rw (more, st.silent) (never_silent true m.course.purpose m.course.way (next_stage (stage_of m.trace) (command_of f) h) m.kept _ _ m.opened _
-      m.course.ascent m.course.number m.course.from start (row_after Everyone (command_of f) 0 gs numbers) sent.0 sent.2);
+  silent = rw (more, st.silent) (never_silent true m.course.purpose (next_stage (stage_of m.trace) (command_of f) h) m.kept _ _ m.course m.course.opened
+      start (row_after Everyone (command_of f) 0 gs numbers) sent.0 sent.2);
+  smooth = st.smooth;
   trace = subst (λ s. IsTrace s (m.trace ++ entry f h ∷ [])) (sym more) (trace_more (stage_of m.trace) m.trace f h lawful st.trace);
-  at = subst (λ s. SurveyAt true m.course.purpose m.course.way s m.kept (heard_after m.course.purpose s h m.heard)
-      (woken_after s m.course.purpose (opened_after s m.opened)) (asked_after m.course.purpose s h m.asked) m.course.ascent m.course.number m.course.from start
+  at = subst (λ s. SurveyAt true m.course.purpose s m.kept (heard_after m.course.purpose s h m.heard) (asked_after m.course.purpose s h m.asked) m.course start
       (row_after Everyone (command_of f) 0 gs numbers) sent.0) (sym more) sent.2;
 } where
   more : stage_of (m.trace ++ entry f h ∷ []) ≡ next_stage (stage_of m.trace) (command_of f) h
@@ -364,10 +370,9 @@ survey_sends start w q c m p f h left goes last told here known surveyed heard =
       kept = subst IsKept (sym goes.lone.kept) surveyed.kept;
       holds = subst (λ k. IsTrue k.enrolled w.gear) (sym goes.lone.kept) surveyed.holds;
     } in
-    let sent : SurveySent m.course.purpose m.course.way
-    (stage_of m.trace) m.kept m.heard m.opened m.asked m.course.ascent m.course.number m.course.from start w.gear w.left left (command_of f) h =
-    survey_sent m.course.purpose m.course.way (stage_of m.trace) m.kept m.heard m.opened m.asked m.course.ascent m.course.number m.course.from start w.gear
-    w.left left (command_of f) h holds.0.at holds.1 taken told_so (subst (λ t. Seeks (stage_of t) w.gear) same known.seeks) in
+    let sent : SurveySent m.course.purpose (stage_of m.trace) m.kept m.heard m.asked m.course start w.gear w.left left (command_of f) h =
+    survey_sent m.course.purpose (stage_of m.trace) m.kept m.heard m.asked m.course start w.gear w.left left (command_of f) h holds.0.at holds.1 taken told_so
+    (subst (λ t. Seeks (stage_of t) w.gear) same known.seeks) in
     let lawful : IsLawful m.trace f = (
       (controller_at w c).records.block,
       (controller_at w c).records.reserved,

@@ -21,14 +21,16 @@ use Rattle.dali_controller.specs.Next.{next_course, begins_at, at_rest, beginnin
 use Rattle.dali_controller.specs.Orders.{machine_ordered, AfterEnrolled}
 use Rattle.dali_controller.proofs.Given as given
 use Rattle.dali_controller.proofs.Given.{IsGivenBy, IsNoEnrolment}
-use Rattle.dali_events.specs.Wanted.{is_wanted, wants}
+use Rattle.dali_events.specs.Wanted.{wants}
 use Rattle.dali_progress.proofs.Stands.{search_frames}
 use Rattle.dali_progress.proofs.Frames.{value_sought}
 use Rattle.dali_progress.proofs.Tables.{tabled_over}
 use Rattle.dali_progress.proofs.Both.{never_eight, no_enrolment, has_random, entry_last, with_kept}
+use Rattle.dali_progress.proofs.Survey.Drawn.{those_drawn, is_lost}
 use Rattle.dali_progress.proofs.Survey.Queried.{OneShort, IsTrue, unseen}
-use Rattle.dali_progress.proofs.Survey.Stands.{Begun, wake_frames, searched_by, frames_after}
-use Rattle.dali_progress.proofs.Survey.Begins.{Calm, EnrolsCounted, ReleasesCounted, EnrolsHunted, ReservesHunted, SurveyCommits, IsNext, first_by, asks_on}
+use Rattle.dali_progress.proofs.Survey.Stands.{Begun, spare, survey_frames, called_after}
+use Rattle.dali_progress.proofs.Survey.Begins.{Calm, EnrolsCounted, ReleasesCounted, EnrolsHunted, ReservesHunted, SurveyCommits, IsNext, smooth_as, first_by}
+use Rattle.dali_progress.proofs.Survey.Begins.{asked_none, asks_on}
 use Rattle.dali_progress.proofs.Survey.Begins.{hunts_on, own_enrolled, own_reserved}
 
 -- A RECORD OF A SURVEY IS KEPT, and the next transaction begins.
@@ -69,11 +71,11 @@ counted_next start m a r o gs left calm v free last g one holds = go o g (g.foll
       → IsNext start (machine_ordered (with_kept m (Enrol a r)) q) q gs left
   goes q g own =
       let at : stage_of m.trace ≡ stage.Free = ap stage_of free ∙ stage_none in
-      asks_on start (with_kept m (Enrol a r)) q (a + 1) gs left (record { tries = calm.tries; silent = calm.silent })
+      asks_on start (with_kept m (Enrol a r)) q (a + 1) gs left (record { tries = calm.tries; silent = calm.silent; smooth = calm.smooth })
       (given.enrolled (with_kept m (Enrol a r)) q a r g last free own)
-      (ap (begins_at (with_kept m (Enrol a r))) at ∙ ap (at_rest (with_kept m (Enrol a r))) last) v.way v.opened v.asked v.from_is
+      (ap (begins_at (with_kept m (Enrol a r))) at ∙ ap (at_rest (with_kept m (Enrol a r))) last) v.uncalled v.asked v.from_is
       (let small : a < 64 = v.small in omega (arith, small)) (λ e x has. has_before m.kept.enrolled (a, r) x (v.settled e x has)) v.clear one holds v.same
-      v.tabled (counted_count a (wake_frames start gs) left v.small v.frames)
+      v.tabled (counted_count a (survey_frames start gs) left v.small v.frames)
 
   go : (q : Order) → IsGivenBy (with_kept m (Enrol a r)) q → AfterEnrolled (with_kept m (Enrol a r)) a r q
       → IsNext start (machine_ordered (with_kept m (Enrol a r)) q) q gs left × (survey_slack start.any (Some q) None + 1 ≤ enrol_slack start.any)
@@ -88,14 +90,13 @@ counted_next start m a r o gs left calm v free last g one holds = go o g (g.foll
       releases false none = absurd (v.unreserved none c has)
       releases true any = (
         (
-          record { tries = calm.tries; silent = calm.silent },
+          record { tries = calm.tries; silent = calm.silent; smooth = calm.smooth },
           (
             a,
             record {
               any = any;
-              way = v.way;
-              opened = v.opened;
-              asked = v.asked;
+              uncalled = v.uncalled;
+              asked = asked_none m.course.opened m.asked v.asked;
               small = v.small;
               from_is = v.from_is;
               same = v.same;
@@ -122,11 +123,11 @@ released_next : (start : Begun) (m : Machine) (c r a : ℕ) (o : Order) (gs : Li
     → IsNext start (machine_ordered (with_kept m (Release c r)) o) o gs left
 released_next start m c r a o gs left calm v free last g one holds =
     let at : stage_of m.trace ≡ stage.Free = ap stage_of free ∙ stage_none in
-    asks_on start (with_kept m (Release c r)) o (a + 1) gs left (record { tries = calm.tries; silent = calm.silent })
+    asks_on start (with_kept m (Release c r)) o (a + 1) gs left (record { tries = calm.tries; silent = calm.silent; smooth = calm.smooth })
     (released_begins m c r o calm free last g)
-    (ap (begins_at (with_kept m (Release c r))) at ∙ ap (at_rest (with_kept m (Release c r))) last) v.way v.opened v.asked v.from_is
+    (ap (begins_at (with_kept m (Release c r))) at ∙ ap (at_rest (with_kept m (Release c r))) last) v.uncalled v.asked v.from_is
     (let small : a < 64 = v.small in omega (arith, small)) (λ e. absurd (never e)) (λ e. absurd (never e)) one holds v.same v.tabled
-    (counted_count a (wake_frames start gs) left v.small v.frames)
+    (counted_count a (survey_frames start gs) left v.small v.frames)
   where
     never : start.any ≡ false → ⊥
     never e = let both : true ≡ false = sym v.any ∙ e in cc
@@ -145,17 +146,17 @@ hunted_next : (start : Begun) (m : Machine) (b r : ℕ) (o : Order) (gs : List G
     → IsNext start (machine_ordered (with_kept m (Enrol b r)) o) o gs left
 hunted_next start m b r o gs left calm v free last map g =
     let at : stage_of m.trace ≡ stage.Free = ap stage_of free ∙ stage_none in
-    hunts_on start (with_kept m (Enrol b r)) o r (106 * count_by is_wanted (searched_by m.course.way gs) + 32) gs left
-    (record { tries = calm.tries; silent = calm.silent }) (hunted_begins start m b r o gs left v free last map g)
-    (ap (begins_at (with_kept m (Enrol b r))) at ∙ ap (at_rest (with_kept m (Enrol b r))) last) v.way v.opened
+    hunts_on start (with_kept m (Enrol b r)) o r gs left
+    (record { tries = calm.tries; silent = calm.silent; smooth = calm.smooth }) (hunted_begins start m b r o gs left v free last map g)
+    (ap (begins_at (with_kept m (Enrol b r))) at ∙ ap (at_rest (with_kept m (Enrol b r))) last) v.hunted
     (λ e. own_enrolled m.kept m.heard b r (v.own e) (λ q has. ap (λ (x : Assignment). x.1)
     (same_member (λ (x : Assignment). x.0) m.kept.reserved (b, q) (b, r) map.address_once has v.reserved refl)))
     (λ e x has. settled x has (v.settled e x has))
     v.above v.ready v.unnamed
-    (tabled_over (unseen start.gear) ((b, r) ∷ m.kept.enrolled) (m.kept.enrolled ++ (b, r) ∷ []) (searched_by m.course.way gs)
+    (tabled_over (unseen start.gear) ((b, r) ∷ m.kept.enrolled) (m.kept.enrolled ++ (b, r) ∷ []) (those_drawn gs)
     (entry_last m.kept.enrolled (b, r))
     v.tabled)
-    (omega arith) v.frames
+    v.frames
   where
     settled : (x : Assignment) → Has m.kept.reserved x → Has m.kept.enrolled x ⊎ (x.1 ≡ r) → Has (m.kept.enrolled ++ (b, r) ∷ []) x
     settled x has (inl entry) = has_before m.kept.enrolled (b, r) x entry
@@ -172,16 +173,19 @@ reserved_next : (start : Begun) (m : Machine) (a r : ℕ) (o : Order) (gs : List
     → m.last ≡ Some (Commit (Reserve a r)) → IsGivenBy (with_kept m (Reserve a r)) o → IsNext start (machine_ordered (with_kept m (Reserve a r)) o) o gs left
 reserved_next start m a r o gs left calm v free last g =
     let at : stage_of m.trace ≡ stage.Free = ap stage_of free ∙ stage_none in
-    first_by start (with_kept m (Reserve a r)) o (visiting m.course r) gs left (record { tries = calm.tries; silent = calm.silent })
-    (reserved_begins m a r o calm free last g) (ap (begins_at (with_kept m (Reserve a r))) at ∙ ap (at_rest (with_kept m (Reserve a r))) last) tt
+    first_by start (with_kept m (Reserve a r)) o (visiting m.course r) gs left (record { tries = calm.tries; silent = calm.silent; smooth = calm.smooth })
+    (reserved_begins m a r o calm free last g) (ap (begins_at (with_kept m (Reserve a r))) at ∙ ap (at_rest (with_kept m (Reserve a r))) last)
+    (smooth_as m.course (visiting m.course r) refl refl calm.smooth) tt
     (record {
-      way = v.way;
-      opened_is = v.opened;
+      opened_is = v.hunted.opened;
+      loud = v.hunted.loud;
+      first = v.hunted.first;
+      called = tt;
+      low = v.hunted.low;
       own = λ e. own_reserved m.kept m.heard a r (v.own e) v.open_is;
       settled = λ e x has. settled e x (has_cases m.kept.reserved (a, r) x has);
       rest = 7 + search_frames v.more;
       at = (
-        refl,
         record {
           stage_is = tt;
           searched = tt;
@@ -189,7 +193,7 @@ reserved_next start m a r o gs left calm v free last g =
           unnamed = v.unnamed;
           more = v.more;
           visited = record {
-            wanted = subst (λ n. wants (searched_by m.course.way gs) n ≡ true) (sym (value_sought r)) v.wanted;
+            wanted = subst (λ n. wants (those_drawn gs) n ≡ true) (sym (value_sought r)) v.wanted;
             number = r;
             number_is = refl;
             drawn = v.drawn;
@@ -210,7 +214,7 @@ reserved_next start m a r o gs left calm v free last g =
       tabled = v.tabled;
       behind = v.more;
       behind_is = v.count;
-      frames = count v.more (frames_after m.course.way start gs) v.frames;
+      frames = count v.more (called_after (count_by is_lost gs) + spare start.any m.course.tally.draws) v.frames;
     })
   where
     count : (more after : ℕ) → 39 + 106 * more + after ≤ left → 7 + search_frames more + 27 + after ≤ left + 5 * more

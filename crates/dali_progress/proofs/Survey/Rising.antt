@@ -238,9 +238,9 @@ rises_sent (stage.LowSent high low) k x n gs numbers left c h v is taken seek =
           (rw (none_left n high low v.stage_is.0 v.stage_is.1) less.2),
     )
 rises_sent (stage.Hunted r None room) k x n gs numbers left c h v is taken seek =
-    hunted_sent r None room x n gs numbers left h v v.stage_is v.frames c is.1 taken seek
+    hunted_sent r None room x n gs numbers left h v v.stage_is v.frames c is taken seek
 rises_sent (stage.Hunted r (Some g) room) k x n gs numbers left c h v is taken seek =
-    hunted_sent r (Some g) room x n gs numbers left h v v.stage_is v.frames c is.1 taken seek
+    hunted_sent r (Some g) room x n gs numbers left h v v.stage_is v.frames c is taken seek
 rises_sent _ k x n gs numbers left c h v is taken seek = absurd v.stage_is
 
 -- ---------------------------------------------------------------- what an answer tells
@@ -256,16 +256,6 @@ knows_told has x false knows gives = record {
   above m false less member = absurd (gives (m, member, let most : m ≤ asked_next x = grind (arith, nat_tests) in most))
 
 -- somebody is wanted, or nobody is
-unsilent_where : (gs : List Gear) (x : Ascent) (m : ℕ) → IsAscent x → Knows (wants gs) x → wants gs m ≡ true → m < MASK24 → x.silent ≡ 0
-unsilent_where gs x m is knows has small = go (x.silent == 0) refl where
-  go : (b : Bool) → (x.silent == 0) ≡ b → x.silent ≡ 0
-  go true e = grind (arith, nat_tests)
-  go false e =
-      let low : x.low ≡ 0xFFFFFF = is.silence (grind (arith, nat_tests)) in
-      let from : x.low ≤ m = knows.above m has in
-      let under : m < 0xFFFFFF = small in
-      absurd (omega (arith, low, from, under))
-
 unbounded_where : (gs : List Gear) (x : Ascent) → Knows (wants gs) x → ((m : ℕ) → wants gs m ≡ true → ⊥) → is_bounded x ≡ false
 unbounded_where gs x knows none = go (is_bounded x) refl where
   go : (b : Bool) → is_bounded x ≡ b → is_bounded x ≡ false
@@ -521,21 +511,27 @@ rising_to_come told (stage.Confirmed r a) x n gs left xs v = absurd v.stage_is
 rising_to_come told (stage.Withdrawn r a) x n gs left xs v = absurd v.stage_is
 rising_to_come told _ x n gs left xs v = refl
 
-byte_leaves : (n r : SearchAddress) → LeavesNames (byte_to_send n r)
-byte_leaves n r = go (r.high == n.high) (r.low == n.low) (r.middle == n.middle) where
-  go : (b d e : Bool) → LeavesNames (if b then (if d then (if e then Compare else SearchMiddle n.middle) else SearchLow n.low) else SearchHigh n.high)
-  go false d e = tt
-  go true false e = tt
-  go true true false = tt
-  go true true true = tt
+byte_one : (P : Command → Type 0) (n r : SearchAddress) → P (SearchHigh n.high) → P (SearchLow n.low) → P (SearchMiddle n.middle) → P Compare
+    → P (byte_to_send n r)
+byte_one P n r high low middle compare = go (r.high == n.high) (r.low == n.low) (r.middle == n.middle) where
+  go : (b d e : Bool) → P (if b then (if d then (if e then Compare else SearchMiddle n.middle) else SearchLow n.low) else SearchHigh n.high)
+  go false d e = high
+  go true false e = low
+  go true true false = middle
+  go true true true = compare
+
+-- what is so of each of its frames
+pub rising_one : (P : Command → Type 0) (s : Stage) (k : Kept) (x : Ascent) (n : SearchAddress) (gs : List Gear) (left : ℕ) (c : Command)
+    → P (SearchHigh n.high) → P (SearchLow n.low) → P (SearchMiddle n.middle) → P Compare → Rises false s x n gs left → Sends Hunting n k s c → P c
+rising_one P stage.Free k x n gs left c high low middle compare v is = subst P (sym is) high
+rising_one P (stage.HighSent byte) k x n gs left c high low middle compare v is = subst P (some_is (SearchLow n.low) c is) low
+rising_one P (stage.LowSent byte bits) k x n gs left c high low middle compare v is = subst P (some_is (SearchMiddle n.middle) c is) middle
+rising_one P (stage.Hunted r last room) k x n gs left c high low middle compare v is = subst P (sym is) (byte_one P n r high low middle compare)
+rising_one P _ k x n gs left c high low middle compare v is = absurd v.stage_is
 
 rising_leaves : (s : Stage) (k : Kept) (x : Ascent) (n : SearchAddress) (gs : List Gear) (left : ℕ) (c : Command) → Rises false s x n gs left
     → Sends Hunting n k s c → LeavesNames c
-rising_leaves stage.Free k x n gs left c v is = subst LeavesNames (sym is) tt
-rising_leaves (stage.HighSent high) k x n gs left c v is = subst LeavesNames (some_is (SearchLow n.low) c is) tt
-rising_leaves (stage.LowSent high low) k x n gs left c v is = subst LeavesNames (some_is (SearchMiddle n.middle) c is) tt
-rising_leaves (stage.Hunted r last room) k x n gs left c v is = subst LeavesNames (sym is.1) (byte_leaves n r)
-rising_leaves _ k x n gs left c v is = absurd v.stage_is
+rising_leaves s k x n gs left c v is = rising_one LeavesNames s k x n gs left c tt tt tt tt v is
 
 pub rising_tabled : (before : List Gear) (s : Stage) (k : Kept) (x : Ascent) (n : SearchAddress) (gs : List Gear) (numbers : List ℕ) (left rest : ℕ)
     (c : Command)
@@ -569,7 +565,7 @@ rising_sought stage.Free k x n gs hs left c v is seek = subst (IsSoughtBy gs) (s
 rising_sought (stage.HighSent high) k x n gs hs left c v is seek = subst (IsSoughtBy gs) (some_is (SearchLow n.low) c is) tt
 rising_sought (stage.LowSent high low) k x n gs hs left c v is seek = subst (IsSoughtBy gs) (some_is (SearchMiddle n.middle) c is) tt
 rising_sought (stage.Hunted r last room) k x n gs hs left c v is seek =
-    subst (IsSoughtBy gs) (sym is.1) (byte_sought n r gs (λ same. (
+    subst (IsSoughtBy gs) (sym is) (byte_sought n r gs (λ same. (
       r,
       seek r refl,
       subst (λ m. m < MASK24) (sym (ap value_of (same ∙ v.number) ∙ value_sought (asked_next x))) (asked_drawn x v.way.way.is v.running),

@@ -1,16 +1,16 @@
 use Rattle.std.proofs.Common.{◌≡◌, ℕ, ◌+◌, ◌-◌, ◌*◌, ◌<◌, ◌≤◌, ◌⊎◌, inl, inr, Bool, true, false, zero, suc, List, [], ◌∷◌, refl, sym, ap, subst, ◌∙◌, arith}
 use Rattle.std.proofs.Common.{length, Some, None, w64}
-use Rattle.std.specs.Prelude.{◌==◌, nat_lt, ◌&&◌, if◌then◌else◌}
+use Rattle.std.specs.Prelude.{◌==◌, ◌%◌, nat_lt, ◌&&◌, if◌then◌else◌}
+use Rattle.std.specs.List.{count_by}
 use Rattle.std.proofs.lemmas.Bool.Decides.{nat_tests}
 use Rattle.dali_frame.specs.declared.frames.Answer.{Answer}
 use Rattle.dali_frame.specs.declared.frames.Answer.TheVariants.{Silence, Byte}
 use Rattle.dali_frame.specs.declared.numbers.SearchAddress.{SearchAddress}
 use Rattle.dali_frame.specs.Random.{value_of, number_of, high_of, middle_of, low_of, MASK24}
 use Rattle.dali_special.specs.declared.command.Command.{Command}
-use Rattle.dali_special.specs.declared.command.Command.TheVariants.{Terminate, Initialise, Withdraw, SearchMiddle, SearchLow, QueryShort, RandomByte}
+use Rattle.dali_special.specs.declared.command.Command.TheVariants.{Terminate, Withdraw, SearchMiddle, SearchLow, QueryShort, RandomByte}
 use Rattle.dali_special.specs.declared.command.Part.{Part}
 use Rattle.dali_special.specs.declared.command.Part.TheVariants.{High, Middle, Low}
-use Rattle.dali_special.specs.declared.command.Target.TheVariants.{Unaddressed}
 use Rattle.dali_gear.specs.declared.row.Reach.TheVariants.{Everyone}
 use Rattle.dali_gear.specs.Gear.{Gear, byte_at, draws_a_number}
 use Rattle.dali_gear.specs.Row.{takes, left_after, row_after, drawn_one, drawn_of, answers_of, heard_of}
@@ -28,43 +28,36 @@ use Rattle.dali_script.proofs.Transactions.{middle_next, low_next}
 use Rattle.dali_script.specs.declared.orders.End.{End}
 use Rattle.dali_script.specs.declared.orders.End.TheVariants.{AllFound, BlockFull, GaveUp}
 use Rattle.dali_search.specs.Least.{at_first}
-use Rattle.dali_search.specs.Ascending.{Ascent}
+use Rattle.dali_search.specs.Ascending.{Ascent, asked_next}
 use Rattle.dali_controller.specs.declared.purpose.Purpose.{Purpose}
-use Rattle.dali_controller.specs.declared.purpose.Purpose.TheVariants.{Opening, Probing, Visiting, Resolving, Closing, Asking, Waking, Hunting}
+use Rattle.dali_controller.specs.declared.purpose.Purpose.TheVariants.{Opening, Probing, Visiting, Resolving, Closing, Asking, Hunting, Calling, Drawing}
+use Rattle.dali_controller.specs.declared.purpose.Purpose.TheVariants.{PassingOver}
 use Rattle.dali_controller.specs.declared.shorts.Shorts.{Shorts}
-use Rattle.dali_controller.specs.declared.way.Way.{Way}
-use Rattle.dali_controller.specs.declared.way.Way.TheVariants.{Fresh, Surveying, Drawing}
-use Rattle.dali_controller.specs.Course.{sought}
-use Rattle.dali_controller.specs.Machine.{opened_after, woken_after, heard_after, asked_after, asked_after_silence, asked_at, marked_at}
-use Rattle.dali_controller.proofs.Courses.{not_woken}
-use Rattle.dali_events.specs.Wanted.{gear_of, AreApart, IsOpened}
+use Rattle.dali_controller.specs.Course.{Course, sought}
+use Rattle.dali_controller.specs.Machine.{heard_after, asked_after, asked_after_silence, asked_at, marked_at}
+use Rattle.dali_events.specs.Wanted.{gear_of, is_wanted}
 use Rattle.dali_events.proofs.Invariant.Takes.{row_length}
 use Rattle.dali_events.proofs.Invariant.Resolving.{whole_number}
 use Rattle.dali_events.proofs.Search.Leaving as leaving
-use Rattle.dali_events.proofs.Search.Leaving.{SameCore, LeavesShort}
-use Rattle.dali_events.proofs.Search.Opened as opening
+use Rattle.dali_events.proofs.Search.Leaving.{SameCore, LeavesCore, LeavesShort}
 use Rattle.dali_progress.specs.Ends.{AreTabled}
 use Rattle.dali_progress.proofs.Stands.{to_come, VisitsAt, Sends}
 use Rattle.dali_progress.proofs.Survey.Behind.{IsHunt, least_sent, behind_sent, hunt_deep}
-use Rattle.dali_progress.proofs.Survey.Rising.{rises_sent, rising_tabled, rising_sought}
+use Rattle.dali_progress.proofs.Survey.Rising.{rises_sent, rising_one, rising_tabled, rising_sought}
 use Rattle.dali_progress.proofs.Frames.{IsTaken, Seeks, at_sent, one_less, value_sought}
 use Rattle.dali_progress.proofs.Tables.{IsTabledTo, at_tabled, tabled_left}
-use Rattle.dali_progress.proofs.Survey.Drawn.{those_drawn, IsSearching, IsSoughtBy, AreNumbered, not_randomise, row_drawn, answers_drawn, searching_of, no_draw}
+use Rattle.dali_progress.proofs.Survey.Drawn.{those_drawn, is_lost, IsSearching, IsSoughtBy, not_randomise, row_drawn, answers_drawn, searching_of, no_draw}
 use Rattle.dali_progress.proofs.Survey.Drawn.{still_of, lost_same, seek_drawn}
 use Rattle.dali_progress.proofs.Survey.Queried.{Holds, OneGear, OneShort, one_gear, IsTrue, Nobody, HasAnswered, asked_gear, core_then, holds_on, holds_back}
 use Rattle.dali_progress.proofs.Survey.Queried.{unseen, below_on}
-use Rattle.dali_progress.proofs.Survey.Stands.{Begun, spare, IsClear, IsClearBut, IsClearAt, wake_frames, silent_left, asked_left, Tells, AskStage, Counts}
-use Rattle.dali_progress.proofs.Survey.Stands.{Wakes, searched_by, frames_after, IsOnWay, opened_at, surplus, IsBehind, HuntAt, Hunts, SurveyEnds, SurveyCloses}
+use Rattle.dali_progress.proofs.Survey.Woken.{IsByteLow, low_after}
+use Rattle.dali_progress.proofs.Survey.Rolls.{IsSurveyTaken, calls_sent, opens_sent, draws_sent}
+use Rattle.dali_progress.proofs.Survey.Stands.{Begun, spare, survey_frames, IsClear, IsClearBut, IsClearAt, silent_left, asked_left, Tells, AskStage, Counts}
+use Rattle.dali_progress.proofs.Survey.Stands.{called_after, hunted_after, frames_after, IsCalledFor, surplus, IsBehind, HuntAt, Hunts, SurveyEnds}
+use Rattle.dali_progress.proofs.Survey.Stands.{SurveyCloses}
 use Rattle.dali_progress.proofs.Survey.Stands.{SurveyAt}
 
 -- A FRAME OF A SURVEY IS SENT, and one frame less is left.
-
--- what is known of the gear, beside what was heard
-pub record IsSurveyTaken (c : Command) (gs : List Gear) (numbers : List ℕ) (h : Answer) : Type 0 where
-  pub taken : IsTaken c gs numbers h
-  pub one : OneShort gs
-  pub numbered : AreNumbered gs
-  pub apart : IsOpened (those_drawn gs) → AreApart (those_drawn gs)
 
 -- and of the records
 pub record IsTold (k : Kept) (gs : List Gear) : Type 0 where
@@ -109,7 +102,7 @@ nobody_on gs hs a same none g holds = none g (holds_back gs hs g a same holds)
 -- the same census, one frame later
 counts_on : (a : ℕ) (s t : Stage) (k : Kept) (marks after : Shorts) (asked now from : ℕ) (start : Begun) (gs hs : List Gear) (left l : ℕ)
     → Counts a s k marks asked from start gs left → SameCore gs hs → AskStage t a now hs → (start.any ≡ false → IsClearAt t a k after)
-    → 3 * (63 - a) + asked_left t now + wake_frames start gs ≤ l → Counts a t k after now from start hs l
+    → 3 * (63 - a) + asked_left t now + survey_frames start gs ≤ l → Counts a t k after now from start hs l
 counts_on a s t k marks after asked now from start gs hs left l v same stage clear enough = record {
   small = v.small;
   from_is = v.from_is;
@@ -118,7 +111,7 @@ counts_on a s t k marks after asked now from start gs hs left l v same stage cle
   same = core_then start.gear gs hs v.same same;
   stage_is = stage;
   tabled = below_on a start.gear k.enrolled gs hs same v.tabled;
-  frames = subst (λ n. 3 * (63 - a) + asked_left t now + (106 * n + 27 + spare start.any) ≤ l) (sym (leaving.core_count_bare gs hs same)) enough;
+  frames = subst (λ n. 3 * (63 - a) + asked_left t now + (106 * n + 66 + spare start.any 0) ≤ l) (sym (leaving.core_count_bare gs hs same)) enough;
 }
 
 silence_again : (n : ℕ) → n ≤ 2 → (asked_after_silence n ≤ 2) × (silent_left (asked_after_silence n) + 1 ≤ 3 - n)
@@ -153,7 +146,7 @@ first_asked a k marks asked from start gs numbers left h v one heard = go (heard
             → CountedTo a stage.Free k marks asked from start gs numbers left (RandomByte a High) (Byte (high_of (gear_of gs g).random))
         by (inr nobody) = absurd (nobody.0 g holds)
         by (inl none) =
-            let less = spend (3 * (63 - a)) (3 - asked) 2 (wake_frames start gs) left v.frames (omega (arith, none)) in (
+            let less = spend (3 * (63 - a)) (3 - asked) 2 (survey_frames start gs) left v.frames (omega (arith, none)) in (
               less.0,
               less.1,
               counts_on a stage.Free (stage.HighAsked a (Some (high_of (gear_of gs g).random))) k marks (with_short marks a) asked 0 from start gs _ left less.0
@@ -169,7 +162,7 @@ first_asked a k marks asked from start gs numbers left h v one heard = go (heard
         by : asked ≤ 2 → CountedTo a stage.Free k marks asked from start gs numbers left (RandomByte a High) Silence
         by small =
             let again = silence_again asked small in
-            let less = spend (3 * (63 - a)) (3 - asked) (silent_left (asked_after_silence asked)) (wake_frames start gs) left v.frames again.1 in (
+            let less = spend (3 * (63 - a)) (3 - asked) (silent_left (asked_after_silence asked)) (survey_frames start gs) left v.frames again.1 in (
               less.0,
               less.1,
               counts_on a stage.Free (stage.HighAsked a None) k marks marks asked (asked_after_silence asked) from start gs _ left less.0 v same
@@ -192,7 +185,7 @@ second_asked a b u k marks asked from start gs numbers left h v one heard =
           let high : u ≡ high_of (gear_of gs g).random = v.stage_is.1.2 ∙ ap (λ i. high_of (gear_of gs i).random) (sym at) in
           let there : next_stage (stage.HighAsked b (Some u)) (RandomByte b Middle) h ≡ stage.MiddleAsked b (Some (u, middle_of (gear_of gs g).random)) =
           rw is (middle_next b (Some u) (Byte (middle_of (gear_of gs g).random))) in
-          let less = spend (3 * (63 - a)) 2 1 (wake_frames start gs) left v.frames (omega arith) in (
+          let less = spend (3 * (63 - a)) 2 1 (survey_frames start gs) left v.frames (omega arith) in (
             less.0,
             less.1,
             rw there (counts_on a (stage.HighAsked b (Some u)) (stage.MiddleAsked b (Some (u, middle_of (gear_of gs g).random))) k marks (with_short marks b)
@@ -254,7 +247,7 @@ third_asked a b x k marks asked from start gs numbers left h v one told heard =
           sym (whole_number (gear_of gs g).random x.0 x.1 (low_of (gear_of gs g).random) (sym high) (sym middle) refl) in
           let there : next_stage (stage.MiddleAsked b (Some x)) (RandomByte b Low) h ≡ stage.Spelled b (Some (gear_of gs g).random) =
           rw is (low_next b (Some x) (Byte (low_of (gear_of gs g).random)) ∙ ap (λ n. stage.Spelled b (Some n)) number) in
-          let less = spend (3 * (63 - a)) 1 0 (wake_frames start gs) left v.frames (omega arith) in (
+          let less = spend (3 * (63 - a)) 1 0 (survey_frames start gs) left v.frames (omega arith) in (
             less.0,
             less.1,
             rw there (counts_on a (stage.MiddleAsked b (Some x)) (stage.Spelled b (Some (gear_of gs g).random)) k marks
@@ -281,75 +274,6 @@ counts_sent a (stage.MiddleAsked b (Some x)) k marks asked from n start gs numbe
     (third_asked a b x k marks asked from start gs numbers left h v one told) heard
 counts_sent a (stage.Spelled b (Some m)) k marks asked from n start gs numbers left c h v is one told heard = absurd (cc)
 counts_sent a _ k marks asked from n start gs numbers left c h v is one told heard = absurd v.stage_is
-
--- ---------------------------------------------------------------- the wake
-
-abbrev WokenTo : Stage → Kept → Shorts → Bool → Begun → List Gear → List ℕ → ℕ → Command → Answer → Type 0
-WokenTo s k marks opened start gs numbers left c h =
-    (l : ℕ) × (left ≡ suc l)
-    × Wakes (next_stage s c h) k marks (woken_after (next_stage s c h) Waking (opened_after (next_stage s c h) opened)) start
-    (row_after Everyone c 0 gs numbers) l
-
-wake_less : (start : Begun) (c : Command) (gs : List Gear) (numbers : List ℕ) (left sent : ℕ) → LeavesShort c → wake_frames start gs ≤ left + sent → sent < 3
-    → (l : ℕ) × (left ≡ suc l) × (wake_frames start (row_after Everyone c 0 gs numbers) ≤ l + (sent + 1))
-wake_less start c gs numbers left sent leaves enough small =
-    let less = one_less (wake_frames start gs) left sent enough (omega (arith, small)) in
-    (less.0, less.1, subst (λ n. 106 * n + 27 + spare start.any ≤ less.0 + (sent + 1)) (sym (leaving.count_bare_after c gs numbers leaves)) less.2)
-
-wakes_sent : (s : Stage) (k : Kept) (marks : Shorts) (opened : Bool) (n : SearchAddress) (start : Begun) (gs : List Gear) (numbers : List ℕ) (left : ℕ)
-    (c : Command)
-    (h : Answer)
-    → Wakes s k marks opened start gs left → Sends Waking n k s c → WokenTo s k marks opened start gs numbers left c h
-wakes_sent stage.Free k marks opened n start gs numbers left c h v is =
-    subst (λ d. WokenTo stage.Free k marks opened start gs numbers left d h) (sym is) go where
-      go : WokenTo stage.Free k marks opened start gs numbers left Terminate h
-      go =
-          let less = wake_less start Terminate gs numbers left 0 tt v.frames (omega arith) in (
-            less.0,
-            less.1,
-            record {
-              stage_is = v.stage_is;
-              settled = v.settled;
-              clear = v.clear;
-              gear = opening.opening_terminated gs numbers;
-              tabled = tabled_left (unseen start.gear) k.enrolled gs numbers Terminate tt v.tabled;
-              frames = less.2;
-            },
-          )
-wakes_sent stage.Terminated k marks opened n start gs numbers left c h v is =
-    subst (λ d. WokenTo stage.Terminated k marks opened start gs numbers left d h) (some_is (Initialise Unaddressed) c is) go where
-      go : WokenTo stage.Terminated k marks opened start gs numbers left (Initialise Unaddressed) h
-      go =
-          let less = wake_less start (Initialise Unaddressed) gs numbers left 1 tt v.frames (omega arith) in (
-            less.0,
-            less.1,
-            record {
-              stage_is = v.stage_is;
-              settled = v.settled;
-              clear = v.clear;
-              gear = opening.opening_initialised_once gs numbers v.gear;
-              tabled = tabled_left (unseen start.gear) k.enrolled gs numbers (Initialise Unaddressed) tt v.tabled;
-              frames = less.2;
-            },
-          )
-wakes_sent stage.InitialisedOnce k marks opened n start gs numbers left c h v is =
-    subst (λ d. WokenTo stage.InitialisedOnce k marks opened start gs numbers left d h) (some_is (Initialise Unaddressed) c is) go where
-      go : WokenTo stage.InitialisedOnce k marks opened start gs numbers left (Initialise Unaddressed) h
-      go =
-          let less = wake_less start (Initialise Unaddressed) gs numbers left 2 tt v.frames (omega arith) in (
-            less.0,
-            less.1,
-            record {
-              stage_is = refl;
-              settled = v.settled;
-              clear = v.clear;
-              gear = opening.opening_initialised gs numbers v.gear;
-              tabled = tabled_left (unseen start.gear) k.enrolled gs numbers (Initialise Unaddressed) tt v.tabled;
-              frames = less.2;
-            },
-          )
-wakes_sent stage.Initialised k marks opened n start gs numbers left c h v is = absurd (cc)
-wakes_sent _ k marks opened n start gs numbers left c h v is = absurd v.stage_is
 
 -- ---------------------------------------------------------------- a search, or the opening
 
@@ -395,33 +319,16 @@ taken_drawn c gs numbers h by t = record {
   apart = t.apart;
 }
 
--- the frame is one of a search, on the way where it counts
-hunted_by : (p : Purpose) (s : Stage) (k : Kept) (x : Ascent) (n : SearchAddress) (gs : List Gear) (left : ℕ) (c : Command) → IsHunt p → IsOnWay p Surveying
-    → HuntAt false p s k (opened_at p s) x n (those_drawn gs) left → Sends p n k s c → Seeks s gs → IsSoughtBy gs c
-hunted_by Opening s k x n gs left c hunt way at is seek = absurd (cc)
-hunted_by Hunting s k x n gs left c hunt way at is seek = rising_sought s k x n gs (those_drawn gs) left c at.1 is seek
-hunted_by Visiting s k x n gs left c hunt way at is seek = visiting_sought s k n gs (those_drawn gs) left c at.1 is seek
-hunted_by _ s k x n gs left c hunt way at is seek = absurd hunt
+-- the frame is one of a search
+hunted_by : (p : Purpose) (s : Stage) (k : Kept) (x : Ascent) (n : SearchAddress) (gs : List Gear) (left : ℕ) (c : Command) → IsHunt p
+    → HuntAt false p s k x n (those_drawn gs) left → Sends p n k s c → Seeks s gs → IsSoughtBy gs c
+hunted_by Hunting s k x n gs left c hunt at is seek = rising_sought s k x n gs (those_drawn gs) left c at is seek
+hunted_by Visiting s k x n gs left c hunt at is seek = visiting_sought s k n gs (those_drawn gs) left c at.0 is seek
+hunted_by _ s k x n gs left c hunt at is seek = absurd hunt
 
--- whether it is opened then
-opening_unopened : (n : SearchAddress) (k : Kept) (s : Stage) (c : Command) → Sends Opening n k s c → opened_after s false ≡ false
-opening_unopened n k stage.Opened c is = absurd (cc)
-opening_unopened n k _ c is = refl
-
-stays_opened : (s : Stage) → opened_after s true ≡ true
-stays_opened stage.Opened = refl
-stays_opened _ = refl
-
-opened_next : (p : Purpose) (n : SearchAddress) (k : Kept) (s t : Stage) (c : Command) → IsHunt p → Sends p n k s c
-    → opened_after t (opened_at p s) ≡ opened_at p t
-opened_next Opening n k s t c hunt is = ap (opened_after t) (opening_unopened n k s c is)
-opened_next Hunting n k s t c hunt is = stays_opened t
-opened_next Visiting n k s t c hunt is = stays_opened t
-opened_next _ n k s t c hunt is = absurd hunt
-
-abbrev HuntedTo : Purpose → Way → Stage → Kept → Shorts → Bool → Ascent → SearchAddress → Begun → List Gear → List ℕ → ℕ → Command → Answer → Type 0
-HuntedTo p y s k heard opened x n start gs numbers left c h =
-    (l : ℕ) × (left ≡ suc l) × Hunts true p y (next_stage s c h) k heard opened x n start (row_after Everyone c 0 gs numbers) l
+abbrev HuntedTo : Purpose → Stage → Kept → Shorts → Course → Begun → List Gear → List ℕ → ℕ → Command → Answer → Type 0
+HuntedTo p s k heard c start gs numbers left d h =
+    (l : ℕ) × (left ≡ suc l) × Hunts true p (next_stage s d h) k heard c start (row_after Everyone d 0 gs numbers) l
 
 spend_one : (rest some after left behind l : ℕ) → rest ≡ suc l → 5 * behind < rest → rest + some + after ≤ left + 5 * behind
     → (m : ℕ) × (left ≡ suc m) × (l + some + after ≤ m + 5 * behind)
@@ -431,101 +338,116 @@ spend_one rest some after (suc m) behind l is deep enough = (m, refl, omega (ari
 -- ---------------------------------------------------------------- of whichever of them
 
 hunt_sent : (p : Purpose) (s : Stage) (k : Kept) (x : Ascent) (n : SearchAddress) (gs : List Gear) (numbers : List ℕ) (left : ℕ) (c : Command) (h : Answer)
-    → IsHunt p → HuntAt false p s k (opened_at p s) x n gs left → Sends p n k s c → IsTaken c gs numbers h → Seeks s gs
-    → (l : ℕ) × (left ≡ suc l) × HuntAt true p (next_stage s c h) k (opened_after (next_stage s c h) (opened_at p s)) x n (row_after Everyone c 0 gs numbers) l
-hunt_sent Opening s k x n gs numbers left c h hunt at is taken seek =
-    at_sent Opening s k (opened_at Opening s) at_first n gs numbers left c h at is taken seek
-hunt_sent Hunting s k x n gs numbers left c h hunt at is taken seek =
-    let sent = rises_sent s k x n gs numbers left c h at.1 is taken seek in (sent.0, sent.1, (stays_opened (next_stage s c h), sent.2))
+    → IsHunt p → HuntAt false p s k x n gs left → Sends p n k s c → IsTaken c gs numbers h → Seeks s gs
+    → (l : ℕ) × (left ≡ suc l) × HuntAt true p (next_stage s c h) k x n (row_after Everyone c 0 gs numbers) l
+hunt_sent Hunting s k x n gs numbers left c h hunt at is taken seek = rises_sent s k x n gs numbers left c h at is taken seek
 hunt_sent Visiting s k x n gs numbers left c h hunt at is taken seek =
-    let sent = at_sent Visiting s k true at_first n gs numbers left c h (refl, at.1) is taken seek in (
+    let sent = at_sent Visiting s k true at_first n gs numbers left c h (refl, at.0) is taken seek in (
       sent.0,
       sent.1,
-      (
-        sent.2.0,
-        sent.2.1,
-        record { is = at.2.is; reached = at.2.reached; least = least_sent s k x n gs numbers left c h at.1 is seek at.2 },
-      ),
+      (sent.2.1, record { is = at.1.is; reached = at.1.reached; least = least_sent s k x n gs numbers left c h at.0 is seek at.1 }),
     )
 hunt_sent _ s k x n gs numbers left c h hunt at is taken seek = absurd hunt
 
 hunt_tabled : (before : List Gear) (p : Purpose) (s : Stage) (k : Kept) (x : Ascent) (n : SearchAddress) (gs : List Gear) (numbers : List ℕ) (left rest : ℕ)
     (c : Command) (h : Answer)
-    → IsHunt p → HuntAt false p s k (opened_at p s) x n gs left → Sends p n k s c → Seeks s gs
-    → HuntAt true p (next_stage s c h) k (opened_after (next_stage s c h) (opened_at p s)) x n (row_after Everyone c 0 gs numbers) rest
+    → IsHunt p → HuntAt false p s k x n gs left → Sends p n k s c → Seeks s gs
+    → HuntAt true p (next_stage s c h) k x n (row_after Everyone c 0 gs numbers) rest
     → AreTabled before (to_come s n k.enrolled) gs → IsTabledTo before s n k.enrolled gs numbers c h
-hunt_tabled before Opening s k x n gs numbers left rest c h hunt at is seek next tabled =
-    at_tabled before Opening s k (opened_at Opening s) _ at_first n gs numbers left rest c h at is seek next tabled
 hunt_tabled before Hunting s k x n gs numbers left rest c h hunt at is seek next tabled =
-    rising_tabled before s k x n gs numbers left rest c h at.1 is next.1 tabled
+    rising_tabled before s k x n gs numbers left rest c h at is next tabled
 hunt_tabled before Visiting s k x n gs numbers left rest c h hunt at is seek next tabled =
-    at_tabled before Visiting s k true _ at_first n gs numbers left rest c h (refl, at.1) is seek (next.0, next.1) tabled
+    at_tabled before Visiting s k true _ at_first n gs numbers left rest c h (refl, at.0) is seek (refl, next.0) tabled
 hunt_tabled before _ s k x n gs numbers left rest c h hunt at is seek next tabled = absurd hunt
 
-hunts_sent : (p : Purpose) (y : Way) (s : Stage) (k : Kept) (heard : Shorts) (opened : Bool) (x : Ascent) (n : SearchAddress) (start : Begun) (gs : List Gear)
-    (numbers : List ℕ) (left : ℕ) (c : Command) (h : Answer) → IsHunt p → Hunts false p y s k heard opened x n start gs left → Sends p n k s c
-    → IsSurveyTaken c gs numbers h → Seeks s gs → HuntedTo p y s k heard opened x n start gs numbers left c h
-hunts_sent p y s k heard opened x n start gs numbers left c h hunt v is t seek = go y v.way v.at v.behind_is v.tabled v.frames where
-  done : (y : Way) → IsOnWay p y → (l : ℕ) → v.rest ≡ suc l → 5 * v.behind < v.rest
-      → IsBehind p (next_stage s c h) v.behind (searched_by y (row_after Everyone c 0 gs numbers)) l
-      → HuntAt true p (next_stage s c h) k (opened_at p (next_stage s c h)) x n
-      (searched_by y (row_after Everyone c 0 gs numbers)) l
-      → AreTabled (unseen start.gear) (to_come (next_stage s c h) n k.enrolled) (searched_by y (row_after Everyone c 0 gs numbers))
-      → v.rest + surplus p + frames_after y start (row_after Everyone c 0 gs numbers) ≤ left + 5 * v.behind
-      → HuntedTo p y s k heard opened x n start gs numbers left c h
-  done y way l less deep behind at tabled enough =
-      let one = spend_one v.rest (surplus p) (frames_after y start (row_after Everyone c 0 gs numbers)) left v.behind l less deep enough in (
-        one.0,
-        one.1,
-        record {
-          way = way;
-          opened_is = v.opened_is;
-          own = v.own;
-          settled = v.settled;
-          rest = l;
-          at = at;
-          tabled = tabled;
-          behind = v.behind;
-          behind_is = behind;
-          frames = one.2;
-        },
-      )
+-- the low byte that it sends is one
+visiting_low : (s : Stage) (k : Kept) (n : SearchAddress) (gs : List Gear) (left : ℕ) (c : Command) → VisitsAt s k n gs left → Sends Visiting n k s c
+    → IsByteLow c
+visiting_low stage.Free k n gs left c v is = subst IsByteLow (sym is) tt
+visiting_low (stage.HighSent high) k n gs left c v is = subst IsByteLow (some_is (SearchMiddle n.middle) c is) tt
+visiting_low (stage.MiddleSent high middle) k n gs left c v is =
+    subst IsByteLow (some_is (SearchLow n.low) c is)
+    (subst (λ (m : SearchAddress). m.low < 256) (sym v.visited.number_is) (low_byte v.visited.number)) where
+      low_byte : (r : ℕ) → r % 256 < 256
+      low_byte r = omega arith
+visiting_low (stage.NumberSent r) k n gs left c v is = subst IsByteLow (some_is QueryShort c is) tt
+visiting_low (stage.Unnamed r) k n gs left c v is = subst IsByteLow (sym is.3) tt
+visiting_low (stage.Programmed r a) k n gs left c v is = subst IsByteLow (some_is QueryShort c is) tt
+visiting_low (stage.Confirmed r a) k n gs left c v is = subst IsByteLow (some_is Withdraw c is) tt
+visiting_low (stage.Withdrawn r a) k n gs left c v is = absurd (cc)
+visiting_low _ k n gs left c v is = absurd v.stage_is
 
-  opens : (hs : List Gear) (l : ℕ) → HuntAt true p (next_stage s c h) k (opened_after (next_stage s c h) (opened_at p s)) x n hs l
-      → HuntAt true p (next_stage s c h) k (opened_at p (next_stage s c h)) x n hs l
-  opens hs l at = subst (λ o. HuntAt true p (next_stage s c h) k o x n hs l) (opened_next p n k s (next_stage s c h) c hunt is) at
+hunt_low : (p : Purpose) (s : Stage) (k : Kept) (x : Ascent) (n : SearchAddress) (gs : List Gear) (left : ℕ) (c : Command) → IsHunt p
+    → HuntAt false p s k x n gs left → Sends p n k s c → IsByteLow c
+hunt_low Hunting s k x n gs left c hunt at is =
+    rising_one IsByteLow s k x n gs left c tt (subst (λ (m : SearchAddress). m.low < 256) (sym at.number) (low_byte (asked_next x))) tt tt at is where
+      low_byte : (r : ℕ) → r % 256 < 256
+      low_byte r = omega arith
+hunt_low Visiting s k x n gs left c hunt at is = visiting_low s k n gs left c at.0 is
+hunt_low _ s k x n gs left c hunt at is = absurd hunt
 
-  go : (y : Way) → IsOnWay p y → HuntAt false p s k (opened_at p s) x n (searched_by y gs) v.rest
-      → IsBehind p s v.behind (searched_by y gs) v.rest → AreTabled (unseen start.gear) (to_come s n k.enrolled) (searched_by y gs)
-      → v.rest + surplus p + frames_after y start gs ≤ left + 5 * v.behind → HuntedTo p y s k heard opened x n start gs numbers left c h
-  go Fresh way at behind tabled enough = absurd (never_fresh p hunt way) where
-    never_fresh : (p : Purpose) → IsHunt p → IsOnWay p Fresh → ⊥
-    never_fresh Opening hunt way = cc
-    never_fresh Hunting hunt way = way refl
-    never_fresh Visiting hunt way = way refl
-    never_fresh _ hunt way = hunt
-  go Drawing way at behind tabled enough =
-      let sent = hunt_sent p s k x n gs numbers v.rest c h hunt at is t.taken seek in
-      done Drawing way sent.0 sent.1 (hunt_deep p s k x n gs v.rest sent.0 v.behind hunt sent.1 at behind)
-      (behind_sent p s k x n gs numbers v.rest sent.0 v.behind c h hunt sent.1 at is seek behind) (opens (row_after Everyone c 0 gs numbers) sent.0 sent.2)
-      (hunt_tabled (unseen start.gear) p s k x n gs numbers v.rest sent.0 c h hunt at is seek sent.2 tabled)
-      enough
-  go Surveying way at behind tabled enough =
-      let by : IsSoughtBy gs c = hunted_by p s k x n gs v.rest c hunt way at is seek in
-      let sent = hunt_sent p s k x n (those_drawn gs) numbers v.rest c h hunt at is (taken_drawn c gs numbers h by t) (seeks_drawn s gs seek) in
-      let row : row_after Everyone c 0 (those_drawn gs) numbers ≡ those_drawn (row_after Everyone c 0 gs numbers) =
-      row_drawn c 0 gs numbers (searching_of gs c by) (still_of gs c by) in
-      let names : IsTabledTo (unseen start.gear) s n k.enrolled (those_drawn gs) numbers c h =
-      hunt_tabled (unseen start.gear) p s k x n (those_drawn gs) numbers v.rest sent.0 c h hunt at is (seeks_drawn s gs seek) sent.2 tabled in
-      done Surveying way sent.0 sent.1 (hunt_deep p s k x n (those_drawn gs) v.rest sent.0 v.behind hunt sent.1 at behind)
-      (subst (λ hs. IsBehind p (next_stage s c h) v.behind hs sent.0) row
-      (behind_sent p s k x n (those_drawn gs) numbers v.rest sent.0 v.behind c h hunt sent.1 at is (seeks_drawn s gs seek) behind))
-      (opens (those_drawn (row_after Everyone c 0 gs numbers)) sent.0
-      (subst (λ hs. HuntAt true p (next_stage s c h) k (opened_after (next_stage s c h) (opened_at p s)) x n hs sent.0) row sent.2))
-      (subst (λ hs. AreTabled (unseen start.gear) (to_come (next_stage s c h) n k.enrolled) hs) row names)
-      (subst (λ m. v.rest + surplus p + (106 * m + 14 + spare start.any) ≤ left + 5 * v.behind)
-      (sym (lost_same c gs numbers (searching_of gs c by) (still_of gs c by)))
-      enough)
+-- somebody is without short address still
+hunt_called : (p : Purpose) (s : Stage) (k : Kept) (x : Ascent) (n : SearchAddress) (gs : List Gear) (numbers : List ℕ) (left : ℕ) (c : Command) → IsHunt p
+    → HuntAt false p s k x n (those_drawn gs) left → Sends p n k s c → IsCalledFor p x gs → IsCalledFor p x (row_after Everyone c 0 gs numbers)
+hunt_called Hunting s k x n gs numbers left c hunt at is called =
+    λ none. subst (λ m. 0 < m) (sym (leaving.count_bare_after c gs numbers (rising_one LeavesShort s k x n (those_drawn gs) left c tt tt tt tt at is)))
+    (called none)
+hunt_called Visiting s k x n gs numbers left c hunt at is called = tt
+hunt_called _ s k x n gs numbers left c hunt at is called = absurd hunt
+
+-- and the same frames follow
+hunt_after : (p : Purpose) (s : Stage) (k : Kept) (x : Ascent) (n : SearchAddress) (gs : List Gear) (numbers : List ℕ) (left : ℕ) (c : Command) → IsHunt p
+    → HuntAt false p s k x n (those_drawn gs) left → Sends p n k s c → IsSoughtBy gs c
+    → frames_after p x (row_after Everyone c 0 gs numbers) ≡ frames_after p x gs
+hunt_after Hunting s k x n gs numbers left c hunt at is by =
+    ap (λ m. hunted_after (x.found + m) (count_by is_lost (row_after Everyone c 0 gs numbers)))
+    (ap (count_by is_wanted) (sym (row_drawn c 0 gs numbers (searching_of gs c by) (still_of gs c by)))
+    ∙ leaving.core_count_wanted (those_drawn gs) (row_after Everyone c 0 (those_drawn gs) numbers)
+    (leaving.core_after c (those_drawn gs) numbers (rising_one LeavesCore s k x n (those_drawn gs) left c tt tt tt tt at is)))
+    ∙ ap (hunted_after (x.found + count_by is_wanted (those_drawn gs))) (lost_same c gs numbers (searching_of gs c by) (still_of gs c by))
+hunt_after Visiting s k x n gs numbers left c hunt at is by = ap called_after (lost_same c gs numbers (searching_of gs c by) (still_of gs c by))
+hunt_after _ s k x n gs numbers left c hunt at is by = absurd hunt
+
+hunts_sent : (p : Purpose) (s : Stage) (k : Kept) (heard : Shorts) (c : Course) (start : Begun) (gs : List Gear)
+    (numbers : List ℕ) (left : ℕ) (d : Command) (h : Answer) → IsHunt p → Hunts false p s k heard c start gs left → Sends p c.number k s d
+    → IsSurveyTaken d gs numbers h → Seeks s gs → HuntedTo p s k heard c start gs numbers left d h
+hunts_sent p s k heard c start gs numbers left d h hunt v is t seek = (
+  one.0,
+  one.1,
+  record {
+    opened_is = v.opened_is;
+    loud = v.loud;
+    first = λ some. v.first (subst (λ m. 0 < m) (lost_same d gs numbers (searching_of gs d by) (still_of gs d by)) some);
+    called = hunt_called p s k c.ascent c.number gs numbers v.rest d hunt v.at is v.called;
+    low = low_after d gs numbers (hunt_low p s k c.ascent c.number (those_drawn gs) v.rest d hunt v.at is) v.low;
+    own = v.own;
+    settled = v.settled;
+    rest = sent.0;
+    at = subst (λ hs. HuntAt true p (next_stage s d h) k c.ascent c.number hs sent.0) row sent.2;
+    tabled = subst (λ hs. AreTabled (unseen start.gear) (to_come (next_stage s d h) c.number k.enrolled) hs) row
+        (hunt_tabled (unseen start.gear) p s k c.ascent c.number (those_drawn gs) numbers v.rest sent.0 d h hunt v.at is
+        (seeks_drawn s gs seek) sent.2 v.tabled);
+    behind = v.behind;
+    behind_is = subst (λ hs. IsBehind p (next_stage s d h) v.behind hs sent.0) row
+        (behind_sent p s k c.ascent c.number (those_drawn gs) numbers v.rest sent.0 v.behind d h hunt sent.1 v.at is (seeks_drawn s gs seek) v.behind_is);
+    frames = subst (λ m. sent.0 + surplus p + (m + spare start.any c.tally.draws) ≤ one.0 + 5 * v.behind)
+        (sym (hunt_after p s k c.ascent c.number gs numbers v.rest d hunt v.at is by)) one.2;
+  },
+) where
+  by : IsSoughtBy gs d
+  by = hunted_by p s k c.ascent c.number gs v.rest d hunt v.at is seek
+
+  sent : (l : ℕ) × (v.rest ≡ suc l) × HuntAt true p (next_stage s d h) k c.ascent c.number (row_after Everyone d 0 (those_drawn gs) numbers) l
+  sent =
+      hunt_sent p s k c.ascent c.number (those_drawn gs) numbers v.rest d h hunt v.at is (taken_drawn d gs numbers h by t) (seeks_drawn s gs seek)
+
+  row : row_after Everyone d 0 (those_drawn gs) numbers ≡ those_drawn (row_after Everyone d 0 gs numbers)
+  row = row_drawn d 0 gs numbers (searching_of gs d by) (still_of gs d by)
+
+  one : (m : ℕ) × (left ≡ suc m) × (sent.0 + surplus p + (frames_after p c.ascent gs + spare start.any c.tally.draws) ≤ m + 5 * v.behind)
+  one =
+      spend_one v.rest (surplus p) (frames_after p c.ascent gs + spare start.any c.tally.draws) left v.behind sent.0 sent.1
+      (hunt_deep p s k c.ascent c.number (those_drawn gs) v.rest sent.0 v.behind hunt sent.1 v.at v.behind_is) v.frames
 
 -- ---------------------------------------------------------------- the close
 
@@ -537,18 +459,11 @@ name_kept gs numbers = after_at Terminate SameName (λ g off. (refl, refl, refl)
 
 ends_still : (any : Bool) (e : End) (k : Kept) (heard : Shorts) (gs : List Gear) (numbers : List ℕ) → SurveyEnds any e k heard gs
     → SurveyEnds any e k heard (row_after Everyone Terminate 0 gs numbers)
-ends_still any AllFound k heard gs numbers (inl all) = inl (λ i in_row on.
+ends_still any AllFound k heard gs numbers all = λ i in_row on.
     let there : i < length gs = subst (λ m. i < m) (row_length Everyone Terminate 0 gs numbers) in_row in
     let same = name_kept gs numbers i there in
     let short = all i there (sym same.0 ∙ on) in
-    (short.0, same.1 ∙ short.1))
-ends_still any AllFound k heard gs numbers (inr both) = inr (
-  both.0,
-  λ i in_row on none.
-      let there : i < length gs = subst (λ m. i < m) (row_length Everyone Terminate 0 gs numbers) in_row in
-      let same = name_kept gs numbers i there in
-      same.2 ∙ both.1 i there (sym same.0 ∙ on) (sym same.1 ∙ none),
-)
+    (short.0, same.1 ∙ short.1)
 ends_still any BlockFull k heard gs numbers well = well
 ends_still any GaveUp k heard gs numbers well = well
 
@@ -579,72 +494,24 @@ closes_sent e _ k heard n start gs numbers left c h v is = absurd v.stage_is
 
 -- ---------------------------------------------------------------- of whatever transaction
 
-asked_unopened : (s : Stage) (a asked : ℕ) (gs : List Gear) → AskStage s a asked gs → opened_after s false ≡ false
-asked_unopened stage.Opened a asked gs at = absurd at
-asked_unopened _ a asked gs at = refl
-
-abbrev pub SurveySent : Purpose → Way → Stage → Kept → Shorts → Bool → ℕ → Ascent → SearchAddress → ℕ → Begun → List Gear → List ℕ → ℕ → Command
-    → Answer → Type 0
-SurveySent p y s k heard opened asked x n from start gs numbers left c h =
+abbrev pub SurveySent : Purpose → Stage → Kept → Shorts → ℕ → Course → Begun → List Gear → List ℕ → ℕ → Command → Answer → Type 0
+SurveySent p s k heard asked c start gs numbers left d h =
     (l : ℕ) × (left ≡ suc l)
-    × SurveyAt true p y (next_stage s c h) k (heard_after p (next_stage s c h) h heard)
-    (woken_after (next_stage s c h) p (opened_after (next_stage s c h) opened)) (asked_after p (next_stage s c h) h asked) x n from start
-    (row_after Everyone c 0 gs numbers) l
+    × SurveyAt true p (next_stage s d h) k (heard_after p (next_stage s d h) h heard) (asked_after p (next_stage s d h) h asked) c start
+    (row_after Everyone d 0 gs numbers) l
 
--- nothing is woken by it, and what was opened stays so
-opened_on : (p : Purpose) (t : Stage) (opened : Bool) → (p ≡ Waking → ⊥) → opened ≡ true → woken_after t p (opened_after t opened) ≡ true
-opened_on p t opened other is = not_woken t p (opened_after t opened) other ∙ ap (opened_after t) is ∙ stays_opened t
-
-hunts_as : (p : Purpose) (y : Way) (t : Stage) (k : Kept) (heard : Shorts) (opened now : Bool) (x : Ascent) (n : SearchAddress) (start : Begun) (gs : List Gear)
-    (left : ℕ)
-    → now ≡ true → Hunts true p y t k heard opened x n start gs left → Hunts true p y t k heard now x n start gs left
-hunts_as p y t k heard opened now x n start gs left is v =
-    record {
-      way = v.way;
-      opened_is = is;
-      own = v.own;
-      settled = v.settled;
-      rest = v.rest;
-      at = v.at;
-      tabled = v.tabled;
-      behind = v.behind;
-      behind_is = v.behind_is;
-      frames = v.frames;
-    }
-
-pub survey_sent : (p : Purpose) (y : Way) (s : Stage) (k : Kept) (heard : Shorts) (opened : Bool) (asked : ℕ) (x : Ascent) (n : SearchAddress) (from : ℕ)
-    (start : Begun) (gs : List Gear) (numbers : List ℕ) (left : ℕ) (c : Command) (h : Answer) → SurveyAt false p y s k heard opened asked x n from start gs left
-    → Sends p n k s c → IsSurveyTaken c gs numbers h → IsTold k gs → Seeks s gs → SurveySent p y s k heard opened asked x n from start gs numbers left c h
-survey_sent (Asking a) y s k heard opened asked x n from start gs numbers left c h at is t told seek =
-    let sent = counts_sent a s k heard asked from n start gs numbers left c h at.2 is t.one told t.taken.heard in
-    let unwoken : woken_after (next_stage s c h) (Asking a) (opened_after (next_stage s c h) opened) ≡ false =
-    not_woken (next_stage s c h) (Asking a) (opened_after (next_stage s c h) opened) (λ e. cc)
-    ∙ ap (opened_after (next_stage s c h)) at.1 ∙ asked_unopened (next_stage s c h) a _ (row_after Everyone c 0 gs numbers) sent.2.stage_is in
-    (sent.0, sent.1, (at.0, unwoken, sent.2))
-survey_sent Waking y s k heard opened asked x n from start gs numbers left c h at is t told seek =
-    let sent = wakes_sent s k heard opened n start gs numbers left c h at.2 is in (sent.0, sent.1, (at.0, refl, sent.2))
-survey_sent Opening y s k heard opened asked x n from start gs numbers left c h at is t told seek =
-    let sent = hunts_sent Opening y s k heard opened x n start gs numbers left c h tt at is t seek in (
-      sent.0,
-      sent.1,
-      hunts_as Opening y (next_stage s c h) k heard opened _ x n start _ sent.0
-          (opened_on Opening (next_stage s c h) opened (λ e. cc) at.opened_is) sent.2,
-    )
-survey_sent Hunting y s k heard opened asked x n from start gs numbers left c h at is t told seek =
-    let sent = hunts_sent Hunting y s k heard opened x n start gs numbers left c h tt at is t seek in (
-      sent.0,
-      sent.1,
-      hunts_as Hunting y (next_stage s c h) k heard opened _ x n start _ sent.0
-          (opened_on Hunting (next_stage s c h) opened (λ e. cc) at.opened_is) sent.2,
-    )
-survey_sent Visiting y s k heard opened asked x n from start gs numbers left c h at is t told seek =
-    let sent = hunts_sent Visiting y s k heard opened x n start gs numbers left c h tt at is t seek in (
-      sent.0,
-      sent.1,
-      hunts_as Visiting y (next_stage s c h) k heard opened _ x n start _ sent.0
-          (opened_on Visiting (next_stage s c h) opened (λ e. cc) at.opened_is) sent.2,
-    )
-survey_sent (Closing e) y s k heard opened asked x n from start gs numbers left c h at is t told seek =
-    let sent = closes_sent e s k heard n start gs numbers left c h at is in (sent.0, sent.1, sent.2)
-survey_sent Probing y s k heard opened asked x n from start gs numbers left c h at is t told seek = absurd at
-survey_sent (Resolving a) y s k heard opened asked x n from start gs numbers left c h at is t told seek = absurd at
+pub survey_sent : (p : Purpose) (s : Stage) (k : Kept) (heard : Shorts) (asked : ℕ) (c : Course) (start : Begun) (gs : List Gear) (numbers : List ℕ) (left : ℕ)
+    (d : Command) (h : Answer) → SurveyAt false p s k heard asked c start gs left
+    → Sends p c.number k s d → IsSurveyTaken d gs numbers h → IsTold k gs → Seeks s gs → SurveySent p s k heard asked c start gs numbers left d h
+survey_sent (Asking a) s k heard asked c start gs numbers left d h at is t told seek =
+    let sent = counts_sent a s k heard asked c.from c.number start gs numbers left d h at.1 is t.one told t.taken.heard in (sent.0, sent.1, (at.0, sent.2))
+survey_sent Calling s k heard asked c start gs numbers left d h at is t told seek = calls_sent s k heard c start gs numbers left d h at is t seek
+survey_sent Hunting s k heard asked c start gs numbers left d h at is t told seek = hunts_sent Hunting s k heard c start gs numbers left d h tt at is t seek
+survey_sent Visiting s k heard asked c start gs numbers left d h at is t told seek = hunts_sent Visiting s k heard c start gs numbers left d h tt at is t seek
+survey_sent Drawing s k heard asked c start gs numbers left d h at is t told seek = draws_sent s k heard c start gs numbers left d h at is t
+survey_sent Opening s k heard asked c start gs numbers left d h at is t told seek =
+    let sent = opens_sent s k heard c start gs numbers left d h at.1 is t in (sent.0, sent.1, (at.0, sent.2))
+survey_sent (Closing e) s k heard asked c start gs numbers left d h at is t told seek = closes_sent e s k heard c.number start gs numbers left d h at is
+survey_sent Probing s k heard asked c start gs numbers left d h at is t told seek = absurd at
+survey_sent PassingOver s k heard asked c start gs numbers left d h at is t told seek = absurd at
+survey_sent (Resolving a) s k heard asked c start gs numbers left d h at is t told seek = absurd at

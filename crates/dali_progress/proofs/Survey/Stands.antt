@@ -1,7 +1,9 @@
 use Rattle.std.proofs.Common.{◌≡◌, ℕ, ◌+◌, ◌-◌, ◌*◌, ◌<◌, ◌≤◌, ◌⊎◌, Bool, true, false, zero, suc, List, Some, None}
+use Rattle.std.specs.Prelude.{◌==◌, if◌then◌else◌}
 use Rattle.std.specs.List.{count_by}
+use Rattle.dali_frame.specs.declared.frames.Answer.{Answer}
 use Rattle.dali_frame.specs.declared.numbers.SearchAddress.{SearchAddress}
-use Rattle.dali_frame.specs.Random.{value_of, high_of, middle_of}
+use Rattle.dali_frame.specs.Random.{value_of, high_of, middle_of, MASK24}
 use Rattle.dali_gear.specs.Gear.{Gear}
 use Rattle.dali_script.specs.Records.{Assignment, Kept, Has, HasAddress, InBlock}
 use Rattle.dali_script.specs.declared.stage.Stage.{Stage}
@@ -14,21 +16,24 @@ use Rattle.dali_search.specs.Least.{Gives}
 use Rattle.dali_search.specs.Ascending.{Ascent, IsAscent, Knows, asked_next, leads_to}
 use Rattle.dali_search.specs.Questions.{Asking, has_room, frames_to_ask, room_left, thirds_to_somebody, thirds_to_nobody, IsTrueWay}
 use Rattle.dali_controller.specs.declared.purpose.Purpose.{Purpose}
-use Rattle.dali_controller.specs.declared.purpose.Purpose.TheVariants.{Opening, Probing, Visiting, Resolving, Closing, Waking, Hunting, Asking as Counting}
+use Rattle.dali_controller.specs.declared.purpose.Purpose.TheVariants.{Opening, Probing, Visiting, Resolving, Closing, Hunting, Asking as Counting, Calling}
+use Rattle.dali_controller.specs.declared.purpose.Purpose.TheVariants.{Drawing, PassingOver}
 use Rattle.dali_controller.specs.declared.shorts.Shorts.{Shorts}
-use Rattle.dali_controller.specs.declared.way.Way.{Way}
-use Rattle.dali_controller.specs.declared.way.Way.TheVariants.{Fresh, Surveying, Drawing}
+use Rattle.dali_controller.specs.declared.tally.Tally.{Tally}
+use Rattle.dali_controller.specs.declared.way.Way.TheVariants.{Surveying}
 use Rattle.dali_controller.specs.Shorts.{has_short}
-use Rattle.dali_controller.specs.Course.{is_anothers, is_yes, sought, bytes_to_send}
-use Rattle.dali_controller.specs.Machine.{Machine, opened_after}
+use Rattle.dali_controller.specs.Course.{Course, is_anothers, is_yes, sought, bytes_to_send}
+use Rattle.dali_controller.specs.Machine.{Machine}
+use Rattle.dali_controller.specs.Tally.{none_passed}
 use Rattle.dali_events.specs.Searching.{HasShort}
 use Rattle.dali_events.specs.Wanted.{gear_of, is_bare, is_wanted, wants, OfPowered, IsOpened, NoneNamed}
-use Rattle.dali_events.proofs.Search.Leaving.{SameCore}
+use Rattle.dali_events.proofs.Search.Leaving.{SameCore, SeekHigh, SeekMiddle}
 use Rattle.dali_events.proofs.Search.Opened.{AreOpening}
-use Rattle.dali_progress.specs.Ends.{AreTabled, NoneButUndrawn}
+use Rattle.dali_progress.specs.Ends.{AreTabled}
 use Rattle.dali_progress.specs.Rounds.{IsSettled}
-use Rattle.dali_progress.proofs.Stands.{to_come, search_frames, Opens, VisitsAt, CloseStage, sent_at}
+use Rattle.dali_progress.proofs.Stands.{to_come, search_frames, VisitsAt, CloseStage, sent_at}
 use Rattle.dali_progress.proofs.Survey.Drawn.{those_drawn, is_lost}
+use Rattle.dali_progress.proofs.Survey.Woken.{AreLow}
 use Rattle.dali_progress.proofs.Survey.Queried.{Holds, Nobody, TabledBelow, unseen}
 
 -- HOW FAR A SURVEY IS, where nothing is disturbed. `start` are the gear at its start.
@@ -40,14 +45,16 @@ pub record Begun : Type 0 where
 
 -- ---------------------------------------------------------------- the census
 
--- of any records what is reserved may be another's: then the search under the old numbers may be left off in a visit
-abbrev pub spare : Bool → ℕ
-spare true = 72
-spare false = 0
+-- Of any records what is reserved may be another's: then a search may be left off in a visit, and gear draw new numbers, as
+-- often as they still may.
+abbrev pub spare : Bool → ℕ → ℕ
+spare true draws = 86 * (3 - draws)
+spare false draws = 0
 
--- so many frames take the wake, the two searches, the opening and the close, for so many gear without short address
-abbrev pub wake_frames : Begun → List Gear → ℕ
-wake_frames start gs = 106 * count_by is_bare gs + 27 + spare start.any
+-- so many frames take the roll call, the two hunts, the draw between them, the roll calls after them and the close, for so many
+-- gear without short address
+abbrev pub survey_frames : Begun → List Gear → ℕ
+survey_frames start gs = 106 * count_by is_bare gs + 66 + spare start.any 0
 
 -- and so many the short address that is asked: three where it is silent, and three where it tells its random address
 abbrev pub silent_left : ℕ → ℕ
@@ -85,6 +92,12 @@ IsClearAt (stage.HighAsked b (Some v)) a k heard = IsClearBut k heard a
 IsClearAt (stage.MiddleAsked b x) a k heard = IsClearBut k heard a
 IsClearAt _ a k heard = IsClear k heard
 
+-- before the first roll call
+pub record IsUncalled (c : Course) : Type 0 where
+  pub unopened : c.opened ≡ false
+  pub undrawn : c.tally.draws ≡ 0
+  pub loud : c.tally.is_silent ≡ false
+
 pub record Counts (a : ℕ) (s : Stage) (k : Kept) (heard : Shorts) (asked from : ℕ) (start : Begun) (gs : List Gear) (left : ℕ) : Type 0 where
   pub small : a < 64
   pub from_is : from ≡ a + 1
@@ -93,56 +106,168 @@ pub record Counts (a : ℕ) (s : Stage) (k : Kept) (heard : Shorts) (asked from 
   pub same : SameCore start.gear gs
   pub stage_is : AskStage s a asked gs
   pub tabled : TabledBelow a start.gear k.enrolled gs
-  pub frames : 3 * (63 - a) + asked_left s asked + wake_frames start gs ≤ left
+  pub frames : 3 * (63 - a) + asked_left s asked + survey_frames start gs ≤ left
 
--- ---------------------------------------------------------------- the wake
+-- ---------------------------------------------------------------- the frames of the roll call, and of what follows it
 
-abbrev pub WakeStage : Stage → Bool → Type 0
-WakeStage stage.Free opened = opened ≡ false
-WakeStage stage.Terminated opened = opened ≡ false
-WakeStage stage.InitialisedOnce opened = opened ≡ false
-WakeStage stage.Initialised opened = opened ≡ true
-WakeStage _ opened = ⊥
+-- After a hunt in which nobody is left, but for one frame of it, which is counted with the hunt. Where it found somebody, the
+-- roll is called: twice, and the close comes; or those who never drew are heard, and draw after a hunt in vain. Where it found
+-- nobody, these draw.
+abbrev pub called_after : ℕ → ℕ
+called_after zero = 16
+called_after (suc lost) = 106 * suc lost + 49
 
-pub record Wakes (s : Stage) (k : Kept) (heard : Shorts) (opened : Bool) (start : Begun) (gs : List Gear) (left : ℕ) : Type 0 where
-  pub stage_is : WakeStage s opened
-  pub settled : start.any ≡ false → IsSettled k
-  pub clear : start.any ≡ false → IsClear k heard
-  pub gear : AreOpening s gs
-  pub tabled : AreTabled (unseen start.gear) k.enrolled gs
-  pub frames : wake_frames start gs ≤ left + sent_at s
+abbrev pub hunted_after : ℕ → ℕ → ℕ
+hunted_after zero lost = 106 * lost + 33
+hunted_after (suc found) lost = called_after lost
 
--- ---------------------------------------------------------------- the two searches, and the opening between them
+-- a roll call, with so many gear without short address that drew a number, and so many that never did
+abbrev pub roll_frames : Bool → ℕ → ℕ → ℕ
+roll_frames silent drawn lost =
+    if drawn + lost == 0 then (if silent then 9 else 17) else 106 * drawn + 17 + hunted_after drawn lost
 
 -- what is reserved is nobody else's
 abbrev pub IsOwn : Kept → Shorts → Type 0
 IsOwn k heard = (a r : ℕ) → Has k.reserved (a, r) → is_anothers k heard a r ≡ false
 
--- the gear that the search sees: under old numbers those that drew one
-abbrev pub searched_by : Way → List Gear → List Gear
-searched_by Fresh gs = gs
-searched_by Surveying gs = those_drawn gs
-searched_by Drawing gs = gs
+-- once gear have drawn a number, each has one
+abbrev pub IsFirstDraw : Tally → List Gear → Type 0
+IsFirstDraw y gs = 0 < count_by is_lost gs → y.draws ≡ 0
 
--- and the frames that come after it
-abbrev pub frames_after : Way → Begun → List Gear → ℕ
-frames_after Fresh start gs = 0
-frames_after Surveying start gs = 106 * count_by is_lost gs + 14 + spare start.any
-frames_after Drawing start gs = 0
+-- from INITIALISE on, what is true of each gear before it draws
+abbrev pub woken_at : Stage → Stage
+woken_at (stage.WokenHigh high) = stage.Initialised
+woken_at (stage.WokenLow high low) = stage.Initialised
+woken_at (stage.WokenMiddle high middle) = stage.Initialised
+woken_at stage.DrawFree = stage.Initialised
+woken_at (stage.Hunted r last left) = stage.Initialised
+woken_at s = s
 
--- and is enrolled, but for the number that is visited
+-- ---------------------------------------------------------------- the roll call
+
+-- nobody answers only where nobody is without short address
+abbrev pub IsCalledBy : Answer → ℕ → List Gear → Type 0
+IsCalledBy h left gs =
+    ((is_yes h ≡ false) × (count_by is_bare gs ≡ 0) × (left < 2)) ⊎ ((is_yes h ≡ true) × (0 < count_by is_bare gs) × (left ≡ 1))
+
+abbrev pub CallStage : Stage → SearchAddress → List Gear → Type 0
+CallStage stage.Free n gs = Unit {0}
+CallStage stage.Terminated n gs = Unit {0}
+CallStage stage.InitialisedOnce n gs = Unit {0}
+CallStage stage.Initialised n gs = Unit {0}
+CallStage (stage.WokenHigh high) n gs = n.high ≡ high
+CallStage (stage.WokenLow high low) n gs = (n.high ≡ high) × (n.low ≡ low)
+CallStage (stage.Hunted r None left) n gs = (r ≡ n) × (left ≡ 2)
+CallStage (stage.Hunted r (Some h) left) n gs = (r ≡ n) × IsCalledBy h left gs
+CallStage _ n gs = ⊥
+
+-- once the low byte was sent
+abbrev pub IsLowAt : Stage → List Gear → Type 0
+IsLowAt (stage.WokenLow high low) gs = AreLow gs
+IsLowAt (stage.Hunted r last left) gs = AreLow gs
+IsLowAt _ gs = Unit {0}
+
+-- so many of its frames were sent
+abbrev pub call_sent : Stage → ℕ
+call_sent stage.Terminated = 1
+call_sent stage.InitialisedOnce = 2
+call_sent stage.Initialised = 3
+call_sent (stage.WokenHigh high) = 4
+call_sent (stage.WokenLow high low) = 5
+call_sent (stage.Hunted r last left) = 8 - left
+call_sent _ = 0
+
+pub record Calls (s : Stage) (k : Kept) (heard : Shorts) (c : Course) (start : Begun) (gs : List Gear) (left : ℕ) : Type 0 where
+  pub opened_is : c.opened ≡ true
+  pub number : c.number ≡ sought MASK24
+  pub stage_is : CallStage s c.number gs
+  pub quiet : c.tally.is_silent ≡ true → count_by is_bare gs ≡ 0
+  pub first : IsFirstDraw c.tally gs
+  pub own : start.any ≡ false → IsOwn k heard
+  pub settled : start.any ≡ false → IsSettled k
+  pub gear : AreOpening (woken_at s) gs
+  pub low : IsLowAt s gs
+  pub tabled : AreTabled (unseen start.gear) k.enrolled gs
+  pub frames : roll_frames c.tally.is_silent (count_by is_bare (those_drawn gs)) (count_by is_lost gs) + spare start.any c.tally.draws
+      ≤ left + call_sent s
+
+-- ---------------------------------------------------------------- gear draw
+
+-- at an opening whichever number they have; else only where nobody is to be searched, since nobody has drawn
+abbrev pub DrawStage : Purpose → Stage → SearchAddress → List Gear → Type 0
+DrawStage p stage.Free n gs = Unit {0}
+DrawStage p stage.Terminated n gs = Unit {0}
+DrawStage p stage.InitialisedOnce n gs = Unit {0}
+DrawStage p stage.Initialised n gs = Unit {0}
+DrawStage Drawing (stage.WokenHigh high) n gs = (n.high ≡ high) × SeekHigh gs high
+DrawStage Drawing (stage.WokenMiddle high middle) n gs = (n.high ≡ high) × (n.middle ≡ middle) × SeekMiddle gs high middle
+DrawStage Drawing stage.DrawFree n gs = Unit {0}
+DrawStage p stage.RandomisedOnce n gs = Unit {0}
+DrawStage p stage.Opened n gs = Unit {0}
+DrawStage p _ n gs = ⊥
+
+-- so many frames of it are still to be sent
+abbrev pub draw_left : Purpose → Stage → ℕ
+draw_left Drawing stage.Free = 8
+draw_left Drawing stage.Terminated = 7
+draw_left Drawing stage.InitialisedOnce = 6
+draw_left Drawing stage.Initialised = 5
+draw_left Drawing (stage.WokenHigh high) = 4
+draw_left Drawing (stage.WokenMiddle high middle) = 3
+draw_left Drawing stage.DrawFree = 2
+draw_left p stage.Free = 5
+draw_left p stage.Terminated = 4
+draw_left p stage.InitialisedOnce = 3
+draw_left p stage.Initialised = 2
+draw_left p stage.RandomisedOnce = 1
+draw_left p _ = 0
+
+-- gear with power and without short address have no number yet
+abbrev pub NoneDrawn : List Gear → Type 0
+NoneDrawn gs = OfPowered gs (λ g. g.short ≡ None → g.random ≡ MASK24)
+
+abbrev pub IsDrawnBy : Purpose → Stage → SearchAddress → List Gear → Type 0
+IsDrawnBy Drawing stage.DrawFree n gs = Unit {0}
+IsDrawnBy Drawing stage.RandomisedOnce n gs = Unit {0}
+IsDrawnBy Drawing stage.Opened n gs = Unit {0}
+IsDrawnBy Drawing s n gs = NoneDrawn gs × (n ≡ sought 0xFFFEFE)
+IsDrawnBy p s n gs = Unit {0}
+
+-- how often they draw, at the most
+abbrev pub most_drawn : Bool → ℕ
+most_drawn true = 3
+most_drawn false = 1
+
+pub record Draws (p : Purpose) (s : Stage) (k : Kept) (heard : Shorts) (c : Course) (start : Begun) (gs : List Gear) (left : ℕ) : Type 0 where
+  pub opened_is : c.opened ≡ true
+  pub stage_is : DrawStage p s c.number gs
+  pub loud : c.tally.is_silent ≡ false
+  pub few : c.tally.draws ≤ most_drawn start.any
+  pub somebody : 0 < count_by is_bare gs
+  pub drawn : IsDrawnBy p s c.number gs
+  pub own : start.any ≡ false → IsOwn k heard
+  pub settled : start.any ≡ false → IsSettled k
+  pub gear : AreOpening (woken_at s) gs
+  pub low : AreLow gs
+  pub tabled : AreTabled (unseen start.gear) k.enrolled gs
+  pub frames : draw_left p s + 106 * count_by is_bare gs + 26 + spare start.any c.tally.draws ≤ left
+
+-- ---------------------------------------------------------------- the hunts
+
+-- what is reserved is enrolled, but for the number that is visited
 abbrev pub IsSettledBut : Purpose → SearchAddress → Kept → Type 0
 IsSettledBut Visiting n k = (x : Assignment) → Has k.reserved x → Has k.enrolled x ⊎ (x.1 ≡ value_of n)
 IsSettledBut p n k = IsSettled k
 
--- only what draws opens
-abbrev pub IsOnWay : Purpose → Way → Type 0
-IsOnWay Opening y = y ≡ Drawing
-IsOnWay p y = y ≡ Fresh → ⊥
+-- a hunt that found nobody yet began since somebody was heard
+abbrev pub IsCalledFor : Purpose → Ascent → List Gear → Type 0
+IsCalledFor Hunting x gs = x.found ≡ 0 → 0 < count_by is_bare gs
+IsCalledFor p x gs = Unit {0}
 
-abbrev pub opened_at : Purpose → Stage → Bool
-opened_at Opening s = opened_after s false
-opened_at p s = true
+-- the frames that come after it
+abbrev pub frames_after : Purpose → Ascent → List Gear → ℕ
+frames_after Hunting x gs = hunted_after (x.found + count_by is_wanted (those_drawn gs)) (count_by is_lost gs)
+frames_after p x gs = called_after (count_by is_lost gs)
 
 -- ---------------------------------------------------------------- the search that goes up
 
@@ -202,37 +327,37 @@ pub record IsReached (s : Stage) (x : Ascent) (n : SearchAddress) (gs : List Gea
   pub reached : leads_to x ≡ Reached (value_of n)
   pub least : IsLeastAt s n gs
 
-abbrev pub HuntAt : Bool → Purpose → Stage → Kept → Bool → Ascent → SearchAddress → List Gear → ℕ → Type 0
-HuntAt told Opening s k opened x n gs left = Opens s opened gs left
-HuntAt told Hunting s k opened x n gs left = (opened ≡ true) × Rises told s x n gs left
-HuntAt told Visiting s k opened x n gs left = (opened ≡ true) × VisitsAt s k n gs left × IsReached s x n gs
-HuntAt told _ s k opened x n gs left = ⊥
+abbrev pub HuntAt : Bool → Purpose → Stage → Kept → Ascent → SearchAddress → List Gear → ℕ → Type 0
+HuntAt told Hunting s k x n gs left = Rises told s x n gs left
+HuntAt told Visiting s k x n gs left = VisitsAt s k n gs left × IsReached s x n gs
+HuntAt told _ s k x n gs left = ⊥
 
--- The frames of openings and visits are those of a start, so they count 111 for each gear that is still to be found. The search
--- that goes up needs 106 for each, and some more where it ends: so many gear are behind, and five frames less for each of them.
+-- The frames of visits are those of a start, so they count 111 for each gear that is still to be found. The search that goes up
+-- needs 106 for each, and some more where it ends: so many gear are behind, and five frames less for each of them.
 abbrev pub surplus : Purpose → ℕ
-surplus Opening = 5
 surplus Visiting = 27
 surplus p = 0
 
 abbrev pub IsBehind : Purpose → Stage → ℕ → List Gear → ℕ → Type 0
-IsBehind Opening s behind gs left = behind ≡ count_by is_bare gs
 IsBehind Visiting (stage.Withdrawn r a) behind gs left = (count_by is_wanted gs ≤ behind) × (search_frames behind ≤ left)
 IsBehind Visiting s behind gs left = count_by is_wanted gs ≡ suc behind
 IsBehind p s behind gs left = behind ≡ 0
 
-pub record Hunts (told : Bool) (p : Purpose) (y : Way) (s : Stage) (k : Kept) (heard : Shorts) (opened : Bool) (x : Ascent) (n : SearchAddress)
-    (start : Begun) (gs : List Gear) (left : ℕ) : Type 0 where
-  pub way : IsOnWay p y
-  pub opened_is : opened ≡ true
+pub record Hunts (told : Bool) (p : Purpose) (s : Stage) (k : Kept) (heard : Shorts) (c : Course) (start : Begun) (gs : List Gear)
+    (left : ℕ) : Type 0 where
+  pub opened_is : c.opened ≡ true
+  pub loud : c.tally.is_silent ≡ false
+  pub first : IsFirstDraw c.tally gs
+  pub called : IsCalledFor p c.ascent gs
+  pub low : AreLow gs
   pub own : start.any ≡ false → IsOwn k heard
-  pub settled : start.any ≡ false → IsSettledBut p n k
+  pub settled : start.any ≡ false → IsSettledBut p c.number k
   pub rest : ℕ
-  pub at : HuntAt told p s k (opened_at p s) x n (searched_by y gs) rest
-  pub tabled : AreTabled (unseen start.gear) (to_come s n k.enrolled) (searched_by y gs)
+  pub at : HuntAt told p s k c.ascent c.number (those_drawn gs) rest
+  pub tabled : AreTabled (unseen start.gear) (to_come s c.number k.enrolled) (those_drawn gs)
   pub behind : ℕ
-  pub behind_is : IsBehind p s behind (searched_by y gs) rest
-  pub frames : rest + surplus p + frames_after y start gs ≤ left + 5 * behind
+  pub behind_is : IsBehind p s behind (those_drawn gs) rest
+  pub frames : rest + surplus p + (frames_after p c.ascent gs + spare start.any c.tally.draws) ≤ left + 5 * behind
 
 -- ---------------------------------------------------------------- the close
 
@@ -245,7 +370,7 @@ abbrev pub HasAnothers : Kept → Shorts → Type 0
 HasAnothers k heard = (a : ℕ) × (r : ℕ) × Has k.reserved (a, r) × (is_anothers k heard a r ≡ true)
 
 abbrev pub SurveyEnds : Bool → End → Kept → Shorts → List Gear → Type 0
-SurveyEnds any AllFound k heard gs = OfPowered gs HasShort ⊎ (AreTaken k heard × NoneButUndrawn gs)
+SurveyEnds any AllFound k heard gs = OfPowered gs HasShort
 SurveyEnds any BlockFull k heard gs = AreTaken k heard ⊎ ((any ≡ true) × HasAnothers k heard)
 SurveyEnds any GaveUp k heard gs = ⊥
 
@@ -258,20 +383,27 @@ pub record SurveyCloses (e : End) (s : Stage) (k : Kept) (heard : Shorts) (start
 
 -- ---------------------------------------------------------------- of whatever transaction
 
-abbrev pub SurveyAt : Bool → Purpose → Way → Stage → Kept → Shorts → Bool → ℕ → Ascent → SearchAddress → ℕ → Begun → List Gear → ℕ → Type 0
-SurveyAt told (Counting a) y s k heard opened asked x n from start gs left =
-    (y ≡ Surveying) × (opened ≡ false) × Counts a s k heard asked from start gs left
-SurveyAt told Waking y s k heard opened asked x n from start gs left = (y ≡ Surveying) × (asked ≡ 0) × Wakes s k heard opened start gs left
-SurveyAt told Opening y s k heard opened asked x n from start gs left = Hunts told Opening y s k heard opened x n start gs left
-SurveyAt told Hunting y s k heard opened asked x n from start gs left = Hunts told Hunting y s k heard opened x n start gs left
-SurveyAt told Visiting y s k heard opened asked x n from start gs left = Hunts told Visiting y s k heard opened x n start gs left
-SurveyAt told (Closing e) y s k heard opened asked x n from start gs left = SurveyCloses e s k heard start gs left
-SurveyAt told Probing y s k heard opened asked x n from start gs left = ⊥
-SurveyAt told (Resolving a) y s k heard opened asked x n from start gs left = ⊥
+abbrev pub SurveyAt : Bool → Purpose → Stage → Kept → Shorts → ℕ → Course → Begun → List Gear → ℕ → Type 0
+SurveyAt told (Counting a) s k heard asked c start gs left = IsUncalled c × Counts a s k heard asked c.from start gs left
+SurveyAt told Calling s k heard asked c start gs left = Calls s k heard c start gs left
+SurveyAt told Hunting s k heard asked c start gs left = Hunts told Hunting s k heard c start gs left
+SurveyAt told Visiting s k heard asked c start gs left = Hunts told Visiting s k heard c start gs left
+SurveyAt told Drawing s k heard asked c start gs left = Draws Drawing s k heard c start gs left
+SurveyAt told Opening s k heard asked c start gs left = (start.any ≡ true) × Draws Opening s k heard c start gs left
+SurveyAt told (Closing e) s k heard asked c start gs left = SurveyCloses e s k heard start gs left
+SurveyAt told Probing s k heard asked c start gs left = ⊥
+SurveyAt told PassingOver s k heard asked c start gs left = ⊥
+SurveyAt told (Resolving a) s k heard asked c start gs left = ⊥
+
+-- where no visit fails, nobody is passed over, and no short address is asked again
+pub record IsSmooth (c : Course) : Type 0 where
+  pub way : c.way ≡ Surveying
+  pub passed : c.tally.passed ≡ none_passed
+  pub unmissed : c.tally.is_missed ≡ false
 
 pub record SurveyStands (told : Bool) (start : Begun) (m : Machine) (gs : List Gear) (left : ℕ) : Type 0 where
   pub tries : m.tries ≡ 0
   pub silent : m.silent ≡ 0
+  pub smooth : IsSmooth m.course
   pub trace : IsTrace (stage_of m.trace) m.trace
-  pub at : SurveyAt told m.course.purpose m.course.way (stage_of m.trace) m.kept m.heard m.opened m.asked m.course.ascent m.course.number m.course.from
-      start gs left
+  pub at : SurveyAt told m.course.purpose (stage_of m.trace) m.kept m.heard m.asked m.course start gs left

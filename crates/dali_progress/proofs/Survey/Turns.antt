@@ -1,12 +1,15 @@
 use Rattle.std.proofs.Common.{◌≡◌, ℕ, ◌+◌, ◌-◌, ◌*◌, ◌<◌, ◌≤◌, ◌⊎◌, inl, inr, Bool, true, false, zero, suc, List, [], ◌∷◌, ◌++◌, refl, sym, ap, subst, ◌∙◌}
 use Rattle.std.proofs.Common.{arith, Some, None}
-use Rattle.std.specs.Prelude.{◌==◌, nat_lt}
+use Rattle.std.specs.Prelude.{◌==◌, ◌&&◌, not, nat_lt, if◌then◌else◌}
 use Rattle.std.specs.List.{count_by}
 use Rattle.std.proofs.lemmas.Bool.Decides.{nat_tests}
+use Rattle.dali_frame.specs.declared.frames.Answer.{Answer}
+use Rattle.dali_frame.specs.declared.frames.Answer.TheVariants.{Silence, Byte, Damaged}
 use Rattle.dali_frame.specs.declared.frames.Forward.{Forward}
+use Rattle.dali_frame.specs.declared.numbers.SearchAddress.{SearchAddress}
 use Rattle.dali_frame.specs.Random.{MASK24}
 use Rattle.dali_frame.specs.Priority.{LATER}
-use Rattle.dali_special.specs.declared.command.Command.TheVariants.{RandomByte, Initialise}
+use Rattle.dali_special.specs.declared.command.Command.TheVariants.{RandomByte, Initialise, Compare}
 use Rattle.dali_special.specs.declared.command.Part.TheVariants.{Middle, Low}
 use Rattle.dali_special.specs.declared.command.Target.TheVariants.{Unaddressed}
 use Rattle.dali_special.specs.Command.{command_of}
@@ -22,12 +25,14 @@ use Rattle.dali_script.specs.Stages.{stage_of, finding_at}
 use Rattle.dali_script.proofs.Lists.{has_last, has_before}
 use Rattle.dali_script.specs.declared.orders.Order.{Order}
 use Rattle.dali_script.specs.declared.orders.Order.TheVariants.{Put, Commit, Done, Halt}
-use Rattle.dali_controller.specs.declared.purpose.Purpose.TheVariants.{Asking, Waking}
-use Rattle.dali_controller.specs.declared.way.Way.TheVariants.{Surveying}
-use Rattle.dali_controller.specs.Course.{Course}
+use Rattle.dali_script.specs.declared.orders.End.TheVariants.{AllFound}
+use Rattle.dali_controller.specs.declared.purpose.Purpose.TheVariants.{Asking, Calling}
+use Rattle.dali_controller.specs.declared.tally.Tally.{Tally}
+use Rattle.dali_controller.specs.Course.{Course, call_turn, calling, closing, hunting_first, is_yes}
+use Rattle.dali_controller.specs.Tally.{none_passed, is_some_passed, heard_call, silent_call}
 use Rattle.dali_controller.specs.Machine.{Machine}
-use Rattle.dali_controller.specs.Next.{next_course, begins_at, beginning, asked_once}
-use Rattle.dali_controller.specs.Orders.{machine_ordered, Contradicts, AfterFinding, IsSought}
+use Rattle.dali_controller.specs.Next.{next_course, begins_at, beginning, asked_once, called_to, compared_in, blocked, is_blocked}
+use Rattle.dali_controller.specs.Orders.{machine_ordered, asked_by, Contradicts, AfterFinding, IsSought}
 use Rattle.dali_controller.specs.Whole.{IsWhole, Sends as SendsWhole}
 use Rattle.dali_controller.proofs.Given as given
 use Rattle.dali_controller.proofs.Given.{IsGivenBy, IsNoEnrolment}
@@ -38,8 +43,11 @@ use Rattle.dali_progress.proofs.Later.{course_stays}
 use Rattle.dali_progress.proofs.Census.Asked.{sending_of}
 use Rattle.dali_progress.proofs.Survey.Drawn.{those_drawn, is_lost, AreNumbered, bare_split, woken_opened, woken_none_named, tabled_drawn}
 use Rattle.dali_progress.proofs.Survey.Queried.{Holds, OneShort, IsTrue, unseen, below_next}
-use Rattle.dali_progress.proofs.Survey.Stands.{Begun, spare, wake_frames, silent_left, Counts, Wakes, SurveyStands}
-use Rattle.dali_progress.proofs.Survey.Begins.{IsNext, calm_of, calm_ordered, turns_by, first_by, begins_whole, asks_on, hunts_first, own_settled}
+use Rattle.dali_progress.proofs.Survey.Stands.{Begun, spare, survey_frames, silent_left, Counts, IsUncalled, IsCalledBy, Calls, hunted_after, SurveyAt}
+use Rattle.dali_progress.proofs.Survey.Stands.{SurveyStands}
+use Rattle.dali_progress.proofs.Survey.Woken.{all_short}
+use Rattle.dali_progress.proofs.Survey.Begins.{IsNext, calm_of, calm_ordered, smooth_as, turns_by, first_by, begins_whole, asked_none, asks_on, hunts_first}
+use Rattle.dali_progress.proofs.Survey.Begins.{roll_some, roll_none}
 
 -- A CONTROLLER THAT SURVEYS ACTS on what it was told, and what it orders goes on with the survey.
 
@@ -70,10 +78,10 @@ again_left zero e = absurd (let none : (zero == 0) ≡ true = refl in cc)
 again_left (suc k) e = omega arith
 
 silent_turns : (start : Begun) (t : Machine) (o : Order) (a b : ℕ) (gs : List Gear) (left : ℕ) → IsGivenBy t o → SurveyStands true start t gs left
-    → IsNoEnrolment t.last → t.course.purpose ≡ Asking a → stage_of t.trace ≡ stage.HighAsked b None → t.course.way ≡ Surveying → t.opened ≡ false
+    → IsNoEnrolment t.last → t.course.purpose ≡ Asking a → stage_of t.trace ≡ stage.HighAsked b None → IsUncalled t.course
     → Counts a (stage.HighAsked b None) t.kept t.heard t.asked t.course.from start gs left → IsWhole (machine_ordered t o)
     → OneShort gs → IsTrue t.kept.enrolled gs → IsNext start (machine_ordered t o) o gs left
-silent_turns start t o a b gs left g st last purpose is surveys opened v whole one holds = go (t.asked == 0) refl where
+silent_turns start t o a b gs left g st last purpose is uncalled v whole one holds = go (t.asked == 0) refl where
   begins : o ≡ beginning (next_course t)
   begins =
       begins_whole t o (stage.HighAsked b None) g is (λ r e. cc) (λ e. cc) (found_at start t gs left (stage.HighAsked b None) st is) last
@@ -84,18 +92,19 @@ silent_turns start t o a b gs left g st last purpose is surveys opened v whole o
 
   go : (e : Bool) → (t.asked == 0) ≡ e → IsNext start (machine_ordered t o) o gs left
   go true none =
-      asks_on start t o (a + 1) gs left (calm_of start t gs left st) begins (next ∙ ap (asked_once t) none) surveys opened
+      asks_on start t o (a + 1) gs left (calm_of start t gs left st) begins (next ∙ ap (asked_once t) none) uncalled
       (let zero_is : t.asked ≡ 0 = grind (arith, nat_tests, none) in zero_is) v.from_is
       (let small : a < 64 = v.small in omega (arith, small)) v.settled v.clear one holds v.same
       (below_next a start.gear t.kept.enrolled t.kept.enrolled gs v.same v.tabled (λ x h. h) (λ i holds. absurd (v.stage_is.1 i holds)))
-      (count (silent_left t.asked) (wake_frames start gs) v.small v.frames) where
+      (count (silent_left t.asked) (survey_frames start gs) v.small v.frames) where
         count : (some wake : ℕ) → a < 64 → 3 * (63 - a) + some + wake ≤ left → 3 * (64 - (a + 1)) + wake ≤ left
         count some wake small enough = omega (arith, small, enough)
   go false again =
-      first_by start t o t.course gs left (calm_of start t gs left st) begins (next ∙ ap (asked_once t) again)
-      (rw purpose v.small) (rw purpose (
-        surveys,
-        opened,
+      first_by start t o t.course gs left (calm_of start t gs left st) begins (next ∙ ap (asked_once t) again) st.smooth
+      (rw purpose v.small)
+      (subst (λ n. SurveyAt false t.course.purpose stage.Free t.kept t.heard n t.course start gs left)
+      (sym (ap (λ b. asked_by b t.asked) uncalled.unopened)) (rw purpose (
+        record { unopened = uncalled.unopened; undrawn = uncalled.undrawn; loud = uncalled.loud },
         record {
           small = v.small;
           from_is = v.from_is;
@@ -104,18 +113,18 @@ silent_turns start t o a b gs left g st last purpose is surveys opened v whole o
           same = v.same;
           stage_is = inr (v.stage_is.1, v.stage_is.2);
           tabled = v.tabled;
-          frames = count (3 - t.asked) (silent_left t.asked) (wake_frames start gs) (again_left t.asked again) v.frames;
+          frames = count (3 - t.asked) (silent_left t.asked) (survey_frames start gs) (again_left t.asked again) v.frames;
         },
-      )) where
+      ))) where
         count : (now some wake : ℕ) → now ≤ some → 3 * (63 - a) + some + wake ≤ left → 3 * (63 - a) + now + wake ≤ left
         count now some wake less enough = omega (arith, less, enough)
 
 -- three bytes told a number
 told_turns : (start : Begun) (t : Machine) (o : Order) (a b n : ℕ) (gs : List Gear) (left : ℕ) → IsGivenBy t o → SurveyStands true start t gs left
-    → t.course.purpose ≡ Asking a → stage_of t.trace ≡ stage.Spelled b (Some n) → t.course.way ≡ Surveying → t.opened ≡ false
+    → t.course.purpose ≡ Asking a → stage_of t.trace ≡ stage.Spelled b (Some n) → IsUncalled t.course
     → Counts a (stage.Spelled b (Some n)) t.kept t.heard t.asked t.course.from start gs left → IsKept t.kept → AreNumbered gs → OneShort gs
     → IsTrue t.kept.enrolled gs → IsUncontradicted t → IsNext start (machine_ordered t o) o gs left
-told_turns start t o a b n gs left g st purpose is surveys opened v kept numbered one holds agrees = go (nat_lt n MASK24) refl where
+told_turns start t o a b n gs left g st purpose is uncalled v kept numbered one holds agrees = go (nat_lt n MASK24) refl where
   count : (wake : ℕ) → a < 64 → 3 * (63 - a) + 0 + wake ≤ left → 3 * (64 - (a + 1)) + wake ≤ left
   count wake small enough = omega (arith, small, enough)
 
@@ -130,10 +139,10 @@ told_turns start t o a b n gs left g st purpose is surveys opened v kept numbere
       → ((i : ℕ) → Holds gs i a → ((gear_of gs i).random ≡ MASK24) ⊎ Has t.kept.enrolled (a, (gear_of gs i).random))
       → IsNext start (machine_ordered t q) q gs left
   goes q begins here =
-      asks_on start t q (a + 1) gs left (calm_of start t gs left st) begins (ap (begins_at t) is) surveys opened v.stage_is.2 v.from_is
+      asks_on start t q (a + 1) gs left (calm_of start t gs left st) begins (ap (begins_at t) is) uncalled v.stage_is.2 v.from_is
       (let small : a < 64 = v.small in omega (arith, small)) v.settled v.clear one holds v.same
       (below_next a start.gear t.kept.enrolled t.kept.enrolled gs v.same v.tabled (λ x h. h) here)
-      (count (wake_frames start gs) v.small v.frames)
+      (count (survey_frames start gs) v.small v.frames)
 
   none_drawn : (n < MASK24 → ⊥) → (i : ℕ) → Holds gs i a → ((gear_of gs i).random ≡ MASK24) ⊎ Has t.kept.enrolled (a, (gear_of gs i).random)
   none_drawn large i has = by (numbered i has.there) where
@@ -144,11 +153,10 @@ told_turns start t o a b n gs left g st purpose is surveys opened v kept numbere
 
   enrols : (HasRandom t.kept.enrolled n → ⊥) → IsNext start (machine_ordered t (Commit (Enrol a n))) (Commit (Enrol a n)) gs left
   enrols unknown = (
-    calm_ordered start t (Commit (Enrol a n)) gs left st,
+    calm_ordered start t (Enrol a n) gs left st,
     inl (record {
-      way = surveys;
-      opened = opened;
-      asked = v.stage_is.2;
+      uncalled = uncalled;
+      asked = asked_none t.course.opened t.asked v.stage_is.2;
       small = v.small;
       from_is = v.from_is;
       settled = v.settled;
@@ -157,7 +165,7 @@ told_turns start t o a b n gs left g st purpose is surveys opened v kept numbere
       same = v.same;
       tabled = below_next a start.gear t.kept.enrolled (t.kept.enrolled ++ (a, n) ∷ []) gs v.same v.tabled (λ x h. has_before t.kept.enrolled (a, n) x h)
           (λ i has. inr (subst (λ r. Has (t.kept.enrolled ++ (a, n) ∷ []) (a, r)) (v.stage_is.1 i has) (has_last t.kept.enrolled (a, n))));
-      frames = same_count (wake_frames start gs) v.frames;
+      frames = same_count (survey_frames start gs) v.frames;
     }),
   )
 
@@ -182,58 +190,161 @@ told_turns start t o a b n gs left g st purpose is surveys opened v kept numbere
       goes o (g.followed.another b n is (λ s. large (subst (λ p. IsSought p t.course.number n) purpose s))) (none_drawn large)
 
 pub census_turns : (start : Begun) (t : Machine) (o : Order) (a : ℕ) (s : Stage) (gs : List Gear) (left : ℕ) → IsGivenBy t o → SurveyStands true start t gs left
-    → IsNoEnrolment t.last → t.course.purpose ≡ Asking a → stage_of t.trace ≡ s → (s ≡ stage.Free → ⊥) → t.course.way ≡ Surveying → t.opened ≡ false
+    → IsNoEnrolment t.last → t.course.purpose ≡ Asking a → stage_of t.trace ≡ s → (s ≡ stage.Free → ⊥) → IsUncalled t.course
     → Counts a s t.kept t.heard t.asked t.course.from start gs left → IsKept t.kept → AreNumbered gs → OneShort gs → IsTrue t.kept.enrolled gs
     → IsUncontradicted t → IsWhole (machine_ordered t o)
     → IsNext start (machine_ordered t o) o gs left
-census_turns start t o a stage.Free gs left g st last purpose is running surveys opened v kept numbered one holds agrees whole = absurd (running refl)
-census_turns start t o a (stage.HighAsked b None) gs left g st last purpose is running surveys opened v kept numbered one holds agrees whole =
-    silent_turns start t o a b gs left g st last purpose is surveys opened v whole one holds
-census_turns start t o a (stage.HighAsked b (Some u)) gs left g st last purpose is running surveys opened v kept numbered one holds agrees whole =
+census_turns start t o a stage.Free gs left g st last purpose is running uncalled v kept numbered one holds agrees whole = absurd (running refl)
+census_turns start t o a (stage.HighAsked b None) gs left g st last purpose is running uncalled v kept numbered one holds agrees whole =
+    silent_turns start t o a b gs left g st last purpose is uncalled v whole one holds
+census_turns start t o a (stage.HighAsked b (Some u)) gs left g st last purpose is running uncalled v kept numbered one holds agrees whole =
     turns_by start t o (Asking a) (stage.HighAsked b (Some u)) (RandomByte b Middle) gs left g st purpose is refl
     (subst (λ c. c < 64) (sym v.stage_is.0) v.small) refl
-census_turns start t o a (stage.MiddleAsked b (Some x)) gs left g st last purpose is running surveys opened v kept numbered one holds agrees whole =
+census_turns start t o a (stage.MiddleAsked b (Some x)) gs left g st last purpose is running uncalled v kept numbered one holds agrees whole =
     turns_by start t o (Asking a) (stage.MiddleAsked b (Some x)) (RandomByte b Low) gs left g st purpose is refl
     (subst (λ c. c < 64) (sym v.stage_is.0) v.small) refl
-census_turns start t o a (stage.Spelled b (Some n)) gs left g st last purpose is running surveys opened v kept numbered one holds agrees whole =
-    told_turns start t o a b n gs left g st purpose is surveys opened v kept numbered one holds agrees
-census_turns start t o a _ gs left g st last purpose is running surveys opened v kept numbered one holds agrees whole = absurd v.stage_is
+census_turns start t o a (stage.Spelled b (Some n)) gs left g st last purpose is running uncalled v kept numbered one holds agrees whole =
+    told_turns start t o a b n gs left g st purpose is uncalled v kept numbered one holds agrees
+census_turns start t o a _ gs left g st last purpose is running uncalled v kept numbered one holds agrees whole = absurd v.stage_is
 
--- ---------------------------------------------------------------- the wake
+-- ---------------------------------------------------------------- the roll call
 
-woken_over : (t : Machine) → t.course.purpose ≡ Waking → stage_of t.trace ≡ stage.Initialised → (f : Forward)
-    → IsWhole (machine_ordered t (Put LATER f)) → ⊥
-woken_over t purpose at f whole =
-    let sends = (sending_of (machine_ordered t (Put LATER f)) LATER f refl whole).sends in
-    let here : SendsWhole t.kept t.course.number Waking stage.Initialised (command_of f) =
-    subst (λ s. SendsWhole t.kept t.course.number Waking s (command_of f)) at
-    (subst (λ p. SendsWhole t.kept t.course.number p (stage_of t.trace) (command_of f)) purpose
-    (subst (λ (c : Course). SendsWhole t.kept c.number c.purpose (stage_of t.trace) (command_of f)) (course_stays t stage.Initialised at tt) sends)) in
-    absurd (let none : None ≡ Some (command_of f) = here.0 in cc)
+-- a no is silence
+no_silent : (h : Answer) → is_yes h ≡ false → h ≡ Silence
+no_silent Silence e = refl
+no_silent (Byte v) e = absurd (cc)
+no_silent Damaged e = absurd (cc)
 
-pub wake_turns : (start : Begun) (t : Machine) (o : Order) (s : Stage) (gs : List Gear) (left : ℕ) → IsGivenBy t o → SurveyStands true start t gs left
-    → IsNoEnrolment t.last → t.course.purpose ≡ Waking → stage_of t.trace ≡ s → (s ≡ stage.Free → ⊥) → t.course.way ≡ Surveying
-    → Wakes s t.kept t.heard t.opened start gs left → IsKept t.kept → AreNumbered gs → IsWhole (machine_ordered t o)
+-- nothing is asked after a yes, and after the second silence
+loud_over : (h : Answer) (room : ℕ) → is_yes h ≡ true → call_turn (Some h) room ≡ None
+loud_over Silence room e = absurd (cc)
+loud_over (Byte v) room e = refl
+loud_over Damaged room e = refl
+
+called_next : (t : Machine) (r : SearchAddress) (h : Answer) (room : ℕ) (b : Bool) → stage_of t.trace ≡ stage.Hunted r (Some h) room
+    → t.course.purpose ≡ Calling
+    → is_yes h ≡ b → next_course t ≡ called_to t b t.course
+called_next t r h room b is purpose said =
+    ap (begins_at t) is ∙ ap (λ p. compared_in t p h) purpose ∙ ap (λ y. called_to t y t.course) said
+
+-- nobody was passed over
+unblocked : (y : Tally) → y.passed ≡ none_passed → is_blocked y ≡ false
+unblocked y none = ap (λ p. not (nat_lt y.calls 3) && is_some_passed p) none ∙ both (not (nat_lt y.calls 3)) where
+  both : (b : Bool) → (b && false) ≡ false
+  both true = refl
+  both false = refl
+
+-- nobody is without short address: the roll is called once more, or the close comes
+silent_call_turns : (start : Begun) (t : Machine) (o : Order) (r : SearchAddress) (h : Answer) (room : ℕ) (gs : List Gear) (left : ℕ) → IsGivenBy t o
+    → SurveyStands true start t gs left → t.course.purpose ≡ Calling → stage_of t.trace ≡ stage.Hunted r (Some h) room
+    → Calls (stage.Hunted r (Some h) room) t.kept t.heard t.course start gs left → is_yes h ≡ false → count_by is_bare gs ≡ 0 → room < 2
     → IsNext start (machine_ordered t o) o gs left
-wake_turns start t o stage.Free gs left g st last purpose is running surveys v kept numbered whole = absurd (running refl)
-wake_turns start t o stage.Terminated gs left g st last purpose is running surveys v kept numbered whole =
-    turns_by start t o Waking stage.Terminated (Initialise Unaddressed) gs left g st purpose is refl tt refl
-wake_turns start t o stage.InitialisedOnce gs left g st last purpose is running surveys v kept numbered whole =
-    turns_by start t o Waking stage.InitialisedOnce (Initialise Unaddressed) gs left g st purpose is refl tt refl
-wake_turns start t o stage.Initialised gs left g st last purpose is running surveys v kept numbered whole =
-    let opened : IsOpened (those_drawn gs) = woken_opened gs numbered v.gear in
-    let unnamed : NoneNamed (those_drawn gs) = woken_none_named gs v.gear in
-    let split : count_by is_bare gs ≡ count_by is_bare (those_drawn gs) + count_by is_lost gs = bare_split gs in
-    let count : count_by is_wanted (those_drawn gs) ≡ count_by is_bare (those_drawn gs) = wanted.wanted_count (those_drawn gs) opened unnamed in
-    hunts_first start t o Surveying (106 * count_by is_wanted (those_drawn gs) + 10) gs left (calm_of start t gs left st)
-    (begins_whole t o stage.Initialised g is (λ r e. cc) (λ e. cc) (found_at start t gs left stage.Initialised st is) last
-    (never_eight t.tries st.tries) (woken_over t purpose is) whole)
-    (ap (begins_at t) is) surveys (λ e. cc) v.stage_is (λ e. own_settled t.kept t.heard kept.enrolled (v.settled e) (v.clear e)) v.settled opened unnamed
-    (tabled_drawn (unseen start.gear) t.kept.enrolled gs v.tabled) (omega arith)
-    (enough (count_by is_bare gs) (count_by is_bare (those_drawn gs)) (count_by is_lost gs) (count_by is_wanted (those_drawn gs))
-    (spare start.any) split count v.frames)
+silent_call_turns start t o r h (suc zero) gs left g st purpose is v said nobody few =
+    turns_by start t o Calling (stage.Hunted r (Some h) 1) Compare gs left g st purpose is turn tt turn where
+      turn : call_turn (Some h) 1 ≡ Some Compare
+      turn = ap (λ a. call_turn (Some a) 1) (no_silent h said)
+silent_call_turns start t o r h zero gs left g st purpose is v said nobody few = go t.course.tally.is_silent refl where
+  begins : o ≡ beginning (next_course t)
+  begins = g.followed.called r h 0 is purpose (ap (λ a. call_turn (Some a) 0) (no_silent h said))
+
+  none : count_by is_bare (those_drawn gs) + count_by is_lost gs ≡ 0
+  none = sym (bare_split gs) ∙ nobody
+
+  frames : (b : Bool) → t.course.tally.is_silent ≡ b → (if b then 9 else 17) + spare start.any t.course.tally.draws ≤ left + 8
+  frames b e =
+      subst (λ n. n + spare start.any t.course.tally.draws ≤ left + 8)
+      (roll_none t.course.tally.is_silent (count_by is_bare (those_drawn gs)) (count_by is_lost gs) none ∙ ap (λ y. if y then 9 else 17) e) v.frames
+
+  next : (b : Bool) → t.course.tally.is_silent ≡ b
+      → next_course t ≡ (if b then closing t.course AllFound else calling (record t.course { tally = silent_call t.course.tally }))
+  next b e =
+      called_next t r h 0 false is purpose said
+      ∙ ap (λ y. if y then closing t.course AllFound else calling (record t.course { tally = silent_call t.course.tally })) e
+
+  go : (b : Bool) → t.course.tally.is_silent ≡ b → IsNext start (machine_ordered t o) o gs left
+  go true e =
+      first_by start t o (closing t.course AllFound) gs left (calm_of start t gs left st) begins (next true e)
+      (smooth_as t.course (closing t.course AllFound) refl refl st.smooth) tt
+      (record {
+        stage_is = tt;
+        well = all_short gs nobody;
+        settled = v.settled;
+        tabled = v.tabled;
+        frames = count (spare start.any t.course.tally.draws) (frames true e);
+      }) where
+        count : (some : ℕ) → 9 + some ≤ left + 8 → 1 ≤ left + 0
+        count some enough = omega (arith, enough)
+  go false e =
+      first_by start t o (calling (record t.course { tally = silent_call t.course.tally })) gs left (calm_of start t gs left st) begins (next false e)
+      (record { way = st.smooth.way; passed = st.smooth.passed; unmissed = st.smooth.unmissed }) tt
+      (record {
+        opened_is = v.opened_is;
+        number = refl;
+        stage_is = tt;
+        quiet = λ silent. nobody;
+        first = v.first;
+        own = v.own;
+        settled = v.settled;
+        gear = λ k in_row on. tt;
+        low = tt;
+        tabled = v.tabled;
+        frames = subst (λ n. n + spare start.any t.course.tally.draws ≤ left + 0)
+            (sym (roll_none true (count_by is_bare (those_drawn gs)) (count_by is_lost gs) none))
+            (count (spare start.any t.course.tally.draws) (frames false e));
+      }) where
+        count : (some : ℕ) → 17 + some ≤ left + 8 → 9 + some ≤ left + 0
+        count some enough = omega (arith, enough)
+silent_call_turns start t o r h (suc (suc room)) gs left g st purpose is v said nobody few = absurd (omega (arith, few))
+
+-- somebody is: who drew a number is searched
+heard_call_turns : (start : Begun) (t : Machine) (o : Order) (r : SearchAddress) (h : Answer) (room : ℕ) (gs : List Gear) (left : ℕ) → IsGivenBy t o
+    → SurveyStands true start t gs left → t.course.purpose ≡ Calling → stage_of t.trace ≡ stage.Hunted r (Some h) room
+    → Calls (stage.Hunted r (Some h) room) t.kept t.heard t.course start gs left → AreNumbered gs → is_yes h ≡ true → 0 < count_by is_bare gs → room ≡ 1
+    → IsNext start (machine_ordered t o) o gs left
+heard_call_turns start t o r h room gs left g st purpose is v numbered said some one =
+    hunts_first start t o heard gs left (calm_of start t gs left st) (g.followed.called r h room is purpose (loud_over h room said))
+    (called_next t r h room true is purpose said ∙ ap (λ b. if b then blocked t else hunting_first heard) (unblocked t.course.tally st.smooth.passed))
+    (record { way = st.smooth.way; passed = st.smooth.passed; unmissed = st.smooth.unmissed })
+    (record { opened = v.opened_is; loud = refl; first = v.first; low = v.low }) some v.own v.settled opened unnamed
+    (tabled_drawn (unseen start.gear) t.kept.enrolled gs v.tabled)
+    (subst (λ n. 106 * n + 10 + (hunted_after n (count_by is_lost gs) + spare start.any t.course.tally.draws) ≤ left) (sym count)
+    (enough (count_by is_bare (those_drawn gs)) (hunted_after (count_by is_bare (those_drawn gs)) (count_by is_lost gs)) (spare start.any t.course.tally.draws)
+    room one (subst (λ n. n + spare start.any t.course.tally.draws ≤ left + (8 - room))
+    (roll_some t.course.tally.is_silent (count_by is_bare (those_drawn gs)) (count_by is_lost gs) (subst (λ n. 0 < n) (bare_split gs) some)) v.frames)))
   where
-    enough : (bare drew lost wanted some : ℕ) → bare ≡ drew + lost → wanted ≡ drew → 106 * bare + 27 + some ≤ left + 3
-        → 106 * wanted + 10 + (106 * lost + 14 + some) ≤ left
-    enough bare drew lost wanted some split count frames = omega (arith, split, count, frames)
-wake_turns start t o _ gs left g st last purpose is running surveys v kept numbered whole = absurd v.stage_is
+    heard : Course
+    heard = record t.course { tally = heard_call t.course.tally }
+
+    opened : IsOpened (those_drawn gs)
+    opened = woken_opened gs numbered v.gear
+
+    unnamed : NoneNamed (those_drawn gs)
+    unnamed = woken_none_named gs v.gear
+
+    count : count_by is_wanted (those_drawn gs) ≡ count_by is_bare (those_drawn gs)
+    count = wanted.wanted_count (those_drawn gs) opened unnamed
+
+    enough : (drew after some room : ℕ) → room ≡ 1 → 106 * drew + 17 + after + some ≤ left + (8 - room) → 106 * drew + 10 + (after + some) ≤ left
+    enough drew after some room one frames = omega (arith, one, frames)
+
+pub calling_turns : (start : Begun) (t : Machine) (o : Order) (s : Stage) (gs : List Gear) (left : ℕ) → IsGivenBy t o → SurveyStands true start t gs left
+    → t.course.purpose ≡ Calling → stage_of t.trace ≡ s → (s ≡ stage.Free → ⊥)
+    → Calls s t.kept t.heard t.course start gs left → AreNumbered gs → IsNext start (machine_ordered t o) o gs left
+calling_turns start t o stage.Free gs left g st purpose is running v numbered = absurd (running refl)
+calling_turns start t o stage.Terminated gs left g st purpose is running v numbered =
+    turns_by start t o Calling stage.Terminated (Initialise Unaddressed) gs left g st purpose is refl tt refl
+calling_turns start t o stage.InitialisedOnce gs left g st purpose is running v numbered =
+    turns_by start t o Calling stage.InitialisedOnce (Initialise Unaddressed) gs left g st purpose is refl tt refl
+calling_turns start t o stage.Initialised gs left g st purpose is running v numbered =
+    turns_by start t o Calling stage.Initialised _ gs left g st purpose is refl tt refl
+calling_turns start t o (stage.WokenHigh high) gs left g st purpose is running v numbered =
+    turns_by start t o Calling (stage.WokenHigh high) _ gs left g st purpose is refl tt refl
+calling_turns start t o (stage.WokenLow high low) gs left g st purpose is running v numbered =
+    turns_by start t o Calling (stage.WokenLow high low) _ gs left g st purpose is refl tt refl
+calling_turns start t o (stage.Hunted r None room) gs left g st purpose is running v numbered =
+    turns_by start t o Calling (stage.Hunted r None room) Compare gs left g st purpose is refl tt refl
+calling_turns start t o (stage.Hunted r (Some h) room) gs left g st purpose is running v numbered = go v.stage_is.1 where
+  go : IsCalledBy h room gs → IsNext start (machine_ordered t o) o gs left
+  go (inl none) = silent_call_turns start t o r h room gs left g st purpose is v none.0 none.1 none.2
+  go (inr said) = heard_call_turns start t o r h room gs left g st purpose is v numbered said.0 said.1 said.2
+calling_turns start t o _ gs left g st purpose is running v numbered = absurd v.stage_is

@@ -23,7 +23,7 @@ returns-in-Ok-conduct-clause-ran g c =
     run_of g.K.Keep.is_up g.K.Keep.is_sound g.K.Keep.holds g.K.Keep.kept g.K.Keep.must_read g.K.Keep.block g.met.K.Keep.replay
     _ _ _ _ _ _ _ _ c.in-Ok.kept waiting c.in-Ok-conduct.pass count c.in-Ok.ensures.answer c.in-Ok.ensures.is_read c.read.ensures.block
     (record { up = c.read.ensures.up; sound = c.read.ensures.sound }) c.read.ensures.same c.new-machine.ensures at
-    c.in-Ok-conduct.ensures.heard c.in-Ok-conduct.ensures.found c.in-Ok-conduct.ensures.tries
+    c.in-Ok-conduct.ensures.heard c.in-Ok-conduct.ensures.found c.in-Ok-conduct.ensures.tries c.in-Ok-conduct.ensures.tally
 
 pub returns-in-Ok-conduct-clause-stays : goal.returns-in-Ok-conduct-clause-stays
 returns-in-Ok-conduct-clause-stays g c = stays_further g.K.Keep.is_up g.K.Keep.is_sound _ _ _

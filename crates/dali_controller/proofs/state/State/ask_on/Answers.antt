@@ -1,15 +1,20 @@
-use Rattle.std.proofs.Common.{◌∙◌, ap}
-use Rattle.dali_special.specs.Command.{frame_of}
-use Rattle.dali_controller.proofs.Asking.{asks_next, asks_whole}
-use Rattle.dali_controller.specs.States.{machine_with}
+use Rattle.std.proofs.Common.{ap₂, ℕ}
+use Rattle.dali_frame.specs.Priority.{LATER}
+use Rattle.dali_script.specs.declared.orders.Order.TheVariants.{Put}
+use Rattle.dali_controller.specs.declared.purpose.Purpose.{Purpose}
+use Rattle.dali_controller.specs.declared.purpose.Purpose.TheVariants.{Hunting}
+use Rattle.dali_controller.specs.Course.{taking}
+use Rattle.dali_controller.specs.Orders.{machine_ordered_on}
+use Rattle.dali_controller.specs.States.{course_of, machine_with}
+use Rattle.dali_controller.proofs.Legs.{counted_leg}
 use Rattle.dali_controller.proofs.state.State.ask_on.Goals as goal
 
-pub returns-clause-next : goal.returns-clause-next
-returns-clause-next c =
-    asks_next (machine_with c.args.self.now c.args.kept.now) c.args.number c.args.sent _ c.requires
-    (c.write-frame.ensures.table ∙ ap frame_of c.byte_to_send.ensures)
-
-pub returns-clause-whole : goal.returns-clause-whole
-returns-clause-whole c =
-    asks_whole (machine_with c.args.self.now c.args.kept.now) c.args.number c.args.sent _ c.requires
-    (c.write-frame.ensures.table ∙ ap frame_of c.byte_to_send.ensures)
+pub returns-clause-state : goal.returns-clause-state
+returns-clause-state c =
+    ap₂ (λ (p : Purpose) (a : ℕ).
+    record
+    (machine_ordered_on (machine_with c.args.self.now c.args.kept.now) (taking (course_of c.args.self.now) Hunting c.args.number)
+    (Put LATER c.write-frame.result)) {
+      course = record (course_of c.args.self.now) { purpose = p; number = c.args.number };
+      asked = a;
+    }) c.requires (counted_leg c.args.self.now.leg)

@@ -1,10 +1,12 @@
 use Rattle.std.proofs.Common.{◌∙◌, ap, refl}
 use Rattle.dali_special.specs.Command.{frame_of}
-use Rattle.dali_controller.proofs.Steps.{begin_begun}
-use Rattle.dali_controller.specs.States.{machine_with}
+use Rattle.dali_controller.specs.Course.{taking}
+use Rattle.dali_controller.specs.States.{course_of, machine_with}
+use Rattle.dali_controller.proofs.Legs.{counted_leg}
+use Rattle.dali_controller.proofs.Steps.{begun_by}
 use Rattle.dali_controller.proofs.state.State.begin.Goals as goal
 
 pub returns : goal.returns
 returns c =
-    begin_begun (machine_with c.args.self.now c.args.kept.now) c.args.purpose c.args.number _ _ _ c.requires c.new-self.ensures refl
-    (c.write-frame.ensures.table ∙ ap frame_of c.first.ensures)
+    begun_by (machine_with c.args.self.now c.args.kept.now) (taking (course_of c.args.self.now) c.args.purpose c.args.number) _ _ _ _ c.requires
+    c.new-self.ensures refl (c.write-frame.ensures.table ∙ ap frame_of c.first.ensures) (counted_leg c.args.self.now.leg)

@@ -3,6 +3,8 @@ use Rattle.std.proofs.lemmas.Bool.Decides.{nat_tests}
 use Rattle.dali_script.proofs.Giving.{one_address}
 use Rattle.dali_script.proofs.Lists.{has_map, reserved_fits}
 use Rattle.dali_controller.proofs.state.State.enrolled.Goals.{in_default-via-in-Some+else-ne, in_default-via-in_default}
+use Rattle.dali_controller.proofs.Beginnings.{enrolled_moment}
+use Rattle.dali_controller.specs.States.{machine_with}
 use Rattle.dali_controller.proofs.state.State.enrolled.Goals as goal
 
 pub commit-requires-clause-fits : goal.commit-requires-clause-fits
@@ -19,3 +21,7 @@ returns-in_default-clause-enrolled c =
           one_address reserved a w.in-Some.other c.args.random once has w.in-Some.ensures.value ∙ same
       | in_default-via-in_default w ↦ λ a has. absurd (w.in_default.ensures.value (has_map (λ q. q.1) reserved (a, c.args.random) has))
     ])
+
+pub returns-in_default-clause-moment : goal.returns-in_default-clause-moment
+returns-in_default-clause-moment c =
+    enrolled_moment (machine_with c.args.self.now c.args.kept.now) c.args.short c.args.random _ _ c.requires c.go_on.ensures

@@ -1,10 +1,10 @@
-use Rattle.std.proofs.Common.{◌≡◌, sym, ap, subst, ◌∙◌}
+use Rattle.std.proofs.Common.{◌≡◌, sym, subst, ◌∙◌}
 use Rattle.dali_script.specs.Stages.{stage_of}
 use Rattle.dali_controller.specs.declared.state.State.{State}
 use Rattle.dali_controller.specs.Machine.{Machine}
-use Rattle.dali_controller.specs.Moments.{is_searched_next, IsHeard}
+use Rattle.dali_controller.specs.Moments.{IsHeard}
 use Rattle.dali_controller.specs.States.{machine_with}
-use Rattle.dali_controller.proofs.Legs.{hears_told, told_on}
+use Rattle.dali_controller.proofs.Legs.{hears_told, told_is}
 use Rattle.dali_controller.proofs.Steps.{hear_heard, heard_by, sending, sending_lawful}
 use Rattle.dali_controller.proofs.state.State.hear.Goals as goal
 
@@ -35,6 +35,4 @@ returns-clause-heard c =
     subst (IsHeard (machine_with (new c) c.args.kept.now)) (sym c.stage.ensures) here
 
 pub returns-clause-told : goal.returns-clause-told
-returns-clause-told c going =
-    told_on (machine_with c.args.self.now c.args.kept.now) (machine_with (new c) c.args.kept.now) c.args.frame c.args.heard c.requires.put (told c)
-    (ap (λ s. is_searched_next s (new c).purpose) (sym c.stage.ensures) ∙ going)
+returns-clause-told c = told c ∙ told_is (machine_with c.args.self.now c.args.kept.now) c.args.frame c.args.heard c.requires.put

@@ -1,9 +1,20 @@
-use Rattle.std.proofs.Common.{sym, ◌∙◌}
+use Rattle.std.proofs.Common.{sym, ◌∙◌, subst}
+use Rattle.dali_controller.proofs.Beginnings.{ungiven_moment}
+use Rattle.dali_controller.specs.Moments.{Begun}
+use Rattle.dali_controller.specs.Next.{ungiven}
 use Rattle.dali_controller.specs.States.{machine_with}
-use Rattle.dali_controller.proofs.Leaving.{leaves}
 use Rattle.dali_controller.proofs.state.State.leave.Goals as goal
 
-pub close-requires : goal.close-requires
-close-requires c =
-    leaves (machine_with c.args.self.now c.args.kept.now) c.args.number c.requires.heard c.requires.opened c.requires.ungiven
-    (sym c.draws.ensures ∙ c.if-draws.false)
+pub returns-in-Fresh : goal.returns-in-Fresh
+returns-in-Fresh c =
+    let w = machine_with c.args.self.now c.args.kept.now in
+    ungiven_moment w c.args.number _ _ c.requires.heard c.requires.ungiven
+    (subst (λ y. Begun w (ungiven w y) c.close.result (machine_with c.close.new.self c.args.kept.now))
+    (sym (sym c.way.ensures ∙ c.in-Fresh.is)) c.close.ensures)
+
+pub returns-in-Surveying : goal.returns-in-Surveying
+returns-in-Surveying c =
+    let w = machine_with c.args.self.now c.args.kept.now in
+    ungiven_moment w c.args.number _ _ c.requires.heard c.requires.ungiven
+    (subst (λ y. Begun w (ungiven w y) c.ungiven.result (machine_with c.ungiven.new.self c.args.kept.now)) (sym (sym c.way.ensures ∙ c.in-Surveying.is))
+    c.ungiven.ensures)

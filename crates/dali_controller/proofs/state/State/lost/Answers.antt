@@ -1,7 +1,7 @@
 use Rattle.std.proofs.Common.{◌≡◌, ◌+◌, arith}
 use Rattle.std.proofs.lemmas.Bool.Decides.{nat_tests}
-use Rattle.dali_controller.proofs.Steps.{lost_begins, lost_ended, lost_next}
-use Rattle.dali_controller.proofs.Courses.{begins_moment, followed_lost, lost_course}
+use Rattle.dali_controller.proofs.Steps.{lost_ended, lost_moment, waiting}
+use Rattle.dali_controller.proofs.Courses.{followed_lost}
 use Rattle.dali_controller.specs.States.{machine_with}
 use Rattle.dali_controller.proofs.state.State.lost.Goals as goal
 
@@ -15,14 +15,13 @@ returns-then-self-eq-TRIES-clause-moment c =
 
 pub begin-requires : goal.begin-requires
 begin-requires c =
-    let more : c.args.self.now.tries + 1 ≡ 8 → ⊥ = grind (arith, nat_tests) in
-    lost_begins (machine_with c.args.self.now c.args.kept.now) c.new-self.result c.requires.whole c.requires.put c.new-self.ensures more
+    let w = machine_with c.args.self.now c.args.kept.now in
+    (waiting w w.last c.requires.put c.requires.whole).knows
 
 pub returns-clause-moment : goal.returns-clause-moment
 returns-clause-moment c =
-    let w = machine_with c.args.self.now c.args.kept.now in
-    begins_moment _ _ _ _ _ c.begin.ensures (lost_course w c.new-self.result _ _ c.requires.put c.new-self.ensures c.begin.ensures)
-    (lost_next w c.new-self.result _ _ c.new-self.ensures c.begin.ensures.next)
+    let more : c.args.self.now.tries + 1 ≡ 8 → ⊥ = grind (arith, nat_tests) in
+    lost_moment (machine_with c.args.self.now c.args.kept.now) c.new-self.result _ _ c.requires.whole c.requires.put c.new-self.ensures more c.begin.ensures
 
 pub returns-then-self-eq-TRIES-clause-followed : goal.returns-then-self-eq-TRIES-clause-followed
 returns-then-self-eq-TRIES-clause-followed c = followed_lost (machine_with c.args.self.now c.args.kept.now) c.done.result c.requires.put

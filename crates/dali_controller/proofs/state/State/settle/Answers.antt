@@ -1,9 +1,17 @@
 use Rattle.std.proofs.Common.{◌≡◌, arith}
 use Rattle.std.proofs.lemmas.Bool.Decides.{nat_tests}
+use Rattle.dali_controller.proofs.Beginnings.{goes_on_moment}
 use Rattle.dali_controller.proofs.Courses.{stays_moment}
-use Rattle.dali_controller.proofs.Settling.{contradicts_by_random, halts_by_address, halts_by_random, enrols}
+use Rattle.dali_controller.proofs.Settling.{contradicts_by_random, halts_by_address, halts_by_random, enrols, settled_between}
 use Rattle.dali_controller.specs.States.{machine_with}
 use Rattle.dali_controller.proofs.state.State.settle.Goals as goal
+
+pub returns-in-Some-clause-moment : goal.returns-in-Some-clause-moment
+returns-in-Some-clause-moment c =
+    let w = machine_with c.args.self.now c.args.kept.now in
+    let same : c.in-Some.enrolled ≡ c.args.random = grind (arith, nat_tests) in
+    goes_on_moment w _ _
+    (settled_between w c.args.short c.in-Some.enrolled c.args.random c.requires c.in-Some.ensures.value same) c.requires.next c.go_on.ensures
 
 pub returns-in-Some-2-clause-moment : goal.returns-in-Some-2-clause-moment
 returns-in-Some-2-clause-moment c =

@@ -1,29 +1,32 @@
-use Rattle.std.proofs.Common.{sym, ap, subst, ◌∙◌, refl, rules}
-use Rattle.dali_controller.specs.Course.{going_on, missed}
-use Rattle.dali_controller.specs.Machine.{Machine}
-use Rattle.dali_controller.specs.Moments.{Begun, IsBetween}
-use Rattle.dali_controller.specs.Next.{beginning, goes_on_anew}
-use Rattle.dali_controller.specs.States.{course_of, machine_with}
-use Rattle.dali_controller.proofs.Courses.{begins_moment, started, on_anew}
-use Rattle.dali_controller.proofs.Legs.{misses}
+use Rattle.std.proofs.Common.{ap, sym, ◌∙◌}
+use Rattle.dali_controller.specs.Legs.{way_on}
+use Rattle.dali_controller.specs.Next.{beginning, most_silent}
+use Rattle.dali_controller.specs.declared.way.Way.TheVariants.{Fresh, Surveying}
+use Rattle.dali_controller.proofs.Beginnings.{silenced_moment, silenced_closes, silenced_anew, visited_leg, failed_visit}
+use Rattle.dali_controller.specs.States.{machine_with}
 use Rattle.dali_controller.proofs.state.State.silenced.Goals as goal
 
-pub go_on-requires : goal.go_on-requires
-go_on-requires c = subst IsBetween (sym (misses c.args.self.now c.args.kept.now c.begin_anew.new.self c.begin_anew.ensures)) (search rules)
-
-begun : (c : goal.After-go_on)
-    → Begun (record (machine_with c.args.self.now c.args.kept.now) { course = missed (course_of c.args.self.now) })
-    (goes_on_anew (machine_with c.args.self.now c.args.kept.now)) c.go_on.result (machine_with c.go_on.new.self c.args.kept.now)
-begun c = subst (λ (m : Machine). Begun m (going_on m.kept m.opened m.course) c.go_on.result (machine_with c.go_on.new.self c.args.kept.now))
-    (misses c.args.self.now c.args.kept.now c.begin_anew.new.self c.begin_anew.ensures) c.go_on.ensures
-
-pub returns-clause-starts : goal.returns-clause-starts
-returns-clause-starts c =
+pub returns-then-self-most_silent-clause-moment : goal.returns-then-self-most_silent-clause-moment
+returns-then-self-most_silent-clause-moment c =
     let w = machine_with c.args.self.now c.args.kept.now in
-    (begun c).order ∙ ap beginning (on_anew w c.if-self-eq-SILENT.false c.requires.next)
+    silenced_moment w c.requires.heard.0 _ _ c.requires.heard.1 c.requires.next
+    (silenced_closes w _ _ (c.if-self-most_silent.true ∙ c.most_silent.ensures ∙ ap most_silent c.way.ensures) c.close.ensures)
 
-pub returns-clause-moment : goal.returns-clause-moment
-returns-clause-moment c =
+pub returns-in-Hunting-clause-moment : goal.returns-in-Hunting-clause-moment
+returns-in-Hunting-clause-moment c =
     let w = machine_with c.args.self.now c.args.kept.now in
-    let course = started w _ _ _ _ _ refl (on_anew w c.if-self-eq-SILENT.false c.requires.next) (begun c) in
-    begins_moment _ _ _ _ _ (begun c) course (search rules)
+    silenced_moment w c.requires.heard.0 _ _ c.requires.heard.1 c.requires.next
+    (silenced_anew w Surveying _ _ (λ e. c.if-self-most_silent.false (e ∙ sym (c.most_silent.ensures ∙ ap most_silent c.way.ensures)))
+    (ap way_on c.in-Hunting.is) c.missed.ensures)
+
+pub returns-in-Revisiting : goal.returns-in-Revisiting
+returns-in-Revisiting c =
+    let w = machine_with c.args.self.now c.args.kept.now in
+    let fresh = visited_leg c.args.self.now.leg c.args.kept.now c.args.self.now.number c.in-Revisiting.is
+    (failed_visit w c.requires.heard.0 c.requires.heard.1) in
+    let begun = silenced_anew w Fresh _ _ (λ e. c.if-self-most_silent.false (e ∙ sym (c.most_silent.ensures ∙ ap most_silent c.way.ensures))) fresh
+    c.go_on.ensures in
+    record {
+      starts = begun.order ∙ ap beginning (sym c.requires.next);
+      moment = silenced_moment w c.requires.heard.0 _ _ c.requires.heard.1 c.requires.next begun;
+    }

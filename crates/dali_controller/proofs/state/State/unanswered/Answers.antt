@@ -1,9 +1,8 @@
 use Rattle.std.proofs.Common.{inl, sym, ap, ◌∙◌, Some}
-use Rattle.dali_script.specs.declared.stage.Stage.TheVariants.{Unanswered}
 use Rattle.dali_controller.specs.Course.{address_for}
-use Rattle.dali_controller.specs.Next.{unanswered as asked}
 use Rattle.dali_controller.specs.States.{machine_with}
-use Rattle.dali_controller.proofs.Courses.{begun_at, address_is}
+use Rattle.dali_controller.proofs.Beginnings.{resolved_moment}
+use Rattle.dali_controller.proofs.Courses.{address_is}
 use Rattle.dali_controller.proofs.state.State.unanswered.Goals as goal
 
 pub silenced-requires-clause-heard : goal.silenced-requires-clause-heard
@@ -14,6 +13,5 @@ returns-in-Some c =
     let w = (machine_with c.args.self.now c.args.kept.now) in
     let k = c.in-Some.ensures.kept in
     let reserved = address_is w.kept.reserved c.value.result (Some c.in-Some.short) k.reserved.random_once c.in-Some.ensures.value in
-    let next = ap (λ o. asked w c.args.number o (Some c.in-Some.short)) (sym (sym c.is_searching.ensures ∙ c.if-not-is_searching.true))
-    ∙ ap (λ r. asked w c.args.number w.opened r) (reserved ∙ ap (address_for w.kept.reserved) c.value.ensures) in
-    begun_at w (Unanswered c.args.number) _ _ _ c.requires.stage next c.resolve.ensures
+    resolved_moment w c.args.number c.in-Some.short _ _ c.requires (sym c.is_searching.ensures ∙ c.if-not-is_searching.true)
+    (ap (address_for w.kept.reserved) (sym c.value.ensures) ∙ sym reserved) c.resolve.ensures

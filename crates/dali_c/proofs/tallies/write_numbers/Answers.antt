@@ -1,0 +1,16 @@
+use Rattle.std.proofs.Common.{◌≡◌, ℕ, ◌<◌, slice_index_or, rules, length, sym}
+use Rattle.dali_c.specs.Pairs.{random_of}
+use Rattle.dali_c.specs.declared.pairs.PlainRandom.{PlainRandom}
+use Rattle.dali_c.proofs.Lists.{mapped}
+use Rattle.dali_c.proofs.tallies.write_numbers.Goals as goal
+
+at : (c : goal.After-map) (i : ℕ) (d : PlainRandom) (e : ℕ) → i < 8 → slice_index_or c.args.numbers i e ≡ random_of (slice_index_or c.map.result i d)
+at c i d e less = let x = c.map.ensures.items.at i e d less in search rules
+
+long : (c : goal.After-map) → length c.args.numbers ≡ 8
+long c = search rules
+
+pub returns : goal.returns
+returns c =
+    let none : PlainRandom = record { high = 0; middle = 0; low = 0 } in
+    sym (mapped random_of c.map.result c.args.numbers none c.map.ensures.items.long (long c) (λ i e less. at c i none e less))
