@@ -25,6 +25,8 @@ tone_for purpose.Visit = tone.Query
 tone_for purpose.Program = tone.Program
 tone_for purpose.Resolve = tone.Query
 tone_for purpose.Opening = tone.Opening
+tone_for purpose.Call = tone.Opening
+tone_for purpose.Pass = tone.Withdraw
 tone_for purpose.Close = tone.Terminate
 tone_for purpose.Other = tone.Other
 

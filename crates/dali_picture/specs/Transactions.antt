@@ -1,7 +1,7 @@
 use Rattle.std.specs.Prelude.{ℕ, List, [], ◌∷◌, ◌++◌, replicate, option_map, option_to_list}
 use Rattle.dali_frame.specs.declared.frames.Forward.{Forward}
 use Rattle.dali_script.specs.declared.trace.Entry.{Entry}
-use Rattle.dali_script.specs.Scripts.{Script, Hunt, steps, IsFront}
+use Rattle.dali_script.specs.Scripts.{Script, Hunt, Call, Draw, steps, IsFront}
 use Rattle.dali_events.specs.declared.event.Event.{Event}
 use Rattle.dali_events.specs.Events.{sending}
 use Rattle.dali_picture.specs.declared.transactions.Transaction.{Transaction}
@@ -23,11 +23,13 @@ abbrev pub owned : List Transaction → List ℕ
 owned [] = []
 owned (t ∷ ts) = owned_by t ++ owned ts
 
--- A FURTHER FRAME of a transaction: one that stands behind others in a script. A hunt sends
--- SEARCHADDRH again.
-abbrev pub IsNoHunt : Script → Type 0
-IsNoHunt (Hunt r cs) = ⊥
-IsNoHunt _ = Unit {0}
+-- A FURTHER FRAME of a transaction: one that stands behind others in a script. In a hunt, a roll
+-- call and a draw SEARCHADDRH does.
+abbrev pub IsHighFirst : Script → Type 0
+IsHighFirst (Hunt r cs) = ⊥
+IsHighFirst (Call r cs) = ⊥
+IsHighFirst (Draw h m) = ⊥
+IsHighFirst _ = Unit {0}
 
 abbrev pub IsLater : Forward → Type 0
-IsLater f = (s : Script) × (e : Entry) × (t : List Entry) × IsNoHunt s × IsFront (e ∷ t) f (steps s)
+IsLater f = (s : Script) × (e : Entry) × (t : List Entry) × IsHighFirst s × IsFront (e ∷ t) f (steps s)

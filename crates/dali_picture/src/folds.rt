@@ -58,6 +58,8 @@ fn joins(held: Purpose, purpose: Purpose) -> bool
         | Purpose::Program
         | Purpose::Resolve
         | Purpose::Opening
+        | Purpose::Call
+        | Purpose::Pass
         | Purpose::Close
         | Purpose::Other => false,
     }

@@ -183,7 +183,8 @@ fn tone_for(purpose: Purpose) -> Tone
         Purpose::Probe | Purpose::Hunt => Tone::Compare,
         Purpose::Visit | Purpose::Resolve => Tone::Query,
         Purpose::Program => Tone::Program,
-        Purpose::Opening => Tone::Opening,
+        Purpose::Opening | Purpose::Call => Tone::Opening,
+        Purpose::Pass => Tone::Withdraw,
         Purpose::Close => Tone::Terminate,
         Purpose::Other => Tone::Other,
     }

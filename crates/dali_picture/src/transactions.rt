@@ -27,6 +27,10 @@ pub enum Purpose {
     Resolve,
     /// INITIALISE and RANDOMISE.
     Opening,
+    /// INITIALISE, and COMPARE under a search address: a roll call, or a draw that somebody's answer barred.
+    Call,
+    /// WITHDRAW under a search address, of gear that were not asked: a gear that is passed over.
+    Pass,
     /// TERMINATE alone.
     Close,
     /// Direct arc power, or a frame that is no addressing command.
@@ -52,7 +56,8 @@ pub struct Transaction {
     pub frames: u64,
 }
 
-/// Whether a frame may begin a transaction: no later frame of one is such a frame, but SEARCHADDRH in a hunt.
+/// Whether a frame may begin a transaction: no later frame of one is such a frame, but SEARCHADDRH in a hunt, a roll call
+/// and a draw.
 pub fn is_first(frame: Forward) -> bool
     ensures begins { IsFirst frame → result ≡ true }
     ensures goes_on { IsLater frame → result ≡ false }
@@ -77,36 +82,81 @@ fn purpose_after(purpose: Purpose, frame: Forward) -> Purpose
     ensures hunts { purpose ≡ Purpose.Hunt → is_asking (command_of frame) ≡ true → result ≡ Purpose.Hunt }
     ensures no_hunt { result ≡ Purpose.Hunt → purpose ≡ Purpose.Hunt }
     ensures asked { purpose ≡ Purpose.Program → command_of frame ≡ Command.QueryShort → result ≡ Purpose.Program }
+    ensures called { purpose ≡ Purpose.Opening → command_of frame ≡ Command.Compare → result ≡ Purpose.Call }
+    ensures passed { purpose ≡ Purpose.Search → command_of frame ≡ Command.Withdraw → result ≡ Purpose.Pass }
 {
     match Command::read(frame) {
         Command::Terminate => Purpose::Close,
         Command::Initialise(_) | Command::Randomise => Purpose::Opening,
-        Command::SearchHigh(_) => searched(purpose, Purpose::Search),
-        Command::Compare => searched(purpose, Purpose::Probe),
+        Command::SearchHigh(_) => searched(purpose),
+        Command::Compare => compared(purpose),
+        Command::Withdraw => withdrawn(purpose),
         Command::Program(_) => Purpose::Program,
         Command::QueryShort => visited(purpose),
         Command::RandomByte(..) => Purpose::Resolve,
         Command::Arc(_) | Command::Other(_) => Purpose::Other,
-        Command::Withdraw | Command::SearchMiddle(_) | Command::SearchLow(_) | Command::Verify(_) =>
-            purpose,
+        Command::SearchMiddle(_) | Command::SearchLow(_) | Command::Verify(_) => purpose,
     }
 }
 
-/// What a transaction with a search byte or a COMPARE is for: in a hunt they belong to that.
-fn searched(purpose: Purpose, alone: Purpose) -> Purpose
+/// What a transaction with a high search byte is for: in a hunt, and behind INITIALISE, it belongs to that.
+fn searched(purpose: Purpose) -> Purpose
     ensures hunts { purpose ≡ Purpose.Hunt → result ≡ Purpose.Hunt }
-    ensures other { purpose ≢ Purpose.Hunt → result ≡ alone }
+    ensures opens { purpose ≡ Purpose.Opening → result ≡ Purpose.Opening }
+    ensures no_hunt { result ≡ Purpose.Hunt → purpose ≡ Purpose.Hunt }
 {
     match purpose {
         Purpose::Hunt => Purpose::Hunt,
+        Purpose::Opening => Purpose::Opening,
         Purpose::Search
         | Purpose::Probe
         | Purpose::Visit
         | Purpose::Program
         | Purpose::Resolve
-        | Purpose::Opening
+        | Purpose::Call
+        | Purpose::Pass
         | Purpose::Close
-        | Purpose::Other => alone,
+        | Purpose::Other => Purpose::Search,
+    }
+}
+
+/// What a transaction with a COMPARE is for: behind INITIALISE the roll is called.
+fn compared(purpose: Purpose) -> Purpose
+    ensures hunts { purpose ≡ Purpose.Hunt → result ≡ Purpose.Hunt }
+    ensures calls { purpose ≡ Purpose.Opening → result ≡ Purpose.Call }
+    ensures no_hunt { result ≡ Purpose.Hunt → purpose ≡ Purpose.Hunt }
+{
+    match purpose {
+        Purpose::Hunt => Purpose::Hunt,
+        Purpose::Opening | Purpose::Call => Purpose::Call,
+        Purpose::Search
+        | Purpose::Probe
+        | Purpose::Visit
+        | Purpose::Program
+        | Purpose::Resolve
+        | Purpose::Pass
+        | Purpose::Close
+        | Purpose::Other => Purpose::Probe,
+    }
+}
+
+/// What a transaction with a WITHDRAW is for: behind a search address alone it passes a gear over.
+fn withdrawn(purpose: Purpose) -> Purpose
+    ensures passes { purpose ≡ Purpose.Search → result ≡ Purpose.Pass }
+    ensures other { purpose ≢ Purpose.Search → result ≡ purpose }
+{
+    match purpose {
+        Purpose::Search => Purpose::Pass,
+        Purpose::Probe
+        | Purpose::Hunt
+        | Purpose::Visit
+        | Purpose::Program
+        | Purpose::Resolve
+        | Purpose::Opening
+        | Purpose::Call
+        | Purpose::Pass
+        | Purpose::Close
+        | Purpose::Other => purpose,
     }
 }
 
@@ -123,6 +173,8 @@ fn visited(purpose: Purpose) -> Purpose
         | Purpose::Visit
         | Purpose::Resolve
         | Purpose::Opening
+        | Purpose::Call
+        | Purpose::Pass
         | Purpose::Close
         | Purpose::Other => Purpose::Visit,
     }
@@ -180,12 +232,22 @@ impl Transaction {
         is_high && self.frames < 8 && matches!(self.purpose, Purpose::Hunt)
     }
 
+    /// Whether it is a roll call or a draw with this frame: the search address follows the two INITIALISE.
+    fn calls_on(&self, frame: Forward) -> bool
+        ensures opens { result ≡ true → self.now.purpose ≡ Purpose.Opening }
+        ensures third { result ≡ true → self.now.frames ≡ 3 }
+    {
+        let is_high = matches!(Command::read(frame), Command::SearchHigh(_));
+        is_high && self.frames == 3 && matches!(self.purpose, Purpose::Opening)
+    }
+
     /// Whether a frame of this sender goes on with it. Nothing follows direct arc power.
     fn goes_on(&self, sender: u8, frame: Forward) -> bool
         ensures { result ≡ true → self.now.sender ≡ sender }
     {
         let is_over = matches!(self.purpose, Purpose::Other);
-        !is_over && self.sender == sender && (!is_first(frame) || self.hunts_on(frame))
+        let follows = !is_first(frame) || self.hunts_on(frame) || self.calls_on(frame);
+        !is_over && self.sender == sender && follows
     }
 }
 

@@ -219,6 +219,8 @@ pub fn purpose_name(purpose: Purpose) -> &'static str {
         Purpose::Program => "PROGRAM SHORT ADDRESS",
         Purpose::Resolve => "QUERY RANDOM ADDRESS",
         Purpose::Opening => "opening",
+        Purpose::Call => "roll call",
+        Purpose::Pass => "passed over by WITHDRAW",
         Purpose::Close => "TERMINATE",
         Purpose::Other => "other frames",
     }

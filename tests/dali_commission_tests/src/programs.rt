@@ -117,21 +117,21 @@ const NOBODY: &str = "nobody answered: is the interface connected, is the bus po
 
 #[test]
 fn a_bus_on_which_nobody_answers_is_told(rt: HostRuntime) {
-    let silent = answers(&rt, "", 633);
-    let said = "0 gear were enrolled, 0 are in the table; 633 frames\n";
-    ends(&rt, RUN, &Shelf::of(&[]), &silent, (10, 633, said));
-    ends(&rt, RUN, &Shelf::of(&[]), &silent, (10, 633, NOBODY));
-    let said = "0 gear were enrolled, 0 are in the table; 211 frames\n";
-    ends(&rt, ONCE, &Shelf::of(&[]), &silent, (10, 211, said));
+    let silent = answers(&rt, "", 627);
+    let said = "0 gear were enrolled, 0 are in the table; 627 frames\n";
+    ends(&rt, RUN, &Shelf::of(&[]), &silent, (10, 627, said));
+    ends(&rt, RUN, &Shelf::of(&[]), &silent, (10, 627, NOBODY));
+    let said = "0 gear were enrolled, 0 are in the table; 209 frames\n";
+    ends(&rt, ONCE, &Shelf::of(&[]), &silent, (10, 209, said));
     // The two gear of the table are asked too, three times each, and neither answers.
-    let silent = answers(&rt, "", 229);
-    ends(&rt, ONCE, &Shelf::of(&FIVE), &silent, (10, 229, NOBODY));
+    let silent = answers(&rt, "", 227);
+    ends(&rt, ONCE, &Shelf::of(&FIVE), &silent, (10, 227, NOBODY));
 }
 
 /// Nobody is heard in the only pass; then the second gear of the table answers.
 #[test]
 fn a_bus_whose_gear_are_all_in_the_table_is_done(rt: HostRuntime) {
-    let silent = answers(&rt, "", 220);
+    let silent = answers(&rt, "", 218);
     let mut heard = answers(&rt, &silent, 0);
     assert!(rt;
         heard
@@ -140,8 +140,8 @@ fn a_bus_whose_gear_are_all_in_the_table_is_done(rt: HostRuntime) {
             )
             .is_ok()
     );
-    let said = "0 gear were enrolled, 2 are in the table; 229 frames\n";
-    ends(&rt, ONCE, &Shelf::of(&FIVE), &heard, (0, 229, said));
+    let said = "0 gear were enrolled, 2 are in the table; 227 frames\n";
+    ends(&rt, ONCE, &Shelf::of(&FIVE), &heard, (0, 227, said));
 }
 
 #[test]
@@ -157,20 +157,20 @@ fn an_empty_bus_with_new_gear_alone_is_left_after_three_passes(rt: HostRuntime) 
 /// A gear that has short address 0 is asked in the first run, and named by the table in the second one.
 #[test]
 fn a_survey_enrols_who_tells_its_random_address(rt: HostRuntime) {
-    let told = answers(&rt, "byte 12\nbyte 34\nbyte 56\n", 416);
+    let told = answers(&rt, "byte 12\nbyte 34\nbyte 56\n", 412);
     let shelf = Shelf::of(&[]);
-    let said = "1 gear were enrolled, 1 are in the table; 419 frames\n";
-    ends(&rt, ONCE, &shelf, &told, (0, 419, said));
+    let said = "1 gear were enrolled, 1 are in the table; 415 frames\n";
+    ends(&rt, ONCE, &shelf, &told, (0, 415, said));
     assert!(rt; shelf.enrolled() == Some(1));
 }
 
 #[test]
 fn a_survey_leaves_alone_who_does_not_tell_its_random_address(rt: HostRuntime) {
     for (first, silent, lines) in [
-        ("damaged\n", 208, 209),
-        ("byte 12\ndamaged\n", 208, 210),
-        ("byte 12\nbyte 34\n", 209, 211),
-        ("byte FF\nbyte FF\nbyte FF\n", 208, 211),
+        ("damaged\n", 206, 207),
+        ("byte 12\ndamaged\n", 206, 208),
+        ("byte 12\nbyte 34\n", 207, 209),
+        ("byte FF\nbyte FF\nbyte FF\n", 206, 209),
     ] {
         let shelf = Shelf::of(&[]);
         let heard = answers(&rt, first, silent);
@@ -517,7 +517,7 @@ fn searches_that_lead_to_nobody_are_given_up(rt: HostRuntime) {
         );
     }
     assert!(rt; heard.push_str("silence\n").is_ok());
-    let said = "sixteen searches in a row led to a gear that did not answer; \
+    let said = "too many searches in a row led to a gear that did not answer; \
         the last frames were under the search address 000000\n";
     ends(&rt, FRESH, &Shelf::of(&[]), &heard, (7, 2246, said));
 }

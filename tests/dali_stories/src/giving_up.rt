@@ -185,7 +185,7 @@ const IN_PARTS: [(&str, &[(&str, u32)]); 5] = [
                  up 0 > ok
                  survey 0 > 0: put 3 01C2
                  pump noise > 0: sent 01C2 damaged
-                 run 264 > ran 264
+                 run 268 > ran 268
                  go 0 > 0: put 1 BB00
                  pump destroyed - > 0: destroyed BB00
                  run 4 > ran 4",

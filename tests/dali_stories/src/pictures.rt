@@ -257,11 +257,12 @@ event 444: controller 0 heard silence, done: block-full
     )
 }
 
-/// A survey of one gear: nobody under the old numbers, and two questions in the first hunt after it drew.
+/// A survey of one gear: somebody in the roll call, nobody in the hunt, a draw, and two questions in the first hunt
+/// after it.
 const SURVEYED: &str = "site 1 0-3
 draws 123456
 survey 0
-run 212
+run 219
 ";
 
 #[test]
@@ -269,17 +270,22 @@ fn a_page_says_what_a_hunt_asks(rt: HostRuntime) -> Result<(), Fail> {
     mentions(
         &rt,
         SURVEYED,
-        "event 390: controller 0 heard silence, asks at priority 3 to send B1FF SEARCHADDRH
-event 392: controller 0 heard silence, asks at priority 1 to send B5FE SEARCHADDRL
-event 394: controller 0 heard silence, asks at priority 1 to send B3FF SEARCHADDRM
-event 396: controller 0 heard silence, asks at priority 1 to send A900 COMPARE
-event 398: controller 0 heard silence, asks at priority 1 to send A900 COMPARE
-event 400: controller 0 heard silence, asks at priority 3 to send A100 TERMINATE
-event 417: sent for controller 0: A900 COMPARE, heard FF
-event 418: controller 0 heard FF, asks at priority 1 to send B17F SEARCHADDRH
-event 420: controller 0 heard silence, asks at priority 1 to send B5FF SEARCHADDRL
-event 422: controller 0 heard silence, asks at priority 1 to send A900 COMPARE
-event 423: sent for controller 0: A900 COMPARE, heard FF
+        "event 396: controller 0 heard silence, asks at priority 1 to send A900 COMPARE
+event 397: sent for controller 0: A900 COMPARE, heard FF
+event 398: controller 0 heard FF, asks at priority 3 to send B1FF SEARCHADDRH
+event 400: controller 0 heard silence, asks at priority 1 to send B5FE SEARCHADDRL
+event 402: controller 0 heard silence, asks at priority 1 to send B3FF SEARCHADDRM
+event 404: controller 0 heard silence, asks at priority 1 to send A900 COMPARE
+event 406: controller 0 heard silence, asks at priority 1 to send A900 COMPARE
+event 408: controller 0 heard silence, asks at priority 3 to send A100 TERMINATE
+event 416: controller 0 heard silence, asks at priority 1 to send B3FE SEARCHADDRM
+event 418: controller 0 heard silence, asks at priority 1 to send A900 COMPARE
+event 420: controller 0 heard silence, asks at priority 1 to send A700 RANDOMISE
+event 431: sent for controller 0: A900 COMPARE, heard FF
+event 432: controller 0 heard FF, asks at priority 1 to send B17F SEARCHADDRH
+event 434: controller 0 heard silence, asks at priority 1 to send B5FF SEARCHADDRL
+event 436: controller 0 heard silence, asks at priority 1 to send A900 COMPARE
+event 437: sent for controller 0: A900 COMPARE, heard FF
 ",
     )
 }
@@ -520,21 +526,27 @@ fn a_page_has_the_reports_of_replay(rt: HostRuntime) -> Result<(), Fail> {
 }
 
 /// Two controllers that survey: a frame of the second one is no part of a hunt of the first, though it might go on with
-/// it; and a fold counts the transactions of both.
+/// it; and a fold counts the transactions of both. Each roll call and each draw is one transaction, and the draw of the
+/// second one is barred by who drew in the first.
 const OWNED: [Wanted<'static>; 1] = [(
-    "site 1 0-3 4-7\ndraws 123456 234567\nsurvey 0\nsurvey 1\nrun 420\n",
+    "site 1 0-3 4-7\ndraws 123456 234567\nsurvey 0\nsurvey 1\nrun 440\n",
     &[
+        "<title>transaction of controller 0: roll call, frames: 7</title></rect>
+<text class=\"n\" x=\"7706\" y=\"223\">0</text>
+<rect class=\"bar o\" x=\"7844\" y=\"214\" width=\"128\" height=\"11\">\
+<title>transaction of controller 1: roll call, frames: 7</title></rect>
+",
         "<title>transaction of controller 0: hunt by COMPARE, frames: 5</title></rect>
-<text class=\"n\" x=\"7826\" y=\"223\">0</text>
-<rect class=\"bar k\" x=\"7924\" y=\"214\" width=\"88\" height=\"11\">\
+<text class=\"n\" x=\"7986\" y=\"223\">0</text>
+<rect class=\"bar k\" x=\"8084\" y=\"214\" width=\"88\" height=\"11\">\
 <title>transaction of controller 1: hunt by COMPARE, frames: 5</title></rect>
-<text class=\"n\" x=\"7926\" y=\"223\">1</text>
 ",
-        "<title>transaction of controller 0: hunt by COMPARE, frames: 7</title></rect>
-<text class=\"n\" x=\"8226\" y=\"223\">0</text>
-<rect class=\"bar k\" x=\"8364\" y=\"214\" width=\"48\" height=\"11\">\
-<title>transaction of controller 1: hunt by COMPARE, frames: 3</title></rect>
+        "<title>transaction of controller 0: opening, frames: 8</title></rect>
+<text class=\"n\" x=\"8186\" y=\"223\">0</text>
+<rect class=\"bar o\" x=\"8344\" y=\"214\" width=\"108\" height=\"11\">\
+<title>transaction of controller 1: roll call, frames: 6</title></rect>
 ",
+        "<title>events 770 to 783: roll call; transactions begun: 1, frames: 7</title>",
         "hunt by COMPARE; transactions begun: 2, frames: 10</title>",
     ],
 )];

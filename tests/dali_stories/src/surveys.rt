@@ -4,9 +4,9 @@ use super::story::all_play;
 use std::test::Fail;
 
 /// Stories with their names.
-const STORIES: [(&str, &str); 12] = [
+const STORIES: [(&str, &str); 14] = [
     (
-        // The second survey asks three gear for their numbers, and finds nobody without address.
+        // The second survey asks three gear for their numbers, and hears nobody without address.
         "a survey gives addresses as a start does, and a second one commits nothing",
         "site 3 0-7
          draws 123456 0ABCDE 654321
@@ -18,7 +18,7 @@ const STORIES: [(&str, &str); 12] = [
          > 0: commit reserve 2 654321
          > 0: commit enrol 2 654321
          > 0: done all-found
-         > ran 453
+         > ran 476
          show > gear 0 on disabled 123456 FFFFFE 1
          > gear 1 on disabled 0ABCDE FFFFFE 0
          > gear 2 on disabled 654321 FFFFFE 2
@@ -27,7 +27,7 @@ const STORIES: [(&str, &str); 12] = [
          up 0 > ok
          survey 0 > 0: put 3 01C2
          run 2000 > 0: done all-found
-         > ran 211
+         > ran 209
          survey 0 > refused 3 NotDue",
     ),
     (
@@ -42,58 +42,62 @@ const STORIES: [(&str, &str); 12] = [
          > 0: commit reserve 1 654321
          > 0: commit enrol 1 654321
          > 0: done all-found
-         > ran 376
+         > ran 399
          up 1 > ok
          survey 1 > 1: put 3 01C2
          run 2000 > 1: commit enrol 0 123456
          > 1: commit enrol 1 654321
          > 1: done all-found
-         > ran 211
+         > ran 209
          show > gear 0 on disabled 123456 FFFFFE 0
          > gear 1 on disabled 654321 FFFFFE 1
          > table 0: 0=123456 1=654321
          > table 1: 0=123456 1=654321",
     ),
     (
-        // Controller 0 closes with its block full, and gear are left; each controller surveys once more.
-        "surveys one after the other leave no gear",
+        // Controller 0 ends with its block full. Controller 1 calls the roll then, hears the two that are left, and gives them
+        // its addresses. Each has enrolled whom it found; a further survey of the first one enrols those of the second.
+        "surveys at once leave no gear",
         "site 4 0-1 2-3
-         draws 100001 200001 300001 400001 100002 200002 300002 400002
+         draws 100001 200001 300001 400001
          survey 0 > 0: put 3 01C2
          survey 1 > 1: put 3 01C2
-         run 10000 > 0: commit reserve 0 100002
-         > 1: commit reserve 2 100002
-         > 0: commit enrol 0 100002
-         > 1: commit enrol 0 100002
-         > 1: commit release 2 100002
-         > 0: commit reserve 1 200002
-         > 1: commit reserve 2 200002
-         > 0: commit enrol 1 200002
-         > 1: commit enrol 1 200002
-         > 1: commit release 2 200002
-         > 1: commit reserve 2 300002
+         run 10000 > 0: commit reserve 0 100001
+         > 1: commit reserve 2 100001
+         > 0: commit enrol 0 100001
+         > 1: commit enrol 0 100001
+         > 1: commit release 2 100001
+         > 0: commit reserve 1 200001
+         > 1: commit reserve 2 200001
+         > 0: commit enrol 1 200001
+         > 1: commit enrol 1 200001
+         > 1: commit release 2 200001
+         > 1: commit reserve 2 300001
          > 0: done block-full
+         > 1: commit enrol 2 300001
+         > 1: commit reserve 3 400001
+         > 1: commit enrol 3 400001
          > 1: done all-found
-         > ran 865
+         > ran 1062
+         show > gear 0 on disabled 100001 300001 0
+         > gear 1 on disabled 200001 300001 1
+         > gear 2 on disabled 300001 FFFFFE 2
+         > gear 3 on disabled 400001 FFFFFE 3
+         > table 0: 0=100001 1=200001
+         > table 1: 0=100001 1=200001 2=300001 3=400001
          down 0 > ok
          up 0 > ok
          survey 0 > 0: put 3 01C2
-         run 10000 > 0: done block-full
-         > ran 269
-         down 1 > ok
-         up 1 > ok
-         survey 1 > 1: put 3 05C2
-         run 10000 > 1: commit enrol 2 300002
-         > 1: commit reserve 3 400002
-         > 1: commit enrol 3 400002
-         > 1: done all-found
-         > ran 352
-         show > gear 0 on disabled 100002 300002 0
-         > gear 1 on disabled 200002 300002 1
-         > gear 2 on disabled 300002 FFFFFE 2
-         > gear 3 on disabled 400002 FFFFFE 3
-         > table 0: 0=100002 1=200002
-         > table 1: 0=100002 1=200002 2=300002 3=400002",
+         run 10000 > 0: commit enrol 2 300001
+         > 0: commit enrol 3 400001
+         > 0: done all-found
+         > ran 209
+         show > gear 0 on disabled 100001 300001 0
+         > gear 1 on disabled 200001 300001 1
+         > gear 2 on disabled 300001 FFFFFE 2
+         > gear 3 on disabled 400001 FFFFFE 3
+         > table 0: 0=100001 1=200001 2=300001 3=400001
+         > table 1: 0=100001 1=200001 2=300001 3=400001",
     ),
     (
         // Somebody is heard under 0, so the gear is given 1.
@@ -105,7 +109,7 @@ const STORIES: [(&str, &str); 12] = [
          run 2000 > 0: commit reserve 1 123456
          > 0: commit enrol 1 123456
          > 0: done all-found
-         > ran 296",
+         > ran 319",
     ),
     (
         // A second address would be needed: no survey gives one that the block does not have.
@@ -116,7 +120,7 @@ const STORIES: [(&str, &str); 12] = [
          run 1000 > 0: commit reserve 7 100000
          > 0: commit enrol 7 100000
          > 0: done block-full
-         > ran 352
+         > ran 359
          show > gear 0 on disabled 100000 200000 7
          > gear 1 on disabled 200000 200000 -
          > table 0: 7=100000
@@ -124,129 +128,99 @@ const STORIES: [(&str, &str); 12] = [
          up 0 > ok
          survey 0 > 0: put 3 01C2
          run 1000 > 0: done block-full
-         > ran 269
+         > ran 273
          show > gear 0 on disabled 100000 200000 7
          > gear 1 on disabled 200000 200000 -
          > table 0: 7=100000",
     ),
     (
-        // By a start the gear that are left draw new numbers; a survey gives 1 to the number that it is reserved for.
-        "a survey after the first to close finds the gear that are left",
-        "site 3 0-0 1-8
-         draws 100001 200001 300001 100002 200002 300002 100003 200003 300003
+        // The second gear comes on when the block has no address left. It has no number, and draws none: the roll call hears
+        // it, and the hunt under FFFFFE does not.
+        "a new gear beside a full block is told by block-full",
+        "site 2 0-0
+         draws 100000
+         off 1 > ok
          survey 0 > 0: put 3 01C2
-         survey 1 > 1: put 3 01C2
-         run 1000 > 0: commit reserve 0 100002
-         > 1: commit reserve 1 100002
-         > 0: commit enrol 0 100002
-         > 1: commit enrol 0 100002
-         > 1: commit release 1 100002
-         > 1: commit reserve 1 200002
-         > 0: done block-full
-         > 1: done all-found
-         > ran 725
-         show > gear 0 on disabled 100002 200002 0
-         > gear 1 on disabled 200002 200002 -
-         > gear 2 on disabled 300002 200002 -
-         > table 0: 0=100002
-         > table 1: 0=100002
-         down 1 > ok
-         up 1 > ok
-         survey 1 > 1: put 3 03C2
-         run 1000 > 1: commit enrol 1 200002
-         > 1: commit reserve 2 300002
-         > 1: commit enrol 2 300002
-         > 1: done all-found
-         > ran 363
-         show > gear 0 on disabled 100002 200002 0
-         > gear 1 on disabled 200002 FFFFFE 1
-         > gear 2 on disabled 300002 FFFFFE 2
-         > table 0: 0=100002
-         > table 1: 0=100002 1=200002 2=300002",
-    ),
-    (
-        "the next survey gives what a disabled gear did not take",
-        "site 1 0-3
-         draws 123456
-         survey 0 > 0: put 3 01C2
-         run 283 > 0: commit reserve 0 123456
-         > ran 282
-         expire 0 > ok
-         go 0 > 0: put 1 B701
-         pump > 0: sent B701 silence
-         run 1000 > 0: done all-found
-         > ran 7
-         show > gear 0 on disabled 123456 123456 -
-         > table 0:
+         run 1000 > 0: commit reserve 0 100000
+         > 0: commit enrol 0 100000
+         > 0: done all-found
+         > ran 322
+         on 1 > ok
          down 0 > ok
          up 0 > ok
          survey 0 > 0: put 3 01C2
-         run 1000 > 0: commit enrol 0 123456
-         > 0: done all-found
-         > ran 295
-         show > gear 0 on disabled 123456 FFFFFE 0
-         > table 0: 0=123456",
+         run 1000 > 0: done block-full
+         > ran 205
+         show > gear 0 on disabled 100000 FFFFFE 0
+         > gear 1 on disabled FFFFFF FFFFFE -
+         > table 0: 0=100000",
     ),
     (
-        "the next survey opens where a quiet bus broke the pair",
-        "site 1 0-3
-         draws 123456
-         survey 0 > 0: put 3 01C2
-         run 204 > ran 204
-         quiet > ok
-         go 0 > 0: put 1 A700
-         pump > 0: sent A700 silence
-         run 1000 > 0: done all-found
-         > ran 6
-         show > gear 0 on disabled FFFFFF FFFFFE -
-         > table 0:
-         down 0 > ok
-         up 0 > ok
-         survey 0 > 0: put 3 01C2
-         run 1000 > 0: commit reserve 0 123456
-         > 0: commit enrol 0 123456
-         > 0: done all-found
-         > ran 299
-         show > gear 0 on disabled 123456 FFFFFE 0
-         > table 0: 0=123456",
-    ),
-    (
-        // The question under FFFFFE is heard as silence twice, as where nobody is left.
-        "the next survey finds the gear that two lost answers left",
+        // It is off while the others draw, and comes on as the first of them is visited. The next roll call hears it: it draws
+        // where nobody is to be searched any more, and is given an address.
+        "gear that come on late draw after the next roll call",
         "site 2 0-3
          draws 123456 654321
+         off 1 > ok
          survey 0 > 0: put 3 01C2
-         run 208 > ran 208
-         go 0 > 0: put 1 A900
-         pump lost > 0: sent A900 silence
-         go 0 > 0: put 1 A900
-         pump lost > 0: sent A900 silence
-         run 1000 > 0: done all-found
-         > ran 1
-         show > gear 0 on disabled 123456 FFFFFE -
-         > gear 1 on disabled 654321 FFFFFE -
-         > table 0:
-         down 0 > ok
-         up 0 > ok
-         survey 0 > 0: put 3 01C2
-         run 1000 > 0: commit reserve 0 123456
-         > 0: commit enrol 0 123456
+         run 291 > 0: commit reserve 0 123456
+         > ran 290
+         on 1 > ok
+         run 1000 > 0: commit enrol 0 123456
          > 0: commit reserve 1 654321
          > 0: commit enrol 1 654321
          > 0: done all-found
-         > ran 376
+         > ran 144
          show > gear 0 on disabled 123456 FFFFFE 0
          > gear 1 on disabled 654321 FFFFFE 1
          > table 0: 0=123456 1=654321",
     ),
     (
-        // COMPARE alone is sent once more. Somebody answers, who can be at FFFFFE alone: a visit there hears nothing,
-        // and the search begins anew.
-        "one lost answer under FFFFFE leaves nobody",
+        // Its initialisation runs out before PROGRAM SHORT ADDRESS, so it stores nothing. The next roll call hears it.
+        "a disabled gear is heard again by the next roll call",
+        "site 1 0-3
+         draws 123456
+         survey 0 > 0: put 3 01C2
+         run 290 > 0: commit reserve 0 123456
+         > ran 289
+         expire 0 > ok
+         go 0 > 0: put 1 B701
+         pump > 0: sent B701 silence
+         run 1000 > 0: commit enrol 0 123456
+         > 0: done all-found
+         > ran 118
+         show > gear 0 on disabled 123456 FFFFFE 0
+         > table 0: 0=123456",
+    ),
+    (
+        // The gear is not initialised, and silent in this roll call. The second one in a row hears it.
+        "a quiet bus between the two INITIALISE is one roll call alone",
+        "site 1 0-3
+         draws 123456
+         survey 0 > 0: put 3 01C2
+         run 194 > ran 194
+         quiet > ok
+         go 0 > 0: put 1 A5FF
+         pump > 0: sent A5FF silence
+         run 1000 > 0: commit reserve 0 123456
+         > 0: commit enrol 0 123456
+         > 0: done all-found
+         > ran 135
+         show > gear 0 on disabled 123456 FFFFFE 0
+         > table 0: 0=123456",
+    ),
+    (
+        // COMPARE is sent twice in each of two roll calls.
+        "one answer of four that is heard leaves nobody",
         "site 2 0-3
          draws 123456 654321
          survey 0 > 0: put 3 01C2
-         run 208 > ran 208
+         run 198 > ran 198
+         go 0 > 0: put 1 A900
+         pump lost > 0: sent A900 silence
+         go 0 > 0: put 1 A900
+         pump lost > 0: sent A900 silence
+         run 6 > ran 6
          go 0 > 0: put 1 A900
          pump lost > 0: sent A900 silence
          go 0 > 0: put 1 A900
@@ -256,7 +230,38 @@ const STORIES: [(&str, &str); 12] = [
          > 0: commit reserve 1 654321
          > 0: commit enrol 1 654321
          > 0: done all-found
-         > ran 175",
+         > ran 200",
+    ),
+    (
+        // So all-found says only that nobody was heard four times. The next survey finds them.
+        "four lost answers leave gear, and the next survey finds them",
+        "site 2 0-3
+         draws 123456 654321
+         survey 0 > 0: put 3 01C2
+         run 198 > ran 198
+         go 0 > 0: put 1 A900
+         pump lost > 0: sent A900 silence
+         go 0 > 0: put 1 A900
+         pump lost > 0: sent A900 silence
+         run 6 > ran 6
+         go 0 > 0: put 1 A900
+         pump lost > 0: sent A900 silence
+         go 0 > 0: put 1 A900
+         pump lost > 0: sent A900 silence
+         run 1000 > 0: done all-found
+         > ran 1
+         show > gear 0 on disabled FFFFFF FFFFFF -
+         > gear 1 on disabled FFFFFF FFFFFF -
+         > table 0:
+         down 0 > ok
+         up 0 > ok
+         survey 0 > 0: put 3 01C2
+         run 1000 > 0: commit reserve 0 123456
+         > 0: commit enrol 0 123456
+         > 0: commit reserve 1 654321
+         > 0: commit enrol 1 654321
+         > 0: done all-found
+         > ran 399",
     ),
     (
         // The visit to the second gear hears nothing. The search begins anew, at the number of the first one, and goes
@@ -265,15 +270,38 @@ const STORIES: [(&str, &str); 12] = [
         "site 2 0-3
          draws 123456 654321
          survey 0 > 0: put 3 01C2
-         run 358 > 0: commit reserve 0 123456
+         run 365 > 0: commit reserve 0 123456
          > 0: commit enrol 0 123456
-         > ran 356
+         > ran 363
          go 0 > 0: put 1 BB00
          pump lost > 0: sent BB00 silence
          run 1000 > 0: commit reserve 1 654321
          > 0: commit enrol 1 654321
          > 0: done all-found
-         > ran 97",
+         > ran 113",
+    ),
+    (
+        // Its first visits hear nothing, so it is passed over. Once the other one is served its number is found anew, and this
+        // time its visit is heard.
+        "gear that are passed over are searched again after the next roll call",
+        "site 2 0-3
+         draws 100000 200000
+         survey 0 > 0: put 3 01C2
+         run 284 > ran 284
+         go 0 > 0: put 1 BB00
+         pump lost > 0: sent BB00 silence
+         run 72 > ran 72
+         go 0 > 0: put 1 BB00
+         pump lost > 0: sent BB00 silence
+         run 1000 > 0: commit reserve 0 200000
+         > 0: commit enrol 0 200000
+         > 0: commit reserve 1 100000
+         > 0: commit enrol 1 100000
+         > 0: done all-found
+         > ran 207
+         show > gear 0 on disabled 100000 FFFFFE 1
+         > gear 1 on disabled 200000 FFFFFE 0
+         > table 0: 0=200000 1=100000",
     ),
     (
         // So an address that a gear without power has stands in no table of a controller that surveyed meanwhile.
@@ -287,13 +315,13 @@ const STORIES: [(&str, &str); 12] = [
          > 0: commit reserve 1 654321
          > 0: commit enrol 1 654321
          > 0: done all-found
-         > ran 376
+         > ran 399
          up 1 > ok
          off 0 > ok
          survey 1 > 1: put 3 01C2
          run 1000 > 1: commit enrol 1 654321
          > 1: done all-found
-         > ran 211
+         > ran 209
          show > gear 0 off disabled 123456 FFFFFE 0
          > gear 1 on disabled 654321 FFFFFE 1
          > table 0: 0=123456 1=654321
@@ -304,7 +332,7 @@ const STORIES: [(&str, &str); 12] = [
          survey 1 > 1: put 3 01C2
          run 1000 > 1: commit enrol 0 123456
          > 1: done all-found
-         > ran 208
+         > ran 206
          show > gear 0 on disabled 123456 FFFFFF 0
          > gear 1 on disabled 654321 FFFFFE 1
          > table 0: 0=123456 1=654321
