@@ -20,8 +20,8 @@ use Rattle.dali_commissioning.specs.declared.unaddressed.Putting.{Putting}
 use Rattle.dali_commissioning.specs.Drivers.{Talk}
 use Rattle.dali_commissioning.specs.Census.{IsPut, is_sent, answer_told}
 
--- GEAR WITHOUT SHORT ADDRESS ARE ASKED by three transactions: they are woken, as a survey wakes
--- them; they are asked three times under FFFFFF, which no number is above; and the initialisation
+-- GEAR WITHOUT SHORT ADDRESS ARE ASKED by three transactions: they are initialised, as in a roll
+-- call; they are asked three times under FFFFFF, which no number is above; and the initialisation
 -- is ended (IEC 62386-102:2014, TERMINATE, INITIALISE, SEARCHADDRH, SEARCHADDRM, SEARCHADDRL,
 -- COMPARE).
 abbrev pub waking : List Command

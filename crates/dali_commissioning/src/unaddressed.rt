@@ -39,7 +39,7 @@ fn put_so(priority: Priority, command: Command, half: Half, asks: bool) -> Putti
     }
 }
 
-/// The frames that ask: gear without short address are woken, as a survey wakes them; they are asked three times under
+/// The frames that ask: gear without short address are initialised, as in a roll call; they are asked three times under
 /// `FFFFFF`, which no number of a gear is above; and the initialisation is ended.
 fn asking() -> [Putting; 10]
     ensures { result ≡ asking }
@@ -109,7 +109,7 @@ fn put_all<R: Read, W: Write>(
     }
 }
 
-/// Whether gear are there that have no short address: they are woken and asked three times, and put to sleep again.
+/// Whether gear are there that have no short address: they are initialised, asked three times, and disabled again.
 /// Where one of these frames is lost all begins again, eight times in a row at most. No gear draws a random address, is
 /// given a short one, or is withdrawn.
 pub fn has_unaddressed<R: Read, W: Write>(

@@ -32,4 +32,5 @@ IsHighFirst (Draw h m) = ⊥
 IsHighFirst _ = Unit {0}
 
 abbrev pub IsLater : Forward → Type 0
-IsLater f = (s : Script) × (e : Entry) × (t : List Entry) × IsHighFirst s × IsFront (e ∷ t) f (steps s)
+IsLater f =
+    (s : Script) × (e : Entry) × (t : List Entry) × IsHighFirst s × IsFront (e ∷ t) f (steps s)

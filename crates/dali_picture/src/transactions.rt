@@ -56,8 +56,8 @@ pub struct Transaction {
     pub frames: u64,
 }
 
-/// Whether a frame may begin a transaction: no later frame of one is such a frame, but SEARCHADDRH in a hunt, a roll call
-/// and a draw.
+/// Whether a frame may begin a transaction: no later frame of one is such a frame, but SEARCHADDRH in a hunt, a roll
+/// call and a draw.
 pub fn is_first(frame: Forward) -> bool
     ensures begins { IsFirst frame → result ≡ true }
     ensures goes_on { IsLater frame → result ≡ false }

@@ -67,8 +67,57 @@ const UNHEARD_SEARCH: &str = "run 103 > ran 103
                               go 0 > 0: put 1 BB00
                               pump lost > 0: sent BB00 silence";
 
+/// Two visits to a gear in a row whose answers to QUERY SHORT ADDRESS are lost, with the search between them.
+const UNHEARD_TWICE: &str = "go 0 > 0: put 1 BB00
+                             pump lost > 0: sent BB00 silence
+                             run 72 > ran 72
+                             go 0 > 0: put 1 BB00
+                             pump lost > 0: sent BB00 silence";
+
 /// Stories in parts, each of which is played so many times.
-const IN_PARTS: [(&str, &[(&str, u32)]); 5] = [
+const IN_PARTS: [(&str, &[(&str, u32)]); 6] = [
+    // Gear 0 is passed over, and gear 1 is served. At the fourth roll call that is heard since then gear 0 draws a new
+    // random address; at the eighth the survey gives up.
+    (
+        "gear whose answers are lost for good keep no other from its address",
+        &[
+            (
+                "site 2 0-3
+                 draws 100000 200000 300000
+                 survey 0 > 0: put 3 01C2
+                 run 284 > ran 284",
+                1,
+            ),
+            (UNHEARD_TWICE, 1),
+            (
+                "run 171 > 0: commit reserve 0 200000
+                 > 0: commit enrol 0 200000
+                 > ran 169",
+                1,
+            ),
+            (UNHEARD_TWICE, 1),
+            ("run 96 > ran 96", 1),
+            (UNHEARD_TWICE, 1),
+            ("run 96 > ran 96", 1),
+            (UNHEARD_TWICE, 1),
+            ("run 101 > ran 101", 1),
+            (UNHEARD_TWICE, 1),
+            ("run 94 > ran 94", 1),
+            (UNHEARD_TWICE, 1),
+            ("run 94 > ran 94", 1),
+            (UNHEARD_TWICE, 1),
+            ("run 94 > ran 94", 1),
+            (UNHEARD_TWICE, 1),
+            (
+                "run 1000 > 0: done gave-up
+                 > ran 23
+                 show > gear 0 on disabled 300000 FFFFFF -
+                 > gear 1 on disabled 200000 FFFFFE 0
+                 > table 0: 0=200000",
+                1,
+            ),
+        ],
+    ),
     (
         "the sixteenth silent search gives up",
         &[

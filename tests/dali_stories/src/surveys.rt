@@ -55,8 +55,8 @@ const STORIES: [(&str, &str); 14] = [
          > table 1: 0=123456 1=654321",
     ),
     (
-        // Controller 0 ends with its block full. Controller 1 calls the roll then, hears the two that are left, and gives them
-        // its addresses. Each has enrolled whom it found; a further survey of the first one enrols those of the second.
+        // Controller 0 ends with its block full. Controller 1 calls the roll then, hears the two that are left, and
+        // gives them its addresses. A further survey of the first one enrols those of the second.
         "surveys at once leave no gear",
         "site 4 0-1 2-3
          draws 100001 200001 300001 400001
@@ -134,8 +134,8 @@ const STORIES: [(&str, &str); 14] = [
          > table 0: 7=100000",
     ),
     (
-        // The second gear comes on when the block has no address left. It has no number, and draws none: the roll call hears
-        // it, and the hunt under FFFFFE does not.
+        // The second gear comes on when the block has no address left. It has no number, and draws none: the roll call
+        // hears it, and the hunt under FFFFFE does not.
         "a new gear beside a full block is told by block-full",
         "site 2 0-0
          draws 100000
@@ -156,7 +156,7 @@ const STORIES: [(&str, &str); 14] = [
          > table 0: 0=100000",
     ),
     (
-        // It is off while the others draw, and comes on as the first of them is visited. The next roll call hears it: it draws
+        // It is off while the other one draws, and comes on as that is visited. The next roll call hears it: it draws
         // where nobody is to be searched any more, and is given an address.
         "gear that come on late draw after the next roll call",
         "site 2 0-3
@@ -281,8 +281,8 @@ const STORIES: [(&str, &str); 14] = [
          > ran 113",
     ),
     (
-        // Its first visits hear nothing, so it is passed over. Once the other one is served its number is found anew, and this
-        // time its visit is heard.
+        // Its first visits hear nothing, so it is passed over. Once the other one is served its number is found anew,
+        // and this time its visit is heard.
         "gear that are passed over are searched again after the next roll call",
         "site 2 0-3
          draws 100000 200000

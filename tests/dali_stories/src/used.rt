@@ -77,9 +77,9 @@ const STORIES: [(&str, &str); 6] = [
          > table 0: 0=123456",
     ),
     (
-        // Nobody hears it: 192 frames of silence, 3 that wake, and 5 with two questions under the old numbers; then 5
-        // that open, 69 that search, and a visit of 4. Then the controller would reserve its address. With power it is
-        // heard, once the controller asks anew.
+        // Nobody hears it: 192 frames of silence. The other gear never drew: 7 frames of a roll call, 5 of a hunt, 8 in
+        // which it draws, 69 that search, and a visit of 4. Then the controller would reserve the address of the used
+        // one. With power that is heard, once the controller asks anew.
         "used gear without power are not heard, and their address is refused",
         "site 2 0-3
          draws 123456 654321
