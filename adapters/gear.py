@@ -199,8 +199,8 @@ def gear_of(value: typing.Any, what: str) -> Gear:
     return Gear(short, number_of(value["random_address"], f"{what}: random_address"), level)
 
 
-def read_site(text: str, what: str) -> tuple[list[Gear], int]:
-    """The gear that the text of a file has, and the number that was drawn last."""
+def read_site(text: str, what: str, may_be_alike: bool = False) -> tuple[list[Gear], int]:
+    """The gear that the text of a file has, and the number that was drawn last. No two may have one random address, if nothing is said."""
     try:
         value = json.loads(text)
     except (ValueError, RecursionError) as why:
@@ -213,7 +213,7 @@ def read_site(text: str, what: str) -> tuple[list[Gear], int]:
     holders = {}
     for at, it in enumerate(gear):
         other = holders.setdefault(it.random, at)
-        is_one = other != at and it.random != MASK24
+        is_one = other != at and it.random != MASK24 and not may_be_alike
         check(not is_one, f"{what}: gear {other} and gear {at} have one random_address, {it.random:06X}")
     return gear, last_drawn
 
@@ -282,8 +282,9 @@ class Bus:
             self.last_drawn = self.chance.randrange(MASK24)
             self.kept = None
         else:
-            self.gear, self.last_drawn = read_site(text, chosen.file)
+            self.gear, self.last_drawn = read_site(text, chosen.file, chosen.alike)
             self.kept = self.keeps()
+        self.mute = [] if chosen.mute is None else self.gear[chosen.mute : chosen.mute + 1]
         self.keep()
 
     def keeps(self) -> list[tuple[int | None, int, int]]:
@@ -320,11 +321,15 @@ class Bus:
             return lines.LAPSED
         is_destroyed = self.happens(self.chosen.destroy)
         takers = [it for it in self.gear if not is_destroyed or self.happens(0.5)]
-        answers = [byte for it in takers if (byte := it.take(frame, self.draw)) is not None]
+        answers = [byte for it in takers if (byte := it.take(frame, self.draw)) is not None and not self.is_mute(it, frame)]
         self.keep()
         if is_destroyed:
             return lines.DESTROYED
         return self.heard(answers) if awaits else lines.SILENCE
+
+    def is_mute(self, gear: Gear, frame: bytes) -> bool:
+        """Whether this gear tells no short address under its random address."""
+        return frame[0] == QUERY_SHORT and gear in self.mute
 
     def heard(self, answers: list[int]) -> str:
         """What is heard of the backward frames. Several equal ones are one byte or damaged, others together are damaged."""
@@ -361,4 +366,6 @@ def add_words(options: argparse.ArgumentParser) -> None:
     options.add_argument("--damage", **chance, help="that something damaged is heard where an answer is awaited")
     options.add_argument("--destroy", **chance, help="that it is destroyed; each gear takes it all the same, or not at all")
     options.add_argument("--lapse", **chance, help="that it is not sent")
+    options.add_argument("--mute", type=count, metavar="N", help="gear N, counted from 0, never answers QUERY SHORT ADDRESS")
+    options.add_argument("--alike", action="store_true", help="let gear of FILE have one random address, as after equal draws")
     options.add_argument("--slow", type=measure(60), default=0, metavar="SECONDS", help="how long each frame takes")
