@@ -150,16 +150,26 @@ fn say_conflict<S: Eprint>(system: &S, pass: &PassEnd, kept: &Kept) {
     let _ = eprintln!(system; "{CONFLICT}");
 }
 
-/// Who was passed over: the first eight by their random addresses, the others by their number.
+/// Who was passed over, each by its random address once: it may have been so after several roll calls. Of more than
+/// eight times the machine does not know whom.
 fn say_passed_over<S: Eprint>(system: &S, passed: &Passed) {
-    for number in passed.numbers.iter().take(usize::from(passed.count)) {
-        let _ = eprintln!(system;
-            "random address {number}: a gear answers there, and told no short address when it was asked"
-        );
+    let known = passed.numbers.iter().take(usize::from(passed.count));
+    for (at, number) in known.enumerate() {
+        if !passed
+            .numbers
+            .iter()
+            .take(at)
+            .any(|earlier| earlier == number)
+        {
+            let _ = eprintln!(system;
+                "random address {number}: a gear answers there, and told no short address when it was asked"
+            );
+        }
     }
     if passed.count > 8 {
-        let more = passed.count - 8;
-        let _ = eprintln!(system; "{more} more gear told no short address when they were asked");
+        let _ = eprintln!(system;
+            "more gear may be there that told no short address when they were asked"
+        );
     }
 }
 

@@ -4,7 +4,7 @@ use super::story::all_play;
 use std::test::Fail;
 
 /// Stories with their names.
-const STORIES: [(&str, &str); 14] = [
+const STORIES: [(&str, &str); 15] = [
     (
         // The second survey asks three gear for their numbers, and hears nobody without address.
         "a survey gives addresses as a start does, and a second one commits nothing",
@@ -302,6 +302,27 @@ const STORIES: [(&str, &str); 14] = [
          show > gear 0 on disabled 100000 FFFFFE 1
          > gear 1 on disabled 200000 FFFFFE 0
          > table 0: 0=200000 1=100000",
+    ),
+    (
+        // The reservation of the first gear is unfinished, and its visits hear nothing. The second one finds no address
+        // open, so all short addresses are asked again, and then the first one is found.
+        "a block is full only once short addresses were asked again",
+        "site 2 0-0
+         draws 123456 654321
+         survey 0 > 0: put 3 01C2
+         run 289 > 0: commit reserve 0 123456
+         > ran 288
+         go 0 > 0: put 1 BB00
+         pump lost > 0: sent BB00 silence
+         run 72 > ran 72
+         go 0 > 0: put 1 BB00
+         pump lost > 0: sent BB00 silence
+         run 2000 > 0: commit enrol 0 123456
+         > 0: done block-full
+         > ran 424
+         show > gear 0 on disabled 123456 654321 0
+         > gear 1 on disabled 654321 654321 -
+         > table 0: 0=123456",
     ),
     (
         // So an address that a gear without power has stands in no table of a controller that surveyed meanwhile.

@@ -409,7 +409,7 @@ fn an_address_of_somebody_else_is_not_given_by_a_reservation(rt: HostRuntime) ->
     Ok(())
 }
 
-/// A hunt over gear that were woken: what the machine is told first, how many frames it sends then, while each COMPARE
+/// A hunt after a roll call: what the machine is told first, how many frames it sends then, while each COMPARE
 /// is answered YES; and what it is told then and orders. Another part may follow.
 type Hunt<'a> = (&'a str, &'a [(Input, u32, &'a [Moment])]);
 
@@ -598,4 +598,31 @@ fn hunts_ask_one_question_after_the_other(rt: HostRuntime) -> Result<(), Fail> {
         hunts(&rt, &hunt)?;
     }
     Ok(())
+}
+
+/// Each COMPARE is heard, and nobody tells a short address. A search that begins anew ends at 000000, whose second visit
+/// in a row passes it over, and the next search at 000001, for whose visit it begins anew: of each three visits one is
+/// the second in a row.
+#[test]
+fn the_eightieth_silent_search_in_a_row_gives_up(rt: HostRuntime) -> Result<(), Fail> {
+    let mut machine = machine_of((0, 3), &[])?;
+    let (mut told, mut visits) = (Input::Survey, 0u32);
+    for _ in 0..10_000 {
+        told = match ordered(&mut machine, told) {
+            Put(_, 0xA900) => YES,
+            Put(_, 0xBB00) => {
+                visits += 1;
+                SILENCE
+            }
+            Put(..) => SILENCE,
+            end => {
+                same(&rt, &end, &Done(End::GaveUp));
+                same(&rt, &visits, &80);
+                let passed = machine.tally().passed;
+                same(&rt, &passed.count, &26);
+                return Ok(());
+            }
+        };
+    }
+    Err(Fail::from("a survey that does not end"))
 }
