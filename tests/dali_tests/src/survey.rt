@@ -600,9 +600,9 @@ fn hunts_ask_one_question_after_the_other(rt: HostRuntime) -> Result<(), Fail> {
     Ok(())
 }
 
-/// Each COMPARE is heard, and nobody tells a short address. A search that begins anew ends at 000000, whose second visit
-/// in a row passes it over, and the next search at 000001, for whose visit it begins anew: of each three visits one is
-/// the second in a row.
+/// Each COMPARE is heard, and nobody tells a short address. A search that begins anew ends at 000000; the second visit
+/// there in a row passes it over. The next one ends at 000001, and after its visit the search begins anew. So one of
+/// each three visits passes a gear over.
 #[test]
 fn the_eightieth_silent_search_in_a_row_gives_up(rt: HostRuntime) -> Result<(), Fail> {
     let mut machine = machine_of((0, 3), &[])?;
