@@ -123,6 +123,12 @@ pub record HasCalled (p : Plan) (capacity : ℕ) (P : Order → Type 0) (log : L
   pub called : AreCalled p capacity front c first es
   pub called_again : AreCalled p capacity front c first (es ++ sent_event c compare ∷ fs)
 
+-- two roll calls, one after the other; between the two c stayed up
+pub record HasCalledTwice (p : Plan) (capacity : ℕ) (P : Order → Type 0) (log : List Event)
+    (c : ℕ) : Type 0 where
+  pub last : HasCalled p capacity P log c
+  pub before : HasCalled p capacity (λ o. Unit {0}) last.front c
+
 -- the frames of such a roll call under a search address
 abbrev pub roll_call : SearchAddress → List Step
 roll_call r =

@@ -1,4 +1,4 @@
-use Rattle.std.proofs.Common.{◌≡◌, ℕ, true, List, [], ◌∷◌, ◌++◌, refl, sym, ap, subst, ◌∙◌, arith, append_assoc, Option, Some, None}
+use Rattle.std.proofs.Common.{◌≡◌, ℕ, ◌⊎◌, inl, inr, true, List, [], ◌∷◌, ◌++◌, refl, sym, ap, subst, ◌∙◌, arith, append_assoc, append-nil, Option, Some, None}
 use Rattle.std.specs.Prelude.{◌==◌}
 use Rattle.std.specs.List.{AllByRecursion}
 use Rattle.std.proofs.lemmas.Bool.Decides.{nat_tests}
@@ -13,6 +13,7 @@ use Rattle.dali_script.specs.declared.stage.Stage.{Stage}
 use Rattle.dali_script.specs.declared.stage.Stage.TheVariants.{Terminated, InitialisedOnce, Initialised, WokenHigh, WokenLow, Hunted}
 use Rattle.dali_script.specs.declared.trace.Entry.{Entry}
 use Rattle.dali_script.specs.Scripts.{IsFront}
+use Rattle.dali_script.specs.declared.orders.Input.{Input}
 use Rattle.dali_script.specs.declared.orders.Order.{Order}
 use Rattle.dali_script.specs.Stages.{stage_of}
 use Rattle.dali_events.specs.declared.event.Event.{Event}
@@ -163,10 +164,12 @@ runs_at w c pre x post s is stage =
     ap stage_of (sym (running_owned w c runs.owner) ∙ is) ∙ stage
 
 -- and the roll call begins behind some events
-pub record IsRolled (p : Plan) (capacity : ℕ) (P : Order → Type 0) (log : List Event) (c : ℕ) (earlier : List Event) : Type 0 where
+pub record IsRolled (p : Plan) (capacity : ℕ) (P : Order → Type 0) (log : List Event) (c : ℕ) (earlier all : List Event) : Type 0 where
   pub called : HasCalled p capacity P log c
   pub later : List Event
   pub stands : called.front ≡ earlier ++ later
+  pub more : List Event
+  pub within : all ≡ later ++ more
 
 module _ (p : Plan) (capacity : ℕ) (P : Order → Type 0) (c : ℕ) (n : SearchAddress) (all : value_of n ≡ MASK24) where
   -- with all lists at hand
@@ -252,9 +255,16 @@ module _ (p : Plan) (capacity : ℕ) (P : Order → Type 0) (c : ℕ) (n : Searc
     pub rolled : (log later rest : List Event) (again : Entry) (t : List Entry) → IsRun p capacity log
         → log ≡ (earlier ++ later) ++ sent_event c again ∷ rest
         → trace_running (after p capacity (earlier ++ later)) c ≡ t → IsWholeCall n t again → AllByRecursion (Orders P c) rest
-        → IsRolled p capacity P log c earlier
+        → IsRolled p capacity P log c earlier later
     rolled log later rest again t run is running whole since =
-        subst (λ l. IsRolled p capacity P l c earlier) (sym log_is) (record { called = found.0; later = begun.front; stands = found.1 }) where
+        subst (λ l. IsRolled p capacity P l c earlier later) (sym log_is) (record {
+          called = found.0;
+          later = begun.front;
+          stands = found.1;
+          more = sent_event c whole.first ∷ (begun.rest ++ sent_event c whole.compare ∷ compared.rest);
+          within = compared.log ∙ ap (λ l. l ++ sent_event c whole.compare ∷ compared.rest) begun.log
+              ∙ append_assoc begun.front (sent_event c whole.first ∷ begun.rest) (sent_event c whole.compare ∷ compared.rest);
+        }) where
       running_last : trace_running (after p capacity (earlier ++ later)) c ≡ whole.terminate ∷ whole.first ∷ (whole.search ++ whole.compare ∷ [])
       running_last = running ∙ whole.frames
 
@@ -334,3 +344,80 @@ called_more p capacity P log c e here is = record {
   called = is.called;
   called_again = is.called_again;
 }
+
+pub called_all : (p : Plan) (capacity : ℕ) (P : Order → Type 0) (log es : List Event) (c : ℕ) → AllByRecursion (Orders P c) es → HasCalled p capacity P log c
+    → HasCalled p capacity P (log ++ es) c
+called_all p capacity P log [] c all is = subst (λ l. HasCalled p capacity P l c) (sym (append-nil log)) is
+called_all p capacity P log (e ∷ es) c all is =
+    subst (λ l. HasCalled p capacity P l c) (append_assoc log (e ∷ []) es)
+    (called_all p capacity P (log ++ e ∷ []) es c all.1 (called_more p capacity P log c e all.0 is))
+
+-- of events that all give such orders the first do
+pub orders_front : (P : Order → Type 0) (c : ℕ) (es fs : List Event) → AllByRecursion (Orders P c) (es ++ fs) → AllByRecursion (Orders P c) es
+orders_front P c [] fs all = tt
+orders_front P c (e ∷ es) fs all = (all.0, orders_front P c es fs all.1)
+
+-- ---------------------------------------------------------------- where a frame stands
+
+no_more : (es : List Event) (e : Event) (fs : List Event) → [] ≡ es ++ e ∷ fs → ⊥
+no_more [] e fs is = cc
+no_more (x ∷ es) e fs is = cc
+
+-- one event of a log stands in its front, or behind it
+abbrev pub IsBehind : List Event → List Event → List Event → Event → List Event → Type 0
+IsBehind es fs front e rest = (mid : List Event) × (front ≡ es ++ mid) × (fs ≡ mid ++ e ∷ rest)
+
+abbrev IsWithin : List Event → List Event → List Event → Event → List Event → Type 0
+IsWithin es fs front e rest = (mid : List Event) × (es ≡ front ++ e ∷ mid) × (rest ≡ mid ++ fs)
+
+stands_in : (es fs front : List Event) (e : Event) (rest : List Event) → es ++ fs ≡ front ++ e ∷ rest
+    → IsBehind es fs front e rest ⊎ IsWithin es fs front e rest
+stands_in [] fs front e rest is = inl (front, refl, is)
+stands_in (x ∷ es) fs [] e rest is =
+    let head : x ≡ e = cc in
+    let tail : rest ≡ es ++ fs = cc in
+    inr (es, ap (λ y. y ∷ es) head, tail)
+stands_in (x ∷ es) fs (y ∷ front) e rest is =
+    let head : x ≡ y = cc in
+    let tail : es ++ fs ≡ front ++ e ∷ rest = cc in
+    go (stands_in es fs front e rest tail) head
+  where
+    go : IsBehind es fs front e rest ⊎ IsWithin es fs front e rest → x ≡ y
+        → IsBehind (x ∷ es) fs (y ∷ front) e rest ⊎ IsWithin (x ∷ es) fs (y ∷ front) e rest
+    go (inl k) same = inl (k.0, ap (λ z. z ∷ front) (sym same) ∙ ap (λ l. x ∷ l) k.1, k.2)
+    go (inr k) same = inr (k.0, ap (λ z. z ∷ es) same ∙ ap (λ l. y ∷ l) k.1, k.2)
+
+all_last : (P : Event → Type 0) (es : List Event) (e : Event) → AllByRecursion P (es ++ e ∷ []) → P e
+all_last P [] e all = all.0
+all_last P (x ∷ es) e all = all_last P es e all.1
+
+last_of : (P : Event → Type 0) (es : List Event) (e : Event) (front : List Event) (x : Event) (rest : List Event) → es ++ e ∷ [] ≡ front ++ x ∷ rest
+    → AllByRecursion P rest → (e ≡ x) ⊎ P e
+last_of P [] e [] x rest is all = inl (cc)
+last_of P [] e (y ∷ front) x rest is all = absurd (no_more front x rest cc)
+last_of P (z ∷ es) e [] x rest is all = inr (all_last P es e (subst (λ l. AllByRecursion P l) (let tail : rest ≡ es ++ e ∷ [] = cc in tail) all))
+last_of P (z ∷ es) e (y ∷ front) x rest is all =
+    let tail : es ++ e ∷ [] ≡ front ++ x ∷ rest = cc in last_of P es e front x rest tail all
+
+all_front : (P : Event → Type 0) (es fs : List Event) → AllByRecursion P (es ++ fs) → AllByRecursion P es
+all_front P [] fs all = tt
+all_front P (e ∷ es) fs all = (all.0, all_front P es fs all.1)
+
+-- a frame behind which c took no step stands behind each step of c
+pub sent_behind : (c : ℕ) (earlier : List Event) (i : Input) (o : Order) (later front : List Event) (x : Entry) (rest : List Event)
+    → (earlier ++ event.Acted c i o ∷ []) ++ later ≡ front ++ sent_event c x ∷ rest → AllByRecursion (Orders (λ p. ⊥) c) rest
+    → IsBehind (earlier ++ event.Acted c i o ∷ []) later front (sent_event c x) rest
+sent_behind c earlier i o later front x rest is none = go (stands_in (earlier ++ event.Acted c i o ∷ []) later front (sent_event c x) rest is) where
+  no_step : (mid : List Event) → earlier ++ event.Acted c i o ∷ [] ≡ front ++ sent_event c x ∷ mid → rest ≡ mid ++ later → ⊥
+  no_step mid stands rest_is =
+      pick (last_of (Orders (λ p. ⊥) c) earlier (event.Acted c i o) front (sent_event c x) mid stands
+      (all_front (Orders (λ p. ⊥) c) mid later (subst (λ l. AllByRecursion (Orders (λ p. ⊥) c) l) rest_is none))) where
+        pick : (event.Acted c i o ≡ sent_event c x) ⊎ (c ≡ c → ⊥) → ⊥
+        pick (inl same) = cc
+        pick (inr never) = never refl
+
+  go : IsBehind (earlier ++ event.Acted c i o ∷ []) later front (sent_event c x) rest
+      ⊎ IsWithin (earlier ++ event.Acted c i o ∷ []) later front (sent_event c x) rest
+      → IsBehind (earlier ++ event.Acted c i o ∷ []) later front (sent_event c x) rest
+  go (inl k) = k
+  go (inr k) = absurd (no_step k.0 k.1 k.2)
