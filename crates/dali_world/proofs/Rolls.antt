@@ -1,25 +1,24 @@
-use Rattle.std.proofs.Common.{◌≡◌, ℕ, ◌+◌, ◌<◌, ◌⊎◌, inl, inr, Bool, true, false, List, [], ◌∷◌, ◌++◌, refl, sym, ap, subst, ◌∙◌, arith, append_assoc, Option}
-use Rattle.std.proofs.Common.{Some, None, set, get_or, get_or-set_same, get_or-set_other, nat_eq, zero, suc, length}
-use Rattle.std.specs.Prelude.{◌==◌, if◌then◌else◌, map}
+use Rattle.std.proofs.Common.{◌≡◌, ℕ, ◌+◌, ◌⊎◌, inl, inr, Bool, true, false, List, [], ◌∷◌, ◌++◌, refl, sym, ap, subst, ◌∙◌, arith, append_assoc}
+use Rattle.std.proofs.Common.{append-nil, Option}
+use Rattle.std.proofs.Common.{Some, None, set, get_or, get_or-set_same, get_or-set_other, nat_eq, zero, suc}
+use Rattle.std.specs.Prelude.{if◌then◌else◌, map}
 use Rattle.std.specs.Option.{option_map}
 use Rattle.std.specs.List.{AllByRecursion}
 use Rattle.std.proofs.lemmas.Bool.Decides.{nat_tests}
 use Rattle.dali_frame.specs.declared.frames.Forward.{Forward}
 use Rattle.dali_frame.specs.declared.frames.Answer.{Answer}
-use Rattle.dali_frame.specs.declared.frames.Answer.TheVariants.{Silence, Byte, Damaged}
+use Rattle.dali_frame.specs.declared.frames.Answer.TheVariants.{Silence}
 use Rattle.dali_frame.specs.declared.numbers.SearchAddress.{SearchAddress}
 use Rattle.dali_frame.specs.Random.{value_of, MASK24}
 use Rattle.dali_frame.specs.Priority.{FIRST, LATER}
-use Rattle.dali_special.specs.declared.command.Command.{Command}
 use Rattle.dali_special.specs.declared.command.Command.TheVariants.{Terminate, Compare}
 use Rattle.dali_special.specs.Command.{command_of, frame_of}
 use Rattle.dali_special.proofs.Table.{read_written}
+use Rattle.dali_arbiter.specs.Arbiter.{owns}
 use Rattle.dali_script.specs.declared.block.Block.{Block}
 use Rattle.dali_script.specs.declared.trace.Entry.{Entry}
 use Rattle.dali_script.specs.declared.records.Record.{Record}
-use Rattle.dali_script.specs.declared.stage.Stage.{Stage}
 use Rattle.dali_script.specs.declared.stage.Stage.TheVariants.{Free, Hunted, Terminated}
-use Rattle.dali_script.specs.Records.{Kept}
 use Rattle.dali_script.specs.Scripts.{IsFront}
 use Rattle.dali_script.specs.Stages.{stage_of}
 use Rattle.dali_script.proofs.Transactions.{stage_none}
@@ -31,251 +30,37 @@ use Rattle.dali_script.specs.declared.orders.End.{End}
 use Rattle.dali_script.specs.declared.orders.End.TheVariants.{AllFound, GaveUp}
 use Rattle.dali_script.specs.Due.{due_after, accepts, frame_put, record_ordered}
 use Rattle.dali_controller.specs.declared.purpose.Purpose.{Purpose}
-use Rattle.dali_controller.specs.declared.purpose.Purpose.TheVariants.{Opening, Calling, Closing, Hunting}
+use Rattle.dali_controller.specs.declared.purpose.Purpose.TheVariants.{Opening, Calling, Closing}
 use Rattle.dali_controller.specs.declared.way.Way.TheVariants.{Surveying}
-use Rattle.dali_controller.specs.Course.{Course, closing_of, turn_of, byte_to_send}
-use Rattle.dali_controller.specs.Machine.{Machine, machine_told, machine_heard, machine_committed, at_first}
-use Rattle.dali_controller.specs.Next.{next_course, begins_at, compared_in, hunted_in, course_by, course_on, asked_on, question, has_room, beginning}
-use Rattle.dali_controller.specs.Orders.{IsGiven, IsAnswered, IsOrdered, IsFollowed, IsAllowed, MayOrderPut, IsCaused, IsBegun, IsSilentCall, AllAreFound}
-use Rattle.dali_controller.specs.Orders.{running_close, machine_after, trace_by}
-use Rattle.dali_controller.specs.Whole.{IsWhole, Pending, Sends}
+use Rattle.dali_controller.specs.Course.{Course, closing_of, turn_of}
+use Rattle.dali_controller.specs.Machine.{Machine, machine_told, at_first}
+use Rattle.dali_controller.specs.Next.{course_by}
+use Rattle.dali_controller.specs.Orders.{IsGiven, IsAnswered, IsOrdered, IsFollowed, MayOrderPut, IsCaused, IsBegun, IsSilentCall, AllAreFound}
+use Rattle.dali_controller.specs.Orders.{running_close, machine_after}
+use Rattle.dali_controller.specs.Whole.{IsWhole}
 use Rattle.dali_controller.proofs.Courses.{keeps_way}
-use Rattle.dali_controller.proofs.Given.{IsGivenBy, given_by}
+use Rattle.dali_controller.proofs.Given.{IsGivenBy}
 use Rattle.dali_events.specs.declared.event.Event.{Event}
 use Rattle.dali_events.specs.declared.event.Event.TheVariants as event
 use Rattle.dali_events.specs.World.{World, Controller, controller_at, controller_begun, nobody, controllers_changed, start}
-use Rattle.dali_events.specs.Happens.{happens, trace_running, entry, is_arc, told_of, told_sent, told_destroyed, told_lapsed, owner_told, controller_acted}
+use Rattle.dali_events.specs.Happens.{happens, trace_running, entry, is_arc, told_sent, told_destroyed, told_lapsed, owner_told, controller_acted}
 use Rattle.dali_events.specs.Happens.{gone_down, come_up}
-use Rattle.dali_events.specs.Allowed.{Allowed, IsDue, IsUp}
+use Rattle.dali_events.specs.Allowed.{Allowed, IsDue}
 use Rattle.dali_events.specs.Runs.{after, IsRun}
+use Rattle.dali_events.specs.Searching.{sent_event}
 use Rattle.dali_events.specs.Calling.{IsClosing, Orders, HasCalled, roll_call}
-use Rattle.dali_events.proofs.Search.Rolled.{stage_1, stage_2, stage_3, stage_4, stage_5, stage_6, stage_7, stage_8, IsSilentAt, IsWholeCall, whole_call}
-use Rattle.dali_events.proofs.Search.Rolled.{rolled, orders_more, orders_none, orders_all, called_more}
-use Rattle.dali_standing.specs.Seats.{MayAnswer, LeavesWhole, Waits, IsRunning}
+use Rattle.dali_events.proofs.Search.Rolled.{IsWholeCall, whole_call}
+use Rattle.dali_events.proofs.Search.Rolled.{IsRolled, rolled, orders_more, orders_none, orders_all, orders_front, called_more, called_all, IsBehind}
+use Rattle.dali_events.proofs.Search.Rolled.{sent_behind}
+use Rattle.dali_events.proofs.Invariant.Growing.{after_more}
+use Rattle.dali_standing.specs.Seats.{MayAnswer}
 use Rattle.dali_standing.specs.Standing.{machine_in, machines_at, machines_after}
-use Rattle.dali_world.specs.Site.{SiteState, world, machines, machine_at, site_logged, RollWasCalled, IsCalling, WasSent, Remembers, Remember}
+use Rattle.dali_controller.proofs.Silences.{IsSilent, next_silent, later_silent}
+use Rattle.dali_world.specs.Site.{SiteState, world, machines, machine_at, site_logged, RollWasCalled, IsCalling, WasSent, WasSilent, Remembers, Remember}
+use Rattle.dali_world.proofs.Calling.{HeardOf, told_calling, heard_course, committed_course, told_purpose, told_way, survey_first, heard_trace, put_first}
+use Rattle.dali_world.proofs.Calling.{put_later, put_given, calling_kept}
 
 -- THE LOG REMEMBERS THE ROLL CALL of a survey that closes with all-found.
-
--- ---------------------------------------------------------------- what a machine was told
-
--- what was heard of the frame that it put last
-pub record HeardOf (m : Machine) (i : Input) : Type 0 where
-  pub priority : ℕ
-  pub frame : Forward
-  pub answer : Answer
-  pub is : i ≡ input.Heard answer
-  pub last : m.last ≡ Some (Put priority frame)
-
-committed_trace : (m : Machine) (x : Option Record) → (machine_committed m x).trace ≡ m.trace
-committed_trace m None = refl
-committed_trace m (Some x) = refl
-
--- where a roll call runs, else nothing does then
-told_calling : (m : Machine) (i : Input) (n : SearchAddress) → accepts (due_after m.last) i ≡ true → IsCalling n m.trace m.last
-    → HeardOf m i ⊎ ((machine_told m i).trace ≡ [])
-told_calling m i n waits calls = go m.last refl waits calls where
-  put : (q : ℕ) (g : Forward) (j : Input) → m.last ≡ Some (Put q g) → accepts (due_after (Some (Put q g))) j ≡ true → HeardOf m j ⊎ ((machine_told m j).trace ≡ [])
-  put q g (input.Heard h) is waits = inl (record { priority = q; frame = g; answer = h; is = refl; last = is })
-  put q g input.Destroyed is waits = inr refl
-  put q g input.Lapsed is waits = inr refl
-  put q g _ is waits = absurd (cc)
-
-  commit : (x : Record) (j : Input) → m.trace ≡ [] → accepts (due_after (Some (Commit x))) j ≡ true → HeardOf m j ⊎ ((machine_told m j).trace ≡ [])
-  commit x input.Committed none waits = inr (committed_trace m (record_ordered m.last) ∙ none)
-  commit x input.CommitFailed none waits = inr none
-  commit x _ none waits = absurd (cc)
-
-  go : (l : Option Order) → m.last ≡ l → accepts (due_after l) i ≡ true → IsCalling n m.trace l → HeardOf m i ⊎ ((machine_told m i).trace ≡ [])
-  go None is waits calls = elim calls [ ]
-  go (Some (Put q g)) is waits calls = put q g i is waits
-  go (Some (Commit x)) is waits none = commit x i none waits
-  go (Some (Done e)) is waits none = absurd (cc)
-  go (Some (Halt why)) is waits none = absurd (cc)
-
-heard_course : (m : Machine) (f : Option Forward) (h : Answer) → (machine_heard m f h).course ≡ m.course
-heard_course m None h = refl
-heard_course m (Some f) h = refl
-
-committed_course : (m : Machine) (x : Option Record) → (machine_committed m x).course ≡ m.course
-committed_course m None = refl
-committed_course m (Some x) = refl
-
-told_purpose : (m : Machine) (i : Input) → (machine_told m i).course.purpose ≡ m.course.purpose
-told_purpose m (input.Heard h) = ap (λ (c : Course). c.purpose) (heard_course m (frame_put m.last) h)
-told_purpose m input.Committed = ap (λ (c : Course). c.purpose) (committed_course m (record_ordered m.last))
-told_purpose m _ = refl
-
-told_number : (m : Machine) (i : Input) → (machine_told m i).course.number ≡ m.course.number
-told_number m (input.Heard h) = ap (λ (c : Course). c.number) (heard_course m (frame_put m.last) h)
-told_number m input.Committed = ap (λ (c : Course). c.number) (committed_course m (record_ordered m.last))
-told_number m _ = refl
-
--- only a survey that begins changes how a machine began
-told_way : (m : Machine) (i : Input) → (i ≡ input.Survey → ⊥) → (machine_told m i).course.way ≡ m.course.way
-told_way m (input.Heard h) other = ap (λ (c : Course). c.way) (heard_course m (frame_put m.last) h)
-told_way m input.Committed other = ap (λ (c : Course). c.way) (committed_course m (record_ordered m.last))
-told_way m input.Survey other = absurd (other refl)
-told_way m _ other = refl
-
-survey_first : (l : Option Order) → accepts (due_after l) input.Survey ≡ true → l ≡ None
-survey_first None waits = refl
-survey_first (Some (Put p f)) waits = absurd (cc)
-survey_first (Some (Commit x)) waits = absurd (cc)
-survey_first (Some (Done e)) waits = absurd (cc)
-survey_first (Some (Halt why)) waits = absurd (cc)
-
-heard_trace : (m : Machine) (i : Input) (h : HeardOf m i) → (machine_told m i).trace ≡ m.trace ++ entry h.frame h.answer ∷ []
-heard_trace m i h = ap (λ j. (machine_told m j).trace) h.is ∙ ap (λ l. (machine_heard m (frame_put l) h.answer).trace) h.last
-
--- ---------------------------------------------------------------- a roll call goes on
-
-asks_silence : (h : Answer) (n : SearchAddress) (k : Kept) (c : Command) → Sends k n Calling (Hunted n (Some h) 1) c → (h ≡ Silence) × (c ≡ Compare)
-asks_silence Silence n k c sends = (refl, let is = sends.0 in cc)
-asks_silence (Byte v) n k c sends = absurd (let is = sends.0 in cc)
-asks_silence Damaged n k c sends = absurd (let is = sends.0 in cc)
-
-asks_nothing : (h : Option Answer) (n : SearchAddress) (k : Kept) (c : Command) → Sends k n Calling (Hunted n h 0) c → ⊥
-asks_nothing h n k c sends = let some : 0 < 0 = sends.2 in omega (arith, some)
-
-same_command : (c d : Command) → Some c ≡ Some d → d ≡ c
-same_command c d e = cc
-
-at_stage : (k : Kept) (n : SearchAddress) (c : Command) (s u : Stage) → s ≡ u → Sends k n Calling s c → Sends k n Calling u c
-at_stage k n c s u is sends = subst (λ x. Sends k n Calling x c) is sends
-
-front_grows : (k : Kept) (n : SearchAddress) (t : List Entry) (x : Entry) (f : Forward) → IsFront t x.frame (roll_call n)
-    → Sends k n Calling (stage_of (t ++ x ∷ [])) (command_of f) → IsFront (t ++ x ∷ []) f (roll_call n)
-front_grows k n [] x f q sends =
-    let now = at_stage k n (command_of f) _ _ (stage_1 x q) sends in (q, tt, same_command _ (command_of f) now.0)
-front_grows k n (a ∷ []) x f q sends =
-    let now = at_stage k n (command_of f) _ _ (stage_2 a x q.0 q.2) sends in (q.0, tt, (q.2, tt, same_command _ (command_of f) now.0))
-front_grows k n (a ∷ b ∷ []) x f q sends =
-    let now = at_stage k n (command_of f) _ _ (stage_3 a b x q.0 q.2.0 q.2.2) sends in
-    (q.0, tt, (q.2.0, tt, (q.2.2, tt, same_command _ (command_of f) now.0)))
-front_grows k n (a ∷ b ∷ c ∷ []) x f q sends =
-    let now = at_stage k n (command_of f) _ _ (stage_4 n a b c x q.0 q.2.0 q.2.2.0 q.2.2.2) sends in
-    (q.0, tt, (q.2.0, tt, (q.2.2.0, tt, (q.2.2.2, tt, same_command _ (command_of f) now.0))))
-front_grows k n (a ∷ b ∷ c ∷ d ∷ []) x f q sends =
-    let now = at_stage k n (command_of f) _ _ (stage_5 n a b c d q.0 q.2.0 q.2.2.0 q.2.2.2.0 x q.2.2.2.2) sends in
-    (q.0, tt, (q.2.0, tt, (q.2.2.0, tt, (q.2.2.2.0, tt, (q.2.2.2.2, tt, same_command _ (command_of f) now.0)))))
-front_grows k n (a ∷ b ∷ c ∷ d ∷ e ∷ []) x f q sends =
-    let now = at_stage k n (command_of f) _ _ (stage_6 n a b c d q.0 q.2.0 q.2.2.0 q.2.2.2.0 e x q.2.2.2.2.0 q.2.2.2.2.2) sends in
-    (q.0, tt, (q.2.0, tt, (q.2.2.0, tt, (q.2.2.2.0, tt, (q.2.2.2.2.0, tt, (q.2.2.2.2.2, tt, same_command _ (command_of f) now.0))))))
-front_grows k n (a ∷ b ∷ c ∷ d ∷ e ∷ g ∷ []) x f q sends =
-    let now = asks_silence x.heard n k (command_of f)
-    (at_stage k n (command_of f) _ _ (stage_7 n a b c d q.0 q.2.0 q.2.2.0 q.2.2.2.0 e g x q.2.2.2.2.0 q.2.2.2.2.2.0 q.2.2.2.2.2.2) sends) in
-    (q.0, tt, (q.2.0, tt, (q.2.2.0, tt, (q.2.2.2.0, tt, (q.2.2.2.2.0, tt, (q.2.2.2.2.2.0, tt, (q.2.2.2.2.2.2, now.0, now.1)))))))
-front_grows k n (a ∷ b ∷ c ∷ d ∷ e ∷ g ∷ h ∷ []) x f q sends =
-    absurd (asks_nothing (Some x.heard) n k (command_of f)
-    (at_stage k n (command_of f) _ _ (stage_8 n a b c d q.0 q.2.0 q.2.2.0 q.2.2.2.0 e g h x q.2.2.2.2.0 q.2.2.2.2.2.0 q.2.2.2.2.2.2.0 q.2.2.2.2.2.2.2) sends))
-front_grows k n (a ∷ b ∷ c ∷ d ∷ e ∷ g ∷ h ∷ i ∷ t) x f q sends = elim q.2.2.2.2.2.2.2.2 [ ]
-
--- a later frame leaves the course of a machine that calls the roll then: it was no hunt
-no_question : (c : Course) (r : SearchAddress) (left : ℕ) (f : Forward) → c.purpose ≡ Calling → Put LATER f ≡ question c r left → ⊥
-no_question c r left f calls is =
-    let none : has_room c r left ≡ false = rw calls refl in
-    let other : Put LATER f ≡ beginning c = is ∙ ap (λ b. if b then Put LATER (frame_of (byte_to_send c.number r)) else beginning c) none in
-    cc
-
-later_course : (t : Machine) (f : Forward) → IsFollowed t (Put LATER f) → (course_on t (stage_of t.trace)).purpose ≡ Calling
-    → course_on t (stage_of t.trace) ≡ t.course
-later_course t f followed calls = go (stage_of t.trace) refl calls where
-  on : (r : SearchAddress) (h : Answer) (left : ℕ) → stage_of t.trace ≡ Hunted r (Some h) left → (p : Purpose) → t.course.purpose ≡ p
-      → (asked_on t p h).purpose ≡ Calling → asked_on t p h ≡ t.course
-  on r h left stage Hunting is calls =
-      let next : next_course t ≡ hunted_in t h = ap (begins_at t) stage ∙ ap (λ p. compared_in t p h) is in
-      absurd (no_question (hunted_in t h) r left f calls (followed.hunted r h left stage is ∙ ap (λ c. question c r left) next))
-  on r h left stage _ is calls = refl
-
-  go : (s : Stage) → stage_of t.trace ≡ s → (course_on t s).purpose ≡ Calling → course_on t s ≡ t.course
-  go (Hunted r (Some h) left) stage calls = on r h left stage t.course.purpose refl calls
-  go _ stage calls = refl
-
--- the machine, its trace and its course after an order that is put
-put_first : (t : Machine) (p : ℕ) (f : Forward) → p ≡ FIRST → (trace_by t (Put p f) ≡ []) × (course_by t (Put p f) ≡ next_course t)
-put_first t p f is = rw is (refl, refl)
-
-put_later : (t : Machine) (p : ℕ) (f : Forward) → p ≡ LATER → (trace_by t (Put p f) ≡ t.trace) × (course_by t (Put p f) ≡ course_on t (stage_of t.trace))
-put_later t p f is = rw is (refl, refl)
-
--- what the whole machine then sends
-sends_after : (m : Machine) (i : Input) (p : ℕ) (f : Forward) → IsWhole (machine_after m i (Put p f))
-    → (machine_after m i (Put p f)).course.purpose ≡ Calling
-    → Sends (machine_after m i (Put p f)).kept (machine_after m i (Put p f)).course.number Calling
-    (stage_of (machine_after m i (Put p f)).trace) (command_of f)
-sends_after m i p f whole calls =
-    subst (λ q. Sends (machine_after m i (Put p f)).kept (machine_after m i (Put p f)).course.number q
-    (stage_of (machine_after m i (Put p f)).trace) (command_of f)) calls whole.sends
-
-first_calls : (m : Machine) (i : Input) (p : ℕ) (f : Forward) → IsWhole (machine_after m i (Put p f)) → p ≡ FIRST
-    → (machine_after m i (Put p f)).course.purpose ≡ Calling
-    → IsFront (machine_after m i (Put p f)).trace f (roll_call (machine_after m i (Put p f)).course.number)
-first_calls m i p f whole is calls =
-    let free : (machine_after m i (Put p f)).trace ≡ [] = (put_first (machine_told m i) p f is).0 in
-    let sends = at_stage (machine_after m i (Put p f)).kept (machine_after m i (Put p f)).course.number (command_of f) _ Free
-    (ap stage_of free ∙ stage_none) (sends_after m i p f whole calls) in
-    subst (λ t. IsFront t f (roll_call (machine_after m i (Put p f)).course.number)) (sym free) sends.0
-
-later_calls : (m : Machine) (i : Input) (p : ℕ) (f : Forward) → accepts (due_after m.last) i ≡ true
-    → (m.course.purpose ≡ Calling → IsCalling m.course.number m.trace m.last)
-    → IsFollowed (machine_told m i) (Put p f) → IsWhole (machine_after m i (Put p f)) → p ≡ LATER → ((machine_told m i).trace ≡ [] → ⊥)
-    → (machine_after m i (Put p f)).course.purpose ≡ Calling
-    → IsFront (machine_after m i (Put p f)).trace f (roll_call (machine_after m i (Put p f)).course.number)
-later_calls m i p f waits called followed whole is running calls = go (told_calling m i m.course.number waits called_now) where
-  t : Machine
-  t = machine_told m i
-
-  n : SearchAddress
-  n = m.course.number
-
-  parts : (trace_by t (Put p f) ≡ t.trace) × (course_by t (Put p f) ≡ course_on t (stage_of t.trace))
-  parts = put_later t p f is
-
-  course : (machine_after m i (Put p f)).course ≡ t.course
-  course = parts.1 ∙ later_course t f (subst (λ q. IsFollowed t (Put q f)) is followed) (ap (λ (c : Course). c.purpose) (sym parts.1) ∙ calls)
-
-  number : (machine_after m i (Put p f)).course.number ≡ n
-  number = ap (λ (c : Course). c.number) course ∙ told_number m i
-
-  called_now : IsCalling n m.trace m.last
-  called_now = called (sym (told_purpose m i) ∙ sym (ap (λ (c : Course). c.purpose) course) ∙ calls)
-
-  go : HeardOf m i ⊎ (t.trace ≡ []) → IsFront (machine_after m i (Put p f)).trace f (roll_call (machine_after m i (Put p f)).course.number)
-  go (inr none) = absurd (running none)
-  go (inl h) =
-      let trace : (machine_after m i (Put p f)).trace ≡ m.trace ++ entry h.frame h.answer ∷ [] = parts.0 ∙ heard_trace m i h in
-      let front : IsFront m.trace h.frame (roll_call n) = subst (IsCalling n m.trace) h.last called_now in
-      let sends : Sends (machine_after m i (Put p f)).kept n Calling (stage_of (m.trace ++ entry h.frame h.answer ∷ [])) (command_of f) =
-      subst (λ u. Sends (machine_after m i (Put p f)).kept n Calling (stage_of u) (command_of f)) trace
-      (subst (λ a. Sends (machine_after m i (Put p f)).kept a Calling (stage_of (machine_after m i (Put p f)).trace) (command_of f)) number
-      (sends_after m i p f whole calls)) in
-      subst (λ a. IsFront (machine_after m i (Put p f)).trace f (roll_call a)) (sym number)
-      (subst (λ u. IsFront u f (roll_call n)) (sym trace)
-      (front_grows (machine_after m i (Put p f)).kept n m.trace (entry h.frame h.answer) f front sends))
-
--- no commit that failed is followed by a frame
-put_given : (m : Machine) (i : Input) (p : ℕ) (f : Forward) → IsGiven m i (Put p f) → IsGivenBy (machine_told m i) (Put p f)
-put_given m i p f given = given_by m i (Put p f) (not_failed i given.answered) given where
-  not_failed : (j : Input) → IsAnswered m j (Put p f) → j ≡ input.CommitFailed → ⊥
-  not_failed input.CommitFailed answered is = cc
-  not_failed (input.Heard h) answered is = cc
-  not_failed input.Start answered is = cc
-  not_failed input.Survey answered is = cc
-  not_failed input.Destroyed answered is = cc
-  not_failed input.Lapsed answered is = cc
-  not_failed input.Committed answered is = cc
-
-calling_kept : (m : Machine) (i : Input) (o : Order) → accepts (due_after m.last) i ≡ true
-    → (m.course.purpose ≡ Calling → IsCalling m.course.number m.trace m.last) → IsGiven m i o → IsWhole (machine_after m i o)
-    → (machine_after m i o).course.purpose ≡ Calling → IsCalling (machine_after m i o).course.number (machine_after m i o).trace (Some o)
-calling_kept m i (Put p f) waits called given whole calls = go (put_given m i p f given).ordered.allowed where
-  go : MayOrderPut (machine_told m i) p f → IsFront (machine_after m i (Put p f)).trace f (roll_call (machine_after m i (Put p f)).course.number)
-  go (inl first) = first_calls m i p f whole first.0 calls
-  go (inr later) = later_calls m i p f waits called (put_given m i p f given).followed whole later.0 later.1 calls
-calling_kept m i (Commit x) waits called given whole calls = refl
-calling_kept m i (Done e) waits called given whole calls = refl
-calling_kept m i (Halt why) waits called given whole calls = refl
 
 -- ---------------------------------------------------------------- a close is begun
 
@@ -297,19 +82,22 @@ closed_before s k c m i was waits closes surveys = was.closing purpose (sym (tol
       let no : Opening ≡ Closing AllFound = sym opening ∙ purpose in
       cc
 
--- a survey that begins to close has called the roll just before
-call_ended : (s : SiteState) (k : Controller) (c : ℕ) (m : Machine) (i : Input) (p : ℕ) (f : Forward) → IsRun s.plan s.queue s.log → Remembers s k c m
+-- a whole roll call that nobody answered was sent last
+pub record WasCalled (s : SiteState) (c : ℕ) (m : Machine) : Type 0 where
+  pub again : Entry
+  pub all : value_of m.course.number ≡ MASK24
+  pub whole : IsWholeCall m.course.number m.trace again
+  pub sent : WasSent s c m again.frame again.heard
+
+call_ended : (s : SiteState) (k : Controller) (c : ℕ) (m : Machine) (i : Input) (p : ℕ) (f : Forward) → Remembers s k c m
     → IsDue k i → m.last ≡ k.last → accepts (due_after m.last) i ≡ true → IsFollowed (machine_told m i) (Put p f) → p ≡ FIRST
-    → IsSilentCall (machine_told m i) → RollWasCalled s c
-call_ended s k c m i p f run was due last waits followed first silent = go (told_calling m i n waits called_now) where
+    → IsSilent (machine_told m i) → WasCalled s c m
+call_ended s k c m i p f was due last waits followed first silent = go (told_calling m i n waits called_now) where
   n : SearchAddress
   n = m.course.number
 
-  purpose : m.course.purpose ≡ Calling
-  purpose = sym (told_purpose m i) ∙ silent.calling
-
   called_now : IsCalling n m.trace m.last
-  called_now = was.calling purpose
+  called_now = was.calling (sym (told_purpose m i) ∙ silent.calling)
 
   once : silent.left ≡ 1 → ⊥
   once one =
@@ -321,28 +109,119 @@ call_ended s k c m i p f run was due last waits followed first silent = go (told
       let other : Put FIRST f ≡ Put LATER (frame_of Compare) = ap (λ q. Put q f) (sym first) ∙ again in
       cc
 
-  go : HeardOf m i ⊎ ((machine_told m i).trace ≡ []) → RollWasCalled s c
+  go : HeardOf m i ⊎ ((machine_told m i).trace ≡ []) → WasCalled s c m
   go (inr none) = absurd (let stage : Free ≡ Hunted silent.number (Some Silence) silent.left = sym (ap stage_of none ∙ stage_none) ∙ silent.stage in cc)
-  go (inl h) = called whole where
-    x : Entry
-    x = entry h.frame h.answer
+  go (inl h) =
+      let x : Entry = entry h.frame h.answer in
+      let calls : IsFront m.trace h.frame (roll_call n) × (value_of n ≡ MASK24) = subst (IsCalling n m.trace) h.last called_now in
+      record {
+        again = x;
+        all = calls.1;
+        whole = whole_call n m.trace x calls.0 (silent.number, silent.left, ap stage_of (sym (heard_trace m i h)) ∙ silent.stage, once);
+        sent = was.heard h.frame h.answer (ap frame_put (sym last ∙ h.last)) (subst (λ j. IsDue k j) h.is due);
+      }
 
-    stage : stage_of (m.trace ++ x ∷ []) ≡ Hunted silent.number (Some Silence) silent.left
-    stage = ap stage_of (sym (heard_trace m i h)) ∙ silent.stage
+-- so the roll was called
+called_once : (s : SiteState) (c : ℕ) (m : Machine) → IsRun s.plan s.queue s.log → WasCalled s c m → HasCalled s.plan s.queue (λ o. Unit {0}) s.log c
+called_once s c m run is =
+    (rolled s.plan s.queue (λ o. Unit {0}) c m.course.number is.all [] refl s.log is.sent.front is.sent.rest is.again m.trace run is.sent.log
+    is.sent.running is.whole (orders_all (λ o. Unit {0}) c is.sent.rest is.sent.since)).called
 
-    whole : IsWholeCall n m.trace x
-    whole = whole_call n m.trace x (subst (IsCalling n m.trace) h.last called_now) (silent.number, silent.left, stage, once)
+-- and twice, where it was called before
+called_twice : (s : SiteState) (c : ℕ) (m : Machine) → IsRun s.plan s.queue s.log → WasCalled s c m → WasSilent s c → RollWasCalled s c
+called_twice s c m run is was = record { last = found.called; before = before } where
+  acted : Event
+  acted = event.Acted c was.input was.order
 
-    sent : WasSent s c m h.frame h.answer
-    sent = was.heard h.frame h.answer (ap frame_put (sym last ∙ h.last)) (subst (λ j. IsDue k j) h.is due)
+  earlier : List Event
+  earlier = was.earlier ++ acted ∷ []
 
-    same_number : (a b : SearchAddress) (g : Option Answer) (l : ℕ) → Hunted a g 0 ≡ Hunted b (Some Silence) l → a ≡ b
-    same_number a b g l e = cc
+  last : Event
+  last = sent_event c is.again
 
-    called : IsWholeCall n m.trace x → RollWasCalled s c
-    called whole =
-        (rolled s.plan s.queue IsClosing c n (ap value_of (same_number n silent.number (Some x.heard) silent.left (sym whole.ended ∙ stage)) ∙ silent.last)
-        [] refl s.log sent.front sent.rest x m.trace run sent.log sent.running whole (orders_all IsClosing c sent.rest sent.since)).called
+  behind : IsBehind (was.earlier ++ event.Acted c was.input was.order ∷ []) was.later is.sent.front (sent_event c is.again) is.sent.rest
+  behind = sent_behind c was.earlier was.input was.order was.later is.sent.front is.again is.sent.rest (sym was.log ∙ is.sent.log) is.sent.since
+
+  found : IsRolled s.plan s.queue IsClosing s.log c earlier behind.0
+  found = rolled s.plan s.queue IsClosing c m.course.number is.all earlier was.idle s.log behind.0 is.sent.rest is.again m.trace run
+      (is.sent.log ∙ ap (λ l. l ++ last ∷ is.sent.rest) behind.1)
+      (subst (λ l. trace_running (after s.plan s.queue l) c ≡ m.trace) behind.1 is.sent.running) is.whole
+      (orders_all IsClosing c is.sent.rest is.sent.since)
+
+  later_is : was.later ≡ found.later ++ (found.more ++ last ∷ is.sent.rest)
+  later_is = behind.2 ∙ ap (λ l. l ++ last ∷ is.sent.rest) found.within ∙ append_assoc found.later found.more (last ∷ is.sent.rest)
+
+  up : AllByRecursion (Orders (λ o. Unit {0}) c) found.later
+  up = orders_front (λ o. Unit {0}) c found.later (found.more ++ last ∷ is.sent.rest)
+      (subst (λ l. AllByRecursion (Orders (λ o. Unit {0}) c) l) later_is was.up)
+
+  before : HasCalled s.plan s.queue (λ o. Unit {0}) found.called.front c
+  before = subst (λ l. HasCalled s.plan s.queue (λ o. Unit {0}) l c) (sym found.stands)
+      (called_all s.plan s.queue (λ o. Unit {0}) earlier found.later c up
+      (called_more s.plan s.queue (λ o. Unit {0}) was.earlier c acted (λ same. tt) was.called))
+
+told_silent : (m : Machine) (i : Input) → (machine_told m i).course.tally.is_silent ≡ true → m.course.tally.is_silent ≡ true
+told_silent m input.Survey s = absurd (cc)
+told_silent m (input.Heard h) s = ap (λ (c : Course). c.tally.is_silent) (sym (heard_course m (frame_put m.last) h)) ∙ s
+told_silent m input.Committed s = ap (λ (c : Course). c.tally.is_silent) (sym (committed_course m (record_ordered m.last))) ∙ s
+told_silent m _ s = s
+
+-- a roll call that is silent: no transaction of c runs once the next one is begun
+idle_after : (w : World) (c : ℕ) (i : Input) (p : ℕ) (f : Forward) → p ≡ FIRST → trace_running (happens w (event.Acted c i (Put p f))) c ≡ []
+idle_after w c i p f first = go (owns w.bus.owner c) refl where
+  go : (b : Bool) → owns w.bus.owner c ≡ b → trace_running (happens w (event.Acted c i (Put p f))) c ≡ []
+  go true e = rw (first, e) refl
+  go false e = rw (first, e) (rw e refl)
+
+silent_begun : (s : SiteState) (k : Controller) (c : ℕ) (m : Machine) (i : Input) (p : ℕ) (f : Forward) → IsRun s.plan s.queue s.log → Remembers s k c m
+    → IsDue k i → m.last ≡ k.last → accepts (due_after m.last) i ≡ true → IsFollowed (machine_told m i) (Put p f) → p ≡ FIRST
+    → IsSilent (machine_told m i) → WasSilent (site_logged s (event.Acted c i (Put p f))) c
+silent_begun s k c m i p f run was due last waits followed first silent = record {
+  earlier = s.log;
+  input = i;
+  order = Put p f;
+  later = [];
+  log = sym (append-nil (s.log ++ event.Acted c i (Put p f) ∷ []));
+  idle = ap (λ w. trace_running w c) (after_more (start s.plan s.queue) s.log (event.Acted c i (Put p f))) ∙ idle_after (world s) c i p f first;
+  up = tt;
+  called = called_once s c m run (call_ended s k c m i p f was due last waits followed first silent);
+}
+
+silent_more : (s : SiteState) (e : Event) (c : ℕ) → Orders (λ o. Unit {0}) c e → WasSilent s c → WasSilent (site_logged s e) c
+silent_more s e c here was = record {
+  earlier = was.earlier;
+  input = was.input;
+  order = was.order;
+  later = was.later ++ e ∷ [];
+  log = ap (λ l. l ++ e ∷ []) was.log ∙ append_assoc (was.earlier ++ event.Acted c was.input was.order ∷ []) was.later (e ∷ []);
+  idle = was.idle;
+  up = orders_more (λ o. Unit {0}) c was.later e was.up here;
+  called = was.called;
+}
+
+silent_kept : (s : SiteState) (k : Controller) (c : ℕ) (m : Machine) (i : Input) (o : Order) → IsRun s.plan s.queue s.log → Remembers s k c m
+    → IsDue k i → m.last ≡ k.last → accepts (due_after m.last) i ≡ true → IsGiven m i o
+    → (machine_after m i o).course.tally.is_silent ≡ true → WasSilent (site_logged s (event.Acted c i o)) c
+silent_kept s k c m i o run was due last waits given silent = go o given silent where
+  before : (o : Order) → (machine_told m i).course.tally.is_silent ≡ true → WasSilent (site_logged s (event.Acted c i o)) c
+  before o silent = silent_more s (event.Acted c i o) c (λ same. tt) (was.silent (told_silent m i silent))
+
+  put : (p : ℕ) (f : Forward) → IsGivenBy (machine_told m i) (Put p f) → (course_by (machine_told m i) (Put p f)).tally.is_silent ≡ true
+      → MayOrderPut (machine_told m i) p f → WasSilent (site_logged s (event.Acted c i (Put p f))) c
+  put p f given silent (inl may) =
+      by (next_silent (machine_told m i) (subst (λ (d : Course). d.tally.is_silent ≡ true) (put_first (machine_told m i) p f may.0).1 silent)) where
+        by : ((machine_told m i).course.tally.is_silent ≡ true) ⊎ IsSilent (machine_told m i) → WasSilent (site_logged s (event.Acted c i (Put p f))) c
+        by (inl was_so) = before (Put p f) was_so
+        by (inr heard) = silent_begun s k c m i p f run was due last waits given.followed may.0 heard
+  put p f given silent (inr may) =
+      before (Put p f) (later_silent (machine_told m i) (stage_of (machine_told m i).trace)
+      (subst (λ (d : Course). d.tally.is_silent ≡ true) (put_later (machine_told m i) p f may.0).1 silent))
+
+  go : (o : Order) → IsGiven m i o → (machine_after m i o).course.tally.is_silent ≡ true → WasSilent (site_logged s (event.Acted c i o)) c
+  go (Put p f) given silent = put p f (put_given m i p f given) silent (put_given m i p f given).ordered.allowed
+  go (Commit x) given silent = before (Commit x) silent
+  go (Done e) given silent = before (Done e) silent
+  go (Halt why) given silent = before (Halt why) silent
 
 -- a close that is begun, or begun again
 close_begun : (s : SiteState) (k : Controller) (c : ℕ) (m : Machine) (i : Input) (p : ℕ) (f : Forward) → IsRun s.plan s.queue s.log → Remembers s k c m
@@ -373,7 +252,12 @@ close_begun s k c m i p f run was due last waits given closes surveys = (go begu
 
   go : (running_close t ≡ Some AllFound) ⊎ ((running_close t ≡ None) × ((t.course.opened ≡ true) × AllAreFound t t.course.way)) → RollWasCalled s c
   go (inl runs) = closed_before s k c m i was waits (closing_is t.course.purpose AllFound runs) way
-  go (inr new) = call_ended s k c m i p f run was due last waits given.followed first.0 (subst (AllAreFound t) way new.1.1)
+  go (inr new) = ended (subst (AllAreFound t) way new.1.1) where
+    ended : IsSilentCall t → RollWasCalled s c
+    ended silent = called_twice s c m run
+        (call_ended s k c m i p f was due last waits given.followed first.0
+        (record { number = silent.number; left = silent.left; stage = silent.stage; calling = silent.calling }))
+        (was.silent (told_silent m i silent.before))
 
 not_committing : (m : Machine) (i : Input) (x : Record) → IsAnswered m i (Commit x) → running_close (machine_told m i) ≡ None
 not_committing m input.CommitFailed x answered = absurd (cc)
@@ -425,15 +309,23 @@ by_place P d c here there = go (nat_eq d c) refl where
 
 -- ---------------------------------------------------------------- one event of a site
 
-pub remembers_first : (s : SiteState) (k : Controller) (c : ℕ) (m : Machine) → m.course.purpose ≡ Opening → k.last ≡ None → Remembers s k c m
-remembers_first s k c m opening none = record {
-  unstarted = λ e. opening;
-  calling = λ calls. absurd (let no : Opening ≡ Calling = sym opening ∙ calls in cc);
+abbrev IsAtFirst : Machine → Type 0
+IsAtFirst m = (m.course.purpose ≡ Opening) × (m.course.tally.is_silent ≡ false)
+
+pub remembers_first : (s : SiteState) (k : Controller) (c : ℕ) (m : Machine) → IsAtFirst m → k.last ≡ None → Remembers s k c m
+remembers_first s k c m at none = record {
+  silent = λ is. absurd (let no : false ≡ true = sym at.1 ∙ is in cc);
+  unstarted = λ e. at.0;
+  calling = λ calls. absurd (let no : Opening ≡ Calling = sym at.0 ∙ calls in cc);
   heard = λ f h put told. absurd (let no : None ≡ Some f = ap frame_put (sym none) ∙ put in cc);
-  closing = λ closes surveys. absurd (let no : Opening ≡ Closing AllFound = sym opening ∙ closes in cc);
+  closing = λ closes surveys. absurd (let no : Opening ≡ Closing AllFound = sym at.0 ∙ closes in cc);
 }
 
-sent_more : (s : SiteState) (e : Event) (c : ℕ) (m : Machine) (f : Forward) (h : Answer) → Orders (λ o. ⊥) c e → WasSent s c m f h → WasSent (site_logged s e) c m f h
+twice_more : (s : SiteState) (e : Event) (c : ℕ) → Orders IsClosing c e → RollWasCalled s c → RollWasCalled (site_logged s e) c
+twice_more s e c here was = record { last = called_more s.plan s.queue IsClosing s.log c e here was.last; before = was.before }
+
+sent_more : (s : SiteState) (e : Event) (c : ℕ) (m : Machine) (f : Forward) (h : Answer) → Orders (λ o. ⊥) c e → WasSent s c m f h
+    → WasSent (site_logged s e) c m f h
 sent_more s e c m f h here was = record {
   front = was.front;
   rest = was.rest ++ e ∷ [];
@@ -448,7 +340,8 @@ grown s e k c m here was = record {
   unstarted = was.unstarted;
   calling = was.calling;
   heard = λ f h put told. sent_more s e c m f h here (was.heard f h put told);
-  closing = λ closes surveys. called_more s.plan s.queue IsClosing s.log c e (orders_none IsClosing c e here) (was.closing closes surveys);
+  silent = λ is. silent_more s e c (orders_none (λ o. Unit {0}) c e here) (was.silent is);
+  closing = λ closes surveys. twice_more s e c (orders_none IsClosing c e here) (was.closing closes surveys);
 }
 
 -- and where it is told nothing that was heard
@@ -458,6 +351,7 @@ told_again s k k' c m last told was = record {
   unstarted = was.unstarted;
   calling = was.calling;
   heard = λ f h put now. was.heard f h (ap frame_put (sym last) ∙ put) (told h now);
+  silent = was.silent;
   closing = was.closing;
 }
 
@@ -469,9 +363,10 @@ acted_kept s k k' c m i o run was due last waits given whole told = record {
   unstarted = λ e. absurd (cc);
   calling = calling_kept m i o waits was.calling given whole;
   heard = λ f h put now. absurd (let no : None ≡ Some (input.Heard h) = sym told ∙ now in cc);
+  silent = silent_kept s k c m i o run was due last waits given;
   closing = λ closes surveys.
       let is = close_kept s k c m i o run was due last waits given closes surveys in
-      called_more s.plan s.queue IsClosing s.log c (event.Acted c i o) (λ same. is.1) is.0;
+      twice_more s (event.Acted c i o) c (λ same. is.1) is.0;
 }
 
 -- a frame is sent
@@ -509,6 +404,7 @@ sent_kept s k c d m f h same sent was = go (is_arc (command_of f)) refl where
           running = subst (λ n. trace_running (world s) n ≡ m.trace) same (sent scripted).1;
           since = tt;
         };
+    silent = was.silent;
     closing = was.closing;
   }
 
@@ -568,8 +464,9 @@ module _ (s : SiteState) (run : IsRun s.plan s.queue s.log) (was : Remember s (w
         at : (x : Option Machine) → machine_in ms d ≡ x → (n : Machine) → machine_in (machines_after w ms (event.Acted d i o)) d ≡ Some n
             → Remembers (site_logged s (event.Acted d i o)) (controller_at (happens w (event.Acted d i o)) d) d n
         at None has n there = absurd (
-          let none : machine_in (machines_after w ms (event.Acted d i o)) d ≡ None = ap (λ x. get_or (set ms d (option_map (λ n. machine_after n i o) x)) d None) has ∙ none_set ms d in
-          cc)
+            let none : machine_in (machines_after w ms (event.Acted d i o)) d ≡ None =
+            ap (λ x. get_or (set ms d (option_map (λ n. machine_after n i o) x)) d None) has ∙ none_set ms d in
+            cc)
         at (Some l) has n there =
             let k = known l has in
             let is : machine_after l i o ≡ n = some_set ms d (machine_after l i o) n
@@ -614,7 +511,7 @@ module _ (s : SiteState) (run : IsRun s.plan s.queue s.log) (was : Remember s (w
             subst (λ (x : Machine). Remembers (site_logged s (event.Up d kept)) (controller_at (happens w (event.Up d kept)) d) d x)
             (some_set ms d (at_first d (come_up kept (controller_at w d)).records) n there)
             (remembers_first (site_logged s (event.Up d kept)) (controller_at (happens w (event.Up d kept)) d) d
-            (at_first d (come_up kept (controller_at w d)).records) refl
+            (at_first d (come_up kept (controller_at w d)).records) (refl, refl)
             (ap (λ (k : Controller). k.last) (get_or-set_same w.controllers d (come_up kept (controller_at w d)) nobody here.0.known)))
 
         own : d ≡ c → Remembers (site_logged s (event.Up d kept)) (controller_at (happens w (event.Up d kept)) c) c m
@@ -646,10 +543,10 @@ start_last [] c = refl
 start_last (b ∷ bs) zero = refl
 start_last (b ∷ bs) (suc c) = start_last bs c
 
-start_machine : (n : ℕ) (bs : List Block) (c : ℕ) (m : Machine) → machine_in (machines_at n bs) c ≡ Some m → m.course.purpose ≡ Opening
+start_machine : (n : ℕ) (bs : List Block) (c : ℕ) (m : Machine) → machine_in (machines_at n bs) c ≡ Some m → IsAtFirst m
 start_machine n [] c m there = absurd (cc)
-start_machine n (b ∷ bs) zero m there = ap (λ (x : Machine). x.course.purpose) (some_same _ m there) where
-  some_same : (x m : Machine) → Some x ≡ Some m → m ≡ x
+start_machine n (b ∷ bs) zero m there = subst IsAtFirst (some_same _ m there) (refl, refl) where
+  some_same : (x m : Machine) → Some x ≡ Some m → x ≡ m
   some_same x m e = cc
 start_machine n (b ∷ bs) (suc c) m there = start_machine (n + 1) bs c m there
 

@@ -67,10 +67,11 @@ impl Model for SiteState {
 impl SiteState {
     ghost use Rattle.dali_arbiter.specs.declared.request.Request.{Request};
     ghost use Rattle.dali_standing.specs.Seats.{due_of, MayReserveUsed, Waits};
-    ghost use Rattle.dali_world.specs.Site.{SiteState, world, opened_site, site_logged, machine_at, share_of, IsSound, RollWasCalled};
+    ghost use Rattle.dali_world.specs.Site.{SiteState, world, opened_site, site_logged, machine_at, share_of, IsSound};
     ghost use Rattle.dali_world.specs.Site.{Acts, IsArcRefused, IsDownRefused, IsUpRefused, IsGearRefused, IsBarred};
     ghost use Rattle.dali_world.specs.Site.{IsFull, IsCrowded, HasRoom, Pumps, IsPumpRefused, next_request, Logs};
     ghost use Rattle.dali_world.specs.Site.{LogsRequest, IsUpWith, IsSpent, IsSendable, Becomes, WasOrdered};
+    ghost use Rattle.dali_world.specs.Site.{RollWasCalled};
 
     /// A site of this plan, on which nothing happened yet. All controllers are up, and keep nothing.
     ///
@@ -123,7 +124,7 @@ impl SiteState {
         ensures records { IfOk result (λ receipt. (m : Machine) → machine_at self.old c ≡ Some m
             → m.kept ≡ (controller_at (world self.old) c).records) }
         ensures waits { IfOk result (λ receipt. Waits (machine_at self.old c) input) }
-        // A survey that ends with all-found called the roll before it closed, and nobody was heard.
+        // A survey that ends with all-found called the roll twice before it closed, and nobody was heard.
         ensures found { IfOk result (λ receipt. (m : Machine) → machine_at self.old c ≡ Some m
             → m.course.way ≡ Surveying → receipt.order ≡ order.Done AllFound → RollWasCalled self.old c) }
         ensures unchanged { OnErr result (self.new ≡ self.old) }

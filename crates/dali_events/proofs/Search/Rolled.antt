@@ -1,4 +1,4 @@
-use Rattle.std.proofs.Common.{◌≡◌, ℕ, ◌⊎◌, inl, inr, true, List, [], ◌∷◌, ◌++◌, refl, sym, ap, subst, ◌∙◌, arith, append_assoc, append-nil, Option, Some, None}
+use Rattle.std.proofs.Common.{◌≡◌, ℕ, ◌⊎◌, inl, inr, true, List, [], ◌∷◌, ◌++◌, refl, sym, ap, subst, ◌∙◌, arith, append_assoc, append-nil, Some, None}
 use Rattle.std.specs.Prelude.{◌==◌}
 use Rattle.std.specs.List.{AllByRecursion}
 use Rattle.std.proofs.lemmas.Bool.Decides.{nat_tests}
@@ -204,31 +204,40 @@ module _ (p : Plan) (capacity : ℕ) (P : Order → Type 0) (c : ℕ) (n : Searc
         → RunsOn (after p capacity (front ++ first ∷ [])) c es → RunsOn (after p capacity ((front ++ first ∷ es) ++ compare ∷ [])) c fs
         → AllByRecursion (Orders P c) rest
         → (called : HasCalled p capacity P (front ++ first ∷ (es ++ compare ∷ (fs ++ last ∷ rest))) c) × (called.front ≡ front)
-    has_called running running_then running_last runs runs_then since = (record {
-      front = front;
-      first = whole.first;
-      es = es;
-      compare = whole.compare;
-      fs = fs;
-      again = again;
-      rest = rest;
-      stands = refl;
-      silent = whole.silent;
-      silent_again = whole.silent_again;
-      since = since;
-      calls = calls;
-      calls_again = calls_again;
-      called = called p capacity front c whole.first es whole.compare calls;
-      called_again = called p capacity front c whole.first (es ++ compare ∷ fs) again calls_again;
-    }, refl) where
+    has_called running running_then running_last runs runs_then since = (
+      record {
+        front = front;
+        first = whole.first;
+        es = es;
+        compare = whole.compare;
+        fs = fs;
+        again = again;
+        rest = rest;
+        stands = refl;
+        silent = whole.silent;
+        silent_again = whole.silent_again;
+        since = since;
+        calls = calls;
+        calls_again = calls_again;
+        called = called p capacity front c whole.first es whole.compare calls;
+        called_again = called p capacity front c whole.first (es ++ compare ∷ fs) again calls_again;
+      },
+      refl,
+    ) where
       calls : Calls p capacity front c whole.first es whole.compare
       calls = record {
         run = run_front p capacity (front ++ first ∷ (es ++ compare ∷ [])) (fs ++ last ∷ rest) (subst (λ l. IsRun p capacity l) (sym up_to_compare) run);
         begun = ap stage_of running ∙ whole.begun;
         initialises = whole.initialises;
         runs = runs;
-        all = (n, None, 2, runs_at (after p capacity (front ++ first ∷ es)) c (whole.terminate ∷ []) whole.first whole.search (Hunted n None 2)
-            running_then whole.searched, all);
+        all = (
+          n,
+          None,
+          2,
+          runs_at (after p capacity (front ++ first ∷ es)) c (whole.terminate ∷ []) whole.first whole.search (Hunted n None 2)
+              running_then whole.searched,
+          all,
+        );
         compares = whole.compares;
       }
 
@@ -242,8 +251,14 @@ module _ (p : Plan) (capacity : ℕ) (P : Order → Type 0) (c : ℕ) (n : Searc
         initialises = whole.initialises;
         runs = runs_both (after p capacity (front ++ first ∷ [])) c es (compare ∷ fs) runs
             (subst (λ w. RunsOn w c (compare ∷ fs)) (sym at_first) (runs_now, subst (λ w. RunsOn w c fs) at_compare runs_then));
-        all = (n, Some whole.compare.heard, 1, runs_at (after p capacity (front ++ first ∷ (es ++ compare ∷ fs))) c (whole.terminate ∷ []) whole.first
-            (whole.search ++ whole.compare ∷ []) (Hunted n (Some whole.compare.heard) 1) running_last whole.asked, all);
+        all = (
+          n,
+          Some whole.compare.heard,
+          1,
+          runs_at (after p capacity (front ++ first ∷ (es ++ compare ∷ fs))) c (whole.terminate ∷ []) whole.first
+              (whole.search ++ whole.compare ∷ []) (Hunted n (Some whole.compare.heard) 1) running_last whole.asked,
+          all,
+        );
         compares = whole.compares_again;
       }
 
@@ -265,44 +280,44 @@ module _ (p : Plan) (capacity : ℕ) (P : Order → Type 0) (c : ℕ) (n : Searc
           within = compared.log ∙ ap (λ l. l ++ sent_event c whole.compare ∷ compared.rest) begun.log
               ∙ append_assoc begun.front (sent_event c whole.first ∷ begun.rest) (sent_event c whole.compare ∷ compared.rest);
         }) where
-      running_last : trace_running (after p capacity (earlier ++ later)) c ≡ whole.terminate ∷ whole.first ∷ (whole.search ++ whole.compare ∷ [])
-      running_last = running ∙ whole.frames
+          running_last : trace_running (after p capacity (earlier ++ later)) c ≡ whole.terminate ∷ whole.first ∷ (whole.search ++ whole.compare ∷ [])
+          running_last = running ∙ whole.frames
 
-      compared : IsAmong (after p capacity earlier) c later whole.compare (whole.terminate ∷ whole.first ∷ whole.search)
-      compared = traced (after p capacity earlier) c later (whole.terminate ∷ whole.first ∷ whole.search) whole.compare [] idle
-          (ap (λ w. trace_running w c) (now later) ∙ running_last)
+          compared : IsAmong (after p capacity earlier) c later whole.compare (whole.terminate ∷ whole.first ∷ whole.search)
+          compared = traced (after p capacity earlier) c later (whole.terminate ∷ whole.first ∷ whole.search) whole.compare [] idle
+              (ap (λ w. trace_running w c) (now later) ∙ running_last)
 
-      begun : IsAmong (after p capacity earlier) c compared.front whole.first (whole.terminate ∷ [])
-      begun = traced (after p capacity earlier) c compared.front (whole.terminate ∷ []) whole.first whole.search idle compared.running
+          begun : IsAmong (after p capacity earlier) c compared.front whole.first (whole.terminate ∷ [])
+          begun = traced (after p capacity earlier) c compared.front (whole.terminate ∷ []) whole.first whole.search idle compared.running
 
-      front_is : earlier ++ compared.front ≡ (earlier ++ begun.front) ++ sent_event c whole.first ∷ begun.rest
-      front_is = ap (λ l. earlier ++ l) begun.log ∙ sym (append_assoc earlier begun.front (sent_event c whole.first ∷ begun.rest))
+          front_is : earlier ++ compared.front ≡ (earlier ++ begun.front) ++ sent_event c whole.first ∷ begun.rest
+          front_is = ap (λ l. earlier ++ l) begun.log ∙ sym (append_assoc earlier begun.front (sent_event c whole.first ∷ begun.rest))
 
-      later_is : earlier ++ later ≡ (earlier ++ begun.front) ++ sent_event c whole.first ∷ (begun.rest ++ sent_event c whole.compare ∷ compared.rest)
-      later_is = ap (λ l. earlier ++ l) compared.log ∙ sym (append_assoc earlier compared.front (sent_event c whole.compare ∷ compared.rest))
-          ∙ ap (λ l. l ++ sent_event c whole.compare ∷ compared.rest) front_is
-          ∙ append_assoc (earlier ++ begun.front) (sent_event c whole.first ∷ begun.rest) (sent_event c whole.compare ∷ compared.rest)
+          later_is : earlier ++ later ≡ (earlier ++ begun.front) ++ sent_event c whole.first ∷ (begun.rest ++ sent_event c whole.compare ∷ compared.rest)
+          later_is = ap (λ l. earlier ++ l) compared.log ∙ sym (append_assoc earlier compared.front (sent_event c whole.compare ∷ compared.rest))
+              ∙ ap (λ l. l ++ sent_event c whole.compare ∷ compared.rest) front_is
+              ∙ append_assoc (earlier ++ begun.front) (sent_event c whole.first ∷ begun.rest) (sent_event c whole.compare ∷ compared.rest)
 
-      log_is : log ≡ (earlier ++ begun.front) ++ sent_event c whole.first ∷ (begun.rest
-          ++ sent_event c whole.compare ∷ (compared.rest ++ sent_event c again ∷ rest))
-      log_is = is ∙ ap (λ l. l ++ sent_event c again ∷ rest) later_is
-          ∙ append_assoc (earlier ++ begun.front) (sent_event c whole.first ∷ (begun.rest ++ sent_event c whole.compare ∷ compared.rest))
-          (sent_event c again ∷ rest)
-          ∙ ap (λ l. (earlier ++ begun.front) ++ sent_event c whole.first ∷ l)
-          (append_assoc begun.rest (sent_event c whole.compare ∷ compared.rest) (sent_event c again ∷ rest))
+          log_is : log ≡ (earlier ++ begun.front) ++ sent_event c whole.first ∷ (begun.rest
+              ++ sent_event c whole.compare ∷ (compared.rest ++ sent_event c again ∷ rest))
+          log_is = is ∙ ap (λ l. l ++ sent_event c again ∷ rest) later_is
+              ∙ append_assoc (earlier ++ begun.front) (sent_event c whole.first ∷ (begun.rest ++ sent_event c whole.compare ∷ compared.rest))
+              (sent_event c again ∷ rest)
+              ∙ ap (λ l. (earlier ++ begun.front) ++ sent_event c whole.first ∷ l)
+              (append_assoc begun.rest (sent_event c whole.compare ∷ compared.rest) (sent_event c again ∷ rest))
 
-      found : (called : HasCalled p capacity P ((earlier ++ begun.front) ++ sent_event c whole.first ∷ (begun.rest
-          ++ sent_event c whole.compare ∷ (compared.rest ++ sent_event c again ∷ rest))) c) × (called.front ≡ earlier ++ begun.front)
-      found = has_called (earlier ++ begun.front) begun.rest compared.rest rest again t whole (subst (λ l. IsRun p capacity l) log_is run)
-          (ap (λ w. trace_running w c) (sym (now begun.front)) ∙ begun.running)
-          (ap (λ l. trace_running (after p capacity l) c) (sym front_is) ∙ ap (λ w. trace_running w c) (sym (now compared.front)) ∙ compared.running)
-          (ap (λ l. trace_running (after p capacity l) c) (sym later_is) ∙ running_last)
-          (subst (λ l. RunsOn (after p capacity l) c begun.rest) (sym (append_assoc earlier begun.front (sent_event c whole.first ∷ [])))
-          (subst (λ w. RunsOn w c begun.rest) (now (begun.front ++ sent_event c whole.first ∷ [])) begun.runs))
-          (subst (λ l. RunsOn (after p capacity (l ++ sent_event c whole.compare ∷ [])) c compared.rest) front_is
-          (subst (λ l. RunsOn (after p capacity l) c compared.rest) (sym (append_assoc earlier compared.front (sent_event c whole.compare ∷ [])))
-          (subst (λ w. RunsOn w c compared.rest) (now (compared.front ++ sent_event c whole.compare ∷ [])) compared.runs)))
-          since
+          found : (called : HasCalled p capacity P ((earlier ++ begun.front) ++ sent_event c whole.first ∷ (begun.rest
+              ++ sent_event c whole.compare ∷ (compared.rest ++ sent_event c again ∷ rest))) c) × (called.front ≡ earlier ++ begun.front)
+          found = has_called (earlier ++ begun.front) begun.rest compared.rest rest again t whole (subst (λ l. IsRun p capacity l) log_is run)
+              (ap (λ w. trace_running w c) (sym (now begun.front)) ∙ begun.running)
+              (ap (λ l. trace_running (after p capacity l) c) (sym front_is) ∙ ap (λ w. trace_running w c) (sym (now compared.front)) ∙ compared.running)
+              (ap (λ l. trace_running (after p capacity l) c) (sym later_is) ∙ running_last)
+              (subst (λ l. RunsOn (after p capacity l) c begun.rest) (sym (append_assoc earlier begun.front (sent_event c whole.first ∷ [])))
+              (subst (λ w. RunsOn w c begun.rest) (now (begun.front ++ sent_event c whole.first ∷ [])) begun.runs))
+              (subst (λ l. RunsOn (after p capacity (l ++ sent_event c whole.compare ∷ [])) c compared.rest) front_is
+              (subst (λ l. RunsOn (after p capacity l) c compared.rest) (sym (append_assoc earlier compared.front (sent_event c whole.compare ∷ [])))
+              (subst (λ w. RunsOn w c compared.rest) (now (compared.front ++ sent_event c whole.compare ∷ [])) compared.runs)))
+              since
 
 -- ---------------------------------------------------------------- a log that grows
 

@@ -83,5 +83,5 @@ pub returns-in-Some-clause-found : goal.returns-in-Some-clause-found
 returns-in-Some-clause-found c =
     let answer = rw c.in-Some.is at c.act.ensures.answer in
     λ m there surveys is.
-        act_found _ _ _ _ _ c.args.c c.args.input c.in-Some.order c.self.view_is c.self.invariant answer m there surveys
-        (sym (ap (λ (r : Receipt). r.order) c.new.ensures) ∙ is)
+    act_found _ _ _ _ _ c.args.c c.args.input c.in-Some.order c.self.view_is c.self.invariant answer m there surveys
+    (sym (ap (λ (r : Receipt). r.order) c.new.ensures) ∙ is)
