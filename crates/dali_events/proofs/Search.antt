@@ -3,6 +3,8 @@ pub mod Halves
 pub mod Opening
 pub mod AllFound
 pub mod Called
+pub mod Traced
+pub mod Rolled
 pub mod Wanted
 pub mod Leaving
 pub mod Heard

@@ -35,7 +35,7 @@ ghost use Rattle.dali_events.specs.Laws.{KeepsRecords};
 ghost use Rattle.dali_events.specs.Events.{frame_in};
 ghost use Rattle.dali_events.specs.Searching.{EachPowered, EachActive, number_at, sent_event, up_to_compare};
 ghost use Rattle.dali_events.specs.Searching.{SearchesAll, NobodyAnswers, HasShort};
-ghost use Rattle.dali_events.specs.Calling.{CallsFor, IsCalled};
+ghost use Rattle.dali_events.specs.Calling.{Calls, AreCalled};
 
 /// The plain hearing of a row of gear is one that may be heard.
 pub fn plain_hearing_is_heard()
@@ -175,8 +175,7 @@ pub fn records_are_kept()
 /// between the two INITIALISE. Nothing is supposed of other gear, of other controllers or of what happened before.
 pub fn roll_calls_are_answered()
     ensures { (p : Plan) (capacity : ℕ) (front : List Event) (c : ℕ) (first : Entry) (es : List Event) (compare : Entry)
-        (g : ℕ) → CallsFor p capacity front c first es compare g
-        → IsCalled (after p capacity (front ++ sent_event c first ∷ es)) g }
+        → Calls p capacity front c first es compare → AreCalled p capacity front c first es }
 {}
 
 /// ALL FOUND IS TRUE. Where a controller sent a whole opening, and later a COMPARE under the search address `FFFFFE`

@@ -32,7 +32,7 @@ use Rattle.dali_standing.specs.Standing.{Seated, seat_in, empty_seat, seated, ru
 use Rattle.dali_standing.specs.Standing.{machine_in, machines_after, Moves, MayBeSent, WasOrdered}
 use Rattle.dali_standing.proofs.Seats.{seat_at, world_of, with_seat, running_in, goes_on_in, has_acted, has_offered, has_sent, has_lost, has_collided}
 use Rattle.dali_standing.proofs.Seats.{has_lapsed, has_gone_down, has_come_up, IsMove}
-use Rattle.dali_standing.specs.Settled.{IsAccepted, IsHearing, IsOwning, IsPlacedBy, IsPlaced, IsPlacedOn, Settled}
+use Rattle.dali_standing.specs.Settled.{IsAccepted, IsHearing, IsOwning, IsPlacedBy, IsPlaced, IsPlacedOn, Settled, GoesOn}
 use Rattle.dali_events.specs.declared.trouble.Trouble.{Trouble}
 use Rattle.dali_events.specs.declared.trouble.Trouble.TheVariants as trouble
 use Rattle.dali_events.specs.Troubles.{heard_under, nobody_at_all}
@@ -284,6 +284,18 @@ sender_hears s was r at h t x view settled first read t_is reached scripted =
             (t_is ∙ running_is (owns s.bus.owner r.sender) s.trace (seat_at s r.sender) r.priority r.frame k.1 k.2 (settled.places r.sender)) reached,
       )
       go (inr k) = absurd (let no = k.0 in cc)
+
+-- and its frame goes on with those of its machine
+pub sender_goes_on : (s : Seated) (was : Standing) (r : Request) → flat s ≡ was → Settled s → next was.bus ≡ Some r → GoesOn was r
+sender_goes_on s was r view settled first =
+    subst (λ (w : Standing). GoesOn w r) view (go (next_at s r settled (next_here s was r view first)).kind) where
+      go : IsKind s r → GoesOn (flat s) r
+      go (inl k) scripted = (
+        ap (λ (x : Controller). frame_put x.last) (controller_in s.seats r.sender) ∙ ap frame_put k.2,
+        λ m has. running_is (owns s.bus.owner r.sender) s.trace (seat_at s r.sender) r.priority r.frame k.1 k.2 (settled.places r.sender)
+            ∙ ap trace_of (sym (machine_of s.seats r.sender) ∙ has),
+      )
+      go (inr k) scripted = absurd (let no = k.0 in cc)
 
 pub sender_loses : (s : Seated) (was : Standing) (r : Request) (at : Seat) → flat s ≡ was → Settled s → next was.bus ≡ Some r → at ≡ get_or s.seats r.sender at
     → is_arc (command_of r.frame) ≡ false → frame_put at.controller.last ≡ Some r.frame

@@ -28,6 +28,8 @@ use Rattle.dali_events.specs.Laws.{TablesAgree, KeepsRecords}
 use Rattle.dali_standing.specs.Standing.{Standing, stand_of, machines_at, machines_after, machine_in, controller_on, Moves, MayBeSent}
 use Rattle.dali_world.proofs.Capacity.{capacity_kept}
 use Rattle.dali_world.proofs.Room.{gear_count, gifts_fit_after}
+use Rattle.dali_world.proofs.Rolls.{IsKnownOf, remembers_more, remembers_start, found_called}
+use Rattle.dali_frame.specs.declared.frames.Answer.{Answer}
 use Rattle.dali_frame.specs.declared.frames.Answer.TheVariants.{Silence}
 use Rattle.dali_special.specs.Command.{command_of}
 use Rattle.dali_gear.specs.declared.gear_set.GearSet.{GearSet}
@@ -39,12 +41,14 @@ use Rattle.dali_arbiter.specs.Arbiter.{owns, total, collision}
 use Rattle.dali_standing.specs.Seats.{MayAnswer, LeavesWhole, MayReserveUsed, IsRunning, IsTold, Waits}
 use Rattle.dali_standing.proofs.InUse.{leaves_acted}
 use Rattle.dali_standing.proofs.Acts.{told_accepted, start_first, committed_last}
-use Rattle.dali_standing.specs.Settled.{IsPlacedBy, IsPlacedOn}
+use Rattle.dali_standing.specs.Settled.{IsPlacedBy, IsPlacedOn, GoesOn}
 use Rattle.dali_world.proofs.Agreeing.{no_conflict}
-use Rattle.dali_script.specs.declared.orders.Order.TheVariants.{Halt}
+use Rattle.dali_script.specs.declared.orders.Order.TheVariants.{Halt, Done}
+use Rattle.dali_script.specs.declared.orders.End.TheVariants.{AllFound}
+use Rattle.dali_controller.specs.declared.way.Way.TheVariants.{Surveying}
 use Rattle.dali_script.specs.declared.orders.Fault.TheVariants as fault
-use Rattle.dali_world.specs.Site.{SiteState, world, site_logged, machines_all, machines, machine_at, share_of, IsSite, opened_site, HasRoom}
-use Rattle.dali_world.specs.Site.{IsCrowded, Logs, Receipt, HasActed, IsSpent, IsSendable}
+use Rattle.dali_world.specs.Site.{SiteState, world, site_logged, machines_all, machines, machine_at, share_of, IsSite, opened_site, HasRoom, Remember}
+use Rattle.dali_world.specs.Site.{IsCrowded, Logs, Receipt, HasActed, IsSpent, IsSendable, RollWasCalled}
 use Rattle.dali_events.specs.Troubles.{reach_under}
 use Rattle.dali_events.specs.declared.trouble.Trouble.{Trouble}
 use Rattle.dali_events.specs.declared.trouble.Trouble.TheVariants as trouble
@@ -105,16 +109,19 @@ pub allowed_in : (s : SiteState) (old new : Standing) (shares : List ℕ) (room 
 allowed_in s old new shares room e site moves = (moves (world s) (machines s) site.stands).0
 
 pub goes_on : (s : SiteState) (old new : Standing) (shares shares' : List ℕ) (room room' : ℕ) (log' : List Event) (e : Event) → IsSite s old shares room
-    → Moves old e new → LeavesUsed s.plan.used e → length s.log < s.room
+    → Moves old e new → LeavesUsed s.plan.used e → IsKnownOf s e → length s.log < s.room
     → log' ≡ s.log ++ e ∷ [] → room' ≡ room → IsCounted shares e shares'
     → IsSite (record { plan = s.plan; queue = s.queue; room = s.room; log = log' }) new shares' room'
-goes_on s old new shares shares' room room' log' e site moves leaves free log_is room_is counted =
+goes_on s old new shares shares' room room' log' e site moves leaves known free log_is room_is counted =
     subst (λ (l : List Event). IsSite (record { plan = s.plan; queue = s.queue; room = s.room; log = l }) new shares' room') (sym log_is)
     (subst (λ n. IsSite (site_logged s e) new shares' n) (sym room_is) (record {
       run = grown_run;
       safe = safe_history s.plan s.queue (s.log ++ e ∷ []) grown_run;
       stands = (moves (world s) (machines s) site.stands).1 ∙ ap (λ (w : World). stand_of w (machines_after (world s) (machines s) e)) (sym grown)
-          ∙ ap (stand_of (world (site_logged s e))) (sym (machines_more (start s.plan s.queue) (machines_at 0 s.plan.blocks) s.log e));
+          ∙ ap (stand_of (world (site_logged s e))) (sym machines_grown);
+      remembers = subst (λ ms. Remember (site_logged s e) (world (site_logged s e)) ms) (sym machines_grown)
+          (subst (λ w. Remember (site_logged s e) w (machines_after (world s) (machines s) e)) (sym grown)
+          (remembers_more s site.run site.remembers e (allowed_in s old new shares room e site moves) known));
       counted = λ c there. counted.1 c there ∙ ap (λ n. n + (if is_step_of c e then 1 else 0)) (site.counted c there) ∙ sym (share_more c s.log e);
       four = counted.0;
       gear_count = ap (λ (w : World). length w.gear) grown ∙ gear_count (world s) e ∙ site.gear_count;
@@ -132,6 +139,9 @@ goes_on s old new shares shares' room room' log' e site moves leaves free log_is
       grown : world (site_logged s e) ≡ happens (world s) e
       grown = after_more (start s.plan s.queue) s.log e
 
+      machines_grown : machines (site_logged s e) ≡ machines_after (world s) (machines s) e
+      machines_grown = machines_more (start s.plan s.queue) (machines_at 0 s.plan.blocks) s.log e
+
 -- ---------------------------------------------------------------- the start
 
 pub opens : (p : Plan) (queue room capacity : ℕ) (standing : Standing) (shares : List ℕ) → IsPlan p → p.gear ≤ 128 → length p.blocks ≤ 4 → room ≤ capacity
@@ -141,6 +151,7 @@ opens p queue room capacity standing shares plan few_gear few_controllers reserv
   run = record { plan = plan; allowed = tt; leaves = tt };
   safe = safe_history p queue [] (record { plan = plan; allowed = tt; leaves = tt });
   stands = is;
+  remembers = remembers_start (opened_site p queue room);
   counted = λ c there. rw none (zeroes c);
   four = rw none refl;
   gear_count = start_count p;
@@ -183,19 +194,19 @@ site_logs s was old new shares room log' e view site free moves log_is =
 
 pub site_goes_on : (s was : SiteState) (old new : Standing) (shares : List ℕ) (room room' : ℕ) (log' : List Event) (e : Event) → s ≡ was
     → IsSite s old shares room → HasRoom was → Moves old e new
-    → log' ≡ s.log ++ e ∷ [] → room' ≡ room → whose_step e ≡ None
+    → IsKnownOf s e → log' ≡ s.log ++ e ∷ [] → room' ≡ room → whose_step e ≡ None
     → IsSite (record { plan = s.plan; queue = s.queue; room = s.room; log = log' }) new shares room'
-site_goes_on s was old new shares room room' log' e view site free moves log_is room_is nobodys =
-    goes_on s old new shares shares room room' log' e site moves (nobodys_leaves s.plan.used e nobodys)
+site_goes_on s was old new shares room room' log' e view site free moves known log_is room_is nobodys =
+    goes_on s old new shares shares room room' log' e site moves (nobodys_leaves s.plan.used e nobodys) known
     (subst (λ (w : SiteState). HasRoom w) (sym view) free) log_is room_is (uncounted shares e site.four nobodys)
 
 -- a step of controller d
 pub step_goes_on : (s was : SiteState) (old new : Standing) (shares shares' : List ℕ) (room room' : ℕ) (log' : List Event) (e : Event) (d : ℕ) → s ≡ was
-    → IsSite s old shares room → HasRoom was → Moves old e new → LeavesUsed was.plan.used e
+    → IsSite s old shares room → HasRoom was → Moves old e new → LeavesUsed was.plan.used e → IsKnownOf s e
     → log' ≡ s.log ++ e ∷ [] → room' ≡ room → d < 4 → shares' ≡ set shares d (get_or shares d 0 + 1) → whose_step e ≡ Some d
     → IsSite (record { plan = s.plan; queue = s.queue; room = s.room; log = log' }) new shares' room'
-step_goes_on s was old new shares shares' room room' log' e d view site free moves leaves log_is room_is there shares_is step =
-    goes_on s old new shares shares' room room' log' e site moves (subst (λ (w : SiteState). LeavesUsed w.plan.used e) (sym view) leaves)
+step_goes_on s was old new shares shares' room room' log' e d view site free moves leaves known log_is room_is there shares_is step =
+    goes_on s old new shares shares' room room' log' e site moves (subst (λ (w : SiteState). LeavesUsed w.plan.used e) (sym view) leaves) known
     (subst (λ (w : SiteState). HasRoom w) (sym view) free) log_is room_is
     (counted_step shares shares' e d site.four there shares_is step)
 
@@ -353,6 +364,34 @@ own_records s was old shares room c view site placed m has =
     let has_old : machine_in old.machines c ≡ Some m = ap (λ (t : Standing). machine_in t.machines c) site.stands ∙ has_s in
     (placed m has_old).0.kept ∙ ap (λ (t : Standing). (controller_on t c).records) site.stands
     ∙ ap (λ (w : SiteState). (controller_at (world w) c).records) view
+
+-- ---------------------------------------------------------------- a survey that ends with all-found has called the roll
+
+-- what is known of a controller that acts
+pub act_known : (s : SiteState) (old : Standing) (shares : List ℕ) (room c : ℕ) (i : Input) (o : Order) → IsSite s old shares room
+    → IsDue (controller_on old c) i → IsPlacedOn old c → MayAnswer (machine_in old.machines c) i o → LeavesWhole (machine_in old.machines c) i o
+    → IsKnownOf s (event.Acted c i o)
+act_known s old shares room c i o site due placed answer whole m there =
+    let has : machine_in old.machines c ≡ Some m = ap (λ (t : Standing). machine_in t.machines c) site.stands ∙ there in
+    let known = (placed m has).0 in (
+      known.last ∙ ap (λ (t : Standing). (controller_on t c).last) site.stands,
+      subst (λ l. accepts (due_after l) i ≡ true) (sym known.last) (waits_by (controller_on old c) i due known.told),
+      subst (λ x. MayAnswer x i o) has answer,
+      subst (λ x. LeavesWhole x i o) has whole,
+    )
+
+-- and of one whose frame is sent
+pub send_known : (s : SiteState) (old : Standing) (shares : List ℕ) (room : ℕ) (r : Request) (h : Answer) → IsSite s old shares room → GoesOn old r
+    → IsKnownOf s (event.Sent r.sender r.frame h)
+send_known s old shares room r h site goes = subst (λ (t : Standing). GoesOn t r) site.stands goes
+
+pub act_found : (s was : SiteState) (old : Standing) (shares : List ℕ) (room c : ℕ) (i : Input) (o : Order) → s ≡ was → IsSite s old shares room
+    → MayAnswer (machine_in old.machines c) i o → (m : Machine) → machine_at was c ≡ Some m → m.course.way ≡ Surveying → o ≡ Done AllFound
+    → RollWasCalled was c
+act_found s was old shares room c i o view site answer m there surveys is =
+    subst (λ (w : SiteState). RollWasCalled w c) view
+    (found_called s c i m site.remembers (subst (λ (w : SiteState). machine_at w c ≡ Some m) (sym view) there) surveys
+    (subst (λ d. MayAnswer (machine_at s c) i d) is (subst (λ (t : Standing). MayAnswer (machine_in t.machines c) i o) site.stands answer)))
 
 -- ---------------------------------------------------------------- the promise, of the world now
 

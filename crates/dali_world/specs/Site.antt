@@ -1,28 +1,41 @@
-use Rattle.std.specs.Prelude.{◌≡◌, ℕ, ◌+◌, ◌<◌, ◌≤◌, ◌⊎◌, Bool, false, List, [], ◌∷◌, ◌++◌, length}
-use Rattle.std.specs.Prelude.{slice_index_or, Option, Some, None, if◌then◌else◌, IfOk, IfErr}
-use Rattle.std.specs.Prelude.{OnErr}
+use Rattle.std.specs.Prelude.{◌≡◌, ℕ, ◌+◌, ◌<◌, ◌≤◌, ◌⊎◌, Bool, true, false, List, [], ◌∷◌, ◌++◌}
+use Rattle.std.specs.Prelude.{length, slice_index_or, Option, Some, None, if◌then◌else◌, IfOk}
+use Rattle.std.specs.Prelude.{IfErr, OnErr}
 use Rattle.std.proofs.Common.{Result}
+use Rattle.std.specs.List.{AllByRecursion}
 use Rattle.dali_frame.specs.declared.frames.Forward.{Forward}
+use Rattle.dali_frame.specs.declared.frames.Answer.{Answer}
+use Rattle.dali_frame.specs.declared.numbers.SearchAddress.{SearchAddress}
+use Rattle.dali_frame.specs.Random.{value_of, MASK24}
 use Rattle.dali_special.specs.Command.{command_of}
 use Rattle.dali_gear.specs.declared.gear_set.GearSet.{GearSet}
 use Rattle.dali_gear.specs.declared.row.Reach.TheVariants.{Everyone}
 use Rattle.dali_gear.specs.Row.{draws_needed, answers_of, heard_of}
 use Rattle.dali_arbiter.specs.declared.request.Request.{Request}
 use Rattle.dali_arbiter.specs.Arbiter.{total, next, collision}
+use Rattle.dali_script.specs.declared.trace.Entry.{Entry}
 use Rattle.dali_script.specs.Records.{Kept}
+use Rattle.dali_script.specs.Scripts.{IsFront}
 use Rattle.dali_script.specs.declared.orders.Input.{Input}
+use Rattle.dali_script.specs.declared.orders.Input.TheVariants as input
 use Rattle.dali_script.specs.declared.orders.Order.{Order}
+use Rattle.dali_script.specs.declared.orders.Order.TheVariants.{Put, Commit, Done, Halt}
+use Rattle.dali_script.specs.declared.orders.End.TheVariants.{AllFound}
 use Rattle.dali_script.specs.Due.{frame_put}
+use Rattle.dali_controller.specs.declared.purpose.Purpose.TheVariants.{Opening, Calling, Closing}
+use Rattle.dali_controller.specs.declared.way.Way.TheVariants.{Surveying}
 use Rattle.dali_controller.specs.Machine.{Machine}
 use Rattle.dali_events.specs.declared.event.Event.{Event}
 use Rattle.dali_events.specs.declared.event.Event.TheVariants as event
 use Rattle.dali_events.specs.Events.{is_step_of}
 use Rattle.dali_events.specs.Plan.{Plan}
-use Rattle.dali_events.specs.World.{World, controller_at, start}
-use Rattle.dali_events.specs.Happens.{happens}
+use Rattle.dali_events.specs.World.{World, Controller, controller_at, start}
+use Rattle.dali_events.specs.Happens.{happens, trace_running}
 use Rattle.dali_events.specs.Allowed.{Allowed, IsUp, IsDue, IsDown, IsArc}
 use Rattle.dali_events.specs.Runs.{after, IsRun, LeavesUsed}
 use Rattle.dali_events.specs.Promise.{IsSafeHistory}
+use Rattle.dali_events.specs.Calling.{IsClosing, Orders, HasCalled, HasCalledTwice}
+use Rattle.dali_events.specs.Calling.{roll_call}
 use Rattle.dali_standing.specs.declared.refusal.Refusal.{Refusal}
 use Rattle.dali_standing.specs.declared.refusal.Refusal.TheVariants as refusal
 use Rattle.dali_events.specs.declared.trouble.Trouble.{Trouble}
@@ -79,6 +92,55 @@ pub record IsSound (s : SiteState) : Type 0 where
   pub run : IsRun s.plan s.queue s.log
   pub safe : IsSafeHistory s.plan s.queue s.log
 
+-- ---------------------------------------------------------------- a survey that has found all
+
+-- controller c has called the roll twice, and nobody was heard; since then it only closes
+abbrev pub RollWasCalled : SiteState → ℕ → Type 0
+RollWasCalled s c = HasCalledTwice s.plan s.queue IsClosing s.log c
+
+-- its machine's last order, where a roll call runs: the next of its frames, if a frame
+abbrev pub IsCalling : SearchAddress → List Entry → Option Order → Type 0
+IsCalling n t None = ⊥
+IsCalling n t (Some (Put p f)) = IsFront t f (roll_call n) × (value_of n ≡ MASK24)
+IsCalling n t (Some (Commit x)) = t ≡ []
+IsCalling n t (Some (Done e)) = t ≡ []
+IsCalling n t (Some (Halt why)) = t ≡ []
+
+-- this frame was sent after those of its machine, and then c took no step
+pub record WasSent (s : SiteState) (c : ℕ) (m : Machine) (f : Forward) (h : Answer) : Type 0 where
+  pub front : List Event
+  pub rest : List Event
+  pub log : s.log ≡ front ++ event.Sent c f h ∷ rest
+  pub running : trace_running (after s.plan s.queue front) c ≡ m.trace
+  pub since : AllByRecursion (Orders (λ o. ⊥) c) rest
+
+-- the roll was called once; then c took this step, which began a transaction, and stayed up
+pub record WasSilent (s : SiteState) (c : ℕ) : Type 0 where
+  pub earlier : List Event
+  pub input : Input
+  pub order : Order
+  pub later : List Event
+  pub log : s.log ≡ (earlier ++ event.Acted c input order ∷ []) ++ later
+  pub idle : trace_running (after s.plan s.queue (earlier ++ event.Acted c input order ∷ [])) c
+      ≡ []
+  pub up : AllByRecursion (Orders (λ o. Unit {0}) c) later
+  pub called : HasCalled s.plan s.queue (λ o. Unit {0}) earlier c
+
+-- WHAT THE LOG REMEMBERS of controller c and its machine: what it is told was heard of its last
+-- frame; and once a survey closes with all-found, that the roll was called.
+pub record Remembers (s : SiteState) (k : Controller) (c : ℕ) (m : Machine) : Type 0 where
+  pub unstarted : m.last ≡ None → m.course.purpose ≡ Opening
+  pub calling : m.course.purpose ≡ Calling → IsCalling m.course.number m.trace m.last
+  pub heard : (f : Forward) (h : Answer) → frame_put k.last ≡ Some f
+      → k.told ≡ Some (input.Heard h) → WasSent s c m f h
+  pub silent : m.course.tally.is_silent ≡ true → WasSilent s c
+  pub closing : m.course.purpose ≡ Closing AllFound → m.course.way ≡ Surveying
+      → RollWasCalled s c
+
+abbrev pub Remember : SiteState → World → List (Option Machine) → Type 0
+Remember s w ms =
+    (c : ℕ) (m : Machine) → machine_in ms c ≡ Some m → Remembers s (controller_at w c) c m
+
 -- --------------------------------------------------------------- what holds of the parts of a site
 
 pub record IsSite (s : SiteState) (standing : Standing) (shares : List ℕ)
@@ -86,6 +148,7 @@ pub record IsSite (s : SiteState) (standing : Standing) (shares : List ℕ)
   pub run : IsRun s.plan s.queue s.log
   pub safe : IsSafeHistory s.plan s.queue s.log
   pub stands : standing ≡ stand_of (world s) (machines s)
+  pub remembers : Remember s (world s) (machines s)
   pub counted : (c : ℕ) → c < 4 → slice_index_or shares c 0 ≡ share_of c s.log
   pub four : length shares ≡ 4
   pub gear_count : length (world s).gear ≡ s.plan.gear

@@ -13,7 +13,9 @@ ghost use Rattle.dali_script.specs.Due.{record_ordered};
 ghost use Rattle.dali_events.specs.Plan.{block_at};
 ghost use Rattle.dali_script.specs.declared.orders.Order.TheVariants as order;
 ghost use Rattle.dali_script.specs.declared.orders.Fault.TheVariants as fault;
+ghost use Rattle.dali_script.specs.declared.orders.End.TheVariants.{AllFound};
 ghost use Rattle.dali_controller.specs.Machine.{Machine};
+ghost use Rattle.dali_controller.specs.declared.way.Way.TheVariants.{Surveying};
 ghost use Rattle.dali_script.specs.Table.{table_of};
 ghost use Rattle.dali_events.specs.declared.trouble.Trouble.TheVariants as trouble;
 ghost use Rattle.dali_standing.specs.declared.refusal.Refusal.TheVariants as refusal;
@@ -69,6 +71,7 @@ impl SiteState {
     ghost use Rattle.dali_world.specs.Site.{Acts, IsArcRefused, IsDownRefused, IsUpRefused, IsGearRefused, IsBarred};
     ghost use Rattle.dali_world.specs.Site.{IsFull, IsCrowded, HasRoom, Pumps, IsPumpRefused, next_request, Logs};
     ghost use Rattle.dali_world.specs.Site.{LogsRequest, IsUpWith, IsSpent, IsSendable, Becomes, WasOrdered};
+    ghost use Rattle.dali_world.specs.Site.{RollWasCalled};
 
     /// A site of this plan, on which nothing happened yet. All controllers are up, and keep nothing.
     ///
@@ -121,6 +124,9 @@ impl SiteState {
         ensures records { IfOk result (λ receipt. (m : Machine) → machine_at self.old c ≡ Some m
             → m.kept ≡ (controller_at (world self.old) c).records) }
         ensures waits { IfOk result (λ receipt. Waits (machine_at self.old c) input) }
+        // A survey that ends with all-found called the roll twice before it closed, and nobody was heard.
+        ensures found { IfOk result (λ receipt. (m : Machine) → machine_at self.old c ≡ Some m
+            → m.course.way ≡ Surveying → receipt.order ≡ order.Done AllFound → RollWasCalled self.old c) }
         ensures unchanged { OnErr result (self.new ≡ self.old) }
     {
         let _log = &self.log;

@@ -32,7 +32,7 @@ use Rattle.dali_events.specs.Happens.{happens, trace_running, entry, goes_on, gi
 use Rattle.dali_events.specs.Allowed.{Allowed, MaySend}
 use Rattle.dali_events.specs.Runs.{after, after_all, AllAllowed, IsRun, IsDrawer, AreDrawn}
 use Rattle.dali_events.specs.Searching.{sent_event}
-use Rattle.dali_events.specs.Calling.{Runs, RunsOn, Keeps, KeepsOn, CallsFor, IsCalled}
+use Rattle.dali_events.specs.Calling.{Runs, RunsOn, Keeps, KeepsOn, Calls, Attends, IsCalled}
 use Rattle.dali_events.proofs.Invariant.Growing.{after_both, allowed_front, allowed_rest}
 use Rattle.dali_events.proofs.Invariant.Takes.{Moved, stays, goes, moves_at, row_length}
 use Rattle.dali_events.proofs.Invariant.Known.{Knows}
@@ -300,8 +300,8 @@ answers_all x r state small search all =
     less : (m n : ℕ) → m ≤ MASK24 → n ≡ MASK24 → nat_le m n ≡ true
     less m n h e = let below : m ≤ n = subst (λ k. m ≤ k) (sym e) h in grind (arith, nat_tests)
 
-module _ (p : Plan) (capacity : ℕ) (front : List Event) (c : ℕ) (first : Entry) (es : List Event) (compare : Entry) (g : ℕ)
-    (calls : CallsFor p capacity front c first es compare g) where
+module _ (p : Plan) (capacity : ℕ) (front : List Event) (c : ℕ) (first : Entry) (es : List Event) (compare : Entry)
+    (calls : Calls p capacity front c first es compare) (g : ℕ) (attends : Attends p capacity front c first es g) where
   now : after p capacity (front ++ sent_event c first ∷ es) ≡ after_all (happens (after p capacity front) (sent_event c first)) es
   now = after_both (start p capacity) front (sent_event c first ∷ es)
 
@@ -328,8 +328,8 @@ module _ (p : Plan) (capacity : ℕ) (front : List Event) (c : ℕ) (first : Ent
   is = subst (λ w. Is w g) (sym now)
       (is_all (happens (after p capacity front) (sent_event c first)) es c g
       (allowed_front (happens (after p capacity front) (sent_event c first)) es (sent_event c compare ∷ []) allowed.1) runs
-      (subst (λ w. KeepsOn g w es) first_then calls.keeps)
-      (is_first (after p capacity front) c g first.frame first.heard allowed.0 calls.begun calls.initialises calls.powered
+      (subst (λ w. KeepsOn g w es) first_then attends.keeps)
+      (is_first (after p capacity front) c g first.frame first.heard allowed.0 calls.begun calls.initialises attends.powered
       (runs_now (happens (after p capacity front) (sent_event c first)) c es runs)))
 
   waked_hunting : (s : Stage) (r : SearchAddress) (last : Option Answer) (left : ℕ) (x : Gear) → s ≡ stage.Hunted r last left → Waked s x → x.state ≡ Enabled
@@ -341,11 +341,12 @@ module _ (p : Plan) (capacity : ℕ) (front : List Event) (c : ℕ) (first : Ent
 
   pub called : IsCalled (after p capacity (front ++ sent_event c first ∷ es)) g
   called none =
-      let here = is.at g calls.there refl in
+      let here = is.at g attends.there refl in
       let state : (gear_at (after p capacity (front ++ sent_event c first ∷ es)) g).state ≡ Enabled =
       waked_hunting (stage_of (after p capacity (front ++ sent_event c first ∷ es)).trace) calls.all.0 calls.all.1 calls.all.2
       (gear_at (after p capacity (front ++ sent_event c first ∷ es)) g) calls.all.3 (here.1 none) in
       let search : (gear_at (after p capacity (front ++ sent_event c first ∷ es)) g).search ≡ calls.all.0 =
-      (subst (λ s. Knows s (gear_at (after p capacity (front ++ sent_event c first ∷ es)) g)) calls.all.3 (known.knows g calls.there here.0)) (rw state refl) in
+      (subst (λ s. Knows s (gear_at (after p capacity (front ++ sent_event c first ∷ es)) g)) calls.all.3 (known.knows g attends.there here.0))
+          (rw state refl) in
       answers_all (gear_at (after p capacity (front ++ sent_event c first ∷ es)) g) calls.all.0 state
-      (small (gear_at (after p capacity (front ++ sent_event c first ∷ es)) g).random (drawn.random g calls.there)) search calls.all.4
+      (small (gear_at (after p capacity (front ++ sent_event c first ∷ es)) g).random (drawn.random g attends.there)) search calls.all.4

@@ -1,5 +1,5 @@
 use Rattle.std.proofs.Common.{rules, ◌≡◌, ◌<◌, length, subst, sym, refl}
-use Rattle.dali_standing.proofs.Done.{sender_there, sender_runs, frame_follows, sender_hears, may_hear, send_done}
+use Rattle.dali_standing.proofs.Done.{sender_there, sender_runs, frame_follows, sender_hears, sender_goes_on, may_hear, send_done}
 use Rattle.dali_standing.proofs.standing.Standing.send.Goals as goal
 
 pub index_mut-seat-requires : goal.index_mut-seat-requires
@@ -39,3 +39,6 @@ returns-clause-moves c =
     (may_hear _ c.args.trouble c.take-plain.result c.heard-heard.result c.take-plain.ensures.answer c.heard-heard.ensures)
     c.index_mut-seat.ensures.value c.take-plain.ensures.state running c.reached-reached.ensures c.hear.ensures
     c.goes_on-more.ensures c.sent.ensures).moves
+
+pub returns-clause-goes_on : goal.returns-clause-goes_on
+returns-clause-goes_on c = sender_goes_on _ _ c.args.request c.self.view_is c.self.invariant c.requires.next

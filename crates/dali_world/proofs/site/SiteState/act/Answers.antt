@@ -6,7 +6,7 @@ use Rattle.dali_standing.specs.Seats.{MayAnswer}
 use Rattle.dali_standing.specs.Standing.{controller_on, machine_in}
 use Rattle.dali_world.specs.Site.{Receipt}
 use Rattle.dali_events.specs.declared.event.Event.TheVariants as event
-use Rattle.dali_world.proofs.Logs.{step_few, step_goes_on, act_leaves, act_site, never_conflicts, own_records, act_waits}
+use Rattle.dali_world.proofs.Logs.{step_few, step_goes_on, act_leaves, act_site, never_conflicts, own_records, act_waits, act_known, act_found}
 use Rattle.dali_world.proofs.Fitting.{fits_acted}
 use Rattle.dali_world.proofs.site.SiteState.act.Goals as goal
 
@@ -20,12 +20,15 @@ pub invariant_of-self : goal.invariant_of-self
 invariant_of-self c =
     let moves = rw c.in-Some.is at c.act.ensures.moves in
     let answer = rw c.in-Some.is at c.act.ensures.answer in
+    let whole = rw c.in-Some.is at c.act.ensures.whole in
+    let due : IsDue (controller_on c.self.inside.standing c.args.c) c.args.input = search rules in
     let leaves = act_leaves _ _ _ _ _ c.args.c c.args.input c.in-Some.order c.self.view_is c.self.invariant answer
     (c.if-would_reserve_used.ensures.no refl) in
     let up = c.in_ok-check_up.ensures.ok in
     let four : c.args.c < 4 = let there = up.1 in let few = up.2 in omega arith in
     step_goes_on _ _ _ _ _ _ _ _ _ (event.Acted c.args.c c.args.input c.in-Some.order) c.args.c c.self.view_is c.self.invariant (c.if-is_full.ensures.room refl)
-    moves leaves c.append.ensures.items c.append.ensures.capacity four c.count-number.ensures.shares refl
+    moves leaves (act_known _ _ _ _ c.args.c c.args.input c.in-Some.order c.self.invariant due c.act.ensures.placed answer whole)
+    c.append.ensures.items c.append.ensures.capacity four c.count-number.ensures.shares refl
 
 pub returns-in-Some-clause-answer : goal.returns-in-Some-clause-answer
 unfolding Rattle.dali_world.specs.Site.Acts
@@ -75,3 +78,10 @@ returns-in-Some-clause-waits c =
     let answer = rw c.in-Some.is at c.act.ensures.answer in
     let due : IsDue (controller_on c.self.inside.standing c.args.c) c.args.input = search rules in
     act_waits _ _ _ _ _ c.args.c c.args.input c.in-Some.order c.self.view_is c.self.invariant due c.act.ensures.placed answer
+
+pub returns-in-Some-clause-found : goal.returns-in-Some-clause-found
+returns-in-Some-clause-found c =
+    let answer = rw c.in-Some.is at c.act.ensures.answer in
+    λ m there surveys is.
+    act_found _ _ _ _ _ c.args.c c.args.input c.in-Some.order c.self.view_is c.self.invariant answer m there surveys
+    (sym (ap (λ (r : Receipt). r.order) c.new.ensures) ∙ is)

@@ -14,4 +14,4 @@ invariant_of-self c =
     let up = c.in_ok-check_up.ensures.ok in
     let four : c.args.c < 4 = let there = up.1 in let few = up.2 in omega arith in
     step_goes_on _ _ _ _ _ _ _ _ _ (event.Offered c.args.c c.args.frame) c.args.c c.self.view_is c.self.invariant (c.if-is_full.ensures.room refl)
-    c.offer.ensures (λ d i a r is has. cc) c.append.ensures.items c.append.ensures.capacity four c.count.ensures.shares refl
+    c.offer.ensures (λ d i a r is has. cc) tt c.append.ensures.items c.append.ensures.capacity four c.count.ensures.shares refl

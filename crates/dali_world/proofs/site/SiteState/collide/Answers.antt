@@ -11,12 +11,12 @@ pub invariant_of-self : goal.invariant_of-self
 invariant_of-self c =
     site_goes_on _ _ _ _ _ _ _ _ (event.Collided c.args.request.sender c.args.request.frame c.in-Some.other.sender c.in-Some.other.frame)
     c.self.view_is c.self.invariant c.requires.room
-    (rw c.in-Some.is at c.collide.ensures.moves) c.append.ensures.items c.append.ensures.capacity refl
+    (rw c.in-Some.is at c.collide.ensures.moves) tt c.append.ensures.items c.append.ensures.capacity refl
 
 pub invariant_of-self-in-None : goal.invariant_of-self-in-None
 invariant_of-self-in-None c =
     site_goes_on _ _ _ _ _ _ _ _ (event.Destroyed c.args.request.sender c.args.request.frame nobody_at_all) c.self.view_is c.self.invariant c.requires.room
-    (rw c.in-None.is at c.collide.ensures.moves) c.append-in-None.ensures.items c.append-in-None.ensures.capacity refl
+    (rw c.in-None.is at c.collide.ensures.moves) tt c.append-in-None.ensures.items c.append-in-None.ensures.capacity refl
 
 pub returns-in-Some : goal.returns-in-Some
 returns-in-Some c = (

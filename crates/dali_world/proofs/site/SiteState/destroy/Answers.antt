@@ -9,4 +9,4 @@ destroy-requires-clause-room c = lost_room _ _ _ _ _ c.args.request c.args.set c
 pub invariant_of-self : goal.invariant_of-self
 invariant_of-self c =
     site_goes_on _ _ _ _ _ _ _ _ (event.Destroyed c.args.request.sender c.args.request.frame c.args.set) c.self.view_is c.self.invariant c.requires.room
-    c.destroy.ensures c.append.ensures.items c.append.ensures.capacity refl
+    c.destroy.ensures tt c.append.ensures.items c.append.ensures.capacity refl

@@ -5,5 +5,5 @@ use Rattle.dali_world.proofs.site.SiteState.expire.Goals as goal
 
 pub invariant_of-self : goal.invariant_of-self
 invariant_of-self c =
-    site_goes_on _ _ _ _ _ _ _ _ (event.Expired c.args.number) c.self.view_is c.self.invariant c.in_ok-check_gear.ensures.ok.1 c.expire.ensures
+    site_goes_on _ _ _ _ _ _ _ _ (event.Expired c.args.number) c.self.view_is c.self.invariant c.in_ok-check_gear.ensures.ok.1 c.expire.ensures tt
     c.append.ensures.items c.append.ensures.capacity refl

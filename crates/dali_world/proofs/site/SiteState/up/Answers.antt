@@ -6,5 +6,5 @@ use Rattle.dali_world.proofs.site.SiteState.up.Goals as goal
 pub invariant_of-self : goal.invariant_of-self
 invariant_of-self c =
     site_goes_on _ _ _ _ _ _ _ _ (event.Up c.args.c c.in-Some.kept) c.self.view_is c.self.invariant (c.if-is_full.ensures.room refl)
-    (c.up.ensures c.in-Some.kept c.in-Some.ensures)
+    (c.up.ensures c.in-Some.kept c.in-Some.ensures) tt
     c.append.ensures.items c.append.ensures.capacity refl
