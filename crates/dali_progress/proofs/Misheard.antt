@@ -5,6 +5,7 @@ pub mod Stands
 pub mod Sent
 pub mod Visited
 pub mod Called
+pub mod Known
 pub mod Begins
 pub mod Turns
 pub mod Visits

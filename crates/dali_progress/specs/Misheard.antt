@@ -58,15 +58,10 @@ AreServedBut g gs =
 abbrev pub IsFilled : Machine → Type 0
 IsFilled m = IsBlockTaken m ⊎ HoldsAnothers m
 
--- short addresses were asked again, since no address was open, or one that was reserved was
--- another's
-abbrev pub HasAskedAgain : Machine → Type 0
-HasAskedAgain m = 0 < m.course.tally.askings
-
 abbrev pub EndsWellBut : ℕ → End → Machine → List Gear → Type 0
 EndsWellBut g AllFound m gs = OfPowered gs HasShort
 EndsWellBut g BlockFull m gs = IsFilled m
-EndsWellBut g GaveUp m gs = AreServedBut g gs ⊎ (IsFilled m ⊎ HasAskedAgain m)
+EndsWellBut g GaveUp m gs = AreServedBut g gs ⊎ IsFilled m
 
 abbrev pub IsTrueEndBut : ℕ → SiteState → ℕ → End → Type 0
 IsTrueEndBut g s c e =

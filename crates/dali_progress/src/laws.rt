@@ -133,9 +133,10 @@ pub fn its_end_is_true()
 /// else is disturbed.
 ///
 /// Where the controller then ends with all-found, every gear with power has a short address, g too. Where it ends with
-/// block-full, each address of its block is taken, or one that it has reserved is another's. Where it gives up, every
-/// gear with power but g has a short address; or no address is left as at block-full; or the block was full once, so
-/// that it asked short addresses again.
+/// block-full, each address of its block is taken, or one that it has reserved is another's. It gives up only where
+/// every gear with power but g has a short address, or where it is so as at block-full.
+///
+/// How long that takes is not said: of the frames a visit that fails is none that `it_is_bounded` counts.
 pub fn one_gear_blocks_nobody()
     ensures { (g : ℕ) (s : SiteState) (c : ℕ) (es : List Event) (e : End) → g < length (world s).gear
         → BeginsAlone Any s c → RoundsBut g s c es → HasEnded (site_after s es) c e

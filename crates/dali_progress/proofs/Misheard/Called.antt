@@ -26,7 +26,6 @@ use Rattle.dali_controller.specs.declared.purpose.Purpose.{Purpose}
 use Rattle.dali_controller.specs.declared.purpose.Purpose.TheVariants.{Opening, Probing, Visiting, Resolving, Closing, Hunting, Asking, Calling}
 use Rattle.dali_controller.specs.declared.purpose.Purpose.TheVariants.{Drawing, PassingOver}
 use Rattle.dali_controller.specs.declared.shorts.Shorts.{Shorts}
-use Rattle.dali_controller.specs.declared.tally.Tally.{Tally}
 use Rattle.dali_controller.specs.Course.{Course, is_yes, call_turn}
 use Rattle.dali_controller.specs.Machine.{silent_after, heard_after}
 use Rattle.dali_controller.specs.Whole.{Sends}
@@ -41,11 +40,11 @@ use Rattle.dali_events.proofs.Search.Opened.{AreOpening}
 use Rattle.dali_progress.specs.Misheard.{AreServedBut}
 use Rattle.dali_progress.proofs.Frames.{Seeks, value_sought}
 use Rattle.dali_progress.proofs.Tables.{LeavesNames}
-use Rattle.dali_progress.proofs.Survey.Woken.{IsByteLow, leaves_short, all_short, undrawn_after, stays_initialised, called_answer, low_after, low_sent}
+use Rattle.dali_progress.proofs.Survey.Woken.{IsByteLow, all_short, undrawn_after, stays_initialised, called_answer, low_after, low_sent}
 use Rattle.dali_progress.proofs.Survey.Woken.{nobody_searched}
 use Rattle.dali_progress.proofs.Survey.Stands.{woken_at, IsLowAt, DrawStage, IsDrawnBy}
 use Rattle.dali_progress.proofs.Misheard.Gear.{HasDrawn, HaveDrawn, each_after}
-use Rattle.dali_progress.proofs.Misheard.Stands.{IsSpent, AskStage, Asks, CallStage, Calls, Draws, EndsBy, Closes, At}
+use Rattle.dali_progress.proofs.Misheard.Stands.{AskStage, Asks, CallStage, Calls, Draws, EndsBy, Closes, At}
 use Rattle.dali_progress.proofs.Misheard.Sent.{Taken, truth, some_is, counted_on, hunting_sent}
 use Rattle.dali_progress.proofs.Misheard.Visited.{visiting_sent, passing_sent}
 
@@ -53,7 +52,7 @@ use Rattle.dali_progress.proofs.Misheard.Visited.{visiting_sent, passing_sent}
 
 -- ---------------------------------------------------------------- gear keep their numbers and short addresses
 
-keeps_names : (d : Command) (y : Gear) (x : ℕ) → LeavesNames d → ((gear_taken d x y).random ≡ y.random) × ((gear_taken d x y).short ≡ y.short)
+pub keeps_names : (d : Command) (y : Gear) (x : ℕ) → LeavesNames d → ((gear_taken d x y).random ≡ y.random) × ((gear_taken d x y).short ≡ y.short)
 keeps_names Randomise y x leaves = absurd leaves
 keeps_names (Program short) y x leaves = absurd leaves
 keeps_names _ y x leaves = (refl, refl)
@@ -68,7 +67,8 @@ drawn_left d gs numbers leaves =
     each_after d HasDrawn HasDrawn (λ k y x was none. (let same = keeps_names d y x leaves in
     subst (λ n. n < MASK24) (sym same.0) (was (sym same.1 ∙ none)))) gs numbers
 
-served_left : (g : ℕ) (d : Command) (gs : List Gear) (numbers : List ℕ) → LeavesShort d → AreServedBut g gs → AreServedBut g (row_after Everyone d 0 gs numbers)
+pub served_left : (g : ℕ) (d : Command) (gs : List Gear) (numbers : List ℕ) → LeavesShort d → AreServedBut g gs
+    → AreServedBut g (row_after Everyone d 0 gs numbers)
 served_left g d gs numbers leaves all k in_row other on =
     let there : k < length gs = subst (λ n. k < n) (row_length Everyone d 0 gs numbers) in_row in
     let same = leaving.short_after_all d gs numbers leaves k there in
@@ -81,11 +81,6 @@ all_left d gs numbers leaves all k in_row on =
     let same = leaving.short_after_all d gs numbers leaves k there in
     let short = all k there (sym same.0 ∙ on) in
     (short.0, same.1 ∙ short.1)
-
-spent_left : (g : ℕ) (y : Tally) (d : Command) (gs : List Gear) (numbers : List ℕ) → LeavesShort d → IsSpent g y gs
-    → IsSpent g y (row_after Everyone d 0 gs numbers)
-spent_left g y d gs numbers leaves (inl served) = inl (λ passed drew. served_left g d gs numbers leaves (served passed drew))
-spent_left g y d gs numbers leaves (inr again) = inr again
 
 -- ---------------------------------------------------------------- the roll call
 
@@ -101,7 +96,6 @@ calls_on g s t c silent gs numbers d v leaves stage gear low there = record {
   number = v.number;
   counted = counted_on g c.tally silent 0 gs (row_after Everyone d 0 gs numbers) v.counted (random_left d gs numbers leaves g there)
       (drawn_left d gs numbers leaves);
-  spent = spent_left g c.tally d gs numbers (leaves_short d leaves) v.spent;
   stage_is = stage;
   gear = gear;
   low = low;
@@ -114,7 +108,7 @@ compare_next r last left h some =
       test : (n : ℕ) → 0 < n → (n == 0) ≡ false
       test n less = grind (arith, nat_tests, less)
 
-is_compare : (last : Option Answer) (left : ℕ) (d : Command) → call_turn last left ≡ Some d → d ≡ Compare
+pub is_compare : (last : Option Answer) (left : ℕ) (d : Command) → call_turn last left ≡ Some d → d ≡ Compare
 is_compare None left d is = cc
 is_compare (Some Silence) left d is = go (left == 1) is where
   go : (b : Bool) → (if b then Some Compare else None) ≡ Some d → d ≡ Compare
@@ -275,20 +269,20 @@ draws_sent g _ k c silent gs numbers d h v is t = absurd v.stage_is
 
 -- ---------------------------------------------------------------- the close
 
-ends_still : (g : ℕ) (e : End) (k : Kept) (heard : Shorts) (askings : ℕ) (gs : List Gear) (numbers : List ℕ) → EndsBy g e k heard askings gs
-    → EndsBy g e k heard askings (row_after Everyone Terminate 0 gs numbers)
-ends_still g AllFound k heard askings gs numbers all = all_left Terminate gs numbers tt all
-ends_still g BlockFull k heard askings gs numbers well = well
-ends_still g GaveUp k heard askings gs numbers (inl served) = inl (served_left g Terminate gs numbers tt served)
-ends_still g GaveUp k heard askings gs numbers (inr well) = inr well
+ends_still : (g : ℕ) (e : End) (k : Kept) (heard : Shorts) (gs : List Gear) (numbers : List ℕ) → EndsBy g e k heard gs
+    → EndsBy g e k heard (row_after Everyone Terminate 0 gs numbers)
+ends_still g AllFound k heard gs numbers all = all_left Terminate gs numbers tt all
+ends_still g BlockFull k heard gs numbers well = well
+ends_still g GaveUp k heard gs numbers (inl served) = inl (served_left g Terminate gs numbers tt served)
+ends_still g GaveUp k heard gs numbers (inr well) = inr well
 
-closes_sent : (g : ℕ) (e : End) (s : Stage) (k : Kept) (heard : Shorts) (c : Course) (gs : List Gear) (numbers : List ℕ) (d : Command) (h : Answer)
-    → Closes g e s k heard c gs → Sends k c.number (Closing e) s d → Closes g e (next_stage s d h) k heard c (row_after Everyone d 0 gs numbers)
-closes_sent g e stage.Free k heard c gs numbers d h v is =
-    subst (λ q. Closes g e (next_stage stage.Free q h) k heard c (row_after Everyone q 0 gs numbers)) (sym is.0)
-    (record { stage_is = tt; well = ends_still g e k heard c.tally.askings gs numbers v.well })
-closes_sent g e stage.Terminated k heard c gs numbers d h v is = absurd (let never = is.0 in cc)
-closes_sent g e _ k heard c gs numbers d h v is = absurd v.stage_is
+closes_sent : (g : ℕ) (e : End) (s : Stage) (k : Kept) (heard : Shorts) (n : SearchAddress) (gs : List Gear) (numbers : List ℕ) (d : Command) (h : Answer)
+    → Closes g e s k heard gs → Sends k n (Closing e) s d → Closes g e (next_stage s d h) k heard (row_after Everyone d 0 gs numbers)
+closes_sent g e stage.Free k heard n gs numbers d h v is =
+    subst (λ q. Closes g e (next_stage stage.Free q h) k heard (row_after Everyone q 0 gs numbers)) (sym is.0)
+    (record { stage_is = tt; well = ends_still g e k heard gs numbers v.well })
+closes_sent g e stage.Terminated k heard n gs numbers d h v is = absurd (let never = is.0 in cc)
+closes_sent g e _ k heard n gs numbers d h v is = absurd v.stage_is
 
 -- ---------------------------------------------------------------- the census
 
@@ -302,7 +296,6 @@ asks_to g s t c silent gs numbers d v leaves stage there = record {
   unopened = v.unopened;
   counted = counted_on g c.tally silent 0 gs (row_after Everyone d 0 gs numbers) v.counted (random_left d gs numbers leaves g there)
       (drawn_left d gs numbers leaves);
-  first = v.first;
   stage_is = stage;
 }
 
@@ -348,6 +341,6 @@ at_sent g Visiting s k heard c silent gs numbers d h at is t seek = visiting_sen
 at_sent g PassingOver s k heard c silent gs numbers d h at is t seek = passing_sent g s k c silent gs numbers d h at is t seek
 at_sent g Drawing s k heard c silent gs numbers d h at is t seek = draws_sent g s k c silent gs numbers d h at is t
 at_sent g Opening s k heard c silent gs numbers d h at is t seek = opens_sent g s k c silent gs numbers d h at is t
-at_sent g (Closing e) s k heard c silent gs numbers d h at is t seek = closes_sent g e s k heard c gs numbers d h at is
+at_sent g (Closing e) s k heard c silent gs numbers d h at is t seek = closes_sent g e s k heard c.number gs numbers d h at is
 at_sent g Probing s k heard c silent gs numbers d h at is t seek = absurd at
 at_sent g (Resolving a) s k heard c silent gs numbers d h at is t seek = absurd at

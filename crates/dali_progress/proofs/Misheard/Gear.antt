@@ -1,18 +1,19 @@
 use Rattle.std.proofs.Common.{◌≡◌, ℕ, ◌+◌, ◌<◌, ◌⊎◌, inl, inr, Bool, true, false, zero, suc, List, [], ◌∷◌, refl, sym, ap, subst, ◌∙◌, arith, length}
 use Rattle.std.proofs.Common.{Some, None}
-use Rattle.std.specs.Prelude.{◌&&◌, is_some, if◌then◌else◌}
+use Rattle.std.specs.Prelude.{◌&&◌, ◌==◌, is_some, if◌then◌else◌}
 use Rattle.dali_frame.specs.declared.frames.Answer.TheVariants.{Byte}
 use Rattle.dali_frame.specs.declared.numbers.SearchAddress.{SearchAddress}
 use Rattle.dali_frame.specs.Random.{value_of, MASK24}
 use Rattle.dali_special.specs.declared.command.Command.{Command}
-use Rattle.dali_special.specs.declared.command.Command.TheVariants.{QueryShort, Withdraw, Program}
+use Rattle.dali_special.specs.declared.command.Command.TheVariants.{QueryShort, Randomise, Withdraw, Program}
 use Rattle.dali_special.specs.Command.{program_data}
 use Rattle.dali_gear.specs.declared.state.InitialisationState.{InitialisationState}
 use Rattle.dali_gear.specs.declared.state.InitialisationState.TheVariants.{Disabled, Enabled, Withdrawn}
 use Rattle.dali_gear.specs.declared.row.Reach.TheVariants.{Everyone}
-use Rattle.dali_gear.specs.Gear.{Gear, is_active, is_found, gear_taken, answer, answer_to}
+use Rattle.dali_gear.specs.Gear.{Gear, draws_a_number, is_second, is_active, is_found, gear_taken, answer, answer_to}
 use Rattle.dali_gear.specs.Row.{row_after, option_cons, answers_of, heard_of}
-use Rattle.dali_script.specs.Records.{Has}
+use Rattle.dali_script.specs.Records.{Assignment, Has}
+use Rattle.dali_script.specs.declared.stage.Stage.TheVariants as stage
 use Rattle.dali_script.proofs.Members.{same_member}
 use Rattle.dali_events.specs.World.{World}
 use Rattle.dali_events.specs.Runs.{AreDrawn}
@@ -20,10 +21,11 @@ use Rattle.dali_events.specs.Searching.{HasShort}
 use Rattle.dali_events.specs.Wanted.{gear_of, is_wanted, Seek}
 use Rattle.dali_events.proofs.Invariant.Takes.{row_length}
 use Rattle.dali_events.proofs.Invariant.Known.{found_random}
-use Rattle.dali_events.proofs.Search.Wanted.{after_at, wanted_powered, wanted_active}
+use Rattle.dali_events.proofs.Search.Opened.{AreOpening}
+use Rattle.dali_events.proofs.Search.Wanted.{same_number, number_same, after_at, wanted_powered, wanted_active}
 use Rattle.dali_events.proofs.Search.Leaving.{SameGear, SameCore}
 use Rattle.dali_events.proofs.Search.Heard.{random_found}
-use Rattle.dali_events.proofs.Search.Programming.{after_program, programs_at}
+use Rattle.dali_events.proofs.Search.Programming.{after_program, Programs, programs_at}
 use Rattle.dali_events.proofs.Search.Withdrawing.{after_withdraw, Withdraws, withdraws_at}
 use Rattle.dali_progress.proofs.Stands.{HaveShort}
 
@@ -82,6 +84,26 @@ HasDrawn k y = y.short ≡ None → y.random < MASK24
 abbrev pub HaveDrawn : List Gear → Type 0
 HaveDrawn gs = Each gs HasDrawn
 
+-- each that has a short address and a number is in the table, or the address is reserved for it
+abbrev pub IsKnown : List Assignment → List Assignment → ℕ → Gear → Type 0
+IsKnown reserved enrolled k y =
+    (a : ℕ) → a < 64 → y.short ≡ Some a → y.random < MASK24 → Has enrolled (a, y.random) ⊎ Has reserved (a, y.random)
+
+abbrev pub AreKnown : List Assignment → List Assignment → List Gear → Type 0
+AreKnown reserved enrolled gs = Each gs (IsKnown reserved enrolled)
+
+-- none that has this number has a short address
+abbrev pub IsUnshort : ℕ → ℕ → Gear → Type 0
+IsUnshort v k y = y.random ≡ v → (a : ℕ) → a < 64 → y.short ≡ Some a → ⊥
+
+abbrev pub AreUnshort : ℕ → List Gear → Type 0
+AreUnshort v gs = Each gs (IsUnshort v)
+
+-- one with power that has this number has this short address
+abbrev pub HasOne : ℕ → ℕ → List Gear → Type 0
+HasOne v a gs =
+    (k : ℕ) × (k < length gs) × ((gear_of gs k).powered ≡ true) × ((gear_of gs k).short ≡ Some a) × ((gear_of gs k).random ≡ v)
+
 -- no two have drawn one number
 abbrev pub DrewApart : List Gear → Type 0
 DrewApart gs =
@@ -117,6 +139,26 @@ bare_but_core g v =
 pub drawn_core : (gs hs : List Gear) → SameCore gs hs → HaveDrawn gs → HaveDrawn hs
 drawn_core =
     each_core HasDrawn HasDrawn (λ k y z same was none. subst (λ n. n < MASK24) (sym same.same_random) (was (sym same.same_short ∙ none)))
+
+pub known_core : (reserved enrolled : List Assignment) (gs hs : List Gear) → SameCore gs hs → AreKnown reserved enrolled gs → AreKnown reserved enrolled hs
+known_core reserved enrolled =
+    each_core (IsKnown reserved enrolled) (IsKnown reserved enrolled) (λ k y z same was a small short drew.
+    subst (λ r. Has enrolled (a, r) ⊎ Has reserved (a, r)) (sym same.same_random)
+    (was a small (sym same.same_short ∙ short) (subst (λ n. n < MASK24) same.same_random drew)))
+
+pub unshort_core : (v : ℕ) (gs hs : List Gear) → SameCore gs hs → AreUnshort v gs → AreUnshort v hs
+unshort_core v =
+    each_core (IsUnshort v) (IsUnshort v) (λ k y z same was random a small short. was (sym same.same_random ∙ random) a small (sym same.same_short ∙ short))
+
+pub one_core : (v a : ℕ) (gs hs : List Gear) → SameCore gs hs → HasOne v a gs → HasOne v a hs
+one_core v a gs hs same one =
+    let each = same.each one.0 one.1 in (
+      one.0,
+      subst (λ n. one.0 < n) (sym same.same_length) one.1,
+      each.same_powered ∙ one.2,
+      each.same_short ∙ one.3,
+      each.same_random ∙ one.4,
+    )
 
 pub have_core : (v a : ℕ) (gs hs : List Gear) → SameCore gs hs → HaveShort gs v a → HaveShort hs v a
 have_core v a gs hs same all =
@@ -159,7 +201,85 @@ have_programmed gs numbers r a seek k in_row on active random =
     let p = programs_at gs numbers r a seek k there in
     p.programmed (sym p.same_powered ∙ on) (subst (λ s. is_active s ≡ true) p.same_state active) (sym p.same_random ∙ random)
 
+pub known_programmed : (reserved enrolled : List Assignment) (gs : List Gear) (numbers : List ℕ) (r : SearchAddress) (a : ℕ) → Seek gs r
+    → Has reserved (a, value_of r) → AreKnown reserved enrolled gs → AreKnown reserved enrolled (after_program a gs numbers)
+known_programmed reserved enrolled gs numbers r a seek has all k in_row on b small short drew =
+    go (is_active (gear_of gs k).state) refl ((gear_of gs k).random == value_of r) refl where
+      there : k < length gs
+      there = subst (λ n. k < n) (row_length Everyone (Program (Some a)) 0 gs numbers) in_row
+
+      p : Programs (value_of r) a (gear_of gs k) (gear_of (after_program a gs numbers) k)
+      p = programs_at gs numbers r a seek k there
+
+      some_same : (m n : ℕ) → Some m ≡ Some n → m ≡ n
+      some_same m n e = cc
+
+      up : (gear_of gs k).powered ≡ true
+      up = sym p.same_powered ∙ on
+
+      before : (gear_of (after_program a gs numbers) k).short ≡ (gear_of gs k).short
+          → Has enrolled (b, (gear_of (after_program a gs numbers) k).random) ⊎ Has reserved (b, (gear_of (after_program a gs numbers) k).random)
+      before same =
+          subst (λ n. Has enrolled (b, n) ⊎ Has reserved (b, n)) (sym p.same_random)
+          (all k there up b small (sym same ∙ short) (subst (λ n. n < MASK24) p.same_random drew))
+
+      go : (c : Bool) → is_active (gear_of gs k).state ≡ c → (d : Bool) → ((gear_of gs k).random == value_of r) ≡ d
+          → Has enrolled (b, (gear_of (after_program a gs numbers) k).random) ⊎ Has reserved (b, (gear_of (after_program a gs numbers) k).random)
+      go true active true same =
+          let random : (gear_of gs k).random ≡ value_of r = same_number (gear_of gs k).random (value_of r) same in
+          let given : Some b ≡ Some a = sym short ∙ p.programmed up active random in
+          inr (subst (λ n. Has reserved (n, (gear_of (after_program a gs numbers) k).random)) (some_same a b (sym given))
+          (subst (λ n. Has reserved (a, n)) (sym (p.same_random ∙ random)) has))
+      go true active false other =
+          before (p.others (λ on active random.
+          (let never : true ≡ false = sym (number_same (gear_of gs k).random (value_of r) random) ∙ other in cc)))
+      go false resting d same = before (p.others (λ on active random. (let never : true ≡ false = sym active ∙ resting in cc)))
+
+-- gear that draw have no short address
+known_drawn : (reserved enrolled : List Assignment) (gs : List Gear) (numbers : List ℕ)
+    → Each gs (λ k y. (a : ℕ) → y.short ≡ Some a → draws_a_number Randomise y ≡ false) → AreKnown reserved enrolled gs
+    → AreKnown reserved enrolled (row_after Everyone Randomise 0 gs numbers)
+known_drawn reserved enrolled gs numbers still all =
+    each_after Randomise (λ k y. ((a : ℕ) → y.short ≡ Some a → draws_a_number Randomise y ≡ false) × IsKnown reserved enrolled k y)
+    (IsKnown reserved enrolled) (λ k y x was a small short drew.
+    (let same : (gear_taken Randomise x y).random ≡ y.random = ap (λ b. if b then x else y.random) (was.0 a short) in
+    subst (λ n. Has enrolled (a, n) ⊎ Has reserved (a, n)) (sym same) (was.1 a small short (subst (λ n. n < MASK24) same drew))))
+    gs numbers (λ k there on. (still k there on, all k there on))
+
+pub known_once : (reserved enrolled : List Assignment) (gs : List Gear) (numbers : List ℕ) → AreOpening stage.Initialised gs
+    → AreKnown reserved enrolled gs → AreKnown reserved enrolled (row_after Everyone Randomise 0 gs numbers)
+known_once reserved enrolled gs numbers all =
+    known_drawn reserved enrolled gs numbers (λ k there on a short. (let half = (all k there on).0 in rw half refl))
+
+pub known_twice : (reserved enrolled : List Assignment) (gs : List Gear) (numbers : List ℕ) → AreOpening stage.RandomisedOnce gs
+    → AreKnown reserved enrolled gs → AreKnown reserved enrolled (row_after Everyone Randomise 0 gs numbers)
+known_twice reserved enrolled gs numbers all =
+    known_drawn reserved enrolled gs numbers (λ k there on a short. still (gear_of gs k) ((all k there on).1.1 a short)) where
+      still : (y : Gear) → y.state ≡ Disabled → draws_a_number Randomise y ≡ false
+      still y is = rw is (none (is_second Randomise y.half)) where
+        none : (b : Bool) → (b && false) ≡ false
+        none true = refl
+        none false = refl
+
+pub known_more : (reserved enrolled more more_enrolled : List Assignment) (gs : List Gear) → ((x : Assignment) → Has reserved x → Has more x)
+    → ((x : Assignment) → Has enrolled x → Has more_enrolled x) → AreKnown reserved enrolled gs → AreKnown more more_enrolled gs
+known_more reserved enrolled more more_enrolled gs one two all k there on a small short drew = go (all k there on a small short drew) where
+  go : Has enrolled (a, (gear_of gs k).random) ⊎ Has reserved (a, (gear_of gs k).random)
+      → Has more_enrolled (a, (gear_of gs k).random) ⊎ Has more (a, (gear_of gs k).random)
+  go (inl has) = inl (two (a, (gear_of gs k).random) has)
+  go (inr has) = inr (one (a, (gear_of gs k).random) has)
+
 -- ---------------------------------------------------------------- who was found is withdrawn
+
+pub one_withdrawn : (v a : ℕ) (gs : List Gear) (numbers : List ℕ) (r : SearchAddress) → Seek gs r → HasOne v a gs → HasOne v a (after_withdraw gs numbers)
+one_withdrawn v a gs numbers r seek one =
+    let w = withdraws_at gs numbers r seek one.0 one.1 in (
+      one.0,
+      subst (λ n. one.0 < n) (sym (row_length Everyone Withdraw 0 gs numbers)) one.1,
+      w.same_powered ∙ one.2,
+      w.same_short ∙ one.3,
+      w.same_random ∙ one.4,
+    )
 
 pub have_named : (g v a : ℕ) (gs : List Gear) → HaveShort gs v a → AreNamedBut g v gs
 have_named g v a gs all k there on other enabled random = (a, all k there on (rw enabled refl) random)

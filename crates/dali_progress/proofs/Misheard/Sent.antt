@@ -30,6 +30,7 @@ use Rattle.dali_events.proofs.Search.Leaving.{SameCore, LeavesCore, LeavesShort}
 use Rattle.dali_progress.specs.Misheard.{IsHeardBut}
 use Rattle.dali_progress.proofs.Frames.{Seeks, probe_says, gives_same}
 use Rattle.dali_progress.proofs.Survey.Drawn.{AreNumbered}
+use Rattle.dali_progress.proofs.Survey.Queried.{OneShort}
 use Rattle.dali_progress.proofs.Survey.Woken.{AreLow, IsByteLow, low_after}
 use Rattle.dali_progress.proofs.Survey.Rising.{IsByteSent, byte_sent}
 use Rattle.dali_progress.proofs.Misheard.Gear as gear
@@ -47,6 +48,7 @@ pub record Taken (g : ℕ) (c : Command) (gs : List Gear) (numbers : List ℕ) (
   pub below : (x : ℕ × ℕ) → Has (drawn_of Everyone c 0 gs numbers) x → x.1 < MASK24
   pub apart : DrewApart gs
   pub numbered : AreNumbered gs
+  pub one : OneShort gs
 
 -- all but QUERY SHORT ADDRESS is heard as it is
 pub truth : (g : ℕ) (c : Command) (gs : List Gear) (numbers : List ℕ) (h : Answer) → Taken g c gs numbers h → (c ≡ QueryShort → ⊥)

@@ -1,9 +1,9 @@
 use Rattle.std.proofs.Common.{◌≡◌, ℕ, ◌+◌, ◌*◌, ◌<◌, ◌≤◌, ◌⊎◌, Bool, true, false, List, length, Some, None}
 use Rattle.std.specs.Prelude.{not}
 use Rattle.dali_frame.specs.declared.numbers.SearchAddress.{SearchAddress}
-use Rattle.dali_frame.specs.Random.{value_of, MASK24}
+use Rattle.dali_frame.specs.Random.{value_of, high_of, middle_of, MASK24}
 use Rattle.dali_gear.specs.Gear.{Gear}
-use Rattle.dali_script.specs.Records.{Kept}
+use Rattle.dali_script.specs.Records.{Assignment, Kept, Has}
 use Rattle.dali_script.specs.declared.stage.Stage.{Stage}
 use Rattle.dali_script.specs.declared.stage.Stage.TheVariants as stage
 use Rattle.dali_script.specs.Stages.{IsTrace, stage_of}
@@ -18,7 +18,7 @@ use Rattle.dali_controller.specs.declared.purpose.Purpose.TheVariants.{Drawing, 
 use Rattle.dali_controller.specs.declared.shorts.Shorts.{Shorts}
 use Rattle.dali_controller.specs.declared.tally.Tally.{Tally}
 use Rattle.dali_controller.specs.declared.way.Way.TheVariants.{Surveying}
-use Rattle.dali_controller.specs.Course.{Course, is_yes, sought}
+use Rattle.dali_controller.specs.Course.{Course, is_yes, sought, is_anothers}
 use Rattle.dali_controller.specs.Machine.{Machine}
 use Rattle.dali_controller.specs.Next.{is_failed}
 use Rattle.dali_events.specs.Searching.{HasShort}
@@ -26,9 +26,10 @@ use Rattle.dali_events.specs.Wanted.{gear_of, is_wanted, wants, OfPowered}
 use Rattle.dali_events.proofs.Search.Opened.{AreOpening}
 use Rattle.dali_progress.specs.Misheard.{AreServedBut}
 use Rattle.dali_progress.proofs.Stands.{CloseStage, HaveShort}
-use Rattle.dali_progress.proofs.Survey.Stands.{woken_at, IsLowAt, DrawStage, IsDrawnBy, AreTaken, HasAnothers}
+use Rattle.dali_progress.proofs.Survey.Queried.{Nobody}
+use Rattle.dali_progress.proofs.Survey.Stands.{woken_at, IsLowAt, DrawStage, IsDrawnBy, AreTaken, HasAnothers, Tells}
 use Rattle.dali_progress.proofs.Survey.Woken.{AreLow}
-use Rattle.dali_progress.proofs.Misheard.Gear.{AreSought, AreBare, AreBareBut, HaveDrawn}
+use Rattle.dali_progress.proofs.Misheard.Gear.{Each, AreSought, AreBare, AreBareBut, HaveDrawn, AreKnown, AreUnshort, HasOne}
 
 -- HOW FAR A SURVEY IS, where gear g is misheard and nothing else is disturbed. No frames are counted; what its end says is true.
 
@@ -52,9 +53,12 @@ pub record IsCountedFor (y : Tally) (silent : ℕ) : Type 0 where
   pub passed : y.passed.count ≤ y.calls + y.draws
   pub quiet : silent ≤ 2 * y.passed.count + 20 * y.draws
 
--- a hunt that passed somebody over served all others that drew; or the block was full, and short addresses were asked again
-abbrev pub IsSpent : ℕ → Tally → List Gear → Type 0
-IsSpent g y gs = (0 < y.passed.count → 0 < y.draws → AreServedBut g gs) ⊎ (0 < y.askings)
+-- a hunt that passed somebody over served all others that drew; or no address can be given
+abbrev pub IsFilled : Kept → Shorts → Type 0
+IsFilled k heard = AreTaken k heard ⊎ HasAnothers k heard
+
+abbrev pub IsSpent : ℕ → Tally → Kept → Shorts → List Gear → Type 0
+IsSpent g y k heard gs = (0 < y.passed.count → 0 < y.draws → AreServedBut g gs) ⊎ IsFilled k heard
 
 -- ---------------------------------------------------------------- the census
 
@@ -65,13 +69,9 @@ AskStage (stage.MiddleAsked b x) = Unit {0}
 AskStage (stage.Spelled b x) = Unit {0}
 AskStage _ = ⊥
 
-abbrev pub IsAskedFirst : Tally → Type 0
-IsAskedFirst y = (y.passed.count ≡ 0) ⊎ (0 < y.askings)
-
 pub record Asks (g : ℕ) (s : Stage) (c : Course) (silent : ℕ) (gs : List Gear) : Type 0 where
   pub unopened : c.opened ≡ false
   pub counted : IsCounted g c.tally silent 0 gs
-  pub first : IsAskedFirst c.tally
   pub stage_is : AskStage s
 
 -- ---------------------------------------------------------------- the roll call
@@ -91,7 +91,6 @@ pub record Calls (g : ℕ) (s : Stage) (c : Course) (silent : ℕ) (gs : List Ge
   pub opened_is : c.opened ≡ true
   pub number : c.number ≡ sought MASK24
   pub counted : IsCounted g c.tally silent 0 gs
-  pub spent : IsSpent g c.tally gs
   pub stage_is : CallStage s gs
   pub gear : AreOpening (woken_at s) gs
   pub low : IsLowAt s gs
@@ -149,13 +148,13 @@ VisitStage g stage.Free x v n gs = IsReached x v gs × AreBare g gs
 VisitStage g (stage.HighSent high) x v n gs = IsReached x v gs × AreBare g gs
 VisitStage g (stage.MiddleSent high middle) x v n gs = IsReached x v gs × AreBare g gs
 VisitStage g (stage.NumberSent r) x v n gs = IsReached x v gs × AreBare g gs
-VisitStage g (stage.Unnamed r) x v n gs = IsReached x v gs × AreBare g gs × (r ≡ n)
-VisitStage g (stage.Found r b) x v n gs = IsReached x v gs × AreBare g gs × IsOfOne g v gs
+VisitStage g (stage.Unnamed r) x v n gs = IsReached x v gs × AreBare g gs × (r ≡ n) × AreUnshort v gs
+VisitStage g (stage.Found r b) x v n gs = IsReached x v gs × AreBare g gs × IsOfOne g v gs × HasOne v b gs × (b < 64)
 VisitStage g (stage.Unanswered r) x v n gs = IsReached x v gs × AreBare g gs × IsOfOne g v gs
 VisitStage g (stage.Inconclusive r other) x v n gs = IsReached x v gs × AreBare g gs × IsOfOne g v gs
 VisitStage g (stage.Programmed r a) x v n gs = IsReached x v gs × AreBareBut g v gs × HaveShort gs v a × (a < 64)
 VisitStage g (stage.Confirmed r a) x v n gs = IsReached x v gs × AreBareBut g v gs × HaveShort gs v a × (a < 64)
-VisitStage g (stage.Withdrawn r a) x v n gs = IsPast x v gs × AreBare g gs
+VisitStage g (stage.Withdrawn r a) x v n gs = IsPast x v gs × AreBare g gs × HasOne v a gs × (value_of r ≡ v) × (a < 64)
 VisitStage g _ x v n gs = ⊥
 
 -- who is passed over is gear g
@@ -216,15 +215,15 @@ pub record Hunts (told : Bool) (g : ℕ) (p : Purpose) (s : Stage) (c : Course) 
 
 -- ---------------------------------------------------------------- the close
 
--- what an end says, by records and marks, and by how often short addresses were asked again
-abbrev pub EndsBy : ℕ → End → Kept → Shorts → ℕ → List Gear → Type 0
-EndsBy g AllFound k heard askings gs = OfPowered gs HasShort
-EndsBy g BlockFull k heard askings gs = AreTaken k heard ⊎ HasAnothers k heard
-EndsBy g GaveUp k heard askings gs = AreServedBut g gs ⊎ ((AreTaken k heard ⊎ HasAnothers k heard) ⊎ (0 < askings))
+-- what an end says, by records and marks
+abbrev pub EndsBy : ℕ → End → Kept → Shorts → List Gear → Type 0
+EndsBy g AllFound k heard gs = OfPowered gs HasShort
+EndsBy g BlockFull k heard gs = IsFilled k heard
+EndsBy g GaveUp k heard gs = AreServedBut g gs ⊎ IsFilled k heard
 
-pub record Closes (g : ℕ) (e : End) (s : Stage) (k : Kept) (heard : Shorts) (c : Course) (gs : List Gear) : Type 0 where
+pub record Closes (g : ℕ) (e : End) (s : Stage) (k : Kept) (heard : Shorts) (gs : List Gear) : Type 0 where
   pub stage_is : CloseStage s
-  pub well : EndsBy g e k heard c.tally.askings gs
+  pub well : EndsBy g e k heard gs
 
 -- ---------------------------------------------------------------- of whatever transaction
 
@@ -236,9 +235,52 @@ At told g Visiting s k heard c silent gs = Hunts told g Visiting s c silent gs
 At told g PassingOver s k heard c silent gs = Hunts told g PassingOver s c silent gs
 At told g Drawing s k heard c silent gs = Draws Drawing s c silent gs
 At told g Opening s k heard c silent gs = Draws Opening s c silent gs
-At told g (Closing e) s k heard c silent gs = Closes g e s k heard c gs
+At told g (Closing e) s k heard c silent gs = Closes g e s k heard gs
 At told g Probing s k heard c silent gs = ⊥
 At told g (Resolving a) s k heard c silent gs = ⊥
+
+-- ---------------------------------------------------------------- who is known
+
+-- the gear that told what was heard so far of the short address that is asked, or nobody
+abbrev pub AskedAt : Stage → ℕ → List Gear → Type 0
+AskedAt stage.Free a gs = Unit {0}
+AskedAt (stage.HighAsked b None) a gs = (b ≡ a) × Nobody gs a
+AskedAt (stage.HighAsked b (Some v)) a gs = (b ≡ a) × Tells gs a (λ r. v ≡ high_of r)
+AskedAt (stage.MiddleAsked b (Some x)) a gs = (b ≡ a) × Tells gs a (λ r. (x.0 ≡ high_of r) × (x.1 ≡ middle_of r))
+AskedAt (stage.Spelled b (Some n)) a gs = (b ≡ a) × Tells gs a (λ r. n ≡ r)
+AskedAt _ a gs = ⊥
+
+-- THE FIRST TIME that short addresses are asked, the table has each gear below this one
+abbrev pub IsTabled : ℕ → List Assignment → ℕ → Gear → Type 0
+IsTabled f enrolled k y = (a : ℕ) → a < f → y.short ≡ Some a → y.random < MASK24 → Has enrolled (a, y.random)
+
+abbrev pub AreTabledBelow : ℕ → List Assignment → List Gear → Type 0
+AreTabledBelow f enrolled gs = Each gs (IsTabled f enrolled)
+
+-- LATER nothing can be given, and each gear is known. What is reserved for a number may be another's; then no gear that has this
+-- number has the address.
+abbrev pub AreApartFrom : ℕ → ℕ → List Gear → Type 0
+AreApartFrom a r gs = Each gs (λ k y. y.short ≡ Some a → y.random ≡ r → ⊥)
+
+abbrev pub IsFilledFor : Kept → Shorts → List Gear → Type 0
+IsFilledFor k heard gs =
+    AreTaken k heard
+    ⊎ ((a : ℕ) × (r : ℕ) × Has k.reserved (a, r) × (is_anothers k heard a r ≡ true) × AreApartFrom a r gs)
+
+abbrev pub IsCensus : ℕ → ℕ → Tally → Kept → Shorts → List Gear → Type 0
+IsCensus g f y k heard gs =
+    ((y.passed.count ≡ 0) × AreTabledBelow f k.enrolled gs) ⊎ (AreKnown k.reserved k.enrolled gs × IsFilledFor k heard gs)
+
+pub record Census (g a : ℕ) (s : Stage) (k : Kept) (heard : Shorts) (c : Course) (gs : List Gear) : Type 0 where
+  pub small : a < 64
+  pub from_is : c.from ≡ a + 1
+  pub asked : AskedAt s a gs
+  pub census : IsCensus g a c.tally k heard gs
+
+abbrev pub KnownAt : ℕ → Purpose → Stage → Kept → Shorts → Course → List Gear → Type 0
+KnownAt g (Asking a) s k heard c gs = Census g a s k heard c gs
+KnownAt g Calling s k heard c gs = AreKnown k.reserved k.enrolled gs × IsSpent g c.tally k heard gs
+KnownAt g p s k heard c gs = AreKnown k.reserved k.enrolled gs
 
 pub record MisheardStands (told : Bool) (g : ℕ) (m : Machine) (gs : List Gear) : Type 0 where
   pub there : g < length gs
@@ -246,3 +288,4 @@ pub record MisheardStands (told : Bool) (g : ℕ) (m : Machine) (gs : List Gear)
   pub way : m.course.way ≡ Surveying
   pub trace : IsTrace (stage_of m.trace) m.trace
   pub at : At told g m.course.purpose (stage_of m.trace) m.kept m.heard m.course m.silent gs
+  pub known : KnownAt g m.course.purpose (stage_of m.trace) m.kept m.heard m.course gs

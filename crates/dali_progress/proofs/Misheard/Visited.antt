@@ -1,6 +1,6 @@
 use Rattle.std.proofs.Common.{◌≡◌, ℕ, ◌<◌, ◌≤◌, ◌⊎◌, inl, inr, Bool, true, false, List, refl, sym, ap, subst, ◌∙◌, arith, length, Option}
 use Rattle.std.proofs.Common.{Some, None}
-use Rattle.std.specs.Prelude.{◌==◌, if◌then◌else◌}
+use Rattle.std.specs.Prelude.{◌==◌, ◌&&◌, ◌/◌, ◌%◌, nat_lt, if◌then◌else◌}
 use Rattle.std.proofs.lemmas.Bool.Decides.{nat_tests}
 use Rattle.dali_frame.specs.declared.frames.Answer.{Answer}
 use Rattle.dali_frame.specs.declared.frames.Answer.TheVariants.{Silence, Byte, Damaged}
@@ -13,7 +13,7 @@ use Rattle.dali_special.specs.Command.{MASK, program_data}
 use Rattle.dali_special.proofs.Table.{short_of_code}
 use Rattle.dali_gear.specs.declared.row.Reach.TheVariants.{Everyone}
 use Rattle.dali_gear.specs.Gear.{Gear}
-use Rattle.dali_gear.specs.Row.{row_after}
+use Rattle.dali_gear.specs.Row.{row_after, answers_of, heard_of}
 use Rattle.dali_script.specs.Records.{Kept}
 use Rattle.dali_script.specs.declared.stage.Stage.{Stage}
 use Rattle.dali_script.specs.declared.stage.Stage.TheVariants as stage
@@ -30,12 +30,12 @@ use Rattle.dali_events.proofs.Search.Leaving as leaving
 use Rattle.dali_events.proofs.Search.Leaving.{SameCore}
 use Rattle.dali_events.proofs.Search.Programming.{after_program, programmed_wants, programs_at}
 use Rattle.dali_events.proofs.Search.Withdrawing.{after_withdraw, withdrawn_wants, withdraws_at}
-use Rattle.dali_progress.specs.Misheard.{IsHeardBut}
+use Rattle.dali_progress.specs.Misheard.{IsNoByte, IsHeardBut}
 use Rattle.dali_progress.proofs.Stands.{HaveShort}
 use Rattle.dali_progress.proofs.Frames.{Seeks, value_sought}
 use Rattle.dali_progress.proofs.Survey.Woken.{low_after}
 use Rattle.dali_progress.proofs.Misheard.Gear as gear
-use Rattle.dali_progress.proofs.Misheard.Gear.{AreSought, AreBare, AreBareBut, AreNamedBut}
+use Rattle.dali_progress.proofs.Misheard.Gear.{AreSought, AreBare, AreBareBut, AreNamedBut, AreUnshort, HasOne, DrewApart}
 use Rattle.dali_progress.proofs.Misheard.Stands.{IsCounted, IsReached, IsPast, IsOfOne, VisitStage, PassStage, Visits, HuntAt, found_at, failed_at, Hunts}
 use Rattle.dali_progress.proofs.Misheard.Sent.{Taken, some_is, counted_on, told_hunts, few_on, reached_core, own_core, hunts_core, low_byte, HuntedTo}
 
@@ -44,16 +44,78 @@ use Rattle.dali_progress.proofs.Misheard.Sent.{Taken, some_is, counted_on, told_
 
 -- ---------------------------------------------------------------- gear answer
 
--- whatever is heard of gear g
-any_queried : (g : ℕ) (x : Ascent) (v : ℕ) (n r : SearchAddress) (hs : List Gear) (h : Answer) → IsReached x v hs → AreBare g hs → r ≡ n → IsOfOne g v hs
+-- the gear with this number has no short address, so none that has it does
+own_unshort : (g v : ℕ) (gs : List Gear) → DrewApart gs → g < length gs → v < MASK24 → (gear_of gs g).random ≡ v
+    → ((a : ℕ) → a < 64 → (gear_of gs g).short ≡ Some a → ⊥) → AreUnshort v gs
+own_unshort g v gs apart in_row small is none k there on random a few short =
+    let same : k ≡ g = apart k g there in_row (subst (λ n. n < MASK24) (sym random) small) (random ∙ sym is) in
+    none a few (subst (λ j. (gear_of gs j).short ≡ Some a) same short)
+
+short_is : (a d : ℕ) → short_of (program_data (Some a)) ≡ Some d → a ≡ d
+short_is a d = go ((program_data (Some a) % 2 == 1) && nat_lt (program_data (Some a)) 128) where
+  go : (b : Bool) → (if b then Some (program_data (Some a) / 2) else None) ≡ Some d → a ≡ d
+  go true e = let half : program_data (Some a) / 2 ≡ d = some_same (program_data (Some a) / 2) d e in omega (arith, half) where
+    some_same : (m n : ℕ) → Some m ≡ Some n → m ≡ n
+    some_same m n e = cc
+  go false e = absurd (cc)
+
+short_small : (v d : ℕ) → short_of v ≡ Some d → d < 64
+short_small v d = go ((v % 2 == 1) && nat_lt v 128) refl where
+  some_same : (m n : ℕ) → Some m ≡ Some n → m ≡ n
+  some_same m n e = cc
+
+  below : nat_lt v 128 ≡ true → v < 128
+  below e = grind (arith, nat_tests, e)
+
+  go : (b : Bool) → ((v % 2 == 1) && nat_lt v 128) ≡ b → (if b then Some (v / 2) else None) ≡ Some d → d < 64
+  go true all e =
+      let less : v < 128 = below (wanted.both_pass (v % 2 == 1) (nat_lt v 128) all).1 in
+      let half : v / 2 ≡ d = some_same (v / 2) d e in
+      omega (arith, half, less)
+  go false all e = absurd (cc)
+
+-- what gear g may be heard as
+abbrev pub IsSaid : Option ℕ → Answer → Type 0
+IsSaid o h = (h ≡ Byte (program_data o)) ⊎ IsNoByte h
+
+any_queried : (g : ℕ) (x : Ascent) (v : ℕ) (n r : SearchAddress) (gs hs : List Gear) (h : Answer) → DrewApart gs → g < length gs → v < MASK24
+    → SameCore gs hs → IsReached x v hs × AreBare g hs → r ≡ n → IsOfOne g v gs → (gear_of gs g).powered ≡ true → IsSaid (gear_of gs g).short h
     → VisitStage g (queried r h) x v n hs
-any_queried g x v n r hs Silence reached bare same one = (reached, bare, one)
-any_queried g x v n r hs Damaged reached bare same one = (reached, bare, one)
-any_queried g x v n r hs (Byte b) reached bare same one = go (short_of b) (b == MASK) where
-  go : (o : Option ℕ) (m : Bool) → VisitStage g (named r o m) x v n hs
-  go (Some d) m = (reached, bare, one)
-  go None true = (reached, bare, same)
-  go None false = (reached, bare, one)
+any_queried g x v n r gs hs h apart in_row small same both is one on said = go said where
+  own : IsOfOne g v hs
+  own = own_core g v gs hs same in_row one
+
+  unshort : ((a : ℕ) → a < 64 → (gear_of gs g).short ≡ Some a → ⊥) → AreUnshort v hs
+  unshort none = gear.unshort_core v gs hs same (own_unshort g v gs apart in_row small one none)
+
+  quiet : (a : Answer) → IsNoByte a → VisitStage g (queried r a) x v n hs
+  quiet Silence none = (both.0, both.1, own)
+  quiet Damaged none = (both.0, both.1, own)
+  quiet (Byte b) none = absurd none
+
+  by : (o : Option ℕ) → (gear_of gs g).short ≡ o → VisitStage g (queried r (Byte (program_data o))) x v n hs
+  by None e = (both.0, both.1, is, unshort (λ a few short. (let never : None ≡ Some a = sym e ∙ short in cc)))
+  by (Some a) e = tell (short_of (program_data (Some a))) refl (program_data (Some a) == MASK) where
+    tell : (o : Option ℕ) → short_of (program_data (Some a)) ≡ o → (m : Bool) → VisitStage g (named r o m) x v n hs
+    tell (Some d) told m = (
+      both.0,
+      both.1,
+      own,
+      gear.one_core v d gs hs same (g, in_row, on, e ∙ ap (λ c. Some c) (short_is a d told), one),
+      short_small (program_data (Some a)) d told,
+    )
+    tell None told true = (
+      both.0,
+      both.1,
+      is,
+      unshort (λ d few short. (let twice : Some a ≡ Some d = sym e ∙ short in
+          let never : None ≡ Some d = sym told ∙ (ap (λ o. short_of (program_data o)) twice ∙ short_of_code d few) in cc)),
+    )
+    tell None told false = (both.0, both.1, own)
+
+  go : IsSaid (gear_of gs g).short h → VisitStage g (queried r h) x v n hs
+  go (inl byte) = subst (λ a. VisitStage g (queried r a) x v n hs) (sym byte) (by (gear_of gs g).short refl)
+  go (inr none) = quiet h none
 
 any_verified : (g : ℕ) (x : Ascent) (v a : ℕ) (n r : SearchAddress) (hs : List Gear) (h : Answer) → IsReached x v hs → AreBare g hs → HaveShort hs v a
     → a < 64 → IsOfOne g v hs → VisitStage g (verified r a h) x v n hs
@@ -82,7 +144,9 @@ verified_short r a small = rw (short_of_code a small) (go (a == a) (same a)) whe
 
 -- who is visited: gear g, or another, whose answer is heard
 abbrev pub IsHeardOf : ℕ → ℕ → Option ℕ → List Gear → Answer → Type 0
-IsHeardOf g v o gs h = IsOfOne g v gs ⊎ (h ≡ Byte (program_data o))
+IsHeardOf g v o gs h =
+    (IsOfOne g v gs × ((gear_of gs g).powered ≡ true) × IsSaid (gear_of gs g).short h)
+    ⊎ ((h ≡ Byte (program_data o)) × ((k : ℕ) × (k < length gs) × ((gear_of gs k).random ≡ v) × ((gear_of gs k).short ≡ o)))
 
 visit_heard : (g v : ℕ) (n r : SearchAddress) (o : Option ℕ) (gs : List Gear) (numbers : List ℕ) (h : Answer) → Taken g QueryShort gs numbers h
     → wants gs v ≡ true → v < MASK24 → value_of r ≡ v → Seek gs r
@@ -92,20 +156,29 @@ visit_heard g v n r o gs numbers h t wants_it small same seek short = go (there.
   there : (k : ℕ) × (k < length gs) × (is_wanted (gear_of gs k) ≡ true) × ((gear_of gs k).random ≡ v)
   there = wanted.wants_at gs v wants_it
 
+  answers : h ≡ heard_of (answers_of Everyone QueryShort 0 gs) → h ≡ Byte (program_data (gear_of gs there.0).short)
+  answers heard =
+      heard ∙ gear.query_is gs r there.0 seek t.apart (subst (λ m. m < MASK24) (sym same) small) there.1 there.2 (there.3 ∙ sym same)
+
+  said : IsHeardBut g gs QueryShort h → IsSaid (gear_of gs there.0).short h
+  said (inl heard) = inl (answers heard)
+  said (inr mis) = inr mis.2
+
   go : (b : Bool) → (there.0 == g) ≡ b → IsHeardOf g v o gs h
-  go true is = inl (subst (λ k. (gear_of gs k).random ≡ v) (wanted.same_number there.0 g is) there.3)
+  go true is =
+      inl (subst (λ k. ((gear_of gs k).random ≡ v) × ((gear_of gs k).powered ≡ true) × IsSaid (gear_of gs k).short h)
+      (wanted.same_number there.0 g is) (there.3, wanted.wanted_powered (gear_of gs there.0) there.2, said t.heard))
   go false is = by t.heard where
     other : there.0 ≡ g → ⊥
     other e = let never : true ≡ false = sym (wanted.number_same there.0 g e) ∙ is in cc
 
     by : IsHeardBut g gs QueryShort h → IsHeardOf g v o gs h
     by (inl heard) =
-        inr (heard
-        ∙ gear.query_is gs r there.0 seek t.apart (subst (λ m. m < MASK24) (sym same) small) there.1 there.2 (there.3 ∙ sym same)
-        ∙ ap (λ p. Byte (program_data p)) (short there.0 there.1 other there.2 there.3))
+        let none : (gear_of gs there.0).short ≡ o = short there.0 there.1 other there.2 there.3 in
+        inr (answers heard ∙ ap (λ p. Byte (program_data p)) none, (there.0, there.1, there.3, none))
     by (inr mis) =
-        let random : (gear_of gs g).random ≡ value_of r = gear.who_answers gs r g seek t.there mis.1 in
-        inl (random ∙ same)
+        let random : (gear_of gs g).random ≡ v = gear.who_answers gs r g seek t.there mis.1 ∙ same in
+        absurd (other (t.apart there.0 g there.1 t.there (subst (λ m. m < MASK24) (sym there.3) small) (there.3 ∙ sym random)))
 
 -- ---------------------------------------------------------------- the frames of a visit
 
@@ -208,9 +281,16 @@ asked_sent g r c silent gs numbers h v is t seek =
           (wanted.wanted_enabled (gear_of gs k) wanted_is))
 
       go : IsHeardOf g w.visited None gs h → VisitStage g (queried r h) c.ascent w.visited c.number hs
-      go (inl one) =
-          any_queried g c.ascent w.visited c.number r hs h now.0 now.1 (sym is) (own_core g w.visited gs hs same t.there one)
-      go (inr byte) = subst (λ q. VisitStage g q c.ascent w.visited c.number hs) (sym (ap (queried r) byte ∙ mask_queried r)) (now.0, now.1, sym is)
+      go (inl (one, on, said)) =
+          any_queried g c.ascent w.visited c.number r gs hs h t.apart t.there w.drawn same now (sym is) one on said
+      go (inr (byte, (k, in_row, random, none))) =
+          subst (λ q. VisitStage g q c.ascent w.visited c.number hs) (sym (ap (queried r) byte ∙ mask_queried r)) (
+            now.0,
+            now.1,
+            sym is,
+            gear.unshort_core w.visited gs hs same
+                (own_unshort k w.visited gs t.apart in_row w.drawn random (λ a few short. (let never : None ≡ Some a = sym none ∙ short in cc))),
+          )
 
 -- PROGRAM SHORT ADDRESS
 programmed_sent : (g a : ℕ) (r : SearchAddress) (c : Course) (silent : ℕ) (gs : List Gear) (numbers : List ℕ) (h : Answer)
@@ -276,11 +356,11 @@ confirmed_sent g a r c silent gs numbers h v is t seek =
           (wanted.wanted_active (gear_of gs k) wanted_is) random)
 
       go : IsHeardOf g w.visited (Some a) gs h → VisitStage g (verified r a h) c.ascent w.visited c.number hs
-      go (inl one) =
+      go (inl (one, on, said)) =
           any_verified g c.ascent w.visited a c.number r hs h reached
           (gear.bare_core g gs hs same (gear.own_bare g w.visited gs t.apart t.there w.drawn one w.stage_is.1)) short w.stage_is.3
           (own_core g w.visited gs hs same t.there one)
-      go (inr byte) =
+      go (inr (byte, there)) =
           subst (λ q. VisitStage g q c.ascent w.visited c.number hs) (sym (ap (verified r a) byte ∙ verified_short r a w.stage_is.3))
           (reached, gear.bare_but_core g w.visited gs hs same w.stage_is.1, short, w.stage_is.3)
 
@@ -325,6 +405,9 @@ visiting_sent g (stage.Found r b) k c silent gs numbers d h v is t seek =
     (visits_as g (stage.Found r b) (stage.Withdrawn r b) c.ascent c.number gs _ v.at (
       past_withdrawn c.ascent v.at.visited gs numbers r (seek r refl) value v.at.stage_is.0,
       gear.bare_withdrawn g gs numbers r (seek r refl) (gear.bare_weaker g (value_of r) gs v.at.stage_is.1),
+      gear.one_withdrawn v.at.visited b gs numbers r (seek r refl) v.at.stage_is.3,
+      value,
+      v.at.stage_is.4,
     ))) where
       value : value_of r ≡ v.at.visited
       value = same_value c.number r v.at.visited is.1 v.at.number
@@ -335,9 +418,22 @@ visiting_sent g (stage.Confirmed r a) k c silent gs numbers d h v is t seek =
     (visits_as g (stage.Confirmed r a) (stage.Withdrawn r a) c.ascent c.number gs _ v.at (
       past_withdrawn c.ascent v.at.visited gs numbers r (seek r refl) value v.at.stage_is.0,
       gear.bare_withdrawn g gs numbers r (seek r refl) (subst (λ m. AreBareBut g m gs) (sym value) v.at.stage_is.1),
+      gear.one_withdrawn v.at.visited a gs numbers r (seek r refl) has,
+      value,
+      v.at.stage_is.3,
     ))) where
       value : value_of r ≡ v.at.visited
       value = same_value c.number r v.at.visited is.1 v.at.number
+
+      has : HasOne v.at.visited a gs
+      has =
+          let there = wanted.wants_at gs v.at.visited v.at.stage_is.0.there in (
+            there.0,
+            there.1,
+            wanted.wanted_powered (gear_of gs there.0) there.2,
+            v.at.stage_is.2 there.0 there.1 (wanted.wanted_powered (gear_of gs there.0) there.2) (wanted.wanted_active (gear_of gs there.0) there.2) there.3,
+            there.3,
+          )
 visiting_sent g (stage.Unanswered r) k c silent gs numbers d h v is t seek = absurd (let never = is.0 in cc)
 visiting_sent g (stage.Inconclusive r other) k c silent gs numbers d h v is t seek = absurd (let never = is.0 in cc)
 visiting_sent g (stage.Withdrawn r a) k c silent gs numbers d h v is t seek = absurd (let never = is.0 in cc)

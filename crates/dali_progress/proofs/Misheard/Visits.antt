@@ -11,7 +11,7 @@ use Rattle.dali_special.specs.Command.{frame_of}
 use Rattle.dali_gear.specs.declared.state.InitialisationState.TheVariants.{Enabled}
 use Rattle.dali_gear.specs.Gear.{Gear}
 use Rattle.dali_script.specs.declared.records.Record.TheVariants.{Reserve, Enrol}
-use Rattle.dali_script.specs.Records.{Has, HasRandom, IsKept}
+use Rattle.dali_script.specs.Records.{Has, HasRandom, IsFresh, MayAdd}
 use Rattle.dali_script.specs.declared.stage.Stage.{Stage}
 use Rattle.dali_script.specs.declared.stage.Stage.TheVariants as stage
 use Rattle.dali_script.specs.Stages.{stage_of}
@@ -43,21 +43,23 @@ use Rattle.dali_events.specs.Searching.{HasShort}
 use Rattle.dali_events.specs.Wanted.{gear_of, is_wanted, wants}
 use Rattle.dali_events.proofs.Search.Wanted as wanted
 use Rattle.dali_progress.specs.Misheard.{AreServedBut}
-use Rattle.dali_progress.proofs.Both.{never_eight}
+use Rattle.dali_progress.proofs.Both.{never_eight, has_address}
 use Rattle.dali_progress.proofs.Frames.{value_sought}
 use Rattle.dali_progress.proofs.Survey.Drawn.{AreNumbered}
-use Rattle.dali_progress.proofs.Survey.Stands.{NoneDrawn, AreTaken, HasAnothers}
+use Rattle.dali_progress.proofs.Survey.Stands.{NoneDrawn}
 use Rattle.dali_progress.proofs.Survey.Rising.{knows_told}
 use Rattle.dali_progress.proofs.Survey.Woken.{AreLow}
 use Rattle.dali_progress.proofs.Later.{course_stays}
 use Rattle.dali_progress.proofs.Survey.Begins.{begins_whole, all_taken}
 use Rattle.dali_progress.proofs.Survey.Visits.{found_address, withheld_anothers, ungiven_next}
-use Rattle.dali_progress.proofs.Misheard.Gear.{AreSought, AreBare, HaveDrawn, DrewApart}
+use Rattle.dali_progress.proofs.Misheard.Gear.{AreSought, AreBare, HaveDrawn, DrewApart, AreKnown, HasOne}
 use Rattle.dali_progress.proofs.Misheard.Climbing as climbing
-use Rattle.dali_progress.proofs.Misheard.Stands.{IsCounted, Rises, IsReached, IsPast, IsOfOne, Visits, Hunts, EndsBy, Closes, At, MisheardStands}
+use Rattle.dali_progress.proofs.Misheard.Stands.{IsFilledFor, AreApartFrom, IsCounted, Rises, IsReached, IsPast, IsOfOne, Visits, Hunts, EndsBy, Closes, At}
+use Rattle.dali_progress.proofs.Misheard.Stands.{MisheardStands}
 use Rattle.dali_progress.proofs.Misheard.Stands as stands
-use Rattle.dali_progress.proofs.Misheard.Begins.{KeepsPast, IsNext, Calm, calm_of, calm_ordered, later_by, turns_by, first_by, fills, hunts_above, hunts_on}
-use Rattle.dali_progress.proofs.Misheard.Turns.{found_at, whole_over, census_turns, calling_turns, opening_turns, drawing_turns, not_open}
+use Rattle.dali_progress.proofs.Misheard.Begins.{IsAtHand, KeepsPast, IsOwn, IsNext, Calm, calm_of, calm_ordered, later_by, turns_by, first_by, fills}
+use Rattle.dali_progress.proofs.Misheard.Begins.{hunts_above, hunts_on}
+use Rattle.dali_progress.proofs.Misheard.Turns.{found_at, known_as, own_by, whole_over, census_turns, calling_turns, opening_turns, drawing_turns, not_open}
 
 -- A CONTROLLER ACTS while gear are hunted and visited, and at its close; and in whatever transaction.
 
@@ -115,7 +117,8 @@ record IsOver (g : ℕ) (t : Machine) (gs : List Gear) : Type 0 where
   counted : IsCounted g t.course.tally t.silent 0 gs
   low : AreLow gs
   sought_are : AreSought g t.course.ascent.found gs
-  numbered : AreNumbered gs
+  hand : IsAtHand t.kept gs
+  known : AreKnown t.kept.reserved t.kept.enrolled gs
   nobody : NobodyLeft gs
 
 -- nobody was found: those that never drew do, or no address is open
@@ -147,10 +150,10 @@ vain_over g t o h r room gs asks next none v = go (has_open t) refl (nat_lt t.co
               v.counted.quiet;
         };
         stage_is = tt;
-        drawn = (none_drawn g t.course.ascent.found gs v.sought_are none v.numbered v.nobody, refl);
+        drawn = (none_drawn g t.course.ascent.found gs v.sought_are none v.hand.numbered v.nobody, refl);
         gear = λ k in_row on. tt;
         low = v.low;
-      })
+      }) v.known
     where
       less : (n : ℕ) → nat_lt n 3 ≡ true → n + 1 ≤ 3
       less n e = grind (arith, nat_tests, e)
@@ -164,12 +167,13 @@ vain_over g t o h r room gs asks next none v = go (has_open t) refl (nat_lt t.co
       first_by g t o (closing_by (hunted t.course h) GaveUp) gs calm
       (begins_by t o (closing_by (hunted t.course h) GaveUp) r room asks (by true false free spent) refl) (by true false free spent) v.stands.way
       (record { stage_is = tt; well = inl (served_by g t.course.ascent.found gs v.sought_are (v.counted.drawn (some t.course.tally.draws spent)) v.nobody) })
+          v.known
     where
       some : (n : ℕ) → nat_lt n 3 ≡ false → 0 < n
       some n e = grind (arith, nat_tests, e)
   go false shut b few =
       fills g t o (hunted t.course h) gs calm (begins_full (by false b shut few)) (by false b shut few) v.stands.way v.counted
-      (inl (all_taken t.kept t.heard (not_open t shut)))
+      v.known (inl (all_taken t.kept t.heard (not_open t shut))) v.hand.one v.hand.holds
     where
       begins_full : next_course t ≡ full t (hunted t.course h) → o ≡ beginning (next_course t)
       begins_full same = begins_by t o (full t (hunted t.course h)) r room asks same (full_rests t (hunted t.course h))
@@ -184,11 +188,11 @@ found_over g t o h r room gs asks next v =
       opened_is = v.opened_is;
       number = refl;
       counted = v.counted;
-      spent = inl (λ passed drew. served_by g t.course.ascent.found gs v.sought_are (v.counted.drawn drew) v.nobody);
       stage_is = tt;
       gear = λ k in_row on. tt;
       low = tt;
     })
+    (v.known, inl (λ passed drew. served_by g t.course.ascent.found gs v.sought_are (v.counted.drawn drew) v.nobody))
 
 hunt_over : (g : ℕ) (t : Machine) (o : Order) (h : Answer) (r : SearchAddress) (room : ℕ) (gs : List Gear) → o ≡ question (next_course t) r room
     → next_course t ≡ nobody_left t (hunted t.course h) → IsOver g t gs → IsNext g (machine_ordered t o) o gs
@@ -208,14 +212,16 @@ hunt_over g t o h r room gs asks next v = go ((hunted t.course h).ascent.found =
 goes_on : (g : ℕ) (t : Machine) (o : Order) (h : Answer) (r : SearchAddress) (room : ℕ) (gs : List Gear) → MisheardStands true g t gs
     → t.course.purpose ≡ Hunting → stage_of t.trace ≡ stage.Hunted r (Some h) room → next_course t ≡ hunting (hunted t.course h)
     → o ≡ Put LATER (frame_of (byte_to_send (hunting (hunted t.course h)).number r))
-    → Hunts false g Hunting (stage.Hunted r (Some h) room) (hunting (hunted t.course h)) t.silent gs → IsNext g (machine_ordered t o) o gs
-goes_on g t o h r room gs st purpose is next sends v = subst (λ q. IsNext g (machine_ordered t q) q gs) (sym sends)
+    → Hunts false g Hunting (stage.Hunted r (Some h) room) (hunting (hunted t.course h)) t.silent gs
+    → AreKnown t.kept.reserved t.kept.enrolled gs → IsNext g (machine_ordered t o) o gs
+goes_on g t o h r room gs st purpose is next sends v known = subst (λ q. IsNext g (machine_ordered t q) q gs) (sym sends)
     (subst (λ m. IsNext g m (Put LATER (frame_of c)) gs) (sym later) (record {
       there = st.there;
       tries = st.tries;
       way = st.way;
       trace = st.trace;
       at = subst (λ s. Hunts false g Hunting s (hunting (hunted t.course h)) t.silent gs) (sym is) v;
+      known = known;
     })) where
       c : Command
       c = byte_to_send (hunting (hunted t.course h)).number r
@@ -227,9 +233,12 @@ goes_on g t o h r room gs st purpose is next sends v = subst (λ q. IsNext g (ma
           (ap (course_on t) is ∙ ap (λ p. asked_on t p h) purpose ∙ sym (ap (begins_at t) is ∙ ap (λ p. compared_in t p h) purpose) ∙ next)
 
 answered_turns : (g : ℕ) (t : Machine) (o : Order) (r : SearchAddress) (h : Answer) (room : ℕ) (gs : List Gear) → IsGivenBy t o
-    → MisheardStands true g t gs → AreNumbered gs → t.course.purpose ≡ Hunting → stage_of t.trace ≡ stage.Hunted r (Some h) room
+    → MisheardStands true g t gs → IsAtHand t.kept gs → t.course.purpose ≡ Hunting → stage_of t.trace ≡ stage.Hunted r (Some h) room
     → Hunts true g Hunting (stage.Hunted r (Some h) room) t.course t.silent gs → IsNext g (machine_ordered t o) o gs
-answered_turns g t o r h room gs by st numbered purpose is v = go (leads_to (ascended t.course.ascent (is_yes h))) refl where
+answered_turns g t o r h room gs by st hand purpose is v = go (leads_to (ascended t.course.ascent (is_yes h))) refl where
+  known : AreKnown t.kept.reserved t.kept.enrolled gs
+  known = known_as g t gs Hunting st purpose
+
   p : Rises true g (stage.Hunted r (Some h) room) t.course.ascent t.course.number gs
   p = v.at
 
@@ -279,7 +288,7 @@ answered_turns g t o r h room gs by st numbered purpose is v = go (leads_to (asc
         sought_are = sought_are;
         quiet = tt;
         at = rises_in e;
-      })
+      }) known
   again false none e =
       first_by g t o (hunting (hunted t.course h)) gs (calm_of g t gs st)
       (asks ∙ ap (λ c. question c r room) (next Again e)
@@ -293,7 +302,7 @@ answered_turns g t o r h room gs by st numbered purpose is v = go (leads_to (asc
         sought_are = sought_are;
         quiet = tt;
         at = rises e;
-      })
+      }) known
 
   go : (s : Step) → leads_to (ascended t.course.ascent (is_yes h)) ≡ s → IsNext g (machine_ordered t o) o gs
   go Again e = again (nat_lt (bytes_to_send (hunting (hunted t.course h)).number r) room) refl e
@@ -314,7 +323,7 @@ answered_turns g t o r h room gs by st numbered purpose is v = go (leads_to (asc
           drawn = there.drawn;
           stage_is = (record { is = ascent; reached = e; there = there.there; least = there.least }, p.bare);
         };
-      })
+      }) known
   go Nobody e =
       hunt_over g t o h r room gs asks (next Nobody e)
       (record {
@@ -323,21 +332,22 @@ answered_turns g t o r h room gs by st numbered purpose is v = go (leads_to (asc
         counted = v.counted;
         low = v.low;
         sought_are = v.sought_are;
-        numbered = numbered;
+        hand = hand;
+        known = known;
         nobody = climbing.nobody_is (wants gs) (ascended t.course.ascent (is_yes h)) ascent knows e;
       })
 
-hunting_turns : (g : ℕ) (t : Machine) (o : Order) (s : Stage) (gs : List Gear) → IsGivenBy t o → MisheardStands true g t gs → AreNumbered gs
+hunting_turns : (g : ℕ) (t : Machine) (o : Order) (s : Stage) (gs : List Gear) → IsGivenBy t o → MisheardStands true g t gs → IsAtHand t.kept gs
     → t.course.purpose ≡ Hunting → stage_of t.trace ≡ s → (s ≡ stage.Free → ⊥) → Hunts true g Hunting s t.course t.silent gs
     → IsNext g (machine_ordered t o) o gs
-hunting_turns g t o stage.Free gs by st numbered purpose is running v = absurd (running refl)
-hunting_turns g t o (stage.HighSent high) gs by st numbered purpose is running v = turns_by g t o Hunting (stage.HighSent high) _ gs by st purpose is refl
-hunting_turns g t o (stage.LowSent high low) gs by st numbered purpose is running v =
+hunting_turns g t o stage.Free gs by st hand purpose is running v = absurd (running refl)
+hunting_turns g t o (stage.HighSent high) gs by st hand purpose is running v = turns_by g t o Hunting (stage.HighSent high) _ gs by st purpose is refl
+hunting_turns g t o (stage.LowSent high low) gs by st hand purpose is running v =
     turns_by g t o Hunting (stage.LowSent high low) _ gs by st purpose is refl
-hunting_turns g t o (stage.Hunted r None room) gs by st numbered purpose is running v =
+hunting_turns g t o (stage.Hunted r None room) gs by st hand purpose is running v =
     turns_by g t o Hunting (stage.Hunted r None room) (byte_to_send t.course.number r) gs by st purpose is refl
-hunting_turns g t o (stage.Hunted r (Some h) room) gs by st numbered purpose is running v = answered_turns g t o r h room gs by st numbered purpose is v
-hunting_turns g t o _ gs by st numbered purpose is running v = absurd v.at.stage_is
+hunting_turns g t o (stage.Hunted r (Some h) room) gs by st hand purpose is running v = answered_turns g t o r h room gs by st hand purpose is v
+hunting_turns g t o _ gs by st hand purpose is running v = absurd v.at.stage_is
 
 -- ---------------------------------------------------------------- a visit that failed
 
@@ -357,9 +367,10 @@ passed_more y r few = go (nat_lt y.passed.count 255) refl where
 failed_turns : (g : ℕ) (t : Machine) (o : Order) (s : Stage) (gs : List Gear) → MisheardStands true g t gs → DrewApart gs
     → Hunts true g Visiting s t.course t.silent gs → stands.failed_at s ≡ 1 → stands.found_at s t.course.ascent ≡ t.course.ascent.found
     → (w : Visits g Visiting s t.course.ascent t.course.number gs)
-    → IsReached t.course.ascent w.visited gs × AreBare g gs × IsOfOne g w.visited gs → o ≡ beginning (next_course t) → next_course t ≡ silenced t
+    → IsReached t.course.ascent w.visited gs × AreBare g gs × IsOfOne g w.visited gs → AreKnown t.kept.reserved t.kept.enrolled gs
+    → o ≡ beginning (next_course t) → next_course t ≡ silenced t
     → IsNext g (machine_ordered t o) o gs
-failed_turns g t o s gs st apart v failed found w at begins next = go (is_failed t.course.tally.failed (value_of t.course.number)) refl where
+failed_turns g t o s gs st apart v failed found w at known begins next = go (is_failed t.course.tally.failed (value_of t.course.number)) refl where
   y : Tally
   y = t.course.tally
 
@@ -419,7 +430,7 @@ failed_turns g t o s gs st apart v failed found w at begins next = go (is_failed
         sought_are = sought_are;
         quiet = tt;
         at = record { visited = w.visited; number = w.number; drawn = w.drawn; stage_is = (at.0, at.1, at.2) };
-      })
+      }) known
     where
       small : (count calls draws : ℕ) → count ≤ calls + draws → calls ≤ 3 → draws ≤ 3 → count < 255
       small count calls draws one two three = omega (arith, one, two, three)
@@ -458,7 +469,7 @@ failed_turns g t o s gs st apart v failed found w at begins next = go (is_failed
           bare = at.1;
           stage_is = tt;
         };
-      })
+      }) known
     where
       enough : (silent count draws : ℕ) → silent + 1 ≤ 2 * count + 1 + 20 * draws + 1 → silent + 0 ≤ 2 * count + 1 + 20 * draws + 0
       enough silent count draws quiet = omega (arith, quiet)
@@ -468,8 +479,8 @@ failed_turns g t o s gs st apart v failed found w at begins next = go (is_failed
 -- no address can be given: gear draw new numbers, or the block is full
 ungiven_turns : (g : ℕ) (t : Machine) (o : Order) (r : SearchAddress) (gs : List Gear) → MisheardStands true g t gs
     → Hunts true g Visiting (stage.Unnamed r) t.course t.silent gs → stage_of t.trace ≡ stage.Unnamed r → o ≡ beginning (next_course t)
-    → AreTaken t.kept t.heard ⊎ HasAnothers t.kept t.heard → IsNext g (machine_ordered t o) o gs
-ungiven_turns g t o r gs st v is begins taken = go (may_draw t) refl where
+    → IsFilledFor t.kept t.heard gs → AreKnown t.kept.reserved t.kept.enrolled gs → IsAtHand t.kept gs → IsNext g (machine_ordered t o) o gs
+ungiven_turns g t o r gs st v is begins filled known hand = go (may_draw t) refl where
   go : (b : Bool) → may_draw t ≡ b → IsNext g (machine_ordered t o) o gs
   go true may =
       first_by g t o (opening_anew t.course) gs (calm_of g t gs st) begins (ungiven_next t r true is st.way may) st.way
@@ -486,7 +497,7 @@ ungiven_turns g t o r gs st v is begins taken = go (may_draw t) refl where
         drawn = tt;
         gear = λ k in_row on. tt;
         low = v.low;
-      })
+      }) known
     where
       less : (n : ℕ) → nat_lt n 3 ≡ true → n + 1 ≤ 3
       less n e = grind (arith, nat_tests, e)
@@ -496,13 +507,17 @@ ungiven_turns g t o r gs st v is begins taken = go (may_draw t) refl where
 
       enough : (silent one count draws : ℕ) → silent + one ≤ 2 * count + 1 + 20 * draws + 0 → silent ≤ 2 * count + 20 * (draws + 1)
       enough silent one count draws quiet = omega (arith, quiet)
-  go false may = fills g t o t.course gs (calm_of g t gs st) begins (ungiven_next t r false is st.way may) st.way v.counted taken
+  go false may = fills g t o t.course gs (calm_of g t gs st) begins (ungiven_next t r false is st.way may) st.way v.counted known filled hand.one hand.holds
 
 unnamed_turns : (g : ℕ) (t : Machine) (o : Order) (r : SearchAddress) (gs : List Gear) → IsGivenBy t o → MisheardStands true g t gs
-    → stage_of t.trace ≡ stage.Unnamed r → Hunts true g Visiting (stage.Unnamed r) t.course t.silent gs → IsNext g (machine_ordered t o) o gs
-unnamed_turns g t o r gs by st is v =
+    → IsAtHand t.kept gs → t.course.purpose ≡ Visiting → stage_of t.trace ≡ stage.Unnamed r
+    → Hunts true g Visiting (stage.Unnamed r) t.course t.silent gs → IsNext g (machine_ordered t o) o gs
+unnamed_turns g t o r gs by st hand purpose is v =
     go (address_for t.kept.reserved (value_of r)) (found_address t.kept.reserved (value_of r)) (least_open t.kept t.heard) refl
     (subst (λ y. AfterMaskOn y t (course_by t o) r o) st.way (by.ordered.unnamed r is)) where
+      known : AreKnown t.kept.reserved t.kept.enrolled gs
+      known = known_as g t gs Visiting st purpose
+
       w : Visits g Visiting (stage.Unnamed r) t.course.ascent t.course.number gs
       w = v.at
 
@@ -517,7 +532,11 @@ unnamed_turns g t o r gs by st is v =
             later_by g t o (stage.Unnamed r) (frame_of (Program (Some a))) gs st (subst (λ b. AfterReserved t a b o) free mask) is tt
         choose true withheld =
             ungiven_turns g t o r gs st v is (subst (λ b. AfterReserved t a b o) withheld mask)
-            (inr (a, value_of r, has, withheld_anothers t t.course.way a (value_of r) withheld))
+            (inr (a, value_of r, has, withheld_anothers t t.course.way a (value_of r) withheld, apart)) known hand
+          where
+            apart : AreApartFrom a (value_of r) gs
+            apart k there on short random =
+                w.stage_is.3 k there on (random ∙ sym value) a (hand.kept.reserved.short a (has_address t.kept.reserved a (value_of r) has)) short
       go None none (Some a) least mask = subst (λ q. IsNext g (machine_ordered t q) q gs) (sym mask) (
         calm_ordered g t (Reserve a (value_of r)) gs st,
         record {
@@ -529,19 +548,21 @@ unnamed_turns g t o r gs by st is v =
           bare = w.stage_is.1;
           drawn = subst (λ m. m < MASK24) value w.drawn;
           reached = subst (λ m. IsReached t.course.ascent m gs) value w.stage_is.0;
+          known = known;
         },
       )
-      go None none None least mask = ungiven_turns g t o r gs st v is mask (inl (all_taken t.kept t.heard least))
+      go None none None least mask = ungiven_turns g t o r gs st v is mask (inl (all_taken t.kept t.heard least)) known hand
 
 -- who was found is withdrawn
 withdrawn_turns : (g : ℕ) (t : Machine) (o : Order) (r : SearchAddress) (a : ℕ) (gs : List Gear) → IsGivenBy t o → MisheardStands true g t gs
-    → IsKept t.kept → stage_of t.trace ≡ stage.Withdrawn r a → Hunts true g Visiting (stage.Withdrawn r a) t.course t.silent gs
+    → IsAtHand t.kept gs → t.course.purpose ≡ Visiting → stage_of t.trace ≡ stage.Withdrawn r a
+    → Hunts true g Visiting (stage.Withdrawn r a) t.course t.silent gs
     → IsNext g (machine_ordered t o) o gs
-withdrawn_turns g t o r a gs by st kept is v = go o by (by.ordered.found r a is) where
+withdrawn_turns g t o r a gs by st hand purpose is v = go o by (by.ordered.found r a is) where
   w : Visits g Visiting (stage.Withdrawn r a) t.course.ascent t.course.number gs
   w = v.at
 
-  keeps : KeepsPast g t.course t.silent gs
+  keeps : KeepsPast g t.kept t.course t.silent gs
   keeps = record {
     opened_is = v.opened_is;
     counted = v.counted;
@@ -552,41 +573,52 @@ withdrawn_turns g t o r a gs by st kept is v = go o by (by.ordered.found r a is)
     visited = w.visited;
     drawn = w.drawn;
     past = w.stage_is.0;
+    known = known_as g t gs Visiting st purpose;
   }
+
+  value : w.visited ≡ value_of r
+  value = sym w.stage_is.3
+
+  own : IsFresh t.kept.enrolled (a, value_of r) → IsOwn t.kept a (value_of r)
+  own fresh =
+      own_by t.kept a (value_of r) gs hand.kept (known_as g t gs Visiting st purpose) (subst (λ m. HasOne m a gs) value w.stage_is.2)
+      w.stage_is.4 (subst (λ m. m < MASK24) value w.drawn) fresh.0
 
   go : (q : Order) → IsGivenBy t q → AfterFinding t a (value_of r) q → IsNext g (machine_ordered t q) q gs
   go (Put p f) by has =
-      hunts_on g t (Put p f) gs (calm_of g t gs st) (given.withdrawn_known t (Put p f) r a by is kept.enrolled has) (ap (begins_at t) is) keeps
+      hunts_on g t (Put p f) gs (calm_of g t gs st) (given.withdrawn_known t (Put p f) r a by is hand.kept.enrolled has) (ap (begins_at t) is) keeps
   go (Commit x) by has =
-      subst (λ y. IsNext g (machine_ordered t (Commit y)) (Commit y) gs) (sym has) (calm_ordered g t (Enrol a (value_of r)) gs st, inr keeps)
+      let may : IsFresh t.kept.enrolled (a, value_of r) = subst (λ y. MayAdd t.kept y) has by.ordered.allowed.may in
+      subst (λ y. IsNext g (machine_ordered t (Commit y)) (Commit y) gs) (sym has) (calm_ordered g t (Enrol a (value_of r)) gs st, inr (keeps, own may))
   go (Done e) by has = absurd has
   go (Halt why) by has = tt
 
-visiting_turns : (g : ℕ) (t : Machine) (o : Order) (s : Stage) (gs : List Gear) → IsGivenBy t o → MisheardStands true g t gs → IsKept t.kept
-    → DrewApart gs → IsNoEnrolment t.last → t.course.purpose ≡ Visiting → stage_of t.trace ≡ s → (s ≡ stage.Free → ⊥)
+visiting_turns : (g : ℕ) (t : Machine) (o : Order) (s : Stage) (gs : List Gear) → IsGivenBy t o → MisheardStands true g t gs → IsAtHand t.kept gs
+    → IsNoEnrolment t.last → t.course.purpose ≡ Visiting → stage_of t.trace ≡ s → (s ≡ stage.Free → ⊥)
     → Hunts true g Visiting s t.course t.silent gs → IsNext g (machine_ordered t o) o gs
-visiting_turns g t o stage.Free gs by st kept apart last purpose is running v = absurd (running refl)
-visiting_turns g t o (stage.HighSent high) gs by st kept apart last purpose is running v =
+visiting_turns g t o stage.Free gs by st hand last purpose is running v = absurd (running refl)
+visiting_turns g t o (stage.HighSent high) gs by st hand last purpose is running v =
     turns_by g t o Visiting (stage.HighSent high) _ gs by st purpose is refl
-visiting_turns g t o (stage.MiddleSent high middle) gs by st kept apart last purpose is running v =
+visiting_turns g t o (stage.MiddleSent high middle) gs by st hand last purpose is running v =
     turns_by g t o Visiting (stage.MiddleSent high middle) _ gs by st purpose is refl
-visiting_turns g t o (stage.NumberSent r) gs by st kept apart last purpose is running v =
+visiting_turns g t o (stage.NumberSent r) gs by st hand last purpose is running v =
     turns_by g t o Visiting (stage.NumberSent r) QueryShort gs by st purpose is refl
-visiting_turns g t o (stage.Found r b) gs by st kept apart last purpose is running v =
+visiting_turns g t o (stage.Found r b) gs by st hand last purpose is running v =
     turns_by g t o Visiting (stage.Found r b) Withdraw gs by st purpose is refl
-visiting_turns g t o (stage.Unnamed r) gs by st kept apart last purpose is running v = unnamed_turns g t o r gs by st is v
-visiting_turns g t o (stage.Programmed r a) gs by st kept apart last purpose is running v =
+visiting_turns g t o (stage.Unnamed r) gs by st hand last purpose is running v = unnamed_turns g t o r gs by st hand purpose is v
+visiting_turns g t o (stage.Programmed r a) gs by st hand last purpose is running v =
     turns_by g t o Visiting (stage.Programmed r a) QueryShort gs by st purpose is refl
-visiting_turns g t o (stage.Confirmed r a) gs by st kept apart last purpose is running v =
+visiting_turns g t o (stage.Confirmed r a) gs by st hand last purpose is running v =
     turns_by g t o Visiting (stage.Confirmed r a) Withdraw gs by st purpose is refl
-visiting_turns g t o (stage.Withdrawn r a) gs by st kept apart last purpose is running v = withdrawn_turns g t o r a gs by st kept is v
-visiting_turns g t o (stage.Unanswered r) gs by st kept apart last purpose is running v =
-    failed_turns g t o (stage.Unanswered r) gs st apart v refl refl v.at v.at.stage_is
+visiting_turns g t o (stage.Withdrawn r a) gs by st hand last purpose is running v = withdrawn_turns g t o r a gs by st hand purpose is v
+visiting_turns g t o (stage.Unanswered r) gs by st hand last purpose is running v =
+    failed_turns g t o (stage.Unanswered r) gs st hand.apart v refl refl v.at v.at.stage_is (known_as g t gs Visiting st purpose)
     (given.begins_after t o (stage.Unanswered r) by is tt (found_at g t gs (stage.Unanswered r) st is) last (never_eight t.tries st.tries))
     (ap (begins_at t) is ∙ ap (λ b. unanswered t r b (address_for t.kept.reserved (value_of r))) v.opened_is)
-visiting_turns g t o (stage.Inconclusive r other) gs by st kept apart last purpose is running v =
-    failed_turns g t o (stage.Inconclusive r other) gs st apart v refl refl v.at v.at.stage_is (by.followed.unconfirmed r other is) (ap (begins_at t) is)
-visiting_turns g t o _ gs by st kept apart last purpose is running v = absurd v.at.stage_is
+visiting_turns g t o (stage.Inconclusive r other) gs by st hand last purpose is running v =
+    failed_turns g t o (stage.Inconclusive r other) gs st hand.apart v refl refl v.at v.at.stage_is (known_as g t gs Visiting st purpose)
+        (by.followed.unconfirmed r other is) (ap (begins_at t) is)
+visiting_turns g t o _ gs by st hand last purpose is running v = absurd v.at.stage_is
 
 -- ---------------------------------------------------------------- gear g is passed over
 
@@ -606,6 +638,7 @@ passing_turns g t o (stage.PassedOver r) gs by st last purpose is running v whol
     (λ f. whole_over t PassingOver (stage.PassedOver r) purpose is (λ f sends. (let none = sends.0 in cc)) f
     (course_stays t (stage.PassedOver r) is tt)) whole)
     (ap (begins_at t) is) st.way v.opened_is v.counted (λ wanted_is. absurd (unwanted wanted_is)) v.low v.sought_are w.stage_is.1 w.drawn w.stage_is.0
+        (known_as g t gs PassingOver st purpose)
   where
     w : Visits g PassingOver (stage.PassedOver r) t.course.ascent t.course.number gs
     w = v.at
@@ -619,7 +652,7 @@ passing_turns g t o _ gs by st last purpose is running v whole = absurd v.at.sta
 -- ---------------------------------------------------------------- the close
 
 closing_turns : (g : ℕ) (t : Machine) (o : Order) (e : End) (s : Stage) (gs : List Gear) → IsGivenBy t o → MisheardStands true g t gs
-    → t.course.purpose ≡ Closing e → stage_of t.trace ≡ s → (s ≡ stage.Free → ⊥) → Closes g e s t.kept t.heard t.course gs
+    → t.course.purpose ≡ Closing e → stage_of t.trace ≡ s → (s ≡ stage.Free → ⊥) → Closes g e s t.kept t.heard gs
     → IsNext g (machine_ordered t o) o gs
 closing_turns g t o e stage.Free gs by st purpose is running v = absurd (running refl)
 closing_turns g t o e stage.Terminated gs by st purpose is running v =
@@ -630,23 +663,17 @@ closing_turns g t o e _ gs by st purpose is running v = absurd v.stage_is
 
 -- ---------------------------------------------------------------- of whatever transaction
 
--- what is known of the world, where the controller acts
-pub record IsAtHand (t : Machine) (gs : List Gear) : Type 0 where
-  pub kept : IsKept t.kept
-  pub numbered : AreNumbered gs
-  pub apart : DrewApart gs
-
 -- after a frame that was heard
-pub turned : (g : ℕ) (t : Machine) (o : Order) (gs : List Gear) → IsGivenBy t o → MisheardStands true g t gs → IsAtHand t gs
+pub turned : (g : ℕ) (t : Machine) (o : Order) (gs : List Gear) → IsGivenBy t o → MisheardStands true g t gs → IsAtHand t.kept gs
     → IsWhole (machine_ordered t o) → IsNoEnrolment t.last → (stage_of t.trace ≡ stage.Free → ⊥) → IsNext g (machine_ordered t o) o gs
 turned g t o gs by st hand whole last running = go t.course.purpose refl st.at where
   go : (p : Purpose) → t.course.purpose ≡ p → At true g p (stage_of t.trace) t.kept t.heard t.course t.silent gs → IsNext g (machine_ordered t o) o gs
-  go (Asking a) purpose at = census_turns g t o a (stage_of t.trace) gs by st hand.kept last purpose refl running at whole
+  go (Asking a) purpose at = census_turns g t o a (stage_of t.trace) gs by st hand last purpose refl running at (known_as g t gs (Asking a) st purpose) whole
   go Calling purpose at = calling_turns g t o (stage_of t.trace) gs by st purpose refl running at
   go Opening purpose at = opening_turns g t o (stage_of t.trace) gs by st last purpose refl running at
   go Drawing purpose at = drawing_turns g t o (stage_of t.trace) gs by st last purpose refl running at
-  go Hunting purpose at = hunting_turns g t o (stage_of t.trace) gs by st hand.numbered purpose refl running at
-  go Visiting purpose at = visiting_turns g t o (stage_of t.trace) gs by st hand.kept hand.apart last purpose refl running at
+  go Hunting purpose at = hunting_turns g t o (stage_of t.trace) gs by st hand purpose refl running at
+  go Visiting purpose at = visiting_turns g t o (stage_of t.trace) gs by st hand last purpose refl running at
   go PassingOver purpose at = passing_turns g t o (stage_of t.trace) gs by st last purpose refl running at whole
   go (Closing e) purpose at = closing_turns g t o e (stage_of t.trace) gs by st purpose refl running at
   go Probing purpose at = absurd at
