@@ -59,7 +59,7 @@ with_keeps s b a has =
     greater : (x y : ℕ) → x ≡ 1 → y < 2 → max x y ≡ 1
     greater x y one less = omega (arith, one, less)
 
-with_has : (s : Shorts) (c a : ℕ) → c ≡ a → a < 64 → has_short (with_short s c) a ≡ true
+pub with_has : (s : Shorts) (c a : ℕ) → c ≡ a → a < 64 → has_short (with_short s c) a ≡ true
 with_has s c a same small = subst (λ x. has_short (with_short s x) a ≡ true) (sym same) (ap (λ n. n == 1) (bit_at_set_same w64 s.bits a small))
 
 without_keeps : (s : Shorts) (c a : ℕ) → c < 64 → a < 64 → (a ≡ c → ⊥) → has_short s a ≡ true → has_short (without_short s c) a ≡ true

@@ -20,6 +20,7 @@ mod Accounted
 mod Spared
 mod Census
 mod Survey
+mod Misheard
 mod Beginnings
 mod Running
 mod Ended

@@ -4,3 +4,4 @@ pub mod Surveyed
 pub mod Spared
 pub mod Census
 pub mod Ends
+pub mod Misheard

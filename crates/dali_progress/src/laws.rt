@@ -43,6 +43,7 @@ ghost use Rattle.dali_progress.specs.Rounds.{Beginning, ByStart, Settled, Any, b
 ghost use Rattle.dali_progress.specs.Rounds.{restarted, Rounds, site_after, frames, bare, most_frames, most_events};
 ghost use Rattle.dali_progress.specs.Rounds.{most_draws, GoesOn, HasEnded};
 ghost use Rattle.dali_progress.specs.Ends.{IsTrueEnd, table_at, NamesAll, CommitsNothing};
+ghost use Rattle.dali_progress.specs.Misheard.{RoundsBut, IsTrueEndBut};
 ghost use Rattle.dali_progress.specs.Running.{RanAlone, HasBegun, begun, HasRoom, HasEndedBy, WasRefused};
 ghost use Rattle.dali_progress.specs.Surveyed.{Step, IsCourse, ArePlain, WasHeard, IsAccounted, HasSurveyed};
 ghost use Rattle.dali_progress.specs.Surveyed.{stage_told};
@@ -125,6 +126,21 @@ pub fn its_end_is_true()
     ensures quiet { (s : SiteState) (c : ℕ) (es : List Event) (e : End) → BeginsAlone Any s c → Rounds true s c es
         → AllByRecursion CommitsNothing es → HasEnded (site_after s es) c e
         → NamesAll true s (table_at s c) (site_after s es) }
+{}
+
+/// ONE GEAR BLOCKS NOBODY. In a survey of a controller that begins alone, with any records, let one gear g be misheard:
+/// where it answers QUERY SHORT ADDRESS, silence or a damaged frame may be heard instead, each time or never. Nothing
+/// else is disturbed.
+///
+/// Where the controller then ends with all-found, every gear with power has a short address, g too. Where it ends with
+/// block-full, each address of its block is taken, or one that it has reserved is another's. It gives up only where
+/// every gear with power but g has a short address, or where it is so as at block-full.
+///
+/// How long that takes is not said: of the frames a visit that fails is none that `it_is_bounded` counts.
+pub fn one_gear_blocks_nobody()
+    ensures { (g : ℕ) (s : SiteState) (c : ℕ) (es : List Event) (e : End) → g < length (world s).gear
+        → BeginsAlone Any s c → RoundsBut g s c es → HasEnded (site_after s es) c e
+        → IsTrueEndBut g (site_after s es) c e }
 {}
 
 /// A RUN OF ENOUGH ROUNDS ENDS. On an installation with one controller that begins alone, with n gear that have power

@@ -437,7 +437,7 @@ pub asked_none : (opened : Bool) (n : ℕ) → n ≡ 0 → asked_by opened n ≡
 asked_none true n none = refl
 asked_none false n none = none
 
-asked_within : (k : Kept) (n from c : ℕ) → asked_among k n from ≡ Some c → (from ≤ c) × (c < from + n)
+pub asked_within : (k : Kept) (n from c : ℕ) → asked_among k n from ≡ Some c → (from ≤ c) × (c < from + n)
 asked_within k zero from c e = absurd (cc)
 asked_within k (suc n) from c e = go (is_asked k from) e (asked_within k n (from + 1) c) where
   go : (b : Bool) → (if b then Some from else asked_among k n (from + 1)) ≡ Some c

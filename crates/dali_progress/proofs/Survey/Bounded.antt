@@ -35,13 +35,13 @@ abbrev pub began_at : Bool → SiteState → Begun
 began_at any s = record { gear = (world s).gear; any = any }
 
 -- what is known of it, since its log is a run
-promise_now : (s : SiteState) → IsRun s.plan s.queue s.log → KeepsPromiseNow (world s)
+pub promise_now : (s : SiteState) → IsRun s.plan s.queue s.log → KeepsPromiseNow (world s)
 promise_now s run = (keeps_promise s.plan s.queue s.log run).always s.log [] (append-nil s.log)
 
-one_now : (s : SiteState) → IsRun s.plan s.queue s.log → OneShort (world s).gear
+pub one_now : (s : SiteState) → IsRun s.plan s.queue s.log → OneShort (world s).gear
 one_now s run g h a in_row there one two = (promise_now s run).one_gear g h a (in_row, one) (there, two)
 
-true_now : (s : SiteState) (c : ℕ) → IsRun s.plan s.queue s.log → IsUp (world s) c → IsTrue (controller_at (world s) c).records.enrolled (world s).gear
+pub true_now : (s : SiteState) (c : ℕ) → IsRun s.plan s.queue s.log → IsUp (world s) c → IsTrue (controller_at (world s) c).records.enrolled (world s).gear
 true_now s c run up a r has = let there = (promise_now s run).tables c (a, r) (up.known, has) in (there.0, there.1.0, there.1.1, there.2)
 
 agree_now : (s : SiteState) → IsRun s.plan s.queue s.log → FindingsAgree (world s)

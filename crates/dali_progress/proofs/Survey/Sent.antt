@@ -66,13 +66,13 @@ pub record IsTold (k : Kept) (gs : List Gear) : Type 0 where
 
 -- ---------------------------------------------------------------- marks
 
-with_other : (s : Shorts) (b c : ℕ) → b < 64 → (c ≡ b → ⊥) → has_short (with_short s b) c ≡ has_short s c
+pub with_other : (s : Shorts) (b c : ℕ) → b < 64 → (c ≡ b → ⊥) → has_short (with_short s b) c ≡ has_short s c
 with_other s b c small apart = ap (λ n. n == 1) (bit_at_set_other w64 s.bits b small c apart)
 
 without_same : (s : Shorts) (b c : ℕ) → b < 64 → c ≡ b → has_short (without_short s b) c ≡ false
 without_same s b c small same = subst (λ n. has_short (without_short s b) n ≡ false) (sym same) (ap (λ n. n == 1) (bit_at_clear_same w64 s.bits b small))
 
-without_other : (s : Shorts) (b c : ℕ) → b < 64 → c < 64 → (c ≡ b → ⊥) → has_short (without_short s b) c ≡ has_short s c
+pub without_other : (s : Shorts) (b c : ℕ) → b < 64 → c < 64 → (c ≡ b → ⊥) → has_short (without_short s b) c ≡ has_short s c
 without_other s b c small within apart = ap (λ n. n == 1) (bit_at_clear_other w64 s.bits b small c within apart)
 
 clear_with : (k : Kept) (heard : Shorts) (b a : ℕ) → b ≡ a → a < 64 → IsClearBut k heard a → IsClearBut k (with_short heard b) a
@@ -85,7 +85,7 @@ some_is : (x c : Command) → Some x ≡ Some c → x ≡ c
 some_is x c e = cc
 
 -- what was heard of the one gear, or of nobody
-heard_high : (a : ℕ) (part : Part) (gs : List Gear) (h : Answer) → OneGear gs → h ≡ heard_of (answers_of Everyone (RandomByte a part) 0 gs)
+pub heard_high : (a : ℕ) (part : Part) (gs : List Gear) (h : Answer) → OneGear gs → h ≡ heard_of (answers_of Everyone (RandomByte a part) 0 gs)
     → ((g : ℕ) × Holds gs g a × (h ≡ Byte (byte_at part (gear_of gs g).random))) ⊎ (Nobody gs a × (h ≡ Silence))
 heard_high a part gs h one heard = go (asked_gear gs a part one) where
   go : HasAnswered gs a part → ((g : ℕ) × Holds gs g a × (h ≡ Byte (byte_at part (gear_of gs g).random))) ⊎ (Nobody gs a × (h ≡ Silence))
@@ -93,10 +93,10 @@ heard_high a part gs h one heard = go (asked_gear gs a part one) where
   go (inr (none, answers)) = inr (none, heard ∙ ap heard_of answers)
 
 -- the gear that told, in the row afterwards
-tells_on : (gs hs : List Gear) (a g : ℕ) (P : ℕ → Type 0) → SameCore gs hs → Holds gs g a → P (gear_of gs g).random → Tells hs a P
+pub tells_on : (gs hs : List Gear) (a g : ℕ) (P : ℕ → Type 0) → SameCore gs hs → Holds gs g a → P (gear_of gs g).random → Tells hs a P
 tells_on gs hs a g P same holds told = (g, holds_on gs hs g a same holds, subst P (sym (same.each g holds.there).same_random) told)
 
-nobody_on : (gs hs : List Gear) (a : ℕ) → SameCore gs hs → Nobody gs a → Nobody hs a
+pub nobody_on : (gs hs : List Gear) (a : ℕ) → SameCore gs hs → Nobody gs a → Nobody hs a
 nobody_on gs hs a same none g holds = none g (holds_back gs hs g a same holds)
 
 -- the same census, one frame later

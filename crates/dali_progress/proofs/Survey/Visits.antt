@@ -52,7 +52,7 @@ use Rattle.dali_progress.proofs.Survey.Hunting.{opening_turns, drawing_turns, ne
 
 -- ---------------------------------------------------------------- a visit
 
-found_address : (xs : List Assignment) (r : ℕ) → MatchOption (address_for xs r) (HasRandom xs r → ⊥) (λ a. Has xs (a, r))
+pub found_address : (xs : List Assignment) (r : ℕ) → MatchOption (address_for xs r) (HasRandom xs r → ⊥) (λ a. Has xs (a, r))
 found_address [] r = λ h. h
 found_address (p ∷ xs) r = go (p.1 == r) refl (address_for xs r) (found_address xs r) where
   go : (b : Bool) → (p.1 == r) ≡ b → (o : Option ℕ) → MatchOption o (HasRandom xs r → ⊥) (λ a. Has xs (a, r))
@@ -64,11 +64,11 @@ found_address (p ∷ xs) r = go (p.1 == r) refl (address_for xs r) (found_addres
     none_of (inr h) = none h
   go false is (Some a) there = inr there
 
-withheld_anothers : (t : Machine) (y : Way) (a r : ℕ) → is_withheld_by t y a r ≡ true → is_anothers t.kept t.heard a r ≡ true
+pub withheld_anothers : (t : Machine) (y : Way) (a r : ℕ) → is_withheld_by t y a r ≡ true → is_anothers t.kept t.heard a r ≡ true
 withheld_anothers t Fresh a r withheld = absurd (cc)
 withheld_anothers t Surveying a r withheld = (wanted.both_pass t.course.opened (is_anothers t.kept t.heard a r) withheld).1
 
-ungiven_next : (t : Machine) (r : SearchAddress) (b : Bool) → stage_of t.trace ≡ stage.Unnamed r → t.course.way ≡ Surveying → may_draw t ≡ b
+pub ungiven_next : (t : Machine) (r : SearchAddress) (b : Bool) → stage_of t.trace ≡ stage.Unnamed r → t.course.way ≡ Surveying → may_draw t ≡ b
     → next_course t ≡ (if b then opening_anew t.course else full t t.course)
 ungiven_next t r b is way may =
     ap (begins_at t) is ∙ ap (ungiven t) way ∙ ap (λ y. if y then opening_anew t.course else full t t.course) may

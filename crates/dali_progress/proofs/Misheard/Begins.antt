@@ -1,0 +1,377 @@
+use Rattle.std.proofs.Common.{◌≡◌, ℕ, ◌-◌, ◌+◌, ◌*◌, ◌<◌, ◌≤◌, ◌⊎◌, inl, inr, Bool, true, false, List, [], refl, sym, ap, subst, ◌∙◌, arith, length, Option}
+use Rattle.std.proofs.Common.{Some}
+use Rattle.std.proofs.Common.{None}
+use Rattle.std.specs.Prelude.{not, nat_lt, if◌then◌else◌}
+use Rattle.std.proofs.lemmas.Bool.Decides.{nat_tests}
+use Rattle.dali_frame.specs.declared.frames.Forward.{Forward}
+use Rattle.dali_frame.specs.declared.numbers.SearchAddress.{SearchAddress}
+use Rattle.dali_frame.specs.Random.{MASK24}
+use Rattle.dali_frame.specs.Priority.{LATER}
+use Rattle.dali_special.specs.declared.command.Command.{Command}
+use Rattle.dali_special.specs.Command.{frame_of}
+use Rattle.dali_gear.specs.Gear.{Gear}
+use Rattle.dali_script.specs.declared.records.Record.{Record}
+use Rattle.dali_script.specs.declared.records.Record.TheVariants.{Reserve, Enrol, Release}
+use Rattle.dali_script.specs.Records.{Kept, Has, IsKept, with_record}
+use Rattle.dali_script.specs.declared.stage.Stage.{Stage}
+use Rattle.dali_script.specs.declared.stage.Stage.TheVariants as stage
+use Rattle.dali_script.specs.Stages.{IsTrace, stage_of}
+use Rattle.dali_script.proofs.Transactions.{stage_none}
+use Rattle.dali_script.proofs.Found.{trace_none}
+use Rattle.dali_script.specs.declared.orders.Order.{Order}
+use Rattle.dali_script.specs.declared.orders.Order.TheVariants.{Put, Commit, Done, Halt}
+use Rattle.dali_script.specs.declared.orders.End.TheVariants.{BlockFull}
+use Rattle.dali_search.specs.Ascending.{Ascent, ascent_at_first, above, gone_on_from, one_if}
+use Rattle.dali_controller.specs.declared.purpose.Purpose.{Purpose}
+use Rattle.dali_controller.specs.declared.purpose.Purpose.TheVariants.{Hunting, Visiting, PassingOver}
+use Rattle.dali_controller.specs.declared.tally.Tally.{Tally}
+use Rattle.dali_controller.specs.declared.shorts.Shorts.{Shorts}
+use Rattle.dali_controller.specs.declared.way.Way.TheVariants.{Surveying}
+use Rattle.dali_controller.specs.Course.{Course, is_asked, turn_of, asking, calling_first, ask_or_call, asking_again, next_asked, going_on, going_on_early}
+use Rattle.dali_controller.specs.Course.{hunting, hunting_first, hunting_above, searching_on, closing as closing_by}
+use Rattle.dali_controller.specs.Tally.{served, asked_again}
+use Rattle.dali_controller.specs.Machine.{Machine}
+use Rattle.dali_controller.specs.Next.{next_course, beginning, goes_on_to, asks_again, full, is_failed}
+use Rattle.dali_controller.specs.Orders.{machine_ordered}
+use Rattle.dali_controller.proofs.Given as given
+use Rattle.dali_controller.proofs.Given.{IsGivenBy}
+use Rattle.dali_events.specs.Wanted.{gear_of, is_wanted, wants}
+use Rattle.dali_events.proofs.Search.Opened.{OpenedBy}
+use Rattle.dali_progress.proofs.Later.{IsUnasked, later_leaves, turn_unasked}
+use Rattle.dali_progress.proofs.Census.Coming.{asked_later, asked_before, unasked_enrolled}
+use Rattle.dali_progress.proofs.Survey.Drawn.{AreNumbered, woken_short}
+use Rattle.dali_progress.proofs.Survey.Queried.{OneShort, IsTrue}
+use Rattle.dali_progress.proofs.Survey.Begins.{asked_within}
+use Rattle.dali_progress.proofs.Survey.Woken.{AreLow}
+use Rattle.dali_progress.proofs.Misheard.Gear.{Each, AreSought, AreBare, AreKnown, DrewApart}
+use Rattle.dali_progress.proofs.Misheard.Climbing as climbing
+use Rattle.dali_progress.proofs.Misheard.Stands.{IsCounted, IsFilled, IsSpent, HuntStage, Rises, IsReached, IsPast, HuntAt, Hunts, EndsBy}
+use Rattle.dali_progress.proofs.Misheard.Stands.{AreTabledBelow, IsFilledFor, IsCensus, KnownAt, At, MisheardStands}
+
+-- A TRANSACTION BEGINS, or goes on; and what is to come of an order.
+
+-- what is known of the world, where the controller acts
+pub record IsAtHand (k : Kept) (gs : List Gear) : Type 0 where
+  pub kept : IsKept k
+  pub numbered : AreNumbered gs
+  pub apart : DrewApart gs
+  pub one : OneShort gs
+  pub holds : IsTrue k.enrolled gs
+
+pub record Calm (g : ℕ) (m : Machine) (gs : List Gear) : Type 0 where
+  pub there : g < length gs
+  pub tries : m.tries ≡ 0
+  pub way : m.course.way ≡ Surveying
+
+-- a record is to be kept in the census, and then the next short address is asked. Where that is done for the first time, something
+-- else that is reserved for the number may be released then.
+pub record KeepsAsked (g : ℕ) (k : Kept) (heard : Shorts) (c : Course) (silent : ℕ) (gs : List Gear) : Type 0 where
+  pub unopened : c.opened ≡ false
+  pub counted : IsCounted g c.tally silent 0 gs
+  pub small : c.from ≤ 64
+  pub census : IsCensus g c.from c.tally k heard gs
+
+-- one is to be kept of a visit that succeeded, and then the search goes on above it
+pub record KeepsPast (g : ℕ) (k : Kept) (c : Course) (silent : ℕ) (gs : List Gear) : Type 0 where
+  pub opened_is : c.opened ≡ true
+  pub counted : IsCounted g c.tally silent 0 gs
+  pub low : AreLow gs
+  pub sought_are : AreSought g 1 gs
+  pub bare : AreBare g gs
+  pub quiet : silent ≡ 0
+  pub visited : ℕ
+  pub drawn : visited < MASK24
+  pub past : IsPast c.ascent visited gs
+  pub known : AreKnown k.reserved k.enrolled gs
+
+-- a reservation is to be kept, and then its gear is visited once more
+pub record KeepsReserved (g : ℕ) (k : Kept) (c : Course) (silent r : ℕ) (gs : List Gear) : Type 0 where
+  pub opened_is : c.opened ≡ true
+  pub counted : IsCounted g c.tally silent 0 gs
+  pub few : is_wanted (gear_of gs g) ≡ true → c.tally.passed.count ≤ c.tally.calls + c.tally.draws
+  pub low : AreLow gs
+  pub sought_are : AreSought g c.ascent.found gs
+  pub bare : AreBare g gs
+  pub drawn : r < MASK24
+  pub reached : IsReached c.ascent r gs
+  pub known : AreKnown k.reserved k.enrolled gs
+
+-- what is reserved for its number is this address alone
+abbrev pub IsOwn : Kept → ℕ → ℕ → Type 0
+IsOwn k b r = (a : ℕ) → Has k.reserved (a, r) → a ≡ b
+
+-- each first time that short addresses are asked nobody was passed over
+abbrev pub IsFirst : Tally → Type 0
+IsFirst y = y.passed.count ≡ 0
+
+abbrev pub Keeps : ℕ → Kept → Shorts → Course → ℕ → Record → List Gear → Type 0
+Keeps g k heard c silent (Reserve a r) gs = KeepsReserved g k c silent r gs
+Keeps g k heard c silent (Enrol b r) gs =
+    (KeepsAsked g (with_record k (Enrol b r)) heard c silent gs
+    × (((IsFirst c.tally) × AreTabledBelow c.from (with_record k (Enrol b r)).enrolled gs) ⊎ IsOwn k b r))
+    ⊎ (KeepsPast g k c silent gs × IsOwn k b r)
+Keeps g k heard c silent (Release a r) gs =
+    KeepsAsked g k heard c silent gs × (IsFirst c.tally × AreTabledBelow c.from k.enrolled gs)
+
+abbrev pub IsNext : ℕ → Machine → Order → List Gear → Type 0
+IsNext g m (Put p f) gs = MisheardStands false g m gs
+IsNext g m (Commit x) gs = Calm g m gs × Keeps g m.kept m.heard m.course m.silent x gs
+IsNext g m (Done e) gs = EndsBy g e m.kept m.heard gs
+IsNext g m (Halt why) gs = Unit {0}
+
+pub calm_ordered : {told : Bool} (g : ℕ) (t : Machine) (x : Record) (gs : List Gear) → MisheardStands told g t gs → Calm g (machine_ordered t (Commit x)) gs
+calm_ordered g t x gs st = record { there = st.there; tries = st.tries; way = st.way }
+
+pub calm_of : {told : Bool} (g : ℕ) (t : Machine) (gs : List Gear) → MisheardStands told g t gs → Calm g t gs
+calm_of g t gs st = record { there = st.there; tries = st.tries; way = st.way }
+
+-- ---------------------------------------------------------------- a later frame
+
+rises_untold : (g : ℕ) (s : Stage) (x : Ascent) (n : SearchAddress) (gs : List Gear) → IsUnasked s Hunting → Rises true g s x n gs → Rises false g s x n gs
+rises_untold g s x n gs unasked v = record {
+  is = v.is;
+  knows = v.knows;
+  running = v.running;
+  number = v.number;
+  bare = v.bare;
+  stage_is = go s unasked v.stage_is;
+} where
+  go : (s : Stage) → IsUnasked s Hunting → HuntStage true s n gs → HuntStage false s n gs
+  go stage.Free unasked at = tt
+  go (stage.HighSent high) unasked at = tt
+  go (stage.LowSent high low) unasked at = tt
+  go (stage.Hunted r None left) unasked at = tt
+  go (stage.Hunted r (Some h) left) unasked at = absurd unasked
+  go _ unasked at = absurd at
+
+hunts_untold : (g : ℕ) (p : Purpose) (s : Stage) (c : Course) (silent : ℕ) (gs : List Gear)
+    → (HuntAt true g p s c.ascent c.number gs → HuntAt false g p s c.ascent c.number gs) → Hunts true g p s c silent gs → Hunts false g p s c silent gs
+hunts_untold g p s c silent gs on v = record {
+  opened_is = v.opened_is;
+  counted = v.counted;
+  few = v.few;
+  low = v.low;
+  sought_are = v.sought_are;
+  quiet = v.quiet;
+  at = on v.at;
+}
+
+untold : (g : ℕ) (p : Purpose) (s : Stage) (k : Kept) (heard : Shorts) (c : Course) (silent : ℕ) (gs : List Gear) → IsUnasked s p
+    → At true g p s k heard c silent gs → At false g p s k heard c silent gs
+untold g Hunting s k heard c silent gs unasked at =
+    hunts_untold g Hunting s c silent gs (rises_untold g s c.ascent c.number gs unasked) at
+untold g Visiting s k heard c silent gs unasked at = hunts_untold g Visiting s c silent gs (λ v. v) at
+untold g PassingOver s k heard c silent gs unasked at = hunts_untold g PassingOver s c silent gs (λ v. v) at
+untold g _ s k heard c silent gs unasked at = at
+
+pub later_by : (g : ℕ) (t : Machine) (o : Order) (s : Stage) (f : Forward) (gs : List Gear) → MisheardStands true g t gs → o ≡ Put LATER f
+    → stage_of t.trace ≡ s → IsUnasked s t.course.purpose → IsNext g (machine_ordered t o) o gs
+later_by g t o s f gs st is at unasked = subst (λ q. IsNext g (machine_ordered t q) q gs) (sym is)
+    (subst (λ m. IsNext g m (Put LATER f) gs) (sym (later_leaves t f s at unasked)) (record {
+      there = st.there;
+      tries = st.tries;
+      way = st.way;
+      trace = st.trace;
+      at = untold g t.course.purpose (stage_of t.trace) t.kept t.heard t.course t.silent gs
+          (subst (λ q. IsUnasked q t.course.purpose) (sym at) unasked) st.at;
+      known = st.known;
+    }))
+
+pub turns_by : (g : ℕ) (t : Machine) (o : Order) (p : Purpose) (s : Stage) (c : Command) (gs : List Gear) → IsGivenBy t o → MisheardStands true g t gs
+    → t.course.purpose ≡ p → stage_of t.trace ≡ s → turn_of p t.course.number s ≡ Some c → IsNext g (machine_ordered t o) o gs
+turns_by g t o p s c gs by st purpose at turn =
+    later_by g t o s (frame_of c) gs st (given.turns t o c by (rw (purpose, at) turn)) at
+    (subst (IsUnasked s) (sym purpose) (turn_unasked p t.course.number s c turn))
+
+-- ---------------------------------------------------------------- a first one
+
+goes_first : (g : ℕ) (t : Machine) (o : Order) (gs : List Gear) → Calm g t gs → o ≡ beginning (next_course t) → (next_course t).way ≡ Surveying
+    → At false g (next_course t).purpose stage.Free t.kept t.heard (next_course t) t.silent gs
+    → KnownAt g (next_course t).purpose stage.Free t.kept t.heard (next_course t) gs → IsNext g (machine_ordered t o) o gs
+goes_first g t o gs calm is way at known = subst (λ q. IsNext g (machine_ordered t q) q gs) (sym is) (record {
+  there = calm.there;
+  tries = calm.tries;
+  way = way;
+  trace = subst (λ s. IsTrace s []) (sym stage_none) trace_none;
+  at = subst (λ s. At false g (next_course t).purpose s t.kept t.heard (next_course t) t.silent gs) (sym stage_none) at;
+  known = subst (λ s. KnownAt g (next_course t).purpose s t.kept t.heard (next_course t) gs) (sym stage_none) known;
+})
+
+pub first_by : (g : ℕ) (t : Machine) (o : Order) (cs : Course) (gs : List Gear) → Calm g t gs → o ≡ beginning (next_course t) → next_course t ≡ cs
+    → cs.way ≡ Surveying → At false g cs.purpose stage.Free t.kept t.heard cs t.silent gs → KnownAt g cs.purpose stage.Free t.kept t.heard cs gs
+    → IsNext g (machine_ordered t o) o gs
+first_by g t o cs gs calm is same way at known =
+    goes_first g t o gs calm is (subst (λ (d : Course). d.way ≡ Surveying) (sym same) way)
+    (subst (λ (d : Course). At false g d.purpose stage.Free t.kept t.heard d t.silent gs) (sym same) at)
+    (subst (λ (d : Course). KnownAt g d.purpose stage.Free t.kept t.heard d gs) (sym same) known)
+
+-- ---------------------------------------------------------------- the census, and the first roll call
+
+-- once all short addresses were asked, each gear is known
+tabled_known : (k : Kept) (gs : List Gear) → AreTabledBelow 64 k.enrolled gs → AreKnown k.reserved k.enrolled gs
+tabled_known k gs all i there on a small short drew = inl (all i there on a small short drew)
+
+filled_for : (k : Kept) (heard : Shorts) (gs : List Gear) → IsFilledFor k heard gs → IsFilled k heard
+filled_for k heard gs (inl taken) = inl taken
+filled_for k heard gs (inr (a, r, has, other, apart)) = inr (a, r, has, other)
+
+called_known : (g : ℕ) (y : Tally) (k : Kept) (heard : Shorts) (gs : List Gear) → IsCensus g 64 y k heard gs
+    → AreKnown k.reserved k.enrolled gs × IsSpent g y k heard gs
+called_known g y k heard gs (inl first) =
+    (tabled_known k gs first.1, inl (λ passed drew. absurd (let none : y.passed.count ≡ 0 = first.0 in omega (arith, none, passed))))
+called_known g y k heard gs (inr later) = (later.0, inr (filled_for k heard gs later.1))
+
+-- the table has each gear whose short address is not asked
+tabled_on : (k : Kept) (gs : List Gear) (f d : ℕ) → OneShort gs → IsTrue k.enrolled gs → ((c : ℕ) → f ≤ c → c < d → is_asked k c ≡ false)
+    → AreTabledBelow f k.enrolled gs → AreTabledBelow d k.enrolled gs
+tabled_on k gs f d one holds unasked all i there on a low short drew = go (nat_lt a f) refl where
+  go : (b : Bool) → nat_lt a f ≡ b → Has k.enrolled (a, (gear_of gs i).random)
+  go true under = all i there on a (let less : a < f = grind (arith, nat_tests, under) in less) short drew
+  go false over =
+      let entry = unasked_enrolled k a (unasked a (let past : f ≤ a = grind (arith, nat_tests, over) in past) low) in
+      let who = holds a entry.0 entry.1 in
+      let same : who.0 ≡ i = one who.0 i a who.1 there who.2 short in
+      subst (λ n. Has k.enrolled (a, n)) (sym who.3 ∙ ap (λ j. (gear_of gs j).random) same) entry.1
+
+census_on : (g f d : ℕ) (y : Tally) (k : Kept) (heard : Shorts) (gs : List Gear) → OneShort gs → IsTrue k.enrolled gs
+    → ((c : ℕ) → f ≤ c → c < d → is_asked k c ≡ false) → IsCensus g f y k heard gs → IsCensus g d y k heard gs
+census_on g f d y k heard gs one holds unasked (inl first) = inl (first.0, tabled_on k gs f d one holds unasked first.1)
+census_on g f d y k heard gs one holds unasked (inr later) = inr later
+
+-- the next short address, or the roll call
+pub asks_or_calls : (g : ℕ) (t : Machine) (o : Order) (c : Course) (f : ℕ) (gs : List Gear) → Calm g t gs → o ≡ beginning (next_course t)
+    → next_course t ≡ ask_or_call c (next_asked t.kept f) → c.way ≡ Surveying → c.opened ≡ false → IsCounted g c.tally t.silent 0 gs → f ≤ 64
+    → IsCensus g f c.tally t.kept t.heard gs → OneShort gs → IsTrue t.kept.enrolled gs → IsNext g (machine_ordered t o) o gs
+asks_or_calls g t o c f gs calm is same way unopened counted few census one holds =
+    go (next_asked t.kept f) same (asked_later t.kept (64 - f) f) (asked_before t.kept (64 - f) f) (asked_within t.kept (64 - f) f) where
+      go : (next : Option ℕ) → next_course t ≡ ask_or_call c next → (next ≡ None → (d : ℕ) → f ≤ d → d < f + (64 - f) → is_asked t.kept d ≡ false)
+          → ((d : ℕ) → next ≡ Some d → (e : ℕ) → f ≤ e → e < d → is_asked t.kept e ≡ false)
+          → ((d : ℕ) → next ≡ Some d → (f ≤ d) × (d < f + (64 - f))) → IsNext g (machine_ordered t o) o gs
+      go None next none before within =
+          first_by g t o (calling_first c) gs calm is next way
+          (record {
+            opened_is = refl;
+            number = refl;
+            counted = counted;
+            stage_is = tt;
+            gear = λ k in_row on. tt;
+            low = tt;
+          })
+          (called_known g c.tally t.kept t.heard gs
+          (census_on g f 64 c.tally t.kept t.heard gs one holds (λ d past under. none refl d past (omega (arith, under, few))) census))
+      go (Some a) next none before within =
+          let high : a < f + (64 - f) = (within a refl).1 in
+          first_by g t o (asking c a) gs calm is next way
+          (record { unopened = unopened; counted = counted; stage_is = tt })
+          (record {
+            small = omega (arith, high, few);
+            from_is = refl;
+            asked = tt;
+            census = census_on g f a c.tally t.kept t.heard gs one holds (λ d past under. before a refl d past under) census;
+          })
+
+pub asks_on : (g : ℕ) (t : Machine) (o : Order) (gs : List Gear) → Calm g t gs → o ≡ beginning (next_course t) → next_course t ≡ goes_on_to t
+    → KeepsAsked g t.kept t.heard t.course t.silent gs → OneShort gs → IsTrue t.kept.enrolled gs → IsNext g (machine_ordered t o) o gs
+asks_on g t o gs calm is next v one holds =
+    asks_or_calls g t o t.course t.course.from gs calm is
+    (next ∙ ap (λ b. going_on t.kept b t.course) v.unopened ∙ ap (λ y. going_on_early t.kept y t.course) calm.way) calm.way v.unopened v.counted v.small
+    v.census one holds
+
+-- the block is full: short addresses are asked again, or the close comes
+pub fills : (g : ℕ) (t : Machine) (o : Order) (c : Course) (gs : List Gear) → Calm g t gs → o ≡ beginning (next_course t) → next_course t ≡ full t c
+    → c.way ≡ Surveying → IsCounted g c.tally t.silent 0 gs → AreKnown t.kept.reserved t.kept.enrolled gs → IsFilledFor t.kept t.heard gs → OneShort gs
+    → IsTrue t.kept.enrolled gs → IsNext g (machine_ordered t o) o gs
+fills g t o c gs calm is next way counted known filled one holds = go (asks_again t) refl where
+  go : (b : Bool) → asks_again t ≡ b → IsNext g (machine_ordered t o) o gs
+  go true again =
+      asks_or_calls g t o (record c { from = 0; opened = false; ascent = ascent_at_first; tally = asked_again c.tally }) 0 gs calm is
+      (next ∙ ap (λ b. if b then asking_again t.kept c else closing_by c BlockFull) again) way refl
+      (record {
+        calls = counted.calls;
+        draws = counted.draws;
+        passed = counted.passed;
+        quiet = counted.quiet;
+        drawn = counted.drawn;
+      }) (omega arith) (inr (known, filled)) one holds
+  go false last =
+      first_by g t o (closing_by c BlockFull) gs calm is (next ∙ ap (λ b. if b then asking_again t.kept c else closing_by c BlockFull) last) way
+      (record { stage_is = tt; well = filled_for t.kept t.heard gs filled }) known
+
+-- ---------------------------------------------------------------- the search that goes up
+
+pub one_most : (b : Bool) → one_if b ≤ 1
+one_most true = omega arith
+one_most false = omega arith
+
+-- from the least number on, after a roll call or a draw
+pub sought_opened : (g : ℕ) (gs : List Gear) → Each gs (λ k y. OpenedBy y) → AreSought g 0 gs
+sought_opened g gs all k there on but none small = (all k there on).0 none
+
+pub bare_opened : (g : ℕ) (gs : List Gear) → Each gs (λ k y. OpenedBy y) → AreBare g gs
+bare_opened g gs all k there on other enabled = woken_short (gear_of gs k) (all k there on) (rw enabled refl)
+
+pub hunts_first : (g : ℕ) (t : Machine) (o : Order) (cs : Course) (gs : List Gear) → Calm g t gs → o ≡ beginning (next_course t)
+    → next_course t ≡ hunting_first cs → cs.way ≡ Surveying → cs.opened ≡ true → IsCounted g cs.tally t.silent 0 gs
+    → cs.tally.passed.count ≤ cs.tally.calls + cs.tally.draws → AreLow gs → Each gs (λ k y. OpenedBy y) → AreKnown t.kept.reserved t.kept.enrolled gs
+    → IsNext g (machine_ordered t o) o gs
+hunts_first g t o cs gs calm is next way opened counted few low all known =
+    first_by g t o (hunting_first cs) gs calm is next way
+    (record {
+      opened_is = opened;
+      counted = counted;
+      few = λ wanted_is. few;
+      low = low;
+      sought_are = sought_opened g gs all;
+      quiet = tt;
+      at = record {
+        is = climbing.first_is;
+        knows = climbing.anything_first (wants gs);
+        running = refl;
+        number = refl;
+        bare = bare_opened g gs all;
+        stage_is = tt;
+      };
+    }) known
+
+-- above who was found
+pub hunts_above : (g : ℕ) (t : Machine) (o : Order) (cs : Course) (v : ℕ) (gs : List Gear) → Calm g t gs → o ≡ beginning (next_course t)
+    → next_course t ≡ hunting_above cs → cs.way ≡ Surveying → cs.opened ≡ true → IsCounted g cs.tally t.silent 0 gs
+    → (is_wanted (gear_of gs g) ≡ true → cs.tally.passed.count ≤ cs.tally.calls + cs.tally.draws) → AreLow gs → AreSought g 1 gs → AreBare g gs
+    → v < MASK24 → IsPast cs.ascent v gs → AreKnown t.kept.reserved t.kept.enrolled gs → IsNext g (machine_ordered t o) o gs
+hunts_above g t o cs v gs calm is next way opened counted few low sought_are bare drawn past known =
+    first_by g t o (hunting (record cs { ascent = above cs.ascent v })) gs calm is
+    (next ∙ ap (λ q. hunting (record cs { ascent = gone_on_from q cs.ascent })) past.reached) way
+    (record {
+      opened_is = opened;
+      counted = counted;
+      few = few;
+      low = low;
+      sought_are = λ k there on but none small. sought_are k there on (λ e. absurd (climbing.above_found cs.ascent v (but e))) none small;
+      quiet = tt;
+      at = record {
+        is = climbing.above_is cs.ascent v past.is drawn;
+        knows = climbing.knows_above (wants gs) cs.ascent v past.past;
+        running = refl;
+        number = refl;
+        bare = bare;
+        stage_is = tt;
+      };
+    }) known
+
+-- where a visit succeeded
+pub hunts_on : (g : ℕ) (t : Machine) (o : Order) (gs : List Gear) → Calm g t gs → o ≡ beginning (next_course t) → next_course t ≡ goes_on_to t
+    → KeepsPast g t.kept t.course t.silent gs → IsNext g (machine_ordered t o) o gs
+hunts_on g t o gs calm is next v =
+    hunts_above g t o (record t.course { tally = served t.course.tally }) v.visited gs calm is
+    (next ∙ ap (λ b. going_on t.kept b t.course) v.opened_is ∙ ap (λ y. searching_on y t.course) calm.way) calm.way v.opened_is
+    (record {
+      calls = omega arith;
+      draws = v.counted.draws;
+      passed = omega arith;
+      quiet = subst (λ n. n + one_if (not (is_failed None (gear_of gs g).random)) ≤ 2 * 0 + 1 + 20 * t.course.tally.draws + 0) (sym v.quiet)
+          (least t.course.tally.draws);
+      drawn = v.counted.drawn;
+    }) (λ wanted_is. omega arith) v.low v.sought_are v.bare v.drawn v.past v.known
+  where
+    least : (n : ℕ) → 0 + 1 ≤ 2 * 0 + 1 + 20 * n + 0
+    least n = omega arith
