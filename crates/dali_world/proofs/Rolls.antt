@@ -1,6 +1,5 @@
 use Rattle.std.proofs.Common.{◌≡◌, ℕ, ◌+◌, ◌⊎◌, inl, inr, Bool, true, false, List, [], ◌∷◌, ◌++◌, refl, sym, ap, subst, ◌∙◌, arith, append_assoc}
-use Rattle.std.proofs.Common.{append-nil, Option}
-use Rattle.std.proofs.Common.{Some, None, set, get_or, get_or-set_same, get_or-set_other, nat_eq, zero, suc}
+use Rattle.std.proofs.Common.{append-nil, Option, Some, None, set, get_or, get_or-set_same, get_or-set_other, nat_eq, zero, suc}
 use Rattle.std.specs.Prelude.{if◌then◌else◌, map}
 use Rattle.std.specs.Option.{option_map}
 use Rattle.std.specs.List.{AllByRecursion}
