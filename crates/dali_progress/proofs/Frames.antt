@@ -65,7 +65,7 @@ one_less need zero sent enough small = absurd (omega (arith, enough, small))
 one_less need (suc l) sent enough small = (l, refl, omega (arith, enough))
 
 -- the command of a turn
-some_is : (x c : Command) → Some x ≡ Some c → x ≡ c
+pub some_is : (x c : Command) → Some x ≡ Some c → x ≡ c
 some_is x c e = cc
 
 -- ---------------------------------------------------------------- an opening
@@ -258,10 +258,10 @@ visits_on s t k n gs hs left l v same stage searched frames = record {
 }
 
 -- MASK is heard of a gear without short address
-mask_queried : (r : SearchAddress) → queried r (Byte (program_data None)) ≡ stage.Unnamed r
+pub mask_queried : (r : SearchAddress) → queried r (Byte (program_data None)) ≡ stage.Unnamed r
 mask_queried r = refl
 
-verified_short : (r : SearchAddress) (a : ℕ) → a < 64 → verified r a (Byte (program_data (Some a))) ≡ stage.Confirmed r a
+pub verified_short : (r : SearchAddress) (a : ℕ) → a < 64 → verified r a (Byte (program_data (Some a))) ≡ stage.Confirmed r a
 verified_short r a small = rw (short_of_code a small) (go (a == a) (same a)) where
   same : (m : ℕ) → (m == m) ≡ true
   same m = grind (arith, nat_tests)
@@ -283,14 +283,14 @@ visit_heard gs n r more o h v is seek apart short heard =
     heard ∙ hearing.query_heard gs r there.0 seek apart there.1 there.2 random ∙ ap (λ p. Byte (program_data p)) has
 
 -- of one that is programmed
-short_given : (gs : List Gear) (numbers : List ℕ) (r : SearchAddress) (a : ℕ) → Seek gs r
+pub short_given : (gs : List Gear) (numbers : List ℕ) (r : SearchAddress) (a : ℕ) → Seek gs r
     → HaveShort (row_after Everyone (Program (Some a)) 0 gs numbers) (value_of r) a
 short_given gs numbers r a seek k in_row on active random =
     let there : k < length gs = subst (λ m. k < m) (row_length Everyone (Program (Some a)) 0 gs numbers) in_row in
     let p = programming.programs_at gs numbers r a seek k there in
     p.programmed (sym p.same_powered ∙ on) (subst (λ s. is_active s ≡ true) p.same_state active) (sym p.same_random ∙ random)
 
-short_kept : (gs hs : List Gear) (n a : ℕ) → SameCore gs hs → HaveShort gs n a → HaveShort hs n a
+pub short_kept : (gs hs : List Gear) (n a : ℕ) → SameCore gs hs → HaveShort gs n a → HaveShort hs n a
 short_kept gs hs n a same short k in_row on active random =
     let there : k < length gs = subst (λ m. k < m) same.same_length in_row in
     let e = same.each k there in

@@ -136,9 +136,12 @@ pub fn its_end_is_true()
 /// block-full, each address of its block is taken, or one that it has reserved is another's. It gives up only where
 /// every gear with power but g has a short address, or where it is so as at block-full.
 ///
-/// How long that takes is not said: of the frames a visit that fails is none that `it_is_bounded` counts.
+/// Rounds of a survey that nothing disturbs are such rounds (`plain`). How long it takes is not said: a visit that
+/// fails costs frames that `it_is_bounded` does not count.
 pub fn one_gear_blocks_nobody()
-    ensures { (g : ℕ) (s : SiteState) (c : ℕ) (es : List Event) (e : End) → g < length (world s).gear
+    ensures plain { (g : ℕ) (s : SiteState) (c : ℕ) (es : List Event) → Rounds true s c es
+        → RoundsBut g s c es }
+    ensures done { (g : ℕ) (s : SiteState) (c : ℕ) (es : List Event) (e : End) → g < length (world s).gear
         → BeginsAlone Any s c → RoundsBut g s c es → HasEnded (site_after s es) c e
         → IsTrueEndBut g (site_after s es) c e }
 {}

@@ -1,8 +1,7 @@
 use Rattle.std.proofs.Common.{◌≡◌, ℕ, ◌-◌, ◌<◌, ◌⊎◌, inl, inr, Bool, true, false, List, refl, sym, ap, subst, ◌∙◌, arith, length, Option}
 use Rattle.std.proofs.Common.{Some, None}
-use Rattle.std.specs.Prelude.{◌==◌, if◌then◌else◌, unwrap_or}
+use Rattle.std.specs.Prelude.{◌==◌, if◌then◌else◌}
 use Rattle.std.specs.List.{count_by}
-use Rattle.std.proofs.lemmas.Bool.Decides.{nat_tests}
 use Rattle.dali_frame.specs.declared.frames.Answer.{Answer}
 use Rattle.dali_frame.specs.declared.frames.Answer.TheVariants.{Silence, Byte, Damaged}
 use Rattle.dali_frame.specs.declared.numbers.SearchAddress.{SearchAddress}
@@ -16,6 +15,7 @@ use Rattle.dali_gear.specs.declared.row.Reach.TheVariants.{Everyone}
 use Rattle.dali_gear.specs.Gear.{Gear, gear_taken}
 use Rattle.dali_gear.specs.Row.{row_after, answers_of, heard_of}
 use Rattle.dali_script.specs.Records.{Kept}
+use Rattle.dali_script.proofs.Transactions.{middle_next, low_next}
 use Rattle.dali_script.specs.declared.stage.Stage.{Stage}
 use Rattle.dali_script.specs.declared.stage.Stage.TheVariants as stage
 use Rattle.dali_script.specs.Scripts.{CALLING}
@@ -38,14 +38,15 @@ use Rattle.dali_events.proofs.Search.Leaving.{LeavesShort}
 use Rattle.dali_events.proofs.Search.Opened as opening
 use Rattle.dali_events.proofs.Search.Opened.{AreOpening}
 use Rattle.dali_progress.specs.Misheard.{AreServedBut}
-use Rattle.dali_progress.proofs.Frames.{Seeks, value_sought}
+use Rattle.dali_progress.proofs.Frames.{Seeks, value_sought, some_is}
+use Rattle.dali_progress.proofs.Survey.Rolls.{compare_next}
 use Rattle.dali_progress.proofs.Tables.{LeavesNames}
 use Rattle.dali_progress.proofs.Survey.Woken.{IsByteLow, all_short, undrawn_after, stays_initialised, called_answer, low_after, low_sent}
 use Rattle.dali_progress.proofs.Survey.Woken.{nobody_searched}
 use Rattle.dali_progress.proofs.Survey.Stands.{woken_at, IsLowAt, DrawStage, IsDrawnBy}
 use Rattle.dali_progress.proofs.Misheard.Gear.{HasDrawn, HaveDrawn, each_after}
 use Rattle.dali_progress.proofs.Misheard.Stands.{AskStage, Asks, CallStage, Calls, Draws, EndsBy, Closes, At}
-use Rattle.dali_progress.proofs.Misheard.Sent.{Taken, truth, some_is, counted_on, hunting_sent}
+use Rattle.dali_progress.proofs.Misheard.Sent.{Taken, truth, counted_on, hunting_sent}
 use Rattle.dali_progress.proofs.Misheard.Visited.{visiting_sent, passing_sent}
 
 -- A FRAME OF A ROLL CALL IS SENT, or one after which gear draw, or one of the census or the close; and of whatever transaction.
@@ -100,13 +101,6 @@ calls_on g s t c silent gs numbers d v leaves stage gear low there = record {
   gear = gear;
   low = low;
 }
-
-compare_next : (r : SearchAddress) (last : Option Answer) (left : ℕ) (h : Answer) → 0 < left
-    → next_stage (stage.Hunted r last left) Compare h ≡ stage.Hunted r (Some h) (left - 1)
-compare_next r last left h some =
-    ap (λ b. unwrap_or (if b then None else Some (stage.Hunted r (Some h) (left - 1))) stage.Over) (test left some) where
-      test : (n : ℕ) → 0 < n → (n == 0) ≡ false
-      test n less = grind (arith, nat_tests, less)
 
 pub is_compare : (last : Option Answer) (left : ℕ) (d : Command) → call_turn last left ≡ Some d → d ≡ Compare
 is_compare None left d is = cc
@@ -299,9 +293,6 @@ asks_to g s t c silent gs numbers d v leaves stage there = record {
   stage_is = stage;
 }
 
-equals_self : (m : ℕ) → (m == m) ≡ true
-equals_self m = grind (arith, nat_tests)
-
 asks_sent : (g a : ℕ) (s : Stage) (k : Kept) (c : Course) (silent : ℕ) (gs : List Gear) (numbers : List ℕ) (d : Command) (h : Answer)
     → Asks g s c silent gs → Sends k c.number (Asking a) s d → Taken g d gs numbers h → AskedTo g s c silent gs numbers d h
 asks_sent g a stage.Free k c silent gs numbers d h v is t =
@@ -309,17 +300,13 @@ asks_sent g a stage.Free k c silent gs numbers d h v is t =
     (asks_to g stage.Free (stage.HighAsked a (byte_heard h)) c silent gs numbers (RandomByte a High) v tt tt t.there)
 asks_sent g a (stage.HighAsked b (Some u)) k c silent gs numbers d h v is t =
     subst (λ e. AskedTo g (stage.HighAsked b (Some u)) c silent gs numbers e h) (some_is (RandomByte b Middle) d is.0)
-    (subst (λ q. Asks g q c (silent_after q c.opened silent) (row_after Everyone (RandomByte b Middle) 0 gs numbers)) (sym next)
-    (asks_to g (stage.HighAsked b (Some u)) (stage.MiddleAsked b (bytes_heard (Some u) h)) c silent gs numbers (RandomByte b Middle) v tt tt t.there)) where
-      next : next_stage (stage.HighAsked b (Some u)) (RandomByte b Middle) h ≡ stage.MiddleAsked b (bytes_heard (Some u) h)
-      next = ap (λ q. unwrap_or (if q then Some (stage.MiddleAsked b (bytes_heard (Some u) h)) else None) stage.Over) (equals_self b)
+    (subst (λ q. Asks g q c (silent_after q c.opened silent) (row_after Everyone (RandomByte b Middle) 0 gs numbers)) (sym (middle_next b (Some u) h))
+    (asks_to g (stage.HighAsked b (Some u)) (stage.MiddleAsked b (bytes_heard (Some u) h)) c silent gs numbers (RandomByte b Middle) v tt tt t.there))
 asks_sent g a (stage.HighAsked b None) k c silent gs numbers d h v is t = absurd (let never = is.0 in cc)
 asks_sent g a (stage.MiddleAsked b (Some x)) k c silent gs numbers d h v is t =
     subst (λ e. AskedTo g (stage.MiddleAsked b (Some x)) c silent gs numbers e h) (some_is (RandomByte b Low) d is.0)
-    (subst (λ q. Asks g q c (silent_after q c.opened silent) (row_after Everyone (RandomByte b Low) 0 gs numbers)) (sym next)
-    (asks_to g (stage.MiddleAsked b (Some x)) (stage.Spelled b (number_heard (Some x) h)) c silent gs numbers (RandomByte b Low) v tt tt t.there)) where
-      next : next_stage (stage.MiddleAsked b (Some x)) (RandomByte b Low) h ≡ stage.Spelled b (number_heard (Some x) h)
-      next = ap (λ q. unwrap_or (if q then Some (stage.Spelled b (number_heard (Some x) h)) else None) stage.Over) (equals_self b)
+    (subst (λ q. Asks g q c (silent_after q c.opened silent) (row_after Everyone (RandomByte b Low) 0 gs numbers)) (sym (low_next b (Some x) h))
+    (asks_to g (stage.MiddleAsked b (Some x)) (stage.Spelled b (number_heard (Some x) h)) c silent gs numbers (RandomByte b Low) v tt tt t.there))
 asks_sent g a (stage.MiddleAsked b None) k c silent gs numbers d h v is t = absurd (let never = is.0 in cc)
 asks_sent g a (stage.Spelled b x) k c silent gs numbers d h v is t = absurd (let never = is.0 in cc)
 asks_sent g a _ k c silent gs numbers d h v is t = absurd v.stage_is

@@ -71,10 +71,6 @@ above_found x r = some x.found where
   some : (n : ℕ) → min (n + 1) 255 ≡ 0 → ⊥
   some n none = omega (arith, none)
 
-pub found_same : (x : Ascent) (b : Bool) → (ascended x b).found ≡ x.found
-found_same x true = refl
-found_same x false = refl
-
 -- ---------------------------------------------------------------- where it ends
 
 pub record IsLeast (has : ℕ → Bool) (r : ℕ) : Type 0 where

@@ -1,4 +1,4 @@
-use Rattle.std.proofs.Common.{◌≡◌, ℕ, ◌+◌, ◌<◌, ◌⊎◌, inl, inr, Bool, true, false, zero, suc, List, [], ◌∷◌, refl, sym, ap, subst, ◌∙◌, arith, length}
+use Rattle.std.proofs.Common.{◌≡◌, ℕ, ◌<◌, ◌⊎◌, inl, inr, Bool, true, false, List, refl, sym, ap, subst, ◌∙◌, arith, length}
 use Rattle.std.proofs.Common.{Some, None}
 use Rattle.std.specs.Prelude.{◌&&◌, ◌==◌, is_some, if◌then◌else◌}
 use Rattle.dali_frame.specs.declared.frames.Answer.TheVariants.{Byte}
@@ -10,8 +10,8 @@ use Rattle.dali_special.specs.Command.{program_data}
 use Rattle.dali_gear.specs.declared.state.InitialisationState.{InitialisationState}
 use Rattle.dali_gear.specs.declared.state.InitialisationState.TheVariants.{Disabled, Enabled, Withdrawn}
 use Rattle.dali_gear.specs.declared.row.Reach.TheVariants.{Everyone}
-use Rattle.dali_gear.specs.Gear.{Gear, draws_a_number, is_second, is_active, is_found, gear_taken, answer, answer_to}
-use Rattle.dali_gear.specs.Row.{row_after, option_cons, answers_of, heard_of}
+use Rattle.dali_gear.specs.Gear.{Gear, draws_a_number, is_second, is_active, is_found, gear_taken, answer_to}
+use Rattle.dali_gear.specs.Row.{row_after, answers_of, heard_of}
 use Rattle.dali_script.specs.Records.{Assignment, Has}
 use Rattle.dali_script.specs.declared.stage.Stage.TheVariants as stage
 use Rattle.dali_script.proofs.Members.{same_member}
@@ -28,6 +28,7 @@ use Rattle.dali_events.proofs.Search.Heard.{random_found}
 use Rattle.dali_events.proofs.Search.Programming.{after_program, Programs, programs_at}
 use Rattle.dali_events.proofs.Search.Withdrawing.{after_withdraw, Withdraws, withdraws_at}
 use Rattle.dali_progress.proofs.Stands.{HaveShort}
+use Rattle.dali_progress.proofs.Survey.Queried.{one_answers}
 
 -- WHAT IS TRUE OF GEAR WHERE ONE IS MISHEARD: of each gear with power, by its number in the row.
 
@@ -160,12 +161,6 @@ one_core v a gs hs same one =
       each.same_random ∙ one.4,
     )
 
-pub have_core : (v a : ℕ) (gs hs : List Gear) → SameCore gs hs → HaveShort gs v a → HaveShort hs v a
-have_core v a gs hs same all =
-    each_core (λ k y. is_active y.state ≡ true → y.random ≡ v → y.short ≡ Some a) (λ k y. is_active y.state ≡ true → y.random ≡ v → y.short ≡ Some a)
-    (λ k y z same was active random. same.same_short
-    ∙ was (subst (λ s. is_active s ≡ true) same.same_state active) (sym same.same_random ∙ random)) gs hs same all
-
 -- ---------------------------------------------------------------- an address is programmed
 
 bare_before : (gs : List Gear) (numbers : List ℕ) (r : SearchAddress) (a : ℕ) → Seek gs r → (k : ℕ) → k < length gs
@@ -194,12 +189,6 @@ drawn_programmed gs numbers r a seek all k in_row on none =
     let there : k < length gs = subst (λ n. k < n) (row_length Everyone (Program (Some a)) 0 gs numbers) in_row in
     let p = programs_at gs numbers r a seek k there in
     subst (λ n. n < MASK24) (sym p.same_random) (all k there (sym p.same_powered ∙ on) (bare_before gs numbers r a seek k there none))
-
-pub have_programmed : (gs : List Gear) (numbers : List ℕ) (r : SearchAddress) (a : ℕ) → Seek gs r → HaveShort (after_program a gs numbers) (value_of r) a
-have_programmed gs numbers r a seek k in_row on active random =
-    let there : k < length gs = subst (λ n. k < n) (row_length Everyone (Program (Some a)) 0 gs numbers) in_row in
-    let p = programs_at gs numbers r a seek k there in
-    p.programmed (sym p.same_powered ∙ on) (subst (λ s. is_active s ≡ true) p.same_state active) (sym p.same_random ∙ random)
 
 pub known_programmed : (reserved enrolled : List Assignment) (gs : List Gear) (numbers : List ℕ) (r : SearchAddress) (a : ℕ) → Seek gs r
     → Has reserved (a, value_of r) → AreKnown reserved enrolled gs → AreKnown reserved enrolled (after_program a gs numbers)
@@ -347,30 +336,6 @@ pub random_withdrawn : (gs : List Gear) (numbers : List ℕ) (k : ℕ) → k < l
 random_withdrawn gs numbers k there = after_at Withdraw (λ y z. z.random ≡ y.random) (λ y off. refl) (λ y x on. refl) gs numbers k there
 
 -- ---------------------------------------------------------------- QUERY SHORT ADDRESS
-
-answers_first : (c : Command) (k : ℕ) (y : Gear) (gs : List Gear)
-    → answers_of Everyone c k (y ∷ gs) ≡ option_cons (answer_to c y) (answers_of Everyone c (k + 1) gs)
-answers_first c k y gs = ap (λ o. option_cons o (answers_of Everyone c (k + 1) gs)) (go y.powered) where
-  go : (on : Bool) → (if on && true then answer c y else None) ≡ (if on then answer c y else None)
-  go true = refl
-  go false = refl
-
-none_answer : (c : Command) (k : ℕ) (gs : List Gear) → ((i : ℕ) → i < length gs → answer_to c (gear_of gs i) ≡ None) → answers_of Everyone c k gs ≡ []
-none_answer c k [] none = refl
-none_answer c k (y ∷ gs) none =
-    let here : answer_to c y ≡ None = none 0 (omega arith) in
-    answers_first c k y gs ∙ ap (λ o. option_cons o (answers_of Everyone c (k + 1) gs)) here ∙ none_answer c (k + 1) gs (λ i h. none (suc i) (omega arith))
-
-one_answers : (c : Command) (k : ℕ) (gs : List Gear) (i v : ℕ) → i < length gs → answer_to c (gear_of gs i) ≡ Some v
-    → ((j : ℕ) → j < length gs → (j ≡ i → ⊥) → answer_to c (gear_of gs j) ≡ None) → answers_of Everyone c k gs ≡ v ∷ []
-one_answers c k [] i v h e none = absurd (omega arith)
-one_answers c k (y ∷ gs) zero v h e none =
-    answers_first c k y gs ∙ ap (λ o. option_cons o (answers_of Everyone c (k + 1) gs)) e
-    ∙ ap (λ bytes. v ∷ bytes) (none_answer c (k + 1) gs (λ j in_row. none (suc j) (omega arith) (λ same. omega arith)))
-one_answers c k (y ∷ gs) (suc i) v h e none =
-    let here : answer_to c y ≡ None = none 0 (omega arith) (λ same. omega arith) in
-    answers_first c k y gs ∙ ap (λ o. option_cons o (answers_of Everyone c (k + 1) gs)) here
-    ∙ one_answers c (k + 1) gs i v (omega arith) e (λ j in_row other. none (suc j) (omega arith) (λ same. other (omega arith)))
 
 queried_short : (y : Gear) → y.powered ≡ true → is_active y.state ≡ true → is_found y ≡ true → answer_to QueryShort y ≡ Some (program_data y.short)
 queried_short y on active found = rw (on, active, found) refl

@@ -51,7 +51,7 @@ use Rattle.dali_events.proofs.Invariant.Takes.{row_length}
 use Rattle.dali_standing.specs.Seats.{MayAnswer, LeavesWhole}
 use Rattle.dali_standing.specs.Standing.{machine_in}
 use Rattle.dali_world.specs.Site.{SiteState, world, site_logged, machine_at, next_request}
-use Rattle.dali_progress.specs.Rounds.{HasEnded, IsAlone, Succeeds, site_after}
+use Rattle.dali_progress.specs.Rounds.{HasEnded, IsAlone, Succeeds, IsOfRound, Rounds, site_after}
 use Rattle.dali_progress.specs.Misheard.{IsHeardBut, IsOfRoundBut, RoundsBut, EndsWellBut, IsTrueEndBut}
 use Rattle.dali_progress.proofs.Lone.{IsLone, Moment, IsDueOf, due_of, ended_rests, acted_last, acted_told, acts_by, lone_acted, lone_next, lone_sent}
 use Rattle.dali_progress.proofs.Lone.{sent_last}
@@ -423,6 +423,15 @@ runs_on g s c _ r here of = absurd of
 runs_all : (g : ℕ) (s : SiteState) (c : ℕ) (es : List Event) → Runs g s c → RoundsBut g s c es → Runs g (site_after s es) c
 runs_all g s c [] r rounds = r
 runs_all g s c (e ∷ es) r rounds = runs_all g (site_logged s e) c es (runs_on g s c e r rounds.0 rounds.1) rounds.2
+
+-- what nothing disturbs is so
+round_but : (g : ℕ) (s : SiteState) (c : ℕ) (e : Event) → IsOfRound true s c e → IsOfRoundBut g s c e
+round_but g s c (event.Sent d f h) (r, next, sender, frame, heard) = (r, next, sender, frame, inl heard)
+round_but g s c _ of = of
+
+pub rounds_but : (g : ℕ) (s : SiteState) (c : ℕ) (es : List Event) → Rounds true s c es → RoundsBut g s c es
+rounds_but g s c [] rounds = tt
+rounds_but g s c (e ∷ es) rounds = (rounds.0, round_but g s c e rounds.1, rounds_but g (site_logged s e) c es rounds.2)
 
 -- ---------------------------------------------------------------- the start, and the end
 

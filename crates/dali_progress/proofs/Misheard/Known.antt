@@ -36,7 +36,7 @@ use Rattle.dali_events.proofs.Search.Leaving.{SameCore}
 use Rattle.dali_events.proofs.Search.Opened.{AreOpening}
 use Rattle.dali_events.proofs.Search.Wanted.{same_number, number_same}
 use Rattle.dali_progress.proofs.Both.{has_address}
-use Rattle.dali_progress.proofs.Frames.{Seeks}
+use Rattle.dali_progress.proofs.Frames.{Seeks, some_is}
 use Rattle.dali_progress.proofs.Tables.{LeavesNames}
 use Rattle.dali_progress.proofs.Accounted.{with_has}
 use Rattle.dali_progress.proofs.Survey.Woken.{leaves_short}
@@ -46,7 +46,7 @@ use Rattle.dali_progress.proofs.Survey.Sent.{heard_high, tells_on, nobody_on, wi
 use Rattle.dali_progress.proofs.Misheard.Gear as gear
 use Rattle.dali_progress.proofs.Misheard.Gear.{IsKnown, AreKnown, each_after, each_core}
 use Rattle.dali_progress.proofs.Misheard.Stands.{IsSpent, IsTabled, AreTabledBelow, AreApartFrom, IsFilledFor, IsCensus, Census, KnownAt, Calls, At}
-use Rattle.dali_progress.proofs.Misheard.Sent.{Taken, truth, some_is}
+use Rattle.dali_progress.proofs.Misheard.Sent.{Taken, truth}
 use Rattle.dali_progress.proofs.Misheard.Called.{keeps_names, served_left, is_compare}
 
 -- WHO IS KNOWN, once a frame is sent.
@@ -336,20 +336,20 @@ census_sent g a stage.Free k heard c gs numbers d h v is t told =
       go : Taken g (RandomByte a High) gs numbers h → CensusTo g a stage.Free k heard c gs numbers (RandomByte a High) h
       go t = by (heard_high a High gs h (one_gear gs t.one)
           (truth g (RandomByte a High) gs numbers h t (λ e. (let never : RandomByte a High ≡ QueryShort = e in cc)))) where
-        by : ((i : ℕ) × Holds gs i a × (h ≡ Byte (high_of (gear_of gs i).random))) ⊎ (Nobody gs a × (h ≡ Silence))
-            → CensusTo g a stage.Free k heard c gs numbers (RandomByte a High) h
-        by (inl (i, holds, byte)) = subst (λ b. CensusTo g a stage.Free k heard c gs numbers (RandomByte a High) b) (sym byte) (record {
-          small = v.small;
-          from_is = v.from_is;
-          asked = (refl, tells_on gs _ a i (λ r. high_of (gear_of gs i).random ≡ high_of r) same holds refl);
-          census = census_core g a c.tally k (with_short heard a) gs _ same (census_with g a a c.tally k heard gs v.small v.census);
-        })
-        by (inr (none, silent)) = subst (λ b. CensusTo g a stage.Free k heard c gs numbers (RandomByte a High) b) (sym silent) (record {
-          small = v.small;
-          from_is = v.from_is;
-          asked = (refl, nobody_on gs _ a same none);
-          census = census_core g a c.tally k heard gs _ same v.census;
-        })
+            by : ((i : ℕ) × Holds gs i a × (h ≡ Byte (high_of (gear_of gs i).random))) ⊎ (Nobody gs a × (h ≡ Silence))
+                → CensusTo g a stage.Free k heard c gs numbers (RandomByte a High) h
+            by (inl (i, holds, byte)) = subst (λ b. CensusTo g a stage.Free k heard c gs numbers (RandomByte a High) b) (sym byte) (record {
+              small = v.small;
+              from_is = v.from_is;
+              asked = (refl, tells_on gs _ a i (λ r. high_of (gear_of gs i).random ≡ high_of r) same holds refl);
+              census = census_core g a c.tally k (with_short heard a) gs _ same (census_with g a a c.tally k heard gs v.small v.census);
+            })
+            by (inr (none, silent)) = subst (λ b. CensusTo g a stage.Free k heard c gs numbers (RandomByte a High) b) (sym silent) (record {
+              small = v.small;
+              from_is = v.from_is;
+              asked = (refl, nobody_on gs _ a same none);
+              census = census_core g a c.tally k heard gs _ same v.census;
+            })
 census_sent g a (stage.HighAsked b (Some u)) k heard c gs numbers d h v is t told =
     subst (λ e. Taken g e gs numbers h → CensusTo g a (stage.HighAsked b (Some u)) k heard c gs numbers e h) (some_is (RandomByte b Middle) d is.0) go t where
       same : SameCore gs (row_after Everyone (RandomByte b Middle) 0 gs numbers)

@@ -28,7 +28,7 @@ use Rattle.dali_events.specs.Wanted.{gear_of, is_wanted, wants}
 use Rattle.dali_events.proofs.Search.Leaving as leaving
 use Rattle.dali_events.proofs.Search.Leaving.{SameCore, LeavesCore, LeavesShort}
 use Rattle.dali_progress.specs.Misheard.{IsHeardBut}
-use Rattle.dali_progress.proofs.Frames.{Seeks, probe_says, gives_same}
+use Rattle.dali_progress.proofs.Frames.{Seeks, probe_says, gives_same, some_is}
 use Rattle.dali_progress.proofs.Survey.Drawn.{AreNumbered}
 use Rattle.dali_progress.proofs.Survey.Queried.{OneShort}
 use Rattle.dali_progress.proofs.Survey.Woken.{AreLow, IsByteLow, low_after}
@@ -57,9 +57,6 @@ truth g c gs numbers h t other = go t.heard where
   go : IsHeardBut g gs c h → h ≡ heard_of (answers_of Everyone c 0 gs)
   go (inl is) = is
   go (inr mis) = absurd (other mis.0)
-
-pub some_is : (x c : Command) → Some x ≡ Some c → x ≡ c
-some_is x c e = cc
 
 -- ---------------------------------------------------------------- what is counted stays
 

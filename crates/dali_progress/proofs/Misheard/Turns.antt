@@ -1,6 +1,6 @@
 use Rattle.std.proofs.Common.{◌≡◌, ℕ, ◌+◌, ◌*◌, ◌<◌, ◌≤◌, ◌⊎◌, inl, inr, Bool, true, false, List, [], ◌∷◌, ◌++◌, refl, sym, ap, subst, ◌∙◌, arith, Option, Some}
 use Rattle.std.proofs.Common.{None}
-use Rattle.std.specs.Prelude.{◌==◌, ◌&&◌, ◌||◌, not, nat_lt, is_some, if◌then◌else◌}
+use Rattle.std.specs.Prelude.{◌==◌, ◌&&◌, ◌||◌, not, nat_lt, if◌then◌else◌}
 use Rattle.std.proofs.lemmas.Bool.Decides.{nat_tests}
 use Rattle.dali_frame.specs.declared.frames.Answer.{Answer}
 use Rattle.dali_frame.specs.declared.frames.Forward.{Forward}
@@ -31,7 +31,7 @@ use Rattle.dali_controller.specs.declared.purpose.Purpose.TheVariants.{Drawing}
 use Rattle.dali_controller.specs.declared.tally.Tally.{Tally}
 use Rattle.dali_controller.specs.declared.shorts.Shorts.{Shorts}
 use Rattle.dali_controller.specs.Shorts.{has_short}
-use Rattle.dali_controller.specs.Course.{Course, call_turn, is_yes, least_open, is_another, number_at}
+use Rattle.dali_controller.specs.Course.{Course, call_turn, is_yes, is_another, number_at}
 use Rattle.dali_controller.specs.Course.{calling, opening_at_last, closing as closing_by, hunting_first}
 use Rattle.dali_controller.specs.Course.{searching_first}
 use Rattle.dali_controller.specs.Tally.{heard_call, silent_call}
@@ -48,6 +48,7 @@ use Rattle.dali_progress.proofs.Both.{never_eight, has_address}
 use Rattle.dali_progress.proofs.Later.{course_stays}
 use Rattle.dali_progress.proofs.Census.Asked.{sending_of}
 use Rattle.dali_progress.proofs.Survey.Queried.{Holds, one_gear}
+use Rattle.dali_progress.proofs.Survey.Hunting.{nothing_open}
 use Rattle.dali_progress.proofs.Survey.Begins.{begins_whole, all_taken}
 use Rattle.dali_progress.proofs.Misheard.Gear as gear
 use Rattle.dali_progress.proofs.Misheard.Gear.{AreKnown, HasOne}
@@ -147,11 +148,11 @@ pub own_by : (k : Kept) (b n : ℕ) (gs : List Gear) → IsKept k → AreKnown k
     → (HasAddress k.enrolled b → ⊥) → IsOwn k b n
 own_by k b n gs kept known one small drew fresh a has =
     go (subst (λ m. Has k.enrolled (b, m) ⊎ Has k.reserved (b, m)) one.4 (known one.0 one.1 one.2 b small one.3 (subst (λ m. m < MASK24) (sym one.4) drew)))
-        where
-      go : Has k.enrolled (b, n) ⊎ Has k.reserved (b, n) → a ≡ b
-      go (inl entry) = absurd (fresh (has_address k.enrolled b n entry))
-      go (inr entry) =
-          ap (λ (x : Assignment). x.0) (same_member (λ (x : Assignment). x.1) k.reserved (a, n) (b, n) kept.reserved.random_once has entry refl)
+  where
+    go : Has k.enrolled (b, n) ⊎ Has k.reserved (b, n) → a ≡ b
+    go (inl entry) = absurd (fresh (has_address k.enrolled b n entry))
+    go (inr entry) =
+        ap (λ (x : Assignment). x.0) (same_member (λ (x : Assignment). x.1) k.reserved (a, n) (b, n) kept.reserved.random_once has entry refl)
 
 -- three bytes told a number
 told_turns : (g : ℕ) (t : Machine) (o : Order) (a b n : ℕ) (gs : List Gear) → IsGivenBy t o → MisheardStands true g t gs → IsAtHand t.kept gs
@@ -277,12 +278,6 @@ called_next : (t : Machine) (r : SearchAddress) (h : Answer) (room : ℕ) (b : B
 called_next t r h room b is purpose said =
     ap (begins_at t) is ∙ ap (λ p. compared_in t p h) purpose ∙ ap (λ y. called_to t y t.course) said
 
-pub not_open : (t : Machine) → has_open t ≡ false → least_open t.kept t.heard ≡ None
-not_open t e = go (least_open t.kept t.heard) e where
-  go : (p : Option ℕ) → is_some p ≡ false → p ≡ None
-  go None e = refl
-  go (Some a) e = absurd (cc)
-
 -- the fourth one since a visit succeeded, with somebody passed over
 blocked_turns : (g : ℕ) (t : Machine) (o : Order) (r : SearchAddress) (h : Answer) (room : ℕ) (gs : List Gear) → MisheardStands true g t gs
     → Calls g (stage.Hunted r (Some h) room) t.course t.silent gs → AreKnown t.kept.reserved t.kept.enrolled gs × IsSpent g t.course.tally t.kept t.heard gs
@@ -324,7 +319,7 @@ blocked_turns g t o r h room gs st v known begins next is_blocked_now = go (nat_
           → silent ≤ 2 * 0 + 20 * 3
       most silent one count calls draws quiet passed calls_few draws_few = omega (arith, quiet, passed, calls_few, draws_few)
   go true few false full =
-      closes (rw (few, full) refl) (inr (inl (all_taken t.kept t.heard (not_open t full))))
+      closes (rw (few, full) refl) (inr (inl (all_taken t.kept t.heard (nothing_open t full))))
   go false spent b free = closes (rw spent refl) (served known.1) where
     drew : 0 < t.course.tally.draws
     drew = some t.course.tally.draws (let over : t.course.tally.draws < 3 → ⊥ = grind (arith, nat_tests, spent) in over) where

@@ -32,12 +32,12 @@ use Rattle.dali_events.proofs.Search.Programming.{after_program, programmed_want
 use Rattle.dali_events.proofs.Search.Withdrawing.{after_withdraw, withdrawn_wants, withdraws_at}
 use Rattle.dali_progress.specs.Misheard.{IsNoByte, IsHeardBut}
 use Rattle.dali_progress.proofs.Stands.{HaveShort}
-use Rattle.dali_progress.proofs.Frames.{Seeks, value_sought}
+use Rattle.dali_progress.proofs.Frames.{Seeks, value_sought, some_is, mask_queried, verified_short, short_given, short_kept}
 use Rattle.dali_progress.proofs.Survey.Woken.{low_after}
 use Rattle.dali_progress.proofs.Misheard.Gear as gear
 use Rattle.dali_progress.proofs.Misheard.Gear.{AreSought, AreBare, AreBareBut, AreNamedBut, AreUnshort, HasOne, DrewApart}
 use Rattle.dali_progress.proofs.Misheard.Stands.{IsCounted, IsReached, IsPast, IsOfOne, VisitStage, PassStage, Visits, HuntAt, found_at, failed_at, Hunts}
-use Rattle.dali_progress.proofs.Misheard.Sent.{Taken, some_is, counted_on, told_hunts, few_on, reached_core, own_core, hunts_core, low_byte, HuntedTo}
+use Rattle.dali_progress.proofs.Misheard.Sent.{Taken, counted_on, told_hunts, few_on, reached_core, own_core, hunts_core, low_byte, HuntedTo}
 
 -- A FRAME OF A VISIT IS SENT. Where it is gear g that is visited, anything may be heard of it; of any other it is heard what it
 -- answers.
@@ -129,18 +129,6 @@ any_verified g x v a n r hs (Byte b) reached bare short small one = go (short_of
   go : (o : Option ℕ) → VisitStage g (answered r a o) x v n hs
   go None = (reached, bare, one)
   go (Some d) = by d (d == a)
-
-mask_queried : (r : SearchAddress) → queried r (Byte (program_data None)) ≡ stage.Unnamed r
-mask_queried r = refl
-
-verified_short : (r : SearchAddress) (a : ℕ) → a < 64 → verified r a (Byte (program_data (Some a))) ≡ stage.Confirmed r a
-verified_short r a small = rw (short_of_code a small) (go (a == a) (same a)) where
-  same : (m : ℕ) → (m == m) ≡ true
-  same m = grind (arith, nat_tests)
-
-  go : (t : Bool) → t ≡ true → (if t then stage.Confirmed r a else stage.Inconclusive r (Some a)) ≡ stage.Confirmed r a
-  go true e = refl
-  go false e = cc
 
 -- who is visited: gear g, or another, whose answer is heard
 abbrev pub IsHeardOf : ℕ → ℕ → Option ℕ → List Gear → Answer → Type 0
@@ -309,7 +297,7 @@ programmed_sent g a r c silent gs numbers h v is small there seek =
         least = λ m has. w.stage_is.0.least m (sym (programmed_wants gs numbers r a m seek) ∙ has);
       },
       subst (λ m. AreBareBut g m hs) value (gear.bare_programmed g gs numbers r a seek w.stage_is.1),
-      subst (λ m. HaveShort hs m a) value (gear.have_programmed gs numbers r a seek),
+      subst (λ m. HaveShort hs m a) value (short_given gs numbers r a seek),
       small,
     ))
   where
@@ -348,7 +336,7 @@ confirmed_sent g a r c silent gs numbers h v is t seek =
       reached = reached_core c.ascent w.visited gs hs same w.stage_is.0
 
       short : HaveShort hs w.visited a
-      short = gear.have_core w.visited a gs hs same w.stage_is.2
+      short = short_kept gs hs w.visited a same w.stage_is.2
 
       heard : IsHeardOf g w.visited (Some a) gs h
       heard = visit_heard g w.visited c.number r (Some a) gs numbers h t w.stage_is.0.there w.drawn (same_value c.number r w.visited is w.number) seek

@@ -1,5 +1,5 @@
 use Rattle.std.proofs.Common.{◌≡◌, ℕ, ◌+◌, ◌*◌, ◌<◌, ◌≤◌, ◌⊎◌, inl, inr, Bool, true, false, List, refl, sym, ap, subst, ◌∙◌, arith, length, Option, Some, None}
-use Rattle.std.specs.Prelude.{◌==◌, ◌&&◌, not, nat_lt, MatchOption, if◌then◌else◌}
+use Rattle.std.specs.Prelude.{◌==◌, not, nat_lt, MatchOption, if◌then◌else◌}
 use Rattle.std.proofs.lemmas.Bool.Decides.{nat_tests}
 use Rattle.dali_frame.specs.declared.frames.Answer.{Answer}
 use Rattle.dali_frame.specs.declared.numbers.SearchAddress.{SearchAddress}
@@ -51,6 +51,7 @@ use Rattle.dali_progress.proofs.Survey.Rising.{knows_told}
 use Rattle.dali_progress.proofs.Survey.Woken.{AreLow}
 use Rattle.dali_progress.proofs.Later.{course_stays}
 use Rattle.dali_progress.proofs.Survey.Begins.{begins_whole, all_taken}
+use Rattle.dali_progress.proofs.Survey.Hunting.{found_same, begins_by, nothing_open}
 use Rattle.dali_progress.proofs.Survey.Visits.{found_address, withheld_anothers, ungiven_next}
 use Rattle.dali_progress.proofs.Misheard.Gear.{AreSought, AreBare, HaveDrawn, DrewApart, AreKnown, HasOne}
 use Rattle.dali_progress.proofs.Misheard.Climbing as climbing
@@ -59,7 +60,7 @@ use Rattle.dali_progress.proofs.Misheard.Stands.{MisheardStands}
 use Rattle.dali_progress.proofs.Misheard.Stands as stands
 use Rattle.dali_progress.proofs.Misheard.Begins.{IsAtHand, KeepsPast, IsOwn, IsNext, Calm, calm_of, calm_ordered, later_by, turns_by, first_by, fills}
 use Rattle.dali_progress.proofs.Misheard.Begins.{hunts_above, hunts_on}
-use Rattle.dali_progress.proofs.Misheard.Turns.{found_at, known_as, own_by, whole_over, census_turns, calling_turns, opening_turns, drawing_turns, not_open}
+use Rattle.dali_progress.proofs.Misheard.Turns.{found_at, known_as, own_by, whole_over, census_turns, calling_turns, opening_turns, drawing_turns}
 
 -- A CONTROLLER ACTS while gear are hunted and visited, and at its close; and in whatever transaction.
 
@@ -90,16 +91,7 @@ none_drawn g found gs sought_are nothing numbered nobody k there on none = go (n
   go (inl mask) = mask
   go (inr small) = absurd (left_none gs k nobody there on (sought_are k there on (λ same. nothing) none small) small)
 
--- another transaction begins with its first frame
-begins_by : (t : Machine) (o : Order) (cs : Course) (r : SearchAddress) (room : ℕ) → o ≡ question (next_course t) r room → next_course t ≡ cs
-    → is_hunting cs.purpose ≡ false → o ≡ beginning (next_course t)
-begins_by t o cs r room asks same other = asks ∙ go (subst (λ (c : Course). is_hunting c.purpose ≡ false) (sym same) other) where
-  go : is_hunting (next_course t).purpose ≡ false → question (next_course t) r room ≡ beginning (next_course t)
-  go none =
-      ap (λ b. if b && nat_lt (bytes_to_send (next_course t).number r) room
-      then Put LATER (frame_of (byte_to_send (next_course t).number r)) else beginning (next_course t)) none
-
--- and so do those where the block is full
+-- another transaction begins where the block is full
 full_rests : (t : Machine) (c : Course) → is_hunting (full t c).purpose ≡ false
 full_rests t c = go (asks_again t) where
   by : (d : Course) (next : Option ℕ) → is_hunting (ask_or_call d next).purpose ≡ false
@@ -167,13 +159,13 @@ vain_over g t o h r room gs asks next none v = go (has_open t) refl (nat_lt t.co
       first_by g t o (closing_by (hunted t.course h) GaveUp) gs calm
       (begins_by t o (closing_by (hunted t.course h) GaveUp) r room asks (by true false free spent) refl) (by true false free spent) v.stands.way
       (record { stage_is = tt; well = inl (served_by g t.course.ascent.found gs v.sought_are (v.counted.drawn (some t.course.tally.draws spent)) v.nobody) })
-          v.known
+      v.known
     where
       some : (n : ℕ) → nat_lt n 3 ≡ false → 0 < n
       some n e = grind (arith, nat_tests, e)
   go false shut b few =
       fills g t o (hunted t.course h) gs calm (begins_full (by false b shut few)) (by false b shut few) v.stands.way v.counted
-      v.known (inl (all_taken t.kept t.heard (not_open t shut))) v.hand.one v.hand.holds
+      v.known (inl (all_taken t.kept t.heard (nothing_open t shut))) v.hand.one v.hand.holds
     where
       begins_full : next_course t ≡ full t (hunted t.course h) → o ≡ beginning (next_course t)
       begins_full same = begins_by t o (full t (hunted t.course h)) r room asks same (full_rests t (hunted t.course h))
@@ -203,7 +195,7 @@ hunt_over g t o h r room gs asks next v = go ((hunted t.course h).ascent.found =
   go : (b : Bool) → ((hunted t.course h).ascent.found == 0) ≡ b → IsNext g (machine_ordered t o) o gs
   go true is =
       vain_over g t o h r room gs asks (by true is)
-      (sym (climbing.found_same t.course.ascent (is_yes h)) ∙ wanted.same_number (hunted t.course h).ascent.found 0 is) v
+      (sym (found_same t.course.ascent (is_yes h)) ∙ wanted.same_number (hunted t.course h).ascent.found 0 is) v
   go false is = found_over g t o h r room gs asks (by false is) v
 
 -- ---------------------------------------------------------------- a hunt
@@ -261,7 +253,7 @@ answered_turns g t o r h room gs by st hand purpose is v = go (leads_to (ascende
   next s e = ap (begins_at t) is ∙ ap (λ q. compared_in t q h) purpose ∙ ap (λ x. hunted_to t x (hunted t.course h)) e
 
   sought_are : AreSought g (hunted t.course h).ascent.found gs
-  sought_are = subst (λ n. AreSought g n gs) (sym (climbing.found_same t.course.ascent (is_yes h))) v.sought_are
+  sought_are = subst (λ n. AreSought g n gs) (sym (found_same t.course.ascent (is_yes h))) v.sought_are
 
   rises : leads_to (ascended t.course.ascent (is_yes h)) ≡ Again
       → Rises false g stage.Free (ascended t.course.ascent (is_yes h)) (sought (asked_next (ascended t.course.ascent (is_yes h)))) gs
@@ -617,7 +609,7 @@ visiting_turns g t o (stage.Unanswered r) gs by st hand last purpose is running 
     (ap (begins_at t) is ∙ ap (λ b. unanswered t r b (address_for t.kept.reserved (value_of r))) v.opened_is)
 visiting_turns g t o (stage.Inconclusive r other) gs by st hand last purpose is running v =
     failed_turns g t o (stage.Inconclusive r other) gs st hand.apart v refl refl v.at v.at.stage_is (known_as g t gs Visiting st purpose)
-        (by.followed.unconfirmed r other is) (ap (begins_at t) is)
+    (by.followed.unconfirmed r other is) (ap (begins_at t) is)
 visiting_turns g t o _ gs by st hand last purpose is running v = absurd v.at.stage_is
 
 -- ---------------------------------------------------------------- gear g is passed over
@@ -638,7 +630,7 @@ passing_turns g t o (stage.PassedOver r) gs by st last purpose is running v whol
     (λ f. whole_over t PassingOver (stage.PassedOver r) purpose is (λ f sends. (let none = sends.0 in cc)) f
     (course_stays t (stage.PassedOver r) is tt)) whole)
     (ap (begins_at t) is) st.way v.opened_is v.counted (λ wanted_is. absurd (unwanted wanted_is)) v.low v.sought_are w.stage_is.1 w.drawn w.stage_is.0
-        (known_as g t gs PassingOver st purpose)
+    (known_as g t gs PassingOver st purpose)
   where
     w : Visits g PassingOver (stage.PassedOver r) t.course.ascent t.course.number gs
     w = v.at

@@ -148,7 +148,7 @@ hunted_next t h r room s purpose is leads =
     ap (begins_at t) is ∙ ap (λ p. compared_in t p h) purpose ∙ ap (λ x. hunted_to t x (hunted t.course h)) leads
 
 -- another transaction begins with its first frame
-begins_by : (t : Machine) (o : Order) (cs : Course) (r : SearchAddress) (room : ℕ) → o ≡ question (next_course t) r room → next_course t ≡ cs
+pub begins_by : (t : Machine) (o : Order) (cs : Course) (r : SearchAddress) (room : ℕ) → o ≡ question (next_course t) r room → next_course t ≡ cs
     → is_hunting cs.purpose ≡ false → o ≡ beginning (next_course t)
 begins_by t o cs r room asks same other = asks ∙ go (subst (λ (c : Course). is_hunting c.purpose ≡ false) (sym same) other) where
   go : is_hunting (next_course t).purpose ≡ false → question (next_course t) r room ≡ beginning (next_course t)
@@ -156,7 +156,7 @@ begins_by t o cs r room asks same other = asks ∙ go (subst (λ (c : Course). i
       ap (λ b. if b && nat_lt (bytes_to_send (next_course t).number r) room
       then Put LATER (frame_of (byte_to_send (next_course t).number r)) else beginning (next_course t)) none
 
-found_same : (x : Ascent) (b : Bool) → (ascended x b).found ≡ x.found
+pub found_same : (x : Ascent) (b : Bool) → (ascended x b).found ≡ x.found
 found_same x true = refl
 found_same x false = refl
 
@@ -172,7 +172,7 @@ unasked_again t none =
 pub never_full : (t : Machine) (c : Course) → t.course.tally.is_missed ≡ false → full t c ≡ closing_by c BlockFull
 never_full t c none = ap (λ b. if b then asking_again t.kept c else closing_by c BlockFull) (unasked_again t none)
 
-nothing_open : (t : Machine) → has_open t ≡ false → least_open t.kept t.heard ≡ None
+pub nothing_open : (t : Machine) → has_open t ≡ false → least_open t.kept t.heard ≡ None
 nothing_open t e = go (least_open t.kept t.heard) e where
   go : (p : Option ℕ) → is_some p ≡ false → p ≡ None
   go None e = refl

@@ -58,7 +58,7 @@ none_answer c k (g ∷ gs) none =
     let here : answer_to c g ≡ None = none 0 (omega arith) in
     answers_first c k g gs ∙ ap (λ o. option_cons o (answers_of Everyone c (k + 1) gs)) here ∙ none_answer c (k + 1) gs (λ i h. none (suc i) (omega arith))
 
-one_answers : (c : Command) (k : ℕ) (gs : List Gear) (i v : ℕ) → i < length gs → answer_to c (gear_of gs i) ≡ Some v
+pub one_answers : (c : Command) (k : ℕ) (gs : List Gear) (i v : ℕ) → i < length gs → answer_to c (gear_of gs i) ≡ Some v
     → ((j : ℕ) → j < length gs → (j ≡ i → ⊥) → answer_to c (gear_of gs j) ≡ None) → answers_of Everyone c k gs ≡ v ∷ []
 one_answers c k [] i v h e none = absurd (omega arith)
 one_answers c k (g ∷ gs) zero v h e none =

@@ -105,7 +105,7 @@ calls_on s t k heard c start gs numbers left d v leaves stage gear low sent few 
       let most = roll_least c.tally.is_silent (count_by is_bare (those_drawn gs)) (count_by is_lost gs) in
       one_less (roll + spare start.any c.tally.draws) left (call_sent s) v.frames (omega (arith, most, few))
 
-compare_next : (r : SearchAddress) (last : Option Answer) (left : ℕ) (h : Answer) → 0 < left
+pub compare_next : (r : SearchAddress) (last : Option Answer) (left : ℕ) (h : Answer) → 0 < left
     → next_stage (stage.Hunted r last left) Compare h ≡ stage.Hunted r (Some h) (left - 1)
 compare_next r last left h some =
     ap (λ b. unwrap_or (if b then None else Some (stage.Hunted r (Some h) (left - 1))) stage.Over) (test left some) where
