@@ -347,6 +347,6 @@ module _ (p : Plan) (capacity : ℕ) (front : List Event) (c : ℕ) (first : Ent
       (gear_at (after p capacity (front ++ sent_event c first ∷ es)) g) calls.all.3 (here.1 none) in
       let search : (gear_at (after p capacity (front ++ sent_event c first ∷ es)) g).search ≡ calls.all.0 =
       (subst (λ s. Knows s (gear_at (after p capacity (front ++ sent_event c first ∷ es)) g)) calls.all.3 (known.knows g attends.there here.0))
-          (rw state refl) in
+      (rw state refl) in
       answers_all (gear_at (after p capacity (front ++ sent_event c first ∷ es)) g) calls.all.0 state
       (small (gear_at (after p capacity (front ++ sent_event c first ∷ es)) g).random (drawn.random g attends.there)) search calls.all.4
