@@ -117,7 +117,7 @@ abbrev pub IsNext : ℕ → Machine → Order → List Gear → Type 0
 IsNext g m (Put p f) gs = MisheardStands false g m gs
 IsNext g m (Commit x) gs = Calm g m gs × Keeps g m.kept m.heard m.course m.silent x gs
 IsNext g m (Done e) gs = EndsBy g e m.kept m.heard gs
-IsNext g m (Halt why) gs = Unit {0}
+IsNext g m (Halt why) gs = ⊥
 
 pub calm_ordered : {told : Bool} (g : ℕ) (t : Machine) (x : Record) (gs : List Gear) → MisheardStands told g t gs → Calm g (machine_ordered t (Commit x)) gs
 calm_ordered g t x gs st = record { there = st.there; tries = st.tries; way = st.way }

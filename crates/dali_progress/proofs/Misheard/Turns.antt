@@ -19,6 +19,7 @@ use Rattle.dali_script.proofs.Lists.{has_before, has_last}
 use Rattle.dali_script.proofs.Members.{same_member}
 use Rattle.dali_script.specs.declared.stage.Stage.{Stage}
 use Rattle.dali_script.specs.declared.stage.Stage.TheVariants as stage
+use Rattle.dali_script.specs.declared.finding.Finding.TheVariants.{Resolved}
 use Rattle.dali_script.specs.Findings.{finding_of}
 use Rattle.dali_script.specs.Stages.{stage_of, finding_at}
 use Rattle.dali_script.specs.declared.orders.Order.{Order}
@@ -48,6 +49,7 @@ use Rattle.dali_progress.proofs.Both.{never_eight, has_address}
 use Rattle.dali_progress.proofs.Later.{course_stays}
 use Rattle.dali_progress.proofs.Census.Asked.{sending_of}
 use Rattle.dali_progress.proofs.Survey.Queried.{Holds, one_gear}
+use Rattle.dali_progress.proofs.Survey.Turns.{IsUncontradicted}
 use Rattle.dali_progress.proofs.Survey.Hunting.{nothing_open}
 use Rattle.dali_progress.proofs.Survey.Begins.{begins_whole, all_taken}
 use Rattle.dali_progress.proofs.Misheard.Gear as gear
@@ -156,9 +158,10 @@ own_by k b n gs kept known one small drew fresh a has =
 
 -- three bytes told a number
 told_turns : (g : ℕ) (t : Machine) (o : Order) (a b n : ℕ) (gs : List Gear) → IsGivenBy t o → MisheardStands true g t gs → IsAtHand t.kept gs
+    → IsUncontradicted t
     → t.course.purpose ≡ Asking a → stage_of t.trace ≡ stage.Spelled b (Some n) → Asks g (stage.Spelled b (Some n)) t.course t.silent gs
     → Census g a (stage.Spelled b (Some n)) t.kept t.heard t.course gs → IsNext g (machine_ordered t o) o gs
-told_turns g t o a b n gs by st hand purpose is v w = go (nat_lt n MASK24) refl where
+told_turns g t o a b n gs by st hand agreed purpose is v w = go (nat_lt n MASK24) refl where
   who : ℕ
   who = w.asked.1.0
 
@@ -217,7 +220,7 @@ told_turns g t o a b n gs by st hand purpose is v w = go (nat_lt n MASK24) refl 
       let may : IsFresh t.kept.enrolled (b, n) = subst (λ y. MayAdd t.kept y) is_enrol by.ordered.allowed.may in
       subst (λ y. IsNext g (machine_ordered t (Commit y)) (Commit y) gs) (sym is_enrol) (calm_ordered g t (Enrol b n) gs st, enrols small may)
   follows (Done e) by small never = absurd never
-  follows (Halt why) by small contradicts = tt
+  follows (Halt why) by small contradicts = absurd (agreed (Resolved b n) (found_at g t gs (stage.Spelled b (Some n)) st is) contradicts)
 
   go : (s : Bool) → nat_lt n MASK24 ≡ s → IsNext g (machine_ordered t o) o gs
   go true less =
@@ -229,10 +232,11 @@ told_turns g t o a b n gs by st hand purpose is v w = go (nat_lt n MASK24) refl 
       (λ i told drew. absurd (large (subst (λ m. m < MASK24) (same i told) drew)))
 
 pub census_turns : (g : ℕ) (t : Machine) (o : Order) (a : ℕ) (s : Stage) (gs : List Gear) → IsGivenBy t o → MisheardStands true g t gs → IsAtHand t.kept gs
+    → IsUncontradicted t
     → IsNoEnrolment t.last → t.course.purpose ≡ Asking a → stage_of t.trace ≡ s → (s ≡ stage.Free → ⊥) → Asks g s t.course t.silent gs
     → Census g a s t.kept t.heard t.course gs → IsWhole (machine_ordered t o) → IsNext g (machine_ordered t o) o gs
-census_turns g t o a stage.Free gs by st hand last purpose is running v w whole = absurd (running refl)
-census_turns g t o a (stage.HighAsked b None) gs by st hand last purpose is running v w whole = go (t.asked == 0) refl where
+census_turns g t o a stage.Free gs by st hand agreed last purpose is running v w whole = absurd (running refl)
+census_turns g t o a (stage.HighAsked b None) gs by st hand agreed last purpose is running v w whole = go (t.asked == 0) refl where
   begins : o ≡ beginning (next_course t)
   begins =
       begins_whole t o (stage.HighAsked b None) by is (λ r e. cc) (λ e. cc) (found_at g t gs (stage.HighAsked b None) st is) last
@@ -251,12 +255,13 @@ census_turns g t o a (stage.HighAsked b None) gs by st hand last purpose is runn
       first_by g t o t.course gs (calm_of g t gs st) begins (next ∙ ap (asked_once t) again) st.way
       (rw purpose (record { unopened = v.unopened; counted = v.counted; stage_is = tt }))
       (rw purpose (record { small = w.small; from_is = w.from_is; asked = tt; census = w.census }))
-census_turns g t o a (stage.HighAsked b (Some u)) gs by st hand last purpose is running v w whole =
+census_turns g t o a (stage.HighAsked b (Some u)) gs by st hand agreed last purpose is running v w whole =
     turns_by g t o (Asking a) (stage.HighAsked b (Some u)) (RandomByte b Middle) gs by st purpose is refl
-census_turns g t o a (stage.MiddleAsked b (Some x)) gs by st hand last purpose is running v w whole =
+census_turns g t o a (stage.MiddleAsked b (Some x)) gs by st hand agreed last purpose is running v w whole =
     turns_by g t o (Asking a) (stage.MiddleAsked b (Some x)) (RandomByte b Low) gs by st purpose is refl
-census_turns g t o a (stage.Spelled b (Some n)) gs by st hand last purpose is running v w whole = told_turns g t o a b n gs by st hand purpose is v w
-census_turns g t o a _ gs by st hand last purpose is running v w whole = absurd w.asked
+census_turns g t o a (stage.Spelled b (Some n)) gs by st hand agreed last purpose is running v w whole =
+    told_turns g t o a b n gs by st hand agreed purpose is v w
+census_turns g t o a _ gs by st hand agreed last purpose is running v w whole = absurd w.asked
 
 -- ---------------------------------------------------------------- the roll call
 

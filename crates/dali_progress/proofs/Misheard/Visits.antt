@@ -14,6 +14,7 @@ use Rattle.dali_script.specs.declared.records.Record.TheVariants.{Reserve, Enrol
 use Rattle.dali_script.specs.Records.{Has, HasRandom, IsFresh, MayAdd}
 use Rattle.dali_script.specs.declared.stage.Stage.{Stage}
 use Rattle.dali_script.specs.declared.stage.Stage.TheVariants as stage
+use Rattle.dali_script.specs.declared.finding.Finding.TheVariants.{Queried}
 use Rattle.dali_script.specs.Stages.{stage_of}
 use Rattle.dali_script.specs.declared.orders.Order.{Order}
 use Rattle.dali_script.specs.declared.orders.Order.TheVariants.{Put, Commit, Done, Halt}
@@ -51,6 +52,7 @@ use Rattle.dali_progress.proofs.Survey.Rising.{knows_told}
 use Rattle.dali_progress.proofs.Survey.Woken.{AreLow}
 use Rattle.dali_progress.proofs.Later.{course_stays}
 use Rattle.dali_progress.proofs.Survey.Begins.{begins_whole, all_taken}
+use Rattle.dali_progress.proofs.Survey.Turns.{IsUncontradicted}
 use Rattle.dali_progress.proofs.Survey.Hunting.{found_same, begins_by, nothing_open}
 use Rattle.dali_progress.proofs.Survey.Visits.{found_address, withheld_anothers, ungiven_next}
 use Rattle.dali_progress.proofs.Misheard.Gear.{AreSought, AreBare, HaveDrawn, DrewApart, AreKnown, HasOne}
@@ -547,10 +549,10 @@ unnamed_turns g t o r gs by st hand purpose is v =
 
 -- who was found is withdrawn
 withdrawn_turns : (g : ℕ) (t : Machine) (o : Order) (r : SearchAddress) (a : ℕ) (gs : List Gear) → IsGivenBy t o → MisheardStands true g t gs
-    → IsAtHand t.kept gs → t.course.purpose ≡ Visiting → stage_of t.trace ≡ stage.Withdrawn r a
+    → IsAtHand t.kept gs → IsUncontradicted t → t.course.purpose ≡ Visiting → stage_of t.trace ≡ stage.Withdrawn r a
     → Hunts true g Visiting (stage.Withdrawn r a) t.course t.silent gs
     → IsNext g (machine_ordered t o) o gs
-withdrawn_turns g t o r a gs by st hand purpose is v = go o by (by.ordered.found r a is) where
+withdrawn_turns g t o r a gs by st hand agreed purpose is v = go o by (by.ordered.found r a is) where
   w : Visits g Visiting (stage.Withdrawn r a) t.course.ascent t.course.number gs
   w = v.at
 
@@ -583,34 +585,34 @@ withdrawn_turns g t o r a gs by st hand purpose is v = go o by (by.ordered.found
       let may : IsFresh t.kept.enrolled (a, value_of r) = subst (λ y. MayAdd t.kept y) has by.ordered.allowed.may in
       subst (λ y. IsNext g (machine_ordered t (Commit y)) (Commit y) gs) (sym has) (calm_ordered g t (Enrol a (value_of r)) gs st, inr (keeps, own may))
   go (Done e) by has = absurd has
-  go (Halt why) by has = tt
+  go (Halt why) by has = absurd (agreed (Queried a (value_of r)) (found_at g t gs (stage.Withdrawn r a) st is) has)
 
 visiting_turns : (g : ℕ) (t : Machine) (o : Order) (s : Stage) (gs : List Gear) → IsGivenBy t o → MisheardStands true g t gs → IsAtHand t.kept gs
-    → IsNoEnrolment t.last → t.course.purpose ≡ Visiting → stage_of t.trace ≡ s → (s ≡ stage.Free → ⊥)
+    → IsUncontradicted t → IsNoEnrolment t.last → t.course.purpose ≡ Visiting → stage_of t.trace ≡ s → (s ≡ stage.Free → ⊥)
     → Hunts true g Visiting s t.course t.silent gs → IsNext g (machine_ordered t o) o gs
-visiting_turns g t o stage.Free gs by st hand last purpose is running v = absurd (running refl)
-visiting_turns g t o (stage.HighSent high) gs by st hand last purpose is running v =
+visiting_turns g t o stage.Free gs by st hand agreed last purpose is running v = absurd (running refl)
+visiting_turns g t o (stage.HighSent high) gs by st hand agreed last purpose is running v =
     turns_by g t o Visiting (stage.HighSent high) _ gs by st purpose is refl
-visiting_turns g t o (stage.MiddleSent high middle) gs by st hand last purpose is running v =
+visiting_turns g t o (stage.MiddleSent high middle) gs by st hand agreed last purpose is running v =
     turns_by g t o Visiting (stage.MiddleSent high middle) _ gs by st purpose is refl
-visiting_turns g t o (stage.NumberSent r) gs by st hand last purpose is running v =
+visiting_turns g t o (stage.NumberSent r) gs by st hand agreed last purpose is running v =
     turns_by g t o Visiting (stage.NumberSent r) QueryShort gs by st purpose is refl
-visiting_turns g t o (stage.Found r b) gs by st hand last purpose is running v =
+visiting_turns g t o (stage.Found r b) gs by st hand agreed last purpose is running v =
     turns_by g t o Visiting (stage.Found r b) Withdraw gs by st purpose is refl
-visiting_turns g t o (stage.Unnamed r) gs by st hand last purpose is running v = unnamed_turns g t o r gs by st hand purpose is v
-visiting_turns g t o (stage.Programmed r a) gs by st hand last purpose is running v =
+visiting_turns g t o (stage.Unnamed r) gs by st hand agreed last purpose is running v = unnamed_turns g t o r gs by st hand purpose is v
+visiting_turns g t o (stage.Programmed r a) gs by st hand agreed last purpose is running v =
     turns_by g t o Visiting (stage.Programmed r a) QueryShort gs by st purpose is refl
-visiting_turns g t o (stage.Confirmed r a) gs by st hand last purpose is running v =
+visiting_turns g t o (stage.Confirmed r a) gs by st hand agreed last purpose is running v =
     turns_by g t o Visiting (stage.Confirmed r a) Withdraw gs by st purpose is refl
-visiting_turns g t o (stage.Withdrawn r a) gs by st hand last purpose is running v = withdrawn_turns g t o r a gs by st hand purpose is v
-visiting_turns g t o (stage.Unanswered r) gs by st hand last purpose is running v =
+visiting_turns g t o (stage.Withdrawn r a) gs by st hand agreed last purpose is running v = withdrawn_turns g t o r a gs by st hand agreed purpose is v
+visiting_turns g t o (stage.Unanswered r) gs by st hand agreed last purpose is running v =
     failed_turns g t o (stage.Unanswered r) gs st hand.apart v refl refl v.at v.at.stage_is (known_as g t gs Visiting st purpose)
     (given.begins_after t o (stage.Unanswered r) by is tt (found_at g t gs (stage.Unanswered r) st is) last (never_eight t.tries st.tries))
     (ap (begins_at t) is ∙ ap (λ b. unanswered t r b (address_for t.kept.reserved (value_of r))) v.opened_is)
-visiting_turns g t o (stage.Inconclusive r other) gs by st hand last purpose is running v =
+visiting_turns g t o (stage.Inconclusive r other) gs by st hand agreed last purpose is running v =
     failed_turns g t o (stage.Inconclusive r other) gs st hand.apart v refl refl v.at v.at.stage_is (known_as g t gs Visiting st purpose)
     (by.followed.unconfirmed r other is) (ap (begins_at t) is)
-visiting_turns g t o _ gs by st hand last purpose is running v = absurd v.at.stage_is
+visiting_turns g t o _ gs by st hand agreed last purpose is running v = absurd v.at.stage_is
 
 -- ---------------------------------------------------------------- gear g is passed over
 
@@ -656,16 +658,17 @@ closing_turns g t o e _ gs by st purpose is running v = absurd v.stage_is
 -- ---------------------------------------------------------------- of whatever transaction
 
 -- after a frame that was heard
-pub turned : (g : ℕ) (t : Machine) (o : Order) (gs : List Gear) → IsGivenBy t o → MisheardStands true g t gs → IsAtHand t.kept gs
+pub turned : (g : ℕ) (t : Machine) (o : Order) (gs : List Gear) → IsGivenBy t o → MisheardStands true g t gs → IsAtHand t.kept gs → IsUncontradicted t
     → IsWhole (machine_ordered t o) → IsNoEnrolment t.last → (stage_of t.trace ≡ stage.Free → ⊥) → IsNext g (machine_ordered t o) o gs
-turned g t o gs by st hand whole last running = go t.course.purpose refl st.at where
+turned g t o gs by st hand agreed whole last running = go t.course.purpose refl st.at where
   go : (p : Purpose) → t.course.purpose ≡ p → At true g p (stage_of t.trace) t.kept t.heard t.course t.silent gs → IsNext g (machine_ordered t o) o gs
-  go (Asking a) purpose at = census_turns g t o a (stage_of t.trace) gs by st hand last purpose refl running at (known_as g t gs (Asking a) st purpose) whole
+  go (Asking a) purpose at =
+      census_turns g t o a (stage_of t.trace) gs by st hand agreed last purpose refl running at (known_as g t gs (Asking a) st purpose) whole
   go Calling purpose at = calling_turns g t o (stage_of t.trace) gs by st purpose refl running at
   go Opening purpose at = opening_turns g t o (stage_of t.trace) gs by st last purpose refl running at
   go Drawing purpose at = drawing_turns g t o (stage_of t.trace) gs by st last purpose refl running at
   go Hunting purpose at = hunting_turns g t o (stage_of t.trace) gs by st hand purpose refl running at
-  go Visiting purpose at = visiting_turns g t o (stage_of t.trace) gs by st hand last purpose refl running at
+  go Visiting purpose at = visiting_turns g t o (stage_of t.trace) gs by st hand agreed last purpose refl running at
   go PassingOver purpose at = passing_turns g t o (stage_of t.trace) gs by st last purpose refl running at whole
   go (Closing e) purpose at = closing_turns g t o e (stage_of t.trace) gs by st purpose refl running at
   go Probing purpose at = absurd at
