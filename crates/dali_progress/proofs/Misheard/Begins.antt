@@ -69,7 +69,7 @@ pub record KeepsAsked (g : ℕ) (k : Kept) (heard : Shorts) (c : Course) (silent
   pub unopened : c.opened ≡ false
   pub counted : IsCounted g c.tally silent 0 gs
   pub small : c.from ≤ 64
-  pub census : IsCensus g c.from c.tally k heard gs
+  pub census : IsCensus c.from c.tally k heard gs
 
 -- one is to be kept of a visit that succeeded, and then the search goes on above it
 pub record KeepsPast (g : ℕ) (k : Kept) (c : Course) (silent : ℕ) (gs : List Gear) : Type 0 where
@@ -215,7 +215,7 @@ filled_for : (k : Kept) (heard : Shorts) (gs : List Gear) → IsFilledFor k hear
 filled_for k heard gs (inl taken) = inl taken
 filled_for k heard gs (inr (a, r, has, other, apart)) = inr (a, r, has, other)
 
-called_known : (g : ℕ) (y : Tally) (k : Kept) (heard : Shorts) (gs : List Gear) → IsCensus g 64 y k heard gs
+called_known : (g : ℕ) (y : Tally) (k : Kept) (heard : Shorts) (gs : List Gear) → IsCensus 64 y k heard gs
     → AreKnown k.reserved k.enrolled gs × IsSpent g y k heard gs
 called_known g y k heard gs (inl first) =
     (tabled_known k gs first.1, inl (λ passed drew. absurd (let none : y.passed.count ≡ 0 = first.0 in omega (arith, none, passed))))
@@ -233,15 +233,15 @@ tabled_on k gs f d one holds unasked all i there on a low short drew = go (nat_l
       let same : who.0 ≡ i = one who.0 i a who.1 there who.2 short in
       subst (λ n. Has k.enrolled (a, n)) (sym who.3 ∙ ap (λ j. (gear_of gs j).random) same) entry.1
 
-census_on : (g f d : ℕ) (y : Tally) (k : Kept) (heard : Shorts) (gs : List Gear) → OneShort gs → IsTrue k.enrolled gs
-    → ((c : ℕ) → f ≤ c → c < d → is_asked k c ≡ false) → IsCensus g f y k heard gs → IsCensus g d y k heard gs
-census_on g f d y k heard gs one holds unasked (inl first) = inl (first.0, tabled_on k gs f d one holds unasked first.1)
-census_on g f d y k heard gs one holds unasked (inr later) = inr later
+census_on : (f d : ℕ) (y : Tally) (k : Kept) (heard : Shorts) (gs : List Gear) → OneShort gs → IsTrue k.enrolled gs
+    → ((c : ℕ) → f ≤ c → c < d → is_asked k c ≡ false) → IsCensus f y k heard gs → IsCensus d y k heard gs
+census_on f d y k heard gs one holds unasked (inl first) = inl (first.0, tabled_on k gs f d one holds unasked first.1)
+census_on f d y k heard gs one holds unasked (inr later) = inr later
 
 -- the next short address, or the roll call
 pub asks_or_calls : (g : ℕ) (t : Machine) (o : Order) (c : Course) (f : ℕ) (gs : List Gear) → Calm g t gs → o ≡ beginning (next_course t)
     → next_course t ≡ ask_or_call c (next_asked t.kept f) → c.way ≡ Surveying → c.opened ≡ false → IsCounted g c.tally t.silent 0 gs → f ≤ 64
-    → IsCensus g f c.tally t.kept t.heard gs → OneShort gs → IsTrue t.kept.enrolled gs → IsNext g (machine_ordered t o) o gs
+    → IsCensus f c.tally t.kept t.heard gs → OneShort gs → IsTrue t.kept.enrolled gs → IsNext g (machine_ordered t o) o gs
 asks_or_calls g t o c f gs calm is same way unopened counted few census one holds =
     go (next_asked t.kept f) same (asked_later t.kept (64 - f) f) (asked_before t.kept (64 - f) f) (asked_within t.kept (64 - f) f) where
       go : (next : Option ℕ) → next_course t ≡ ask_or_call c next → (next ≡ None → (d : ℕ) → f ≤ d → d < f + (64 - f) → is_asked t.kept d ≡ false)
@@ -258,7 +258,7 @@ asks_or_calls g t o c f gs calm is same way unopened counted few census one hold
             low = tt;
           })
           (called_known g c.tally t.kept t.heard gs
-          (census_on g f 64 c.tally t.kept t.heard gs one holds (λ d past under. none refl d past (omega (arith, under, few))) census))
+          (census_on f 64 c.tally t.kept t.heard gs one holds (λ d past under. none refl d past (omega (arith, under, few))) census))
       go (Some a) next none before within =
           let high : a < f + (64 - f) = (within a refl).1 in
           first_by g t o (asking c a) gs calm is next way
@@ -267,7 +267,7 @@ asks_or_calls g t o c f gs calm is same way unopened counted few census one hold
             small = omega (arith, high, few);
             from_is = refl;
             asked = tt;
-            census = census_on g f a c.tally t.kept t.heard gs one holds (λ d past under. before a refl d past under) census;
+            census = census_on f a c.tally t.kept t.heard gs one holds (λ d past under. before a refl d past under) census;
           })
 
 pub asks_on : (g : ℕ) (t : Machine) (o : Order) (gs : List Gear) → Calm g t gs → o ≡ beginning (next_course t) → next_course t ≡ goes_on_to t

@@ -300,67 +300,67 @@ tabled_core f enrolled =
     subst (λ n. Has enrolled (a, n)) (sym same.same_random)
     (was a low (sym same.same_short ∙ short) (subst (λ n. n < MASK24) same.same_random drew)))
 
-census_core : (g f : ℕ) (y : Tally) (k : Kept) (heard : Shorts) (gs hs : List Gear) → SameCore gs hs → IsCensus g f y k heard gs → IsCensus g f y k heard hs
-census_core g f y k heard gs hs same (inl first) = inl (first.0, tabled_core f k.enrolled gs hs same first.1)
-census_core g f y k heard gs hs same (inr later) =
+census_core : (f : ℕ) (y : Tally) (k : Kept) (heard : Shorts) (gs hs : List Gear) → SameCore gs hs → IsCensus f y k heard gs → IsCensus f y k heard hs
+census_core f y k heard gs hs same (inl first) = inl (first.0, tabled_core f k.enrolled gs hs same first.1)
+census_core f y k heard gs hs same (inr later) =
     inr (gear.known_core k.reserved k.enrolled gs hs same later.0, filled_core k heard gs hs same later.1)
 
-census_with : (g f b : ℕ) (y : Tally) (k : Kept) (heard : Shorts) (gs : List Gear) → b < 64 → IsCensus g f y k heard gs
-    → IsCensus g f y k (with_short heard b) gs
-census_with g f b y k heard gs small (inl first) = inl first
-census_with g f b y k heard gs small (inr later) = inr (later.0, filled_with k heard b gs small later.1)
+census_with : (f b : ℕ) (y : Tally) (k : Kept) (heard : Shorts) (gs : List Gear) → b < 64 → IsCensus f y k heard gs
+    → IsCensus f y k (with_short heard b) gs
+census_with f b y k heard gs small (inl first) = inl first
+census_with f b y k heard gs small (inr later) = inr (later.0, filled_with k heard b gs small later.1)
 
-census_told : (g f b n i : ℕ) (y : Tally) (k : Kept) (heard : Shorts) (gs : List Gear) → AreToldOf k → b < 64 → Holds gs i b → (gear_of gs i).random ≡ n
-    → (n ≡ MASK24) ⊎ (n < MASK24) → IsCensus g f y k heard gs
-    → IsCensus g f y k (if n == MASK24 then with_short heard b else without_short heard b) gs
-census_told g f b n i y k heard gs told small holds random numbered (inl first) = inl first
-census_told g f b n i y k heard gs told small holds random numbered (inr later) = go (n == MASK24) refl where
-  go : (t : Bool) → (n == MASK24) ≡ t → IsCensus g f y k (if t then with_short heard b else without_short heard b) gs
+census_told : (f b n i : ℕ) (y : Tally) (k : Kept) (heard : Shorts) (gs : List Gear) → AreToldOf k → b < 64 → Holds gs i b → (gear_of gs i).random ≡ n
+    → (n ≡ MASK24) ⊎ (n < MASK24) → IsCensus f y k heard gs
+    → IsCensus f y k (if n == MASK24 then with_short heard b else without_short heard b) gs
+census_told f b n i y k heard gs told small holds random numbered (inl first) = inl first
+census_told f b n i y k heard gs told small holds random numbered (inr later) = go (n == MASK24) refl where
+  go : (t : Bool) → (n == MASK24) ≡ t → IsCensus f y k (if t then with_short heard b else without_short heard b) gs
   go true mask = inr (later.0, filled_with k heard b gs small later.1)
   go false drew = inr (later.0, filled_without k heard b n i gs told small holds random (less numbered) later.0 later.1) where
     less : (n ≡ MASK24) ⊎ (n < MASK24) → n < MASK24
     less (inl mask) = absurd (let never : true ≡ false = sym (number_same n MASK24 mask) ∙ drew in cc)
     less (inr small) = small
 
-abbrev CensusTo : ℕ → ℕ → Stage → Kept → Shorts → Course → List Gear → List ℕ → Command → Answer → Type 0
-CensusTo g a s k heard c gs numbers d h =
-    Census g a (next_stage s d h) k (marked_at (next_stage s d h) h heard) c (row_after Everyone d 0 gs numbers)
+abbrev CensusTo : ℕ → Stage → Kept → Shorts → Course → List Gear → List ℕ → Command → Answer → Type 0
+CensusTo a s k heard c gs numbers d h =
+    Census a (next_stage s d h) k (marked_at (next_stage s d h) h heard) c (row_after Everyone d 0 gs numbers)
 
 census_sent : (g a : ℕ) (s : Stage) (k : Kept) (heard : Shorts) (c : Course) (gs : List Gear) (numbers : List ℕ) (d : Command) (h : Answer)
-    → Census g a s k heard c gs → Sends k c.number (Asking a) s d → Taken g d gs numbers h → AreToldOf k → CensusTo g a s k heard c gs numbers d h
+    → Census a s k heard c gs → Sends k c.number (Asking a) s d → Taken g d gs numbers h → AreToldOf k → CensusTo a s k heard c gs numbers d h
 census_sent g a stage.Free k heard c gs numbers d h v is t told =
-    subst (λ e. Taken g e gs numbers h → CensusTo g a stage.Free k heard c gs numbers e h) (sym is.0) go t where
+    subst (λ e. Taken g e gs numbers h → CensusTo a stage.Free k heard c gs numbers e h) (sym is.0) go t where
       same : SameCore gs (row_after Everyone (RandomByte a High) 0 gs numbers)
       same = leaving.core_after (RandomByte a High) gs numbers tt
 
-      go : Taken g (RandomByte a High) gs numbers h → CensusTo g a stage.Free k heard c gs numbers (RandomByte a High) h
+      go : Taken g (RandomByte a High) gs numbers h → CensusTo a stage.Free k heard c gs numbers (RandomByte a High) h
       go t = by (heard_high a High gs h (one_gear gs t.one)
           (truth g (RandomByte a High) gs numbers h t (λ e. (let never : RandomByte a High ≡ QueryShort = e in cc)))) where
             by : ((i : ℕ) × Holds gs i a × (h ≡ Byte (high_of (gear_of gs i).random))) ⊎ (Nobody gs a × (h ≡ Silence))
-                → CensusTo g a stage.Free k heard c gs numbers (RandomByte a High) h
-            by (inl (i, holds, byte)) = subst (λ b. CensusTo g a stage.Free k heard c gs numbers (RandomByte a High) b) (sym byte) (record {
+                → CensusTo a stage.Free k heard c gs numbers (RandomByte a High) h
+            by (inl (i, holds, byte)) = subst (λ b. CensusTo a stage.Free k heard c gs numbers (RandomByte a High) b) (sym byte) (record {
               small = v.small;
               from_is = v.from_is;
               asked = (refl, tells_on gs _ a i (λ r. high_of (gear_of gs i).random ≡ high_of r) same holds refl);
-              census = census_core g a c.tally k (with_short heard a) gs _ same (census_with g a a c.tally k heard gs v.small v.census);
+              census = census_core a c.tally k (with_short heard a) gs _ same (census_with a a c.tally k heard gs v.small v.census);
             })
-            by (inr (none, silent)) = subst (λ b. CensusTo g a stage.Free k heard c gs numbers (RandomByte a High) b) (sym silent) (record {
+            by (inr (none, silent)) = subst (λ b. CensusTo a stage.Free k heard c gs numbers (RandomByte a High) b) (sym silent) (record {
               small = v.small;
               from_is = v.from_is;
               asked = (refl, nobody_on gs _ a same none);
-              census = census_core g a c.tally k heard gs _ same v.census;
+              census = census_core a c.tally k heard gs _ same v.census;
             })
 census_sent g a (stage.HighAsked b (Some u)) k heard c gs numbers d h v is t told =
-    subst (λ e. Taken g e gs numbers h → CensusTo g a (stage.HighAsked b (Some u)) k heard c gs numbers e h) (some_is (RandomByte b Middle) d is.0) go t where
+    subst (λ e. Taken g e gs numbers h → CensusTo a (stage.HighAsked b (Some u)) k heard c gs numbers e h) (some_is (RandomByte b Middle) d is.0) go t where
       same : SameCore gs (row_after Everyone (RandomByte b Middle) 0 gs numbers)
       same = leaving.core_after (RandomByte b Middle) gs numbers tt
 
-      go : Taken g (RandomByte b Middle) gs numbers h → CensusTo g a (stage.HighAsked b (Some u)) k heard c gs numbers (RandomByte b Middle) h
+      go : Taken g (RandomByte b Middle) gs numbers h → CensusTo a (stage.HighAsked b (Some u)) k heard c gs numbers (RandomByte b Middle) h
       go t =
           by (heard_high a Middle gs h (one_gear gs t.one) (subst (λ e. h ≡ heard_of (answers_of Everyone (RandomByte e Middle) 0 gs)) v.asked.0
           (truth g (RandomByte b Middle) gs numbers h t (λ e. (let never : RandomByte b Middle ≡ QueryShort = e in cc))))) where
             by : ((i : ℕ) × Holds gs i a × (h ≡ Byte (middle_of (gear_of gs i).random))) ⊎ (Nobody gs a × (h ≡ Silence))
-                → CensusTo g a (stage.HighAsked b (Some u)) k heard c gs numbers (RandomByte b Middle) h
+                → CensusTo a (stage.HighAsked b (Some u)) k heard c gs numbers (RandomByte b Middle) h
             by (inr (none, silent)) = absurd (none v.asked.1.0 v.asked.1.1)
             by (inl (i, holds, byte)) =
                 let at : i ≡ v.asked.1.0 = one_gear gs t.one i v.asked.1.0 a holds v.asked.1.1 in
@@ -374,21 +374,21 @@ census_sent g a (stage.HighAsked b (Some u)) k heard c gs numbers d h v is t tol
                     v.asked.0,
                     tells_on gs _ a i (λ r. (u ≡ high_of r) × (middle_of (gear_of gs i).random ≡ middle_of r)) same holds (high, refl),
                   );
-                  census = census_core g a c.tally k (with_short heard b) gs _ same
-                      (census_with g a b c.tally k heard gs (subst (λ n. n < 64) (sym v.asked.0) v.small) v.census);
+                  census = census_core a c.tally k (with_short heard b) gs _ same
+                      (census_with a b c.tally k heard gs (subst (λ n. n < 64) (sym v.asked.0) v.small) v.census);
                 })
 census_sent g a (stage.HighAsked b None) k heard c gs numbers d h v is t told = absurd (let never = is.0 in cc)
 census_sent g a (stage.MiddleAsked b (Some x)) k heard c gs numbers d h v is t told =
-    subst (λ e. Taken g e gs numbers h → CensusTo g a (stage.MiddleAsked b (Some x)) k heard c gs numbers e h) (some_is (RandomByte b Low) d is.0) go t where
+    subst (λ e. Taken g e gs numbers h → CensusTo a (stage.MiddleAsked b (Some x)) k heard c gs numbers e h) (some_is (RandomByte b Low) d is.0) go t where
       same : SameCore gs (row_after Everyone (RandomByte b Low) 0 gs numbers)
       same = leaving.core_after (RandomByte b Low) gs numbers tt
 
-      go : Taken g (RandomByte b Low) gs numbers h → CensusTo g a (stage.MiddleAsked b (Some x)) k heard c gs numbers (RandomByte b Low) h
+      go : Taken g (RandomByte b Low) gs numbers h → CensusTo a (stage.MiddleAsked b (Some x)) k heard c gs numbers (RandomByte b Low) h
       go t =
           by (heard_high a Low gs h (one_gear gs t.one) (subst (λ e. h ≡ heard_of (answers_of Everyone (RandomByte e Low) 0 gs)) v.asked.0
           (truth g (RandomByte b Low) gs numbers h t (λ e. (let never : RandomByte b Low ≡ QueryShort = e in cc))))) where
             by : ((i : ℕ) × Holds gs i a × (h ≡ Byte (low_of (gear_of gs i).random))) ⊎ (Nobody gs a × (h ≡ Silence))
-                → CensusTo g a (stage.MiddleAsked b (Some x)) k heard c gs numbers (RandomByte b Low) h
+                → CensusTo a (stage.MiddleAsked b (Some x)) k heard c gs numbers (RandomByte b Low) h
             by (inr (none, silent)) = absurd (none v.asked.1.0 v.asked.1.1)
             by (inl (i, holds, byte)) =
                 let at : i ≡ v.asked.1.0 = one_gear gs t.one i v.asked.1.0 a holds v.asked.1.1 in
@@ -402,9 +402,9 @@ census_sent g a (stage.MiddleAsked b (Some x)) k heard c gs numbers d h v is t t
                   small = v.small;
                   from_is = v.from_is;
                   asked = (v.asked.0, tells_on gs _ a i (λ r. (gear_of gs i).random ≡ r) same holds refl);
-                  census = census_core g a c.tally k
+                  census = census_core a c.tally k
                       (if (gear_of gs i).random == MASK24 then with_short heard b else without_short heard b) gs _ same
-                      (census_told g a b (gear_of gs i).random i c.tally k heard gs told (subst (λ n. n < 64) (sym v.asked.0) v.small)
+                      (census_told a b (gear_of gs i).random i c.tally k heard gs told (subst (λ n. n < 64) (sym v.asked.0) v.small)
                       (subst (λ n. Holds gs i n) (sym v.asked.0) holds) refl (t.numbered i holds.there) v.census);
                 })
 census_sent g a (stage.MiddleAsked b None) k heard c gs numbers d h v is t told = absurd v.asked

@@ -53,10 +53,11 @@ pub record IsCountedFor (y : Tally) (silent : ℕ) : Type 0 where
   pub passed : y.passed.count ≤ y.calls + y.draws
   pub quiet : silent ≤ 2 * y.passed.count + 20 * y.draws
 
--- a hunt that passed somebody over served all others that drew; or no address can be given
+-- no address can be given
 abbrev pub IsFilled : Kept → Shorts → Type 0
 IsFilled k heard = AreTaken k heard ⊎ HasAnothers k heard
 
+-- a hunt that passed somebody over served all others that drew; or no address can be given
 abbrev pub IsSpent : ℕ → Tally → Kept → Shorts → List Gear → Type 0
 IsSpent g y k heard gs = (0 < y.passed.count → 0 < y.draws → AreServedBut g gs) ⊎ IsFilled k heard
 
@@ -267,18 +268,18 @@ IsFilledFor k heard gs =
     AreTaken k heard
     ⊎ ((a : ℕ) × (r : ℕ) × Has k.reserved (a, r) × (is_anothers k heard a r ≡ true) × AreApartFrom a r gs)
 
-abbrev pub IsCensus : ℕ → ℕ → Tally → Kept → Shorts → List Gear → Type 0
-IsCensus g f y k heard gs =
+abbrev pub IsCensus : ℕ → Tally → Kept → Shorts → List Gear → Type 0
+IsCensus f y k heard gs =
     ((y.passed.count ≡ 0) × AreTabledBelow f k.enrolled gs) ⊎ (AreKnown k.reserved k.enrolled gs × IsFilledFor k heard gs)
 
-pub record Census (g a : ℕ) (s : Stage) (k : Kept) (heard : Shorts) (c : Course) (gs : List Gear) : Type 0 where
+pub record Census (a : ℕ) (s : Stage) (k : Kept) (heard : Shorts) (c : Course) (gs : List Gear) : Type 0 where
   pub small : a < 64
   pub from_is : c.from ≡ a + 1
   pub asked : AskedAt s a gs
-  pub census : IsCensus g a c.tally k heard gs
+  pub census : IsCensus a c.tally k heard gs
 
 abbrev pub KnownAt : ℕ → Purpose → Stage → Kept → Shorts → Course → List Gear → Type 0
-KnownAt g (Asking a) s k heard c gs = Census g a s k heard c gs
+KnownAt g (Asking a) s k heard c gs = Census a s k heard c gs
 KnownAt g Calling s k heard c gs = AreKnown k.reserved k.enrolled gs × IsSpent g c.tally k heard gs
 KnownAt g p s k heard c gs = AreKnown k.reserved k.enrolled gs
 

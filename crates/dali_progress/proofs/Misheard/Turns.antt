@@ -97,15 +97,15 @@ tabled_next f xs ys gs more below here i there on a low short drew = go (nat_lt 
       (here i (record { there = there; on = on; short = short ∙ ap (λ c. Some c) same }) drew)
 
 -- the next short address is to be asked
-next_asks : (g a : ℕ) (s : Stage) (k : Kept) (heard : Shorts) (c : Course) (silent : ℕ) (gs : List Gear) → Asks g s c silent gs → Census g a s k heard c gs
+next_asks : (g a : ℕ) (s : Stage) (k : Kept) (heard : Shorts) (c : Course) (silent : ℕ) (gs : List Gear) → Asks g s c silent gs → Census a s k heard c gs
     → ((i : ℕ) → Holds gs i a → (gear_of gs i).random < MASK24 → Has k.enrolled (a, (gear_of gs i).random)) → KeepsAsked g k heard c silent gs
 next_asks g a s k heard c silent gs v w here = record {
   unopened = v.unopened;
   counted = v.counted;
   small = subst (λ n. n ≤ 64) (sym w.from_is) (let few : a < 64 = w.small in omega (arith, few));
-  census = subst (λ n. IsCensus g n c.tally k heard gs) (sym w.from_is) (go w.census);
+  census = subst (λ n. IsCensus n c.tally k heard gs) (sym w.from_is) (go w.census);
 } where
-  go : IsCensus g a c.tally k heard gs → IsCensus g (a + 1) c.tally k heard gs
+  go : IsCensus a c.tally k heard gs → IsCensus (a + 1) c.tally k heard gs
   go (inl first) = inl (first.0, tabled_next a k.enrolled k.enrolled gs (λ x has. has) first.1 here)
   go (inr later) = inr later
 
@@ -160,7 +160,7 @@ own_by k b n gs kept known one small drew fresh a has =
 told_turns : (g : ℕ) (t : Machine) (o : Order) (a b n : ℕ) (gs : List Gear) → IsGivenBy t o → MisheardStands true g t gs → IsAtHand t.kept gs
     → IsUncontradicted t
     → t.course.purpose ≡ Asking a → stage_of t.trace ≡ stage.Spelled b (Some n) → Asks g (stage.Spelled b (Some n)) t.course t.silent gs
-    → Census g a (stage.Spelled b (Some n)) t.kept t.heard t.course gs → IsNext g (machine_ordered t o) o gs
+    → Census a (stage.Spelled b (Some n)) t.kept t.heard t.course gs → IsNext g (machine_ordered t o) o gs
 told_turns g t o a b n gs by st hand agreed purpose is v w = go (nat_lt n MASK24) refl where
   who : ℕ
   who = w.asked.1.0
@@ -191,11 +191,11 @@ told_turns g t o a b n gs by st hand agreed purpose is v w = go (nat_lt n MASK24
     more : (x : Assignment) → Has t.kept.enrolled x → Has (t.kept.enrolled ++ (b, n) ∷ []) x
     more x has = has_before t.kept.enrolled (b, n) x has
 
-    asks : IsCensus g t.course.from t.course.tally (with_record t.kept (Enrol b n)) t.heard gs
+    asks : IsCensus t.course.from t.course.tally (with_record t.kept (Enrol b n)) t.heard gs
         → KeepsAsked g (with_record t.kept (Enrol b n)) t.heard t.course t.silent gs
     asks census = record { unopened = v.unopened; counted = v.counted; small = few; census = census }
 
-    by_census : IsCensus g a t.course.tally t.kept t.heard gs → Keeps g t.kept t.heard t.course t.silent (Enrol b n) gs
+    by_census : IsCensus a t.course.tally t.kept t.heard gs → Keeps g t.kept t.heard t.course t.silent (Enrol b n) gs
     by_census (inl first) = inl (asks (inl (first.0, tabled)), inl (first.0, tabled)) where
       tabled : AreTabledBelow t.course.from (t.kept.enrolled ++ (b, n) ∷ []) gs
       tabled = subst (λ f. AreTabledBelow f (t.kept.enrolled ++ (b, n) ∷ []) gs) (sym w.from_is)
@@ -234,7 +234,7 @@ told_turns g t o a b n gs by st hand agreed purpose is v w = go (nat_lt n MASK24
 pub census_turns : (g : ℕ) (t : Machine) (o : Order) (a : ℕ) (s : Stage) (gs : List Gear) → IsGivenBy t o → MisheardStands true g t gs → IsAtHand t.kept gs
     → IsUncontradicted t
     → IsNoEnrolment t.last → t.course.purpose ≡ Asking a → stage_of t.trace ≡ s → (s ≡ stage.Free → ⊥) → Asks g s t.course t.silent gs
-    → Census g a s t.kept t.heard t.course gs → IsWhole (machine_ordered t o) → IsNext g (machine_ordered t o) o gs
+    → Census a s t.kept t.heard t.course gs → IsWhole (machine_ordered t o) → IsNext g (machine_ordered t o) o gs
 census_turns g t o a stage.Free gs by st hand agreed last purpose is running v w whole = absurd (running refl)
 census_turns g t o a (stage.HighAsked b None) gs by st hand agreed last purpose is running v w whole = go (t.asked == 0) refl where
   begins : o ≡ beginning (next_course t)
