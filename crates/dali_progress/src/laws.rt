@@ -133,8 +133,8 @@ pub fn its_end_is_true()
 /// else is disturbed.
 ///
 /// Where the controller then ends with all-found, every gear with power has a short address, g too. Where it ends with
-/// block-full, each address of its block is taken, or one that it has reserved is another's. It gives up only where
-/// every gear with power but g has a short address, or where it is so as at block-full.
+/// block-full, each address of its block is taken. It gives up only where every gear with power but g has a short
+/// address, or where each address of its block is taken.
 ///
 /// At each moment it goes on or has ended, and it never halts (`goes_on`). How long it takes is not said: a visit that
 /// fails costs frames that `it_is_bounded` does not count. Rounds that nothing disturbs are such rounds (`plain`).

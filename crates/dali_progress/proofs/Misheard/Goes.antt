@@ -4,7 +4,7 @@ use Rattle.dali_frame.specs.declared.frames.Forward.{Forward}
 use Rattle.dali_frame.specs.declared.frames.Answer.{Answer}
 use Rattle.dali_special.specs.Command.{command_of}
 use Rattle.dali_gear.specs.declared.row.Reach.TheVariants.{Everyone}
-use Rattle.std.specs.Prelude.{slice_index_or}
+use Rattle.std.specs.Prelude.{slice_index_or, ◌==◌}
 use Rattle.dali_special.specs.declared.command.Command.{Command}
 use Rattle.dali_gear.specs.Gear.{Gear}
 use Rattle.dali_gear.specs.Row.{row_after, drawn_of}
@@ -12,7 +12,7 @@ use Rattle.dali_arbiter.specs.declared.request.Request.{Request}
 use Rattle.dali_script.specs.Records.{Kept, IsKept, InBlock, Has}
 use Rattle.dali_script.specs.declared.block.Block.{Block}
 use Rattle.dali_script.specs.declared.stage.Stage.{Stage}
-use Rattle.dali_script.proofs.Lists.{has_before}
+use Rattle.dali_script.proofs.Lists.{has_before, without_has}
 use Rattle.dali_script.specs.Scripts.{Lawful, IsLawful}
 use Rattle.dali_script.specs.declared.records.Record.{Record}
 use Rattle.dali_script.specs.declared.records.Record.TheVariants.{Reserve, Enrol, Release}
@@ -46,6 +46,7 @@ use Rattle.dali_events.specs.Plan.{no_block}
 use Rattle.dali_events.specs.Promise.{KeepsPromiseNow}
 use Rattle.dali_events.specs.Allowed.{Allowed, IsUp}
 use Rattle.dali_events.specs.Runs.{IsRun, LeavesUsed}
+use Rattle.dali_events.specs.Wanted.{gear_of}
 use Rattle.dali_events.proofs.Invariant.Sending.{lawful_of}
 use Rattle.dali_events.proofs.Invariant.Takes.{row_length}
 use Rattle.dali_script.specs.Findings.{later, finding_of}
@@ -64,6 +65,10 @@ use Rattle.dali_progress.proofs.Frames.{Seeks}
 use Rattle.dali_progress.proofs.Census.Asked.{sending_of}
 use Rattle.dali_world.proofs.Logs.{records_now}
 use Rattle.dali_progress.proofs.Survey.Queried.{OneShort, IsTrue}
+use Rattle.std.proofs.lemmas.Nat.Bits.{bit_at-zero}
+use Rattle.dali_controller.specs.Shorts.{has_short}
+use Rattle.dali_events.proofs.Invariant.Safe.{holds_after}
+use Rattle.dali_events.proofs.Invariant.Sparing.{one_owner}
 use Rattle.dali_progress.proofs.Survey.Turns.{IsUncontradicted}
 use Rattle.dali_progress.proofs.Survey.Goes.{found_told, ordered_found, uncontradicted, found_sent}
 use Rattle.dali_progress.proofs.Survey.Bounded.{agree_now, promise_now, one_now, true_now}
@@ -108,9 +113,11 @@ committed g m (Reserve a r) o gs calm v free last by one holds =
       sought_are = v.sought_are;
       quiet = tt;
       at = record { visited = r; number = refl; drawn = v.drawn; stage_is = (v.reached, v.bare) };
-    })
-    (gear.known_more m.kept.reserved m.kept.enrolled (m.kept.reserved ++ (a, r) ∷ []) m.kept.enrolled gs (λ x has. has_before m.kept.reserved (a, r) x has)
-    (λ x has. has) v.known)
+    }) (
+      gear.known_more m.kept.reserved m.kept.enrolled (m.kept.reserved ++ (a, r) ∷ []) m.kept.enrolled gs (λ x has. has_before m.kept.reserved (a, r) x has)
+          (λ x has. has) v.known,
+      v.clear,
+    )
 committed g m (Enrol b r) o gs calm (inr past) free last by one holds =
     hunts_on g (with_kept m (Enrol b r)) o gs (calm_kept g m (Enrol b r) gs calm)
     (given.enrolled (with_kept m (Enrol b r)) o b r by last free past.1) (rest_next m (Enrol b r) free last)
@@ -124,8 +131,11 @@ committed g m (Enrol b r) o gs calm (inr past) free last by one holds =
       visited = past.0.visited;
       drawn = past.0.drawn;
       past = past.0.past;
-      known = gear.known_more m.kept.reserved m.kept.enrolled m.kept.reserved (m.kept.enrolled ++ (b, r) ∷ []) gs (λ x has. has)
-          (λ x has. has_before m.kept.enrolled (b, r) x has) past.0.known;
+      known = (
+        gear.known_more m.kept.reserved m.kept.enrolled m.kept.reserved (m.kept.enrolled ++ (b, r) ∷ []) gs (λ x has. has)
+            (λ x has. has_before m.kept.enrolled (b, r) x has) past.0.known.0,
+        past.0.known.1,
+      );
     })
 committed g m (Enrol b r) o gs calm (inl asked) free last by one holds = go o by (by.followed.enrolled b r last) where
   goes : (q : Order) → IsGivenBy (with_kept m (Enrol b r)) q → IsOwn m.kept b r → IsNext g (machine_ordered (with_kept m (Enrol b r)) q) q gs
@@ -149,7 +159,8 @@ committed g m (Release a r) o gs calm v free last by one holds =
     asks_on g (with_kept m (Release a r)) o gs (calm_kept g m (Release a r) gs calm)
     (given.begins_free (with_kept m (Release a r)) o by free (no_enrolment_of m.last last) (never_eight m.tries calm.tries))
     (rest_next m (Release a r) free last)
-    (record { unopened = v.0.unopened; counted = v.0.counted; small = v.0.small; census = inl v.1 }) one holds
+    (record { unopened = v.0.unopened; counted = v.0.counted; small = v.0.small; clear = λ b q has. v.0.clear b q
+        (without_has (a, r) m.kept.reserved (b, q) has); census = inl v.1 }) one holds
   where
     no_enrolment_of : (l : Option Order) → l ≡ Some (Commit (Release a r)) → IsNoEnrolment l
     no_enrolment_of l is b n e = let other : Some (Commit (Release a r)) ≡ Some (Commit (Enrol b n)) = sym is ∙ e in cc
@@ -164,6 +175,7 @@ pub record IsUnbegun (g : ℕ) (m : Machine) (gs : List Gear) : Type 0 where
   pub free : m.trace ≡ []
   pub unopened : m.course.opened ≡ false
   pub first : m.course.from ≡ 0
+  pub unmarked : (b : ℕ) → has_short m.heard b ≡ false
 
 -- a frame was heard: the machine stands so, once it is told
 pub record Hears (g : ℕ) (m : Machine) (f : Forward) (h : Answer) (gs : List Gear) : Type 0 where
@@ -202,6 +214,7 @@ first_acts g m o gs last by one holds v =
         drawn = λ some. absurd (omega (arith, some));
       };
       small = subst (λ n. n ≤ 64) (sym v.first) (omega arith);
+      clear = λ b q has. v.unmarked b;
       census = inl (refl, subst (λ n. AreTabledBelow n m.kept.enrolled gs) (sym v.first) (λ k there on a low. absurd (omega (arith, low))));
     }) one holds
   where
@@ -248,6 +261,14 @@ acts g w q c m out last told i o at is due surveys by hand true_table agreed who
     w q c m out last told i at due surveys at is by true_table agreed whole holds
 
 -- ---------------------------------------------------------------- its frame is sent
+
+-- whoever has an address that it has reserved has the number that it is reserved for
+owned_now : (s : SiteState) (c : ℕ) → IsRun s.plan s.queue s.log → IsUp (world s) c → (a r i : ℕ) → Has (controller_at (world s) c).records.reserved (a, r)
+    → i < length (world s).gear → (gear_of (world s).gear i).short ≡ Some a → (gear_of (world s).gear i).random ≡ r
+owned_now s c run up a r i has there short =
+    let all = holds_after s.plan s.queue s.log run in
+    one_owner s.plan (world s).controllers run.plan all.reserves all.spares a (gear_of (world s).gear i).random r
+    (all.gifts.reserved i a ((all.gifts.holds i a there).0 short)) (inl (c, up.known, has))
 
 -- who is known, once a frame was heard
 abbrev KnownTo : ℕ → Purpose → Stage → Kept → Shorts → Course → List Gear → List ℕ → Command → Answer → Type 0
@@ -359,6 +380,9 @@ acted_on g s c i o r here good may whole leaves = record {
         apart = drew_apart w (drawn_now s r.run);
         one = one_now s r.run;
         holds = subst (λ (k : Kept). IsTrue k.enrolled w.gear) (sym r.goes.lone.kept) (true_now s c r.run r.goes.lone.up);
+        owned = subst (λ (k : Kept). (a n j : ℕ) → Has k.reserved (a, n) → j < length w.gear → (gear_of w.gear j).short ≡ Some a
+            → (gear_of w.gear j).random ≡ n)
+            (sym r.goes.lone.kept) (owned_now s c r.run r.goes.lone.up);
       }) true_after agreed now_whole r.goes.holds
 
 frame_on : (g : ℕ) (s : SiteState) (c p : ℕ) (f : Forward) (h : Answer) → (r : Runs g s c) → r.machine.last ≡ Some (Put p f)
@@ -416,8 +440,9 @@ frame_on g s c p f h r last told here heard = record {
       at_sent g r.machine.course.purpose (stage_of r.machine.trace) r.machine.kept r.machine.heard r.machine.course r.machine.silent w.gear w.left
       (command_of f) h holds.0.at (sending_of r.machine p f last holds.1).sends taken (subst (λ t. Seeks (stage_of t) w.gear) lone.3 known.1.seeks)
 
-  told_of : AreToldOf r.machine.kept
-  told_of = subst AreToldOf (sym r.goes.lone.kept) (record { kept = kept_now s c r.run r.goes.lone.up; block = block_now s c r.run r.goes.lone.up })
+  told_of : AreToldOf r.machine.kept w.gear
+  told_of = subst (λ k. AreToldOf k w.gear) (sym r.goes.lone.kept)
+      (record { kept = kept_now s c r.run r.goes.lone.up; block = block_now s c r.run r.goes.lone.up; owned = owned_now s c r.run r.goes.lone.up })
 
   known_to : KnownTo g r.machine.course.purpose (stage_of r.machine.trace) r.machine.kept r.machine.heard r.machine.course w.gear w.left (command_of f) h
   known_to =
@@ -470,7 +495,8 @@ starts g s c there a = record {
       moment = rw (a.last, a.told) ((a.bus, a.trace), refl);
     };
     known = rw a.told refl;
-    holds = rw (a.last, a.told) (record { there = there; tries = refl; silent = refl; free = refl; unopened = refl; first = refl });
+    holds = rw (a.last, a.told) (record { there = there; tries = refl; silent = refl; free = refl; unopened = refl; first = refl;
+        unmarked = λ b. ap (λ n. n == 1) (bit_at-zero b) });
   };
 }
 
