@@ -18,7 +18,7 @@ use Rattle.dali_events.specs.Searching.{HasShort}
 use Rattle.dali_events.specs.Wanted.{gear_of, OfPowered}
 use Rattle.dali_world.specs.Site.{SiteState, world, machine_at, next_request, site_logged}
 use Rattle.dali_progress.specs.Rounds.{IsOfRound}
-use Rattle.dali_progress.specs.Ends.{IsBlockTaken, HoldsAnothers}
+use Rattle.dali_progress.specs.Ends.{IsBlockTaken}
 
 -- ONE GEAR IS MISHEARD: where gear g answers QUERY SHORT ADDRESS, silence or a damaged frame may be
 -- heard instead.
@@ -48,20 +48,17 @@ RoundsBut g s c (e ∷ es) =
     Allowed (world s) e × IsOfRoundBut g s c e × RoundsBut g (site_logged s e) c es
 
 -- WHAT ITS END SAYS. With all-found, each gear with power has a short address. With block-full,
--- each address of the block is taken, or one that it has reserved is another's. Where it gave up,
--- it is so as well, or each gear with power but g has a short address.
+-- each address of the block is taken. Where it gave up, it is so as well, or each gear with power
+-- but g has a short address.
 abbrev pub AreServedBut : ℕ → List Gear → Type 0
 AreServedBut g gs =
     (k : ℕ) → k < length gs → (k ≡ g → ⊥) → (gear_of gs k).powered ≡ true
     → HasShort (gear_of gs k)
 
-abbrev pub IsFilled : Machine → Type 0
-IsFilled m = IsBlockTaken m ⊎ HoldsAnothers m
-
 abbrev pub EndsWellBut : ℕ → End → Machine → List Gear → Type 0
 EndsWellBut g AllFound m gs = OfPowered gs HasShort
-EndsWellBut g BlockFull m gs = IsFilled m
-EndsWellBut g GaveUp m gs = AreServedBut g gs ⊎ IsFilled m
+EndsWellBut g BlockFull m gs = IsBlockTaken m
+EndsWellBut g GaveUp m gs = AreServedBut g gs ⊎ IsBlockTaken m
 
 abbrev pub IsTrueEndBut : ℕ → SiteState → ℕ → End → Type 0
 IsTrueEndBut g s c e =

@@ -133,14 +133,16 @@ pub fn its_end_is_true()
 /// else is disturbed.
 ///
 /// Where the controller then ends with all-found, every gear with power has a short address, g too. Where it ends with
-/// block-full, each address of its block is taken, or one that it has reserved is another's. It gives up only where
-/// every gear with power but g has a short address, or where it is so as at block-full.
+/// block-full, each address of its block is taken. It gives up only where every gear with power but g has a short
+/// address, or where each address of its block is taken.
 ///
-/// Rounds of a survey that nothing disturbs are such rounds (`plain`). How long it takes is not said: a visit that
-/// fails costs frames that `it_is_bounded` does not count.
+/// At each moment it goes on or has ended, and it never halts (`goes_on`). How long it takes is not said: a visit that
+/// fails costs frames that `it_is_bounded` does not count. Rounds that nothing disturbs are such rounds (`plain`).
 pub fn one_gear_blocks_nobody()
     ensures plain { (g : ℕ) (s : SiteState) (c : ℕ) (es : List Event) → Rounds true s c es
         → RoundsBut g s c es }
+    ensures goes_on { (g : ℕ) (s : SiteState) (c : ℕ) (es : List Event) → g < length (world s).gear
+        → BeginsAlone Any s c → RoundsBut g s c es → GoesOn true (site_after s es) c }
     ensures done { (g : ℕ) (s : SiteState) (c : ℕ) (es : List Event) (e : End) → g < length (world s).gear
         → BeginsAlone Any s c → RoundsBut g s c es → HasEnded (site_after s es) c e
         → IsTrueEndBut g (site_after s es) c e }

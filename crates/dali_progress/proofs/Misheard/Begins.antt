@@ -42,11 +42,12 @@ use Rattle.dali_progress.proofs.Census.Coming.{asked_later, asked_before, unaske
 use Rattle.dali_progress.proofs.Survey.Drawn.{AreNumbered, woken_short}
 use Rattle.dali_progress.proofs.Survey.Queried.{OneShort, IsTrue}
 use Rattle.dali_progress.proofs.Survey.Begins.{asked_within}
+use Rattle.dali_progress.proofs.Survey.Stands.{AreTaken, IsClear}
 use Rattle.dali_progress.proofs.Survey.Woken.{AreLow}
 use Rattle.dali_progress.proofs.Misheard.Gear.{Each, AreSought, AreBare, AreKnown, DrewApart}
 use Rattle.dali_progress.proofs.Misheard.Climbing as climbing
-use Rattle.dali_progress.proofs.Misheard.Stands.{IsCounted, IsFilled, IsSpent, HuntStage, Rises, IsReached, IsPast, HuntAt, Hunts, EndsBy}
-use Rattle.dali_progress.proofs.Misheard.Stands.{AreTabledBelow, IsFilledFor, IsCensus, KnownAt, At, MisheardStands}
+use Rattle.dali_progress.proofs.Misheard.Stands.{IsCounted, IsSpent, HuntStage, Rises, IsReached, IsPast, HuntAt, Hunts, EndsBy}
+use Rattle.dali_progress.proofs.Misheard.Stands.{AreTabledBelow, AreSeen, IsCensus, KnownAt, At, MisheardStands}
 
 -- A TRANSACTION BEGINS, or goes on; and what is to come of an order.
 
@@ -57,6 +58,7 @@ pub record IsAtHand (k : Kept) (gs : List Gear) : Type 0 where
   pub apart : DrewApart gs
   pub one : OneShort gs
   pub holds : IsTrue k.enrolled gs
+  pub owned : (a r i : ℕ) → Has k.reserved (a, r) → i < length gs → (gear_of gs i).short ≡ Some a → (gear_of gs i).random ≡ r
 
 pub record Calm (g : ℕ) (m : Machine) (gs : List Gear) : Type 0 where
   pub there : g < length gs
@@ -69,10 +71,11 @@ pub record KeepsAsked (g : ℕ) (k : Kept) (heard : Shorts) (c : Course) (silent
   pub unopened : c.opened ≡ false
   pub counted : IsCounted g c.tally silent 0 gs
   pub small : c.from ≤ 64
-  pub census : IsCensus g c.from c.tally k heard gs
+  pub clear : IsClear k heard
+  pub census : IsCensus c.from c.tally k heard gs
 
 -- one is to be kept of a visit that succeeded, and then the search goes on above it
-pub record KeepsPast (g : ℕ) (k : Kept) (c : Course) (silent : ℕ) (gs : List Gear) : Type 0 where
+pub record KeepsPast (g : ℕ) (k : Kept) (heard : Shorts) (c : Course) (silent : ℕ) (gs : List Gear) : Type 0 where
   pub opened_is : c.opened ≡ true
   pub counted : IsCounted g c.tally silent 0 gs
   pub low : AreLow gs
@@ -82,10 +85,10 @@ pub record KeepsPast (g : ℕ) (k : Kept) (c : Course) (silent : ℕ) (gs : List
   pub visited : ℕ
   pub drawn : visited < MASK24
   pub past : IsPast c.ascent visited gs
-  pub known : AreKnown k.reserved k.enrolled gs
+  pub known : AreSeen k heard gs
 
 -- a reservation is to be kept, and then its gear is visited once more
-pub record KeepsReserved (g : ℕ) (k : Kept) (c : Course) (silent r : ℕ) (gs : List Gear) : Type 0 where
+pub record KeepsReserved (g : ℕ) (k : Kept) (heard : Shorts) (c : Course) (silent a r : ℕ) (gs : List Gear) : Type 0 where
   pub opened_is : c.opened ≡ true
   pub counted : IsCounted g c.tally silent 0 gs
   pub few : is_wanted (gear_of gs g) ≡ true → c.tally.passed.count ≤ c.tally.calls + c.tally.draws
@@ -95,6 +98,7 @@ pub record KeepsReserved (g : ℕ) (k : Kept) (c : Course) (silent r : ℕ) (gs 
   pub drawn : r < MASK24
   pub reached : IsReached c.ascent r gs
   pub known : AreKnown k.reserved k.enrolled gs
+  pub clear : IsClear (with_record k (Reserve a r)) heard
 
 -- what is reserved for its number is this address alone
 abbrev pub IsOwn : Kept → ℕ → ℕ → Type 0
@@ -105,11 +109,11 @@ abbrev pub IsFirst : Tally → Type 0
 IsFirst y = y.passed.count ≡ 0
 
 abbrev pub Keeps : ℕ → Kept → Shorts → Course → ℕ → Record → List Gear → Type 0
-Keeps g k heard c silent (Reserve a r) gs = KeepsReserved g k c silent r gs
+Keeps g k heard c silent (Reserve a r) gs = KeepsReserved g k heard c silent a r gs
 Keeps g k heard c silent (Enrol b r) gs =
     (KeepsAsked g (with_record k (Enrol b r)) heard c silent gs
     × (((IsFirst c.tally) × AreTabledBelow c.from (with_record k (Enrol b r)).enrolled gs) ⊎ IsOwn k b r))
-    ⊎ (KeepsPast g k c silent gs × IsOwn k b r)
+    ⊎ (KeepsPast g k heard c silent gs × IsOwn k b r)
 Keeps g k heard c silent (Release a r) gs =
     KeepsAsked g k heard c silent gs × (IsFirst c.tally × AreTabledBelow c.from k.enrolled gs)
 
@@ -117,7 +121,7 @@ abbrev pub IsNext : ℕ → Machine → Order → List Gear → Type 0
 IsNext g m (Put p f) gs = MisheardStands false g m gs
 IsNext g m (Commit x) gs = Calm g m gs × Keeps g m.kept m.heard m.course m.silent x gs
 IsNext g m (Done e) gs = EndsBy g e m.kept m.heard gs
-IsNext g m (Halt why) gs = Unit {0}
+IsNext g m (Halt why) gs = ⊥
 
 pub calm_ordered : {told : Bool} (g : ℕ) (t : Machine) (x : Record) (gs : List Gear) → MisheardStands told g t gs → Calm g (machine_ordered t (Commit x)) gs
 calm_ordered g t x gs st = record { there = st.there; tries = st.tries; way = st.way }
@@ -211,15 +215,11 @@ first_by g t o cs gs calm is same way at known =
 tabled_known : (k : Kept) (gs : List Gear) → AreTabledBelow 64 k.enrolled gs → AreKnown k.reserved k.enrolled gs
 tabled_known k gs all i there on a small short drew = inl (all i there on a small short drew)
 
-filled_for : (k : Kept) (heard : Shorts) (gs : List Gear) → IsFilledFor k heard gs → IsFilled k heard
-filled_for k heard gs (inl taken) = inl taken
-filled_for k heard gs (inr (a, r, has, other, apart)) = inr (a, r, has, other)
-
-called_known : (g : ℕ) (y : Tally) (k : Kept) (heard : Shorts) (gs : List Gear) → IsCensus g 64 y k heard gs
-    → AreKnown k.reserved k.enrolled gs × IsSpent g y k heard gs
-called_known g y k heard gs (inl first) =
-    (tabled_known k gs first.1, inl (λ passed drew. absurd (let none : y.passed.count ≡ 0 = first.0 in omega (arith, none, passed))))
-called_known g y k heard gs (inr later) = (later.0, inr (filled_for k heard gs later.1))
+called_known : (g : ℕ) (y : Tally) (k : Kept) (heard : Shorts) (gs : List Gear) → IsClear k heard → IsCensus 64 y k heard gs
+    → AreSeen k heard gs × IsSpent g y k heard gs
+called_known g y k heard gs clear (inl first) =
+    ((tabled_known k gs first.1, clear), inl (λ passed drew. absurd (let none : y.passed.count ≡ 0 = first.0 in omega (arith, none, passed))))
+called_known g y k heard gs clear (inr later) = ((later.0, clear), inr later.1)
 
 -- the table has each gear whose short address is not asked
 tabled_on : (k : Kept) (gs : List Gear) (f d : ℕ) → OneShort gs → IsTrue k.enrolled gs → ((c : ℕ) → f ≤ c → c < d → is_asked k c ≡ false)
@@ -233,16 +233,16 @@ tabled_on k gs f d one holds unasked all i there on a low short drew = go (nat_l
       let same : who.0 ≡ i = one who.0 i a who.1 there who.2 short in
       subst (λ n. Has k.enrolled (a, n)) (sym who.3 ∙ ap (λ j. (gear_of gs j).random) same) entry.1
 
-census_on : (g f d : ℕ) (y : Tally) (k : Kept) (heard : Shorts) (gs : List Gear) → OneShort gs → IsTrue k.enrolled gs
-    → ((c : ℕ) → f ≤ c → c < d → is_asked k c ≡ false) → IsCensus g f y k heard gs → IsCensus g d y k heard gs
-census_on g f d y k heard gs one holds unasked (inl first) = inl (first.0, tabled_on k gs f d one holds unasked first.1)
-census_on g f d y k heard gs one holds unasked (inr later) = inr later
+census_on : (f d : ℕ) (y : Tally) (k : Kept) (heard : Shorts) (gs : List Gear) → OneShort gs → IsTrue k.enrolled gs
+    → ((c : ℕ) → f ≤ c → c < d → is_asked k c ≡ false) → IsCensus f y k heard gs → IsCensus d y k heard gs
+census_on f d y k heard gs one holds unasked (inl first) = inl (first.0, tabled_on k gs f d one holds unasked first.1)
+census_on f d y k heard gs one holds unasked (inr later) = inr later
 
 -- the next short address, or the roll call
 pub asks_or_calls : (g : ℕ) (t : Machine) (o : Order) (c : Course) (f : ℕ) (gs : List Gear) → Calm g t gs → o ≡ beginning (next_course t)
     → next_course t ≡ ask_or_call c (next_asked t.kept f) → c.way ≡ Surveying → c.opened ≡ false → IsCounted g c.tally t.silent 0 gs → f ≤ 64
-    → IsCensus g f c.tally t.kept t.heard gs → OneShort gs → IsTrue t.kept.enrolled gs → IsNext g (machine_ordered t o) o gs
-asks_or_calls g t o c f gs calm is same way unopened counted few census one holds =
+    → IsClear t.kept t.heard → IsCensus f c.tally t.kept t.heard gs → OneShort gs → IsTrue t.kept.enrolled gs → IsNext g (machine_ordered t o) o gs
+asks_or_calls g t o c f gs calm is same way unopened counted few clear census one holds =
     go (next_asked t.kept f) same (asked_later t.kept (64 - f) f) (asked_before t.kept (64 - f) f) (asked_within t.kept (64 - f) f) where
       go : (next : Option ℕ) → next_course t ≡ ask_or_call c next → (next ≡ None → (d : ℕ) → f ≤ d → d < f + (64 - f) → is_asked t.kept d ≡ false)
           → ((d : ℕ) → next ≡ Some d → (e : ℕ) → f ≤ e → e < d → is_asked t.kept e ≡ false)
@@ -257,8 +257,8 @@ asks_or_calls g t o c f gs calm is same way unopened counted few census one hold
             gear = λ k in_row on. tt;
             low = tt;
           })
-          (called_known g c.tally t.kept t.heard gs
-          (census_on g f 64 c.tally t.kept t.heard gs one holds (λ d past under. none refl d past (omega (arith, under, few))) census))
+          (called_known g c.tally t.kept t.heard gs clear
+          (census_on f 64 c.tally t.kept t.heard gs one holds (λ d past under. none refl d past (omega (arith, under, few))) census))
       go (Some a) next none before within =
           let high : a < f + (64 - f) = (within a refl).1 in
           first_by g t o (asking c a) gs calm is next way
@@ -267,7 +267,8 @@ asks_or_calls g t o c f gs calm is same way unopened counted few census one hold
             small = omega (arith, high, few);
             from_is = refl;
             asked = tt;
-            census = census_on g f a c.tally t.kept t.heard gs one holds (λ d past under. before a refl d past under) census;
+            clear = clear;
+            census = census_on f a c.tally t.kept t.heard gs one holds (λ d past under. before a refl d past under) census;
           })
 
 pub asks_on : (g : ℕ) (t : Machine) (o : Order) (gs : List Gear) → Calm g t gs → o ≡ beginning (next_course t) → next_course t ≡ goes_on_to t
@@ -275,11 +276,11 @@ pub asks_on : (g : ℕ) (t : Machine) (o : Order) (gs : List Gear) → Calm g t 
 asks_on g t o gs calm is next v one holds =
     asks_or_calls g t o t.course t.course.from gs calm is
     (next ∙ ap (λ b. going_on t.kept b t.course) v.unopened ∙ ap (λ y. going_on_early t.kept y t.course) calm.way) calm.way v.unopened v.counted v.small
-    v.census one holds
+    v.clear v.census one holds
 
 -- the block is full: short addresses are asked again, or the close comes
 pub fills : (g : ℕ) (t : Machine) (o : Order) (c : Course) (gs : List Gear) → Calm g t gs → o ≡ beginning (next_course t) → next_course t ≡ full t c
-    → c.way ≡ Surveying → IsCounted g c.tally t.silent 0 gs → AreKnown t.kept.reserved t.kept.enrolled gs → IsFilledFor t.kept t.heard gs → OneShort gs
+    → c.way ≡ Surveying → IsCounted g c.tally t.silent 0 gs → AreSeen t.kept t.heard gs → AreTaken t.kept t.heard → OneShort gs
     → IsTrue t.kept.enrolled gs → IsNext g (machine_ordered t o) o gs
 fills g t o c gs calm is next way counted known filled one holds = go (asks_again t) refl where
   go : (b : Bool) → asks_again t ≡ b → IsNext g (machine_ordered t o) o gs
@@ -292,10 +293,10 @@ fills g t o c gs calm is next way counted known filled one holds = go (asks_agai
         passed = counted.passed;
         quiet = counted.quiet;
         drawn = counted.drawn;
-      }) (omega arith) (inr (known, filled)) one holds
+      }) (omega arith) known.1 (inr (known.0, filled)) one holds
   go false last =
       first_by g t o (closing_by c BlockFull) gs calm is (next ∙ ap (λ b. if b then asking_again t.kept c else closing_by c BlockFull) last) way
-      (record { stage_is = tt; well = filled_for t.kept t.heard gs filled }) known
+      (record { stage_is = tt; well = filled }) known
 
 -- ---------------------------------------------------------------- the search that goes up
 
@@ -312,7 +313,7 @@ bare_opened g gs all k there on other enabled = woken_short (gear_of gs k) (all 
 
 pub hunts_first : (g : ℕ) (t : Machine) (o : Order) (cs : Course) (gs : List Gear) → Calm g t gs → o ≡ beginning (next_course t)
     → next_course t ≡ hunting_first cs → cs.way ≡ Surveying → cs.opened ≡ true → IsCounted g cs.tally t.silent 0 gs
-    → cs.tally.passed.count ≤ cs.tally.calls + cs.tally.draws → AreLow gs → Each gs (λ k y. OpenedBy y) → AreKnown t.kept.reserved t.kept.enrolled gs
+    → cs.tally.passed.count ≤ cs.tally.calls + cs.tally.draws → AreLow gs → Each gs (λ k y. OpenedBy y) → AreSeen t.kept t.heard gs
     → IsNext g (machine_ordered t o) o gs
 hunts_first g t o cs gs calm is next way opened counted few low all known =
     first_by g t o (hunting_first cs) gs calm is next way
@@ -337,7 +338,7 @@ hunts_first g t o cs gs calm is next way opened counted few low all known =
 pub hunts_above : (g : ℕ) (t : Machine) (o : Order) (cs : Course) (v : ℕ) (gs : List Gear) → Calm g t gs → o ≡ beginning (next_course t)
     → next_course t ≡ hunting_above cs → cs.way ≡ Surveying → cs.opened ≡ true → IsCounted g cs.tally t.silent 0 gs
     → (is_wanted (gear_of gs g) ≡ true → cs.tally.passed.count ≤ cs.tally.calls + cs.tally.draws) → AreLow gs → AreSought g 1 gs → AreBare g gs
-    → v < MASK24 → IsPast cs.ascent v gs → AreKnown t.kept.reserved t.kept.enrolled gs → IsNext g (machine_ordered t o) o gs
+    → v < MASK24 → IsPast cs.ascent v gs → AreSeen t.kept t.heard gs → IsNext g (machine_ordered t o) o gs
 hunts_above g t o cs v gs calm is next way opened counted few low sought_are bare drawn past known =
     first_by g t o (hunting (record cs { ascent = above cs.ascent v })) gs calm is
     (next ∙ ap (λ q. hunting (record cs { ascent = gone_on_from q cs.ascent })) past.reached) way
@@ -360,7 +361,7 @@ hunts_above g t o cs v gs calm is next way opened counted few low sought_are bar
 
 -- where a visit succeeded
 pub hunts_on : (g : ℕ) (t : Machine) (o : Order) (gs : List Gear) → Calm g t gs → o ≡ beginning (next_course t) → next_course t ≡ goes_on_to t
-    → KeepsPast g t.kept t.course t.silent gs → IsNext g (machine_ordered t o) o gs
+    → KeepsPast g t.kept t.heard t.course t.silent gs → IsNext g (machine_ordered t o) o gs
 hunts_on g t o gs calm is next v =
     hunts_above g t o (record t.course { tally = served t.course.tally }) v.visited gs calm is
     (next ∙ ap (λ b. going_on t.kept b t.course) v.opened_is ∙ ap (λ y. searching_on y t.course) calm.way) calm.way v.opened_is

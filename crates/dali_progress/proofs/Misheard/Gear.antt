@@ -93,13 +93,6 @@ IsKnown reserved enrolled k y =
 abbrev pub AreKnown : List Assignment → List Assignment → List Gear → Type 0
 AreKnown reserved enrolled gs = Each gs (IsKnown reserved enrolled)
 
--- none that has this number has a short address
-abbrev pub IsUnshort : ℕ → ℕ → Gear → Type 0
-IsUnshort v k y = y.random ≡ v → (a : ℕ) → a < 64 → y.short ≡ Some a → ⊥
-
-abbrev pub AreUnshort : ℕ → List Gear → Type 0
-AreUnshort v gs = Each gs (IsUnshort v)
-
 -- one with power that has this number has this short address
 abbrev pub HasOne : ℕ → ℕ → List Gear → Type 0
 HasOne v a gs =
@@ -146,10 +139,6 @@ known_core reserved enrolled =
     each_core (IsKnown reserved enrolled) (IsKnown reserved enrolled) (λ k y z same was a small short drew.
     subst (λ r. Has enrolled (a, r) ⊎ Has reserved (a, r)) (sym same.same_random)
     (was a small (sym same.same_short ∙ short) (subst (λ n. n < MASK24) same.same_random drew)))
-
-pub unshort_core : (v : ℕ) (gs hs : List Gear) → SameCore gs hs → AreUnshort v gs → AreUnshort v hs
-unshort_core v =
-    each_core (IsUnshort v) (IsUnshort v) (λ k y z same was random a small short. was (sym same.same_random ∙ random) a small (sym same.same_short ∙ short))
 
 pub one_core : (v a : ℕ) (gs hs : List Gear) → SameCore gs hs → HasOne v a gs → HasOne v a hs
 one_core v a gs hs same one =

@@ -4,7 +4,7 @@ use Rattle.dali_frame.specs.declared.frames.Forward.{Forward}
 use Rattle.dali_frame.specs.declared.frames.Answer.{Answer}
 use Rattle.dali_special.specs.Command.{command_of}
 use Rattle.dali_gear.specs.declared.row.Reach.TheVariants.{Everyone}
-use Rattle.std.specs.Prelude.{slice_index_or}
+use Rattle.std.specs.Prelude.{slice_index_or, ◌==◌}
 use Rattle.dali_special.specs.declared.command.Command.{Command}
 use Rattle.dali_gear.specs.Gear.{Gear}
 use Rattle.dali_gear.specs.Row.{row_after, drawn_of}
@@ -12,7 +12,7 @@ use Rattle.dali_arbiter.specs.declared.request.Request.{Request}
 use Rattle.dali_script.specs.Records.{Kept, IsKept, InBlock, Has}
 use Rattle.dali_script.specs.declared.block.Block.{Block}
 use Rattle.dali_script.specs.declared.stage.Stage.{Stage}
-use Rattle.dali_script.proofs.Lists.{has_before}
+use Rattle.dali_script.proofs.Lists.{has_before, without_has}
 use Rattle.dali_script.specs.Scripts.{Lawful, IsLawful}
 use Rattle.dali_script.specs.declared.records.Record.{Record}
 use Rattle.dali_script.specs.declared.records.Record.TheVariants.{Reserve, Enrol, Release}
@@ -46,14 +46,18 @@ use Rattle.dali_events.specs.Plan.{no_block}
 use Rattle.dali_events.specs.Promise.{KeepsPromiseNow}
 use Rattle.dali_events.specs.Allowed.{Allowed, IsUp}
 use Rattle.dali_events.specs.Runs.{IsRun, LeavesUsed}
+use Rattle.dali_events.specs.Wanted.{gear_of}
 use Rattle.dali_events.proofs.Invariant.Sending.{lawful_of}
 use Rattle.dali_events.proofs.Invariant.Takes.{row_length}
-use Rattle.dali_standing.specs.Seats.{MayAnswer, LeavesWhole}
+use Rattle.dali_script.specs.Findings.{later, finding_of}
+use Rattle.dali_script.specs.declared.orders.Fault.{Fault}
+use Rattle.dali_standing.specs.Seats.{IsFound, MayAnswer, LeavesWhole}
 use Rattle.dali_standing.specs.Standing.{machine_in}
 use Rattle.dali_world.specs.Site.{SiteState, world, site_logged, machine_at, next_request}
-use Rattle.dali_progress.specs.Rounds.{HasEnded, IsAlone, Succeeds, IsOfRound, Rounds, site_after}
+use Rattle.dali_progress.specs.Rounds.{HasEnded, GoesOn, HasNext, IsAlone, Succeeds, IsOfRound, Rounds, site_after}
 use Rattle.dali_progress.specs.Misheard.{IsHeardBut, IsOfRoundBut, RoundsBut, EndsWellBut, IsTrueEndBut}
-use Rattle.dali_progress.proofs.Lone.{IsLone, Moment, IsDueOf, due_of, ended_rests, acted_last, acted_told, acts_by, lone_acted, lone_next, lone_sent}
+use Rattle.dali_progress.proofs.Lone.{IsLone, Moment, IsDueOf, due_of, ended_rests, acted_last, acted_told, acts_by, lone_acted, lone_next, lone_sent, due_by}
+use Rattle.dali_progress.proofs.Lone.{IsDueIn, acted_there, heard_kept}
 use Rattle.dali_progress.proofs.Lone.{sent_last}
 use Rattle.dali_progress.proofs.Logged.{same_some, world_logged, run_logged, machines_logged, acted_machine, drawn_now, kept_now}
 use Rattle.dali_progress.proofs.Both.{never_eight, no_enrolment, with_kept, not_failed, addresses_by, put_no_enrolment, not_free, no_tries, IsKnown, known_sent}
@@ -61,7 +65,13 @@ use Rattle.dali_progress.proofs.Frames.{Seeks}
 use Rattle.dali_progress.proofs.Census.Asked.{sending_of}
 use Rattle.dali_world.proofs.Logs.{records_now}
 use Rattle.dali_progress.proofs.Survey.Queried.{OneShort, IsTrue}
-use Rattle.dali_progress.proofs.Survey.Bounded.{promise_now, one_now, true_now}
+use Rattle.std.proofs.lemmas.Nat.Bits.{bit_at-zero}
+use Rattle.dali_controller.specs.Shorts.{has_short}
+use Rattle.dali_events.proofs.Invariant.Safe.{holds_after}
+use Rattle.dali_events.proofs.Invariant.Sparing.{one_owner}
+use Rattle.dali_progress.proofs.Survey.Turns.{IsUncontradicted}
+use Rattle.dali_progress.proofs.Survey.Goes.{found_told, ordered_found, uncontradicted, found_sent}
+use Rattle.dali_progress.proofs.Survey.Bounded.{agree_now, promise_now, one_now, true_now}
 use Rattle.dali_progress.proofs.Survey.Drawn.{numbered_of}
 use Rattle.dali_progress.proofs.Misheard.Gear as gear
 use Rattle.dali_progress.proofs.Misheard.Gear.{drew_apart}
@@ -103,9 +113,11 @@ committed g m (Reserve a r) o gs calm v free last by one holds =
       sought_are = v.sought_are;
       quiet = tt;
       at = record { visited = r; number = refl; drawn = v.drawn; stage_is = (v.reached, v.bare) };
-    })
-    (gear.known_more m.kept.reserved m.kept.enrolled (m.kept.reserved ++ (a, r) ∷ []) m.kept.enrolled gs (λ x has. has_before m.kept.reserved (a, r) x has)
-    (λ x has. has) v.known)
+    }) (
+      gear.known_more m.kept.reserved m.kept.enrolled (m.kept.reserved ++ (a, r) ∷ []) m.kept.enrolled gs (λ x has. has_before m.kept.reserved (a, r) x has)
+          (λ x has. has) v.known,
+      v.clear,
+    )
 committed g m (Enrol b r) o gs calm (inr past) free last by one holds =
     hunts_on g (with_kept m (Enrol b r)) o gs (calm_kept g m (Enrol b r) gs calm)
     (given.enrolled (with_kept m (Enrol b r)) o b r by last free past.1) (rest_next m (Enrol b r) free last)
@@ -119,8 +131,11 @@ committed g m (Enrol b r) o gs calm (inr past) free last by one holds =
       visited = past.0.visited;
       drawn = past.0.drawn;
       past = past.0.past;
-      known = gear.known_more m.kept.reserved m.kept.enrolled m.kept.reserved (m.kept.enrolled ++ (b, r) ∷ []) gs (λ x has. has)
-          (λ x has. has_before m.kept.enrolled (b, r) x has) past.0.known;
+      known = (
+        gear.known_more m.kept.reserved m.kept.enrolled m.kept.reserved (m.kept.enrolled ++ (b, r) ∷ []) gs (λ x has. has)
+            (λ x has. has_before m.kept.enrolled (b, r) x has) past.0.known.0,
+        past.0.known.1,
+      );
     })
 committed g m (Enrol b r) o gs calm (inl asked) free last by one holds = go o by (by.followed.enrolled b r last) where
   goes : (q : Order) → IsGivenBy (with_kept m (Enrol b r)) q → IsOwn m.kept b r → IsNext g (machine_ordered (with_kept m (Enrol b r)) q) q gs
@@ -144,7 +159,8 @@ committed g m (Release a r) o gs calm v free last by one holds =
     asks_on g (with_kept m (Release a r)) o gs (calm_kept g m (Release a r) gs calm)
     (given.begins_free (with_kept m (Release a r)) o by free (no_enrolment_of m.last last) (never_eight m.tries calm.tries))
     (rest_next m (Release a r) free last)
-    (record { unopened = v.0.unopened; counted = v.0.counted; small = v.0.small; census = inl v.1 }) one holds
+    (record { unopened = v.0.unopened; counted = v.0.counted; small = v.0.small; clear = λ b q has. v.0.clear b q
+        (without_has (a, r) m.kept.reserved (b, q) has); census = inl v.1 }) one holds
   where
     no_enrolment_of : (l : Option Order) → l ≡ Some (Commit (Release a r)) → IsNoEnrolment l
     no_enrolment_of l is b n e = let other : Some (Commit (Release a r)) ≡ Some (Commit (Enrol b n)) = sym is ∙ e in cc
@@ -159,6 +175,7 @@ pub record IsUnbegun (g : ℕ) (m : Machine) (gs : List Gear) : Type 0 where
   pub free : m.trace ≡ []
   pub unopened : m.course.opened ≡ false
   pub first : m.course.from ≡ 0
+  pub unmarked : (b : ℕ) → has_short m.heard b ≡ false
 
 -- a frame was heard: the machine stands so, once it is told
 pub record Hears (g : ℕ) (m : Machine) (f : Forward) (h : Answer) (gs : List Gear) : Type 0 where
@@ -197,6 +214,7 @@ first_acts g m o gs last by one holds v =
         drawn = λ some. absurd (omega (arith, some));
       };
       small = subst (λ n. n ≤ 64) (sym v.first) (omega arith);
+      clear = λ b q has. v.unmarked b;
       census = inl (refl, subst (λ n. AreTabledBelow n m.kept.enrolled gs) (sym v.first) (λ k there on a low. absurd (omega (arith, low))));
     }) one holds
   where
@@ -207,12 +225,13 @@ first_acts g m o gs last by one holds v =
     none_yet b n e = cc
 
 heard_acts : (g : ℕ) (m : Machine) (p : ℕ) (f : Forward) (h : Answer) (o : Order) (gs : List Gear) → m.last ≡ Some (Put p f)
-    → IsGivenBy (machine_told m (input.Heard h)) o → IsAtHand m.kept gs → IsWhole (machine_after m (input.Heard h) o) → Hears g m f h gs
+    → IsGivenBy (machine_told m (input.Heard h)) o → IsAtHand m.kept gs → IsUncontradicted (machine_told m (input.Heard h))
+    → IsWhole (machine_after m (input.Heard h) o) → Hears g m f h gs
     → IsNext g (machine_after m (input.Heard h) o) o gs
-heard_acts g m p f h o gs is by hand whole hears =
+heard_acts g m p f h o gs is by hand agreed whole hears =
     subst (λ t. IsNext g (machine_ordered t o) o gs) (sym same)
     (turned g (machine_heard m (Some f) h) o gs (subst (λ t. IsGivenBy t o) same by) hears.stands
-    hand (subst (λ t. IsWhole (machine_ordered t o)) same whole)
+    hand (subst IsUncontradicted same agreed) (subst (λ t. IsWhole (machine_ordered t o)) same whole)
     (put_no_enrolment p f m.last is) hears.running)
   where
     same : machine_told m (input.Heard h) ≡ machine_heard m (Some f) h
@@ -230,17 +249,26 @@ kept_acts g m x o gs is by free one holds next =
 
 acts : (g : ℕ) (w : World) (q c : ℕ) (m : Machine) (out : Option Record) (last : Option Order) (told : Option Input) (i : Input) (o : Order)
     → Moment w q c m out last told → m.last ≡ last → IsDueOf last told i → Succeeds true i → IsGivenBy (machine_told m i) o → IsAtHand m.kept w.gear
-    → IsTrue (machine_told m i).kept.enrolled w.gear
+    → IsTrue (machine_told m i).kept.enrolled w.gear → ((b : Answer) → i ≡ input.Heard b → IsUncontradicted (machine_told m i))
     → IsWhole (machine_after m i o) → Holds g m last told w.gear → IsNext g (machine_after m i o) o w.gear
-acts g w q c m out last told i o at is due surveys by hand true_table whole holds =
+acts g w q c m out last told i o at is due surveys by hand true_table agreed whole holds =
     acts_by true (λ l t j. Moment w q c m out l t → m.last ≡ l → IsGivenBy (machine_told m j) o → IsTrue (machine_told m j).kept.enrolled w.gear
-    → IsWhole (machine_after m j o) → Holds g m l t w.gear → IsNext g (machine_after m j o) o w.gear)
-    (λ at is by true_table whole holds. first_acts g m o w.gear is by hand.one hand.holds holds)
-    (λ p f h at is by true_table whole holds. heard_acts g m p f h o w.gear is by hand whole holds)
-    (λ x at is by true_table whole holds. kept_acts g m x o w.gear is by at.1 hand.one true_table (next_holds g m (Commit x) w.gear holds).0)
-    w q c m out last told i at due surveys at is by true_table whole holds
+    → ((b : Answer) → j ≡ input.Heard b → IsUncontradicted (machine_told m j)) → IsWhole (machine_after m j o) → Holds g m l t w.gear
+    → IsNext g (machine_after m j o) o w.gear)
+    (λ at is by true_table agreed whole holds. first_acts g m o w.gear is by hand.one hand.holds holds)
+    (λ p f h at is by true_table agreed whole holds. heard_acts g m p f h o w.gear is by hand (agreed h refl) whole holds)
+    (λ x at is by true_table agreed whole holds. kept_acts g m x o w.gear is by at.1 hand.one true_table (next_holds g m (Commit x) w.gear holds).0)
+    w q c m out last told i at due surveys at is by true_table agreed whole holds
 
 -- ---------------------------------------------------------------- its frame is sent
+
+-- whoever has an address that it has reserved has the number that it is reserved for
+owned_now : (s : SiteState) (c : ℕ) → IsRun s.plan s.queue s.log → IsUp (world s) c → (a r i : ℕ) → Has (controller_at (world s) c).records.reserved (a, r)
+    → i < length (world s).gear → (gear_of (world s).gear i).short ≡ Some a → (gear_of (world s).gear i).random ≡ r
+owned_now s c run up a r i has there short =
+    let all = holds_after s.plan s.queue s.log run in
+    one_owner s.plan (world s).controllers run.plan all.reserves all.spares a (gear_of (world s).gear i).random r
+    (all.gifts.reserved i a ((all.gifts.holds i a there).0 short)) (inl (c, up.known, has))
 
 -- who is known, once a frame was heard
 abbrev KnownTo : ℕ → Purpose → Stage → Kept → Shorts → Course → List Gear → List ℕ → Command → Answer → Type 0
@@ -269,6 +297,7 @@ stands_heard g m f h gs numbers st lawful sent known = record {
 
 pub record Goes (g : ℕ) (w : World) (q c : ℕ) (m : Machine) : Type 0 where
   pub lone : IsLone w q c m
+  pub known : IsFound (controller_at w c) m
   pub holds : Holds g m (controller_at w c).last (controller_at w c).told w.gear
 
 pub record Runs (g : ℕ) (s : SiteState) (c : ℕ) : Type 0 where
@@ -303,6 +332,8 @@ acted_on g s c i o r here good may whole leaves = record {
   there = acted_machine s c i o r.machine r.there;
   goes = subst (λ v. Goes g v s.queue c (machine_after r.machine i o)) (sym (world_logged s (event.Acted c i o))) (record {
     lone = after_lone;
+    known = subst (λ k. IsFound k (machine_after r.machine i o)) (sym (acted_there w c i o r.goes.lone.up))
+        (ordered_found (controller_at w c).finding (machine_told r.machine i) o found);
     holds = holds_of g (machine_after r.machine i o) (happens w (event.Acted c i o)) c (Some o) None w.gear (acted_last w c i o r.goes.lone.up)
         (acted_told w c i o r.goes.lone.up) (holds_next g (machine_after r.machine i o) o w.gear (out, now_whole));
   });
@@ -329,6 +360,16 @@ acted_on g s c i o r here good may whole leaves = record {
       let there = promise.tables c (a, n) (after_lone.up.known, subst (λ k. Has k.enrolled (a, n)) after_lone.kept has) in
       (there.0, there.1.0, there.1.1, there.2)
 
+  found : later (controller_at w c).finding (finding_of (machine_told r.machine i).trace) ≡ (controller_at w c).finding
+  found =
+      found_told w s.queue c r.machine (controller_at w c).outstanding (controller_at w c) (controller_at w c).last (controller_at w c).told i
+      r.goes.lone.moment (due_of (controller_at w c) i here.due) good refl r.goes.known
+
+  agreed : (b : Answer) → i ≡ input.Heard b → IsUncontradicted (machine_told r.machine i)
+  agreed b is =
+      uncontradicted w c (machine_told r.machine i) (agree_now s r.run) r.goes.lone.up.known
+      (ap (λ j. (machine_told r.machine j).kept) is ∙ heard_kept r.machine (frame_put r.machine.last) b ∙ r.goes.lone.kept) found
+
   out : IsNext g (machine_after r.machine i o) o w.gear
   out =
       acts g w s.queue c r.machine (controller_at w c).outstanding (controller_at w c).last (controller_at w c).told i o r.goes.lone.moment
@@ -339,7 +380,10 @@ acted_on g s c i o r here good may whole leaves = record {
         apart = drew_apart w (drawn_now s r.run);
         one = one_now s r.run;
         holds = subst (λ (k : Kept). IsTrue k.enrolled w.gear) (sym r.goes.lone.kept) (true_now s c r.run r.goes.lone.up);
-      }) true_after now_whole r.goes.holds
+        owned = subst (λ (k : Kept). (a n j : ℕ) → Has k.reserved (a, n) → j < length w.gear → (gear_of w.gear j).short ≡ Some a
+            → (gear_of w.gear j).random ≡ n)
+            (sym r.goes.lone.kept) (owned_now s c r.run r.goes.lone.up);
+      }) true_after agreed now_whole r.goes.holds
 
 frame_on : (g : ℕ) (s : SiteState) (c p : ℕ) (f : Forward) (h : Answer) → (r : Runs g s c) → r.machine.last ≡ Some (Put p f)
     → (controller_at (world s) c).told ≡ None → Allowed (world s) (event.Sent c f h) → IsHeardBut g (world s).gear (command_of f) h
@@ -350,6 +394,7 @@ frame_on g s c p f h r last told here heard = record {
   there = ap (λ ms. machine_in ms c) (machines_logged s (event.Sent c f h)) ∙ r.there;
   goes = subst (λ v. Goes g v s.queue c r.machine) (sym (world_logged s (event.Sent c f h))) (record {
     lone = lone.0;
+    known = found_sent w s.queue c r.machine p f h r.goes.lone last told lone.1 lone.2 r.goes.known;
     holds = holds_of g r.machine (happens w (event.Sent c f h)) c (Some (Put p f)) (Some (input.Heard h))
         (row_after Everyone (command_of f) 0 w.gear w.left) (sent_last w c f h r.goes.lone.up ∙ was) lone.1
         (record { stands = stands_heard g r.machine f h w.gear w.left holds.0 lawful sent known_to; running = not_free r.machine.trace (entry f h) });
@@ -395,8 +440,9 @@ frame_on g s c p f h r last told here heard = record {
       at_sent g r.machine.course.purpose (stage_of r.machine.trace) r.machine.kept r.machine.heard r.machine.course r.machine.silent w.gear w.left
       (command_of f) h holds.0.at (sending_of r.machine p f last holds.1).sends taken (subst (λ t. Seeks (stage_of t) w.gear) lone.3 known.1.seeks)
 
-  told_of : AreToldOf r.machine.kept
-  told_of = subst AreToldOf (sym r.goes.lone.kept) (record { kept = kept_now s c r.run r.goes.lone.up; block = block_now s c r.run r.goes.lone.up })
+  told_of : AreToldOf r.machine.kept w.gear
+  told_of = subst (λ k. AreToldOf k w.gear) (sym r.goes.lone.kept)
+      (record { kept = kept_now s c r.run r.goes.lone.up; block = block_now s c r.run r.goes.lone.up; owned = owned_now s c r.run r.goes.lone.up })
 
   known_to : KnownTo g r.machine.course.purpose (stage_of r.machine.trace) r.machine.kept r.machine.heard r.machine.course w.gear w.left (command_of f) h
   known_to =
@@ -448,7 +494,9 @@ starts g s c there a = record {
       addresses = rw a.last tt;
       moment = rw (a.last, a.told) ((a.bus, a.trace), refl);
     };
-    holds = rw (a.last, a.told) (record { there = there; tries = refl; silent = refl; free = refl; unopened = refl; first = refl });
+    known = rw a.told refl;
+    holds = rw (a.last, a.told) (record { there = there; tries = refl; silent = refl; free = refl; unopened = refl; first = refl;
+        unmarked = λ b. ap (λ n. n == 1) (bit_at-zero b) });
   };
 }
 
@@ -478,3 +526,25 @@ ends_truly g s c es e there a rounds ended m is =
 
       well : EndsBy g e r.machine.kept r.machine.heard w.gear
       well = (next_holds g r.machine (Done e) w.gear (rw (ended, quiet) at r.goes.holds)).0
+
+-- it goes on, and never halts
+pub goes_on : (g : ℕ) (s : SiteState) (c : ℕ) (es : List Event) → g < length (world s).gear → IsAlone s c → RoundsBut g s c es
+    → GoesOn true (site_after s es) c
+goes_on g s c es there a rounds =
+    go (due_by true w now.queue c r.machine (controller_at w c).last (controller_at w c).told refl refl r.goes.lone.moment halts) where
+      now : SiteState
+      now = site_after s es
+
+      w : World
+      w = world now
+
+      r : Runs g now c
+      r = runs_all g s c es (starts g s c there a) rounds
+
+      halts : (why : Fault) → (controller_at w c).last ≡ Some (Halt why) → (controller_at w c).told ≡ None → ⊥
+      halts why is none = (next_holds g r.machine (Halt why) w.gear (rw (is, none) at r.goes.holds)).0
+
+      go : ((e : End) × HasEnded now c e) ⊎ (IsDueIn true w c ⊎ HasNext now) → GoesOn true now c
+      go (inl ended) = inl ended
+      go (inr (inl due)) = inr (inl (record { input = due.0; succeeds = due.1; due = due.2; free = due.3 }))
+      go (inr (inr next)) = inr (inr next)

@@ -1,6 +1,5 @@
-use Rattle.std.proofs.Common.{◌≡◌, ℕ, ◌<◌, ◌⊎◌, inl, inr, Bool, true, false, List, refl, sym, ap, subst, ◌∙◌, arith, Option, Some, None}
-use Rattle.std.specs.Prelude.{◌==◌, ◌||◌, not, MatchOption, if◌then◌else◌}
-use Rattle.std.proofs.lemmas.Bool.Decides.{nat_tests}
+use Rattle.std.proofs.Common.{◌≡◌, ℕ, ◌<◌, ◌⊎◌, inl, inr, Bool, true, false, List, refl, sym, ap, subst, ◌∙◌, arith, length, Some, None}
+use Rattle.std.specs.Prelude.{◌==◌, if◌then◌else◌}
 use Rattle.dali_frame.specs.declared.frames.Answer.{Answer}
 use Rattle.dali_frame.specs.declared.frames.Answer.TheVariants.{Silence, Byte}
 use Rattle.dali_frame.specs.declared.numbers.SearchAddress.{SearchAddress}
@@ -17,7 +16,7 @@ use Rattle.dali_script.specs.Records.{Assignment, Kept, Has, HasAddress, InBlock
 use Rattle.dali_script.specs.declared.stage.Stage.{Stage}
 use Rattle.dali_script.specs.declared.stage.Stage.TheVariants as stage
 use Rattle.dali_script.specs.Stages.{next_stage}
-use Rattle.dali_script.proofs.Members.{same_member}
+use Rattle.dali_script.proofs.Lists.{has_map}
 use Rattle.dali_script.proofs.Transactions.{middle_next, low_next}
 use Rattle.dali_controller.specs.declared.purpose.Purpose.{Purpose}
 use Rattle.dali_controller.specs.declared.purpose.Purpose.TheVariants.{Opening, Probing, Visiting, Resolving, Closing, Hunting, Asking, Calling}
@@ -25,10 +24,9 @@ use Rattle.dali_controller.specs.declared.purpose.Purpose.TheVariants.{Drawing, 
 use Rattle.dali_controller.specs.declared.shorts.Shorts.{Shorts}
 use Rattle.dali_controller.specs.declared.tally.Tally.{Tally}
 use Rattle.dali_controller.specs.Shorts.{has_short, with_short, without_short}
-use Rattle.dali_controller.specs.Course.{Course, byte_to_send, is_another, number_at}
+use Rattle.dali_controller.specs.Course.{Course, byte_to_send}
 use Rattle.dali_controller.specs.Machine.{heard_after, marked_at}
 use Rattle.dali_controller.specs.Whole.{Sends}
-use Rattle.dali_controller.proofs.Courses.{found_number}
 use Rattle.dali_events.specs.Wanted.{gear_of}
 use Rattle.dali_events.proofs.Invariant.Resolving.{whole_number}
 use Rattle.dali_events.proofs.Search.Leaving as leaving
@@ -41,11 +39,11 @@ use Rattle.dali_progress.proofs.Tables.{LeavesNames}
 use Rattle.dali_progress.proofs.Accounted.{with_has}
 use Rattle.dali_progress.proofs.Survey.Woken.{leaves_short}
 use Rattle.dali_progress.proofs.Survey.Queried.{Holds, Nobody, one_gear}
-use Rattle.dali_progress.proofs.Survey.Stands.{AreTaken}
-use Rattle.dali_progress.proofs.Survey.Sent.{heard_high, tells_on, nobody_on, with_other, without_other}
+use Rattle.dali_progress.proofs.Survey.Stands.{AreTaken, IsClear, IsClearBut}
+use Rattle.dali_progress.proofs.Survey.Sent.{heard_high, tells_on, nobody_on, with_other, without_other, clear_with, without_same}
 use Rattle.dali_progress.proofs.Misheard.Gear as gear
 use Rattle.dali_progress.proofs.Misheard.Gear.{IsKnown, AreKnown, each_after, each_core}
-use Rattle.dali_progress.proofs.Misheard.Stands.{IsSpent, IsTabled, AreTabledBelow, AreApartFrom, IsFilledFor, IsCensus, Census, KnownAt, Calls, At}
+use Rattle.dali_progress.proofs.Misheard.Stands.{IsSpent, IsTabled, AreTabledBelow, IsCensus, Census, KnownAt, Calls, At}
 use Rattle.dali_progress.proofs.Misheard.Sent.{Taken, truth}
 use Rattle.dali_progress.proofs.Misheard.Called.{keeps_names, served_left, is_compare}
 
@@ -167,130 +165,67 @@ known_after k s gs numbers d (inr (inr (draws, inl all))) seek known =
 known_after k s gs numbers d (inr (inr (draws, inr all))) seek known =
     subst (λ e. AreKnown k.reserved k.enrolled (row_after Everyone e 0 gs numbers)) (sym draws) (gear.known_twice k.reserved k.enrolled gs numbers all known)
 
--- ---------------------------------------------------------------- marks, while nothing can be given
+-- ---------------------------------------------------------------- marks
 
--- what is known of the records
-pub record AreToldOf (k : Kept) : Type 0 where
+-- what is known of the records: whoever has an address that is reserved has the number that it is reserved for
+pub record AreToldOf (k : Kept) (gs : List Gear) : Type 0 where
   pub kept : IsKept k
   pub block : (a : ℕ) → InBlock k.block a → a < 64
+  pub owned : (a r i : ℕ) → Has k.reserved (a, r) → i < length gs → (gear_of gs i).short ≡ Some a → (gear_of gs i).random ≡ r
 
-or_more : (x y z : Bool) → (x ≡ true → y ≡ true) → (x || z) ≡ true → (y || z) ≡ true
-or_more true y z more e = rw (more refl) refl
-or_more false true z more e = refl
-or_more false false z more e = e
+apart_of : (a b : ℕ) → (a == b) ≡ false → a ≡ b → ⊥
+apart_of a b other e = let never : true ≡ false = sym (number_same a b e) ∙ other in cc
 
-or_right : (x z : Bool) → z ≡ true → (x || z) ≡ true
-or_right true z e = refl
-or_right false z e = e
-
-apart_core : (a r : ℕ) (gs hs : List Gear) → SameCore gs hs → AreApartFrom a r gs → AreApartFrom a r hs
-apart_core a r =
-    each_core (λ k y. y.short ≡ Some a → y.random ≡ r → ⊥) (λ k y. y.short ≡ Some a → y.random ≡ r → ⊥)
-    (λ k y z same was short random. was (sym same.same_short ∙ short) (sym same.same_random ∙ random))
-
-filled_core : (k : Kept) (heard : Shorts) (gs hs : List Gear) → SameCore gs hs → IsFilledFor k heard gs → IsFilledFor k heard hs
-filled_core k heard gs hs same (inl taken) = inl taken
-filled_core k heard gs hs same (inr (a, r, has, other, apart)) = inr (a, r, has, other, apart_core a r gs hs same apart)
-
-filled_with : (k : Kept) (heard : Shorts) (b : ℕ) (gs : List Gear) → b < 64 → IsFilledFor k heard gs → IsFilledFor k (with_short heard b) gs
-filled_with k heard b gs small filled = go filled where
-  more : (c : ℕ) → has_short heard c ≡ true → has_short (with_short heard b) c ≡ true
-  more c marked = by (c == b) refl where
-    by : (t : Bool) → (c == b) ≡ t → has_short (with_short heard b) c ≡ true
-    by true is = let at : c ≡ b = same_number c b is in with_has heard b c (sym at) (subst (λ n. n < 64) (sym at) small)
-    by false other = with_other heard b c small (λ e. (let never : true ≡ false = sym (number_same c b e) ∙ other in cc)) ∙ marked
-
-  go : IsFilledFor k heard gs → IsFilledFor k (with_short heard b) gs
-  go (inl taken) = inl (λ a within. by a (taken a within)) where
-    by : (a : ℕ) → HasAddress k.reserved a ⊎ (HasAddress k.enrolled a ⊎ (has_short heard a ≡ true))
-        → HasAddress k.reserved a ⊎ (HasAddress k.enrolled a ⊎ (has_short (with_short heard b) a ≡ true))
-    by a (inl has) = inl has
-    by a (inr (inl has)) = inr (inl has)
-    by a (inr (inr marked)) = inr (inr (more a marked))
-  go (inr (a, r, has, other, apart)) =
-      inr (a, r, has, or_more (has_short heard a) (has_short (with_short heard b) a) (is_another r (number_at k.enrolled a)) (more a) other, apart)
+-- where no address of the block is left
+taken_with : (k : Kept) (heard : Shorts) (b : ℕ) → b < 64 → AreTaken k heard → AreTaken k (with_short heard b)
+taken_with k heard b small taken a within = by (taken a within) where
+  by : HasAddress k.reserved a ⊎ (HasAddress k.enrolled a ⊎ (has_short heard a ≡ true))
+      → HasAddress k.reserved a ⊎ (HasAddress k.enrolled a ⊎ (has_short (with_short heard b) a ≡ true))
+  by (inl has) = inl has
+  by (inr (inl has)) = inr (inl has)
+  by (inr (inr marked)) = inr (inr (more (a == b) refl)) where
+    more : (t : Bool) → (a == b) ≡ t → has_short (with_short heard b) a ≡ true
+    more true is = let at : a ≡ b = same_number a b is in with_has heard b a (sym at) (subst (λ n. n < 64) (sym at) small)
+    more false other = with_other heard b a small (apart_of a b other) ∙ marked
 
 -- the gear that told its number is known
-filled_without : (k : Kept) (heard : Shorts) (b n i : ℕ) (gs : List Gear) → AreToldOf k → b < 64 → Holds gs i b → (gear_of gs i).random ≡ n → n < MASK24
-    → AreKnown k.reserved k.enrolled gs → IsFilledFor k heard gs → IsFilledFor k (without_short heard b) gs
-filled_without k heard b n i gs told small holds random drew known filled = go filled where
-  entry : Has k.enrolled (b, n) ⊎ Has k.reserved (b, n)
-  entry = subst (λ m. Has k.enrolled (b, m) ⊎ Has k.reserved (b, m)) random
-      (known i holds.there holds.on b small holds.short (subst (λ m. m < MASK24) (sym random) drew))
-
-  still : (c : ℕ) → c < 64 → (c ≡ b → ⊥) → has_short heard c ≡ true → has_short (without_short heard b) c ≡ true
-  still c few other marked = without_other heard b c small few other ∙ marked
-
-  apart_of : (c : ℕ) → (c == b) ≡ false → c ≡ b → ⊥
-  apart_of c other e = let never : true ≡ false = sym (number_same c b e) ∙ other in cc
-
-  taken_here : Has k.enrolled (b, n) ⊎ Has k.reserved (b, n)
+taken_without : (k : Kept) (heard : Shorts) (b n i : ℕ) (gs : List Gear) → AreToldOf k gs → b < 64 → Holds gs i b → (gear_of gs i).random ≡ n → n < MASK24
+    → AreKnown k.reserved k.enrolled gs → AreTaken k heard → AreTaken k (without_short heard b)
+taken_without k heard b n i gs told small holds random drew known taken a within = by (taken a within) where
+  here : Has k.enrolled (b, n) ⊎ Has k.reserved (b, n)
       → HasAddress k.reserved b ⊎ (HasAddress k.enrolled b ⊎ (has_short (without_short heard b) b ≡ true))
-  taken_here (inl has) = inr (inl (has_address k.enrolled b n has))
-  taken_here (inr has) = inl (has_address k.reserved b n has)
+  here (inl has) = inr (inl (has_address k.enrolled b n has))
+  here (inr has) = inl (has_address k.reserved b n has)
 
-  go : IsFilledFor k heard gs → IsFilledFor k (without_short heard b) gs
-  go (inl taken) = inl all where
-    all : AreTaken k (without_short heard b)
-    all a within = by (taken a within) where
-      by : HasAddress k.reserved a ⊎ (HasAddress k.enrolled a ⊎ (has_short heard a ≡ true))
-          → HasAddress k.reserved a ⊎ (HasAddress k.enrolled a ⊎ (has_short (without_short heard b) a ≡ true))
-      by (inl has) = inl has
-      by (inr (inl has)) = inr (inl has)
-      by (inr (inr marked)) = at (a == b) refl where
-        at : (t : Bool) → (a == b) ≡ t → HasAddress k.reserved a ⊎ (HasAddress k.enrolled a ⊎ (has_short (without_short heard b) a ≡ true))
-        at true is =
-            subst (λ c. HasAddress k.reserved c ⊎ (HasAddress k.enrolled c ⊎ (has_short (without_short heard b) c ≡ true))) (sym (same_number a b is))
-            (taken_here entry)
-        at false other = inr (inr (still a (told.block a within) (apart_of a other) marked))
-  go (inr (a, r, has, other, apart)) = at (a == b) refl where
-    few : a < 64
-    few = told.kept.reserved.short a (has_address k.reserved a r has)
+  by : HasAddress k.reserved a ⊎ (HasAddress k.enrolled a ⊎ (has_short heard a ≡ true))
+      → HasAddress k.reserved a ⊎ (HasAddress k.enrolled a ⊎ (has_short (without_short heard b) a ≡ true))
+  by (inl has) = inl has
+  by (inr (inl has)) = inr (inl has)
+  by (inr (inr marked)) = at (a == b) refl where
+    at : (t : Bool) → (a == b) ≡ t → HasAddress k.reserved a ⊎ (HasAddress k.enrolled a ⊎ (has_short (without_short heard b) a ≡ true))
+    at true is =
+        subst (λ c. HasAddress k.reserved c ⊎ (HasAddress k.enrolled c ⊎ (has_short (without_short heard b) c ≡ true))) (sym (same_number a b is))
+        (here (subst (λ m. Has k.enrolled (b, m) ⊎ Has k.reserved (b, m)) random
+        (known i holds.there holds.on b small holds.short (subst (λ m. m < MASK24) (sym random) drew))))
+    at false other = inr (inr (without_other heard b a small (told.block a within) (apart_of a b other) ∙ marked))
 
-    another : (m : ℕ) → (m ≡ r → ⊥) → is_another r (Some m) ≡ true
-    another m differs = test m r differs where
-      test : (m r : ℕ) → (m ≡ r → ⊥) → not (m == r) ≡ true
-      test m r differs = grind (arith, nat_tests, differs)
+-- a number was told: the mark goes, or it is FFFFFF, and the address is not reserved
+clear_told : (k : Kept) (heard : Shorts) (b n i : ℕ) (gs : List Gear) → AreToldOf k gs → b < 64 → Holds gs i b → (gear_of gs i).random ≡ n
+    → IsClearBut k heard b → IsClear k (if n == MASK24 then with_short heard b else without_short heard b)
+clear_told k heard b n i gs told small holds random clear c q has = go (n == MASK24) refl (c == b) refl where
+  few : c < 64
+  few = told.kept.reserved.short c (has_address k.reserved c q has)
 
-    at : (t : Bool) → (a == b) ≡ t → IsFilledFor k (without_short heard b) gs
-    at false differs =
-        inr (
-          a,
-          r,
-          has,
-          or_more (has_short heard a) (has_short (without_short heard b) a) (is_another r (number_at k.enrolled a))
-              (still a few (apart_of a differs)) other,
-          apart,
-        )
-    at true is = by entry where
-      same : a ≡ b
-      same = same_number a b is
+  below : q < MASK24
+  below = told.kept.reserved_drawn q (has_map (λ (x : Assignment). x.1) k.reserved (c, q) has)
 
-      differs : n ≡ r → ⊥
-      differs e = apart i holds.there holds.on (holds.short ∙ ap (λ c. Some c) (sym same)) (random ∙ e)
-
-      by : Has k.enrolled (b, n) ⊎ Has k.reserved (b, n) → IsFilledFor k (without_short heard b) gs
-      by (inr reserved) =
-          absurd (differs (ap (λ (x : Assignment). x.1) (same_member (λ (x : Assignment). x.0) k.reserved (b, n) (a, r) told.kept.reserved.address_once reserved
-          has (sym same))))
-      by (inl enrolled) =
-          inr (
-            a,
-            r,
-            has,
-            or_right (has_short (without_short heard b) a) (is_another r (number_at k.enrolled a))
-                (found (number_at k.enrolled a) (found_number k.enrolled a)),
-            apart,
-          )
-        where
-          there : Has k.enrolled (a, n)
-          there = subst (λ c. Has k.enrolled (c, n)) (sym same) enrolled
-
-          found : (o : Option ℕ) → MatchOption o (HasAddress k.enrolled a → ⊥) (λ m. Has k.enrolled (a, m)) → is_another r o ≡ true
-          found None none = absurd (none (has_address k.enrolled a n there))
-          found (Some m) entry =
-              another m (λ e. differs (ap (λ (x : Assignment). x.1)
-              (same_member (λ (x : Assignment). x.0) k.enrolled (a, n) (a, m) told.kept.enrolled.address_once there entry refl) ∙ e))
+  go : (t : Bool) → (n == MASK24) ≡ t → (u : Bool) → (c == b) ≡ u → has_short (if t then with_short heard b else without_short heard b) c ≡ false
+  go false drew true at = without_same heard b c small (same_number c b at)
+  go false drew false other = without_other heard b c small few (apart_of c b other) ∙ clear c q has (apart_of c b other)
+  go true mask false other = with_other heard b c small (apart_of c b other) ∙ clear c q has (apart_of c b other)
+  go true mask true at =
+      let same : (gear_of gs i).random ≡ q = told.owned c q i has holds.there (holds.short ∙ ap (λ m. Some m) (sym (same_number c b at))) in
+      absurd (let top : n ≡ MASK24 = same_number n MASK24 mask in omega (arith, below, same, random, top))
 
 -- ---------------------------------------------------------------- the census
 
@@ -300,67 +235,68 @@ tabled_core f enrolled =
     subst (λ n. Has enrolled (a, n)) (sym same.same_random)
     (was a low (sym same.same_short ∙ short) (subst (λ n. n < MASK24) same.same_random drew)))
 
-census_core : (g f : ℕ) (y : Tally) (k : Kept) (heard : Shorts) (gs hs : List Gear) → SameCore gs hs → IsCensus g f y k heard gs → IsCensus g f y k heard hs
-census_core g f y k heard gs hs same (inl first) = inl (first.0, tabled_core f k.enrolled gs hs same first.1)
-census_core g f y k heard gs hs same (inr later) =
-    inr (gear.known_core k.reserved k.enrolled gs hs same later.0, filled_core k heard gs hs same later.1)
+census_core : (f : ℕ) (y : Tally) (k : Kept) (heard : Shorts) (gs hs : List Gear) → SameCore gs hs → IsCensus f y k heard gs → IsCensus f y k heard hs
+census_core f y k heard gs hs same (inl first) = inl (first.0, tabled_core f k.enrolled gs hs same first.1)
+census_core f y k heard gs hs same (inr later) = inr (gear.known_core k.reserved k.enrolled gs hs same later.0, later.1)
 
-census_with : (g f b : ℕ) (y : Tally) (k : Kept) (heard : Shorts) (gs : List Gear) → b < 64 → IsCensus g f y k heard gs
-    → IsCensus g f y k (with_short heard b) gs
-census_with g f b y k heard gs small (inl first) = inl first
-census_with g f b y k heard gs small (inr later) = inr (later.0, filled_with k heard b gs small later.1)
+census_with : (f b : ℕ) (y : Tally) (k : Kept) (heard : Shorts) (gs : List Gear) → b < 64 → IsCensus f y k heard gs
+    → IsCensus f y k (with_short heard b) gs
+census_with f b y k heard gs small (inl first) = inl first
+census_with f b y k heard gs small (inr later) = inr (later.0, taken_with k heard b small later.1)
 
-census_told : (g f b n i : ℕ) (y : Tally) (k : Kept) (heard : Shorts) (gs : List Gear) → AreToldOf k → b < 64 → Holds gs i b → (gear_of gs i).random ≡ n
-    → (n ≡ MASK24) ⊎ (n < MASK24) → IsCensus g f y k heard gs
-    → IsCensus g f y k (if n == MASK24 then with_short heard b else without_short heard b) gs
-census_told g f b n i y k heard gs told small holds random numbered (inl first) = inl first
-census_told g f b n i y k heard gs told small holds random numbered (inr later) = go (n == MASK24) refl where
-  go : (t : Bool) → (n == MASK24) ≡ t → IsCensus g f y k (if t then with_short heard b else without_short heard b) gs
-  go true mask = inr (later.0, filled_with k heard b gs small later.1)
-  go false drew = inr (later.0, filled_without k heard b n i gs told small holds random (less numbered) later.0 later.1) where
+census_told : (f b n i : ℕ) (y : Tally) (k : Kept) (heard : Shorts) (gs : List Gear) → AreToldOf k gs → b < 64 → Holds gs i b → (gear_of gs i).random ≡ n
+    → (n ≡ MASK24) ⊎ (n < MASK24) → IsCensus f y k heard gs
+    → IsCensus f y k (if n == MASK24 then with_short heard b else without_short heard b) gs
+census_told f b n i y k heard gs told small holds random numbered (inl first) = inl first
+census_told f b n i y k heard gs told small holds random numbered (inr later) = go (n == MASK24) refl where
+  go : (t : Bool) → (n == MASK24) ≡ t → IsCensus f y k (if t then with_short heard b else without_short heard b) gs
+  go true mask = inr (later.0, taken_with k heard b small later.1)
+  go false drew = inr (later.0, taken_without k heard b n i gs told small holds random (less numbered) later.0 later.1) where
     less : (n ≡ MASK24) ⊎ (n < MASK24) → n < MASK24
     less (inl mask) = absurd (let never : true ≡ false = sym (number_same n MASK24 mask) ∙ drew in cc)
     less (inr small) = small
 
-abbrev CensusTo : ℕ → ℕ → Stage → Kept → Shorts → Course → List Gear → List ℕ → Command → Answer → Type 0
-CensusTo g a s k heard c gs numbers d h =
-    Census g a (next_stage s d h) k (marked_at (next_stage s d h) h heard) c (row_after Everyone d 0 gs numbers)
+abbrev CensusTo : ℕ → Stage → Kept → Shorts → Course → List Gear → List ℕ → Command → Answer → Type 0
+CensusTo a s k heard c gs numbers d h =
+    Census a (next_stage s d h) k (marked_at (next_stage s d h) h heard) c (row_after Everyone d 0 gs numbers)
 
 census_sent : (g a : ℕ) (s : Stage) (k : Kept) (heard : Shorts) (c : Course) (gs : List Gear) (numbers : List ℕ) (d : Command) (h : Answer)
-    → Census g a s k heard c gs → Sends k c.number (Asking a) s d → Taken g d gs numbers h → AreToldOf k → CensusTo g a s k heard c gs numbers d h
+    → Census a s k heard c gs → Sends k c.number (Asking a) s d → Taken g d gs numbers h → AreToldOf k gs → CensusTo a s k heard c gs numbers d h
 census_sent g a stage.Free k heard c gs numbers d h v is t told =
-    subst (λ e. Taken g e gs numbers h → CensusTo g a stage.Free k heard c gs numbers e h) (sym is.0) go t where
+    subst (λ e. Taken g e gs numbers h → CensusTo a stage.Free k heard c gs numbers e h) (sym is.0) go t where
       same : SameCore gs (row_after Everyone (RandomByte a High) 0 gs numbers)
       same = leaving.core_after (RandomByte a High) gs numbers tt
 
-      go : Taken g (RandomByte a High) gs numbers h → CensusTo g a stage.Free k heard c gs numbers (RandomByte a High) h
+      go : Taken g (RandomByte a High) gs numbers h → CensusTo a stage.Free k heard c gs numbers (RandomByte a High) h
       go t = by (heard_high a High gs h (one_gear gs t.one)
           (truth g (RandomByte a High) gs numbers h t (λ e. (let never : RandomByte a High ≡ QueryShort = e in cc)))) where
             by : ((i : ℕ) × Holds gs i a × (h ≡ Byte (high_of (gear_of gs i).random))) ⊎ (Nobody gs a × (h ≡ Silence))
-                → CensusTo g a stage.Free k heard c gs numbers (RandomByte a High) h
-            by (inl (i, holds, byte)) = subst (λ b. CensusTo g a stage.Free k heard c gs numbers (RandomByte a High) b) (sym byte) (record {
+                → CensusTo a stage.Free k heard c gs numbers (RandomByte a High) h
+            by (inl (i, holds, byte)) = subst (λ b. CensusTo a stage.Free k heard c gs numbers (RandomByte a High) b) (sym byte) (record {
               small = v.small;
               from_is = v.from_is;
               asked = (refl, tells_on gs _ a i (λ r. high_of (gear_of gs i).random ≡ high_of r) same holds refl);
-              census = census_core g a c.tally k (with_short heard a) gs _ same (census_with g a a c.tally k heard gs v.small v.census);
+              clear = clear_with k heard a a refl v.small (λ e q has apart. v.clear e q has);
+              census = census_core a c.tally k (with_short heard a) gs _ same (census_with a a c.tally k heard gs v.small v.census);
             })
-            by (inr (none, silent)) = subst (λ b. CensusTo g a stage.Free k heard c gs numbers (RandomByte a High) b) (sym silent) (record {
+            by (inr (none, silent)) = subst (λ b. CensusTo a stage.Free k heard c gs numbers (RandomByte a High) b) (sym silent) (record {
               small = v.small;
               from_is = v.from_is;
               asked = (refl, nobody_on gs _ a same none);
-              census = census_core g a c.tally k heard gs _ same v.census;
+              clear = v.clear;
+              census = census_core a c.tally k heard gs _ same v.census;
             })
 census_sent g a (stage.HighAsked b (Some u)) k heard c gs numbers d h v is t told =
-    subst (λ e. Taken g e gs numbers h → CensusTo g a (stage.HighAsked b (Some u)) k heard c gs numbers e h) (some_is (RandomByte b Middle) d is.0) go t where
+    subst (λ e. Taken g e gs numbers h → CensusTo a (stage.HighAsked b (Some u)) k heard c gs numbers e h) (some_is (RandomByte b Middle) d is.0) go t where
       same : SameCore gs (row_after Everyone (RandomByte b Middle) 0 gs numbers)
       same = leaving.core_after (RandomByte b Middle) gs numbers tt
 
-      go : Taken g (RandomByte b Middle) gs numbers h → CensusTo g a (stage.HighAsked b (Some u)) k heard c gs numbers (RandomByte b Middle) h
+      go : Taken g (RandomByte b Middle) gs numbers h → CensusTo a (stage.HighAsked b (Some u)) k heard c gs numbers (RandomByte b Middle) h
       go t =
           by (heard_high a Middle gs h (one_gear gs t.one) (subst (λ e. h ≡ heard_of (answers_of Everyone (RandomByte e Middle) 0 gs)) v.asked.0
           (truth g (RandomByte b Middle) gs numbers h t (λ e. (let never : RandomByte b Middle ≡ QueryShort = e in cc))))) where
             by : ((i : ℕ) × Holds gs i a × (h ≡ Byte (middle_of (gear_of gs i).random))) ⊎ (Nobody gs a × (h ≡ Silence))
-                → CensusTo g a (stage.HighAsked b (Some u)) k heard c gs numbers (RandomByte b Middle) h
+                → CensusTo a (stage.HighAsked b (Some u)) k heard c gs numbers (RandomByte b Middle) h
             by (inr (none, silent)) = absurd (none v.asked.1.0 v.asked.1.1)
             by (inl (i, holds, byte)) =
                 let at : i ≡ v.asked.1.0 = one_gear gs t.one i v.asked.1.0 a holds v.asked.1.1 in
@@ -374,21 +310,22 @@ census_sent g a (stage.HighAsked b (Some u)) k heard c gs numbers d h v is t tol
                     v.asked.0,
                     tells_on gs _ a i (λ r. (u ≡ high_of r) × (middle_of (gear_of gs i).random ≡ middle_of r)) same holds (high, refl),
                   );
-                  census = census_core g a c.tally k (with_short heard b) gs _ same
-                      (census_with g a b c.tally k heard gs (subst (λ n. n < 64) (sym v.asked.0) v.small) v.census);
+                  clear = clear_with k heard b a v.asked.0 v.small v.clear;
+                  census = census_core a c.tally k (with_short heard b) gs _ same
+                      (census_with a b c.tally k heard gs (subst (λ n. n < 64) (sym v.asked.0) v.small) v.census);
                 })
 census_sent g a (stage.HighAsked b None) k heard c gs numbers d h v is t told = absurd (let never = is.0 in cc)
 census_sent g a (stage.MiddleAsked b (Some x)) k heard c gs numbers d h v is t told =
-    subst (λ e. Taken g e gs numbers h → CensusTo g a (stage.MiddleAsked b (Some x)) k heard c gs numbers e h) (some_is (RandomByte b Low) d is.0) go t where
+    subst (λ e. Taken g e gs numbers h → CensusTo a (stage.MiddleAsked b (Some x)) k heard c gs numbers e h) (some_is (RandomByte b Low) d is.0) go t where
       same : SameCore gs (row_after Everyone (RandomByte b Low) 0 gs numbers)
       same = leaving.core_after (RandomByte b Low) gs numbers tt
 
-      go : Taken g (RandomByte b Low) gs numbers h → CensusTo g a (stage.MiddleAsked b (Some x)) k heard c gs numbers (RandomByte b Low) h
+      go : Taken g (RandomByte b Low) gs numbers h → CensusTo a (stage.MiddleAsked b (Some x)) k heard c gs numbers (RandomByte b Low) h
       go t =
           by (heard_high a Low gs h (one_gear gs t.one) (subst (λ e. h ≡ heard_of (answers_of Everyone (RandomByte e Low) 0 gs)) v.asked.0
           (truth g (RandomByte b Low) gs numbers h t (λ e. (let never : RandomByte b Low ≡ QueryShort = e in cc))))) where
             by : ((i : ℕ) × Holds gs i a × (h ≡ Byte (low_of (gear_of gs i).random))) ⊎ (Nobody gs a × (h ≡ Silence))
-                → CensusTo g a (stage.MiddleAsked b (Some x)) k heard c gs numbers (RandomByte b Low) h
+                → CensusTo a (stage.MiddleAsked b (Some x)) k heard c gs numbers (RandomByte b Low) h
             by (inr (none, silent)) = absurd (none v.asked.1.0 v.asked.1.1)
             by (inl (i, holds, byte)) =
                 let at : i ≡ v.asked.1.0 = one_gear gs t.one i v.asked.1.0 a holds v.asked.1.1 in
@@ -402,9 +339,11 @@ census_sent g a (stage.MiddleAsked b (Some x)) k heard c gs numbers d h v is t t
                   small = v.small;
                   from_is = v.from_is;
                   asked = (v.asked.0, tells_on gs _ a i (λ r. (gear_of gs i).random ≡ r) same holds refl);
-                  census = census_core g a c.tally k
+                  clear = clear_told k heard b (gear_of gs i).random i gs told (subst (λ n. n < 64) (sym v.asked.0) v.small)
+                      (subst (λ n. Holds gs i n) (sym v.asked.0) holds) refl (subst (λ n. IsClearBut k heard n) (sym v.asked.0) v.clear);
+                  census = census_core a c.tally k
                       (if (gear_of gs i).random == MASK24 then with_short heard b else without_short heard b) gs _ same
-                      (census_told g a b (gear_of gs i).random i c.tally k heard gs told (subst (λ n. n < 64) (sym v.asked.0) v.small)
+                      (census_told a b (gear_of gs i).random i c.tally k heard gs told (subst (λ n. n < 64) (sym v.asked.0) v.small)
                       (subst (λ n. Holds gs i n) (sym v.asked.0) holds) refl (t.numbered i holds.there) v.census);
                 })
 census_sent g a (stage.MiddleAsked b None) k heard c gs numbers d h v is t told = absurd v.asked
@@ -419,25 +358,27 @@ spent_left g y k heard d gs numbers names (inl served) = inl (λ passed drew. se
 spent_left g y k heard d gs numbers names (inr filled) = inr filled
 
 pub known_sent : (g : ℕ) (p : Purpose) (s : Stage) (k : Kept) (heard : Shorts) (c : Course) (silent : ℕ) (gs : List Gear) (numbers : List ℕ) (d : Command)
-    (h : Answer) → At false g p s k heard c silent gs → KnownAt g p s k heard c gs → Sends k c.number p s d → Taken g d gs numbers h → AreToldOf k
+    (h : Answer) → At false g p s k heard c silent gs → KnownAt g p s k heard c gs → Sends k c.number p s d → Taken g d gs numbers h → AreToldOf k gs
     → Seeks s gs
     → KnownAt g p (next_stage s d h) k (heard_after p (next_stage s d h) h heard) c (row_after Everyone d 0 gs numbers)
 known_sent g (Asking a) s k heard c silent gs numbers d h at known is t told seek = census_sent g a s k heard c gs numbers d h known is t told
 known_sent g Calling s k heard c silent gs numbers d h at known is t told seek = (
-  known_after k s gs numbers d (inl (call_leaves g s k c silent gs d at is)) seek known.0,
+  (known_after k s gs numbers d (inl (call_leaves g s k c silent gs d at is)) seek known.0.0, known.0.1),
   spent_left g c.tally k heard d gs numbers (call_leaves g s k c silent gs d at is) known.1,
 )
 known_sent g Hunting s k heard c silent gs numbers d h at known is t told seek =
-    known_after k s gs numbers d (does_at g Hunting s k heard c silent gs d (λ a e. (let never : Hunting ≡ Asking a = e in cc)) at is) seek known
+    (known_after k s gs numbers d (does_at g Hunting s k heard c silent gs d (λ a e. (let never : Hunting ≡ Asking a = e in cc)) at is) seek known.0, known.1)
 known_sent g Visiting s k heard c silent gs numbers d h at known is t told seek =
-    known_after k s gs numbers d (does_at g Visiting s k heard c silent gs d (λ a e. (let never : Visiting ≡ Asking a = e in cc)) at is) seek known
+    (known_after k s gs numbers d (does_at g Visiting s k heard c silent gs d (λ a e. (let never : Visiting ≡ Asking a = e in cc)) at is) seek known.0, known.1)
 known_sent g PassingOver s k heard c silent gs numbers d h at known is t told seek =
-    known_after k s gs numbers d (does_at g PassingOver s k heard c silent gs d (λ a e. (let never : PassingOver ≡ Asking a = e in cc)) at is) seek known
+    (known_after k s gs numbers d (does_at g PassingOver s k heard c silent gs d (λ a e. (let never : PassingOver ≡ Asking a = e in cc)) at is) seek known.0,
+        known.1)
 known_sent g Drawing s k heard c silent gs numbers d h at known is t told seek =
-    known_after k s gs numbers d (does_at g Drawing s k heard c silent gs d (λ a e. (let never : Drawing ≡ Asking a = e in cc)) at is) seek known
+    (known_after k s gs numbers d (does_at g Drawing s k heard c silent gs d (λ a e. (let never : Drawing ≡ Asking a = e in cc)) at is) seek known.0, known.1)
 known_sent g Opening s k heard c silent gs numbers d h at known is t told seek =
-    known_after k s gs numbers d (does_at g Opening s k heard c silent gs d (λ a e. (let never : Opening ≡ Asking a = e in cc)) at is) seek known
+    (known_after k s gs numbers d (does_at g Opening s k heard c silent gs d (λ a e. (let never : Opening ≡ Asking a = e in cc)) at is) seek known.0, known.1)
 known_sent g (Closing e) s k heard c silent gs numbers d h at known is t told seek =
-    known_after k s gs numbers d (does_at g (Closing e) s k heard c silent gs d (λ a same. (let never : Closing e ≡ Asking a = same in cc)) at is) seek known
+    (known_after k s gs numbers d (does_at g (Closing e) s k heard c silent gs d (λ a same. (let never : Closing e ≡ Asking a = same in cc)) at is)
+        seek known.0, known.1)
 known_sent g Probing s k heard c silent gs numbers d h at known is t told seek = absurd at
 known_sent g (Resolving a) s k heard c silent gs numbers d h at known is t told seek = absurd at

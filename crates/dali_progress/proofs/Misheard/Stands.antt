@@ -18,7 +18,7 @@ use Rattle.dali_controller.specs.declared.purpose.Purpose.TheVariants.{Drawing, 
 use Rattle.dali_controller.specs.declared.shorts.Shorts.{Shorts}
 use Rattle.dali_controller.specs.declared.tally.Tally.{Tally}
 use Rattle.dali_controller.specs.declared.way.Way.TheVariants.{Surveying}
-use Rattle.dali_controller.specs.Course.{Course, is_yes, sought, is_anothers}
+use Rattle.dali_controller.specs.Course.{Course, is_yes, sought}
 use Rattle.dali_controller.specs.Machine.{Machine}
 use Rattle.dali_controller.specs.Next.{is_failed}
 use Rattle.dali_events.specs.Searching.{HasShort}
@@ -27,9 +27,9 @@ use Rattle.dali_events.proofs.Search.Opened.{AreOpening}
 use Rattle.dali_progress.specs.Misheard.{AreServedBut}
 use Rattle.dali_progress.proofs.Stands.{CloseStage, HaveShort}
 use Rattle.dali_progress.proofs.Survey.Queried.{Nobody}
-use Rattle.dali_progress.proofs.Survey.Stands.{woken_at, IsLowAt, DrawStage, IsDrawnBy, AreTaken, HasAnothers, Tells}
+use Rattle.dali_progress.proofs.Survey.Stands.{woken_at, IsLowAt, DrawStage, IsDrawnBy, AreTaken, IsClear, IsClearAt, Tells}
 use Rattle.dali_progress.proofs.Survey.Woken.{AreLow}
-use Rattle.dali_progress.proofs.Misheard.Gear.{Each, AreSought, AreBare, AreBareBut, HaveDrawn, AreKnown, AreUnshort, HasOne}
+use Rattle.dali_progress.proofs.Misheard.Gear.{Each, AreSought, AreBare, AreBareBut, HaveDrawn, AreKnown, HasOne}
 
 -- HOW FAR A SURVEY IS, where gear g is misheard and nothing else is disturbed. No frames are counted; what its end says is true.
 
@@ -54,11 +54,8 @@ pub record IsCountedFor (y : Tally) (silent : ℕ) : Type 0 where
   pub quiet : silent ≤ 2 * y.passed.count + 20 * y.draws
 
 -- a hunt that passed somebody over served all others that drew; or no address can be given
-abbrev pub IsFilled : Kept → Shorts → Type 0
-IsFilled k heard = AreTaken k heard ⊎ HasAnothers k heard
-
 abbrev pub IsSpent : ℕ → Tally → Kept → Shorts → List Gear → Type 0
-IsSpent g y k heard gs = (0 < y.passed.count → 0 < y.draws → AreServedBut g gs) ⊎ IsFilled k heard
+IsSpent g y k heard gs = (0 < y.passed.count → 0 < y.draws → AreServedBut g gs) ⊎ AreTaken k heard
 
 -- ---------------------------------------------------------------- the census
 
@@ -148,7 +145,7 @@ VisitStage g stage.Free x v n gs = IsReached x v gs × AreBare g gs
 VisitStage g (stage.HighSent high) x v n gs = IsReached x v gs × AreBare g gs
 VisitStage g (stage.MiddleSent high middle) x v n gs = IsReached x v gs × AreBare g gs
 VisitStage g (stage.NumberSent r) x v n gs = IsReached x v gs × AreBare g gs
-VisitStage g (stage.Unnamed r) x v n gs = IsReached x v gs × AreBare g gs × (r ≡ n) × AreUnshort v gs
+VisitStage g (stage.Unnamed r) x v n gs = IsReached x v gs × AreBare g gs × (r ≡ n)
 VisitStage g (stage.Found r b) x v n gs = IsReached x v gs × AreBare g gs × IsOfOne g v gs × HasOne v b gs × (b < 64)
 VisitStage g (stage.Unanswered r) x v n gs = IsReached x v gs × AreBare g gs × IsOfOne g v gs
 VisitStage g (stage.Inconclusive r other) x v n gs = IsReached x v gs × AreBare g gs × IsOfOne g v gs
@@ -218,8 +215,8 @@ pub record Hunts (told : Bool) (g : ℕ) (p : Purpose) (s : Stage) (c : Course) 
 -- what an end says, by records and marks
 abbrev pub EndsBy : ℕ → End → Kept → Shorts → List Gear → Type 0
 EndsBy g AllFound k heard gs = OfPowered gs HasShort
-EndsBy g BlockFull k heard gs = IsFilled k heard
-EndsBy g GaveUp k heard gs = AreServedBut g gs ⊎ IsFilled k heard
+EndsBy g BlockFull k heard gs = AreTaken k heard
+EndsBy g GaveUp k heard gs = AreServedBut g gs ⊎ AreTaken k heard
 
 pub record Closes (g : ℕ) (e : End) (s : Stage) (k : Kept) (heard : Shorts) (gs : List Gear) : Type 0 where
   pub stage_is : CloseStage s
@@ -257,30 +254,26 @@ IsTabled f enrolled k y = (a : ℕ) → a < f → y.short ≡ Some a → y.rando
 abbrev pub AreTabledBelow : ℕ → List Assignment → List Gear → Type 0
 AreTabledBelow f enrolled gs = Each gs (IsTabled f enrolled)
 
--- LATER nothing can be given, and each gear is known. What is reserved for a number may be another's; then no gear that has this
--- number has the address.
-abbrev pub AreApartFrom : ℕ → ℕ → List Gear → Type 0
-AreApartFrom a r gs = Each gs (λ k y. y.short ≡ Some a → y.random ≡ r → ⊥)
+-- LATER each address of the block is taken, and each gear is known.
+abbrev pub IsCensus : ℕ → Tally → Kept → Shorts → List Gear → Type 0
+IsCensus f y k heard gs =
+    ((y.passed.count ≡ 0) × AreTabledBelow f k.enrolled gs) ⊎ (AreKnown k.reserved k.enrolled gs × AreTaken k heard)
 
-abbrev pub IsFilledFor : Kept → Shorts → List Gear → Type 0
-IsFilledFor k heard gs =
-    AreTaken k heard
-    ⊎ ((a : ℕ) × (r : ℕ) × Has k.reserved (a, r) × (is_anothers k heard a r ≡ true) × AreApartFrom a r gs)
-
-abbrev pub IsCensus : ℕ → ℕ → Tally → Kept → Shorts → List Gear → Type 0
-IsCensus g f y k heard gs =
-    ((y.passed.count ≡ 0) × AreTabledBelow f k.enrolled gs) ⊎ (AreKnown k.reserved k.enrolled gs × IsFilledFor k heard gs)
-
-pub record Census (g a : ℕ) (s : Stage) (k : Kept) (heard : Shorts) (c : Course) (gs : List Gear) : Type 0 where
+pub record Census (a : ℕ) (s : Stage) (k : Kept) (heard : Shorts) (c : Course) (gs : List Gear) : Type 0 where
   pub small : a < 64
   pub from_is : c.from ≡ a + 1
   pub asked : AskedAt s a gs
-  pub census : IsCensus g a c.tally k heard gs
+  pub clear : IsClearAt s a k heard
+  pub census : IsCensus a c.tally k heard gs
+
+-- Afterwards each gear is known, and what is reserved is not marked.
+abbrev pub AreSeen : Kept → Shorts → List Gear → Type 0
+AreSeen k heard gs = AreKnown k.reserved k.enrolled gs × IsClear k heard
 
 abbrev pub KnownAt : ℕ → Purpose → Stage → Kept → Shorts → Course → List Gear → Type 0
-KnownAt g (Asking a) s k heard c gs = Census g a s k heard c gs
-KnownAt g Calling s k heard c gs = AreKnown k.reserved k.enrolled gs × IsSpent g c.tally k heard gs
-KnownAt g p s k heard c gs = AreKnown k.reserved k.enrolled gs
+KnownAt g (Asking a) s k heard c gs = Census a s k heard c gs
+KnownAt g Calling s k heard c gs = AreSeen k heard gs × IsSpent g c.tally k heard gs
+KnownAt g p s k heard c gs = AreSeen k heard gs
 
 pub record MisheardStands (told : Bool) (g : ℕ) (m : Machine) (gs : List Gear) : Type 0 where
   pub there : g < length gs

@@ -1,6 +1,6 @@
 use Rattle.std.proofs.Common.{◌≡◌, ℕ, ◌+◌, ◌*◌, ◌<◌, ◌≤◌, ◌⊎◌, inl, inr, Bool, true, false, List, [], ◌∷◌, ◌++◌, refl, sym, ap, subst, ◌∙◌, arith, Option, Some}
 use Rattle.std.proofs.Common.{None}
-use Rattle.std.specs.Prelude.{◌==◌, ◌&&◌, ◌||◌, not, nat_lt, if◌then◌else◌}
+use Rattle.std.specs.Prelude.{◌==◌, ◌&&◌, not, nat_lt, if◌then◌else◌}
 use Rattle.std.proofs.lemmas.Bool.Decides.{nat_tests}
 use Rattle.dali_frame.specs.declared.frames.Answer.{Answer}
 use Rattle.dali_frame.specs.declared.frames.Forward.{Forward}
@@ -19,6 +19,7 @@ use Rattle.dali_script.proofs.Lists.{has_before, has_last}
 use Rattle.dali_script.proofs.Members.{same_member}
 use Rattle.dali_script.specs.declared.stage.Stage.{Stage}
 use Rattle.dali_script.specs.declared.stage.Stage.TheVariants as stage
+use Rattle.dali_script.specs.declared.finding.Finding.TheVariants.{Resolved}
 use Rattle.dali_script.specs.Findings.{finding_of}
 use Rattle.dali_script.specs.Stages.{stage_of, finding_at}
 use Rattle.dali_script.specs.declared.orders.Order.{Order}
@@ -31,7 +32,7 @@ use Rattle.dali_controller.specs.declared.purpose.Purpose.TheVariants.{Drawing}
 use Rattle.dali_controller.specs.declared.tally.Tally.{Tally}
 use Rattle.dali_controller.specs.declared.shorts.Shorts.{Shorts}
 use Rattle.dali_controller.specs.Shorts.{has_short}
-use Rattle.dali_controller.specs.Course.{Course, call_turn, is_yes, is_another, number_at}
+use Rattle.dali_controller.specs.Course.{Course, call_turn, is_yes}
 use Rattle.dali_controller.specs.Course.{calling, opening_at_last, closing as closing_by, hunting_first}
 use Rattle.dali_controller.specs.Course.{searching_first}
 use Rattle.dali_controller.specs.Tally.{heard_call, silent_call}
@@ -48,11 +49,13 @@ use Rattle.dali_progress.proofs.Both.{never_eight, has_address}
 use Rattle.dali_progress.proofs.Later.{course_stays}
 use Rattle.dali_progress.proofs.Census.Asked.{sending_of}
 use Rattle.dali_progress.proofs.Survey.Queried.{Holds, one_gear}
+use Rattle.dali_progress.proofs.Survey.Turns.{IsUncontradicted}
 use Rattle.dali_progress.proofs.Survey.Hunting.{nothing_open}
+use Rattle.dali_progress.proofs.Survey.Stands.{AreTaken, IsClear}
 use Rattle.dali_progress.proofs.Survey.Begins.{begins_whole, all_taken}
 use Rattle.dali_progress.proofs.Misheard.Gear as gear
 use Rattle.dali_progress.proofs.Misheard.Gear.{AreKnown, HasOne}
-use Rattle.dali_progress.proofs.Misheard.Stands.{IsSpent, Asks, Calls, Draws, AreTabledBelow, IsFilledFor, IsCensus, Census, KnownAt}
+use Rattle.dali_progress.proofs.Misheard.Stands.{IsSpent, Asks, Calls, Draws, AreTabledBelow, AreSeen, IsCensus, Census, KnownAt}
 use Rattle.dali_progress.proofs.Misheard.Stands.{EndsBy, MisheardStands}
 use Rattle.dali_progress.proofs.Misheard.Begins.{IsAtHand, KeepsAsked, IsOwn, Keeps, IsNext, calm_of, calm_ordered, turns_by, first_by, asks_on, one_most}
 use Rattle.dali_progress.proofs.Misheard.Begins.{hunts_first}
@@ -95,15 +98,16 @@ tabled_next f xs ys gs more below here i there on a low short drew = go (nat_lt 
       (here i (record { there = there; on = on; short = short ∙ ap (λ c. Some c) same }) drew)
 
 -- the next short address is to be asked
-next_asks : (g a : ℕ) (s : Stage) (k : Kept) (heard : Shorts) (c : Course) (silent : ℕ) (gs : List Gear) → Asks g s c silent gs → Census g a s k heard c gs
-    → ((i : ℕ) → Holds gs i a → (gear_of gs i).random < MASK24 → Has k.enrolled (a, (gear_of gs i).random)) → KeepsAsked g k heard c silent gs
-next_asks g a s k heard c silent gs v w here = record {
+next_asks : (g a : ℕ) (s : Stage) (k : Kept) (heard : Shorts) (c : Course) (silent : ℕ) (gs : List Gear) → Asks g s c silent gs → Census a s k heard c gs
+    → IsClear k heard → ((i : ℕ) → Holds gs i a → (gear_of gs i).random < MASK24 → Has k.enrolled (a, (gear_of gs i).random)) → KeepsAsked g k heard c silent gs
+next_asks g a s k heard c silent gs v w clear here = record {
   unopened = v.unopened;
   counted = v.counted;
   small = subst (λ n. n ≤ 64) (sym w.from_is) (let few : a < 64 = w.small in omega (arith, few));
-  census = subst (λ n. IsCensus g n c.tally k heard gs) (sym w.from_is) (go w.census);
+  clear = clear;
+  census = subst (λ n. IsCensus n c.tally k heard gs) (sym w.from_is) (go w.census);
 } where
-  go : IsCensus g a c.tally k heard gs → IsCensus g (a + 1) c.tally k heard gs
+  go : IsCensus a c.tally k heard gs → IsCensus (a + 1) c.tally k heard gs
   go (inl first) = inl (first.0, tabled_next a k.enrolled k.enrolled gs (λ x has. has) first.1 here)
   go (inr later) = inr later
 
@@ -112,36 +116,13 @@ address_before [] y a has = absurd has
 address_before (p ∷ xs) y a (inl e) = inl e
 address_before (p ∷ xs) y a (inr has) = inr (address_before xs y a has)
 
--- with one entry more of the table
-another_grows : (xs : List Assignment) (y : Assignment) (a r : ℕ) → is_another r (number_at xs a) ≡ true → is_another r (number_at (xs ++ y ∷ []) a) ≡ true
-another_grows [] y a r other = absurd (cc)
-another_grows (p ∷ xs) y a r other = go (p.0 == a) other (another_grows xs y a r) where
-  go : (b : Bool) → is_another r (if b then Some p.1 else number_at xs a) ≡ true
-      → (is_another r (number_at xs a) ≡ true → is_another r (number_at (xs ++ y ∷ []) a) ≡ true)
-      → is_another r (if b then Some p.1 else number_at (xs ++ y ∷ []) a) ≡ true
-  go true e more = e
-  go false e more = more e
-
-or_grows : (x y z : Bool) → (y ≡ true → z ≡ true) → (x || y) ≡ true → (x || z) ≡ true
-or_grows true y z more e = refl
-or_grows false y z more e = more e
-
-filled_enrolled : (k : Kept) (heard : Shorts) (b n : ℕ) (gs : List Gear) → IsFilledFor k heard gs → IsFilledFor (with_record k (Enrol b n)) heard gs
-filled_enrolled k heard b n gs (inl taken) = inl (λ a within. go a (taken a within)) where
-  go : (a : ℕ) → HasAddress k.reserved a ⊎ (HasAddress k.enrolled a ⊎ (has_short heard a ≡ true))
+taken_enrolled : (k : Kept) (heard : Shorts) (b n : ℕ) → AreTaken k heard → AreTaken (with_record k (Enrol b n)) heard
+taken_enrolled k heard b n taken a within = go (taken a within) where
+  go : HasAddress k.reserved a ⊎ (HasAddress k.enrolled a ⊎ (has_short heard a ≡ true))
       → HasAddress k.reserved a ⊎ (HasAddress (k.enrolled ++ (b, n) ∷ []) a ⊎ (has_short heard a ≡ true))
-  go a (inl has) = inl has
-  go a (inr (inl has)) = inr (inl (address_before k.enrolled (b, n) a has))
-  go a (inr (inr marked)) = inr (inr marked)
-filled_enrolled k heard b n gs (inr (a, r, has, other, apart)) =
-    inr (
-      a,
-      r,
-      has,
-      or_grows (has_short heard a) (is_another r (number_at k.enrolled a)) (is_another r (number_at (k.enrolled ++ (b, n) ∷ []) a))
-          (another_grows k.enrolled (b, n) a r) other,
-      apart,
-    )
+  go (inl has) = inl has
+  go (inr (inl has)) = inr (inl (address_before k.enrolled (b, n) a has))
+  go (inr (inr marked)) = inr (inr marked)
 
 -- what is reserved for its number is its address alone, where it is known and in no table
 pub own_by : (k : Kept) (b n : ℕ) (gs : List Gear) → IsKept k → AreKnown k.reserved k.enrolled gs → HasOne n b gs → b < 64 → n < MASK24
@@ -156,9 +137,10 @@ own_by k b n gs kept known one small drew fresh a has =
 
 -- three bytes told a number
 told_turns : (g : ℕ) (t : Machine) (o : Order) (a b n : ℕ) (gs : List Gear) → IsGivenBy t o → MisheardStands true g t gs → IsAtHand t.kept gs
+    → IsUncontradicted t
     → t.course.purpose ≡ Asking a → stage_of t.trace ≡ stage.Spelled b (Some n) → Asks g (stage.Spelled b (Some n)) t.course t.silent gs
-    → Census g a (stage.Spelled b (Some n)) t.kept t.heard t.course gs → IsNext g (machine_ordered t o) o gs
-told_turns g t o a b n gs by st hand purpose is v w = go (nat_lt n MASK24) refl where
+    → Census a (stage.Spelled b (Some n)) t.kept t.heard t.course gs → IsNext g (machine_ordered t o) o gs
+told_turns g t o a b n gs by st hand agreed purpose is v w = go (nat_lt n MASK24) refl where
   who : ℕ
   who = w.asked.1.0
 
@@ -175,7 +157,7 @@ told_turns g t o a b n gs by st hand purpose is v w = go (nat_lt n MASK24) refl 
       → ((i : ℕ) → Holds gs i a → (gear_of gs i).random < MASK24 → Has t.kept.enrolled (a, (gear_of gs i).random)) → IsNext g (machine_ordered t q) q gs
   goes q begins here =
       asks_on g t q gs (calm_of g t gs st) begins (ap (begins_at t) is)
-      (next_asks g a (stage.Spelled b (Some n)) t.kept t.heard t.course t.silent gs v w here) hand.one hand.holds
+      (next_asks g a (stage.Spelled b (Some n)) t.kept t.heard t.course t.silent gs v w w.clear here) hand.one hand.holds
 
   sought_is : n < MASK24 → IsSought t.course.purpose t.course.number n
   sought_is small = subst (λ p. IsSought p t.course.number n) (sym purpose) small
@@ -188,11 +170,11 @@ told_turns g t o a b n gs by st hand purpose is v w = go (nat_lt n MASK24) refl 
     more : (x : Assignment) → Has t.kept.enrolled x → Has (t.kept.enrolled ++ (b, n) ∷ []) x
     more x has = has_before t.kept.enrolled (b, n) x has
 
-    asks : IsCensus g t.course.from t.course.tally (with_record t.kept (Enrol b n)) t.heard gs
+    asks : IsCensus t.course.from t.course.tally (with_record t.kept (Enrol b n)) t.heard gs
         → KeepsAsked g (with_record t.kept (Enrol b n)) t.heard t.course t.silent gs
-    asks census = record { unopened = v.unopened; counted = v.counted; small = few; census = census }
+    asks census = record { unopened = v.unopened; counted = v.counted; small = few; clear = w.clear; census = census }
 
-    by_census : IsCensus g a t.course.tally t.kept t.heard gs → Keeps g t.kept t.heard t.course t.silent (Enrol b n) gs
+    by_census : IsCensus a t.course.tally t.kept t.heard gs → Keeps g t.kept t.heard t.course t.silent (Enrol b n) gs
     by_census (inl first) = inl (asks (inl (first.0, tabled)), inl (first.0, tabled)) where
       tabled : AreTabledBelow t.course.from (t.kept.enrolled ++ (b, n) ∷ []) gs
       tabled = subst (λ f. AreTabledBelow f (t.kept.enrolled ++ (b, n) ∷ []) gs) (sym w.from_is)
@@ -202,7 +184,7 @@ told_turns g t o a b n gs by st hand purpose is v w = go (nat_lt n MASK24) refl 
     by_census (inr later) = inl (
       asks (inr (
         gear.known_more t.kept.reserved t.kept.enrolled t.kept.reserved (t.kept.enrolled ++ (b, n) ∷ []) gs (λ x has. has) more later.0,
-        filled_enrolled t.kept t.heard b n gs later.1,
+        taken_enrolled t.kept t.heard b n later.1,
       )),
       inr (own_by t.kept b n gs hand.kept later.0
           (w.asked.1.0, holds.there, holds.on, subst (λ c. (gear_of gs w.asked.1.0).short ≡ Some c) (sym w.asked.0) holds.short, sym number)
@@ -217,7 +199,7 @@ told_turns g t o a b n gs by st hand purpose is v w = go (nat_lt n MASK24) refl 
       let may : IsFresh t.kept.enrolled (b, n) = subst (λ y. MayAdd t.kept y) is_enrol by.ordered.allowed.may in
       subst (λ y. IsNext g (machine_ordered t (Commit y)) (Commit y) gs) (sym is_enrol) (calm_ordered g t (Enrol b n) gs st, enrols small may)
   follows (Done e) by small never = absurd never
-  follows (Halt why) by small contradicts = tt
+  follows (Halt why) by small contradicts = absurd (agreed (Resolved b n) (found_at g t gs (stage.Spelled b (Some n)) st is) contradicts)
 
   go : (s : Bool) → nat_lt n MASK24 ≡ s → IsNext g (machine_ordered t o) o gs
   go true less =
@@ -229,10 +211,11 @@ told_turns g t o a b n gs by st hand purpose is v w = go (nat_lt n MASK24) refl 
       (λ i told drew. absurd (large (subst (λ m. m < MASK24) (same i told) drew)))
 
 pub census_turns : (g : ℕ) (t : Machine) (o : Order) (a : ℕ) (s : Stage) (gs : List Gear) → IsGivenBy t o → MisheardStands true g t gs → IsAtHand t.kept gs
+    → IsUncontradicted t
     → IsNoEnrolment t.last → t.course.purpose ≡ Asking a → stage_of t.trace ≡ s → (s ≡ stage.Free → ⊥) → Asks g s t.course t.silent gs
-    → Census g a s t.kept t.heard t.course gs → IsWhole (machine_ordered t o) → IsNext g (machine_ordered t o) o gs
-census_turns g t o a stage.Free gs by st hand last purpose is running v w whole = absurd (running refl)
-census_turns g t o a (stage.HighAsked b None) gs by st hand last purpose is running v w whole = go (t.asked == 0) refl where
+    → Census a s t.kept t.heard t.course gs → IsWhole (machine_ordered t o) → IsNext g (machine_ordered t o) o gs
+census_turns g t o a stage.Free gs by st hand agreed last purpose is running v w whole = absurd (running refl)
+census_turns g t o a (stage.HighAsked b None) gs by st hand agreed last purpose is running v w whole = go (t.asked == 0) refl where
   begins : o ≡ beginning (next_course t)
   begins =
       begins_whole t o (stage.HighAsked b None) by is (λ r e. cc) (λ e. cc) (found_at g t gs (stage.HighAsked b None) st is) last
@@ -246,17 +229,18 @@ census_turns g t o a (stage.HighAsked b None) gs by st hand last purpose is runn
   go : (e : Bool) → (t.asked == 0) ≡ e → IsNext g (machine_ordered t o) o gs
   go true none =
       asks_on g t o gs (calm_of g t gs st) begins (next ∙ ap (asked_once t) none)
-      (next_asks g a (stage.HighAsked b None) t.kept t.heard t.course t.silent gs v w (λ i has drew. absurd (w.asked.1 i has))) hand.one hand.holds
+      (next_asks g a (stage.HighAsked b None) t.kept t.heard t.course t.silent gs v w w.clear (λ i has drew. absurd (w.asked.1 i has))) hand.one hand.holds
   go false again =
       first_by g t o t.course gs (calm_of g t gs st) begins (next ∙ ap (asked_once t) again) st.way
       (rw purpose (record { unopened = v.unopened; counted = v.counted; stage_is = tt }))
-      (rw purpose (record { small = w.small; from_is = w.from_is; asked = tt; census = w.census }))
-census_turns g t o a (stage.HighAsked b (Some u)) gs by st hand last purpose is running v w whole =
+      (rw purpose (record { small = w.small; from_is = w.from_is; asked = tt; clear = w.clear; census = w.census }))
+census_turns g t o a (stage.HighAsked b (Some u)) gs by st hand agreed last purpose is running v w whole =
     turns_by g t o (Asking a) (stage.HighAsked b (Some u)) (RandomByte b Middle) gs by st purpose is refl
-census_turns g t o a (stage.MiddleAsked b (Some x)) gs by st hand last purpose is running v w whole =
+census_turns g t o a (stage.MiddleAsked b (Some x)) gs by st hand agreed last purpose is running v w whole =
     turns_by g t o (Asking a) (stage.MiddleAsked b (Some x)) (RandomByte b Low) gs by st purpose is refl
-census_turns g t o a (stage.Spelled b (Some n)) gs by st hand last purpose is running v w whole = told_turns g t o a b n gs by st hand purpose is v w
-census_turns g t o a _ gs by st hand last purpose is running v w whole = absurd w.asked
+census_turns g t o a (stage.Spelled b (Some n)) gs by st hand agreed last purpose is running v w whole =
+    told_turns g t o a b n gs by st hand agreed purpose is v w
+census_turns g t o a _ gs by st hand agreed last purpose is running v w whole = absurd w.asked
 
 -- ---------------------------------------------------------------- the roll call
 
@@ -280,7 +264,7 @@ called_next t r h room b is purpose said =
 
 -- the fourth one since a visit succeeded, with somebody passed over
 blocked_turns : (g : ℕ) (t : Machine) (o : Order) (r : SearchAddress) (h : Answer) (room : ℕ) (gs : List Gear) → MisheardStands true g t gs
-    → Calls g (stage.Hunted r (Some h) room) t.course t.silent gs → AreKnown t.kept.reserved t.kept.enrolled gs × IsSpent g t.course.tally t.kept t.heard gs
+    → Calls g (stage.Hunted r (Some h) room) t.course t.silent gs → AreSeen t.kept t.heard gs × IsSpent g t.course.tally t.kept t.heard gs
     → o ≡ beginning (next_course t) → next_course t ≡ blocked t
     → is_blocked t.course.tally ≡ true → IsNext g (machine_ordered t o) o gs
 blocked_turns g t o r h room gs st v known begins next is_blocked_now = go (nat_lt t.course.tally.draws 3) refl (has_open t) refl where
@@ -319,7 +303,7 @@ blocked_turns g t o r h room gs st v known begins next is_blocked_now = go (nat_
           → silent ≤ 2 * 0 + 20 * 3
       most silent one count calls draws quiet passed calls_few draws_few = omega (arith, quiet, passed, calls_few, draws_few)
   go true few false full =
-      closes (rw (few, full) refl) (inr (inl (all_taken t.kept t.heard (nothing_open t full))))
+      closes (rw (few, full) refl) (inr (all_taken t.kept t.heard (nothing_open t full)))
   go false spent b free = closes (rw spent refl) (served known.1) where
     drew : 0 < t.course.tally.draws
     drew = some t.course.tally.draws (let over : t.course.tally.draws < 3 → ⊥ = grind (arith, nat_tests, spent) in over) where
@@ -334,7 +318,7 @@ answered_call : (g : ℕ) (t : Machine) (o : Order) (r : SearchAddress) (h : Ans
     → t.course.purpose ≡ Calling → stage_of t.trace ≡ stage.Hunted r (Some h) room → Calls g (stage.Hunted r (Some h) room) t.course t.silent gs
     → call_turn (Some h) room ≡ None → IsNext g (machine_ordered t o) o gs
 answered_call g t o r h room gs by st purpose is v over = go (is_yes h) refl where
-  known : AreKnown t.kept.reserved t.kept.enrolled gs × IsSpent g t.course.tally t.kept t.heard gs
+  known : AreSeen t.kept t.heard gs × IsSpent g t.course.tally t.kept t.heard gs
   known = known_as g t gs Calling st purpose
 
   begins : o ≡ beginning (next_course t)
@@ -411,7 +395,7 @@ calling_turns g t o _ gs by st purpose is running v = absurd v.stage_is
 -- ---------------------------------------------------------------- gear have drawn
 
 drawn_turns : (g : ℕ) (t : Machine) (o : Order) (p : Purpose) (gs : List Gear) → IsGivenBy t o → MisheardStands true g t gs → IsNoEnrolment t.last
-    → stage_of t.trace ≡ stage.Opened → Draws p stage.Opened t.course t.silent gs → AreKnown t.kept.reserved t.kept.enrolled gs
+    → stage_of t.trace ≡ stage.Opened → Draws p stage.Opened t.course t.silent gs → AreSeen t.kept t.heard gs
     → IsNext g (machine_ordered t o) o gs
 drawn_turns g t o p gs by st last is v known =
     hunts_first g t o t.course gs (calm_of g t gs st)

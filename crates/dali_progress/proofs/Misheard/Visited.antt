@@ -10,7 +10,6 @@ use Rattle.dali_frame.specs.Random.{value_of, MASK24}
 use Rattle.dali_special.specs.declared.command.Command.{Command}
 use Rattle.dali_special.specs.declared.command.Command.TheVariants.{Withdraw, SearchHigh, SearchMiddle, SearchLow, Program, QueryShort}
 use Rattle.dali_special.specs.Command.{MASK, program_data}
-use Rattle.dali_special.proofs.Table.{short_of_code}
 use Rattle.dali_gear.specs.declared.row.Reach.TheVariants.{Everyone}
 use Rattle.dali_gear.specs.Gear.{Gear}
 use Rattle.dali_gear.specs.Row.{row_after, answers_of, heard_of}
@@ -35,7 +34,7 @@ use Rattle.dali_progress.proofs.Stands.{HaveShort}
 use Rattle.dali_progress.proofs.Frames.{Seeks, value_sought, some_is, mask_queried, verified_short, short_given, short_kept}
 use Rattle.dali_progress.proofs.Survey.Woken.{low_after}
 use Rattle.dali_progress.proofs.Misheard.Gear as gear
-use Rattle.dali_progress.proofs.Misheard.Gear.{AreSought, AreBare, AreBareBut, AreNamedBut, AreUnshort, HasOne, DrewApart}
+use Rattle.dali_progress.proofs.Misheard.Gear.{AreSought, AreBare, AreBareBut, AreNamedBut, HasOne}
 use Rattle.dali_progress.proofs.Misheard.Stands.{IsCounted, IsReached, IsPast, IsOfOne, VisitStage, PassStage, Visits, HuntAt, found_at, failed_at, Hunts}
 use Rattle.dali_progress.proofs.Misheard.Sent.{Taken, counted_on, told_hunts, few_on, reached_core, own_core, hunts_core, low_byte, HuntedTo}
 
@@ -43,13 +42,6 @@ use Rattle.dali_progress.proofs.Misheard.Sent.{Taken, counted_on, told_hunts, fe
 -- answers.
 
 -- ---------------------------------------------------------------- gear answer
-
--- the gear with this number has no short address, so none that has it does
-own_unshort : (g v : ℕ) (gs : List Gear) → DrewApart gs → g < length gs → v < MASK24 → (gear_of gs g).random ≡ v
-    → ((a : ℕ) → a < 64 → (gear_of gs g).short ≡ Some a → ⊥) → AreUnshort v gs
-own_unshort g v gs apart in_row small is none k there on random a few short =
-    let same : k ≡ g = apart k g there in_row (subst (λ n. n < MASK24) (sym random) small) (random ∙ sym is) in
-    none a few (subst (λ j. (gear_of gs j).short ≡ Some a) same short)
 
 short_is : (a d : ℕ) → short_of (program_data (Some a)) ≡ Some d → a ≡ d
 short_is a d = go ((program_data (Some a) % 2 == 1) && nat_lt (program_data (Some a)) 128) where
@@ -78,15 +70,12 @@ short_small v d = go ((v % 2 == 1) && nat_lt v 128) refl where
 abbrev pub IsSaid : Option ℕ → Answer → Type 0
 IsSaid o h = (h ≡ Byte (program_data o)) ⊎ IsNoByte h
 
-any_queried : (g : ℕ) (x : Ascent) (v : ℕ) (n r : SearchAddress) (gs hs : List Gear) (h : Answer) → DrewApart gs → g < length gs → v < MASK24
-    → SameCore gs hs → IsReached x v hs × AreBare g hs → r ≡ n → IsOfOne g v gs → (gear_of gs g).powered ≡ true → IsSaid (gear_of gs g).short h
+any_queried : (g : ℕ) (x : Ascent) (v : ℕ) (n r : SearchAddress) (gs hs : List Gear) (h : Answer) → g < length gs → SameCore gs hs
+    → IsReached x v hs × AreBare g hs → r ≡ n → IsOfOne g v gs → (gear_of gs g).powered ≡ true → IsSaid (gear_of gs g).short h
     → VisitStage g (queried r h) x v n hs
-any_queried g x v n r gs hs h apart in_row small same both is one on said = go said where
+any_queried g x v n r gs hs h in_row same both is one on said = go said where
   own : IsOfOne g v hs
   own = own_core g v gs hs same in_row one
-
-  unshort : ((a : ℕ) → a < 64 → (gear_of gs g).short ≡ Some a → ⊥) → AreUnshort v hs
-  unshort none = gear.unshort_core v gs hs same (own_unshort g v gs apart in_row small one none)
 
   quiet : (a : Answer) → IsNoByte a → VisitStage g (queried r a) x v n hs
   quiet Silence none = (both.0, both.1, own)
@@ -94,7 +83,7 @@ any_queried g x v n r gs hs h apart in_row small same both is one on said = go s
   quiet (Byte b) none = absurd none
 
   by : (o : Option ℕ) → (gear_of gs g).short ≡ o → VisitStage g (queried r (Byte (program_data o))) x v n hs
-  by None e = (both.0, both.1, is, unshort (λ a few short. (let never : None ≡ Some a = sym e ∙ short in cc)))
+  by None e = (both.0, both.1, is)
   by (Some a) e = tell (short_of (program_data (Some a))) refl (program_data (Some a) == MASK) where
     tell : (o : Option ℕ) → short_of (program_data (Some a)) ≡ o → (m : Bool) → VisitStage g (named r o m) x v n hs
     tell (Some d) told m = (
@@ -104,13 +93,7 @@ any_queried g x v n r gs hs h apart in_row small same both is one on said = go s
       gear.one_core v d gs hs same (g, in_row, on, e ∙ ap (λ c. Some c) (short_is a d told), one),
       short_small (program_data (Some a)) d told,
     )
-    tell None told true = (
-      both.0,
-      both.1,
-      is,
-      unshort (λ d few short. (let twice : Some a ≡ Some d = sym e ∙ short in
-          let never : None ≡ Some d = sym told ∙ (ap (λ o. short_of (program_data o)) twice ∙ short_of_code d few) in cc)),
-    )
+    tell None told true = (both.0, both.1, is)
     tell None told false = (both.0, both.1, own)
 
   go : IsSaid (gear_of gs g).short h → VisitStage g (queried r h) x v n hs
@@ -134,7 +117,7 @@ any_verified g x v a n r hs (Byte b) reached bare short small one = go (short_of
 abbrev pub IsHeardOf : ℕ → ℕ → Option ℕ → List Gear → Answer → Type 0
 IsHeardOf g v o gs h =
     (IsOfOne g v gs × ((gear_of gs g).powered ≡ true) × IsSaid (gear_of gs g).short h)
-    ⊎ ((h ≡ Byte (program_data o)) × ((k : ℕ) × (k < length gs) × ((gear_of gs k).random ≡ v) × ((gear_of gs k).short ≡ o)))
+    ⊎ (h ≡ Byte (program_data o))
 
 visit_heard : (g v : ℕ) (n r : SearchAddress) (o : Option ℕ) (gs : List Gear) (numbers : List ℕ) (h : Answer) → Taken g QueryShort gs numbers h
     → wants gs v ≡ true → v < MASK24 → value_of r ≡ v → Seek gs r
@@ -163,7 +146,7 @@ visit_heard g v n r o gs numbers h t wants_it small same seek short = go (there.
     by : IsHeardBut g gs QueryShort h → IsHeardOf g v o gs h
     by (inl heard) =
         let none : (gear_of gs there.0).short ≡ o = short there.0 there.1 other there.2 there.3 in
-        inr (answers heard ∙ ap (λ p. Byte (program_data p)) none, (there.0, there.1, there.3, none))
+        inr (answers heard ∙ ap (λ p. Byte (program_data p)) none)
     by (inr mis) =
         let random : (gear_of gs g).random ≡ v = gear.who_answers gs r g seek t.there mis.1 ∙ same in
         absurd (other (t.apart there.0 g there.1 t.there (subst (λ m. m < MASK24) (sym there.3) small) (there.3 ∙ sym random)))
@@ -269,16 +252,8 @@ asked_sent g r c silent gs numbers h v is t seek =
           (wanted.wanted_enabled (gear_of gs k) wanted_is))
 
       go : IsHeardOf g w.visited None gs h → VisitStage g (queried r h) c.ascent w.visited c.number hs
-      go (inl (one, on, said)) =
-          any_queried g c.ascent w.visited c.number r gs hs h t.apart t.there w.drawn same now (sym is) one on said
-      go (inr (byte, (k, in_row, random, none))) =
-          subst (λ q. VisitStage g q c.ascent w.visited c.number hs) (sym (ap (queried r) byte ∙ mask_queried r)) (
-            now.0,
-            now.1,
-            sym is,
-            gear.unshort_core w.visited gs hs same
-                (own_unshort k w.visited gs t.apart in_row w.drawn random (λ a few short. (let never : None ≡ Some a = sym none ∙ short in cc))),
-          )
+      go (inl (one, on, said)) = any_queried g c.ascent w.visited c.number r gs hs h t.there same now (sym is) one on said
+      go (inr byte) = subst (λ q. VisitStage g q c.ascent w.visited c.number hs) (sym (ap (queried r) byte ∙ mask_queried r)) (now.0, now.1, sym is)
 
 -- PROGRAM SHORT ADDRESS
 programmed_sent : (g a : ℕ) (r : SearchAddress) (c : Course) (silent : ℕ) (gs : List Gear) (numbers : List ℕ) (h : Answer)
@@ -348,7 +323,7 @@ confirmed_sent g a r c silent gs numbers h v is t seek =
           any_verified g c.ascent w.visited a c.number r hs h reached
           (gear.bare_core g gs hs same (gear.own_bare g w.visited gs t.apart t.there w.drawn one w.stage_is.1)) short w.stage_is.3
           (own_core g w.visited gs hs same t.there one)
-      go (inr (byte, there)) =
+      go (inr byte) =
           subst (λ q. VisitStage g q c.ascent w.visited c.number hs) (sym (ap (verified r a) byte ∙ verified_short r a w.stage_is.3))
           (reached, gear.bare_but_core g w.visited gs hs same w.stage_is.1, short, w.stage_is.3)
 

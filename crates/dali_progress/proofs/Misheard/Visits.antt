@@ -1,5 +1,6 @@
-use Rattle.std.proofs.Common.{◌≡◌, ℕ, ◌+◌, ◌*◌, ◌<◌, ◌≤◌, ◌⊎◌, inl, inr, Bool, true, false, List, refl, sym, ap, subst, ◌∙◌, arith, length, Option, Some, None}
-use Rattle.std.specs.Prelude.{◌==◌, not, nat_lt, MatchOption, if◌then◌else◌}
+use Rattle.std.proofs.Common.{◌≡◌, ℕ, ◌+◌, ◌-◌, ◌*◌, ◌<◌, ◌≤◌, ◌⊎◌, inl, inr, Bool, true, false, List, refl, sym, ap, subst, ◌∙◌, arith, length, Option, Some}
+use Rattle.std.proofs.Common.{None}
+use Rattle.std.specs.Prelude.{◌==◌, not, nat_lt, is_some, MatchOption, if◌then◌else◌}
 use Rattle.std.proofs.lemmas.Bool.Decides.{nat_tests}
 use Rattle.dali_frame.specs.declared.frames.Answer.{Answer}
 use Rattle.dali_frame.specs.declared.numbers.SearchAddress.{SearchAddress}
@@ -11,9 +12,16 @@ use Rattle.dali_special.specs.Command.{frame_of}
 use Rattle.dali_gear.specs.declared.state.InitialisationState.TheVariants.{Enabled}
 use Rattle.dali_gear.specs.Gear.{Gear}
 use Rattle.dali_script.specs.declared.records.Record.TheVariants.{Reserve, Enrol}
-use Rattle.dali_script.specs.Records.{Has, HasRandom, IsFresh, MayAdd}
+use Rattle.dali_script.specs.Records.{Assignment, Kept, Has, HasAddress, HasRandom, IsFresh, MayAdd, with_record}
+use Rattle.dali_script.proofs.Lists.{has_cases}
+use Rattle.dali_controller.specs.declared.shorts.Shorts.{Shorts}
+use Rattle.dali_controller.specs.Shorts.{has_short}
+use Rattle.dali_controller.specs.Course.{is_another, is_anothers, is_open, number_at}
+use Rattle.dali_controller.proofs.Courses.{found_number}
+use Rattle.dali_progress.proofs.Accounted.{open_is}
 use Rattle.dali_script.specs.declared.stage.Stage.{Stage}
 use Rattle.dali_script.specs.declared.stage.Stage.TheVariants as stage
+use Rattle.dali_script.specs.declared.finding.Finding.TheVariants.{Queried}
 use Rattle.dali_script.specs.Stages.{stage_of}
 use Rattle.dali_script.specs.declared.orders.Order.{Order}
 use Rattle.dali_script.specs.declared.orders.Order.TheVariants.{Put, Commit, Done, Halt}
@@ -43,19 +51,20 @@ use Rattle.dali_events.specs.Searching.{HasShort}
 use Rattle.dali_events.specs.Wanted.{gear_of, is_wanted, wants}
 use Rattle.dali_events.proofs.Search.Wanted as wanted
 use Rattle.dali_progress.specs.Misheard.{AreServedBut}
-use Rattle.dali_progress.proofs.Both.{never_eight, has_address}
+use Rattle.dali_progress.proofs.Both.{never_eight}
 use Rattle.dali_progress.proofs.Frames.{value_sought}
 use Rattle.dali_progress.proofs.Survey.Drawn.{AreNumbered}
-use Rattle.dali_progress.proofs.Survey.Stands.{NoneDrawn}
+use Rattle.dali_progress.proofs.Survey.Stands.{NoneDrawn, AreTaken, IsClear}
 use Rattle.dali_progress.proofs.Survey.Rising.{knows_told}
 use Rattle.dali_progress.proofs.Survey.Woken.{AreLow}
 use Rattle.dali_progress.proofs.Later.{course_stays}
-use Rattle.dali_progress.proofs.Survey.Begins.{begins_whole, all_taken}
+use Rattle.dali_progress.proofs.Survey.Begins.{not_both, open_parts, begins_whole, all_taken}
+use Rattle.dali_progress.proofs.Survey.Turns.{IsUncontradicted}
 use Rattle.dali_progress.proofs.Survey.Hunting.{found_same, begins_by, nothing_open}
 use Rattle.dali_progress.proofs.Survey.Visits.{found_address, withheld_anothers, ungiven_next}
-use Rattle.dali_progress.proofs.Misheard.Gear.{AreSought, AreBare, HaveDrawn, DrewApart, AreKnown, HasOne}
+use Rattle.dali_progress.proofs.Misheard.Gear.{AreSought, AreBare, HaveDrawn, DrewApart, HasOne}
 use Rattle.dali_progress.proofs.Misheard.Climbing as climbing
-use Rattle.dali_progress.proofs.Misheard.Stands.{IsFilledFor, AreApartFrom, IsCounted, Rises, IsReached, IsPast, IsOfOne, Visits, Hunts, EndsBy, Closes, At}
+use Rattle.dali_progress.proofs.Misheard.Stands.{AreSeen, IsCounted, Rises, IsReached, IsPast, IsOfOne, Visits, Hunts, EndsBy, Closes, At}
 use Rattle.dali_progress.proofs.Misheard.Stands.{MisheardStands}
 use Rattle.dali_progress.proofs.Misheard.Stands as stands
 use Rattle.dali_progress.proofs.Misheard.Begins.{IsAtHand, KeepsPast, IsOwn, IsNext, Calm, calm_of, calm_ordered, later_by, turns_by, first_by, fills}
@@ -110,7 +119,7 @@ record IsOver (g : ℕ) (t : Machine) (gs : List Gear) : Type 0 where
   low : AreLow gs
   sought_are : AreSought g t.course.ascent.found gs
   hand : IsAtHand t.kept gs
-  known : AreKnown t.kept.reserved t.kept.enrolled gs
+  known : AreSeen t.kept t.heard gs
   nobody : NobodyLeft gs
 
 -- nobody was found: those that never drew do, or no address is open
@@ -165,7 +174,7 @@ vain_over g t o h r room gs asks next none v = go (has_open t) refl (nat_lt t.co
       some n e = grind (arith, nat_tests, e)
   go false shut b few =
       fills g t o (hunted t.course h) gs calm (begins_full (by false b shut few)) (by false b shut few) v.stands.way v.counted
-      v.known (inl (all_taken t.kept t.heard (nothing_open t shut))) v.hand.one v.hand.holds
+      v.known (all_taken t.kept t.heard (nothing_open t shut)) v.hand.one v.hand.holds
     where
       begins_full : next_course t ≡ full t (hunted t.course h) → o ≡ beginning (next_course t)
       begins_full same = begins_by t o (full t (hunted t.course h)) r room asks same (full_rests t (hunted t.course h))
@@ -205,7 +214,7 @@ goes_on : (g : ℕ) (t : Machine) (o : Order) (h : Answer) (r : SearchAddress) (
     → t.course.purpose ≡ Hunting → stage_of t.trace ≡ stage.Hunted r (Some h) room → next_course t ≡ hunting (hunted t.course h)
     → o ≡ Put LATER (frame_of (byte_to_send (hunting (hunted t.course h)).number r))
     → Hunts false g Hunting (stage.Hunted r (Some h) room) (hunting (hunted t.course h)) t.silent gs
-    → AreKnown t.kept.reserved t.kept.enrolled gs → IsNext g (machine_ordered t o) o gs
+    → AreSeen t.kept t.heard gs → IsNext g (machine_ordered t o) o gs
 goes_on g t o h r room gs st purpose is next sends v known = subst (λ q. IsNext g (machine_ordered t q) q gs) (sym sends)
     (subst (λ m. IsNext g m (Put LATER (frame_of c)) gs) (sym later) (record {
       there = st.there;
@@ -228,7 +237,7 @@ answered_turns : (g : ℕ) (t : Machine) (o : Order) (r : SearchAddress) (h : An
     → MisheardStands true g t gs → IsAtHand t.kept gs → t.course.purpose ≡ Hunting → stage_of t.trace ≡ stage.Hunted r (Some h) room
     → Hunts true g Hunting (stage.Hunted r (Some h) room) t.course t.silent gs → IsNext g (machine_ordered t o) o gs
 answered_turns g t o r h room gs by st hand purpose is v = go (leads_to (ascended t.course.ascent (is_yes h))) refl where
-  known : AreKnown t.kept.reserved t.kept.enrolled gs
+  known : AreSeen t.kept t.heard gs
   known = known_as g t gs Hunting st purpose
 
   p : Rises true g (stage.Hunted r (Some h) room) t.course.ascent t.course.number gs
@@ -359,7 +368,7 @@ passed_more y r few = go (nat_lt y.passed.count 255) refl where
 failed_turns : (g : ℕ) (t : Machine) (o : Order) (s : Stage) (gs : List Gear) → MisheardStands true g t gs → DrewApart gs
     → Hunts true g Visiting s t.course t.silent gs → stands.failed_at s ≡ 1 → stands.found_at s t.course.ascent ≡ t.course.ascent.found
     → (w : Visits g Visiting s t.course.ascent t.course.number gs)
-    → IsReached t.course.ascent w.visited gs × AreBare g gs × IsOfOne g w.visited gs → AreKnown t.kept.reserved t.kept.enrolled gs
+    → IsReached t.course.ascent w.visited gs × AreBare g gs × IsOfOne g w.visited gs → AreSeen t.kept t.heard gs
     → o ≡ beginning (next_course t) → next_course t ≡ silenced t
     → IsNext g (machine_ordered t o) o gs
 failed_turns g t o s gs st apart v failed found w at known begins next = go (is_failed t.course.tally.failed (value_of t.course.number)) refl where
@@ -471,7 +480,7 @@ failed_turns g t o s gs st apart v failed found w at known begins next = go (is_
 -- no address can be given: gear draw new numbers, or the block is full
 ungiven_turns : (g : ℕ) (t : Machine) (o : Order) (r : SearchAddress) (gs : List Gear) → MisheardStands true g t gs
     → Hunts true g Visiting (stage.Unnamed r) t.course t.silent gs → stage_of t.trace ≡ stage.Unnamed r → o ≡ beginning (next_course t)
-    → IsFilledFor t.kept t.heard gs → AreKnown t.kept.reserved t.kept.enrolled gs → IsAtHand t.kept gs → IsNext g (machine_ordered t o) o gs
+    → AreTaken t.kept t.heard → AreSeen t.kept t.heard gs → IsAtHand t.kept gs → IsNext g (machine_ordered t o) o gs
 ungiven_turns g t o r gs st v is begins filled known hand = go (may_draw t) refl where
   go : (b : Bool) → may_draw t ≡ b → IsNext g (machine_ordered t o) o gs
   go true may =
@@ -501,13 +510,22 @@ ungiven_turns g t o r gs st v is begins filled known hand = go (may_draw t) refl
       enough silent one count draws quiet = omega (arith, quiet)
   go false may = fills g t o t.course gs (calm_of g t gs st) begins (ungiven_next t r false is st.way may) st.way v.counted known filled hand.one hand.holds
 
+-- an address that is open is not marked
+clear_reserved : (k : Kept) (heard : Shorts) (a r : ℕ) → IsClear k heard → is_open k heard a ≡ true → IsClear (with_record k (Reserve a r)) heard
+clear_reserved k heard a r clear free c q has = go (has_cases k.reserved (a, r) (c, q) has) where
+  go : Has k.reserved (c, q) ⊎ (◌≡◌ {A = Assignment} (a, r) (c, q)) → has_short heard c ≡ false
+  go (inl was) = clear c q was
+  go (inr same) =
+      subst (λ n. has_short heard n ≡ false) (ap (λ (x : Assignment). x.0) same)
+      (open_parts (is_some (number_at k.reserved a)) (is_some (number_at k.enrolled a)) (has_short heard a) free).2
+
 unnamed_turns : (g : ℕ) (t : Machine) (o : Order) (r : SearchAddress) (gs : List Gear) → IsGivenBy t o → MisheardStands true g t gs
     → IsAtHand t.kept gs → t.course.purpose ≡ Visiting → stage_of t.trace ≡ stage.Unnamed r
     → Hunts true g Visiting (stage.Unnamed r) t.course t.silent gs → IsNext g (machine_ordered t o) o gs
 unnamed_turns g t o r gs by st hand purpose is v =
     go (address_for t.kept.reserved (value_of r)) (found_address t.kept.reserved (value_of r)) (least_open t.kept t.heard) refl
     (subst (λ y. AfterMaskOn y t (course_by t o) r o) st.way (by.ordered.unnamed r is)) where
-      known : AreKnown t.kept.reserved t.kept.enrolled gs
+      known : AreSeen t.kept t.heard gs
       known = known_as g t gs Visiting st purpose
 
       w : Visits g Visiting (stage.Unnamed r) t.course.ascent t.course.number gs
@@ -522,13 +540,19 @@ unnamed_turns g t o r gs by st hand purpose is v =
         choose : (b : Bool) → is_withheld t a (value_of r) ≡ b → IsNext g (machine_ordered t o) o gs
         choose false free =
             later_by g t o (stage.Unnamed r) (frame_of (Program (Some a))) gs st (subst (λ b. AfterReserved t a b o) free mask) is tt
-        choose true withheld =
-            ungiven_turns g t o r gs st v is (subst (λ b. AfterReserved t a b o) withheld mask)
-            (inr (a, value_of r, has, withheld_anothers t t.course.way a (value_of r) withheld, apart)) known hand
-          where
-            apart : AreApartFrom a (value_of r) gs
-            apart k there on short random =
-                w.stage_is.3 k there on (random ∙ sym value) a (hand.kept.reserved.short a (has_address t.kept.reserved a (value_of r) has)) short
+        choose true withheld = absurd (let never : true ≡ false = sym (withheld_anothers t t.course.way a (value_of r) withheld) ∙ own in cc) where
+          found : (x : Option ℕ) → MatchOption x (HasAddress t.kept.enrolled a → ⊥) (λ n. Has t.kept.enrolled (a, n)) → is_another (value_of r) x ≡ false
+          found None none = refl
+          found (Some n) entry =
+              let who = hand.holds a n entry in
+              same n (value_of r) (sym who.3 ∙ hand.owned a (value_of r) who.0 has who.1 who.2) where
+                same : (m n : ℕ) → m ≡ n → not (m == n) ≡ false
+                same m n e = grind (arith, nat_tests, e)
+
+          own : is_anothers t.kept t.heard a (value_of r) ≡ false
+          own =
+              not_both (has_short t.heard a) (is_another (value_of r) (number_at t.kept.enrolled a)) (known.1 a (value_of r) has)
+              (found (number_at t.kept.enrolled a) (found_number t.kept.enrolled a))
       go None none (Some a) least mask = subst (λ q. IsNext g (machine_ordered t q) q gs) (sym mask) (
         calm_ordered g t (Reserve a (value_of r)) gs st,
         record {
@@ -540,21 +564,23 @@ unnamed_turns g t o r gs by st hand purpose is v =
           bare = w.stage_is.1;
           drawn = subst (λ m. m < MASK24) value w.drawn;
           reached = subst (λ m. IsReached t.course.ascent m gs) value w.stage_is.0;
-          known = known;
+          known = known.0;
+          clear = clear_reserved t.kept t.heard a (value_of r) known.1
+              (open_is t.kept t.heard (t.kept.block.last + 1 - t.kept.block.first) t.kept.block.first a least);
         },
       )
-      go None none None least mask = ungiven_turns g t o r gs st v is mask (inl (all_taken t.kept t.heard least)) known hand
+      go None none None least mask = ungiven_turns g t o r gs st v is mask (all_taken t.kept t.heard least) known hand
 
 -- who was found is withdrawn
 withdrawn_turns : (g : ℕ) (t : Machine) (o : Order) (r : SearchAddress) (a : ℕ) (gs : List Gear) → IsGivenBy t o → MisheardStands true g t gs
-    → IsAtHand t.kept gs → t.course.purpose ≡ Visiting → stage_of t.trace ≡ stage.Withdrawn r a
+    → IsAtHand t.kept gs → IsUncontradicted t → t.course.purpose ≡ Visiting → stage_of t.trace ≡ stage.Withdrawn r a
     → Hunts true g Visiting (stage.Withdrawn r a) t.course t.silent gs
     → IsNext g (machine_ordered t o) o gs
-withdrawn_turns g t o r a gs by st hand purpose is v = go o by (by.ordered.found r a is) where
+withdrawn_turns g t o r a gs by st hand agreed purpose is v = go o by (by.ordered.found r a is) where
   w : Visits g Visiting (stage.Withdrawn r a) t.course.ascent t.course.number gs
   w = v.at
 
-  keeps : KeepsPast g t.kept t.course t.silent gs
+  keeps : KeepsPast g t.kept t.heard t.course t.silent gs
   keeps = record {
     opened_is = v.opened_is;
     counted = v.counted;
@@ -573,7 +599,7 @@ withdrawn_turns g t o r a gs by st hand purpose is v = go o by (by.ordered.found
 
   own : IsFresh t.kept.enrolled (a, value_of r) → IsOwn t.kept a (value_of r)
   own fresh =
-      own_by t.kept a (value_of r) gs hand.kept (known_as g t gs Visiting st purpose) (subst (λ m. HasOne m a gs) value w.stage_is.2)
+      own_by t.kept a (value_of r) gs hand.kept (known_as g t gs Visiting st purpose).0 (subst (λ m. HasOne m a gs) value w.stage_is.2)
       w.stage_is.4 (subst (λ m. m < MASK24) value w.drawn) fresh.0
 
   go : (q : Order) → IsGivenBy t q → AfterFinding t a (value_of r) q → IsNext g (machine_ordered t q) q gs
@@ -583,34 +609,34 @@ withdrawn_turns g t o r a gs by st hand purpose is v = go o by (by.ordered.found
       let may : IsFresh t.kept.enrolled (a, value_of r) = subst (λ y. MayAdd t.kept y) has by.ordered.allowed.may in
       subst (λ y. IsNext g (machine_ordered t (Commit y)) (Commit y) gs) (sym has) (calm_ordered g t (Enrol a (value_of r)) gs st, inr (keeps, own may))
   go (Done e) by has = absurd has
-  go (Halt why) by has = tt
+  go (Halt why) by has = absurd (agreed (Queried a (value_of r)) (found_at g t gs (stage.Withdrawn r a) st is) has)
 
 visiting_turns : (g : ℕ) (t : Machine) (o : Order) (s : Stage) (gs : List Gear) → IsGivenBy t o → MisheardStands true g t gs → IsAtHand t.kept gs
-    → IsNoEnrolment t.last → t.course.purpose ≡ Visiting → stage_of t.trace ≡ s → (s ≡ stage.Free → ⊥)
+    → IsUncontradicted t → IsNoEnrolment t.last → t.course.purpose ≡ Visiting → stage_of t.trace ≡ s → (s ≡ stage.Free → ⊥)
     → Hunts true g Visiting s t.course t.silent gs → IsNext g (machine_ordered t o) o gs
-visiting_turns g t o stage.Free gs by st hand last purpose is running v = absurd (running refl)
-visiting_turns g t o (stage.HighSent high) gs by st hand last purpose is running v =
+visiting_turns g t o stage.Free gs by st hand agreed last purpose is running v = absurd (running refl)
+visiting_turns g t o (stage.HighSent high) gs by st hand agreed last purpose is running v =
     turns_by g t o Visiting (stage.HighSent high) _ gs by st purpose is refl
-visiting_turns g t o (stage.MiddleSent high middle) gs by st hand last purpose is running v =
+visiting_turns g t o (stage.MiddleSent high middle) gs by st hand agreed last purpose is running v =
     turns_by g t o Visiting (stage.MiddleSent high middle) _ gs by st purpose is refl
-visiting_turns g t o (stage.NumberSent r) gs by st hand last purpose is running v =
+visiting_turns g t o (stage.NumberSent r) gs by st hand agreed last purpose is running v =
     turns_by g t o Visiting (stage.NumberSent r) QueryShort gs by st purpose is refl
-visiting_turns g t o (stage.Found r b) gs by st hand last purpose is running v =
+visiting_turns g t o (stage.Found r b) gs by st hand agreed last purpose is running v =
     turns_by g t o Visiting (stage.Found r b) Withdraw gs by st purpose is refl
-visiting_turns g t o (stage.Unnamed r) gs by st hand last purpose is running v = unnamed_turns g t o r gs by st hand purpose is v
-visiting_turns g t o (stage.Programmed r a) gs by st hand last purpose is running v =
+visiting_turns g t o (stage.Unnamed r) gs by st hand agreed last purpose is running v = unnamed_turns g t o r gs by st hand purpose is v
+visiting_turns g t o (stage.Programmed r a) gs by st hand agreed last purpose is running v =
     turns_by g t o Visiting (stage.Programmed r a) QueryShort gs by st purpose is refl
-visiting_turns g t o (stage.Confirmed r a) gs by st hand last purpose is running v =
+visiting_turns g t o (stage.Confirmed r a) gs by st hand agreed last purpose is running v =
     turns_by g t o Visiting (stage.Confirmed r a) Withdraw gs by st purpose is refl
-visiting_turns g t o (stage.Withdrawn r a) gs by st hand last purpose is running v = withdrawn_turns g t o r a gs by st hand purpose is v
-visiting_turns g t o (stage.Unanswered r) gs by st hand last purpose is running v =
+visiting_turns g t o (stage.Withdrawn r a) gs by st hand agreed last purpose is running v = withdrawn_turns g t o r a gs by st hand agreed purpose is v
+visiting_turns g t o (stage.Unanswered r) gs by st hand agreed last purpose is running v =
     failed_turns g t o (stage.Unanswered r) gs st hand.apart v refl refl v.at v.at.stage_is (known_as g t gs Visiting st purpose)
     (given.begins_after t o (stage.Unanswered r) by is tt (found_at g t gs (stage.Unanswered r) st is) last (never_eight t.tries st.tries))
     (ap (begins_at t) is ∙ ap (λ b. unanswered t r b (address_for t.kept.reserved (value_of r))) v.opened_is)
-visiting_turns g t o (stage.Inconclusive r other) gs by st hand last purpose is running v =
+visiting_turns g t o (stage.Inconclusive r other) gs by st hand agreed last purpose is running v =
     failed_turns g t o (stage.Inconclusive r other) gs st hand.apart v refl refl v.at v.at.stage_is (known_as g t gs Visiting st purpose)
     (by.followed.unconfirmed r other is) (ap (begins_at t) is)
-visiting_turns g t o _ gs by st hand last purpose is running v = absurd v.at.stage_is
+visiting_turns g t o _ gs by st hand agreed last purpose is running v = absurd v.at.stage_is
 
 -- ---------------------------------------------------------------- gear g is passed over
 
@@ -656,16 +682,17 @@ closing_turns g t o e _ gs by st purpose is running v = absurd v.stage_is
 -- ---------------------------------------------------------------- of whatever transaction
 
 -- after a frame that was heard
-pub turned : (g : ℕ) (t : Machine) (o : Order) (gs : List Gear) → IsGivenBy t o → MisheardStands true g t gs → IsAtHand t.kept gs
+pub turned : (g : ℕ) (t : Machine) (o : Order) (gs : List Gear) → IsGivenBy t o → MisheardStands true g t gs → IsAtHand t.kept gs → IsUncontradicted t
     → IsWhole (machine_ordered t o) → IsNoEnrolment t.last → (stage_of t.trace ≡ stage.Free → ⊥) → IsNext g (machine_ordered t o) o gs
-turned g t o gs by st hand whole last running = go t.course.purpose refl st.at where
+turned g t o gs by st hand agreed whole last running = go t.course.purpose refl st.at where
   go : (p : Purpose) → t.course.purpose ≡ p → At true g p (stage_of t.trace) t.kept t.heard t.course t.silent gs → IsNext g (machine_ordered t o) o gs
-  go (Asking a) purpose at = census_turns g t o a (stage_of t.trace) gs by st hand last purpose refl running at (known_as g t gs (Asking a) st purpose) whole
+  go (Asking a) purpose at =
+      census_turns g t o a (stage_of t.trace) gs by st hand agreed last purpose refl running at (known_as g t gs (Asking a) st purpose) whole
   go Calling purpose at = calling_turns g t o (stage_of t.trace) gs by st purpose refl running at
   go Opening purpose at = opening_turns g t o (stage_of t.trace) gs by st last purpose refl running at
   go Drawing purpose at = drawing_turns g t o (stage_of t.trace) gs by st last purpose refl running at
   go Hunting purpose at = hunting_turns g t o (stage_of t.trace) gs by st hand purpose refl running at
-  go Visiting purpose at = visiting_turns g t o (stage_of t.trace) gs by st hand last purpose refl running at
+  go Visiting purpose at = visiting_turns g t o (stage_of t.trace) gs by st hand agreed last purpose refl running at
   go PassingOver purpose at = passing_turns g t o (stage_of t.trace) gs by st last purpose refl running at whole
   go (Closing e) purpose at = closing_turns g t o e (stage_of t.trace) gs by st purpose refl running at
   go Probing purpose at = absurd at

@@ -283,7 +283,7 @@ begins_whole t o s g at named closed found last tries later = go o g where
 
 -- ---------------------------------------------------------------- what is reserved stays nobody else's
 
-not_both : (one two : Bool) → one ≡ false → two ≡ false → (one || two) ≡ false
+pub not_both : (one two : Bool) → one ≡ false → two ≡ false → (one || two) ≡ false
 not_both one two none nothing = rw (none, nothing) refl
 
 false_both : (one two : Bool) → (one || two) ≡ false → (one ≡ false) × (two ≡ false)
@@ -314,7 +314,7 @@ own_enrolled k heard b r own one c q has =
     (another_more k.enrolled b r c q was.1 (λ e. one q (subst (λ n. Has k.reserved (n, q)) (sym e) has)))
 
 -- what is open is nobody's
-open_parts : (one two three : Bool) → (not one && not two && not three) ≡ true → (one ≡ false) × (two ≡ false) × (three ≡ false)
+pub open_parts : (one two three : Bool) → (not one && not two && not three) ≡ true → (one ≡ false) × (two ≡ false) × (three ≡ false)
 open_parts true two three e = absurd (cc)
 open_parts false true three e = absurd (cc)
 open_parts false false true e = absurd (cc)

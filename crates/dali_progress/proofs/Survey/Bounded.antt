@@ -44,7 +44,7 @@ one_now s run g h a in_row there one two = (promise_now s run).one_gear g h a (i
 pub true_now : (s : SiteState) (c : ℕ) → IsRun s.plan s.queue s.log → IsUp (world s) c → IsTrue (controller_at (world s) c).records.enrolled (world s).gear
 true_now s c run up a r has = let there = (promise_now s run).tables c (a, r) (up.known, has) in (there.0, there.1.0, there.1.1, there.2)
 
-agree_now : (s : SiteState) → IsRun s.plan s.queue s.log → FindingsAgree (world s)
+pub agree_now : (s : SiteState) → IsRun s.plan s.queue s.log → FindingsAgree (world s)
 agree_now s run = findings_agree_in s.plan s.queue s.log [] (subst (λ es. IsRun s.plan s.queue es) (sym (append-nil s.log)) run)
 
 surveyed_now : (s : SiteState) (c : ℕ) → IsRun s.plan s.queue s.log → IsUp (world s) c → IsSurveyed (world s) c

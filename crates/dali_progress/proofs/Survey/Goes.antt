@@ -90,7 +90,7 @@ Holds start m _ _ gs left = ⊥
 -- ---------------------------------------------------------------- what it found
 
 -- the finding of its transaction is that of the controller
-found_told : (w : World) (q c : ℕ) (m : Machine) (out : Option Record) (k : Controller) (last : Option Order) (told : Option Input) (i : Input)
+pub found_told : (w : World) (q c : ℕ) (m : Machine) (out : Option Record) (k : Controller) (last : Option Order) (told : Option Input) (i : Input)
     → Moment w q c m out last told → IsDueOf last told i → Succeeds true i → k.told ≡ told → IsFound k m
     → later k.finding (finding_of (machine_told m i).trace) ≡ k.finding
 found_told w q c m out k last told i at due surveys is found =
@@ -104,7 +104,7 @@ found_told w q c m out k last told i at due surveys is found =
     stays None = refl
     stays (Some x) = refl
 
-ordered_found : (found : Option Finding) (t : Machine) (o : Order) → later found (finding_of t.trace) ≡ found
+pub ordered_found : (found : Option Finding) (t : Machine) (o : Order) → later found (finding_of t.trace) ≡ found
     → later found (finding_of (machine_ordered t o).trace) ≡ found
 ordered_found found t (Put p f) is = go (p == LATER) where
   go : (b : Bool) → later found (finding_of (if b then t.trace else [])) ≡ found
@@ -128,7 +128,7 @@ not_contradicted w c b r agree found (inl other) =
 not_contradicted w c b r agree found (inr other) =
     let same : (b, r) ≡ (other.0, r) = agree.number c c (b, r) (other.0, r) found (found.0, other.1) refl in other.2 (sym (ap (λ (x : Assignment). x.0) same))
 
-uncontradicted : (w : World) (c : ℕ) (t : Machine) → FindingsAgree w → c < length w.controllers → t.kept ≡ (controller_at w c).records
+pub uncontradicted : (w : World) (c : ℕ) (t : Machine) → FindingsAgree w → c < length w.controllers → t.kept ≡ (controller_at w c).records
     → later (controller_at w c).finding (finding_of t.trace) ≡ (controller_at w c).finding → IsUncontradicted t
 uncontradicted w c t agree there kept found x is contradicts =
     not_contradicted w c (assigned x).0 (assigned x).1 agree
@@ -330,7 +330,7 @@ sent_found k m f h is =
     ap (later (later k (found_by (search_of m.trace) (asked_of m.trace) (command_of f) h))) (finding_more m.trace (entry f h))
     ∙ later_more k (finding_of m.trace) (found_by (search_of m.trace) (asked_of m.trace) (command_of f) h) is
 
-found_sent : (w : World) (q c : ℕ) (m : Machine) (p : ℕ) (f : Forward) (h : Answer) → IsLone w q c m → m.last ≡ Some (Put p f)
+pub found_sent : (w : World) (q c : ℕ) (m : Machine) (p : ℕ) (f : Forward) (h : Answer) → IsLone w q c m → m.last ≡ Some (Put p f)
     → (controller_at w c).told ≡ None → (controller_at (happens w (event.Sent c f h)) c).told ≡ Some (input.Heard h) → trace_running w c ≡ m.trace
     → IsFound (controller_at w c) m → IsFound (controller_at (happens w (event.Sent c f h)) c) m
 found_sent w q c m p f h l last untold told running found =

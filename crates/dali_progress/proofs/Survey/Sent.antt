@@ -69,13 +69,13 @@ pub record IsTold (k : Kept) (gs : List Gear) : Type 0 where
 pub with_other : (s : Shorts) (b c : ℕ) → b < 64 → (c ≡ b → ⊥) → has_short (with_short s b) c ≡ has_short s c
 with_other s b c small apart = ap (λ n. n == 1) (bit_at_set_other w64 s.bits b small c apart)
 
-without_same : (s : Shorts) (b c : ℕ) → b < 64 → c ≡ b → has_short (without_short s b) c ≡ false
+pub without_same : (s : Shorts) (b c : ℕ) → b < 64 → c ≡ b → has_short (without_short s b) c ≡ false
 without_same s b c small same = subst (λ n. has_short (without_short s b) n ≡ false) (sym same) (ap (λ n. n == 1) (bit_at_clear_same w64 s.bits b small))
 
 pub without_other : (s : Shorts) (b c : ℕ) → b < 64 → c < 64 → (c ≡ b → ⊥) → has_short (without_short s b) c ≡ has_short s c
 without_other s b c small within apart = ap (λ n. n == 1) (bit_at_clear_other w64 s.bits b small c within apart)
 
-clear_with : (k : Kept) (heard : Shorts) (b a : ℕ) → b ≡ a → a < 64 → IsClearBut k heard a → IsClearBut k (with_short heard b) a
+pub clear_with : (k : Kept) (heard : Shorts) (b a : ℕ) → b ≡ a → a < 64 → IsClearBut k heard a → IsClearBut k (with_short heard b) a
 clear_with k heard b a same small clear c q has apart =
     with_other heard b c (subst (λ n. n < 64) (sym same) small) (λ e. apart (e ∙ same)) ∙ clear c q has apart
 
