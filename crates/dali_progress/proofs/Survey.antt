@@ -16,5 +16,8 @@ pub mod Goes
 pub mod Bounded
 pub mod Again
 pub mod Quiet
+pub mod Given
+pub mod Marked
+pub mod Replaced
 pub mod Running
 pub mod Numbers

@@ -31,9 +31,10 @@ ghost use Rattle.dali_controller.specs.Machine.{Machine};
 ghost use Rattle.dali_controller.specs.Whole.{IsWhole};
 ghost use Rattle.dali_script.specs.declared.orders.End.{End};
 ghost use Rattle.dali_events.specs.declared.event.Event.{Event};
-ghost use Rattle.dali_events.specs.Plan.{Plan, IsPlan};
+ghost use Rattle.dali_events.specs.Plan.{Plan, IsPlan, block_at};
 ghost use Rattle.dali_events.specs.Runs.{IsRun};
-ghost use Rattle.dali_events.specs.Promise.{KeepsPromise};
+ghost use Rattle.dali_events.specs.Promise.{KeepsPromise, HoldsShort, KeepsAddresses};
+ghost use Rattle.dali_events.specs.World.{gear_at};
 ghost use Rattle.dali_standing.specs.declared.refusal.Refusal.TheVariants as refusal;
 ghost use Rattle.dali_events.specs.declared.trouble.Trouble.TheVariants as trouble;
 ghost use Rattle.dali_world.specs.Site.{SiteState, opened_site, world, IsActRefused, IsPumpRefused};
@@ -44,6 +45,7 @@ ghost use Rattle.dali_progress.specs.Rounds.{restarted, Rounds, site_after, fram
 ghost use Rattle.dali_progress.specs.Rounds.{most_draws, GoesOn, HasEnded};
 ghost use Rattle.dali_progress.specs.Ends.{IsTrueEnd, table_at, NamesAll, CommitsNothing};
 ghost use Rattle.dali_progress.specs.Misheard.{RoundsBut, IsTrueEndBut};
+ghost use Rattle.dali_progress.specs.Replaced.{HasNew, only, IsServed, AreNamed};
 ghost use Rattle.dali_progress.specs.Running.{RanAlone, HasBegun, begun, HasRoom, HasEndedBy, WasRefused};
 ghost use Rattle.dali_progress.specs.Surveyed.{Step, IsCourse, ArePlain, WasHeard, IsAccounted, HasSurveyed};
 ghost use Rattle.dali_progress.specs.Surveyed.{stage_told};
@@ -144,6 +146,29 @@ pub fn one_gear_blocks_nobody()
     ensures done { (g : ℕ) (s : SiteState) (c : ℕ) (es : List Event) (e : End) → g < length (world s).gear
         → BeginsAlone Any s c → RoundsBut g s c es → HasEnded (site_after s es) c e
         → IsTrueEndBut g (site_after s es) c e }
+{}
+
+/// A NEW GEAR IS SERVED. Let a controller begin alone by a survey, with settled records, say with none; let one gear g
+/// with power alone have no short address; and let an address of the controller's block be one that no gear has. So it
+/// is where a luminaire was replaced: the new one came from the factory, and the address of the old one is vacant.
+///
+/// Then it ends with all-found, g has an address of the block that was vacant, and the table names it so (`served`). In
+/// a block of one address that is the one (`address`). So whoever replaced a luminaire gives the old address to the block
+/// and surveys.
+///
+/// Each other gear keeps its address and its random address (`keeps`), and the table names it, unless it had no power
+/// or no number that gear draw (`named`); of any records.
+pub fn a_replaced_gear_gets_the_address()
+    ensures served { (s : SiteState) (c g a : ℕ) (es : List Event) (e : End) → BeginsAlone Settled s c → HasNew s c g a
+        → Rounds true s c es → HasEnded (site_after s es) c e → IsServed s (site_after s es) c g e }
+    ensures address { (s : SiteState) (c g a : ℕ) (es : List Event) (e : End) → BeginsAlone Settled s c → HasNew s c g a
+        → block_at s.plan c ≡ only a → Rounds true s c es → HasEnded (site_after s es) c e
+        → HoldsShort (world (site_after s es)) g a
+        × Has (table_at (site_after s es) c) (a, (gear_at (world (site_after s es)) g).random) }
+    ensures keeps { (s : SiteState) (c : ℕ) (es : List Event) → BeginsAlone Any s c → Rounds true s c es
+        → KeepsAddresses (world s) (world (site_after s es)) }
+    ensures named { (s : SiteState) (c : ℕ) (es : List Event) (e : End) → BeginsAlone Any s c → Rounds true s c es
+        → HasEnded (site_after s es) c e → AreNamed s (site_after s es) c }
 {}
 
 /// A RUN OF ENOUGH ROUNDS ENDS. On an installation with one controller that begins alone, with n gear that have power

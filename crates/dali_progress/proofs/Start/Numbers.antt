@@ -275,12 +275,15 @@ has_heard m p f h before gs numbers left last next has =
 -- so they are never spent
 pub start_draws : (before : List Gear) → Draws (of_start before) LeavesDraws
 start_draws before = record {
-  acts = λ s c left l i o u here good given holds has.
-      acts_has before (world s) s.queue c u.machine (controller_at (world s) c).outstanding (controller_at (world s) c).last
-      (controller_at (world s) c).told i o
-      (world s).gear (world s).left left u.goes.lone.moment u.goes.lone.last (due_of (controller_at (world s) c) i here.due) good
-      (given_by u.machine i o (not_failed false i good) given).ordered.allowed u.goes.holds has;
-  sends = λ m p f h gs numbers left last holds has. has_heard m p f h before gs numbers left last (next_holds before m (Put p f) gs left holds) has;
+  stays = record {
+    acts = λ s c left l i o u here good given holds has.
+        acts_has before (world s) s.queue c u.machine (controller_at (world s) c).outstanding (controller_at (world s) c).last
+        (controller_at (world s) c).told i o
+        (world s).gear (world s).left left u.goes.lone.moment u.goes.lone.last (due_of (controller_at (world s) c) i here.due) good
+        (given_by u.machine i o (not_failed false i good) given).ordered.allowed u.goes.holds has;
+    sends = λ s c left p f h u here heard last holds has.
+        has_heard u.machine p f h before (world s).gear (world s).left left last (next_holds before u.machine (Put p f) (world s).gear left holds) has;
+  };
   enough = λ m p f gs numbers left last holds has.
       let next = next_holds before m (Put p f) gs left holds in
       draws_enough m.course.purpose (stage_of m.trace) m.kept m.course.opened m.course.search m.course.number gs numbers left (command_of f) next.0.at next.1

@@ -576,11 +576,14 @@ heard_has start m p f h gs numbers left last next has = (
 -- so they are never spent
 pub survey_draws : (start : Begun) → drawn.Draws (of_survey start) (HasNumbers start.any)
 survey_draws start = record {
-  acts = λ s c left l i o u here surveys given holds has.
-      acts_has start (world s) s.queue c u.machine (controller_at (world s) c).outstanding (controller_at (world s) c).last (controller_at (world s) c).told i o
-      (world s).gear (world (site_logged s (event.Acted c i o))).gear (world s).left left l u.goes.lone.moment u.goes.lone.last
-      (due_of (controller_at (world s) c) i here.due) surveys (given_by u.machine i o (not_failed true i surveys) given).ordered.allowed u.goes.holds
-      (next_holds start (machine_after u.machine i o) o (world (site_logged s (event.Acted c i o))).gear l holds) has;
-  sends = λ m p f h gs numbers left last holds has. (heard_has start m p f h gs numbers left last (next_holds start m (Put p f) gs left holds) has).1;
+  stays = record {
+    acts = λ s c left l i o u here surveys given holds has.
+        acts_has start (world s) s.queue c u.machine (controller_at (world s) c).outstanding (controller_at (world s) c).last (controller_at (world s) c).told i o
+        (world s).gear (world (site_logged s (event.Acted c i o))).gear (world s).left left l u.goes.lone.moment u.goes.lone.last
+        (due_of (controller_at (world s) c) i here.due) surveys (given_by u.machine i o (not_failed true i surveys) given).ordered.allowed u.goes.holds
+        (next_holds start (machine_after u.machine i o) o (world (site_logged s (event.Acted c i o))).gear l holds) has;
+    sends = λ s c left p f h u here heard last holds has.
+        (heard_has start u.machine p f h (world s).gear (world s).left left last (next_holds start u.machine (Put p f) (world s).gear left holds) has).1;
+  };
   enough = λ m p f gs numbers left last holds has. (heard_has start m p f Silence gs numbers left last (next_holds start m (Put p f) gs left holds) has).0;
 }

@@ -69,7 +69,7 @@ pub record IsTold (k : Kept) (gs : List Gear) : Type 0 where
 pub with_other : (s : Shorts) (b c : ℕ) → b < 64 → (c ≡ b → ⊥) → has_short (with_short s b) c ≡ has_short s c
 with_other s b c small apart = ap (λ n. n == 1) (bit_at_set_other w64 s.bits b small c apart)
 
-without_same : (s : Shorts) (b c : ℕ) → b < 64 → c ≡ b → has_short (without_short s b) c ≡ false
+pub without_same : (s : Shorts) (b c : ℕ) → b < 64 → c ≡ b → has_short (without_short s b) c ≡ false
 without_same s b c small same = subst (λ n. has_short (without_short s b) n ≡ false) (sym same) (ap (λ n. n == 1) (bit_at_clear_same w64 s.bits b small))
 
 pub without_other : (s : Shorts) (b c : ℕ) → b < 64 → c < 64 → (c ≡ b → ⊥) → has_short (without_short s b) c ≡ has_short s c
@@ -464,7 +464,8 @@ ends_still any AllFound k heard gs numbers all = λ i in_row on.
     let same = name_kept gs numbers i there in
     let short = all i there (sym same.0 ∙ on) in
     (short.0, same.1 ∙ short.1)
-ends_still any BlockFull k heard gs numbers well = well
+ends_still any BlockFull k heard gs numbers well =
+    (subst (λ n. 0 < n) (sym (leaving.count_bare_after Terminate gs numbers tt)) well.0, well.1)
 ends_still any GaveUp k heard gs numbers well = well
 
 abbrev ClosedTo : End → Stage → Kept → Shorts → Begun → List Gear → List ℕ → ℕ → Command → Answer → Type 0
