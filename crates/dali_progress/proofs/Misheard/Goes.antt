@@ -1,4 +1,4 @@
-use Rattle.std.proofs.Common.{◌≡◌, ℕ, zero, suc, ◌+◌, ◌<◌, ◌≤◌, ◌⊎◌, inl, inr, true, false, List, [], ◌∷◌, ◌++◌, refl, sym, ap, subst, ◌∙◌, arith, length}
+use Rattle.std.proofs.Common.{◌≡◌, ℕ, ◌+◌, ◌<◌, ◌≤◌, ◌⊎◌, inl, inr, true, false, List, [], ◌∷◌, ◌++◌, refl, sym, ap, subst, ◌∙◌, arith, length}
 use Rattle.std.proofs.Common.{Option, Some, None}
 use Rattle.dali_frame.specs.declared.frames.Forward.{Forward}
 use Rattle.dali_frame.specs.declared.frames.Answer.{Answer}
@@ -41,7 +41,7 @@ use Rattle.dali_events.specs.declared.event.Event.TheVariants as event
 use Rattle.dali_events.specs.World.{World, Controller, controller_at}
 use Rattle.dali_events.specs.Happens.{happens, entry, trace_running}
 use Rattle.dali_events.specs.Promise.{KeepsPromiseNow}
-use Rattle.dali_events.specs.Allowed.{Allowed, IsUp}
+use Rattle.dali_events.specs.Allowed.{Allowed}
 use Rattle.dali_events.specs.Runs.{IsRun, LeavesUsed}
 use Rattle.dali_events.proofs.Invariant.Sending.{lawful_of}
 use Rattle.dali_events.proofs.Invariant.Takes.{row_length}

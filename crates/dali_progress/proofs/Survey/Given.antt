@@ -1,4 +1,4 @@
-use Rattle.std.proofs.Common.{◌≡◌, ℕ, ◌<◌, ◌⊎◌, inl, inr, Bool, true, false, List, [], ◌∷◌, ◌++◌, refl, sym, subst, ◌∙◌, length, Option, Some, None}
+use Rattle.std.proofs.Common.{◌≡◌, ℕ, ◌<◌, ◌⊎◌, inl, inr, true, List, [], ◌∷◌, ◌++◌, refl, sym, subst, ◌∙◌, length, Option, Some, None}
 use Rattle.dali_frame.specs.declared.frames.Forward.{Forward}
 use Rattle.dali_frame.specs.declared.frames.Answer.{Answer}
 use Rattle.dali_special.specs.declared.command.Command.{Command}
@@ -9,10 +9,9 @@ use Rattle.dali_gear.specs.Row.{row_after, drawn_of, stored_of}
 use Rattle.dali_script.specs.declared.block.Block.{Block}
 use Rattle.dali_script.specs.Records.{Assignment, Has, InBlock}
 use Rattle.dali_script.specs.Stages.{stage_of}
-use Rattle.dali_script.proofs.Members.{has_right}
 use Rattle.dali_events.specs.declared.event.Event.{Event}
 use Rattle.dali_events.specs.declared.event.Event.TheVariants as event
-use Rattle.dali_events.specs.Plan.{Plan, block_at}
+use Rattle.dali_events.specs.Plan.{block_at}
 use Rattle.dali_events.specs.World.{World, controller_at}
 use Rattle.dali_events.specs.Happens.{happens, trace_running}
 use Rattle.dali_events.specs.Allowed.{Allowed}

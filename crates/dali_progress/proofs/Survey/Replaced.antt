@@ -1,7 +1,6 @@
-use Rattle.std.proofs.Common.{◌≡◌, ℕ, ◌+◌, ◌<◌, ◌≤◌, ◌⊎◌, inl, inr, Bool, true, false, List, [], ◌∷◌, refl, sym, ap, subst, ◌∙◌, arith, length, Option, Some, None}
+use Rattle.std.proofs.Common.{◌≡◌, ℕ, ◌<◌, ◌⊎◌, inl, inr, true, false, List, [], ◌∷◌, refl, sym, ap, subst, ◌∙◌, arith, length, Option, Some, None}
 use Rattle.std.specs.List.{count_by}
 use Rattle.dali_gear.specs.Gear.{Gear}
-use Rattle.dali_script.specs.declared.block.Block.{Block}
 use Rattle.dali_script.specs.Records.{Assignment, Kept, Has, HasAddress, InBlock}
 use Rattle.dali_script.proofs.Members.{mapped_from}
 use Rattle.dali_script.specs.declared.orders.End.{End}
@@ -15,13 +14,13 @@ use Rattle.dali_events.specs.Runs.{IsRun}
 use Rattle.dali_events.specs.Promise.{HoldsShort, KeepsAddresses}
 use Rattle.dali_events.specs.Searching.{HasShort}
 use Rattle.dali_events.specs.Wanted.{gear_of, is_bare, OfPowered}
-use Rattle.dali_events.specs.World.{World, controller_at, gear_at}
+use Rattle.dali_events.specs.World.{controller_at, gear_at}
 use Rattle.dali_events.proofs.Invariant.Safe.{holds_after}
 use Rattle.dali_events.proofs.Search.Wanted.{is_bare_by, bare_is}
 use Rattle.dali_world.specs.Site.{SiteState, world, site_logged}
 use Rattle.dali_world.proofs.Logs.{records_now}
 use Rattle.dali_progress.specs.Rounds.{Rounds, BeginsAlone, Settled, Any, IsAlone, HasEnded, IsSettled, site_after, most_frames, bare}
-use Rattle.dali_progress.specs.Ends.{table_at, IsUnseen, NamesAll}
+use Rattle.dali_progress.specs.Ends.{table_at, IsUnseen}
 use Rattle.dali_progress.specs.Replaced.{IsVacant, HasNew, only, IsServed, AreNamed}
 use Rattle.dali_progress.proofs.Along.{Runs}
 use Rattle.dali_progress.proofs.Beginnings.{runs_after, named}
