@@ -25,3 +25,4 @@ mod Beginnings
 mod Running
 mod Ended
 mod Refused
+mod Replaced

@@ -140,8 +140,8 @@ ended_by any s after c left e r ended =
 
 ends_so : (any : Bool) (e : End) (m : Machine) (gs : List Gear) → SurveyEnds any e m.kept m.heard gs → SurveyEndsWell e m gs
 ends_so any AllFound m gs well = well
-ends_so any BlockFull m gs (some, inl taken) = inl taken
-ends_so any BlockFull m gs (some, inr other) = inr other.1
+ends_so any BlockFull m gs (some, inl taken) = (some, inl taken)
+ends_so any BlockFull m gs (some, inr other) = (some, inr other.1)
 ends_so any GaveUp m gs well = well
 
 one_machine : (x y : Machine) → Some x ≡ Some y → x ≡ y
