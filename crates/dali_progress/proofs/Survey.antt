@@ -18,6 +18,7 @@ pub mod Again
 pub mod Quiet
 pub mod Given
 pub mod Marked
+pub mod Vacant
 pub mod Replaced
 pub mod Running
 pub mod Numbers

@@ -1,15 +1,15 @@
 //! What is proved of a whole commissioning. Programs don't call these.
 //!
-//! Seven speak of commissioning that nothing disturbs: of a site on which a controller begins alone, with nothing on the
-//! bus (`BeginsAlone`), in one of three ways: by Start, with nothing kept (`ByStart`); by a survey, with settled
+//! Seven speak of commissioning that nothing disturbs: of a site on which a controller begins alone, with nothing on
+//! the bus (`BeginsAlone`), in one of three ways: by Start, with nothing kept (`ByStart`); by a survey, with settled
 //! records, in which each address that is reserved is enrolled so (`Settled`); or by a survey, with any records
 //! (`Any`). And of a list of events that rounds add to its log (`Rounds`): the controller acts on what is due, and its
 //! commits succeed; frames that are next are sent, and what the gear answer is heard. So no other controller acts
 //! meanwhile, no frame is destroyed, no answer is lost or damaged, the bus never lapses, and no gear's power comes or
 //! goes.
 //!
-//! Three of the seven speak also, or alone, of the runs of rounds that a replay makes of an installation with one
-//! controller (`RanAlone`): each is such a list of events. One more law speaks of rounds in which one gear is misheard.
+//! Three of the seven speak, also or alone, of the runs of rounds that a replay makes of an installation with one
+//! controller (`RanAlone`): each is such a list of events. One law more speaks of rounds in which one gear is misheard.
 //!
 //! Three speak of what a survey promises of a machine on any bus (`IsCourse`), and one of used gear and the log of a
 //! site, whatever is disturbed.
@@ -30,11 +30,14 @@ ghost use Rattle.dali_controller.specs.Course.{address_for};
 ghost use Rattle.dali_controller.specs.Machine.{Machine};
 ghost use Rattle.dali_controller.specs.Whole.{IsWhole};
 ghost use Rattle.dali_script.specs.declared.orders.End.{End};
+ghost use Rattle.dali_script.specs.declared.orders.End.TheVariants.{AllFound};
 ghost use Rattle.dali_events.specs.declared.event.Event.{Event};
 ghost use Rattle.dali_events.specs.Plan.{Plan, IsPlan, block_at};
 ghost use Rattle.dali_events.specs.Runs.{IsRun};
 ghost use Rattle.dali_events.specs.Promise.{KeepsPromise, HoldsShort, KeepsAddresses};
 ghost use Rattle.dali_events.specs.World.{gear_at};
+ghost use Rattle.dali_events.specs.Searching.{HasShort};
+ghost use Rattle.dali_events.specs.Wanted.{OfPowered};
 ghost use Rattle.dali_standing.specs.declared.refusal.Refusal.TheVariants as refusal;
 ghost use Rattle.dali_events.specs.declared.trouble.Trouble.TheVariants as trouble;
 ghost use Rattle.dali_world.specs.Site.{SiteState, opened_site, world, IsActRefused, IsPumpRefused};
@@ -45,7 +48,7 @@ ghost use Rattle.dali_progress.specs.Rounds.{restarted, Rounds, site_after, fram
 ghost use Rattle.dali_progress.specs.Rounds.{most_draws, GoesOn, HasEnded};
 ghost use Rattle.dali_progress.specs.Ends.{IsTrueEnd, table_at, NamesAll, CommitsNothing};
 ghost use Rattle.dali_progress.specs.Misheard.{RoundsBut, IsTrueEndBut};
-ghost use Rattle.dali_progress.specs.Replaced.{HasNew, only, IsServed, AreNamed};
+ghost use Rattle.dali_progress.specs.Replaced.{HasVacant, HasNew, only, IsServed, AreNamed};
 ghost use Rattle.dali_progress.specs.Running.{RanAlone, HasBegun, begun, SparesUsedOf, HasRoom, HasEndedBy, WasRefused};
 ghost use Rattle.dali_progress.specs.Surveyed.{Step, IsCourse, ArePlain, WasHeard, IsAccounted, HasSurveyed};
 ghost use Rattle.dali_progress.specs.Surveyed.{stage_told};
@@ -115,13 +118,17 @@ pub fn it_goes_on()
 /// gives up. Its table names each gear that has a short address, with its random address, whoever gave it; but one that
 /// had it before the survey, and then had no power or no number that gear draw.
 ///
-/// With settled records nothing is another's, and they are settled at the end.
+/// With settled records nothing is another's, and they are settled at the end. And where so many addresses of its block
+/// are vacant as gear have power and no short address, it ends with all-found (`enough`).
 ///
 /// So one survey that nothing disturbs says all this at its end. Where it committed nothing, it was the table that it
 /// began with that names them (`quiet`). That three runs in a row be quiet is asked where the bus may lose answers.
 pub fn its_end_is_true()
     ensures done { (b : Beginning) (s : SiteState) (c : ℕ) (es : List Event) (e : End) → BeginsAlone b s c
         → Rounds (by_survey b) s c es → HasEnded (site_after s es) c e → IsTrueEnd b (site_after s es) c e }
+    ensures enough { (s : SiteState) (c : ℕ) (es : List Event) (e : End) → BeginsAlone Settled s c → HasVacant s c
+        → Rounds true s c es → HasEnded (site_after s es) c e
+        → (e ≡ AllFound) × OfPowered (world (site_after s es)).gear HasShort }
     ensures table { (b : Beginning) (s : SiteState) (c : ℕ) (es : List Event) (e : End) → BeginsAlone b s c
         → Rounds (by_survey b) s c es → HasEnded (site_after s es) c e
         → NamesAll (by_survey b) s (table_at (site_after s es) c) (site_after s es) }

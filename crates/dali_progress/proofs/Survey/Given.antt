@@ -81,7 +81,8 @@ gives_then b fs gs hs one two = record {
 abbrev StaysDark : Gear → Gear → Type 0
 StaysDark g h = (g.powered ≡ true) ⊎ (h.short ≡ g.short)
 
-stays_dark : (c : Command) (gs : List Gear) (numbers : List ℕ) (k : ℕ) → k < length gs → StaysDark (gear_of gs k) (gear_of (row_after Everyone c 0 gs numbers) k)
+stays_dark : (c : Command) (gs : List Gear) (numbers : List ℕ) (k : ℕ) → k < length gs
+    → StaysDark (gear_of gs k) (gear_of (row_after Everyone c 0 gs numbers) k)
 stays_dark c gs numbers k h = after_at c StaysDark (λ g off. inr refl) (λ g x on. inl on) gs numbers k h
 
 -- the address that one is given is reserved, so it is one of the block

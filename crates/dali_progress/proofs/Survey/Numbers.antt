@@ -578,7 +578,8 @@ pub survey_draws : (start : Begun) → drawn.Draws (of_survey start) (HasNumbers
 survey_draws start = record {
   stays = record {
     acts = λ s c left l i o u here surveys given holds has.
-        acts_has start (world s) s.queue c u.machine (controller_at (world s) c).outstanding (controller_at (world s) c).last (controller_at (world s) c).told i o
+        acts_has start (world s) s.queue c u.machine (controller_at (world s) c).outstanding (controller_at (world s) c).last
+        (controller_at (world s) c).told i o
         (world s).gear (world (site_logged s (event.Acted c i o))).gear (world s).left left l u.goes.lone.moment u.goes.lone.last
         (due_of (controller_at (world s) c) i here.due) surveys (given_by u.machine i o (not_failed true i surveys) given).ordered.allowed u.goes.holds
         (next_holds start (machine_after u.machine i o) o (world (site_logged s (event.Acted c i o))).gear l holds) has;
