@@ -5,6 +5,7 @@ mod Stands
 mod Frames
 mod Tables
 mod Both
+mod Gives
 mod Along
 mod Drawing
 mod Start

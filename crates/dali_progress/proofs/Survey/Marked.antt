@@ -49,7 +49,7 @@ use Rattle.dali_progress.proofs.Survey.Stands.{Begun, Counts, SurveyAt}
 use Rattle.dali_progress.proofs.Survey.Sent.{heard_high, with_other, without_same, without_other}
 use Rattle.dali_progress.proofs.Survey.Goes.{of_survey, next_holds}
 use Rattle.dali_progress.proofs.Survey.Bounded.{argument, one_now}
-use Rattle.dali_progress.proofs.Survey.Given.{Gives, frame_gives}
+use Rattle.dali_progress.proofs.Gives.{Gives, frame_gives}
 
 -- WHAT A SURVEY HAS MARKED, SOMEBODY HAS, where nothing is disturbed.
 

@@ -21,7 +21,8 @@ use Rattle.dali_progress.specs.Replaced.{IsVacant, HasVacant, HasNew, only, IsSe
 use Rattle.dali_progress.proofs.Beginnings.{runs_after, named}
 use Rattle.dali_progress.proofs.Survey.Drawn.{count_first, count_nothing}
 use Rattle.dali_progress.proofs.Survey.Bounded.{began_at, starts_any, one_now, tabled}
-use Rattle.dali_progress.proofs.Survey.Given.{Gives, all_give}
+use Rattle.dali_progress.proofs.Gives.{Gives}
+use Rattle.dali_progress.proofs.Survey.Given.{all_give}
 use Rattle.dali_progress.proofs.Survey.Vacant.{IsOver, over, enough_found}
 
 -- A NEW GEAR IS SERVED in a survey, where an address is vacant, and the others keep what they have.

@@ -28,7 +28,8 @@ use Rattle.dali_progress.proofs.Survey.Drawn.{count_first}
 use Rattle.dali_progress.proofs.Survey.Stands.{SurveyEnds, AreTaken}
 use Rattle.dali_progress.proofs.Survey.Bounded.{EndsBy, began_at, starts, ended_by, true_now}
 use Rattle.dali_progress.proofs.Survey.Goes.{of_survey}
-use Rattle.dali_progress.proofs.Survey.Given.{Gives, all_give}
+use Rattle.dali_progress.proofs.Gives.{Gives, bare_before}
+use Rattle.dali_progress.proofs.Survey.Given.{all_give}
 use Rattle.dali_progress.proofs.Survey.Marked.{IsHeld, AreHeld, end_held}
 
 -- WHERE AN ADDRESS IS VACANT FOR EACH GEAR WITHOUT, a survey ends with all-found.
@@ -122,18 +123,9 @@ fewer_left : (b : Block) (gs hs : List Gear) (xs : List ℕ) → Gives b gs hs �
     → count_by is_bare hs + length xs ≤ count_by is_bare gs
 fewer_left b gs hs xs gives once vacant held =
     let all = all_counted xs hs once held in
-    let both = two_counts is_bare (has_one xs) is_bare gs hs gives.count still given never in
+    let both = two_counts is_bare (has_one xs) is_bare gs hs gives.count (bare_before b gs hs gives) given never in
     omega (arith, all, both)
   where
-    still : (k : ℕ) → k < length gs → is_bare (gear_of hs k) ≡ true → is_bare (gear_of gs k) ≡ true
-    still k there none =
-        let is = bare_is (gear_of hs k) none in
-        is_bare_by (gear_of gs k) (sym (gives.power k there) ∙ is.0) (was (gear_of gs k).short refl is.1)
-      where
-        was : (o : Option ℕ) → (gear_of gs k).short ≡ o → (gear_of hs k).short ≡ None → (gear_of gs k).short ≡ None
-        was None is now = is
-        was (Some a) is now = absurd (let both : Some a ≡ None = sym (gives.short k a there is) ∙ now in cc)
-
     given : (k : ℕ) → k < length gs → has_one xs (gear_of hs k) ≡ true → is_bare (gear_of gs k) ≡ true
     given k there is = go (one_had xs (gear_of hs k) is) where
       go : (a : ℕ) × Has xs a × ((gear_of hs k).short ≡ Some a) → is_bare (gear_of gs k) ≡ true
