@@ -139,7 +139,7 @@ named Any s c es e a rounds ended =
 -- ---------------------------------------------------------------- its numbers
 
 survey_spent : (any : Bool) (s : SiteState) (c left : ℕ) (es : List Event) → IsAlone s c → Runs (of_survey (survey.began_at any s)) s c left
-    → numbers_for (most_drawn any) (length (world s).gear) ≤ length (world s).left → Rounds true s c es
+    → numbers_for (most_drawn any) (bare s) ≤ length (world s).left → Rounds true s c es
     → IsPumpRefused (site_after s es) trouble.None refusal.DrawsSpent → ⊥
 survey_spent any s c left es a runs enough rounds =
     drawing.never_spent (of_survey (survey.began_at any s)) (survey.argument (survey.began_at any s)) (HasNumbers any)
@@ -150,7 +150,7 @@ survey_spent any s c left es a runs enough rounds =
     (same_some (machine_at s c) (at_first c (controller_at (world s) c).records) m a.machine there) enough))
 
 pub never_spent : (b : Beginning) (s : SiteState) (c : ℕ) (es : List Event) → BeginsAlone b s c
-    → most_draws b * length (world s).gear ≤ length (world s).left → Rounds (by_survey b) s c es
+    → most_draws b * bare s ≤ length (world s).left → Rounds (by_survey b) s c es
     → IsPumpRefused (site_after s es) trouble.None refusal.DrawsSpent → ⊥
 never_spent ByStart s c es a enough rounds =
     drawing.never_spent (measure ByStart s) (argues ByStart s) LeavesDraws (start_draws (world s).gear) s c (most_frames ByStart (bare s)) es

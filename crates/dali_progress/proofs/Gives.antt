@@ -1,4 +1,4 @@
-use Rattle.std.proofs.Common.{◌≡◌, ℕ, ◌<◌, ◌≤◌, ◌⊎◌, inl, inr, true, List, [], ◌∷◌, ◌++◌, refl, sym, subst, ◌∙◌, length, Option, Some, None}
+use Rattle.std.proofs.Common.{◌≡◌, ℕ, ◌<◌, ◌≤◌, ◌⊎◌, inl, inr, true, List, ◌++◌, refl, sym, subst, ◌∙◌, length, Option, Some, None}
 use Rattle.std.specs.List.{count_by}
 use Rattle.dali_frame.specs.declared.frames.Forward.{Forward}
 use Rattle.dali_frame.specs.declared.frames.Answer.{Answer}
@@ -21,7 +21,7 @@ use Rattle.dali_events.proofs.Invariant.Gifts.{Change, Given, frame_changes}
 use Rattle.dali_events.proofs.Invariant.Safe.{Holds, holds_after}
 use Rattle.dali_events.proofs.Invariant.Sending.{follows_of, knows_running}
 use Rattle.dali_events.proofs.Search.Wanted.{after_at, count_at_most, is_bare_by, bare_is}
-use Rattle.dali_world.specs.Site.{SiteState, world, site_logged}
+use Rattle.dali_world.specs.Site.{SiteState, world}
 use Rattle.dali_world.proofs.Logs.{records_now}
 use Rattle.dali_progress.proofs.Logged.{kept_now}
 use Rattle.dali_progress.proofs.Both.{has_address}

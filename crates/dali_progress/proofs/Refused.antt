@@ -276,7 +276,7 @@ run_with_room b limit n between sent text m ran enough room = go (run_to b limit
 -- A RUN WITH ROOM AND NUMBERS COMMISSIONS
 pub run_commissions : (b : Beginning) (limit : ℕ) (n between : Installation) (sent : ℕ) (text : List ℕ) (m : Installation)
     → RanAlone b limit n between sent text m → most_events b (bare n.site) < limit + begun (by_survey b) → HasRoom b n.site
-    → most_draws b * length (world n.site).gear ≤ length (world n.site).left → HasEndedBy b n.site m.site 0
+    → most_draws b * bare n.site ≤ length (world n.site).left → HasEndedBy b n.site m.site 0
 run_commissions b limit n between sent text m ran enough room numbers = go (run_to b limit n between sent text m ran enough room) where
   go : HasEndedBy b n.site m.site 0 ⊎ IsSpentOut (by_survey b) n.site m.site → HasEndedBy b n.site m.site 0
   go (inl ended) = ended
@@ -349,10 +349,10 @@ new_of : (b : Beginning) (limit : ℕ) (p : Plan) (k : Block) (between : Install
 new_of b limit p k between sent text m plan spares blocks few one numbers enough begins ran =
     run_commissions b limit (installation_of p) between sent text m (ran_new b limit p k between sent text m plan blocks begins ran)
     (enough_new b p (limit + begun (by_survey b)) enough) (room_new b p plan spares few)
-    (rw one (all (length (world (installation_of p).site).gear) (length p.draws) (subst (λ x. x ≤ length p.draws) (sym (start_count p)) numbers)))
+    (rw one (all (bare (opened_site p 64 65536)) p.gear (length p.draws) (bare_few p) numbers))
   where
-    all : (gear draws : ℕ) → gear ≤ draws → 1 * gear ≤ draws
-    all gear draws few = omega (arith, few)
+    all : (without gear draws : ℕ) → without ≤ gear → gear ≤ draws → 1 * without ≤ draws
+    all without gear draws fewer few = omega (arith, fewer, few)
 
 -- nothing is kept there, so whatever begins by a survey is settled
 pub new_commissions : (b : Beginning) (limit : ℕ) (p : Plan) (k : Block) (between : Installation) (sent : ℕ) (text : List ℕ) (m : Installation) → IsPlan p

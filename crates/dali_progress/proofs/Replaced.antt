@@ -15,7 +15,7 @@ few_events : (n : ℕ) → n ≤ 1 → (limit : ℕ) → 1092 < limit → most_e
 few_events n few limit enough = omega (arith, few, enough)
 
 pub run_served : (limit g a : ℕ) (n between : Installation) (sent : ℕ) (text : List ℕ) (m : Installation) → RanAlone Settled limit n between sent text m
-    → HasNew n.site 0 g a → HasRoom Settled n.site → length (world n.site).gear ≤ length (world n.site).left → 1092 < limit
+    → HasNew n.site 0 g a → HasRoom Settled n.site → 0 < length (world n.site).left → 1092 < limit
     → (e : End) × HasEnded m.site 0 e × IsServed n.site m.site 0 g e
 run_served limit g a n between sent text m ran new room numbers enough = (
   by.outcome,
@@ -24,11 +24,11 @@ run_served limit g a n between sent text m ran new room numbers enough = (
       (served n.site 0 g a by.events by.outcome ran.alone new by.rounds (subst (λ (t : SiteState). HasEnded t 0 by.outcome) by.is by.ended)),
 )
   where
-    once : (gear left : ℕ) → gear ≤ left → 1 * gear ≤ left
-    once gear left few = omega (arith, few)
+    once : (without left : ℕ) → without ≤ 1 → 0 < left → 1 * without ≤ left
+    once without left few some = omega (arith, few, some)
 
     by : HasEndedBy Settled n.site m.site 0
     by =
         run_commissions Settled limit n between sent text m ran
         (few_events (bare n.site) (one_new n.site 0 g a new) limit enough) room
-        (once (length (world n.site).gear) (length (world n.site).left) numbers)
+        (once (bare n.site) (length (world n.site).left) (one_new n.site 0 g a new) numbers)

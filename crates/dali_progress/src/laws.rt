@@ -183,14 +183,15 @@ pub fn a_run_ends()
         → HasEndedBy b (installation_of p).site m.site 0 ⊎ IsPumpRefused m.site trouble.None refusal.DrawsSpent }
 {}
 
-/// AND WITH NUMBERS IT COMMISSIONS. Where there also are numbers to be drawn for each gear as often as it draws one, no
-/// call is refused, and the run ends with the end of the controller, which is true (`alone`). So it does on a new
+/// AND WITH NUMBERS IT COMMISSIONS. Where there also are numbers to be drawn for each gear with power and without short
+/// address, as often as it draws one, no call is refused, and the run ends with the end of the controller, which is
+/// true (`alone`). So it does on a new
 /// installation of such a plan with no fewer numbers than gear (`new`), however the controller begins.
 pub fn a_run_commissions()
     ensures alone { (b : Beginning) (limit : ℕ) (n between : Installation) (sent : ℕ) (text : List ℕ)
         (m : Installation) → RanAlone b limit n between sent text m
         → most_events b (bare n.site) < limit + begun (by_survey b) → HasRoom b n.site
-        → most_draws b * length (world n.site).gear ≤ length (world n.site).left → HasEndedBy b n.site m.site 0 }
+        → most_draws b * bare n.site ≤ length (world n.site).left → HasEndedBy b n.site m.site 0 }
     ensures new { (b : Beginning) (limit : ℕ) (p : Plan) (k : Block) (between : Installation) (sent : ℕ)
         (text : List ℕ) (m : Installation) → IsPlan p → SparesUsedOf b p → p.blocks ≡ k ∷ [] → p.gear ≤ 128
         → p.gear ≤ length p.draws → most_events b p.gear < limit + begun (by_survey b)
@@ -210,7 +211,7 @@ pub fn a_run_commissions()
 /// Each other gear keeps its address and its random address (`keeps`), and the table names it, unless it had no power
 /// or no number that gear draw (`named`); with any records.
 ///
-/// A run of more than 1092 rounds that begins so, with room and a number left for each gear, ends so (`run`).
+/// A run of more than 1092 rounds that begins so, with room and a number left to draw, ends so (`run`).
 pub fn a_replaced_gear_gets_the_address()
     ensures served { (s : SiteState) (c g a : ℕ) (es : List Event) (e : End) → BeginsAlone Settled s c → HasNew s c g a
         → Rounds true s c es → HasEnded (site_after s es) c e → IsServed s (site_after s es) c g e }
@@ -224,7 +225,7 @@ pub fn a_replaced_gear_gets_the_address()
         → HasEnded (site_after s es) c e → AreNamed s (site_after s es) c }
     ensures run { (limit g a : ℕ) (n between : Installation) (sent : ℕ) (text : List ℕ) (m : Installation)
         → RanAlone Settled limit n between sent text m → HasNew n.site 0 g a → HasRoom Settled n.site
-        → length (world n.site).gear ≤ length (world n.site).left → 1092 < limit
+        → 0 < length (world n.site).left → 1092 < limit
         → (e : End) × HasEnded m.site 0 e × IsServed n.site m.site 0 g e }
 {}
 
