@@ -10,6 +10,7 @@ use Rattle.dali_script.specs.declared.orders.End.{End}
 use Rattle.dali_controller.specs.Machine.{Machine, at_first}
 use Rattle.dali_events.specs.declared.event.Event.{Event}
 use Rattle.dali_events.specs.World.{controller_at}
+use Rattle.dali_events.specs.Runs.{IsRun}
 use Rattle.dali_world.specs.Site.{SiteState, world, machine_at, IsPumpRefused}
 use Rattle.dali_standing.specs.Seats.{informed_by}
 use Rattle.dali_standing.specs.declared.refusal.Refusal.TheVariants as refusal
@@ -79,7 +80,9 @@ few_events b s c es a rounds =
 
 -- what is so after rounds: it goes together with its bus, and did not halt
 pub record IsAfter (s : SiteState) (c : ℕ) : Type 0 where
+  pub run : IsRun s.plan s.queue s.log
   pub machine : Machine
+  pub there : machine_at s c ≡ Some machine
   pub lone : IsLone (world s) s.queue c machine
   pub halts : (why : Fault) → (controller_at (world s) c).last ≡ Some (Halt why) → (controller_at (world s) c).told ≡ None → ⊥
 
@@ -87,7 +90,9 @@ pub after : (b : Beginning) (s : SiteState) (c : ℕ) (es : List Event) → Begi
 after b s c es a rounds =
     let all = runs_after b s c es a rounds in
     record {
+      run = all.runs.run;
       machine = all.runs.machine;
+      there = all.runs.there;
       lone = all.runs.goes.lone;
       halts = never_halts (measure b s) (argues b s) (site_after s es) c all.rest all.runs;
     }
@@ -134,7 +139,7 @@ named Any s c es e a rounds ended =
 -- ---------------------------------------------------------------- its numbers
 
 survey_spent : (any : Bool) (s : SiteState) (c left : ℕ) (es : List Event) → IsAlone s c → Runs (of_survey (survey.began_at any s)) s c left
-    → numbers_for (most_drawn any) (length (world s).gear) ≤ length (world s).left → Rounds true s c es
+    → numbers_for (most_drawn any) (bare s) ≤ length (world s).left → Rounds true s c es
     → IsPumpRefused (site_after s es) trouble.None refusal.DrawsSpent → ⊥
 survey_spent any s c left es a runs enough rounds =
     drawing.never_spent (of_survey (survey.began_at any s)) (survey.argument (survey.began_at any s)) (HasNumbers any)
@@ -145,7 +150,7 @@ survey_spent any s c left es a runs enough rounds =
     (same_some (machine_at s c) (at_first c (controller_at (world s) c).records) m a.machine there) enough))
 
 pub never_spent : (b : Beginning) (s : SiteState) (c : ℕ) (es : List Event) → BeginsAlone b s c
-    → most_draws b * length (world s).gear ≤ length (world s).left → Rounds (by_survey b) s c es
+    → most_draws b * bare s ≤ length (world s).left → Rounds (by_survey b) s c es
     → IsPumpRefused (site_after s es) trouble.None refusal.DrawsSpent → ⊥
 never_spent ByStart s c es a enough rounds =
     drawing.never_spent (measure ByStart s) (argues ByStart s) LeavesDraws (start_draws (world s).gear) s c (most_frames ByStart (bare s)) es

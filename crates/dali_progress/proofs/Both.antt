@@ -1,5 +1,5 @@
 use Rattle.dali_progress.specs.Rounds.{Succeeds, IsOfRound}
-use Rattle.std.proofs.Common.{◌≡◌, ℕ, ◌+◌, ◌<◌, ◌≤◌, inl, inr, Bool, true, false, suc, List, [], ◌∷◌, ◌++◌, refl, sym, ap, subst, ◌∙◌, arith, length, Option}
+use Rattle.std.proofs.Common.{◌≡◌, ℕ, ◌+◌, ◌<◌, ◌≤◌, ◌⊎◌, inl, inr, Bool, true, false, suc, List, [], ◌∷◌, ◌++◌, refl, sym, ap, subst, ◌∙◌, arith, Option}
 use Rattle.std.proofs.Common.{Some, None}
 use Rattle.std.specs.Prelude.{if◌then◌else◌, ◌&&◌}
 use Rattle.dali_frame.specs.declared.numbers.SearchAddress.{SearchAddress}
@@ -39,7 +39,10 @@ use Rattle.dali_events.specs.Happens.{happens, is_arc}
 use Rattle.dali_events.specs.Allowed.{Allowed}
 use Rattle.dali_events.specs.Runs.{AreDrawn, IsRun}
 use Rattle.dali_events.specs.Searching.{number_at}
-use Rattle.dali_events.specs.Wanted.{Seek}
+use Rattle.dali_events.specs.Wanted.{Seek, OfPowered, is_bare}
+use Rattle.std.specs.List.{count_by}
+use Rattle.std.proofs.lemmas.List.Sums.{sum_by-cons}
+use Rattle.dali_progress.proofs.Tables.{StandsStill, still_twice}
 use Rattle.dali_events.proofs.Search.Heard.{opened_apart}
 use Rattle.dali_special.specs.declared.command.Target.TheVariants.{Unaddressed}
 use Rattle.dali_gear.specs.declared.row.Reach.{Reach}
@@ -147,15 +150,7 @@ taken_of w c f h here known heard = record {
 
 -- ---------------------------------------------------------------- the numbers that gear draw
 
--- no more numbers than gear
-pub needs_few : (reach : Reach) (c : Command) (k : ℕ) (gs : List Gear) → draws_needed reach c k gs ≤ length gs
-needs_few reach c k [] = omega arith
-needs_few reach c k (g ∷ gs) = go (takes reach k g && draws_a_number c g) (draws_needed reach c (k + 1) gs) (needs_few reach c (k + 1) gs) where
-  go : (b : Bool) (n : ℕ) → n ≤ length gs → (if b then 1 else 0) + n ≤ suc (length gs)
-  go true n less = omega (arith, less)
-  go false n less = omega (arith, less)
-
--- and where none is drawn, all are left
+-- where none is drawn, all are left
 pub left_same : (reach : Reach) (c : Command) (k : ℕ) (gs : List Gear) (left : List ℕ) → draws_needed reach c k gs ≡ 0 → row_left reach c k gs left ≡ left
 left_same reach c k [] left none = refl
 left_same reach c k (g ∷ gs) left none = go (takes reach k g && draws_a_number c g) none (λ more. left_same reach c (k + 1) gs left more) where
@@ -200,31 +195,69 @@ pub none_apart : (p : Purpose) (n : SearchAddress) (k : Kept) (s : Stage) (gs : 
     → draws_needed Everyone c 0 gs ≡ 0
 none_apart p n k s gs c never is = needs_none Everyone c 0 gs (λ e. never (subst (λ d. Sends p n k s d) e is))
 
-pub enough_left : (gs : List Gear) (numbers : List ℕ) (c : Command) → length gs ≤ length numbers → draws_needed Everyone c 0 gs ≤ length numbers
-enough_left gs numbers c enough = let few = needs_few Everyone c 0 gs in omega (arith, few, enough)
-
 -- whether an opening is complete
 abbrev pub is_complete : Stage → Bool
 is_complete stage.Opened = true
 is_complete _ = false
 
--- where the opening is still not complete, none was drawn
+-- gear draw at the last frame of an opening alone, and then those alone that have no short address
+abbrev pub DrawsOnce : Stage → Command → List Gear → Type 0
+DrawsOnce s c gs = (draws_needed Everyone c 0 gs ≡ 0) ⊎ ((s ≡ stage.RandomisedOnce) × (c ≡ Randomise) × AreOpening stage.RandomisedOnce gs)
+
+needs_bare : (k : ℕ) (gs : List Gear) → OfPowered gs StandsStill → draws_needed Everyone Randomise k gs ≤ count_by is_bare gs
+needs_bare k [] still = omega arith
+needs_bare k (g ∷ gs) still =
+    subst (λ n. draws_needed Everyone Randomise k (g ∷ gs) ≤ n) (sym (sum_by-cons (λ x. if is_bare x then 1 else 0) g gs))
+    (more (takes Everyone k g && draws_a_number Randomise g) (is_bare g) (draws_needed Everyone Randomise (k + 1) gs) (count_by is_bare gs)
+    (one g.powered refl g.short refl (still 0 (omega arith))) (needs_bare (k + 1) gs (λ j there. still (suc j) (omega (arith, there)))))
+  where
+    more : (a b : Bool) (m n : ℕ) → (a ≡ true → b ≡ true) → m ≤ n → (if a then 1 else 0) + m ≤ (if b then 1 else 0) + n
+    more true true m n pass few = omega (arith, few)
+    more true false m n pass few = absurd (let both : false ≡ true = pass refl in cc)
+    more false true m n pass few = omega (arith, few)
+    more false false m n pass few = omega (arith, few)
+
+    one : (p : Bool) → g.powered ≡ p → (o : Option ℕ) → g.short ≡ o → (g.powered ≡ true → StandsStill g)
+        → (takes Everyone k g && draws_a_number Randomise g) ≡ true → is_bare g ≡ true
+    one false off o short stands is = absurd (let never : false ≡ true = subst (λ p. ((p && true) && draws_a_number Randomise g) ≡ true) off is in cc)
+    one true on None short stands is = rw (on, short) refl
+    one true on (Some a) short stands is =
+        absurd (let still : draws_a_number Randomise g ≡ false = stands on a short in
+        let none : (takes Everyone k g && false) ≡ true = subst (λ b. (takes Everyone k g && b) ≡ true) still is in never (takes Everyone k g) none)
+      where
+        never : (t : Bool) → (t && false) ≡ true → ⊥
+        never true e = cc
+        never false e = cc
+
+pub draws_few : (s : Stage) (c : Command) (gs : List Gear) → DrawsOnce s c gs → draws_needed Everyone c 0 gs ≤ count_by is_bare gs
+draws_few s c gs (inl none) = omega (arith, none)
+draws_few s c gs (inr (at, is, gear)) = subst (λ d. draws_needed Everyone d 0 gs ≤ count_by is_bare gs) (sym is) (needs_bare 0 gs (still_twice gs gear))
+
+-- so where the opening is still not complete, none was drawn
+pub closed_none : (s : Stage) (c : Command) (h : Answer) (gs : List Gear) → DrawsOnce s c gs → is_complete (next_stage s c h) ≡ false
+    → draws_needed Everyone c 0 gs ≡ 0
+closed_none s c h gs (inl none) closed = none
+closed_none s c h gs (inr (at, is, gear)) closed =
+    absurd (let both : true ≡ false =
+    subst (λ d. is_complete (next_stage stage.RandomisedOnce d h) ≡ false) is (subst (λ t. is_complete (next_stage t c h) ≡ false) at closed) in cc)
+
+pub opening_draws : (s : Stage) (k : Kept) (n : SearchAddress) (gs : List Gear) (left : ℕ) (c : Command) → Opens s gs left → Sends Opening n k s c
+    → DrawsOnce s c gs
+opening_draws stage.Free k n gs left c o is = inl (needs_none Everyone c 0 gs (λ e. (let other : Terminate ≡ Randomise = sym is ∙ e in cc)))
+opening_draws stage.Terminated k n gs left c o is =
+    inl (needs_none Everyone c 0 gs (λ e. (let other : Some (Initialise Unaddressed) ≡ Some Randomise =
+    subst (λ d. Some (Initialise Unaddressed) ≡ Some d) e is in cc)))
+opening_draws stage.InitialisedOnce k n gs left c o is =
+    inl (needs_none Everyone c 0 gs (λ e. (let other : Some (Initialise Unaddressed) ≡ Some Randomise =
+    subst (λ d. Some (Initialise Unaddressed) ≡ Some d) e is in cc)))
+opening_draws stage.Initialised k n gs left c o is =
+    let same : Randomise ≡ c = cc in
+    inl (subst (λ d. draws_needed Everyone d 0 gs ≡ 0) same (none_first 0 gs o.gear))
+opening_draws stage.RandomisedOnce k n gs left c o is = inr (refl, (let same : c ≡ Randomise = cc in same), o.gear)
+opening_draws stage.Opened k n gs left c o is = absurd (cc)
+opening_draws _ k n gs left c o is = absurd o.stage_is
+
 pub opening_none : (s : Stage) (k : Kept) (n : SearchAddress) (gs : List Gear) (left : ℕ) (c : Command) (h : Answer) → Opens s gs left
     → Sends Opening n k s c → is_complete (next_stage s c h) ≡ false
     → draws_needed Everyone c 0 gs ≡ 0
-opening_none stage.Free k n gs left c h o is closed = needs_none Everyone c 0 gs (λ e. (let other : Terminate ≡ Randomise = sym is ∙ e in cc))
-opening_none stage.Terminated k n gs left c h o is closed =
-    needs_none Everyone c 0 gs (λ e. (let other : Some (Initialise Unaddressed) ≡ Some Randomise = subst (λ d. Some (Initialise Unaddressed) ≡ Some d) e is in
-    cc))
-opening_none stage.InitialisedOnce k n gs left c h o is closed =
-    needs_none Everyone c 0 gs (λ e. (let other : Some (Initialise Unaddressed) ≡ Some Randomise = subst (λ d. Some (Initialise Unaddressed) ≡ Some d) e is in
-    cc))
-opening_none stage.Initialised k n gs left c h o is closed =
-    let same : Randomise ≡ c = cc in
-    subst (λ d. draws_needed Everyone d 0 gs ≡ 0) same (none_first 0 gs o.gear)
-opening_none stage.RandomisedOnce k n gs left c h o is closed =
-    let same : Randomise ≡ c = cc in
-    let both : true ≡ false = subst (λ d. is_complete (next_stage stage.RandomisedOnce d h) ≡ false) (sym same) closed in
-    absurd (cc)
-opening_none stage.Opened k n gs left c h o is closed = absurd (cc)
-opening_none _ k n gs left c h o is closed = absurd o.stage_is
+opening_none s k n gs left c h o is closed = closed_none s c h gs (opening_draws s k n gs left c o is) closed

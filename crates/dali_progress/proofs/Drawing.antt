@@ -1,5 +1,5 @@
 use Rattle.dali_controller.specs.Orders.{IsGiven, machine_after}
-use Rattle.dali_gear.specs.Row.{row_after, row_left, draws_needed}
+use Rattle.dali_gear.specs.Row.{row_after, row_left, draws_needed, answers_of, heard_of}
 use Rattle.dali_standing.specs.Seats.{MayAnswer, informed_by}
 use Rattle.dali_world.specs.Site.{SiteState, world, site_logged, machine_at, IsPumpRefused}
 use Rattle.std.proofs.Common.{◌≡◌, ℕ, ◌<◌, ◌≤◌, List, [], ◌∷◌, sym, ap, subst, ◌∙◌, arith, length, Some, None}
@@ -26,74 +26,82 @@ use Rattle.dali_standing.specs.Standing.{machine_in}
 use Rattle.dali_standing.specs.declared.refusal.Refusal.TheVariants as refusal
 use Rattle.dali_events.specs.declared.trouble.Trouble.TheVariants as trouble
 
--- THE NUMBERS THAT GEAR DRAW are never spent, in both arguments: where there is one for each gear at the start, as long as
--- something is so of machine, gear and numbers (P).
+-- WHAT STAYS SO of machine, gear and numbers (P), in both arguments. And the numbers that gear draw are never spent: where
+-- there is one for each gear at the start, as long as something is so.
 
--- as the controller acts, and as its frame is sent, it stays so; and then there are numbers enough for the frame
-pub record Draws (M : Measure) (P : Machine → List Gear → List ℕ → Type 0) : Type 0 where
+-- as the controller acts, and as its frame is sent, it stays so
+pub record Stays (M : Measure) (P : Machine → List Gear → List ℕ → Type 0) : Type 0 where
   pub acts : (s : SiteState) (c left l : ℕ) (i : Input) (o : Order) → (u : Runs M s c left) → Allowed (world s) (event.Acted c i o) → Succeeds M.by i
       → IsGiven u.machine i o → M.holds (machine_after u.machine i o) (Some o) None (world (site_logged s (event.Acted c i o))).gear l
       → P (informed_by u.machine (controller_at (world s) c).told) (world s).gear (world s).left
       → P (machine_after u.machine i o) (world s).gear (world s).left
-  pub sends : (m : Machine) (p : ℕ) (f : Forward) (h : Answer) (gs : List Gear) (numbers : List ℕ) (left : ℕ) → m.last ≡ Some (Put p f)
-      → M.holds m (Some (Put p f)) None gs left → P m gs numbers
-      → P (machine_told m (input.Heard h)) (row_after Everyone (command_of f) 0 gs numbers) (row_left Everyone (command_of f) 0 gs numbers)
+  pub sends : (s : SiteState) (c left p : ℕ) (f : Forward) (h : Answer) → (u : Runs M s c left) → Allowed (world s) (event.Sent c f h)
+      → h ≡ heard_of (answers_of Everyone (command_of f) 0 (world s).gear) → u.machine.last ≡ Some (Put p f)
+      → M.holds u.machine (Some (Put p f)) None (world s).gear left → P u.machine (world s).gear (world s).left
+      → P (machine_told u.machine (input.Heard h)) (row_after Everyone (command_of f) 0 (world s).gear (world s).left)
+      (row_left Everyone (command_of f) 0 (world s).gear (world s).left)
+
+-- and then there are numbers enough for the frame
+pub record Draws (M : Measure) (P : Machine → List Gear → List ℕ → Type 0) : Type 0 where
+  pub stays : Stays M P
   pub enough : (m : Machine) (p : ℕ) (f : Forward) (gs : List Gear) (numbers : List ℕ) (left : ℕ) → m.last ≡ Some (Put p f)
       → M.holds m (Some (Put p f)) None gs left → P m gs numbers → draws_needed Everyone (command_of f) 0 gs ≤ length numbers
 
 -- a site on which it is so
-abbrev pub DrawsAt : (Machine → List Gear → List ℕ → Type 0) → SiteState → ℕ → Type 0
-DrawsAt P s c = (m : Machine) → machine_at s c ≡ Some m → P (informed_by m (controller_at (world s) c).told) (world s).gear (world s).left
+abbrev pub StaysAt : (Machine → List Gear → List ℕ → Type 0) → SiteState → ℕ → Type 0
+StaysAt P s c = (m : Machine) → machine_at s c ≡ Some m → P (informed_by m (controller_at (world s) c).told) (world s).gear (world s).left
 
-draws_logged : (P : Machine → List Gear → List ℕ → Type 0) (s : SiteState) (c : ℕ) (e : Event) (m : Machine) → machine_at (site_logged s e) c ≡ Some m
-    → P (informed_by m (controller_at (happens (world s) e) c).told) (happens (world s) e).gear (happens (world s) e).left → DrawsAt P (site_logged s e) c
-draws_logged P s c e m there has n at =
+stays_logged : (P : Machine → List Gear → List ℕ → Type 0) (s : SiteState) (c : ℕ) (e : Event) (m : Machine) → machine_at (site_logged s e) c ≡ Some m
+    → P (informed_by m (controller_at (happens (world s) e) c).told) (happens (world s) e).gear (happens (world s) e).left → StaysAt P (site_logged s e) c
+stays_logged P s c e m there has n at =
     subst (λ (t : Machine). P (informed_by t (controller_at (world (site_logged s e)) c).told) (world (site_logged s e)).gear (world (site_logged s e)).left)
     (same_some (machine_at (site_logged s e) c) m n there at)
     (subst (λ (w : World). P (informed_by m (controller_at w c).told) w.gear w.left) (sym (world_logged s e)) has)
 
-module _ (M : Measure) (a : Argument M) (P : Machine → List Gear → List ℕ → Type 0) (d : Draws M P) where
-  acted_draws : (s : SiteState) (c left l : ℕ) (i : Input) (o : Order) → Runs M s c left → Runs M (site_logged s (event.Acted c i o)) c l
-      → Allowed (world s) (event.Acted c i o) → Succeeds M.by i → MayAnswer (machine_at s c) i o → DrawsAt P s c
-      → DrawsAt P (site_logged s (event.Acted c i o)) c
-  acted_draws s c left l i o u v here good may has =
+module _ (M : Measure) (a : Argument M) (P : Machine → List Gear → List ℕ → Type 0) (d : Stays M P) where
+  acted_stays : (s : SiteState) (c left l : ℕ) (i : Input) (o : Order) → Runs M s c left → Runs M (site_logged s (event.Acted c i o)) c l
+      → Allowed (world s) (event.Acted c i o) → Succeeds M.by i → MayAnswer (machine_at s c) i o → StaysAt P s c
+      → StaysAt P (site_logged s (event.Acted c i o)) c
+  acted_stays s c left l i o u v here good may has =
       let w : World = world s in
       let there = acted_machine s c i o u.machine u.there in
       let last = ap (λ x. (controller_at x c).last) (world_logged s (event.Acted c i o)) ∙ acted_last w c i o u.goes.lone.up in
       let told = ap (λ x. (controller_at x c).told) (world_logged s (event.Acted c i o)) ∙ acted_told w c i o u.goes.lone.up in
-      draws_logged P s c (event.Acted c i o) (machine_after u.machine i o) there
+      stays_logged P s c (event.Acted c i o) (machine_after u.machine i o) there
       (subst (λ t. P (informed_by (machine_after u.machine i o) t) w.gear w.left) (sym (acted_told w c i o u.goes.lone.up))
       (d.acts s c left l i o u here good (subst (λ n. MayAnswer n i o) u.there may)
       (held M (site_logged s (event.Acted c i o)) c l (machine_after u.machine i o) (Some o) None v there last told) (has u.machine u.there)))
 
-  sent_draws : (s : SiteState) (c left p : ℕ) (f : Forward) (h : Answer) → (u : Runs M s c left) → u.machine.last ≡ Some (Put p f)
-      → (controller_at (world s) c).told ≡ None → DrawsAt P s c → DrawsAt P (site_logged s (event.Sent c f h)) c
-  sent_draws s c left p f h u last told has =
+  sent_stays : (s : SiteState) (c left p : ℕ) (f : Forward) (h : Answer) → (u : Runs M s c left) → Allowed (world s) (event.Sent c f h)
+      → h ≡ heard_of (answers_of Everyone (command_of f) 0 (world s).gear) → u.machine.last ≡ Some (Put p f)
+      → (controller_at (world s) c).told ≡ None → StaysAt P s c → StaysAt P (site_logged s (event.Sent c f h)) c
+  sent_stays s c left p f h u here heard last told has =
       let w : World = world s in
-      draws_logged P s c (event.Sent c f h) u.machine (ap (λ ms. machine_in ms c) (machines_logged s (event.Sent c f h)) ∙ u.there)
+      stays_logged P s c (event.Sent c f h) u.machine (ap (λ ms. machine_in ms c) (machines_logged s (event.Sent c f h)) ∙ u.there)
       (subst (λ t. P (informed_by u.machine t) (row_after Everyone (command_of f) 0 w.gear w.left) (row_left Everyone (command_of f) 0 w.gear w.left))
       (sym (lone_sent w s.queue c u.machine p f h u.goes.lone last told).1)
-      (d.sends u.machine p f h w.gear w.left left last (held M s c left u.machine (Some (Put p f)) None u u.there (sym u.goes.lone.last ∙ last) told)
+      (d.sends s c left p f h u here heard last (held M s c left u.machine (Some (Put p f)) None u u.there (sym u.goes.lone.last ∙ last) told)
       (subst (λ t. P (informed_by u.machine t) w.gear w.left) told (has u.machine u.there))))
 
-  draws_on : (s : SiteState) (c left l : ℕ) (e : Event) → Runs M s c left → Runs M (site_logged s e) c l → Allowed (world s) e → IsOfRound M.by s c e
-      → DrawsAt P s c → DrawsAt P (site_logged s e) c
-  draws_on s c left l (event.Acted x i o) u v here of has =
-      subst (λ n. Runs M (site_logged s (event.Acted n i o)) c l → Allowed (world s) (event.Acted n i o) → DrawsAt P (site_logged s (event.Acted n i o)) c)
-      (sym of.0) (λ v now. acted_draws s c left l i o u v now of.1 of.2 has) v here
-  draws_on s c left l (event.Sent x f h) u v here of has =
+  stays_on : (s : SiteState) (c left l : ℕ) (e : Event) → Runs M s c left → Runs M (site_logged s e) c l → Allowed (world s) e → IsOfRound M.by s c e
+      → StaysAt P s c → StaysAt P (site_logged s e) c
+  stays_on s c left l (event.Acted x i o) u v here of has =
+      subst (λ n. Runs M (site_logged s (event.Acted n i o)) c l → Allowed (world s) (event.Acted n i o) → StaysAt P (site_logged s (event.Acted n i o)) c)
+      (sym of.0) (λ v now. acted_stays s c left l i o u v now of.1 of.2 has) v here
+  stays_on s c left l (event.Sent x f h) u v here of has =
       let put = lone_next (world s) s.queue c u.machine of.0 u.goes.lone of.1 in
-      subst (λ n. DrawsAt P (site_logged s (event.Sent n f h)) c) (sym (of.2 ∙ put.3))
-      (sent_draws s c left put.0 f h u (subst (λ g. u.machine.last ≡ Some (Put put.0 g)) (sym of.3) put.1) put.2 has)
-  draws_on s c left l _ u v here of has = absurd of
+      subst (λ n. Allowed (world s) (event.Sent n f h) → StaysAt P (site_logged s (event.Sent n f h)) c) (sym (of.2 ∙ put.3))
+      (λ now. sent_stays s c left put.0 f h u now of.4 (subst (λ g. u.machine.last ≡ Some (Put put.0 g)) (sym of.3) put.1) put.2 has) here
+  stays_on s c left l _ u v here of has = absurd of
 
-  draws_all : (s : SiteState) (c left : ℕ) (es : List Event) → Runs M s c left → Rounds M.by s c es → DrawsAt P s c → DrawsAt P (site_after s es) c
-  draws_all s c left [] u rounds has = has
-  draws_all s c left (e ∷ es) u rounds has =
+  pub stays_all : (s : SiteState) (c left : ℕ) (es : List Event) → Runs M s c left → Rounds M.by s c es → StaysAt P s c → StaysAt P (site_after s es) c
+  stays_all s c left [] u rounds has = has
+  stays_all s c left (e ∷ es) u rounds has =
       let on = runs_on M a s c left e u rounds.0 rounds.1 in
-      draws_all (site_logged s e) c on.rest es on.runs rounds.2 (draws_on s c left on.rest e u on.runs rounds.0 rounds.1 has)
+      stays_all (site_logged s e) c on.rest es on.runs rounds.2 (stays_on s c left on.rest e u on.runs rounds.0 rounds.1 has)
 
-  spent_never : (s : SiteState) (c left : ℕ) → Runs M s c left → DrawsAt P s c → IsPumpRefused s trouble.None refusal.DrawsSpent → ⊥
+module _ (M : Measure) (a : Argument M) (P : Machine → List Gear → List ℕ → Type 0) (d : Draws M P) where
+  spent_never : (s : SiteState) (c left : ℕ) → Runs M s c left → StaysAt P s c → IsPumpRefused s trouble.None refusal.DrawsSpent → ⊥
   spent_never s c left u has (r, is, spent) =
       let w : World = world s in
       let put = lone_next w s.queue c u.machine r u.goes.lone is in
@@ -105,7 +113,7 @@ module _ (M : Measure) (a : Argument M) (P : Machine → List Gear → List ℕ 
       never : (x y : ℕ) → x ≤ y → y < x → ⊥
       never x y enough less = omega (arith, enough, less)
 
-  pub never_spent : (s : SiteState) (c left : ℕ) (es : List Event) → Runs M s c left → Rounds M.by s c es → DrawsAt P s c
+  pub never_spent : (s : SiteState) (c left : ℕ) (es : List Event) → Runs M s c left → Rounds M.by s c es → StaysAt P s c
       → IsPumpRefused (site_after s es) trouble.None refusal.DrawsSpent → ⊥
   never_spent s c left es u rounds has =
-      let all = runs_all M a s c left es u rounds in spent_never (site_after s es) c all.rest all.runs (draws_all s c left es u rounds has)
+      let all = runs_all M a s c left es u rounds in spent_never (site_after s es) c all.rest all.runs (stays_all M a P d.stays s c left es u rounds has)

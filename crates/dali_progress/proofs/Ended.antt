@@ -1,6 +1,6 @@
 use Rattle.dali_progress.specs.Rounds.{most_events, Beginning, most_frames, Rounds, GoesOn, by_survey, IsAlone, bare, site_after, BeginsAlone}
 use Rattle.dali_progress.specs.Running.{HasEndedBy, WasRefused, HasBegun, begun, RanAlone}
-use Rattle.std.proofs.Common.{◌≡◌, ℕ, ◌+◌, ◌<◌, ◌≤◌, ◌⊎◌, inl, inr, Bool, true, false, List, sym, ap, subst, ◌∙◌, arith, length, Some, None}
+use Rattle.std.proofs.Common.{◌≡◌, ℕ, ◌+◌, ◌<◌, ◌≤◌, ◌⊎◌, inl, inr, Bool, true, false, List, refl, sym, ap, subst, ◌∙◌, arith, length, Some, None}
 use Rattle.dali_events.specs.declared.event.Event.{Event}
 use Rattle.dali_events.specs.World.{controller_at}
 use Rattle.dali_world.specs.Site.{SiteState, world, next_request}
@@ -53,7 +53,15 @@ over_ended : (b : Beginning) (s t : SiteState) (es : List Event) → BeginsAlone
 over_ended b s t es alone rounds is turn next = subst (λ x. HasEndedBy b s x 0) (sym is) (go (goes_on b s 0 es alone rounds)) where
   go : GoesOn (by_survey b) (site_after s es) 0 → HasEndedBy b s (site_after s es) 0
   go (inl (e, ended)) =
-      record { outcome = e; ended = ended; is_true = ends b s 0 es e alone rounds ended; named = named b s 0 es e alone rounds ended }
+      record {
+        events = es;
+        rounds = rounds;
+        is = refl;
+        outcome = e;
+        ended = ended;
+        is_true = ends b s 0 es e alone rounds ended;
+        named = named b s 0 es e alone rounds ended;
+      }
   go (inr (inl due)) =
       let none : has_turn (controller_at (world (site_after s es)) 0) ≡ false =
       subst (λ (x : SiteState). has_turn (controller_at (world x) 0) ≡ false) is turn in

@@ -5,6 +5,7 @@ mod Stands
 mod Frames
 mod Tables
 mod Both
+mod Gives
 mod Along
 mod Drawing
 mod Start
@@ -25,3 +26,4 @@ mod Beginnings
 mod Running
 mod Ended
 mod Refused
+mod Replaced

@@ -1,15 +1,16 @@
 use Rattle.dali_progress.specs.Rounds.{ByStart, BeginsAlone}
-use Rattle.std.proofs.Common.{◌≡◌, ℕ, ◌<◌, zero, suc, List, [], ◌∷◌, refl, ap, ◌∙◌, arith, length, get_or, get_or-set_same, Option, Some, None}
+use Rattle.std.proofs.Common.{◌≡◌, ℕ, ◌<◌, zero, suc, List, [], ◌∷◌, refl, ap, ◌∙◌, arith, length, get_or, get_or-set_same, Option, Some, None, subst}
+use Rattle.std.specs.Prelude.{slice_index_or}
 use Rattle.std.specs.Option.{option_map}
 use Rattle.dali_script.specs.declared.block.Block.{Block}
-use Rattle.dali_script.specs.Records.{IsKept}
+use Rattle.dali_script.specs.Records.{IsKept, InBlock}
 use Rattle.dali_script.specs.declared.orders.Input.{Input}
 use Rattle.dali_script.specs.declared.orders.Order.{Order}
 use Rattle.dali_controller.specs.Machine.{Machine}
 use Rattle.dali_controller.specs.Orders.{machine_after}
 use Rattle.dali_events.specs.declared.event.Event.{Event}
 use Rattle.dali_events.specs.declared.event.Event.TheVariants as event
-use Rattle.dali_events.specs.Plan.{Plan, IsPlan}
+use Rattle.dali_events.specs.Plan.{Plan, IsPlan, no_block}
 use Rattle.dali_events.specs.World.{controller_at, start}
 use Rattle.dali_events.specs.Happens.{happens}
 use Rattle.dali_events.specs.Allowed.{Allowed, IsUp}
@@ -64,6 +65,18 @@ drawn_now s run = are_drawn s.plan (world s) run.plan (draws_after s.plan s.queu
 
 pub kept_now : (s : SiteState) (c : ℕ) → IsRun s.plan s.queue s.log → IsUp (world s) c → IsKept (controller_at (world s) c).records
 kept_now s c run up = (records_now s.plan s.queue s.log run).kept c up.known
+
+-- the addresses of its block are short addresses
+within_block : (bs : List Block) (c a : ℕ) → ((i : ℕ) → i < length bs → InBlock (slice_index_or bs i no_block) a → a < 64)
+    → InBlock (slice_index_or bs c no_block) a → a < 64
+within_block [] c a all within = absurd (omega (arith, within.0, within.1))
+within_block (b ∷ bs) zero a all within = all 0 (omega arith) within
+within_block (b ∷ bs) (suc c) a all within = within_block bs c a (λ i there. all (suc i) (omega (arith, there))) within
+
+pub block_now : (s : SiteState) (c : ℕ) → IsRun s.plan s.queue s.log → IsUp (world s) c → (a : ℕ) → InBlock (controller_at (world s) c).records.block a → a < 64
+block_now s c run up a within =
+    within_block s.plan.blocks c a (λ i there in_block. run.plan.short i a there in_block)
+    (subst (λ b. InBlock b a) ((records_now s.plan s.queue s.log run).block c up.known) within)
 
 pub same_some : (x : Option Machine) (m n : Machine) → x ≡ Some m → x ≡ Some n → m ≡ n
 same_some x m n one two = cc

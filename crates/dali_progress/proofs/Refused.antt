@@ -14,31 +14,37 @@ use Rattle.dali_script.specs.declared.orders.Order.TheVariants.{Put, Commit, Don
 use Rattle.dali_script.specs.declared.orders.Due.{Due}
 use Rattle.dali_script.specs.declared.orders.Due.TheVariants as due
 use Rattle.dali_script.specs.Due.{due_after}
-use Rattle.dali_controller.specs.Machine.{Machine}
+use Rattle.dali_controller.specs.Machine.{Machine, machine_told}
+use Rattle.dali_controller.specs.Orders.{IsGiven as IsOrderGiven}
 use Rattle.dali_events.specs.declared.event.Event.{Event}
-use Rattle.dali_script.specs.Records.{Has}
+use Rattle.dali_script.specs.Records.{Kept, InBlock}
 use Rattle.dali_script.specs.declared.records.Record.TheVariants.{Reserve}
-use Rattle.dali_events.specs.declared.used.Used.{Used}
-use Rattle.dali_events.specs.Used.{used_shorts}
-use Rattle.dali_events.proofs.Invariant.Starting.{start_count}
-use Rattle.dali_events.specs.Plan.{Plan, IsPlan}
+use Rattle.dali_gear.specs.Gear.{Gear}
+use Rattle.dali_events.proofs.Invariant.Starting.{start_count, stands}
+use Rattle.dali_events.specs.Plan.{Plan, IsPlan, block_at}
+use Rattle.dali_events.specs.Runs.{IsRun}
 use Rattle.dali_events.specs.World.{World, Controller, controller_at}
 use Rattle.dali_events.specs.Allowed.{IsDue, IsCommit}
 use Rattle.dali_events.specs.Wanted.{is_bare}
 use Rattle.dali_standing.specs.declared.refusal.Refusal.{Refusal}
 use Rattle.dali_standing.specs.declared.refusal.Refusal.TheVariants as refusal
 use Rattle.dali_events.specs.declared.trouble.Trouble.TheVariants as trouble
-use Rattle.dali_standing.specs.Seats.{due_of, ReservesUsed}
+use Rattle.dali_standing.specs.Seats.{due_of, ReservesUsed, MayAnswer}
 use Rattle.dali_world.specs.Site.{SiteState, world, site_logged, opened_site, IsBarred, IsActRefused, IsPumpRefused}
 use Rattle.dali_replay.specs.declared.rounds.Round.TheVariants as round
 use Rattle.dali_replay.specs.Installation.{Installation, installation_of, IsGiven, IsGivenBy, HasNoneBy, IsGoRefused, controller}
 use Rattle.dali_replay.specs.Rounds.{has_turn, has_turn_by, IsTurn, Turns, IsTurnRefused, IsRoundOf, controllers, Ran}
 use Rattle.dali_progress.specs.Rounds.{site_after, most_events, most_draws, Beginning, Any, Rounds, by_survey, ByStart, Settled, bare, BeginsAlone}
-use Rattle.dali_progress.specs.Running.{WasRefused, HasEndedBy, HasBegun, begun, HasRoom, RanAlone}
+use Rattle.dali_progress.specs.Running.{WasRefused, HasEndedBy, HasBegun, begun, HasNoneUsed, SparesUsed, SparesUsedOf, HasRoom, RanAlone}
+use Rattle.dali_progress.specs.Spared.{HavePower}
 use Rattle.dali_progress.proofs.Lone.{Moment, heard_free}
 use Rattle.dali_progress.proofs.Running.{Comes, comes_both, turn, turns_of, all_played, one_more, plan_after, Came}
 use Rattle.dali_progress.proofs.Logged.{begins_new}
-use Rattle.dali_progress.proofs.Beginnings.{IsAfter, after, few_events, never_spent, begins_so}
+use Rattle.dali_progress.proofs.Beginnings.{IsAfter, after, few_events, never_spent, begins_so, alone_of}
+use Rattle.dali_world.proofs.Logs.{records_now}
+use Rattle.dali_progress.proofs.Spared.Lives.{told_block}
+use Rattle.dali_progress.proofs.Spared.Alone.{alone_in_peace}
+use Rattle.dali_progress.proofs.Spared.Peace.{unrefused_in_peace}
 use Rattle.dali_progress.proofs.Ended.{one_begun, came_so, run_ends}
 
 -- WHAT MAY BE REFUSED in a run of rounds on an installation with one controller.
@@ -73,7 +79,7 @@ pub record IsWell (s : SiteState) : Type 0 where
   pub moment : Moment (world s) s.queue 0 machine (controller_at (world s) 0).outstanding (controller_at (world s) 0).last (controller_at (world s) 0).told
   pub waits : 0 < s.queue
   pub fits : length s.log < s.room
-  pub factory : s.plan.used ≡ []
+  pub spares : (i : Input) → IsActRefused s 0 i refusal.AddressInUse → ⊥
 
 due_last : (k : Controller) → k.up ≡ true → due_of k ≡ due_after k.last
 due_last k up = rw up refl
@@ -107,12 +113,6 @@ not_barred s refusal.ControllerDown well one barred =
     cc
 not_barred s _ well one barred = barred
 
-nothing_used : (us : List Used) → us ≡ [] → (o : Order) → ReservesUsed us o → ⊥
-nothing_used us none (Commit (Reserve a r)) has = go (subst (λ (vs : List Used). Has (used_shorts vs) a) none has) where
-  go : Has (used_shorts []) a → ⊥
-  go h = elim h [ ]
-nothing_used us none _ has = has
-
 act_never : (s : SiteState) (i : Input) (e : Refusal) → IsWell s → length s.plan.blocks ≡ 1 → IsDue (controller_at (world s) 0) i → total (world s).bus ≡ 0
     → IsActRefused s 0 i e → ⊥
 act_never s i refusal.NotDue well one has free refused = refused.1 has
@@ -122,7 +122,7 @@ act_never s i refusal.QueueFull well one has free refused = crowded (total (worl
 act_never s i refusal.LogFull well one has free refused = full (length s.log) s.room refused.3 well.fits where
   full : (x r : ℕ) → x ≡ r → x < r → ⊥
   full x r is less = omega (arith, is, less)
-act_never s i refusal.AddressInUse well one has free refused = nothing_used s.plan.used well.factory refused.4.0 refused.4.2
+act_never s i refusal.AddressInUse well one has free refused = well.spares i refused
 act_never s i refusal.UnknownController well one has free refused = not_barred s refusal.UnknownController well one refused
 act_never s i refusal.ControllerDown well one has free refused = not_barred s refusal.ControllerDown well one refused
 act_never s i _ well one has free refused = refused
@@ -174,12 +174,44 @@ pub queue_after : (s : SiteState) (es : List Event) → (site_after s es).queue 
 queue_after s [] = refl
 queue_after s (e ∷ es) = queue_after (site_logged s e) es
 
+-- what a machine would reserve is of its block
+within_given : (m : Machine) (i : Input) (a r : ℕ) → IsOrderGiven m i (Commit (Reserve a r)) → InBlock (machine_told m i).kept.block a
+within_given m input.CommitFailed a r given = absurd (let fails = given.answered in cc)
+within_given m _ a r given = given.answered.allowed.fits.0
+
+none_used : (s : SiteState) (m : Machine) (i : Input) (o : Order) → m.kept.block ≡ block_at s.plan 0 → HasNoneUsed s.plan → IsOrderGiven m i o
+    → ReservesUsed s.plan.used o → ⊥
+none_used s m i (Commit (Reserve a r)) block none given used =
+    none a (subst (λ b. InBlock b a) (told_block m i ∙ block) (within_given m i a r given), used)
+none_used s m i _ block none given used = used
+
+-- no address that used gear have is reserved
+spares_after : (b : Beginning) (s : SiteState) (es : List Event) → BeginsAlone b s 0 → SparesUsed b s → Rounds (by_survey b) s 0 es → (i : Input)
+    → IsActRefused (site_after s es) 0 i refusal.AddressInUse → ⊥
+spares_after b s es alone spares rounds i refused = go spares where
+  t : SiteState
+  t = site_after s es
+
+  now : IsAfter t 0
+  now = after b s 0 es alone rounds
+
+  go : SparesUsed b s → ⊥
+  go (inl none) =
+      none_used t now.machine i refused.4.0
+      (ap (λ (k : Kept). k.block) now.lone.kept ∙ (records_now t.plan t.queue t.log now.run).block 0 now.lone.up.known)
+      (subst HasNoneUsed (sym (plan_after s es)) none) (subst (λ n. MayAnswer n i refused.4.0) now.there refused.4.1) refused.4.2
+  go (inr powered) =
+      let peace = alone_in_peace s 0 es (alone_of b s 0 alone) powered.1 (subst (λ y. Rounds y s 0 es) powered.0 rounds) in
+      let run : IsRun s.plan s.queue t.log =
+      subst (λ q. IsRun s.plan q t.log) (queue_after s es) (subst (λ p. IsRun p t.queue t.log) (plan_after s es) now.run) in
+      unrefused_in_peace s 0 es i peace.0 peace.1 run peace.2 refused
+
 well_after : (b : Beginning) (s t : SiteState) (k f : ℕ) → BeginsAlone b s 0 → HasRoom b s → Came (by_survey b) s t k f → IsWell t
 well_after b s t k f alone room comes = subst IsWell (sym comes.is) (record {
   up = now.lone.up.up;
   machine = now.machine;
   moment = now.lone.moment;
-  factory = ap (λ (p : Plan). p.used) (plan_after s comes.events) ∙ room.factory;
+  spares = spares_after b s comes.events alone room.spares comes.rounds;
   waits = subst (λ x. 0 < x) (sym (queue_after s comes.events)) room.waits;
   fits = less (length (site_after s comes.events).log) (length s.log) (length comes.events) (most_events b (bare s)) (site_after s comes.events).room s.room
       (log_after s comes.events) (few_events b s 0 comes.events alone comes.rounds) (room_after s comes.events) room.fits;
@@ -244,7 +276,7 @@ run_with_room b limit n between sent text m ran enough room = go (run_to b limit
 -- A RUN WITH ROOM AND NUMBERS COMMISSIONS
 pub run_commissions : (b : Beginning) (limit : ℕ) (n between : Installation) (sent : ℕ) (text : List ℕ) (m : Installation)
     → RanAlone b limit n between sent text m → most_events b (bare n.site) < limit + begun (by_survey b) → HasRoom b n.site
-    → most_draws b * length (world n.site).gear ≤ length (world n.site).left → HasEndedBy b n.site m.site 0
+    → most_draws b * bare n.site ≤ length (world n.site).left → HasEndedBy b n.site m.site 0
 run_commissions b limit n between sent text m ran enough room numbers = go (run_to b limit n between sent text m ran enough room) where
   go : HasEndedBy b n.site m.site 0 ⊎ IsSpentOut (by_survey b) n.site m.site → HasEndedBy b n.site m.site 0
   go (inl ended) = ended
@@ -279,14 +311,22 @@ ran_new b limit p k between sent text m plan blocks begins ran = record {
   ran = ran;
 }
 
-room_new : (b : Beginning) (p : Plan) → p.used ≡ [] → p.gear ≤ 128 → HasRoom b (installation_of p).site
-room_new b p none few = record {
-  factory = none;
+-- used gear have power there
+used_power : (p : Plan) (queue room : ℕ) → IsPlan p → HavePower (opened_site p queue room)
+used_power p queue room plan u has = ap (λ (g : Gear). g.powered) (stands p plan.used u has)
+
+room_new : (b : Beginning) (p : Plan) → IsPlan p → SparesUsedOf b p → p.gear ≤ 128 → HasRoom b (installation_of p).site
+room_new b p plan spares few = record {
+  spares = go spares;
   waits = omega arith;
   fits = few_in_room b (bare (opened_site p 64 65536)) (fewer (bare (opened_site p 64 65536)) (bare_few p));
 } where
   fewer : (g : ℕ) → g ≤ p.gear → g ≤ 128
   fewer g less = omega (arith, less, few)
+
+  go : SparesUsedOf b p → SparesUsed b (installation_of p).site
+  go (inl none) = inl none
+  go (inr surveys) = inr (surveys, used_power p 64 65536 plan)
 
 enough_new : (b : Beginning) (p : Plan) (rounds : ℕ) → most_events b p.gear < rounds → most_events b (bare (opened_site p 64 65536)) < rounds
 enough_new b p rounds enough =
@@ -296,35 +336,43 @@ enough_new b p rounds enough =
     more x y less enough = omega (arith, less, enough)
 
 pub new_runs : (b : Beginning) (limit : ℕ) (p : Plan) (k : Block) (between : Installation) (sent : ℕ) (text : List ℕ) (m : Installation) → IsPlan p
-    → p.used ≡ [] → p.blocks ≡ k ∷ [] → p.gear ≤ 128 → most_events b p.gear < limit + begun (by_survey b)
+    → SparesUsedOf b p → p.blocks ≡ k ∷ [] → p.gear ≤ 128 → most_events b p.gear < limit + begun (by_survey b)
     → HasBegun (by_survey b) (installation_of p) between → Ran limit between sent text m
     → HasEndedBy b (installation_of p).site m.site 0 ⊎ IsPumpRefused m.site trouble.None refusal.DrawsSpent
-new_runs b limit p k between sent text m plan none blocks few enough begins ran =
+new_runs b limit p k between sent text m plan spares blocks few enough begins ran =
     run_with_room b limit (installation_of p) between sent text m (ran_new b limit p k between sent text m plan blocks begins ran)
-    (enough_new b p (limit + begun (by_survey b)) enough) (room_new b p none few)
+    (enough_new b p (limit + begun (by_survey b)) enough) (room_new b p plan spares few)
 
 new_of : (b : Beginning) (limit : ℕ) (p : Plan) (k : Block) (between : Installation) (sent : ℕ) (text : List ℕ) (m : Installation) → IsPlan p
-    → p.used ≡ [] → p.blocks ≡ k ∷ [] → p.gear ≤ 128 → most_draws b ≡ 1 → p.gear ≤ length p.draws → most_events b p.gear < limit + begun (by_survey b)
+    → SparesUsedOf b p → p.blocks ≡ k ∷ [] → p.gear ≤ 128 → most_draws b ≡ 1 → p.gear ≤ length p.draws → most_events b p.gear < limit + begun (by_survey b)
     → HasBegun (by_survey b) (installation_of p) between → Ran limit between sent text m → HasEndedBy b (installation_of p).site m.site 0
-new_of b limit p k between sent text m plan none blocks few one numbers enough begins ran =
+new_of b limit p k between sent text m plan spares blocks few one numbers enough begins ran =
     run_commissions b limit (installation_of p) between sent text m (ran_new b limit p k between sent text m plan blocks begins ran)
-    (enough_new b p (limit + begun (by_survey b)) enough) (room_new b p none few)
-    (rw one (all (length (world (installation_of p).site).gear) (length p.draws) (subst (λ x. x ≤ length p.draws) (sym (start_count p)) numbers)))
+    (enough_new b p (limit + begun (by_survey b)) enough) (room_new b p plan spares few)
+    (rw one (all (bare (opened_site p 64 65536)) p.gear (length p.draws) (bare_few p) numbers))
   where
-    all : (gear draws : ℕ) → gear ≤ draws → 1 * gear ≤ draws
-    all gear draws few = omega (arith, few)
+    all : (without gear draws : ℕ) → without ≤ gear → gear ≤ draws → 1 * without ≤ draws
+    all without gear draws fewer few = omega (arith, fewer, few)
 
 -- nothing is kept there, so whatever begins by a survey is settled
 pub new_commissions : (b : Beginning) (limit : ℕ) (p : Plan) (k : Block) (between : Installation) (sent : ℕ) (text : List ℕ) (m : Installation) → IsPlan p
-    → p.used ≡ [] → p.blocks ≡ k ∷ [] → p.gear ≤ 128 → p.gear ≤ length p.draws → most_events b p.gear < limit + begun (by_survey b)
+    → SparesUsedOf b p → p.blocks ≡ k ∷ [] → p.gear ≤ 128 → p.gear ≤ length p.draws → most_events b p.gear < limit + begun (by_survey b)
     → HasBegun (by_survey b) (installation_of p) between → Ran limit between sent text m → HasEndedBy b (installation_of p).site m.site 0
-new_commissions ByStart limit p k between sent text m plan none blocks few numbers enough begins ran =
-    new_of ByStart limit p k between sent text m plan none blocks few refl numbers enough begins ran
-new_commissions Settled limit p k between sent text m plan none blocks few numbers enough begins ran =
-    new_of Settled limit p k between sent text m plan none blocks few refl numbers enough begins ran
-new_commissions Any limit p k between sent text m plan none blocks few numbers enough begins ran =
-    let by = new_of Settled limit p k between sent text m plan none blocks few refl numbers (fewer p.gear enough) begins ran in
-    record { outcome = by.outcome; ended = by.ended; is_true = by.is_true.0; named = by.named }
+new_commissions ByStart limit p k between sent text m plan spares blocks few numbers enough begins ran =
+    new_of ByStart limit p k between sent text m plan spares blocks few refl numbers enough begins ran
+new_commissions Settled limit p k between sent text m plan spares blocks few numbers enough begins ran =
+    new_of Settled limit p k between sent text m plan spares blocks few refl numbers enough begins ran
+new_commissions Any limit p k between sent text m plan spares blocks few numbers enough begins ran =
+    let by = new_of Settled limit p k between sent text m plan spares blocks few refl numbers (fewer p.gear enough) begins ran in
+    record {
+      events = by.events;
+      rounds = by.rounds;
+      is = by.is;
+      outcome = by.outcome;
+      ended = by.ended;
+      is_true = by.is_true.0;
+      named = by.named;
+    }
   where
     fewer : (g : ℕ) → most_events Any g < limit + begun (by_survey Any) → most_events Settled g < limit + begun (by_survey Settled)
     fewer g enough = omega (arith, enough)

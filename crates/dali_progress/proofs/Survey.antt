@@ -16,5 +16,9 @@ pub mod Goes
 pub mod Bounded
 pub mod Again
 pub mod Quiet
+pub mod Given
+pub mod Marked
+pub mod Vacant
+pub mod Replaced
 pub mod Running
 pub mod Numbers

@@ -67,7 +67,7 @@ tabled_left before xs gs numbers c leaves tabled =
     (after_at c KeepsName (λ g off. names_self g) (λ g x on. names_taken c g x leaves) gs numbers) tabled
 
 -- RANDOMISE, where no gear with a short address draws
-abbrev StandsStill : Gear → Type 0
+abbrev pub StandsStill : Gear → Type 0
 StandsStill g = (a : ℕ) → g.short ≡ Some a → draws_a_number Randomise g ≡ false
 
 pub tabled_drawn : (before : List Gear) (xs : List Assignment) (gs : List Gear) (numbers : List ℕ) → OfPowered gs StandsStill → AreTabled before xs gs

@@ -1,4 +1,5 @@
 use Rattle.std.specs.Prelude.{◌≡◌, ◌⊎◌, ℕ, ◌<◌, Bool, true, false, List, length, Some}
+use Rattle.std.specs.List.{count_by}
 use Rattle.dali_frame.specs.Random.{MASK24}
 use Rattle.dali_gear.specs.Gear.{Gear}
 use Rattle.dali_script.specs.Records.{Assignment, Kept, Has, HasAddress, InBlock, IsFull}
@@ -14,7 +15,7 @@ use Rattle.dali_events.specs.declared.event.Event.{Event}
 use Rattle.dali_events.specs.declared.event.Event.TheVariants as event
 use Rattle.dali_events.specs.World.{controller_at}
 use Rattle.dali_events.specs.Searching.{HasShort}
-use Rattle.dali_events.specs.Wanted.{gear_of, OfPowered}
+use Rattle.dali_events.specs.Wanted.{gear_of, is_bare, OfPowered}
 use Rattle.dali_world.specs.Site.{SiteState, world, machine_at}
 use Rattle.dali_progress.specs.Rounds.{Beginning, ByStart, Settled, Any, IsSettledAt}
 
@@ -42,11 +43,12 @@ abbrev pub HoldsAnothers : Machine → Type 0
 HoldsAnothers m =
     (a : ℕ) × (r : ℕ) × Has m.kept.reserved (a, r) × (is_anothers m.kept m.heard a r ≡ true)
 
--- OF A SURVEY. With all-found, each gear with power has a short address. With block-full, each
--- address of the block is taken, or one that it has reserved is another's. It never gives up.
+-- OF A SURVEY. With all-found, each gear with power has a short address. With block-full, some gear
+-- with power has none, and each address of the block is taken, or one that it has reserved is
+-- another's. It never gives up.
 abbrev pub SurveyEndsWell : End → Machine → List Gear → Type 0
 SurveyEndsWell AllFound m gs = OfPowered gs HasShort
-SurveyEndsWell BlockFull m gs = IsBlockTaken m ⊎ HoldsAnothers m
+SurveyEndsWell BlockFull m gs = (0 < count_by is_bare gs) × (IsBlockTaken m ⊎ HoldsAnothers m)
 SurveyEndsWell GaveUp m gs = ⊥
 
 abbrev pub IsSurveyDone : SiteState → ℕ → End → Type 0

@@ -5,3 +5,4 @@ pub mod Spared
 pub mod Census
 pub mod Ends
 pub mod Misheard
+pub mod Replaced

@@ -1,15 +1,15 @@
 //! What is proved of a whole commissioning. Programs don't call these.
 //!
-//! Six speak of commissioning that nothing disturbs: of a site on which a controller begins alone, with nothing on the
-//! bus (`BeginsAlone`), in one of three ways: by Start, with nothing kept (`ByStart`); by a survey, with settled
+//! Seven speak of commissioning that nothing disturbs: of a site on which a controller begins alone, with nothing on
+//! the bus (`BeginsAlone`), in one of three ways: by Start, with nothing kept (`ByStart`); by a survey, with settled
 //! records, in which each address that is reserved is enrolled so (`Settled`); or by a survey, with any records
 //! (`Any`). And of a list of events that rounds add to its log (`Rounds`): the controller acts on what is due, and its
 //! commits succeed; frames that are next are sent, and what the gear answer is heard. So no other controller acts
 //! meanwhile, no frame is destroyed, no answer is lost or damaged, the bus never lapses, and no gear's power comes or
 //! goes.
 //!
-//! Two of the six speak of the runs of rounds that a replay makes of an installation with one controller (`RanAlone`):
-//! each is such a list of events.
+//! Three of the seven speak, also or alone, of the runs of rounds that a replay makes of an installation with one
+//! controller (`RanAlone`): each is such a list of events. One law more speaks of rounds in which one gear is misheard.
 //!
 //! Three speak of what a survey promises of a machine on any bus (`IsCourse`), and one of used gear and the log of a
 //! site, whatever is disturbed.
@@ -30,10 +30,14 @@ ghost use Rattle.dali_controller.specs.Course.{address_for};
 ghost use Rattle.dali_controller.specs.Machine.{Machine};
 ghost use Rattle.dali_controller.specs.Whole.{IsWhole};
 ghost use Rattle.dali_script.specs.declared.orders.End.{End};
+ghost use Rattle.dali_script.specs.declared.orders.End.TheVariants.{AllFound};
 ghost use Rattle.dali_events.specs.declared.event.Event.{Event};
-ghost use Rattle.dali_events.specs.Plan.{Plan, IsPlan};
+ghost use Rattle.dali_events.specs.Plan.{Plan, IsPlan, block_at};
 ghost use Rattle.dali_events.specs.Runs.{IsRun};
-ghost use Rattle.dali_events.specs.Promise.{KeepsPromise};
+ghost use Rattle.dali_events.specs.Promise.{KeepsPromise, HoldsShort, KeepsAddresses};
+ghost use Rattle.dali_events.specs.World.{gear_at};
+ghost use Rattle.dali_events.specs.Searching.{HasShort};
+ghost use Rattle.dali_events.specs.Wanted.{OfPowered};
 ghost use Rattle.dali_standing.specs.declared.refusal.Refusal.TheVariants as refusal;
 ghost use Rattle.dali_events.specs.declared.trouble.Trouble.TheVariants as trouble;
 ghost use Rattle.dali_world.specs.Site.{SiteState, opened_site, world, IsActRefused, IsPumpRefused};
@@ -44,7 +48,8 @@ ghost use Rattle.dali_progress.specs.Rounds.{restarted, Rounds, site_after, fram
 ghost use Rattle.dali_progress.specs.Rounds.{most_draws, GoesOn, HasEnded};
 ghost use Rattle.dali_progress.specs.Ends.{IsTrueEnd, table_at, NamesAll, CommitsNothing};
 ghost use Rattle.dali_progress.specs.Misheard.{RoundsBut, IsTrueEndBut};
-ghost use Rattle.dali_progress.specs.Running.{RanAlone, HasBegun, begun, HasRoom, HasEndedBy, WasRefused};
+ghost use Rattle.dali_progress.specs.Replaced.{HasVacant, HasNew, only, IsServed, AreNamed};
+ghost use Rattle.dali_progress.specs.Running.{RanAlone, HasBegun, begun, SparesUsedOf, HasRoom, HasEndedBy, WasRefused};
 ghost use Rattle.dali_progress.specs.Surveyed.{Step, IsCourse, ArePlain, WasHeard, IsAccounted, HasSurveyed};
 ghost use Rattle.dali_progress.specs.Surveyed.{stage_told};
 ghost use Rattle.dali_progress.specs.Spared.{AreOfCalls, HasJustBegun, HearsUsed, HasAsked, StaysBegun};
@@ -108,18 +113,22 @@ pub fn it_goes_on()
 /// gear that has a short address, but one that had it before (`table`).
 ///
 /// After a survey: where it ends with all-found, every gear with power has a short address. Where it ends with
-/// block-full, each address of its block is taken: reserved, or in the table, or one under which somebody was heard
-/// whose number it does not know; or one that it has reserved is another's. It never gives up. Its table names each
-/// gear that has a short address, with its random address, whoever gave it; but one that had it before the survey, and
-/// then had no power or no number that gear draw.
+/// block-full, some gear with power has none, and each address of its block is taken: reserved, or in the table, or one
+/// under which somebody was heard whose number it does not know; or one that it has reserved is another's. It never
+/// gives up. Its table names each gear that has a short address, with its random address, whoever gave it; but one that
+/// had it before the survey, and then had no power or no number that gear draw.
 ///
-/// With settled records nothing is another's, and they are settled at the end.
+/// With settled records nothing is another's, and they are settled at the end. And where so many addresses of its block
+/// are vacant as gear have power and no short address, it ends with all-found (`enough`).
 ///
 /// So one survey that nothing disturbs says all this at its end. Where it committed nothing, it was the table that it
 /// began with that names them (`quiet`). That three runs in a row be quiet is asked where the bus may lose answers.
 pub fn its_end_is_true()
     ensures done { (b : Beginning) (s : SiteState) (c : ℕ) (es : List Event) (e : End) → BeginsAlone b s c
         → Rounds (by_survey b) s c es → HasEnded (site_after s es) c e → IsTrueEnd b (site_after s es) c e }
+    ensures enough { (s : SiteState) (c : ℕ) (es : List Event) (e : End) → BeginsAlone Settled s c → HasVacant s c
+        → Rounds true s c es → HasEnded (site_after s es) c e
+        → (e ≡ AllFound) × OfPowered (world (site_after s es)).gear HasShort }
     ensures table { (b : Beginning) (s : SiteState) (c : ℕ) (es : List Event) (e : End) → BeginsAlone b s c
         → Rounds (by_survey b) s c es → HasEnded (site_after s es) c e
         → NamesAll (by_survey b) s (table_at (site_after s es) c) (site_after s es) }
@@ -154,9 +163,10 @@ pub fn one_gear_blocks_nobody()
 /// script), one of more than 318 n + 774 with settled records, and of more than 424 n + 2064 with any. A run of any
 /// length sends no more frames than `it_is_bounded` says (`frames`).
 ///
-/// Where a request may wait, and the log has room for all events to come, and no gear is used, the one call that may be
-/// refused is that of the bus, where the gear would draw more numbers than are left (`room`). So it is on a new
-/// installation of a plan with one controller and at most 128 gear, all from the factory (`new`).
+/// Where a request may wait, and the log has room for all events to come, and used gear are left alone, the one call
+/// that may be refused is that of the bus, where the gear would draw more numbers than are left (`room`). Used gear are
+/// left alone where none has an address of the block, or where all have power and the controller surveys. So it is on a
+/// new installation of a plan with one controller and at most 128 gear, also used ones, which have power there (`new`).
 pub fn a_run_ends()
     ensures frames { (b : Beginning) (limit : ℕ) (n between : Installation) (sent : ℕ) (text : List ℕ)
         (m : Installation) → RanAlone b limit n between sent text m → sent ≤ most_frames b (bare n.site) }
@@ -169,25 +179,56 @@ pub fn a_run_ends()
         → most_events b (bare n.site) < limit + begun (by_survey b) → HasRoom b n.site
         → HasEndedBy b n.site m.site 0 ⊎ IsPumpRefused m.site trouble.None refusal.DrawsSpent }
     ensures new { (b : Beginning) (limit : ℕ) (p : Plan) (k : Block) (between : Installation) (sent : ℕ)
-        (text : List ℕ) (m : Installation) → IsPlan p → p.used ≡ [] → p.blocks ≡ k ∷ [] → p.gear ≤ 128
+        (text : List ℕ) (m : Installation) → IsPlan p → SparesUsedOf b p → p.blocks ≡ k ∷ [] → p.gear ≤ 128
         → most_events b p.gear < limit + begun (by_survey b) → HasBegun (by_survey b) (installation_of p) between
         → Ran limit between sent text m
         → HasEndedBy b (installation_of p).site m.site 0 ⊎ IsPumpRefused m.site trouble.None refusal.DrawsSpent }
 {}
 
-/// AND WITH NUMBERS IT COMMISSIONS. Where there also are numbers to be drawn for each gear as often as it draws one, no
-/// call is refused, and the run ends with the end of the controller, which is true (`alone`). So it does on a new
+/// AND WITH NUMBERS IT COMMISSIONS. Where there also are numbers to be drawn for each gear with power and without short
+/// address, as often as it draws one, no call is refused, and the run ends with the end of the controller, which is
+/// true (`alone`). So it does on a new
 /// installation of such a plan with no fewer numbers than gear (`new`), however the controller begins.
 pub fn a_run_commissions()
     ensures alone { (b : Beginning) (limit : ℕ) (n between : Installation) (sent : ℕ) (text : List ℕ)
         (m : Installation) → RanAlone b limit n between sent text m
         → most_events b (bare n.site) < limit + begun (by_survey b) → HasRoom b n.site
-        → most_draws b * length (world n.site).gear ≤ length (world n.site).left → HasEndedBy b n.site m.site 0 }
+        → most_draws b * bare n.site ≤ length (world n.site).left → HasEndedBy b n.site m.site 0 }
     ensures new { (b : Beginning) (limit : ℕ) (p : Plan) (k : Block) (between : Installation) (sent : ℕ)
-        (text : List ℕ) (m : Installation) → IsPlan p → p.used ≡ [] → p.blocks ≡ k ∷ [] → p.gear ≤ 128
+        (text : List ℕ) (m : Installation) → IsPlan p → SparesUsedOf b p → p.blocks ≡ k ∷ [] → p.gear ≤ 128
         → p.gear ≤ length p.draws → most_events b p.gear < limit + begun (by_survey b)
         → HasBegun (by_survey b) (installation_of p) between → Ran limit between sent text m
         → HasEndedBy b (installation_of p).site m.site 0 }
+{}
+
+/// A REPLACED GEAR GETS THE ADDRESS. Let a controller begin alone by a survey, with settled records, say with none; let
+/// one gear g alone with power have no short address; and let an address of the controller's block be vacant: no gear
+/// has it, with power or without. So it is where a luminaire was replaced: the new one has no address, and that of the
+/// one that is gone is vacant. The others may be used gear, and have addresses of the block or not.
+///
+/// Then it ends with all-found, g has an address of the block that was vacant, and the table names it so (`served`). In
+/// a block of one address that is the one (`address`): so a new gear gets the address of the one that is gone where the
+/// block is this address alone.
+///
+/// Each other gear keeps its address and its random address (`keeps`), and the table names it, unless it had no power
+/// or no number that gear draw (`named`); with any records.
+///
+/// A run of more than 1092 rounds that begins so, with room and a number left to draw, ends so (`run`).
+pub fn a_replaced_gear_gets_the_address()
+    ensures served { (s : SiteState) (c g a : ℕ) (es : List Event) (e : End) → BeginsAlone Settled s c → HasNew s c g a
+        → Rounds true s c es → HasEnded (site_after s es) c e → IsServed s (site_after s es) c g e }
+    ensures address { (s : SiteState) (c g a : ℕ) (es : List Event) (e : End) → BeginsAlone Settled s c → HasNew s c g a
+        → block_at s.plan c ≡ only a → Rounds true s c es → HasEnded (site_after s es) c e
+        → HoldsShort (world (site_after s es)) g a
+        × Has (table_at (site_after s es) c) (a, (gear_at (world (site_after s es)) g).random) }
+    ensures keeps { (s : SiteState) (c : ℕ) (es : List Event) → BeginsAlone Any s c → Rounds true s c es
+        → KeepsAddresses (world s) (world (site_after s es)) }
+    ensures named { (s : SiteState) (c : ℕ) (es : List Event) (e : End) → BeginsAlone Any s c → Rounds true s c es
+        → HasEnded (site_after s es) c e → AreNamed s (site_after s es) c }
+    ensures run { (limit g a : ℕ) (n between : Installation) (sent : ℕ) (text : List ℕ) (m : Installation)
+        → RanAlone Settled limit n between sent text m → HasNew n.site 0 g a → HasRoom Settled n.site
+        → 0 < length (world n.site).left → 1092 < limit
+        → (e : End) × HasEnded m.site 0 e × IsServed n.site m.site 0 g e }
 {}
 
 /// A CENSUS IS BOUNDED. Of every list of inputs that are due, from a survey on, whatever bus, store and other

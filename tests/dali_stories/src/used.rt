@@ -4,7 +4,7 @@ use super::story::all_play;
 use std::test::Fail;
 
 /// Stories with their names.
-const STORIES: [(&str, &str); 6] = [
+const STORIES: [(&str, &str); 8] = [
     (
         // QUERY RANDOM ADDRESS (H), (M) and (L) to 63, 0 and 1.
         "used gear stand in their places from the start, on a bench too",
@@ -101,6 +101,43 @@ const STORIES: [(&str, &str); 6] = [
          show > gear 0 on disabled 0ABCDE FFFFFF 0
          > gear 1 on disabled 123456 FFFFFE 1
          > table 0: 0=0ABCDE 1=123456",
+    ),
+    (
+        // 192 frames are those of a survey that hears nobody: three for each address, silent or not.
+        "a gear in the place of one that is gone gets its address",
+        "site 4 5-5
+         draws 123456
+         used 0 4 0ABCDE
+         used 2 6 0BCDEF
+         used 3 7 0CDEF0
+         survey 0 > 0: put 3 01C2
+         run 1093 > 0: commit enrol 4 0ABCDE
+         > 0: commit enrol 6 0BCDEF
+         > 0: commit enrol 7 0CDEF0
+         > 0: commit reserve 5 123456
+         > 0: commit enrol 5 123456
+         > 0: done all-found
+         > ran 322
+         show > gear 0 on disabled 0ABCDE FFFFFF 4
+         > gear 1 on disabled 123456 FFFFFE 5
+         > gear 2 on disabled 0BCDEF FFFFFF 6
+         > gear 3 on disabled 0CDEF0 FFFFFF 7
+         > table 0: 4=0ABCDE 6=0BCDEF 7=0CDEF0 5=123456",
+    ),
+    (
+        // Somebody has 5 already, so it is given to nobody: 192 frames of questions, 7 of a roll call, 5 of a hunt, and
+        // the close.
+        "and none where somebody has it",
+        "site 2 5-5
+         draws 123456
+         used 0 5 0ABCDE
+         survey 0 > 0: put 3 01C2
+         run 1093 > 0: commit enrol 5 0ABCDE
+         > 0: done block-full
+         > ran 205
+         show > gear 0 on disabled 0ABCDE FFFFFF 5
+         > gear 1 on disabled FFFFFF FFFFFE -
+         > table 0: 5=0ABCDE",
     ),
     (
         // Controller 1 may give other addresses, and goes on.

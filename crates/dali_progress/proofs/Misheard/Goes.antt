@@ -1,4 +1,4 @@
-use Rattle.std.proofs.Common.{◌≡◌, ℕ, zero, suc, ◌+◌, ◌<◌, ◌≤◌, ◌⊎◌, inl, inr, true, false, List, [], ◌∷◌, ◌++◌, refl, sym, ap, subst, ◌∙◌, arith, length}
+use Rattle.std.proofs.Common.{◌≡◌, ℕ, ◌+◌, ◌<◌, ◌≤◌, ◌⊎◌, inl, inr, true, false, List, [], ◌∷◌, ◌++◌, refl, sym, ap, subst, ◌∙◌, arith, length}
 use Rattle.std.proofs.Common.{Option, Some, None}
 use Rattle.dali_frame.specs.declared.frames.Forward.{Forward}
 use Rattle.dali_frame.specs.declared.frames.Answer.{Answer}
@@ -9,8 +9,7 @@ use Rattle.dali_special.specs.declared.command.Command.{Command}
 use Rattle.dali_gear.specs.Gear.{Gear}
 use Rattle.dali_gear.specs.Row.{row_after, drawn_of}
 use Rattle.dali_arbiter.specs.declared.request.Request.{Request}
-use Rattle.dali_script.specs.Records.{Kept, IsKept, InBlock, Has}
-use Rattle.dali_script.specs.declared.block.Block.{Block}
+use Rattle.dali_script.specs.Records.{Kept, IsKept, Has}
 use Rattle.dali_script.specs.declared.stage.Stage.{Stage}
 use Rattle.dali_script.proofs.Lists.{has_before, without_has}
 use Rattle.dali_script.specs.Scripts.{Lawful, IsLawful}
@@ -42,9 +41,8 @@ use Rattle.dali_events.specs.declared.event.Event.{Event}
 use Rattle.dali_events.specs.declared.event.Event.TheVariants as event
 use Rattle.dali_events.specs.World.{World, Controller, controller_at}
 use Rattle.dali_events.specs.Happens.{happens, entry, trace_running}
-use Rattle.dali_events.specs.Plan.{no_block}
 use Rattle.dali_events.specs.Promise.{KeepsPromiseNow}
-use Rattle.dali_events.specs.Allowed.{Allowed, IsUp}
+use Rattle.dali_events.specs.Allowed.{Allowed}
 use Rattle.dali_events.specs.Runs.{IsRun, LeavesUsed}
 use Rattle.dali_events.specs.Wanted.{gear_of}
 use Rattle.dali_events.proofs.Invariant.Sending.{lawful_of}
@@ -59,11 +57,10 @@ use Rattle.dali_progress.specs.Misheard.{IsHeardBut, IsOfRoundBut, RoundsBut, En
 use Rattle.dali_progress.proofs.Lone.{IsLone, Moment, IsDueOf, due_of, ended_rests, acted_last, acted_told, acts_by, lone_acted, lone_next, lone_sent, due_by}
 use Rattle.dali_progress.proofs.Lone.{IsDueIn, acted_there, heard_kept}
 use Rattle.dali_progress.proofs.Lone.{sent_last}
-use Rattle.dali_progress.proofs.Logged.{same_some, world_logged, run_logged, machines_logged, acted_machine, drawn_now, kept_now}
+use Rattle.dali_progress.proofs.Logged.{same_some, world_logged, run_logged, machines_logged, acted_machine, drawn_now, kept_now, block_now}
 use Rattle.dali_progress.proofs.Both.{never_eight, no_enrolment, with_kept, not_failed, addresses_by, put_no_enrolment, not_free, no_tries, IsKnown, known_sent}
 use Rattle.dali_progress.proofs.Frames.{Seeks}
 use Rattle.dali_progress.proofs.Census.Asked.{sending_of}
-use Rattle.dali_world.proofs.Logs.{records_now}
 use Rattle.dali_progress.proofs.Survey.Queried.{OneShort, IsTrue}
 use Rattle.std.proofs.lemmas.Nat.Bits.{bit_at-zero}
 use Rattle.dali_controller.specs.Shorts.{has_short}
@@ -310,18 +307,6 @@ holds_of : (g : ℕ) (m : Machine) (w : World) (c : ℕ) (last : Option Order) (
     → (controller_at w c).told ≡ told → Holds g m last told gs → Holds g m (controller_at w c).last (controller_at w c).told gs
 holds_of g m w c last told gs is so holds =
     subst (λ l. Holds g m l (controller_at w c).told gs) (sym is) (subst (λ t. Holds g m last t gs) (sym so) holds)
-
--- the addresses of its block are short addresses
-within_block : (bs : List Block) (c a : ℕ) → ((i : ℕ) → i < length bs → InBlock (slice_index_or bs i no_block) a → a < 64)
-    → InBlock (slice_index_or bs c no_block) a → a < 64
-within_block [] c a all within = absurd (omega (arith, within.0, within.1))
-within_block (b ∷ bs) zero a all within = all 0 (omega arith) within
-within_block (b ∷ bs) (suc c) a all within = within_block bs c a (λ i there. all (suc i) (omega (arith, there))) within
-
-block_now : (s : SiteState) (c : ℕ) → IsRun s.plan s.queue s.log → IsUp (world s) c → (a : ℕ) → InBlock (controller_at (world s) c).records.block a → a < 64
-block_now s c run up a within =
-    within_block s.plan.blocks c a (λ i there in_block. run.plan.short i a there in_block)
-    (subst (λ b. InBlock b a) ((records_now s.plan s.queue s.log run).block c up.known) within)
 
 acted_on : (g : ℕ) (s : SiteState) (c : ℕ) (i : Input) (o : Order) → Runs g s c → Allowed (world s) (event.Acted c i o) → Succeeds true i
     → MayAnswer (machine_at s c) i o → LeavesWhole (machine_at s c) i o → LeavesUsed s.plan.used (event.Acted c i o)

@@ -327,7 +327,7 @@ asked_silent U z n k m i o a l due used falls =
     go early more two (inr safe) = safe
 
 -- its records are of one block
-told_block : (m : Machine) (i : Input) → (machine_told m i).kept.block ≡ m.kept.block
+pub told_block : (m : Machine) (i : Input) → (machine_told m i).kept.block ≡ m.kept.block
 told_block m (input.Heard h) = go (frame_put m.last) where
   go : (f : Option Forward) → (machine_heard m f h).kept.block ≡ m.kept.block
   go None = refl

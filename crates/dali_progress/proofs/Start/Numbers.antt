@@ -34,16 +34,20 @@ use Rattle.dali_controller.specs.Orders.{machine_ordered, machine_after, IsAllow
 use Rattle.dali_controller.proofs.Given.{given_by}
 use Rattle.dali_events.specs.World.{World, controller_at}
 use Rattle.dali_events.specs.Happens.{entry}
-use Rattle.dali_events.proofs.Invariant.Takes.{row_length}
 use Rattle.dali_standing.specs.Seats.{informed_by}
 use Rattle.dali_world.specs.Site.{world}
+use Rattle.std.specs.List.{count_by}
+use Rattle.dali_events.specs.Plan.{block_at}
+use Rattle.dali_events.specs.Wanted.{is_bare}
+use Rattle.dali_progress.proofs.Gives.{bare_fewer, frame_gives}
 use Rattle.dali_progress.specs.Rounds.{Succeeds}
 use Rattle.dali_progress.proofs.Lone.{due_of, IsDueOf, Moment, acts_by}
 use Rattle.dali_progress.proofs.Later.{unasked_but, stays_at}
-use Rattle.dali_progress.proofs.Stands.{Opens, CloseStage, At, Stands, Sends}
+use Rattle.dali_progress.proofs.Stands.{CloseStage, At, Stands, Sends}
 use Rattle.dali_progress.proofs.Start.Turns.{IsNext, CommitsTo, goes_on_anew}
 use Rattle.dali_progress.proofs.Start.Goes.{Hears, Holds, next_holds, of_start}
-use Rattle.dali_progress.proofs.Both.{closing_never, none_apart, enough_left, visiting_never, probing_never, left_same, opening_none, is_complete, with_kept}
+use Rattle.dali_progress.proofs.Both.{closing_never, none_apart, visiting_never, probing_never, left_same, opening_none, opening_draws, draws_few, is_complete}
+use Rattle.dali_progress.proofs.Both.{with_kept}
 use Rattle.dali_progress.proofs.Both.{not_failed}
 use Rattle.dali_progress.proofs.Drawing.{Draws}
 
@@ -68,21 +72,16 @@ UndrawnAt m = Undrawn m.last m.course.opened (stage_of m.trace)
 enough_none : (x y : ℕ) → x ≡ 0 → x ≤ y
 enough_none x y none = omega (arith, none)
 
-opening_enough : (s : Stage) (k : Kept) (n : SearchAddress) (gs : List Gear) (numbers : List ℕ) (left : ℕ) (c : Command)
-    → Opens s gs left → Sends Opening n k s c → (is_complete s ≡ false → length gs ≤ length numbers)
-    → draws_needed Everyone c 0 gs ≤ length numbers
-opening_enough stage.Opened k n gs numbers left c o is has = absurd (cc)
-opening_enough stage.Free k n gs numbers left c o is has = enough_left gs numbers c (has refl)
-opening_enough stage.Terminated k n gs numbers left c o is has = enough_left gs numbers c (has refl)
-opening_enough stage.InitialisedOnce k n gs numbers left c o is has = enough_left gs numbers c (has refl)
-opening_enough stage.Initialised k n gs numbers left c o is has = enough_left gs numbers c (has refl)
-opening_enough stage.RandomisedOnce k n gs numbers left c o is has = enough_left gs numbers c (has refl)
-opening_enough _ k n gs numbers left c o is has = absurd o.stage_is
+opening_early : (s : Stage) (n : SearchAddress) (k : Kept) (c : Command) → Sends Opening n k s c → is_complete s ≡ false
+opening_early stage.Opened n k c is = absurd (cc)
+opening_early _ n k c is = refl
 
 draws_enough : (p : Purpose) (s : Stage) (k : Kept) (opened : Bool) (x : Search) (n : SearchAddress) (gs : List Gear) (numbers : List ℕ) (left : ℕ)
-    (c : Command) → At p s k opened x n gs left → Sends p n k s c → (opened ≡ false → is_complete s ≡ false → length gs ≤ length numbers)
+    (c : Command) → At p s k opened x n gs left → Sends p n k s c → (opened ≡ false → is_complete s ≡ false → count_by is_bare gs ≤ length numbers)
     → draws_needed Everyone c 0 gs ≤ length numbers
-draws_enough Opening s k opened x n gs numbers left c at is has = opening_enough s k n gs numbers left c at.1 is (has at.0)
+draws_enough Opening s k opened x n gs numbers left c at is has =
+    let few = draws_few s c gs (opening_draws s k n gs left c at.1 is) in
+    let left = has at.0 (opening_early s n k c is) in omega (arith, few, left)
 draws_enough Probing s k opened x n gs numbers left c at is has =
     enough_none (draws_needed Everyone c 0 gs) (length numbers) (none_apart Probing n k s gs c (probing_never n k s) is)
 draws_enough Visiting s k opened x n gs numbers left c at is has =
@@ -90,10 +89,6 @@ draws_enough Visiting s k opened x n gs numbers left c at is has =
 draws_enough (Closing e) s k opened x n gs numbers left c at is has =
     enough_none (draws_needed Everyone c 0 gs) (length numbers) (none_apart (Closing e) n k s gs c (closing_never e n k s) is)
 draws_enough _ s k opened x n gs numbers left c at is has = absurd at
-
-opening_early : (s : Stage) (n : SearchAddress) (k : Kept) (c : Command) → Sends Opening n k s c → is_complete s ≡ false
-opening_early stage.Opened n k c is = absurd (cc)
-opening_early _ n k c is = refl
 
 none_drawn : (p : Purpose) (s : Stage) (k : Kept) (opened : Bool) (x : Search) (n : SearchAddress) (gs : List Gear) (left : ℕ) (c : Command) (h : Answer)
     → At p s k opened x n gs left → Sends p n k s c → opened ≡ false → is_complete (next_stage s c h) ≡ false
@@ -224,9 +219,9 @@ kept_undrawn t (Commit x) fresh opened free allowed undrawn = undrawn
 kept_undrawn t (Done e) fresh opened free allowed undrawn = undrawn
 kept_undrawn t (Halt w) fresh opened free allowed undrawn = undrawn
 
--- THERE IS A NUMBER FOR EACH GEAR, while they have not drawn
+-- THERE IS A NUMBER FOR EACH GEAR WITHOUT SHORT ADDRESS, while they have not drawn
 abbrev pub LeavesDraws : Machine → List Gear → List ℕ → Type 0
-LeavesDraws m gs numbers = UndrawnAt m → length gs ≤ length numbers
+LeavesDraws m gs numbers = UndrawnAt m → count_by is_bare gs ≤ length numbers
 
 undrawn_last : (t : Machine) (l : Option Order) → t.last ≡ l → Undrawn l t.course.opened (stage_of t.trace) → UndrawnAt t
 undrawn_last t l is undrawn = subst (λ k. Undrawn k t.course.opened (stage_of t.trace)) (sym is) undrawn
@@ -258,9 +253,9 @@ acts_has before w q c m out last told i o gs numbers left at is due good allowed
         (subst (λ t. IsAllowed t o) told allowed) (subst (λ t. UndrawnAt (machine_ordered t o)) told undrawn))
 
 has_heard : (m : Machine) (p : ℕ) (f : Forward) (h : Answer) (before : List Gear) (gs : List Gear) (numbers : List ℕ) (left : ℕ) → m.last ≡ Some (Put p f)
-    → IsNext before m (Put p f) gs left → LeavesDraws m gs numbers
+    → count_by is_bare (row_after Everyone (command_of f) 0 gs numbers) ≤ count_by is_bare gs → IsNext before m (Put p f) gs left → LeavesDraws m gs numbers
     → LeavesDraws (machine_told m (input.Heard h)) (row_after Everyone (command_of f) 0 gs numbers) (row_left Everyone (command_of f) 0 gs numbers)
-has_heard m p f h before gs numbers left last next has =
+has_heard m p f h before gs numbers left last fewer next has =
     subst (λ t. LeavesDraws t (row_after Everyone (command_of f) 0 gs numbers) (row_left Everyone (command_of f) 0 gs numbers))
     (sym (ap (λ l. machine_heard m (frame_put l) h) last)) go
   where
@@ -269,18 +264,23 @@ has_heard m p f h before gs numbers left last next has =
         let now = subst (λ l. Undrawn l m.course.opened (stage_of (m.trace ++ entry f h ∷ []))) last undrawn in
         let none = none_drawn m.course.purpose (stage_of m.trace) m.kept m.course.opened m.course.search m.course.number gs left (command_of f) h next.0.at
         next.1 now.0 (subst (λ s. is_complete s ≡ false) (stage_more m.trace (entry f h)) now.1) in
-        rw (row_length Everyone (command_of f) 0 gs numbers, left_same Everyone (command_of f) 0 gs numbers none.0)
-        (has (undrawn_last m (Some (Put p f)) last (now.0, none.1)))
+        let enough : count_by is_bare gs ≤ length numbers = has (undrawn_last m (Some (Put p f)) last (now.0, none.1)) in
+        rw (left_same Everyone (command_of f) 0 gs numbers none.0) (omega (arith, fewer, enough))
 
 -- so they are never spent
 pub start_draws : (before : List Gear) → Draws (of_start before) LeavesDraws
 start_draws before = record {
-  acts = λ s c left l i o u here good given holds has.
-      acts_has before (world s) s.queue c u.machine (controller_at (world s) c).outstanding (controller_at (world s) c).last
-      (controller_at (world s) c).told i o
-      (world s).gear (world s).left left u.goes.lone.moment u.goes.lone.last (due_of (controller_at (world s) c) i here.due) good
-      (given_by u.machine i o (not_failed false i good) given).ordered.allowed u.goes.holds has;
-  sends = λ m p f h gs numbers left last holds has. has_heard m p f h before gs numbers left last (next_holds before m (Put p f) gs left holds) has;
+  stays = record {
+    acts = λ s c left l i o u here good given holds has.
+        acts_has before (world s) s.queue c u.machine (controller_at (world s) c).outstanding (controller_at (world s) c).last
+        (controller_at (world s) c).told i o
+        (world s).gear (world s).left left u.goes.lone.moment u.goes.lone.last (due_of (controller_at (world s) c) i here.due) good
+        (given_by u.machine i o (not_failed false i good) given).ordered.allowed u.goes.holds has;
+    sends = λ s c left p f h u here heard last holds has.
+        has_heard u.machine p f h before (world s).gear (world s).left left last
+        (bare_fewer (block_at s.plan c) (world s).gear (row_after Everyone (command_of f) 0 (world s).gear (world s).left) (frame_gives s c f h u.run here))
+        (next_holds before u.machine (Put p f) (world s).gear left holds) has;
+  };
   enough = λ m p f gs numbers left last holds has.
       let next = next_holds before m (Put p f) gs left holds in
       draws_enough m.course.purpose (stage_of m.trace) m.kept m.course.opened m.course.search m.course.number gs numbers left (command_of f) next.0.at next.1

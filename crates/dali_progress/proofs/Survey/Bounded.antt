@@ -140,8 +140,8 @@ ended_by any s after c left e r ended =
 
 ends_so : (any : Bool) (e : End) (m : Machine) (gs : List Gear) → SurveyEnds any e m.kept m.heard gs → SurveyEndsWell e m gs
 ends_so any AllFound m gs well = well
-ends_so any BlockFull m gs (inl taken) = inl taken
-ends_so any BlockFull m gs (inr other) = inr other.1
+ends_so any BlockFull m gs (some, inl taken) = (some, inl taken)
+ends_so any BlockFull m gs (some, inr other) = (some, inr other.1)
 ends_so any GaveUp m gs well = well
 
 one_machine : (x y : Machine) → Some x ≡ Some y → x ≡ y
@@ -157,8 +157,8 @@ ends_taken s after c e by full m there =
     subst IsBlockTaken (one_machine by.machine m (sym by.there ∙ there))
     (go by.machine (subst (λ x. SurveyEnds false x by.machine.kept by.machine.heard (world after).gear) full by.well)) where
       go : (n : Machine) → SurveyEnds false BlockFull n.kept n.heard (world after).gear → IsBlockTaken n
-      go n (inl taken) = taken
-      go n (inr other) = absurd (let never : false ≡ true = other.0 in cc)
+      go n (some, inl taken) = taken
+      go n (some, inr other) = absurd (let never : false ≡ true = other.0 in cc)
 
 pub tabled : (any : Bool) (s after : SiteState) (c : ℕ) (e : End) → EndsBy any s after c e → NamesAll true s (table_at after c) after
 tabled any s after c e by g short in_row small is = go (by.tabled g short in_row is) where

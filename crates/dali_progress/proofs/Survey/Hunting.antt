@@ -269,7 +269,7 @@ vain_over start t o h r room gs left calm asks next none v = go (has_open t) ref
       (record { way = v.smooth.way; passed = v.smooth.passed; unmissed = v.smooth.unmissed }) tt
       (record {
         stage_is = tt;
-        well = inl (all_taken t.kept t.heard (nothing_open t is));
+        well = (some, inl (all_taken t.kept t.heard (nothing_open t is)));
         settled = v.settled;
         tabled = whole_table;
         frames = count (count_by is_lost gs) (spare start.any t.course.tally.draws) frames;

@@ -48,7 +48,10 @@ use Rattle.dali_controller.proofs.Given.{given_by}
 use Rattle.dali_events.specs.World.{World, controller_at}
 use Rattle.dali_events.specs.Happens.{entry}
 use Rattle.dali_events.specs.declared.event.Event.TheVariants as event
-use Rattle.dali_events.proofs.Invariant.Takes.{row_length}
+use Rattle.std.specs.List.{count_by}
+use Rattle.dali_events.specs.Plan.{block_at}
+use Rattle.dali_events.specs.Wanted.{is_bare}
+use Rattle.dali_progress.proofs.Gives.{bare_fewer, frame_gives}
 use Rattle.dali_events.proofs.Search.Wanted as wanted
 use Rattle.dali_events.proofs.Search.Opened.{AreOpening}
 use Rattle.dali_standing.specs.Seats.{informed_by}
@@ -56,7 +59,8 @@ use Rattle.dali_world.specs.Site.{world, site_logged}
 use Rattle.dali_progress.specs.Rounds.{Succeeds}
 use Rattle.dali_progress.proofs.Lone.{Moment, IsDueOf, acts_by, due_of}
 use Rattle.dali_progress.proofs.Stands.{Sends}
-use Rattle.dali_progress.proofs.Both.{left_same, none_first, none_apart, needs_few, visiting_never, closing_never, not_failed, is_complete, with_kept}
+use Rattle.dali_progress.proofs.Both.{left_same, none_first, none_apart, visiting_never, closing_never, not_failed, is_complete, with_kept, DrawsOnce}
+use Rattle.dali_progress.proofs.Both.{draws_few, closed_none}
 use Rattle.dali_progress.proofs.Survey.Stands.{Begun, most_drawn, Draws, SurveyAt, SurveyStands}
 use Rattle.dali_progress.proofs.Survey.Begins.{IsNext}
 use Rattle.dali_progress.proofs.Survey.Goes.{Holds, Hears, of_survey, next_holds}
@@ -91,12 +95,16 @@ numbers_for (suc k) n = n + numbers_for k n
 
 -- THERE ARE NUMBERS ENOUGH for as many draws as may be still to come
 abbrev pub HasNumbers : Bool → Machine → List Gear → List ℕ → Type 0
-HasNumbers any m gs numbers = numbers_for (to_draw_at any m) (length gs) ≤ length numbers
+HasNumbers any m gs numbers = numbers_for (to_draw_at any m) (count_by is_bare gs) ≤ length numbers
 
 fewer_for : (k l n : ℕ) → l ≤ k → numbers_for l n ≤ numbers_for k n
 fewer_for k zero n few = omega arith
 fewer_for zero (suc l) n few = absurd (omega (arith, few))
 fewer_for (suc k) (suc l) n few = let less = fewer_for k l n (omega (arith, few)) in omega (arith, less)
+
+fewer_each : (k m n : ℕ) → m ≤ n → numbers_for k m ≤ numbers_for k n
+fewer_each zero m n few = omega arith
+fewer_each (suc k) m n few = let less = fewer_each k m n few in omega (arith, few, less)
 
 one_more : (k n : ℕ) → numbers_for (1 + k) n ≡ n + numbers_for k n
 one_more k n = ap (λ m. numbers_for m n) (let next : 1 + k ≡ suc k = omega arith in next)
@@ -181,41 +189,35 @@ never_by p n k s gs c never is = none_apart p n k s gs c never is
 randomised_first : (gs : List Gear) (c : Command) → Some Randomise ≡ Some c → AreOpening stage.Initialised gs → draws_needed Everyone c 0 gs ≡ 0
 randomised_first gs c is gear = let same : Randomise ≡ c = cc in subst (λ d. draws_needed Everyone d 0 gs ≡ 0) same (none_first 0 gs gear)
 
-last_never : (c : Command) (h : Answer) → Some Randomise ≡ Some c → is_complete (next_stage stage.RandomisedOnce c h) ≡ false → ⊥
-last_never c h is closed =
-    let same : Randomise ≡ c = cc in
-    let both : true ≡ false = subst (λ d. is_complete (next_stage stage.RandomisedOnce d h) ≡ false) (sym same) closed in cc
+opening_draws : (s : Stage) (k : Kept) (heard : Shorts) (c : Course) (start : Begun) (gs : List Gear) (left : ℕ) (d : Command)
+    → Draws Opening s k heard c start gs left → Sends Opening c.number k s d → DrawsOnce s d gs
+opening_draws stage.Free k heard c start gs left d v is = inl (never_by Opening c.number k stage.Free gs d (λ e. cc) is)
+opening_draws stage.Terminated k heard c start gs left d v is = inl (never_by Opening c.number k stage.Terminated gs d (λ e. cc) is)
+opening_draws stage.InitialisedOnce k heard c start gs left d v is = inl (never_by Opening c.number k stage.InitialisedOnce gs d (λ e. cc) is)
+opening_draws stage.Initialised k heard c start gs left d v is = inl (randomised_first gs d is v.gear)
+opening_draws stage.RandomisedOnce k heard c start gs left d v is = inr (refl, (let same : d ≡ Randomise = cc in same), v.gear)
+opening_draws stage.Opened k heard c start gs left d v is = absurd (cc)
+opening_draws _ k heard c start gs left d v is = absurd v.stage_is
 
-opening_none : (s : Stage) (k : Kept) (heard : Shorts) (c : Course) (start : Begun) (gs : List Gear) (left : ℕ) (d : Command) (h : Answer)
-    → Draws Opening s k heard c start gs left → Sends Opening c.number k s d → is_complete (next_stage s d h) ≡ false → draws_needed Everyone d 0 gs ≡ 0
-opening_none stage.Free k heard c start gs left d h v is closed = never_by Opening c.number k stage.Free gs d (λ e. cc) is
-opening_none stage.Terminated k heard c start gs left d h v is closed = never_by Opening c.number k stage.Terminated gs d (λ e. cc) is
-opening_none stage.InitialisedOnce k heard c start gs left d h v is closed = never_by Opening c.number k stage.InitialisedOnce gs d (λ e. cc) is
-opening_none stage.Initialised k heard c start gs left d h v is closed = randomised_first gs d is v.gear
-opening_none stage.RandomisedOnce k heard c start gs left d h v is closed = absurd (last_never d h is closed)
-opening_none stage.Opened k heard c start gs left d h v is closed = absurd (cc)
-opening_none _ k heard c start gs left d h v is closed = absurd v.stage_is
+drawing_draws : (s : Stage) (k : Kept) (heard : Shorts) (c : Course) (start : Begun) (gs : List Gear) (left : ℕ) (d : Command)
+    → Draws Drawing s k heard c start gs left → Sends Drawing c.number k s d → DrawsOnce s d gs
+drawing_draws stage.Free k heard c start gs left d v is = inl (never_by Drawing c.number k stage.Free gs d (λ e. cc) is)
+drawing_draws stage.Terminated k heard c start gs left d v is = inl (never_by Drawing c.number k stage.Terminated gs d (λ e. cc) is)
+drawing_draws stage.InitialisedOnce k heard c start gs left d v is = inl (never_by Drawing c.number k stage.InitialisedOnce gs d (λ e. cc) is)
+drawing_draws stage.Initialised k heard c start gs left d v is = inl (never_by Drawing c.number k stage.Initialised gs d (λ e. cc) is)
+drawing_draws (stage.WokenHigh high) k heard c start gs left d v is = inl (never_by Drawing c.number k (stage.WokenHigh high) gs d (λ e. cc) is)
+drawing_draws (stage.WokenMiddle high middle) k heard c start gs left d v is =
+    inl (never_by Drawing c.number k (stage.WokenMiddle high middle) gs d (λ e. cc) is)
+drawing_draws stage.DrawFree k heard c start gs left d v is = inl (randomised_first gs d is v.gear)
+drawing_draws stage.RandomisedOnce k heard c start gs left d v is = inr (refl, (let same : d ≡ Randomise = cc in same), v.gear)
+drawing_draws stage.Opened k heard c start gs left d v is = absurd (cc)
+drawing_draws _ k heard c start gs left d v is = absurd v.stage_is
 
-drawing_none : (s : Stage) (k : Kept) (heard : Shorts) (c : Course) (start : Begun) (gs : List Gear) (left : ℕ) (d : Command) (h : Answer)
-    → Draws Drawing s k heard c start gs left → Sends Drawing c.number k s d → is_complete (next_stage s d h) ≡ false → draws_needed Everyone d 0 gs ≡ 0
-drawing_none stage.Free k heard c start gs left d h v is closed = never_by Drawing c.number k stage.Free gs d (λ e. cc) is
-drawing_none stage.Terminated k heard c start gs left d h v is closed = never_by Drawing c.number k stage.Terminated gs d (λ e. cc) is
-drawing_none stage.InitialisedOnce k heard c start gs left d h v is closed = never_by Drawing c.number k stage.InitialisedOnce gs d (λ e. cc) is
-drawing_none stage.Initialised k heard c start gs left d h v is closed = never_by Drawing c.number k stage.Initialised gs d (λ e. cc) is
-drawing_none (stage.WokenHigh high) k heard c start gs left d h v is closed = never_by Drawing c.number k (stage.WokenHigh high) gs d (λ e. cc) is
-drawing_none (stage.WokenMiddle high middle) k heard c start gs left d h v is closed =
-    never_by Drawing c.number k (stage.WokenMiddle high middle) gs d (λ e. cc) is
-drawing_none stage.DrawFree k heard c start gs left d h v is closed = randomised_first gs d is v.gear
-drawing_none stage.RandomisedOnce k heard c start gs left d h v is closed = absurd (last_never d h is closed)
-drawing_none stage.Opened k heard c start gs left d h v is closed = absurd (cc)
-drawing_none _ k heard c start gs left d h v is closed = absurd v.stage_is
-
-none_before : (told : Bool) (p : Purpose) (s : Stage) (k : Kept) (heard : Shorts) (asked : ℕ) (c : Course) (start : Begun) (gs : List Gear) (left : ℕ)
-    (d : Command) (h : Answer) → SurveyAt told p s k heard asked c start gs left → is_drawing p ≡ true → Sends p c.number k s d
-    → is_complete (next_stage s d h) ≡ false → draws_needed Everyone d 0 gs ≡ 0
-none_before told Opening s k heard asked c start gs left d h at draws is closed = opening_none s k heard c start gs left d h at.1 is closed
-none_before told Drawing s k heard asked c start gs left d h at draws is closed = drawing_none s k heard c start gs left d h at is closed
-none_before told _ s k heard asked c start gs left d h at draws is closed = absurd (cc)
+draws_by : (told : Bool) (p : Purpose) (s : Stage) (k : Kept) (heard : Shorts) (asked : ℕ) (c : Course) (start : Begun) (gs : List Gear) (left : ℕ)
+    (d : Command) → SurveyAt told p s k heard asked c start gs left → is_drawing p ≡ true → Sends p c.number k s d → DrawsOnce s d gs
+draws_by told Opening s k heard asked c start gs left d at draws is = opening_draws s k heard c start gs left d at.1 is
+draws_by told Drawing s k heard asked c start gs left d at draws is = drawing_draws s k heard c start gs left d at is
+draws_by told _ s k heard asked c start gs left d at draws is = absurd (cc)
 
 -- where some are drawn, so many fewer are left
 left_few : (reach : Reach) (c : Command) (k : ℕ) (gs : List Gear) (left : List ℕ)
@@ -228,48 +230,56 @@ left_few reach c k (g ∷ gs) left = go (takes reach k g && draws_a_number c g) 
   go true [] few = omega arith
   go true (x ∷ xs) few = let less = few xs in omega (arith, less)
 
--- there are enough for the frame, and enough are left for those to come
+-- there are enough for the frame, and enough are left for those to come, as no more gear are without short address
+abbrev IsFewer : List Gear → List ℕ → Command → Type 0
+IsFewer gs numbers d = count_by is_bare (row_after Everyone d 0 gs numbers) ≤ count_by is_bare gs
+
+abbrev AreLeft : ℕ → List Gear → List ℕ → Command → Type 0
+AreLeft n gs numbers d = numbers_for n (count_by is_bare (row_after Everyone d 0 gs numbers)) ≤ length (row_left Everyone d 0 gs numbers)
+
 sent_numbers : (told : Bool) (p : Purpose) (s : Stage) (k : Kept) (heard : Shorts) (asked : ℕ) (c : Course) (start : Begun) (gs : List Gear)
     (numbers : List ℕ) (left : ℕ) (d : Command) (h : Answer) (rest : ℕ) → SurveyAt told p s k heard asked c start gs left → Sends p c.number k s d
-    → numbers_for (draws_still p s + rest) (length gs) ≤ length numbers
-    → (draws_needed Everyone d 0 gs ≤ length numbers)
-    × (numbers_for (draws_still p (next_stage s d h) + rest) (length (row_after Everyone d 0 gs numbers)) ≤ length (row_left Everyone d 0 gs numbers))
+    → numbers_for (draws_still p s + rest) (count_by is_bare gs) ≤ length numbers
+    → (draws_needed Everyone d 0 gs ≤ length numbers) × (IsFewer gs numbers d → AreLeft (draws_still p (next_stage s d h) + rest) gs numbers d)
 sent_numbers told p s k heard asked c start gs numbers left d h rest at is has = go (is_drawing p) refl where
-  same : length (row_after Everyone d 0 gs numbers) ≡ length gs
-  same = row_length Everyone d 0 gs numbers
+  less : IsFewer gs numbers d → (n : ℕ) → numbers_for n (count_by is_bare (row_after Everyone d 0 gs numbers)) ≤ numbers_for n (count_by is_bare gs)
+  less fewer n = fewer_each n (count_by is_bare (row_after Everyone d 0 gs numbers)) (count_by is_bare gs) fewer
 
   -- where none is drawn
-  none_drawn : (still : ℕ) → draws_needed Everyone d 0 gs ≡ 0 → numbers_for (still + rest) (length gs) ≤ length numbers
-      → (draws_needed Everyone d 0 gs ≤ length numbers)
-      × (numbers_for (still + rest) (length (row_after Everyone d 0 gs numbers)) ≤ length (row_left Everyone d 0 gs numbers))
+  none_drawn : (still : ℕ) → draws_needed Everyone d 0 gs ≡ 0 → numbers_for (still + rest) (count_by is_bare gs) ≤ length numbers
+      → (draws_needed Everyone d 0 gs ≤ length numbers) × (IsFewer gs numbers d → AreLeft (still + rest) gs numbers d)
   none_drawn still none enough = (
     omega (arith, none),
-    rw (same, left_same Everyone d 0 gs numbers none) enough,
+    λ fewer. rw (left_same Everyone d 0 gs numbers none) (let few = less fewer (still + rest) in omega (arith, few, enough)),
   )
 
-  go : (b : Bool) → is_drawing p ≡ b → (draws_needed Everyone d 0 gs ≤ length numbers)
-      × (numbers_for (draws_still p (next_stage s d h) + rest) (length (row_after Everyone d 0 gs numbers)) ≤ length (row_left Everyone d 0 gs numbers))
+  go : (b : Bool) → is_drawing p ≡ b
+      → (draws_needed Everyone d 0 gs ≤ length numbers) × (IsFewer gs numbers d → AreLeft (draws_still p (next_stage s d h) + rest) gs numbers d)
   go false quiet =
       let none = never_by p c.number k s gs d (quiet_never told p s k heard asked c start gs left at quiet) is in
-      rw quiet (none_drawn 0 none (subst (λ y. numbers_for ((if y then (if is_complete s then 0 else 1) else 0) + rest) (length gs) ≤ length numbers)
+      rw quiet (none_drawn 0 none (subst (λ y. numbers_for ((if y then (if is_complete s then 0 else 1) else 0) + rest) (count_by is_bare gs) ≤ length numbers)
       quiet has))
   go true draws = by (is_complete (next_stage s d h)) refl where
-    before : numbers_for (1 + rest) (length gs) ≤ length numbers
-    before =
-        subst (λ y. numbers_for ((if y then 0 else 1) + rest) (length gs) ≤ length numbers) (early p s c.number k d draws is)
-        (subst (λ y. numbers_for ((if y then (if is_complete s then 0 else 1) else 0) + rest) (length gs) ≤ length numbers) draws has)
+    once : DrawsOnce s d gs
+    once = draws_by told p s k heard asked c start gs left d at draws is
 
-    by : (e : Bool) → is_complete (next_stage s d h) ≡ e → (draws_needed Everyone d 0 gs ≤ length numbers)
-        × (numbers_for (draws_still p (next_stage s d h) + rest) (length (row_after Everyone d 0 gs numbers)) ≤ length (row_left Everyone d 0 gs numbers))
-    by false closed =
-        rw (draws, closed) (none_drawn 1 (none_before told p s k heard asked c start gs left d h at draws is closed) before)
+    before : numbers_for (1 + rest) (count_by is_bare gs) ≤ length numbers
+    before =
+        subst (λ y. numbers_for ((if y then 0 else 1) + rest) (count_by is_bare gs) ≤ length numbers) (early p s c.number k d draws is)
+        (subst (λ y. numbers_for ((if y then (if is_complete s then 0 else 1) else 0) + rest) (count_by is_bare gs) ≤ length numbers) draws has)
+
+    by : (e : Bool) → is_complete (next_stage s d h) ≡ e
+        → (draws_needed Everyone d 0 gs ≤ length numbers) × (IsFewer gs numbers d → AreLeft (draws_still p (next_stage s d h) + rest) gs numbers d)
+    by false closed = rw (draws, closed) (none_drawn 1 (closed_none s d h gs once closed) before)
     by true done =
-        let few = needs_few Everyone d 0 gs in
+        let few = draws_few s d gs once in
         let after = left_few Everyone d 0 gs numbers in
-        let enough : length gs + numbers_for rest (length gs) ≤ length numbers = subst (λ n. n ≤ length numbers) (one_more rest (length gs)) before in (
+        let enough : count_by is_bare gs + numbers_for rest (count_by is_bare gs) ≤ length numbers =
+        subst (λ n. n ≤ length numbers) (one_more rest (count_by is_bare gs)) before in (
           omega (arith, few, enough),
-          rw (draws, done, same)
-              (subst (λ n. n ≤ length (row_left Everyone d 0 gs numbers)) (sym (no_more rest (length gs))) (omega (arith, few, after, enough))),
+          λ fewer. rw (draws, done)
+              (subst (λ n. n ≤ length (row_left Everyone d 0 gs numbers)) (sym (no_more rest (count_by is_bare (row_after Everyone d 0 gs numbers))))
+              (let least = less fewer rest in omega (arith, few, least, after, enough))),
         )
 
 -- ---------------------------------------------------------------- the transaction that begins
@@ -520,10 +530,10 @@ acts_has start w q c m out last told i o gs hs numbers left l at is due surveys 
         → IsNext start (machine_ordered (machine_surveying m) o) o hs l → HasNumbers start.any m gs numbers
         → HasNumbers start.any (machine_ordered (machine_surveying m) o) gs numbers
     starts at is allowed holds next has =
-        has_fewer (most_drawn start.any) (ordered_draws start.any (machine_surveying m) o) (length gs) (length numbers)
+        has_fewer (most_drawn start.any) (ordered_draws start.any (machine_surveying m) o) (count_by is_bare gs) (length numbers)
         (let few = kept_draws start (machine_surveying m) o hs l refl holds.free (subst (λ k. IsPut k → ⊥) (sym is) (λ put. put)) allowed next in
         omega (arith, few))
-        (subst (λ k. numbers_for (to_draw start.any k m.course.purpose (stage_of m.trace) m.course.tally.draws) (length gs) ≤ length numbers) is has)
+        (subst (λ k. numbers_for (to_draw start.any k m.course.purpose (stage_of m.trace) m.course.tally.draws) (count_by is_bare gs) ≤ length numbers) is has)
 
     heard : (p : ℕ) (f : Forward) (h : Answer) → Moment w q c m out (Some (Put p f)) (Some (input.Heard h)) → m.last ≡ Some (Put p f)
         → IsAllowed (machine_told m (input.Heard h)) o → Hears start m f h gs left → IsNext start (machine_after m (input.Heard h) o) o hs l
@@ -533,9 +543,10 @@ acts_has start w q c m out last told i o gs hs numbers left l at is due surveys 
         let stands : SurveyStands true start (machine_told m (input.Heard h)) gs left =
         subst (λ t. SurveyStands true start t gs left) (sym told) holds.stands in
         let t : Machine = machine_told m (input.Heard h) in
-        has_fewer (draws_still t.course.purpose (stage_of t.trace) + (most_drawn start.any - t.course.tally.draws)) (ordered_draws start.any t o) (length gs)
+        has_fewer (draws_still t.course.purpose (stage_of t.trace) + (most_drawn start.any - t.course.tally.draws)) (ordered_draws start.any t o)
+        (count_by is_bare gs)
         (length numbers) (heard_draws start t o hs l stands.smooth.way allowed next)
-        (subst (λ k. numbers_for (to_draw start.any k t.course.purpose (stage_of t.trace) t.course.tally.draws) (length gs) ≤ length numbers)
+        (subst (λ k. numbers_for (to_draw start.any k t.course.purpose (stage_of t.trace) t.course.tally.draws) (count_by is_bare gs) ≤ length numbers)
         (ap (λ (n : Machine). n.last) told ∙ is) has)
 
     keeps : (x : Record) → Moment w q c m out (Some (Commit x)) None → m.last ≡ Some (Commit x) → IsAllowed (machine_told m input.Committed) o
@@ -544,43 +555,49 @@ acts_has start w q c m out last told i o gs hs numbers left l at is due surveys 
     keeps x at is allowed holds next has =
         let told : machine_told m input.Committed ≡ with_kept m x = ap (λ k. machine_committed m (record_ordered k)) is in
         subst (λ t. HasNumbers start.any (machine_ordered t o) gs numbers) (sym told)
-        (has_fewer (most_drawn start.any - m.course.tally.draws) (ordered_draws start.any (with_kept m x) o) (length gs) (length numbers)
+        (has_fewer (most_drawn start.any - m.course.tally.draws) (ordered_draws start.any (with_kept m x) o) (count_by is_bare gs) (length numbers)
         (kept_draws start (with_kept m x) o hs l holds.0.smooth.way at.1 (subst (λ k. IsPut k → ⊥) (sym is) (λ put. put))
         (subst (λ t. IsAllowed t o) told allowed) (subst (λ t. IsNext start (machine_ordered t o) o hs l) told next))
-        (subst (λ k. numbers_for (to_draw start.any k m.course.purpose (stage_of m.trace) m.course.tally.draws) (length gs) ≤ length numbers) is has))
+        (subst (λ k. numbers_for (to_draw start.any k m.course.purpose (stage_of m.trace) m.course.tally.draws) (count_by is_bare gs) ≤ length numbers) is has))
 
 -- ---------------------------------------------------------------- its frame is sent
 
 heard_has : (start : Begun) (m : Machine) (p : ℕ) (f : Forward) (h : Answer) (gs : List Gear) (numbers : List ℕ) (left : ℕ) → m.last ≡ Some (Put p f)
     → IsNext start m (Put p f) gs left → HasNumbers start.any m gs numbers
     → (draws_needed Everyone (command_of f) 0 gs ≤ length numbers)
-    × HasNumbers start.any (machine_told m (input.Heard h)) (row_after Everyone (command_of f) 0 gs numbers) (row_left Everyone (command_of f) 0 gs numbers)
+    × (IsFewer gs numbers (command_of f)
+    → HasNumbers start.any (machine_told m (input.Heard h)) (row_after Everyone (command_of f) 0 gs numbers) (row_left Everyone (command_of f) 0 gs numbers))
 heard_has start m p f h gs numbers left last next has = (
   sent.0,
-  subst (λ t. HasNumbers start.any t (row_after Everyone (command_of f) 0 gs numbers) (row_left Everyone (command_of f) 0 gs numbers))
+  λ fewer. subst (λ t. HasNumbers start.any t (row_after Everyone (command_of f) 0 gs numbers) (row_left Everyone (command_of f) 0 gs numbers))
       (sym (ap (λ k. machine_heard m (frame_put k) h) last))
-      (subst (λ k. numbers_for (to_draw start.any k m.course.purpose (stage_of (m.trace ++ entry f h ∷ [])) m.course.tally.draws)
-      (length (row_after Everyone (command_of f) 0 gs numbers)) ≤ length (row_left Everyone (command_of f) 0 gs numbers)) (sym last)
-      (subst (λ s. numbers_for (draws_still m.course.purpose s + (most_drawn start.any - m.course.tally.draws))
-      (length (row_after Everyone (command_of f) 0 gs numbers)) ≤ length (row_left Everyone (command_of f) 0 gs numbers))
-      (sym (stage_more m.trace (entry f h))) sent.1)),
+      (subst (λ k. AreLeft (to_draw start.any k m.course.purpose (stage_of (m.trace ++ entry f h ∷ [])) m.course.tally.draws) gs numbers (command_of f))
+      (sym last)
+      (subst (λ s. AreLeft (draws_still m.course.purpose s + (most_drawn start.any - m.course.tally.draws)) gs numbers (command_of f))
+      (sym (stage_more m.trace (entry f h))) (sent.1 fewer))),
 ) where
   sent : (draws_needed Everyone (command_of f) 0 gs ≤ length numbers)
-      × (numbers_for (draws_still m.course.purpose (next_stage (stage_of m.trace) (command_of f) h) + (most_drawn start.any - m.course.tally.draws))
-      (length (row_after Everyone (command_of f) 0 gs numbers)) ≤ length (row_left Everyone (command_of f) 0 gs numbers))
+      × (IsFewer gs numbers (command_of f)
+      → AreLeft (draws_still m.course.purpose (next_stage (stage_of m.trace) (command_of f) h) + (most_drawn start.any - m.course.tally.draws)) gs numbers
+      (command_of f))
   sent =
       sent_numbers false m.course.purpose (stage_of m.trace) m.kept m.heard m.asked m.course start gs numbers left (command_of f) h
       (most_drawn start.any - m.course.tally.draws) next.0.at next.1
-      (subst (λ k. numbers_for (to_draw start.any k m.course.purpose (stage_of m.trace) m.course.tally.draws) (length gs) ≤ length numbers) last has)
+      (subst (λ k. numbers_for (to_draw start.any k m.course.purpose (stage_of m.trace) m.course.tally.draws) (count_by is_bare gs) ≤ length numbers) last has)
 
 -- so they are never spent
 pub survey_draws : (start : Begun) → drawn.Draws (of_survey start) (HasNumbers start.any)
 survey_draws start = record {
-  acts = λ s c left l i o u here surveys given holds has.
-      acts_has start (world s) s.queue c u.machine (controller_at (world s) c).outstanding (controller_at (world s) c).last (controller_at (world s) c).told i o
-      (world s).gear (world (site_logged s (event.Acted c i o))).gear (world s).left left l u.goes.lone.moment u.goes.lone.last
-      (due_of (controller_at (world s) c) i here.due) surveys (given_by u.machine i o (not_failed true i surveys) given).ordered.allowed u.goes.holds
-      (next_holds start (machine_after u.machine i o) o (world (site_logged s (event.Acted c i o))).gear l holds) has;
-  sends = λ m p f h gs numbers left last holds has. (heard_has start m p f h gs numbers left last (next_holds start m (Put p f) gs left holds) has).1;
+  stays = record {
+    acts = λ s c left l i o u here surveys given holds has.
+        acts_has start (world s) s.queue c u.machine (controller_at (world s) c).outstanding (controller_at (world s) c).last
+        (controller_at (world s) c).told i o
+        (world s).gear (world (site_logged s (event.Acted c i o))).gear (world s).left left l u.goes.lone.moment u.goes.lone.last
+        (due_of (controller_at (world s) c) i here.due) surveys (given_by u.machine i o (not_failed true i surveys) given).ordered.allowed u.goes.holds
+        (next_holds start (machine_after u.machine i o) o (world (site_logged s (event.Acted c i o))).gear l holds) has;
+    sends = λ s c left p f h u here heard last holds has.
+        (heard_has start u.machine p f h (world s).gear (world s).left left last (next_holds start u.machine (Put p f) (world s).gear left holds) has).1
+        (bare_fewer (block_at s.plan c) (world s).gear (row_after Everyone (command_of f) 0 (world s).gear (world s).left) (frame_gives s c f h u.run here));
+  };
   enough = λ m p f gs numbers left last holds has. (heard_has start m p f Silence gs numbers left last (next_holds start m (Put p f) gs left holds) has).0;
 }

@@ -464,7 +464,8 @@ ends_still any AllFound k heard gs numbers all = λ i in_row on.
     let same = name_kept gs numbers i there in
     let short = all i there (sym same.0 ∙ on) in
     (short.0, same.1 ∙ short.1)
-ends_still any BlockFull k heard gs numbers well = well
+ends_still any BlockFull k heard gs numbers well =
+    (subst (λ n. 0 < n) (sym (leaving.count_bare_after Terminate gs numbers tt)) well.0, well.1)
 ends_still any GaveUp k heard gs numbers well = well
 
 abbrev ClosedTo : End → Stage → Kept → Shorts → Begun → List Gear → List ℕ → ℕ → Command → Answer → Type 0

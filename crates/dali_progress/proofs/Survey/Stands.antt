@@ -361,7 +361,7 @@ pub record Hunts (told : Bool) (p : Purpose) (s : Stage) (k : Kept) (heard : Sho
 
 -- ---------------------------------------------------------------- the close
 
--- what an end says, by records and marks
+-- what an end says, by records and marks; where the block is full, some gear is left without address
 abbrev pub AreTaken : Kept → Shorts → Type 0
 AreTaken k heard =
     (a : ℕ) → InBlock k.block a → HasAddress k.reserved a ⊎ (HasAddress k.enrolled a ⊎ (has_short heard a ≡ true))
@@ -371,7 +371,7 @@ HasAnothers k heard = (a : ℕ) × (r : ℕ) × Has k.reserved (a, r) × (is_ano
 
 abbrev pub SurveyEnds : Bool → End → Kept → Shorts → List Gear → Type 0
 SurveyEnds any AllFound k heard gs = OfPowered gs HasShort
-SurveyEnds any BlockFull k heard gs = AreTaken k heard ⊎ ((any ≡ true) × HasAnothers k heard)
+SurveyEnds any BlockFull k heard gs = (0 < count_by is_bare gs) × (AreTaken k heard ⊎ ((any ≡ true) × HasAnothers k heard))
 SurveyEnds any GaveUp k heard gs = ⊥
 
 pub record SurveyCloses (e : End) (s : Stage) (k : Kept) (heard : Shorts) (start : Begun) (gs : List Gear) (left : ℕ) : Type 0 where

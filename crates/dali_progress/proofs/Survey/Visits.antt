@@ -10,7 +10,7 @@ use Rattle.dali_special.specs.declared.command.Command.TheVariants.{Program}
 use Rattle.dali_gear.specs.Gear.{Gear}
 use Rattle.dali_script.specs.declared.records.Record.TheVariants.{Reserve, Enrol}
 use Rattle.dali_script.specs.declared.finding.Finding.TheVariants.{Queried}
-use Rattle.dali_script.specs.Records.{Assignment, Has, HasRandom, IsKept}
+use Rattle.dali_script.specs.Records.{Assignment, Kept, Has, HasRandom, IsKept}
 use Rattle.dali_script.specs.declared.stage.Stage.{Stage}
 use Rattle.dali_script.specs.declared.stage.Stage.TheVariants as stage
 use Rattle.dali_script.specs.Stages.{stage_of}
@@ -78,6 +78,16 @@ opens_frames : (lost more bare drew sought draws left : ℕ) → bare ≡ drew +
 opens_frames zero more bare drew sought draws left split same count less enough = omega (arith, split, same, count, less, enough)
 opens_frames (suc lost) more bare drew sought draws left split same count less enough = omega (arith, split, same, count, less, enough)
 
+-- a gear that is visited has no address yet
+visited_bare : (r : SearchAddress) (k : Kept) (n : SearchAddress) (gs : List Gear) (rest : ℕ) → Visits (stage.Unnamed r) k n (those_drawn gs) rest
+    → 0 < count_by is_bare gs
+visited_bare r k n gs rest w =
+    some (count_by is_bare gs) (count_by is_bare (those_drawn gs)) (count_by is_lost gs) (count_by is_wanted (those_drawn gs)) w.more (bare_split gs)
+    (wanted.wanted_count (those_drawn gs) w.ready w.unnamed) w.visited.count
+  where
+    some : (bare drew lost sought more : ℕ) → bare ≡ drew + lost → sought ≡ drew → sought ≡ suc more → 0 < bare
+    some bare drew lost sought more split same count = omega (arith, split, same, count)
+
 -- what is reserved for its number is another's: gear draw new numbers, or the close comes
 withheld_turns : (start : Begun) (t : Machine) (o : Order) (r : SearchAddress) (a : ℕ) (gs : List Gear) (left : ℕ)
     → SurveyStands true start t gs left
@@ -119,9 +129,6 @@ withheld_turns start t o r a gs left st is v has other begins = go (may_draw t) 
   drew : count_by is_wanted (those_drawn gs) ≡ count_by is_bare (those_drawn gs)
   drew = wanted.wanted_count (those_drawn gs) w.ready w.unnamed
 
-  somebody : (bare drew lost sought more : ℕ) → bare ≡ drew + lost → sought ≡ drew → sought ≡ suc more → 0 < bare
-  somebody bare drew lost sought more split same count = omega (arith, split, same, count)
-
   go : (b : Bool) → may_draw t ≡ b → IsNext start (machine_ordered t o) o gs left
   go true may =
       first_by start t o (opening_anew t.course) gs left (calm_of start t gs left st) begins (ungiven_next t r true is st.smooth.way may)
@@ -132,8 +139,7 @@ withheld_turns start t o r a gs left st is v has other begins = go (may_draw t) 
           stage_is = tt;
           loud = v.loud;
           few = subst (λ b. t.course.tally.draws + 1 ≤ most_drawn b) (sym any) (omega (arith, few));
-          somebody = somebody (count_by is_bare gs) (count_by is_bare (those_drawn gs)) (count_by is_lost gs) (count_by is_wanted (those_drawn gs)) w.more
-              (bare_split gs) drew w.visited.count;
+          somebody = visited_bare r t.kept t.course.number gs v.rest w;
           drawn = tt;
           own = λ e. absurd (never e);
           settled = λ e. absurd (never e);
@@ -157,7 +163,7 @@ withheld_turns start t o r a gs left st is v has other begins = go (may_draw t) 
       (smooth_as t.course (closing_by t.course BlockFull) refl refl st.smooth) tt
       (record {
         stage_is = tt;
-        well = inr (any, (a, value_of r, has, other));
+        well = (visited_bare r t.kept t.course.number gs v.rest w, inr (any, (a, value_of r, has, other)));
         settled = λ e. absurd (never e);
         tabled = whole_table;
         frames = some w.more (called_after (count_by is_lost gs) + spare start.any t.course.tally.draws) frames;
@@ -247,7 +253,7 @@ unnamed_turns start t o r gs left g st kept purpose is v =
           ∙ never_full t t.course st.smooth.unmissed) (smooth_as t.course (closing_by t.course BlockFull) refl refl st.smooth) tt
           (record {
             stage_is = tt;
-            well = inl (all_taken t.kept t.heard least);
+            well = (visited_bare r t.kept t.course.number gs v.rest w, inl (all_taken t.kept t.heard least));
             settled = settled none;
             tabled = drawn_tabled (unseen start.gear) t.kept.enrolled gs v.tabled;
             frames = count w.more v.behind v.rest (called_after (count_by is_lost gs) + spare start.any t.course.tally.draws) same_behind (some w.frames)

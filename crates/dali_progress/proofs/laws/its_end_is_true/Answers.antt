@@ -1,6 +1,7 @@
 use Rattle.dali_progress.proofs.Beginnings.{ends, named}
 use Rattle.dali_progress.proofs.Survey.Quiet.{quiet_tabled}
+use Rattle.dali_progress.proofs.Survey.Vacant.{enough_found}
 use Rattle.dali_progress.proofs.laws.its_end_is_true.Goals as goal
 
 pub returns : goal.returns
-returns c = record { done = ends; table = named; quiet = quiet_tabled }
+returns c = record { done = ends; enough = enough_found; table = named; quiet = quiet_tabled }
