@@ -41,7 +41,7 @@ pub record BreaksEndBeside (s : SiteState) (c d : ℕ) (front others back : List
   pub between : AreOfOther (site_after s front) d others
   pub afterwards : Rounds false (site_after (site_after s front) others) c back
   pub ended : HasEnded (after_three s front others back) c AllFound
-  pub untrue : IsTrueEnd ByStart (after_three s front others back) c AllFound → ⊥
+  pub untrue : IsTrueEnd ByStart s (after_three s front others back) c AllFound → ⊥
 
 abbrev pub terminating_once : List Event
 terminating_once =

@@ -1,9 +1,8 @@
-use Rattle.dali_progress.specs.Rounds.{most_events, most_draws, Beginning, most_frames, Any, Rounds, GoesOn, by_survey, IsAlone, HasEnded, ByStart, frames}
-use Rattle.dali_progress.specs.Rounds.{Settled, bare}
-use Rattle.dali_progress.specs.Rounds.{HasNext, IsSettled, site_after, BeginsAlone}
+use Rattle.dali_progress.specs.Rounds.{most_events, Beginning, most_frames, Rounds, GoesOn, by_survey, IsAlone, HasEnded, ByStart, BySurvey, frames}
+use Rattle.dali_progress.specs.Rounds.{bare, HasNext, IsSettled, IsSettledAt, site_after, BeginsAlone}
 use Rattle.dali_progress.specs.Ends.{NamesAll, IsTrueEnd, table_at}
 use Rattle.dali_progress.proofs.Lone.{due_by, IsDueIn, IsLone}
-use Rattle.std.proofs.Common.{◌≡◌, ℕ, ◌+◌, ◌*◌, ◌≤◌, ◌⊎◌, None, inl, inr, Bool, List, refl, sym, subst, arith, length, Some, true, false}
+use Rattle.std.proofs.Common.{◌≡◌, ℕ, ◌+◌, ◌≤◌, ◌⊎◌, None, inl, inr, List, refl, sym, subst, arith, length, Some}
 use Rattle.dali_arbiter.specs.Arbiter.{next}
 use Rattle.dali_script.specs.declared.orders.Order.TheVariants.{Halt}
 use Rattle.dali_script.specs.declared.orders.End.{End}
@@ -17,64 +16,60 @@ use Rattle.dali_standing.specs.declared.refusal.Refusal.TheVariants as refusal
 use Rattle.dali_events.specs.declared.trouble.Trouble.TheVariants as trouble
 use Rattle.dali_script.specs.declared.orders.Fault.{Fault}
 use Rattle.dali_progress.proofs.Logged.{same_some}
-use Rattle.dali_progress.proofs.Along.{Measure, Argument, Runs, RunsAll, runs_all, few_all, never_halts}
+use Rattle.dali_progress.proofs.Along.{Measure, Argument, RunsAll, runs_all, few_all, never_halts}
 use Rattle.dali_progress.proofs.Start.Goes.{of_start}
 use Rattle.dali_progress.proofs.Survey.Goes.{of_survey}
 use Rattle.dali_progress.proofs.Start.Bounded as start
 use Rattle.dali_progress.proofs.Survey.Bounded as survey
 use Rattle.dali_progress.proofs.Drawing as drawing
 use Rattle.dali_progress.proofs.Start.Numbers.{LeavesDraws, start_draws}
-use Rattle.dali_progress.proofs.Survey.Stands.{most_drawn}
-use Rattle.dali_progress.proofs.Survey.Numbers.{numbers_for, HasNumbers, survey_draws}
+use Rattle.dali_progress.proofs.Survey.Numbers.{HasNumbers, survey_draws}
 
 -- THE LAWS BY CASES, over what is proved of a start and of a survey.
 
 pub alone_of : (b : Beginning) (s : SiteState) (c : ℕ) → BeginsAlone b s c → IsAlone s c
 alone_of ByStart s c a = a.0
-alone_of Settled s c a = a.0
-alone_of Any s c a = a
+alone_of BySurvey s c a = a
 
--- one that may start may begin in each way
+-- one that may start may survey, and its records are settled
 pub begins_so : (b : Beginning) (s : SiteState) (c : ℕ) → BeginsAlone ByStart s c → BeginsAlone b s c
 begins_so ByStart s c a = a
-begins_so Settled s c a = (a.0, subst IsSettled (sym a.1) (λ x has. absurd has))
-begins_so Any s c a = a.0
+begins_so BySurvey s c a = a.0
+
+pub begins_settled : (s : SiteState) (c : ℕ) → BeginsAlone ByStart s c → IsSettledAt s c
+begins_settled s c a = subst IsSettled (sym a.1) (λ x has. absurd has)
 
 -- ---------------------------------------------------------------- the two arguments
 
-abbrev pub measure : Beginning → SiteState → Measure
-measure ByStart s = of_start (world s).gear
-measure Settled s = of_survey (survey.began_at false s)
-measure Any s = of_survey (survey.began_at true s)
+abbrev pub measure : Beginning → SiteState → ℕ → Measure
+measure ByStart s c = of_start (world s).gear
+measure BySurvey s c = of_survey (survey.began_at s c)
 
-argues : (b : Beginning) (s : SiteState) → Argument (measure b s)
-argues ByStart s = start.argument (world s).gear
-argues Settled s = survey.argument (survey.began_at false s)
-argues Any s = survey.argument (survey.began_at true s)
+argues : (b : Beginning) (s : SiteState) (c : ℕ) → Argument (measure b s c)
+argues ByStart s c = start.argument (world s).gear
+argues BySurvey s c = survey.argument (survey.began_at s c)
 
 pub runs_after : (b : Beginning) (s : SiteState) (c : ℕ) (es : List Event) → BeginsAlone b s c → Rounds (by_survey b) s c es
-    → RunsAll (measure b s) s c (most_frames b (bare s)) es
-runs_after ByStart s c es a rounds = runs_all (measure ByStart s) (argues ByStart s) s c (most_frames ByStart (bare s)) es (start.starts s c a) rounds
-runs_after Settled s c es a rounds =
-    runs_all (measure Settled s) (argues Settled s) s c (most_frames Settled (bare s)) es
-    (survey.starts false s c (most_frames Settled (bare s)) (omega arith) a.0 (λ e. a.1)) rounds
-runs_after Any s c es a rounds = runs_all (measure Any s) (argues Any s) s c (most_frames Any (bare s)) es (survey.starts_any s c a) rounds
+    → RunsAll (measure b s c) s c (most_frames b (bare s)) es
+runs_after ByStart s c es a rounds =
+    runs_all (measure ByStart s c) (argues ByStart s c) s c (most_frames ByStart (bare s)) es (start.starts s c a) rounds
+runs_after BySurvey s c es a rounds =
+    runs_all (measure BySurvey s c) (argues BySurvey s c) s c (most_frames BySurvey (bare s)) es (survey.starts s c a) rounds
 
 -- NO MORE FRAMES are sent than these, and no more events come
 pub bounded : (b : Beginning) (s : SiteState) (c : ℕ) (es : List Event) → BeginsAlone b s c → Rounds (by_survey b) s c es
     → frames es ≤ most_frames b (bare s)
 bounded b s c es a rounds = let all = runs_after b s c es a rounds in omega (arith, all.sum)
 
-events_most : (b : Beginning) (s : SiteState) (k : ℕ) → k ≤ (measure b s).events (most_frames b (bare s)) + 1 → k ≤ most_events b (bare s)
-events_most ByStart s k few = omega (arith, few)
-events_most Settled s k few = omega (arith, few)
-events_most Any s k few = omega (arith, few)
+events_most : (b : Beginning) (s : SiteState) (c k : ℕ) → k ≤ (measure b s c).events (most_frames b (bare s)) + 1 → k ≤ most_events b (bare s)
+events_most ByStart s c k few = omega (arith, few)
+events_most BySurvey s c k few = omega (arith, few)
 
 pub few_events : (b : Beginning) (s : SiteState) (c : ℕ) (es : List Event) → BeginsAlone b s c → Rounds (by_survey b) s c es
     → length es ≤ most_events b (bare s)
 few_events b s c es a rounds =
-    events_most b s (length es)
-    (few_all (measure b s) (argues b s) s c (most_frames b (bare s)) es (alone_of b s c a) (runs_after b s c es a rounds))
+    events_most b s c (length es)
+    (few_all (measure b s c) (argues b s c) s c (most_frames b (bare s)) es (alone_of b s c a) (runs_after b s c es a rounds))
 
 -- ---------------------------------------------------------------- it goes on
 
@@ -94,7 +89,7 @@ after b s c es a rounds =
       machine = all.runs.machine;
       there = all.runs.there;
       lone = all.runs.goes.lone;
-      halts = never_halts (measure b s) (argues b s) (site_after s es) c all.rest all.runs;
+      halts = never_halts (measure b s c) (argues b s c) (site_after s es) c all.rest all.runs;
     }
 
 pub goes_on : (b : Beginning) (s : SiteState) (c : ℕ) (es : List Event) → BeginsAlone b s c → Rounds (by_survey b) s c es
@@ -114,49 +109,32 @@ goes_on b s c es a rounds =
 -- ---------------------------------------------------------------- its end
 
 pub ends : (b : Beginning) (s : SiteState) (c : ℕ) (es : List Event) (e : End) → BeginsAlone b s c → Rounds (by_survey b) s c es
-    → HasEnded (site_after s es) c e → IsTrueEnd b (site_after s es) c e
+    → HasEnded (site_after s es) c e → IsTrueEnd b s (site_after s es) c e
 ends ByStart s c es e a rounds ended =
     let all = runs_after ByStart s c es a rounds in (start.ended_by s (site_after s es) c all.rest e all.runs ended).0
-ends Settled s c es e a rounds ended =
-    let all = runs_after Settled s c es a rounds in
-    let by = survey.ended_by false s (site_after s es) c all.rest e all.runs ended in
-    (survey.ends false s (site_after s es) c e by, survey.ends_taken s (site_after s es) c e by, subst IsSettled by.kept (by.settled refl))
-ends Any s c es e a rounds ended =
-    let all = runs_after Any s c es a rounds in
-    survey.ends true s (site_after s es) c e (survey.ended_by true s (site_after s es) c all.rest e all.runs ended)
+ends BySurvey s c es e a rounds ended =
+    let all = runs_after BySurvey s c es a rounds in
+    let by = survey.ended_by s (site_after s es) c all.rest e all.runs ended in
+    (survey.ends s (site_after s es) c e by, survey.ends_settled s (site_after s es) c e by)
 
 pub named : (b : Beginning) (s : SiteState) (c : ℕ) (es : List Event) (e : End) → BeginsAlone b s c → Rounds (by_survey b) s c es
     → HasEnded (site_after s es) c e → NamesAll (by_survey b) s (table_at (site_after s es) c) (site_after s es)
 named ByStart s c es e a rounds ended =
     let all = runs_after ByStart s c es a rounds in (start.ended_by s (site_after s es) c all.rest e all.runs ended).1
-named Settled s c es e a rounds ended =
-    let all = runs_after Settled s c es a rounds in
-    survey.tabled false s (site_after s es) c e (survey.ended_by false s (site_after s es) c all.rest e all.runs ended)
-named Any s c es e a rounds ended =
-    let all = runs_after Any s c es a rounds in
-    survey.tabled true s (site_after s es) c e (survey.ended_by true s (site_after s es) c all.rest e all.runs ended)
+named BySurvey s c es e a rounds ended =
+    let all = runs_after BySurvey s c es a rounds in
+    survey.tabled s (site_after s es) c e (survey.ended_by s (site_after s es) c all.rest e all.runs ended)
 
 -- ---------------------------------------------------------------- its numbers
 
-survey_spent : (any : Bool) (s : SiteState) (c left : ℕ) (es : List Event) → IsAlone s c → Runs (of_survey (survey.began_at any s)) s c left
-    → numbers_for (most_drawn any) (bare s) ≤ length (world s).left → Rounds true s c es
-    → IsPumpRefused (site_after s es) trouble.None refusal.DrawsSpent → ⊥
-survey_spent any s c left es a runs enough rounds =
-    drawing.never_spent (of_survey (survey.began_at any s)) (survey.argument (survey.began_at any s)) (HasNumbers any)
-    (survey_draws (survey.began_at any s)) s c
-    left es runs rounds
-    (λ m there. subst (λ t. HasNumbers any (informed_by m t) (world s).gear (world s).left) (sym a.told)
-    (subst (λ n. HasNumbers any n (world s).gear (world s).left)
-    (same_some (machine_at s c) (at_first c (controller_at (world s) c).records) m a.machine there) enough))
-
 pub never_spent : (b : Beginning) (s : SiteState) (c : ℕ) (es : List Event) → BeginsAlone b s c
-    → most_draws b * bare s ≤ length (world s).left → Rounds (by_survey b) s c es
-    → IsPumpRefused (site_after s es) trouble.None refusal.DrawsSpent → ⊥
+    → bare s ≤ length (world s).left → Rounds (by_survey b) s c es → IsPumpRefused (site_after s es) trouble.None refusal.DrawsSpent → ⊥
 never_spent ByStart s c es a enough rounds =
-    drawing.never_spent (measure ByStart s) (argues ByStart s) LeavesDraws (start_draws (world s).gear) s c (most_frames ByStart (bare s)) es
-    (start.starts s c a) rounds (λ m there closed. omega (arith, enough))
-never_spent Settled s c es a enough rounds =
-    survey_spent false s c (most_frames Settled (bare s)) es a.0 (survey.starts false s c (most_frames Settled (bare s)) (omega arith) a.0 (λ e. a.1))
-    (omega (arith, enough)) rounds
-never_spent Any s c es a enough rounds =
-    survey_spent true s c (most_frames Any (bare s)) es a (survey.starts_any s c a) (omega (arith, enough)) rounds
+    drawing.never_spent (measure ByStart s c) (argues ByStart s c) LeavesDraws (start_draws (world s).gear) s c (most_frames ByStart (bare s)) es
+    (start.starts s c a) rounds (λ m there closed. enough)
+never_spent BySurvey s c es a enough rounds =
+    drawing.never_spent (measure BySurvey s c) (argues BySurvey s c) HasNumbers (survey_draws (survey.began_at s c)) s c (most_frames BySurvey (bare s)) es
+    (survey.starts s c a) rounds
+    (λ m there. subst (λ t. HasNumbers (informed_by m t) (world s).gear (world s).left) (sym a.told)
+    (subst (λ n. HasNumbers n (world s).gear (world s).left)
+    (same_some (machine_at s c) (at_first c (controller_at (world s) c).records) m a.machine there) (omega (arith, enough))))

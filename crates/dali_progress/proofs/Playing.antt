@@ -154,7 +154,7 @@ pub record BreaksEnd (s : SiteState) (c : ℕ) (front : List Event) (e : Event) 
   pub allowed : Allowed (world (site_after s front)) e
   pub afterwards : Rounds false (site_logged (site_after s front) e) c back
   pub ended : HasEnded (after_both s front e back) c AllFound
-  pub untrue : IsTrueEnd ByStart (after_both s front e back) c AllFound → ⊥
+  pub untrue : IsTrueEnd ByStart s (after_both s front e back) c AllFound → ⊥
 
 -- then that event is of no round
 joined : (s : SiteState) (c : ℕ) (front : List Event) (e : Event) (back : List Event) → Rounds false s c front → Allowed (world (site_after s front)) e
@@ -170,6 +170,6 @@ after_joined s (x ∷ front) e back = after_joined (site_logged s x) front e bac
 pub is_of_no_round : (s : SiteState) (c : ℕ) (front : List Event) (e : Event) (back : List Event) → BreaksEnd s c front e back
     → IsOfRound false (site_after s front) c e → ⊥
 is_of_no_round s c front e back b of =
-    b.untrue (subst (λ t. IsTrueEnd ByStart t c AllFound) (after_joined s front e back)
+    b.untrue (subst (λ t. IsTrueEnd ByStart s t c AllFound) (after_joined s front e back)
     (ends ByStart s c (front ++ e ∷ back) AllFound b.starts (joined s c front e back b.before b.allowed of b.afterwards)
     (subst (λ t. HasEnded t c AllFound) (sym (after_joined s front e back)) b.ended)))

@@ -1,4 +1,4 @@
-use Rattle.std.proofs.Common.{◌≡◌, ℕ, ◌+◌, ◌*◌, ◌<◌, ◌≤◌, ◌⊎◌, inl, inr, Bool, true, false, zero, suc, List, [], ◌∷◌, ◌++◌, refl, sym, ap, subst, ◌∙◌, arith}
+use Rattle.std.proofs.Common.{◌≡◌, ℕ, ◌+◌, ◌<◌, ◌≤◌, ◌⊎◌, inl, inr, Bool, true, false, zero, suc, List, [], ◌∷◌, ◌++◌, refl, sym, ap, subst, ◌∙◌, arith}
 use Rattle.std.proofs.Common.{length}
 use Rattle.std.proofs.Common.{Option, Some, None}
 use Rattle.std.specs.Prelude.{if◌then◌else◌, is_some}
@@ -34,7 +34,7 @@ use Rattle.dali_world.specs.Site.{SiteState, world, site_logged, opened_site, Is
 use Rattle.dali_replay.specs.declared.rounds.Round.TheVariants as round
 use Rattle.dali_replay.specs.Installation.{Installation, installation_of, IsGiven, IsGivenBy, HasNoneBy, IsGoRefused, controller}
 use Rattle.dali_replay.specs.Rounds.{has_turn, has_turn_by, IsTurn, Turns, IsTurnRefused, IsRoundOf, controllers, Ran}
-use Rattle.dali_progress.specs.Rounds.{site_after, most_events, most_draws, Beginning, Any, Rounds, by_survey, ByStart, Settled, bare, BeginsAlone}
+use Rattle.dali_progress.specs.Rounds.{site_after, most_events, Beginning, Rounds, by_survey, ByStart, BySurvey, bare, BeginsAlone}
 use Rattle.dali_progress.specs.Running.{WasRefused, HasEndedBy, HasBegun, begun, HasNoneUsed, SparesUsed, SparesUsedOf, HasRoom, RanAlone}
 use Rattle.dali_progress.specs.Spared.{HavePower}
 use Rattle.dali_progress.proofs.Lone.{Moment, heard_free}
@@ -276,7 +276,7 @@ run_with_room b limit n between sent text m ran enough room = go (run_to b limit
 -- A RUN WITH ROOM AND NUMBERS COMMISSIONS
 pub run_commissions : (b : Beginning) (limit : ℕ) (n between : Installation) (sent : ℕ) (text : List ℕ) (m : Installation)
     → RanAlone b limit n between sent text m → most_events b (bare n.site) < limit + begun (by_survey b) → HasRoom b n.site
-    → most_draws b * bare n.site ≤ length (world n.site).left → HasEndedBy b n.site m.site 0
+    → bare n.site ≤ length (world n.site).left → HasEndedBy b n.site m.site 0
 run_commissions b limit n between sent text m ran enough room numbers = go (run_to b limit n between sent text m ran enough room) where
   go : HasEndedBy b n.site m.site 0 ⊎ IsSpentOut (by_survey b) n.site m.site → HasEndedBy b n.site m.site 0
   go (inl ended) = ended
@@ -292,13 +292,11 @@ bare_few p = subst (λ x. bare (opened_site p 64 65536) ≤ x) (start_count p) (
 
 grows : (b : Beginning) (g h : ℕ) → g ≤ h → most_events b g ≤ most_events b h
 grows ByStart g h less = omega (arith, less)
-grows Settled g h less = omega (arith, less)
-grows Any g h less = omega (arith, less)
+grows BySurvey g h less = omega (arith, less)
 
 few_in_room : (b : Beginning) (g : ℕ) → g ≤ 128 → 0 + most_events b g < 65536
 few_in_room ByStart g few = omega (arith, few)
-few_in_room Settled g few = omega (arith, few)
-few_in_room Any g few = omega (arith, few)
+few_in_room BySurvey g few = omega (arith, few)
 
 -- it begins alone, and has room
 ran_new : (b : Beginning) (limit : ℕ) (p : Plan) (k : Block) (between : Installation) (sent : ℕ) (text : List ℕ) (m : Installation) → IsPlan p
@@ -343,36 +341,13 @@ new_runs b limit p k between sent text m plan spares blocks few enough begins ra
     run_with_room b limit (installation_of p) between sent text m (ran_new b limit p k between sent text m plan blocks begins ran)
     (enough_new b p (limit + begun (by_survey b)) enough) (room_new b p plan spares few)
 
-new_of : (b : Beginning) (limit : ℕ) (p : Plan) (k : Block) (between : Installation) (sent : ℕ) (text : List ℕ) (m : Installation) → IsPlan p
-    → SparesUsedOf b p → p.blocks ≡ k ∷ [] → p.gear ≤ 128 → most_draws b ≡ 1 → p.gear ≤ length p.draws → most_events b p.gear < limit + begun (by_survey b)
-    → HasBegun (by_survey b) (installation_of p) between → Ran limit between sent text m → HasEndedBy b (installation_of p).site m.site 0
-new_of b limit p k between sent text m plan spares blocks few one numbers enough begins ran =
-    run_commissions b limit (installation_of p) between sent text m (ran_new b limit p k between sent text m plan blocks begins ran)
-    (enough_new b p (limit + begun (by_survey b)) enough) (room_new b p plan spares few)
-    (rw one (all (bare (opened_site p 64 65536)) p.gear (length p.draws) (bare_few p) numbers))
-  where
-    all : (without gear draws : ℕ) → without ≤ gear → gear ≤ draws → 1 * without ≤ draws
-    all without gear draws fewer few = omega (arith, fewer, few)
-
--- nothing is kept there, so whatever begins by a survey is settled
 pub new_commissions : (b : Beginning) (limit : ℕ) (p : Plan) (k : Block) (between : Installation) (sent : ℕ) (text : List ℕ) (m : Installation) → IsPlan p
     → SparesUsedOf b p → p.blocks ≡ k ∷ [] → p.gear ≤ 128 → p.gear ≤ length p.draws → most_events b p.gear < limit + begun (by_survey b)
     → HasBegun (by_survey b) (installation_of p) between → Ran limit between sent text m → HasEndedBy b (installation_of p).site m.site 0
-new_commissions ByStart limit p k between sent text m plan spares blocks few numbers enough begins ran =
-    new_of ByStart limit p k between sent text m plan spares blocks few refl numbers enough begins ran
-new_commissions Settled limit p k between sent text m plan spares blocks few numbers enough begins ran =
-    new_of Settled limit p k between sent text m plan spares blocks few refl numbers enough begins ran
-new_commissions Any limit p k between sent text m plan spares blocks few numbers enough begins ran =
-    let by = new_of Settled limit p k between sent text m plan spares blocks few refl numbers (fewer p.gear enough) begins ran in
-    record {
-      events = by.events;
-      rounds = by.rounds;
-      is = by.is;
-      outcome = by.outcome;
-      ended = by.ended;
-      is_true = by.is_true.0;
-      named = by.named;
-    }
+new_commissions b limit p k between sent text m plan spares blocks few numbers enough begins ran =
+    run_commissions b limit (installation_of p) between sent text m (ran_new b limit p k between sent text m plan blocks begins ran)
+    (enough_new b p (limit + begun (by_survey b)) enough) (room_new b p plan spares few)
+    (all (bare (opened_site p 64 65536)) p.gear (length p.draws) (bare_few p) numbers)
   where
-    fewer : (g : ℕ) → most_events Any g < limit + begun (by_survey Any) → most_events Settled g < limit + begun (by_survey Settled)
-    fewer g enough = omega (arith, enough)
+    all : (without gear draws : ℕ) → without ≤ gear → gear ≤ draws → without ≤ draws
+    all without gear draws fewer few = omega (arith, fewer, few)

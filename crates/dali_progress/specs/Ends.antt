@@ -9,7 +9,6 @@ use Rattle.dali_script.specs.declared.orders.Order.TheVariants.{Commit}
 use Rattle.dali_script.specs.declared.orders.End.{End}
 use Rattle.dali_script.specs.declared.orders.End.TheVariants.{AllFound, BlockFull, GaveUp}
 use Rattle.dali_controller.specs.Shorts.{has_short}
-use Rattle.dali_controller.specs.Course.{is_anothers}
 use Rattle.dali_controller.specs.Machine.{Machine}
 use Rattle.dali_events.specs.declared.event.Event.{Event}
 use Rattle.dali_events.specs.declared.event.Event.TheVariants as event
@@ -17,7 +16,7 @@ use Rattle.dali_events.specs.World.{controller_at}
 use Rattle.dali_events.specs.Searching.{HasShort}
 use Rattle.dali_events.specs.Wanted.{gear_of, is_bare, OfPowered}
 use Rattle.dali_world.specs.Site.{SiteState, world, machine_at}
-use Rattle.dali_progress.specs.Rounds.{Beginning, ByStart, Settled, Any, IsSettledAt}
+use Rattle.dali_progress.specs.Rounds.{Beginning, ByStart, BySurvey, IsSettledAt}
 
 -- WHAT AN END SAYS, of a controller that is alone on a bus that nothing disturbs.
 
@@ -38,33 +37,23 @@ IsTaken m a =
 abbrev pub IsBlockTaken : Machine → Type 0
 IsBlockTaken m = (a : ℕ) → InBlock m.kept.block a → IsTaken m a
 
--- an address that it has reserved is another's: somebody else was heard under it, or is enrolled
-abbrev pub HoldsAnothers : Machine → Type 0
-HoldsAnothers m =
-    (a : ℕ) × (r : ℕ) × Has m.kept.reserved (a, r) × (is_anothers m.kept m.heard a r ≡ true)
-
 -- OF A SURVEY. With all-found, each gear with power has a short address. With block-full, some gear
--- with power has none, and each address of the block is taken, or one that it has reserved is
--- another's. It never gives up.
+-- with power has none, and each address of the block is taken. It never gives up.
 abbrev pub SurveyEndsWell : End → Machine → List Gear → Type 0
 SurveyEndsWell AllFound m gs = OfPowered gs HasShort
-SurveyEndsWell BlockFull m gs = (0 < count_by is_bare gs) × (IsBlockTaken m ⊎ HoldsAnothers m)
+SurveyEndsWell BlockFull m gs = (0 < count_by is_bare gs) × IsBlockTaken m
 SurveyEndsWell GaveUp m gs = ⊥
 
 abbrev pub IsSurveyDone : SiteState → ℕ → End → Type 0
 IsSurveyDone s c e =
     (m : Machine) → machine_at s c ≡ Some m → SurveyEndsWell e m (world s).gear
 
--- with settled records nothing is another's
-abbrev pub IsAllTaken : SiteState → ℕ → Type 0
-IsAllTaken s c = (m : Machine) → machine_at s c ≡ Some m → IsBlockTaken m
-
--- AN END IS TRUE, by how the controller began. With settled records they are settled at the end.
-abbrev pub IsTrueEnd : Beginning → SiteState → ℕ → End → Type 0
-IsTrueEnd ByStart s c e = EndsWell e (controller_at (world s) c).records (world s).gear
-IsTrueEnd Settled s c e =
-    IsSurveyDone s c e × (e ≡ BlockFull → IsAllTaken s c) × IsSettledAt s c
-IsTrueEnd Any s c e = IsSurveyDone s c e
+-- AN END IS TRUE, by how the controller began, where the site was once as `before`. After a survey
+-- that began with settled records they are settled.
+abbrev pub IsTrueEnd : Beginning → SiteState → SiteState → ℕ → End → Type 0
+IsTrueEnd ByStart before s c e = EndsWell e (controller_at (world s) c).records (world s).gear
+IsTrueEnd BySurvey before s c e =
+    IsSurveyDone s c e × (IsSettledAt before c → IsSettledAt s c)
 
 -- ---------------------------------------------------------------- the table
 

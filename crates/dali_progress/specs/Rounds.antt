@@ -22,18 +22,15 @@ use Rattle.dali_events.specs.Wanted.{is_bare}
 use Rattle.dali_standing.specs.Seats.{MayAnswer, LeavesWhole}
 use Rattle.dali_world.specs.Site.{SiteState, world, machine_at, next_request, site_logged}
 
--- HOW A CONTROLLER BEGINS: by Start, with nothing kept; by a survey, with settled records; or by a
--- survey, with any records.
+-- HOW A CONTROLLER BEGINS: by Start, with nothing kept; or by a survey, with any records.
 pub data Beginning : Type 0 where
   ByStart : Beginning
-  Settled : Beginning
-  Any : Beginning
+  BySurvey : Beginning
 
 -- whether it surveys: what depends on no more than this takes it as `surveys`
 abbrev pub by_survey : Beginning → Bool
 by_survey ByStart = false
-by_survey Settled = true
-by_survey Any = true
+by_survey BySurvey = true
 
 -- ONE CONTROLLER ALONE: it is up, and has just begun, with the records that it keeps; no request
 -- waits, of whomever, and nobody owns the bus.
@@ -58,11 +55,10 @@ IsSettled k = (x : Assignment) → Has k.reserved x → Has k.enrolled x
 abbrev pub IsSettledAt : SiteState → ℕ → Type 0
 IsSettledAt s c = IsSettled (controller_at (world s) c).records
 
--- IT BEGINS ALONE, in one of the three ways
+-- IT BEGINS ALONE, in one of the two ways
 abbrev pub BeginsAlone : Beginning → SiteState → ℕ → Type 0
 BeginsAlone ByStart s c = IsAlone s c × KeepsNothing (controller_at (world s) c).records
-BeginsAlone Settled s c = IsAlone s c × IsSettledAt s c
-BeginsAlone Any s c = IsAlone s c
+BeginsAlone BySurvey s c = IsAlone s c
 
 -- the site once the controller went down and came up again, with the records that it kept
 abbrev pub restarted : SiteState → ℕ → SiteState
@@ -131,20 +127,11 @@ bare s = count_by is_bare (world s).gear
 -- HOW MANY FRAMES a controller sends, and how many events come, where n gear are so; at the most
 abbrev pub most_frames : Beginning → ℕ → ℕ
 most_frames ByStart n = 111 * n + 10
-most_frames Settled n = 106 * n + 258
-most_frames Any n = 106 * n + 516
+most_frames BySurvey n = 106 * n + 258
 
 abbrev pub most_events : Beginning → ℕ → ℕ
 most_events ByStart n = 333 * n + 31
-most_events Settled n = 318 * n + 775
-most_events Any n = 424 * n + 2065
-
--- HOW OFTEN gear draw a random address, at the most: of any records what is reserved for a number
--- may be another's, and then they draw new ones
-abbrev pub most_draws : Beginning → ℕ
-most_draws ByStart = 1
-most_draws Settled = 1
-most_draws Any = 3
+most_events BySurvey n = 318 * n + 775
 
 -- ---------------------------------------------------------------- it goes on
 

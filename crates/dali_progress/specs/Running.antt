@@ -57,7 +57,7 @@ pub record HasEndedBy (b : Beginning) (before s : SiteState) (c : ℕ) : Type 0 
   pub is : s ≡ site_after before events
   pub outcome : End
   pub ended : HasEnded s c outcome
-  pub is_true : IsTrueEnd b s c outcome
+  pub is_true : IsTrueEnd b before s c outcome
   pub named : NamesAll (by_survey b) before (table_at s c) s
 
 -- or, after some rounds, which sent these frames, a call of the next round was refused

@@ -1,12 +1,11 @@
 //! What is proved of a whole commissioning. Programs don't call these.
 //!
 //! Seven speak of commissioning that nothing disturbs: of a site on which a controller begins alone, with nothing on
-//! the bus (`BeginsAlone`), in one of three ways: by Start, with nothing kept (`ByStart`); by a survey, with settled
-//! records, in which each address that is reserved is enrolled so (`Settled`); or by a survey, with any records
-//! (`Any`). And of a list of events that rounds add to its log (`Rounds`): the controller acts on what is due, and its
-//! commits succeed; frames that are next are sent, and what the gear answer is heard. So no other controller acts
-//! meanwhile, no frame is destroyed, no answer is lost or damaged, the bus never lapses, and no gear's power comes or
-//! goes.
+//! the bus (`BeginsAlone`), in one of two ways: by Start, with nothing kept (`ByStart`); or by a survey, with any
+//! records (`BySurvey`). And of a list of events that rounds add to its log (`Rounds`): the controller acts on what is
+//! due, and its commits succeed; frames that are next are sent, and what the gear answer is heard. So no other
+//! controller acts meanwhile, no frame is destroyed, no answer is lost or damaged, the bus never lapses, and no gear's
+//! power comes or goes.
 //!
 //! Three of the seven speak, also or alone, of the runs of rounds that a replay makes of an installation with one
 //! controller (`RanAlone`): each is such a list of events. One law more speaks of rounds in which one gear is misheard.
@@ -35,7 +34,7 @@ ghost use Rattle.dali_events.specs.declared.event.Event.{Event};
 ghost use Rattle.dali_events.specs.Plan.{Plan, IsPlan, block_at};
 ghost use Rattle.dali_events.specs.Runs.{IsRun};
 ghost use Rattle.dali_events.specs.Promise.{KeepsPromise, HoldsShort, KeepsAddresses};
-ghost use Rattle.dali_events.specs.World.{gear_at};
+ghost use Rattle.dali_events.specs.World.{controller_at, gear_at};
 ghost use Rattle.dali_events.specs.Searching.{HasShort};
 ghost use Rattle.dali_events.specs.Wanted.{OfPowered};
 ghost use Rattle.dali_standing.specs.declared.refusal.Refusal.TheVariants as refusal;
@@ -43,9 +42,9 @@ ghost use Rattle.dali_events.specs.declared.trouble.Trouble.TheVariants as troub
 ghost use Rattle.dali_world.specs.Site.{SiteState, opened_site, world, IsActRefused, IsPumpRefused};
 ghost use Rattle.dali_replay.specs.Installation.{Installation, installation_of};
 ghost use Rattle.dali_replay.specs.Rounds.{Ran};
-ghost use Rattle.dali_progress.specs.Rounds.{Beginning, ByStart, Settled, Any, by_survey, BeginsAlone, IsSettledAt};
+ghost use Rattle.dali_progress.specs.Rounds.{Beginning, ByStart, BySurvey, by_survey, BeginsAlone, IsSettledAt};
 ghost use Rattle.dali_progress.specs.Rounds.{restarted, Rounds, site_after, frames, bare, most_frames, most_events};
-ghost use Rattle.dali_progress.specs.Rounds.{most_draws, GoesOn, HasEnded};
+ghost use Rattle.dali_progress.specs.Rounds.{GoesOn, HasEnded};
 ghost use Rattle.dali_progress.specs.Ends.{IsTrueEnd, table_at, NamesAll, CommitsNothing};
 ghost use Rattle.dali_progress.specs.Misheard.{RoundsBut, IsTrueEndBut};
 ghost use Rattle.dali_progress.specs.Replaced.{HasVacant, HasNew, only, IsServed, AreNamed};
@@ -58,20 +57,22 @@ ghost use Rattle.dali_progress.specs.Census.{BeginsBySurvey, AreWhole, AreSteady
 ghost use Rattle.dali_progress.specs.Census.{WasSpelled, IsNamed, IsClean, HasTakenCensus};
 
 /// WHO BEGINS ALONE. On a new site with one controller it may start alone (`new`). Where it may start, it may begin by
-/// a survey as well: it has nothing reserved, so its records are settled (`starts`).
+/// a survey as well (`starts`). It has nothing reserved, so its records are settled: each address that is reserved is
+/// enrolled so (`settled`).
 ///
 /// A controller that ended a survey, went down and came up again begins alone once more, by a survey (`again`), with
-/// the records that it kept: with settled ones where they are (`kept`). So what is said of one survey is said of each
-/// that follows.
+/// the records that it kept (`kept`). So what is said of one survey is said of each that follows.
 pub fn who_begins_alone()
     ensures new { (p : Plan) (queue room : ℕ) (k : Block) → IsPlan p → p.blocks ≡ k ∷ []
         → BeginsAlone ByStart (opened_site p queue room) 0 }
     ensures starts { (b : Beginning) (s : SiteState) (c : ℕ) → BeginsAlone ByStart s c → BeginsAlone b s c }
-    ensures again { (s : SiteState) (c : ℕ) (es : List Event) (e : End) → BeginsAlone Any s c → Rounds true s c es
-        → HasEnded (site_after s es) c e → BeginsAlone Any (restarted (site_after s es) c) c }
-    ensures kept { (s : SiteState) (c : ℕ) (es : List Event) (e : End) → BeginsAlone Any s c → Rounds true s c es
-        → HasEnded (site_after s es) c e → IsSettledAt (site_after s es) c
-        → BeginsAlone Settled (restarted (site_after s es) c) c }
+    ensures settled { (s : SiteState) (c : ℕ) → BeginsAlone ByStart s c → IsSettledAt s c }
+    ensures again { (s : SiteState) (c : ℕ) (es : List Event) (e : End) → BeginsAlone BySurvey s c → Rounds true s c es
+        → HasEnded (site_after s es) c e → BeginsAlone BySurvey (restarted (site_after s es) c) c }
+    ensures kept { (s : SiteState) (c : ℕ) (es : List Event) (e : End) → BeginsAlone BySurvey s c → Rounds true s c es
+        → HasEnded (site_after s es) c e
+        → (controller_at (world (restarted (site_after s es) c)) c).records
+        ≡ (controller_at (world (site_after s es)) c).records }
 {}
 
 /// IT IS BOUNDED. With n gear that have power and no short address (`bare`), a controller that begins alone sends at
@@ -79,18 +80,15 @@ pub fn who_begins_alone()
 ///
 /// - By Start 111 n + 10: for each gear at most 25 probes of four frames, and 11 frames of visits; and the opening of
 ///   five frames, a last probe of four, and the close.
-/// - By a survey with settled records 106 n + 258. Three go to each of the 64 short addresses at the most: three
+/// - By a survey 106 n + 258, with any records. Three go to each of the 64 short addresses at the most: three
 ///   questions where nobody answers, and the three queries of a random address where a gear does. Then the roll is
 ///   called, in seven frames where somebody answers. A search that goes up finds the gear that drew numbers; the roll
 ///   is called again; a search in vain of nine frames tells that gear are left that never drew; they draw, in eight;
 ///   and a search finds them. For each of the n that are at most 95 frames of questions and 11 of visits, and nine more
 ///   for each search. Two roll calls of eight frames where nobody answers, and the close, end it. The gear may have
 ///   short addresses from before, whoever gave them, and numbers that they drew or none.
-/// - By a survey with any records 106 n + 516: a gear may be found whose reservation is another's, and then all draw
-///   new numbers, up to three times. Each costs 86 frames at the most: the opening, and the search and visit before it.
 ///
-/// No more than 333 n + 31, 318 n + 775 or 424 n + 2065 events come (`events`), so a log with room for these never
-/// fills.
+/// No more than 333 n + 31 or 318 n + 775 events come (`events`), so a log with room for these never fills.
 pub fn it_is_bounded()
     ensures frames { (b : Beginning) (s : SiteState) (c : ℕ) (es : List Event) → BeginsAlone b s c
         → Rounds (by_survey b) s c es → frames es ≤ most_frames b (bare s) }
@@ -114,25 +112,25 @@ pub fn it_goes_on()
 ///
 /// After a survey: where it ends with all-found, every gear with power has a short address. Where it ends with
 /// block-full, some gear with power has none, and each address of its block is taken: reserved, or in the table, or one
-/// under which somebody was heard whose number it does not know; or one that it has reserved is another's. It never
-/// gives up. Its table names each gear that has a short address, with its random address, whoever gave it; but one that
-/// had it before the survey, and then had no power or no number that gear draw.
+/// under which somebody was heard whose number it does not know. It never gives up. Its table names each gear that has
+/// a short address, with its random address, whoever gave it; but one that had it before the survey, and then had no
+/// power or no number that gear draw.
 ///
-/// With settled records nothing is another's, and they are settled at the end. And where so many addresses of its block
-/// are vacant as gear have power and no short address, it ends with all-found (`enough`).
+/// Where its records were settled, they are settled at the end. And where then so many addresses of its block are
+/// vacant as gear have power and no short address, it ends with all-found (`enough`).
 ///
 /// So one survey that nothing disturbs says all this at its end. Where it committed nothing, it was the table that it
 /// began with that names them (`quiet`). That three runs in a row be quiet is asked where the bus may lose answers.
 pub fn its_end_is_true()
     ensures done { (b : Beginning) (s : SiteState) (c : ℕ) (es : List Event) (e : End) → BeginsAlone b s c
-        → Rounds (by_survey b) s c es → HasEnded (site_after s es) c e → IsTrueEnd b (site_after s es) c e }
-    ensures enough { (s : SiteState) (c : ℕ) (es : List Event) (e : End) → BeginsAlone Settled s c → HasVacant s c
-        → Rounds true s c es → HasEnded (site_after s es) c e
+        → Rounds (by_survey b) s c es → HasEnded (site_after s es) c e → IsTrueEnd b s (site_after s es) c e }
+    ensures enough { (s : SiteState) (c : ℕ) (es : List Event) (e : End) → BeginsAlone BySurvey s c → IsSettledAt s c
+        → HasVacant s c → Rounds true s c es → HasEnded (site_after s es) c e
         → (e ≡ AllFound) × OfPowered (world (site_after s es)).gear HasShort }
     ensures table { (b : Beginning) (s : SiteState) (c : ℕ) (es : List Event) (e : End) → BeginsAlone b s c
         → Rounds (by_survey b) s c es → HasEnded (site_after s es) c e
         → NamesAll (by_survey b) s (table_at (site_after s es) c) (site_after s es) }
-    ensures quiet { (s : SiteState) (c : ℕ) (es : List Event) (e : End) → BeginsAlone Any s c → Rounds true s c es
+    ensures quiet { (s : SiteState) (c : ℕ) (es : List Event) (e : End) → BeginsAlone BySurvey s c → Rounds true s c es
         → AllByRecursion CommitsNothing es → HasEnded (site_after s es) c e
         → NamesAll true s (table_at s c) (site_after s es) }
 {}
@@ -151,17 +149,17 @@ pub fn one_gear_blocks_nobody()
     ensures plain { (g : ℕ) (s : SiteState) (c : ℕ) (es : List Event) → Rounds true s c es
         → RoundsBut g s c es }
     ensures goes_on { (g : ℕ) (s : SiteState) (c : ℕ) (es : List Event) → g < length (world s).gear
-        → BeginsAlone Any s c → RoundsBut g s c es → GoesOn true (site_after s es) c }
+        → BeginsAlone BySurvey s c → RoundsBut g s c es → GoesOn true (site_after s es) c }
     ensures done { (g : ℕ) (s : SiteState) (c : ℕ) (es : List Event) (e : End) → g < length (world s).gear
-        → BeginsAlone Any s c → RoundsBut g s c es → HasEnded (site_after s es) c e
+        → BeginsAlone BySurvey s c → RoundsBut g s c es → HasEnded (site_after s es) c e
         → IsTrueEndBut g (site_after s es) c e }
 {}
 
 /// A RUN OF ENOUGH ROUNDS ENDS. On an installation with one controller that begins alone, with n gear that have power
 /// and no short address, a run ends with the end of the controller, which is true, or at a call that was refused
 /// (`ends`): a run of more than 333 n + 31 rounds where it starts; and, once it began by a survey (`survey 0` of a
-/// script), one of more than 318 n + 774 with settled records, and of more than 424 n + 2064 with any. A run of any
-/// length sends no more frames than `it_is_bounded` says (`frames`).
+/// script), one of more than 318 n + 774. A run of any length sends no more frames than `it_is_bounded` says
+/// (`frames`).
 ///
 /// Where a request may wait, and the log has room for all events to come, and used gear are left alone, the one call
 /// that may be refused is that of the bus, where the gear would draw more numbers than are left (`room`). Used gear are
@@ -185,15 +183,14 @@ pub fn a_run_ends()
         → HasEndedBy b (installation_of p).site m.site 0 ⊎ IsPumpRefused m.site trouble.None refusal.DrawsSpent }
 {}
 
-/// AND WITH NUMBERS IT COMMISSIONS. Where there also are numbers to be drawn for each gear with power and without short
-/// address, as often as it draws one, no call is refused, and the run ends with the end of the controller, which is
-/// true (`alone`). So it does on a new
-/// installation of such a plan with no fewer numbers than gear (`new`), however the controller begins.
+/// AND WITH NUMBERS IT COMMISSIONS. Where there also is a number to be drawn for each gear with power and without short
+/// address, no call is refused, and the run ends with the end of the controller, which is true (`alone`). So it does on
+/// a new installation of such a plan with no fewer numbers than gear (`new`), however the controller begins.
 pub fn a_run_commissions()
     ensures alone { (b : Beginning) (limit : ℕ) (n between : Installation) (sent : ℕ) (text : List ℕ)
         (m : Installation) → RanAlone b limit n between sent text m
         → most_events b (bare n.site) < limit + begun (by_survey b) → HasRoom b n.site
-        → most_draws b * bare n.site ≤ length (world n.site).left → HasEndedBy b n.site m.site 0 }
+        → bare n.site ≤ length (world n.site).left → HasEndedBy b n.site m.site 0 }
     ensures new { (b : Beginning) (limit : ℕ) (p : Plan) (k : Block) (between : Installation) (sent : ℕ)
         (text : List ℕ) (m : Installation) → IsPlan p → SparesUsedOf b p → p.blocks ≡ k ∷ [] → p.gear ≤ 128
         → p.gear ≤ length p.draws → most_events b p.gear < limit + begun (by_survey b)
@@ -201,10 +198,11 @@ pub fn a_run_commissions()
         → HasEndedBy b (installation_of p).site m.site 0 }
 {}
 
-/// A REPLACED GEAR GETS THE ADDRESS. Let a controller begin alone by a survey, with settled records, say with none; let
-/// one gear g alone with power have no short address; and let an address of the controller's block be vacant: no gear
-/// has it, with power or without. So it is where a luminaire was replaced: the new one has no address, and that of the
-/// one that is gone is vacant. The others may be used gear, and have addresses of the block or not.
+/// A REPLACED GEAR GETS THE ADDRESS. Let a controller begin alone by a survey, with settled records, in which each
+/// address that is reserved is enrolled so, say with none; let one gear g alone with power have no short address; and
+/// let an address of the controller's block be vacant: no gear has it, with power or without. So it is where a
+/// luminaire was replaced: the new one has no address, and that of the one that is gone is vacant. The others may be
+/// used gear, and have addresses of the block or not.
 ///
 /// Then it ends with all-found, g has an address of the block that was vacant, and the table names it so (`served`). In
 /// a block of one address that is the one (`address`): so a new gear gets the address of the one that is gone where the
@@ -215,19 +213,21 @@ pub fn a_run_commissions()
 ///
 /// A run of more than 1092 rounds that begins so, with room and a number left to draw, ends so (`run`).
 pub fn a_replaced_gear_gets_the_address()
-    ensures served { (s : SiteState) (c g a : ℕ) (es : List Event) (e : End) → BeginsAlone Settled s c → HasNew s c g a
-        → Rounds true s c es → HasEnded (site_after s es) c e → IsServed s (site_after s es) c g e }
-    ensures address { (s : SiteState) (c g a : ℕ) (es : List Event) (e : End) → BeginsAlone Settled s c → HasNew s c g a
-        → block_at s.plan c ≡ only a → Rounds true s c es → HasEnded (site_after s es) c e
+    ensures served { (s : SiteState) (c g a : ℕ) (es : List Event) (e : End) → BeginsAlone BySurvey s c
+        → IsSettledAt s c → HasNew s c g a → Rounds true s c es → HasEnded (site_after s es) c e
+        → IsServed s (site_after s es) c g e }
+    ensures address { (s : SiteState) (c g a : ℕ) (es : List Event) (e : End) → BeginsAlone BySurvey s c
+        → IsSettledAt s c → HasNew s c g a → block_at s.plan c ≡ only a → Rounds true s c es
+        → HasEnded (site_after s es) c e
         → HoldsShort (world (site_after s es)) g a
         × Has (table_at (site_after s es) c) (a, (gear_at (world (site_after s es)) g).random) }
-    ensures keeps { (s : SiteState) (c : ℕ) (es : List Event) → BeginsAlone Any s c → Rounds true s c es
+    ensures keeps { (s : SiteState) (c : ℕ) (es : List Event) → BeginsAlone BySurvey s c → Rounds true s c es
         → KeepsAddresses (world s) (world (site_after s es)) }
-    ensures named { (s : SiteState) (c : ℕ) (es : List Event) (e : End) → BeginsAlone Any s c → Rounds true s c es
+    ensures named { (s : SiteState) (c : ℕ) (es : List Event) (e : End) → BeginsAlone BySurvey s c → Rounds true s c es
         → HasEnded (site_after s es) c e → AreNamed s (site_after s es) c }
     ensures run { (limit g a : ℕ) (n between : Installation) (sent : ℕ) (text : List ℕ) (m : Installation)
-        → RanAlone Settled limit n between sent text m → HasNew n.site 0 g a → HasRoom Settled n.site
-        → 0 < length (world n.site).left → 1092 < limit
+        → RanAlone BySurvey limit n between sent text m → IsSettledAt n.site 0 → HasNew n.site 0 g a
+        → HasRoom BySurvey n.site → 0 < length (world n.site).left → 1092 < limit
         → (e : End) × HasEnded m.site 0 e × IsServed n.site m.site 0 g e }
 {}
 
@@ -315,7 +315,7 @@ pub fn used_gear_that_were_heard_are_left_alone()
     ensures powered { (s : SiteState) (c : ℕ) (es : List Event) (i : Input) → HasJustBegun s c → AreOfCalls s es
         → IsRun s.plan s.queue (site_after s es).log → AllAskInPeace s c es
         → IsActRefused (site_after s es) c i refusal.AddressInUse → ⊥ }
-    ensures undisturbed { (s : SiteState) (c : ℕ) (es : List Event) → BeginsAlone Any s c → HavePower s
+    ensures undisturbed { (s : SiteState) (c : ℕ) (es : List Event) → BeginsAlone BySurvey s c → HavePower s
         → Rounds true s c es → HasJustBegun s c × AreOfCalls s es × AllAskInPeace s c es }
     ensures run { (p : Plan) (queue room : ℕ) (es : List Event) → IsPlan p → AreOfCalls (opened_site p queue room) es
         → ((c : ℕ) → HearsUsed p c es) → IsRun p queue es }

@@ -40,7 +40,7 @@ use Rattle.dali_events.proofs.Search.Opened.{OpenedBy}
 use Rattle.dali_progress.proofs.Later.{IsUnasked, later_leaves, turn_unasked}
 use Rattle.dali_progress.proofs.Census.Coming.{asked_later, asked_before, unasked_enrolled}
 use Rattle.dali_progress.proofs.Survey.Drawn.{AreNumbered, woken_short}
-use Rattle.dali_progress.proofs.Survey.Queried.{OneShort, IsTrue}
+use Rattle.dali_progress.proofs.Survey.Queried.{OneShort, IsTrue, AreOwned}
 use Rattle.dali_progress.proofs.Survey.Begins.{asked_within}
 use Rattle.dali_progress.proofs.Survey.Stands.{AreTaken, IsClear}
 use Rattle.dali_progress.proofs.Survey.Woken.{AreLow}
@@ -58,7 +58,7 @@ pub record IsAtHand (k : Kept) (gs : List Gear) : Type 0 where
   pub apart : DrewApart gs
   pub one : OneShort gs
   pub holds : IsTrue k.enrolled gs
-  pub owned : (a r i : ℕ) → Has k.reserved (a, r) → i < length gs → (gear_of gs i).short ≡ Some a → (gear_of gs i).random ≡ r
+  pub owned : AreOwned k.reserved gs
 
 pub record Calm (g : ℕ) (m : Machine) (gs : List Gear) : Type 0 where
   pub there : g < length gs

@@ -4,7 +4,7 @@ use Rattle.dali_frame.specs.declared.frames.Forward.{Forward}
 use Rattle.dali_frame.specs.declared.frames.Answer.{Answer}
 use Rattle.dali_special.specs.Command.{command_of}
 use Rattle.dali_gear.specs.declared.row.Reach.TheVariants.{Everyone}
-use Rattle.std.specs.Prelude.{slice_index_or, ◌==◌}
+use Rattle.std.specs.Prelude.{◌==◌}
 use Rattle.dali_special.specs.declared.command.Command.{Command}
 use Rattle.dali_gear.specs.Gear.{Gear}
 use Rattle.dali_gear.specs.Row.{row_after, drawn_of}
@@ -44,7 +44,6 @@ use Rattle.dali_events.specs.Happens.{happens, entry, trace_running}
 use Rattle.dali_events.specs.Promise.{KeepsPromiseNow}
 use Rattle.dali_events.specs.Allowed.{Allowed, IsUp}
 use Rattle.dali_events.specs.Runs.{IsRun, LeavesUsed}
-use Rattle.dali_events.specs.Wanted.{gear_of}
 use Rattle.dali_events.proofs.Invariant.Sending.{lawful_of}
 use Rattle.dali_events.proofs.Invariant.Takes.{row_length}
 use Rattle.dali_script.specs.Findings.{later, finding_of}
@@ -61,14 +60,12 @@ use Rattle.dali_progress.proofs.Logged.{same_some, world_logged, run_logged, mac
 use Rattle.dali_progress.proofs.Both.{never_eight, no_enrolment, with_kept, not_failed, addresses_by, put_no_enrolment, not_free, no_tries, IsKnown, known_sent}
 use Rattle.dali_progress.proofs.Frames.{Seeks}
 use Rattle.dali_progress.proofs.Census.Asked.{sending_of}
-use Rattle.dali_progress.proofs.Survey.Queried.{OneShort, IsTrue}
+use Rattle.dali_progress.proofs.Survey.Queried.{OneShort, IsTrue, AreOwned}
 use Rattle.std.proofs.lemmas.Nat.Bits.{bit_at-zero}
 use Rattle.dali_controller.specs.Shorts.{has_short}
-use Rattle.dali_events.proofs.Invariant.Safe.{holds_after}
-use Rattle.dali_events.proofs.Invariant.Sparing.{one_owner}
 use Rattle.dali_progress.proofs.Survey.Turns.{IsUncontradicted}
 use Rattle.dali_progress.proofs.Survey.Goes.{found_told, ordered_found, uncontradicted, found_sent}
-use Rattle.dali_progress.proofs.Survey.Bounded.{agree_now, promise_now, one_now, true_now}
+use Rattle.dali_progress.proofs.Survey.Bounded.{agree_now, promise_now, one_now, true_now, owned_now}
 use Rattle.dali_progress.proofs.Survey.Drawn.{numbered_of}
 use Rattle.dali_progress.proofs.Misheard.Gear as gear
 use Rattle.dali_progress.proofs.Misheard.Gear.{drew_apart}
@@ -156,8 +153,14 @@ committed g m (Release a r) o gs calm v free last by one holds =
     asks_on g (with_kept m (Release a r)) o gs (calm_kept g m (Release a r) gs calm)
     (given.begins_free (with_kept m (Release a r)) o by free (no_enrolment_of m.last last) (never_eight m.tries calm.tries))
     (rest_next m (Release a r) free last)
-    (record { unopened = v.0.unopened; counted = v.0.counted; small = v.0.small; clear = λ b q has. v.0.clear b q
-        (without_has (a, r) m.kept.reserved (b, q) has); census = inl v.1 }) one holds
+    (record {
+      unopened = v.0.unopened;
+      counted = v.0.counted;
+      small = v.0.small;
+      clear = λ b q has. v.0.clear b q
+          (without_has (a, r) m.kept.reserved (b, q) has);
+      census = inl v.1;
+    }) one holds
   where
     no_enrolment_of : (l : Option Order) → l ≡ Some (Commit (Release a r)) → IsNoEnrolment l
     no_enrolment_of l is b n e = let other : Some (Commit (Release a r)) ≡ Some (Commit (Enrol b n)) = sym is ∙ e in cc
@@ -259,14 +262,6 @@ acts g w q c m out last told i o at is due surveys by hand true_table agreed who
 
 -- ---------------------------------------------------------------- its frame is sent
 
--- whoever has an address that it has reserved has the number that it is reserved for
-owned_now : (s : SiteState) (c : ℕ) → IsRun s.plan s.queue s.log → IsUp (world s) c → (a r i : ℕ) → Has (controller_at (world s) c).records.reserved (a, r)
-    → i < length (world s).gear → (gear_of (world s).gear i).short ≡ Some a → (gear_of (world s).gear i).random ≡ r
-owned_now s c run up a r i has there short =
-    let all = holds_after s.plan s.queue s.log run in
-    one_owner s.plan (world s).controllers run.plan all.reserves all.spares a (gear_of (world s).gear i).random r
-    (all.gifts.reserved i a ((all.gifts.holds i a there).0 short)) (inl (c, up.known, has))
-
 -- who is known, once a frame was heard
 abbrev KnownTo : ℕ → Purpose → Stage → Kept → Shorts → Course → List Gear → List ℕ → Command → Answer → Type 0
 KnownTo g p s k heard c gs numbers d h =
@@ -365,9 +360,7 @@ acted_on g s c i o r here good may whole leaves = record {
         apart = drew_apart w (drawn_now s r.run);
         one = one_now s r.run;
         holds = subst (λ (k : Kept). IsTrue k.enrolled w.gear) (sym r.goes.lone.kept) (true_now s c r.run r.goes.lone.up);
-        owned = subst (λ (k : Kept). (a n j : ℕ) → Has k.reserved (a, n) → j < length w.gear → (gear_of w.gear j).short ≡ Some a
-            → (gear_of w.gear j).random ≡ n)
-            (sym r.goes.lone.kept) (owned_now s c r.run r.goes.lone.up);
+        owned = subst (λ (k : Kept). AreOwned k.reserved w.gear) (sym r.goes.lone.kept) (owned_now s c r.run r.goes.lone.up);
       }) true_after agreed now_whole r.goes.holds
 
 frame_on : (g : ℕ) (s : SiteState) (c p : ℕ) (f : Forward) (h : Answer) → (r : Runs g s c) → r.machine.last ≡ Some (Put p f)
@@ -480,8 +473,15 @@ starts g s c there a = record {
       moment = rw (a.last, a.told) ((a.bus, a.trace), refl);
     };
     known = rw a.told refl;
-    holds = rw (a.last, a.told) (record { there = there; tries = refl; silent = refl; free = refl; unopened = refl; first = refl;
-        unmarked = λ b. ap (λ n. n == 1) (bit_at-zero b) });
+    holds = rw (a.last, a.told) (record {
+      there = there;
+      tries = refl;
+      silent = refl;
+      free = refl;
+      unopened = refl;
+      first = refl;
+      unmarked = λ b. ap (λ n. n == 1) (bit_at-zero b);
+    });
   };
 }
 

@@ -1,4 +1,4 @@
-use Rattle.std.proofs.Common.{◌≡◌, ℕ, ◌<◌, ◌⊎◌, inl, inr, Bool, true, false, List, refl, sym, ap, subst, ◌∙◌, arith, length, Some, None}
+use Rattle.std.proofs.Common.{◌≡◌, ℕ, ◌<◌, ◌⊎◌, inl, inr, Bool, true, false, List, refl, sym, ap, subst, ◌∙◌, Some, None}
 use Rattle.std.specs.Prelude.{◌==◌, if◌then◌else◌}
 use Rattle.dali_frame.specs.declared.frames.Answer.{Answer}
 use Rattle.dali_frame.specs.declared.frames.Answer.TheVariants.{Silence, Byte}
@@ -16,7 +16,6 @@ use Rattle.dali_script.specs.Records.{Assignment, Kept, Has, HasAddress, InBlock
 use Rattle.dali_script.specs.declared.stage.Stage.{Stage}
 use Rattle.dali_script.specs.declared.stage.Stage.TheVariants as stage
 use Rattle.dali_script.specs.Stages.{next_stage}
-use Rattle.dali_script.proofs.Lists.{has_map}
 use Rattle.dali_script.proofs.Transactions.{middle_next, low_next}
 use Rattle.dali_controller.specs.declared.purpose.Purpose.{Purpose}
 use Rattle.dali_controller.specs.declared.purpose.Purpose.TheVariants.{Opening, Probing, Visiting, Resolving, Closing, Hunting, Asking, Calling}
@@ -38,9 +37,9 @@ use Rattle.dali_progress.proofs.Frames.{Seeks, some_is}
 use Rattle.dali_progress.proofs.Tables.{LeavesNames}
 use Rattle.dali_progress.proofs.Accounted.{with_has}
 use Rattle.dali_progress.proofs.Survey.Woken.{leaves_short}
-use Rattle.dali_progress.proofs.Survey.Queried.{Holds, Nobody, one_gear}
-use Rattle.dali_progress.proofs.Survey.Stands.{AreTaken, IsClear, IsClearBut}
-use Rattle.dali_progress.proofs.Survey.Sent.{heard_high, tells_on, nobody_on, with_other, without_other, clear_with, without_same}
+use Rattle.dali_progress.proofs.Survey.Queried.{Holds, Nobody, AreOwned, one_gear}
+use Rattle.dali_progress.proofs.Survey.Stands.{AreTaken}
+use Rattle.dali_progress.proofs.Survey.Sent.{heard_high, tells_on, nobody_on, with_other, without_other, clear_with, told_clear}
 use Rattle.dali_progress.proofs.Misheard.Gear as gear
 use Rattle.dali_progress.proofs.Misheard.Gear.{IsKnown, AreKnown, each_after, each_core}
 use Rattle.dali_progress.proofs.Misheard.Stands.{IsSpent, IsTabled, AreTabledBelow, IsCensus, Census, KnownAt, Calls, At}
@@ -171,7 +170,7 @@ known_after k s gs numbers d (inr (inr (draws, inr all))) seek known =
 pub record AreToldOf (k : Kept) (gs : List Gear) : Type 0 where
   pub kept : IsKept k
   pub block : (a : ℕ) → InBlock k.block a → a < 64
-  pub owned : (a r i : ℕ) → Has k.reserved (a, r) → i < length gs → (gear_of gs i).short ≡ Some a → (gear_of gs i).random ≡ r
+  pub owned : AreOwned k.reserved gs
 
 apart_of : (a b : ℕ) → (a == b) ≡ false → a ≡ b → ⊥
 apart_of a b other e = let never : true ≡ false = sym (number_same a b e) ∙ other in cc
@@ -208,24 +207,6 @@ taken_without k heard b n i gs told small holds random drew known taken a within
         (here (subst (λ m. Has k.enrolled (b, m) ⊎ Has k.reserved (b, m)) random
         (known i holds.there holds.on b small holds.short (subst (λ m. m < MASK24) (sym random) drew))))
     at false other = inr (inr (without_other heard b a small (told.block a within) (apart_of a b other) ∙ marked))
-
--- a number was told: the mark goes, or it is FFFFFF, and the address is not reserved
-clear_told : (k : Kept) (heard : Shorts) (b n i : ℕ) (gs : List Gear) → AreToldOf k gs → b < 64 → Holds gs i b → (gear_of gs i).random ≡ n
-    → IsClearBut k heard b → IsClear k (if n == MASK24 then with_short heard b else without_short heard b)
-clear_told k heard b n i gs told small holds random clear c q has = go (n == MASK24) refl (c == b) refl where
-  few : c < 64
-  few = told.kept.reserved.short c (has_address k.reserved c q has)
-
-  below : q < MASK24
-  below = told.kept.reserved_drawn q (has_map (λ (x : Assignment). x.1) k.reserved (c, q) has)
-
-  go : (t : Bool) → (n == MASK24) ≡ t → (u : Bool) → (c == b) ≡ u → has_short (if t then with_short heard b else without_short heard b) c ≡ false
-  go false drew true at = without_same heard b c small (same_number c b at)
-  go false drew false other = without_other heard b c small few (apart_of c b other) ∙ clear c q has (apart_of c b other)
-  go true mask false other = with_other heard b c small (apart_of c b other) ∙ clear c q has (apart_of c b other)
-  go true mask true at =
-      let same : (gear_of gs i).random ≡ q = told.owned c q i has holds.there (holds.short ∙ ap (λ m. Some m) (sym (same_number c b at))) in
-      absurd (let top : n ≡ MASK24 = same_number n MASK24 mask in omega (arith, below, same, random, top))
 
 -- ---------------------------------------------------------------- the census
 
@@ -339,8 +320,8 @@ census_sent g a (stage.MiddleAsked b (Some x)) k heard c gs numbers d h v is t t
                   small = v.small;
                   from_is = v.from_is;
                   asked = (v.asked.0, tells_on gs _ a i (λ r. (gear_of gs i).random ≡ r) same holds refl);
-                  clear = clear_told k heard b (gear_of gs i).random i gs told (subst (λ n. n < 64) (sym v.asked.0) v.small)
-                      (subst (λ n. Holds gs i n) (sym v.asked.0) holds) refl (subst (λ n. IsClearBut k heard n) (sym v.asked.0) v.clear);
+                  clear = told_clear a b (gear_of gs i).random k heard gs i v.asked.0 v.small
+                      (record { kept = told.kept; owned = told.owned }) holds refl v.clear;
                   census = census_core a c.tally k
                       (if (gear_of gs i).random == MASK24 then with_short heard b else without_short heard b) gs _ same
                       (census_told a b (gear_of gs i).random i c.tally k heard gs told (subst (λ n. n < 64) (sym v.asked.0) v.small)
@@ -370,15 +351,18 @@ known_sent g Hunting s k heard c silent gs numbers d h at known is t told seek =
     (known_after k s gs numbers d (does_at g Hunting s k heard c silent gs d (λ a e. (let never : Hunting ≡ Asking a = e in cc)) at is) seek known.0, known.1)
 known_sent g Visiting s k heard c silent gs numbers d h at known is t told seek =
     (known_after k s gs numbers d (does_at g Visiting s k heard c silent gs d (λ a e. (let never : Visiting ≡ Asking a = e in cc)) at is) seek known.0, known.1)
-known_sent g PassingOver s k heard c silent gs numbers d h at known is t told seek =
-    (known_after k s gs numbers d (does_at g PassingOver s k heard c silent gs d (λ a e. (let never : PassingOver ≡ Asking a = e in cc)) at is) seek known.0,
-        known.1)
+known_sent g PassingOver s k heard c silent gs numbers d h at known is t told seek = (
+  known_after k s gs numbers d (does_at g PassingOver s k heard c silent gs d (λ a e. (let never : PassingOver ≡ Asking a = e in cc)) at is) seek known.0,
+  known.1,
+)
 known_sent g Drawing s k heard c silent gs numbers d h at known is t told seek =
     (known_after k s gs numbers d (does_at g Drawing s k heard c silent gs d (λ a e. (let never : Drawing ≡ Asking a = e in cc)) at is) seek known.0, known.1)
 known_sent g Opening s k heard c silent gs numbers d h at known is t told seek =
     (known_after k s gs numbers d (does_at g Opening s k heard c silent gs d (λ a e. (let never : Opening ≡ Asking a = e in cc)) at is) seek known.0, known.1)
-known_sent g (Closing e) s k heard c silent gs numbers d h at known is t told seek =
-    (known_after k s gs numbers d (does_at g (Closing e) s k heard c silent gs d (λ a same. (let never : Closing e ≡ Asking a = same in cc)) at is)
-        seek known.0, known.1)
+known_sent g (Closing e) s k heard c silent gs numbers d h at known is t told seek = (
+  known_after k s gs numbers d (does_at g (Closing e) s k heard c silent gs d (λ a same. (let never : Closing e ≡ Asking a = same in cc)) at is)
+      seek known.0,
+  known.1,
+)
 known_sent g Probing s k heard c silent gs numbers d h at known is t told seek = absurd at
 known_sent g (Resolving a) s k heard c silent gs numbers d h at known is t told seek = absurd at

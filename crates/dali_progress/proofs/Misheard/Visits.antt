@@ -1,6 +1,6 @@
 use Rattle.std.proofs.Common.{◌≡◌, ℕ, ◌+◌, ◌-◌, ◌*◌, ◌<◌, ◌≤◌, ◌⊎◌, inl, inr, Bool, true, false, List, refl, sym, ap, subst, ◌∙◌, arith, length, Option, Some}
 use Rattle.std.proofs.Common.{None}
-use Rattle.std.specs.Prelude.{◌==◌, not, nat_lt, is_some, MatchOption, if◌then◌else◌}
+use Rattle.std.specs.Prelude.{◌==◌, not, nat_lt, MatchOption, if◌then◌else◌}
 use Rattle.std.proofs.lemmas.Bool.Decides.{nat_tests}
 use Rattle.dali_frame.specs.declared.frames.Answer.{Answer}
 use Rattle.dali_frame.specs.declared.numbers.SearchAddress.{SearchAddress}
@@ -12,12 +12,7 @@ use Rattle.dali_special.specs.Command.{frame_of}
 use Rattle.dali_gear.specs.declared.state.InitialisationState.TheVariants.{Enabled}
 use Rattle.dali_gear.specs.Gear.{Gear}
 use Rattle.dali_script.specs.declared.records.Record.TheVariants.{Reserve, Enrol}
-use Rattle.dali_script.specs.Records.{Assignment, Kept, Has, HasAddress, HasRandom, IsFresh, MayAdd, with_record}
-use Rattle.dali_script.proofs.Lists.{has_cases}
-use Rattle.dali_controller.specs.declared.shorts.Shorts.{Shorts}
-use Rattle.dali_controller.specs.Shorts.{has_short}
-use Rattle.dali_controller.specs.Course.{is_another, is_anothers, is_open, number_at}
-use Rattle.dali_controller.proofs.Courses.{found_number}
+use Rattle.dali_script.specs.Records.{Has, HasRandom, IsFresh, MayAdd}
 use Rattle.dali_progress.proofs.Accounted.{open_is}
 use Rattle.dali_script.specs.declared.stage.Stage.{Stage}
 use Rattle.dali_script.specs.declared.stage.Stage.TheVariants as stage
@@ -54,11 +49,11 @@ use Rattle.dali_progress.specs.Misheard.{AreServedBut}
 use Rattle.dali_progress.proofs.Both.{never_eight}
 use Rattle.dali_progress.proofs.Frames.{value_sought}
 use Rattle.dali_progress.proofs.Survey.Drawn.{AreNumbered}
-use Rattle.dali_progress.proofs.Survey.Stands.{NoneDrawn, AreTaken, IsClear}
+use Rattle.dali_progress.proofs.Survey.Stands.{NoneDrawn, AreTaken}
 use Rattle.dali_progress.proofs.Survey.Rising.{knows_told}
 use Rattle.dali_progress.proofs.Survey.Woken.{AreLow}
 use Rattle.dali_progress.proofs.Later.{course_stays}
-use Rattle.dali_progress.proofs.Survey.Begins.{not_both, open_parts, begins_whole, all_taken}
+use Rattle.dali_progress.proofs.Survey.Begins.{clear_reserved, nobody_elses, begins_whole, all_taken}
 use Rattle.dali_progress.proofs.Survey.Turns.{IsUncontradicted}
 use Rattle.dali_progress.proofs.Survey.Hunting.{found_same, begins_by, nothing_open}
 use Rattle.dali_progress.proofs.Survey.Visits.{found_address, withheld_anothers, ungiven_next}
@@ -511,14 +506,6 @@ ungiven_turns g t o r gs st v is begins filled known hand = go (may_draw t) refl
   go false may = fills g t o t.course gs (calm_of g t gs st) begins (ungiven_next t r false is st.way may) st.way v.counted known filled hand.one hand.holds
 
 -- an address that is open is not marked
-clear_reserved : (k : Kept) (heard : Shorts) (a r : ℕ) → IsClear k heard → is_open k heard a ≡ true → IsClear (with_record k (Reserve a r)) heard
-clear_reserved k heard a r clear free c q has = go (has_cases k.reserved (a, r) (c, q) has) where
-  go : Has k.reserved (c, q) ⊎ (◌≡◌ {A = Assignment} (a, r) (c, q)) → has_short heard c ≡ false
-  go (inl was) = clear c q was
-  go (inr same) =
-      subst (λ n. has_short heard n ≡ false) (ap (λ (x : Assignment). x.0) same)
-      (open_parts (is_some (number_at k.reserved a)) (is_some (number_at k.enrolled a)) (has_short heard a) free).2
-
 unnamed_turns : (g : ℕ) (t : Machine) (o : Order) (r : SearchAddress) (gs : List Gear) → IsGivenBy t o → MisheardStands true g t gs
     → IsAtHand t.kept gs → t.course.purpose ≡ Visiting → stage_of t.trace ≡ stage.Unnamed r
     → Hunts true g Visiting (stage.Unnamed r) t.course t.silent gs → IsNext g (machine_ordered t o) o gs
@@ -540,19 +527,9 @@ unnamed_turns g t o r gs by st hand purpose is v =
         choose : (b : Bool) → is_withheld t a (value_of r) ≡ b → IsNext g (machine_ordered t o) o gs
         choose false free =
             later_by g t o (stage.Unnamed r) (frame_of (Program (Some a))) gs st (subst (λ b. AfterReserved t a b o) free mask) is tt
-        choose true withheld = absurd (let never : true ≡ false = sym (withheld_anothers t t.course.way a (value_of r) withheld) ∙ own in cc) where
-          found : (x : Option ℕ) → MatchOption x (HasAddress t.kept.enrolled a → ⊥) (λ n. Has t.kept.enrolled (a, n)) → is_another (value_of r) x ≡ false
-          found None none = refl
-          found (Some n) entry =
-              let who = hand.holds a n entry in
-              same n (value_of r) (sym who.3 ∙ hand.owned a (value_of r) who.0 has who.1 who.2) where
-                same : (m n : ℕ) → m ≡ n → not (m == n) ≡ false
-                same m n e = grind (arith, nat_tests, e)
-
-          own : is_anothers t.kept t.heard a (value_of r) ≡ false
-          own =
-              not_both (has_short t.heard a) (is_another (value_of r) (number_at t.kept.enrolled a)) (known.1 a (value_of r) has)
-              (found (number_at t.kept.enrolled a) (found_number t.kept.enrolled a))
+        choose true withheld =
+            absurd (let never : true ≡ false = sym (withheld_anothers t t.course.way a (value_of r) withheld)
+            ∙ nobody_elses t.kept t.heard gs hand.holds hand.owned known.1 a (value_of r) has in cc)
       go None none (Some a) least mask = subst (λ q. IsNext g (machine_ordered t q) q gs) (sym mask) (
         calm_ordered g t (Reserve a (value_of r)) gs st,
         record {

@@ -22,7 +22,7 @@ use Rattle.dali_events.specs.Allowed.{Allowed, IsDue}
 use Rattle.dali_events.specs.Wanted.{gear_of}
 use Rattle.dali_standing.specs.Seats.{Waits}
 use Rattle.dali_world.specs.Site.{SiteState, world, site_logged, WasOrdered}
-use Rattle.dali_progress.specs.Rounds.{IsAlone, IsOfRound, Succeeds, Rounds, most_frames, Any, bare}
+use Rattle.dali_progress.specs.Rounds.{IsAlone, IsOfRound, Succeeds, Rounds, most_frames, BySurvey, bare}
 use Rattle.dali_progress.specs.Spared.{IsOfCall, AreOfCalls, HasJustBegun, AsksInPeace, HavePower, AllAskInPeace}
 use Rattle.dali_world.proofs.Logs.{records_now}
 use Rattle.dali_progress.proofs.Lone.{due_of, Moment, lone_next, acts_by}
@@ -30,7 +30,7 @@ use Rattle.dali_progress.proofs.Logged.{world_logged}
 use Rattle.dali_progress.proofs.Survey.Stands.{Begun}
 use Rattle.dali_progress.proofs.Along.{Runs, runs_on}
 use Rattle.dali_progress.proofs.Survey.Goes.{of_survey}
-use Rattle.dali_progress.proofs.Survey.Bounded.{argument, began_at, starts_any}
+use Rattle.dali_progress.proofs.Survey.Bounded.{argument, began_at, starts}
 
 -- A SURVEY THAT NOTHING DISTURBS asks in peace, where all used gear have power.
 
@@ -109,5 +109,5 @@ all_in_peace start s c left (e ∷ es) u power rounds =
 pub alone_in_peace : (s : SiteState) (c : ℕ) (es : List Event) → IsAlone s c → HavePower s → Rounds true s c es
     → HasJustBegun s c × AreOfCalls s es × AllAskInPeace s c es
 alone_in_peace s c es a power rounds =
-    let all = all_in_peace (began_at true s) s c (most_frames Any (bare s)) es (starts_any s c a) power rounds in
+    let all = all_in_peace (began_at s c) s c (most_frames BySurvey (bare s)) es (starts s c a) power rounds in
     (record { told = a.told; last = a.last; machine = a.machine; block = (records_now s.plan s.queue s.log a.run).block c a.up.known }, all.0, all.1)

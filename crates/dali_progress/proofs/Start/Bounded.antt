@@ -52,7 +52,7 @@ starts s c a = record {
 
 -- what an end leaves, where the site was once as s
 pub ended_by : (s after : SiteState) (c left : ℕ) (e : End) → Runs (of_start (world s).gear) after c left → HasEnded after c e
-    → IsTrueEnd ByStart after c e × NamesAll false s (table_at after c) after
+    → IsTrueEnd ByStart s after c e × NamesAll false s (table_at after c) after
 ended_by s after c left e r ended =
     subst (λ (k : Kept). EndsWell e k (world after).gear × AreTabled (world s).gear k.enrolled (world after).gear) r.goes.lone.kept
     (held_ended (of_start (world s).gear) after c left e r ended).0

@@ -11,7 +11,7 @@ use Rattle.dali_events.specs.Allowed.{IsUp, IsDown}
 use Rattle.dali_events.specs.Runs.{IsRun}
 use Rattle.dali_standing.specs.Standing.{machine_in}
 use Rattle.dali_world.specs.Site.{SiteState, world, site_logged, machines, machine_at}
-use Rattle.dali_progress.specs.Rounds.{site_after, HasEnded, IsSettledAt, IsAlone, IsSettled, restarted, Rounds, Settled, BeginsAlone, Any}
+use Rattle.dali_progress.specs.Rounds.{site_after, HasEnded, IsAlone, restarted, Rounds, BySurvey}
 use Rattle.dali_progress.proofs.Lone.{still, Rests}
 use Rattle.dali_progress.proofs.Logged.{world_logged, run_logged, machines_logged, some_within}
 use Rattle.dali_progress.proofs.Survey.Bounded.{EndsBy, ended_by}
@@ -72,7 +72,7 @@ machine_again s c m there up =
     kept : controller_at (world (site_logged s (event.Down c))) c ≡ gone_down (controller_at (world s) c)
     kept = ap (λ w. controller_at w c) (world_logged s (event.Down c)) ∙ down_there (world s) c up
 
-again_by : (s after : SiteState) (c : ℕ) (e : End) → EndsBy true s after c e → IsAlone (restarted after c) c
+again_by : (s after : SiteState) (c : ℕ) (e : End) → EndsBy s after c e → IsAlone (restarted after c) c
 again_by s after c e by =
     let down : IsRun after.plan after.queue (site_logged after (event.Down c)).log = run_logged after (event.Down c) by.run by.up (λ d i a n e has. cc) in
     let there : controller_at (world (restarted after c)) c ≡ come_up false (gone_down (controller_at (world after) c)) = again_there after c by.up in
@@ -92,18 +92,16 @@ again_by s after c e by =
       trace = ap (λ (w : World). w.trace) (world_again after c) ∙ trace_again (world after) after.queue c by.rests;
     }
 
-ended_any : (s : SiteState) (c : ℕ) (es : List Event) (e : End) → IsAlone s c → Rounds true s c es → HasEnded (site_after s es) c e
-    → EndsBy true s (site_after s es) c e
-ended_any s c es e a rounds ended = let all = runs_after Any s c es a rounds in ended_by true s (site_after s es) c all.rest e all.runs ended
+ended_so : (s : SiteState) (c : ℕ) (es : List Event) (e : End) → IsAlone s c → Rounds true s c es → HasEnded (site_after s es) c e
+    → EndsBy s (site_after s es) c e
+ended_so s c es e a rounds ended = let all = runs_after BySurvey s c es a rounds in ended_by s (site_after s es) c all.rest e all.runs ended
 
 pub surveys_again : (s : SiteState) (c : ℕ) (es : List Event) (e : End) → IsAlone s c → Rounds true s c es → HasEnded (site_after s es) c e
     → IsAlone (restarted (site_after s es) c) c
-surveys_again s c es e a rounds ended = again_by s (site_after s es) c e (ended_any s c es e a rounds ended)
+surveys_again s c es e a rounds ended = again_by s (site_after s es) c e (ended_so s c es e a rounds ended)
 
 -- with the records that it kept
-pub settled_again : (s : SiteState) (c : ℕ) (es : List Event) (e : End) → IsAlone s c → Rounds true s c es → HasEnded (site_after s es) c e
-    → IsSettledAt (site_after s es) c → BeginsAlone Settled (restarted (site_after s es) c) c
-settled_again s c es e a rounds ended settled = (
-  surveys_again s c es e a rounds ended,
-  subst (λ (k : Controller). IsSettled k.records) (sym (again_there (site_after s es) c (ended_any s c es e a rounds ended).up)) settled,
-)
+pub kept_again : (s : SiteState) (c : ℕ) (es : List Event) (e : End) → IsAlone s c → Rounds true s c es → HasEnded (site_after s es) c e
+    → (controller_at (world (restarted (site_after s es) c)) c).records ≡ (controller_at (world (site_after s es)) c).records
+kept_again s c es e a rounds ended =
+    ap (λ (k : Controller). k.records) (again_there (site_after s es) c (ended_so s c es e a rounds ended).up)

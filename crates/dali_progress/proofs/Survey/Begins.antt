@@ -13,7 +13,7 @@ use Rattle.dali_special.proofs.Table.{read_written}
 use Rattle.dali_gear.specs.Gear.{Gear}
 use Rattle.dali_script.specs.declared.records.Record.{Record}
 use Rattle.dali_script.specs.declared.records.Record.TheVariants.{Reserve, Enrol, Release}
-use Rattle.dali_script.specs.Records.{Assignment, Kept, Has, HasAddress, with_record}
+use Rattle.dali_script.specs.Records.{Assignment, Kept, Has, HasAddress, IsKept, with_record}
 use Rattle.dali_script.specs.declared.stage.Stage.{Stage}
 use Rattle.dali_script.specs.declared.stage.Stage.TheVariants as stage
 use Rattle.dali_script.specs.Findings.{finding_of}
@@ -41,22 +41,30 @@ use Rattle.dali_controller.specs.Whole.{IsWhole}
 use Rattle.dali_controller.proofs.Courses.{found_number}
 use Rattle.dali_controller.proofs.Given as given
 use Rattle.dali_controller.proofs.Given.{IsGivenBy, IsNoEnrolment}
-use Rattle.dali_events.specs.Wanted.{gear_of, is_bare, is_wanted, wants, IsOpened, NoneNamed}
+use Rattle.dali_events.specs.Wanted.{is_bare, is_wanted, wants, IsOpened, NoneNamed}
 use Rattle.dali_events.proofs.Search.Leaving.{SameCore}
 use Rattle.dali_progress.specs.Ends.{AreTabled}
 use Rattle.dali_progress.specs.Rounds.{IsSettled}
 use Rattle.dali_progress.proofs.Census.Coming.{asked_later, asked_before, unasked_enrolled}
 use Rattle.dali_progress.proofs.Stands.{Sends}
 use Rattle.dali_progress.proofs.Later.{IsUnasked, later_leaves, turn_unasked}
-use Rattle.dali_progress.proofs.Survey.Queried.{OneShort, IsTrue, TabledBelow, unseen, below_all, below_named}
-use Rattle.dali_progress.proofs.Survey.Drawn.{those_drawn, is_lost, bare_split}
+use Rattle.dali_progress.proofs.Survey.Queried.{OneShort, IsTrue, AreOwned, TabledBelow, unseen, below_all, below_named}
+use Rattle.dali_progress.proofs.Survey.Drawn.{AreNumbered, those_drawn, is_lost, bare_split}
 use Rattle.dali_progress.proofs.Survey.Woken.{AreLow}
-use Rattle.dali_progress.proofs.Survey.Stands.{Begun, spare, survey_frames, IsClear, Counts, IsUncalled, IsOwn, IsFirstDraw, IsCalledFor, called_after}
+use Rattle.dali_progress.proofs.Survey.Stands.{Begun, survey_frames, IsClear, Counts, IsUncalled, IsFirstDraw, IsCalledFor, called_after}
 use Rattle.dali_progress.proofs.Survey.Stands.{hunted_after}
 use Rattle.dali_progress.proofs.Survey.Stands.{roll_frames, frames_after, Rises, HuntAt, Hunts, AreTaken, SurveyEnds, IsSmooth, SurveyAt, SurveyStands}
 use Rattle.dali_progress.proofs.Survey.Rising.{rises_so, rises_first, rises_above}
 
 -- A TRANSACTION OF A SURVEY BEGINS, or goes on; and what is to come of an order.
+
+-- what is known of the records and of the gear, where the controller acts
+pub record IsAtHand (k : Kept) (gs : List Gear) : Type 0 where
+  pub kept : IsKept k
+  pub numbered : AreNumbered gs
+  pub one : OneShort gs
+  pub holds : IsTrue k.enrolled gs
+  pub owned : AreOwned k.reserved gs
 
 -- what every machine has that is not disturbed
 pub record Calm (m : Machine) : Type 0 where
@@ -70,23 +78,23 @@ pub record EnrolsCounted (start : Begun) (m : Machine) (a r : ℕ) (gs : List Ge
   pub asked : m.asked ≡ 0
   pub small : a < 64
   pub from_is : m.course.from ≡ a + 1
-  pub settled : start.any ≡ false → IsSettled m.kept
-  pub clear : start.any ≡ false → IsClear m.kept m.heard
-  pub unreserved : start.any ≡ false → (c : ℕ) → Has m.kept.reserved (c, r) → ⊥
+  pub settled : IsSettled start.kept → IsSettled m.kept
+  pub clear : IsClear m.kept m.heard
   pub same : SameCore start.gear gs
   pub tabled : TabledBelow (a + 1) start.gear (m.kept.enrolled ++ (a, r) ∷ []) gs
-  pub frames : 3 * (63 - a) + survey_frames start gs ≤ left
+  pub frames : 3 * (63 - a) + survey_frames gs ≤ left
 
 -- what was reserved for it is to be released, and then the next short address is asked
 pub record ReleasesCounted (start : Begun) (m : Machine) (a : ℕ) (gs : List Gear) (left : ℕ) : Type 0 where
-  pub any : start.any ≡ true
   pub uncalled : IsUncalled m.course
   pub asked : m.asked ≡ 0
   pub small : a < 64
   pub from_is : m.course.from ≡ a + 1
+  pub settled : IsSettled start.kept → IsSettled m.kept
+  pub clear : IsClear m.kept m.heard
   pub same : SameCore start.gear gs
   pub tabled : TabledBelow (a + 1) start.gear m.kept.enrolled gs
-  pub frames : 3 * (63 - a) + survey_frames start gs ≤ left
+  pub frames : 3 * (63 - a) + survey_frames gs ≤ left
 
 -- an ascent goes on above who was found, where who is left is above it
 pub record Above (x : Ascent) (r : ℕ) (gs : List Gear) : Type 0 where
@@ -105,20 +113,20 @@ pub record IsHunted (c : Course) (gs : List Gear) : Type 0 where
 -- a gear that was given its address is to be enrolled, and then the search goes on above it
 pub record EnrolsHunted (start : Begun) (m : Machine) (b r : ℕ) (gs : List Gear) (left : ℕ) : Type 0 where
   pub hunted : IsHunted m.course gs
-  pub own : start.any ≡ false → IsOwn m.kept m.heard
+  pub clear : IsClear m.kept m.heard
   pub ready : IsOpened (those_drawn gs)
   pub unnamed : NoneNamed (those_drawn gs)
   pub above : Above m.course.ascent r (those_drawn gs)
   pub reserved : Has m.kept.reserved (b, r)
-  pub settled : start.any ≡ false → (x : Assignment) → Has m.kept.reserved x → Has m.kept.enrolled x ⊎ (x.1 ≡ r)
+  pub settled : IsSettled start.kept → (x : Assignment) → Has m.kept.reserved x → Has m.kept.enrolled x ⊎ (x.1 ≡ r)
   pub tabled : AreTabled (unseen start.gear) ((b, r) ∷ m.kept.enrolled) (those_drawn gs)
-  pub frames : 106 * count_by is_wanted (those_drawn gs) + 32 + (called_after (count_by is_lost gs) + spare start.any m.course.tally.draws) ≤ left
+  pub frames : 106 * count_by is_wanted (those_drawn gs) + 32 + called_after (count_by is_lost gs) ≤ left
 
 -- a reservation is to be kept, and then its gear is visited once more
 pub record ReservesHunted (start : Begun) (m : Machine) (a r : ℕ) (gs : List Gear) (left : ℕ) : Type 0 where
   pub hunted : IsHunted m.course gs
-  pub own : start.any ≡ false → IsOwn m.kept m.heard
-  pub settled : start.any ≡ false → IsSettled m.kept
+  pub clear : IsClear m.kept m.heard
+  pub settled : IsSettled start.kept → IsSettled m.kept
   pub open_is : is_open m.kept m.heard a ≡ true
   pub ready : IsOpened (those_drawn gs)
   pub unnamed : NoneNamed (those_drawn gs)
@@ -130,19 +138,24 @@ pub record ReservesHunted (start : Begun) (m : Machine) (a r : ℕ) (gs : List G
   pub more : ℕ
   pub count : count_by is_wanted (those_drawn gs) ≡ suc more
   pub tabled : AreTabled (unseen start.gear) m.kept.enrolled (those_drawn gs)
-  pub frames : 39 + 106 * more + (called_after (count_by is_lost gs) + spare start.any m.course.tally.draws) ≤ left
+  pub frames : 39 + 106 * more + called_after (count_by is_lost gs) ≤ left
 
 abbrev pub SurveyCommits : Begun → Machine → Record → List Gear → ℕ → Type 0
 SurveyCommits start m (Enrol a r) gs left = EnrolsCounted start m a r gs left ⊎ EnrolsHunted start m a r gs left
 SurveyCommits start m (Reserve a r) gs left = ReservesHunted start m a r gs left
 SurveyCommits start m (Release c r) gs left = (a : ℕ) × ReleasesCounted start m a gs left
 
+-- a frame that is put goes on with a transaction, or none runs
+abbrev pub IsPut : ℕ → Machine → Type 0
+IsPut p m = (p ≡ LATER) ⊎ (m.trace ≡ [])
+
 -- what is to come of an order
 abbrev pub IsNext : Begun → Machine → Order → List Gear → ℕ → Type 0
-IsNext start m (Put p f) gs left = SurveyStands false start m gs left × Sends m.course.purpose m.course.number m.kept (stage_of m.trace) (command_of f)
+IsNext start m (Put p f) gs left =
+    SurveyStands false start m gs left × Sends m.course.purpose m.course.number m.kept (stage_of m.trace) (command_of f) × IsPut p m
 IsNext start m (Commit x) gs left = Calm m × SurveyCommits start m x gs left
 IsNext start m (Done e) gs left =
-    SurveyEnds start.any e m.kept m.heard gs × AreTabled (unseen start.gear) m.kept.enrolled gs × (start.any ≡ false → IsSettled m.kept)
+    SurveyEnds e m.kept m.heard gs × AreTabled (unseen start.gear) m.kept.enrolled gs × (IsSettled start.kept → IsSettled m.kept)
 IsNext start m (Halt why) gs left = ⊥
 
 pub calm_of : {told : Bool} (start : Begun) (t : Machine) (gs : List Gear) (left : ℕ) → SurveyStands told start t gs left → Calm t
@@ -186,7 +199,7 @@ hunts_untold p s k heard c start gs left unasked v = record {
   first = v.first;
   called = v.called;
   low = v.low;
-  own = v.own;
+  clear = v.clear;
   settled = v.settled;
   rest = v.rest;
   at = hunt_untold p s k c.ascent c.number (those_drawn gs) v.rest unasked v.at;
@@ -218,6 +231,7 @@ later_by start t o p s c gs left st is spelled purpose at unasked sends = subst 
             (subst (λ q. IsUnasked q t.course.purpose) (sym at) here) st.at;
       },
       subst (λ d. Sends t.course.purpose t.course.number t.kept (stage_of t.trace) d) (sym (read_written c spelled)) (rw (purpose, at) sends),
+      inl refl,
     ))
   where
     here : IsUnasked s t.course.purpose
@@ -245,6 +259,7 @@ goes_first start t o gs left calm is smooth spelled at = subst (λ q. IsNext sta
   subst (λ s. Sends (next_course t).purpose (next_course t).number t.kept s (command_of (frame_of (first_of (next_course t).purpose (next_course t).number))))
       (sym stage_none)
       (read_written (first_of (next_course t).purpose (next_course t).number) spelled),
+  inr refl,
 )
 
 pub first_by : (start : Begun) (t : Machine) (o : Order) (cs : Course) (gs : List Gear) (left : ℕ) → Calm t → o ≡ beginning (next_course t)
@@ -281,77 +296,38 @@ begins_whole t o s g at named closed found last tries later = go o g where
     by cause = let none = cause.2 in cc
   go (Halt fault.Store) g whole = absurd g.ordered.caused
 
--- ---------------------------------------------------------------- what is reserved stays nobody else's
+-- ---------------------------------------------------------------- what is reserved is nobody else's
 
 pub not_both : (one two : Bool) → one ≡ false → two ≡ false → (one || two) ≡ false
 not_both one two none nothing = rw (none, nothing) refl
 
-false_both : (one two : Bool) → (one || two) ≡ false → (one ≡ false) × (two ≡ false)
-false_both true two e = absurd (cc)
-false_both false two e = (refl, e)
-
--- with one entry more of the table
-another_more : (xs : List Assignment) (b r c q : ℕ) → is_another q (number_at xs c) ≡ false → (b ≡ c → q ≡ r)
-    → is_another q (number_at (xs ++ (b, r) ∷ []) c) ≡ false
-another_more [] b r c q was own = go (b == c) refl where
-  same : (m n : ℕ) → m ≡ n → not (n == m) ≡ false
-  same m n e = grind (arith, nat_tests, e)
-
-  go : (t : Bool) → (b == c) ≡ t → is_another q (if t then Some r else None) ≡ false
-  go true is = same q r (own (let at : b ≡ c = grind (arith, nat_tests, is) in at))
-  go false is = refl
-another_more (p ∷ xs) b r c q was own = go (p.0 == c) was (λ e. another_more xs b r c q e own) where
-  go : (t : Bool) → is_another q (if t then Some p.1 else number_at xs c) ≡ false
-      → (is_another q (number_at xs c) ≡ false → is_another q (number_at (xs ++ (b, r) ∷ []) c) ≡ false)
-      → is_another q (if t then Some p.1 else number_at (xs ++ (b, r) ∷ []) c) ≡ false
-  go true was later = was
-  go false was later = later was
-
-pub own_enrolled : (k : Kept) (heard : Shorts) (b r : ℕ) → IsOwn k heard → ((q : ℕ) → Has k.reserved (b, q) → q ≡ r) → IsOwn (with_record k (Enrol b r)) heard
-own_enrolled k heard b r own one c q has =
-    let was = false_both (has_short heard c) (is_another q (number_at k.enrolled c)) (own c q has) in
-    not_both (has_short heard c) (is_another q (number_at (k.enrolled ++ (b, r) ∷ []) c)) was.0
-    (another_more k.enrolled b r c q was.1 (λ e. one q (subst (λ n. Has k.reserved (n, q)) (sym e) has)))
-
--- what is open is nobody's
+-- what is open is not marked
 pub open_parts : (one two three : Bool) → (not one && not two && not three) ≡ true → (one ≡ false) × (two ≡ false) × (three ≡ false)
 open_parts true two three e = absurd (cc)
 open_parts false true three e = absurd (cc)
 open_parts false false true e = absurd (cc)
 open_parts false false false e = (refl, refl, refl)
 
-open_own : (k : Kept) (heard : Shorts) (a r : ℕ) → is_open k heard a ≡ true → is_anothers k heard a r ≡ false
-open_own k heard a r is =
-    let parts = open_parts (is_some (number_at k.reserved a)) (is_some (number_at k.enrolled a)) (has_short heard a) is in
-    not_both (has_short heard a) (is_another r (number_at k.enrolled a)) parts.2 (none (number_at k.enrolled a) parts.1) where
-      none : (o : Option ℕ) → is_some o ≡ false → is_another r o ≡ false
-      none None e = refl
-      none (Some n) e = absurd (cc)
-
-pub own_reserved : (k : Kept) (heard : Shorts) (a r : ℕ) → IsOwn k heard → is_open k heard a ≡ true → IsOwn (with_record k (Reserve a r)) heard
-own_reserved k heard a r own is c q has = go (has_cases k.reserved (a, r) (c, q) has) where
-  go : Has k.reserved (c, q) ⊎ (◌≡◌ {A = Assignment} (a, r) (c, q)) → is_anothers k heard c q ≡ false
-  go (inl was) = own c q was
+pub clear_reserved : (k : Kept) (heard : Shorts) (a r : ℕ) → IsClear k heard → is_open k heard a ≡ true → IsClear (with_record k (Reserve a r)) heard
+clear_reserved k heard a r clear free c q has = go (has_cases k.reserved (a, r) (c, q) has) where
+  go : Has k.reserved (c, q) ⊎ (◌≡◌ {A = Assignment} (a, r) (c, q)) → has_short heard c ≡ false
+  go (inl was) = clear c q was
   go (inr same) =
-      let one : a ≡ c = ap (λ (x : Assignment). x.0) same in
-      let two : r ≡ q = ap (λ (x : Assignment). x.1) same in
-      subst (λ n. is_anothers k heard n q ≡ false) one (subst (λ n. is_anothers k heard a n ≡ false) two (open_own k heard a r is))
+      subst (λ n. has_short heard n ≡ false) (ap (λ (x : Assignment). x.0) same)
+      (open_parts (is_some (number_at k.reserved a)) (is_some (number_at k.enrolled a)) (has_short heard a) free).2
 
--- settled records are told by the gear, one for each address
-pub own_settled : (k : Kept) (heard : Shorts) (gs : List Gear) → OneShort gs → IsTrue k.enrolled gs → IsSettled k → IsClear k heard → IsOwn k heard
-own_settled k heard gs one holds settled clear c q has =
-    not_both (has_short heard c) (is_another q (number_at k.enrolled c)) (clear c q has)
-    (go (number_at k.enrolled c) (found_number k.enrolled c)) where
+-- whoever is enrolled under it has the number that it is reserved for
+pub nobody_elses : (k : Kept) (heard : Shorts) (gs : List Gear) → IsTrue k.enrolled gs → AreOwned k.reserved gs → IsClear k heard → (a r : ℕ)
+    → Has k.reserved (a, r) → is_anothers k heard a r ≡ false
+nobody_elses k heard gs holds owned clear a r has =
+    not_both (has_short heard a) (is_another r (number_at k.enrolled a)) (clear a r has)
+    (go (number_at k.enrolled a) (found_number k.enrolled a)) where
       same : (m n : ℕ) → m ≡ n → not (m == n) ≡ false
       same m n e = grind (arith, nat_tests, e)
 
-      go : (o : Option ℕ) → MatchOption o (HasAddress k.enrolled c → ⊥) (λ n. Has k.enrolled (c, n)) → is_another q o ≡ false
+      go : (o : Option ℕ) → MatchOption o (HasAddress k.enrolled a → ⊥) (λ n. Has k.enrolled (a, n)) → is_another r o ≡ false
       go None none = refl
-      go (Some n) there =
-          let first = holds c n there in
-          let second = holds c q (settled (c, q) has) in
-          let at : first.0 ≡ second.0 = one first.0 second.0 c first.1 second.1 first.2 second.2 in
-          same n q (sym first.3 ∙ ap (λ i. (gear_of gs i).random) at ∙ second.3)
+      go (Some n) entry = let who = holds a n entry in same n r (sym who.3 ∙ owned a r who.0 has who.1 who.2)
 
 -- ---------------------------------------------------------------- where none is open, all are taken
 
@@ -447,10 +423,10 @@ asked_within k (suc n) from c e = go (is_asked k from) e (asked_within k n (from
 
 pub asks_on : (start : Begun) (t : Machine) (o : Order) (f : ℕ) (gs : List Gear) (left : ℕ) → Calm t → o ≡ beginning (next_course t)
     → next_course t ≡ goes_on_to t → IsUncalled t.course → t.asked ≡ 0 → t.course.from ≡ f → f ≤ 64
-    → (start.any ≡ false → IsSettled t.kept)
-    → (start.any ≡ false → IsClear t.kept t.heard) → OneShort gs → IsTrue t.kept.enrolled gs → SameCore start.gear gs
+    → (IsSettled start.kept → IsSettled t.kept)
+    → IsClear t.kept t.heard → OneShort gs → IsTrue t.kept.enrolled gs → SameCore start.gear gs
     → TabledBelow f start.gear t.kept.enrolled gs
-    → 3 * (64 - f) + survey_frames start gs ≤ left → IsNext start (machine_ordered t o) o gs left
+    → 3 * (64 - f) + survey_frames gs ≤ left → IsNext start (machine_ordered t o) o gs left
 asks_on start t o f gs left calm is next uncalled asked from few settled clear one holds same tabled enough =
     go (next_asked t.kept f) course (asked_later t.kept (64 - f) f) (asked_before t.kept (64 - f) f) (asked_within t.kept (64 - f) f) where
       course : next_course t ≡ ask_or_call t.course (next_asked t.kept f)
@@ -479,7 +455,7 @@ asks_on start t o f gs left calm is next uncalled asked from few settled clear o
               stage_is = inl unasked;
               tabled = below_named f d start.gear t.kept.enrolled gs one holds tabled
                   (λ c past under. unasked_enrolled t.kept c (before d refl c past under));
-              frames = count (survey_frames start gs) d (asked_by t.course.opened t.asked) low small unasked enough;
+              frames = count (survey_frames gs) d (asked_by t.course.opened t.asked) low small unasked enough;
             },
           )
         where
@@ -493,7 +469,7 @@ asks_on start t o f gs left calm is next uncalled asked from few settled clear o
             stage_is = tt;
             quiet = λ silent. absurd (let both : true ≡ false = sym silent ∙ uncalled.loud in cc);
             first = λ some. uncalled.undrawn;
-            own = λ e. own_settled t.kept t.heard gs one holds (settled e) (clear e);
+            clear = clear;
             settled = settled;
             gear = λ k in_row on. tt;
             low = tt;
@@ -501,13 +477,11 @@ asks_on start t o f gs left calm is next uncalled asked from few settled clear o
                 (below_named f 64 start.gear t.kept.enrolled gs one holds tabled
                 (λ c past under. unasked_enrolled t.kept c (none refl c past (omega (arith, under, few)))));
             frames = count (roll_frames t.course.tally.is_silent (count_by is_bare (those_drawn gs)) (count_by is_lost gs)) (count_by is_bare gs)
-                (spare start.any 0) (spare start.any t.course.tally.draws)
-                (roll_most t.course.tally.is_silent (count_by is_bare (those_drawn gs)) (count_by is_lost gs) (count_by is_bare gs) (bare_split gs))
-                (ap (spare start.any) uncalled.undrawn) enough;
+                (roll_most t.course.tally.is_silent (count_by is_bare (those_drawn gs)) (count_by is_lost gs) (count_by is_bare gs) (bare_split gs)) enough;
           })
         where
-          count : (roll bare some now : ℕ) → roll ≤ 106 * bare + 66 → now ≡ some → 3 * (64 - f) + (106 * bare + 66 + some) ≤ left → roll + now ≤ left + 0
-          count roll bare some now most same enough = omega (arith, most, same, enough)
+          count : (roll bare : ℕ) → roll ≤ 106 * bare + 66 → 3 * (64 - f) + (106 * bare + 66) ≤ left → roll ≤ left + 0
+          count roll bare most enough = omega (arith, most, enough)
 
 -- ---------------------------------------------------------------- the search that goes up
 
@@ -515,11 +489,11 @@ no_surplus : (rest after left : ℕ) → rest + after ≤ left → rest + 0 + af
 no_surplus rest after left enough = omega (arith, enough)
 
 pub hunts_by : (start : Begun) (t : Machine) (o : Order) (cs : Course) (rest : ℕ) (gs : List Gear) (left : ℕ) → Calm t → o ≡ beginning (next_course t)
-    → next_course t ≡ hunting cs → IsSmooth cs → IsHunted cs gs → IsCalledFor Hunting cs.ascent gs → (start.any ≡ false → IsOwn t.kept t.heard)
-    → (start.any ≡ false → IsSettled t.kept) → Rises false stage.Free cs.ascent (sought (asked_next cs.ascent)) (those_drawn gs) rest
+    → next_course t ≡ hunting cs → IsSmooth cs → IsHunted cs gs → IsCalledFor Hunting cs.ascent gs → IsClear t.kept t.heard
+    → (IsSettled start.kept → IsSettled t.kept) → Rises false stage.Free cs.ascent (sought (asked_next cs.ascent)) (those_drawn gs) rest
     → AreTabled (unseen start.gear) t.kept.enrolled (those_drawn gs)
-    → rest + (frames_after Hunting cs.ascent gs + spare start.any cs.tally.draws) ≤ left → IsNext start (machine_ordered t o) o gs left
-hunts_by start t o cs rest gs left calm is next smooth hunted called own settled rises tabled frames =
+    → rest + frames_after Hunting cs.ascent gs ≤ left → IsNext start (machine_ordered t o) o gs left
+hunts_by start t o cs rest gs left calm is next smooth hunted called clear settled rises tabled frames =
     first_by start t o (hunting cs) gs left calm is next (smooth_as cs (hunting cs) refl refl smooth) tt
     (record {
       opened_is = hunted.opened;
@@ -527,30 +501,30 @@ hunts_by start t o cs rest gs left calm is next smooth hunted called own settled
       first = hunted.first;
       called = called;
       low = hunted.low;
-      own = own;
+      clear = clear;
       settled = settled;
       rest = rest;
       at = rises;
       tabled = tabled;
       behind = 0;
       behind_is = refl;
-      frames = no_surplus rest (frames_after Hunting cs.ascent gs + spare start.any cs.tally.draws) left frames;
+      frames = no_surplus rest (frames_after Hunting cs.ascent gs) left frames;
     })
 
 -- from the least number on
 pub hunts_first : (start : Begun) (t : Machine) (o : Order) (cs : Course) (gs : List Gear) (left : ℕ) → Calm t → o ≡ beginning (next_course t)
     → next_course t ≡ hunting_first cs → IsSmooth cs → IsHunted cs gs → 0 < count_by is_bare gs
-    → (start.any ≡ false → IsOwn t.kept t.heard) → (start.any ≡ false → IsSettled t.kept) → IsOpened (those_drawn gs) → NoneNamed (those_drawn gs)
+    → IsClear t.kept t.heard → (IsSettled start.kept → IsSettled t.kept) → IsOpened (those_drawn gs) → NoneNamed (those_drawn gs)
     → AreTabled (unseen start.gear) t.kept.enrolled (those_drawn gs)
     → 106 * count_by is_wanted (those_drawn gs) + 10
-    + (hunted_after (count_by is_wanted (those_drawn gs)) (count_by is_lost gs) + spare start.any cs.tally.draws) ≤ left
+    + hunted_after (count_by is_wanted (those_drawn gs)) (count_by is_lost gs) ≤ left
     → IsNext start (machine_ordered t o) o gs left
-hunts_first start t o cs gs left calm is next smooth hunted some own settled ready unnamed tabled frames =
+hunts_first start t o cs gs left calm is next smooth hunted some clear settled ready unnamed tabled frames =
     hunts_by start t o (record cs { ascent = ascent_at_first }) (106 * count_by is_wanted (those_drawn gs) + 10) gs left calm is next
     (smooth_as cs (record cs { ascent = ascent_at_first }) refl refl smooth)
-    (record { opened = hunted.opened; loud = hunted.loud; first = hunted.first; low = hunted.low }) (λ none. some) own settled
+    (record { opened = hunted.opened; loud = hunted.loud; first = hunted.first; low = hunted.low }) (λ none. some) clear settled
     (rises_first (those_drawn gs) (106 * count_by is_wanted (those_drawn gs) + 10) ready unnamed (omega arith)) tabled
-    (subst (λ n. 106 * count_by is_wanted (those_drawn gs) + 10 + (hunted_after n (count_by is_lost gs) + spare start.any cs.tally.draws) ≤ left)
+    (subst (λ n. 106 * count_by is_wanted (those_drawn gs) + 10 + hunted_after n (count_by is_lost gs) ≤ left)
     (no_more (count_by is_wanted (those_drawn gs))) frames)
   where
     no_more : (n : ℕ) → n ≡ 0 + n
@@ -558,20 +532,20 @@ hunts_first start t o cs gs left calm is next smooth hunted some own settled rea
 
 -- and above who was found
 pub hunts_on : (start : Begun) (t : Machine) (o : Order) (r : ℕ) (gs : List Gear) (left : ℕ) → Calm t → o ≡ beginning (next_course t)
-    → next_course t ≡ goes_on_to t → IsHunted t.course gs → (start.any ≡ false → IsOwn t.kept t.heard)
-    → (start.any ≡ false → IsSettled t.kept) → Above t.course.ascent r (those_drawn gs) → IsOpened (those_drawn gs)
+    → next_course t ≡ goes_on_to t → IsHunted t.course gs → IsClear t.kept t.heard
+    → (IsSettled start.kept → IsSettled t.kept) → Above t.course.ascent r (those_drawn gs) → IsOpened (those_drawn gs)
     → NoneNamed (those_drawn gs) → AreTabled (unseen start.gear) t.kept.enrolled (those_drawn gs)
-    → 106 * count_by is_wanted (those_drawn gs) + 32 + (called_after (count_by is_lost gs) + spare start.any t.course.tally.draws) ≤ left
+    → 106 * count_by is_wanted (those_drawn gs) + 32 + called_after (count_by is_lost gs) ≤ left
     → IsNext start (machine_ordered t o) o gs left
-hunts_on start t o r gs left calm is next hunted own settled up ready unnamed tabled frames =
+hunts_on start t o r gs left calm is next hunted clear settled up ready unnamed tabled frames =
     hunts_by start t o served_above (106 * count_by is_wanted (those_drawn gs) + 32) gs left calm is
     (next ∙ ap (λ b. going_on t.kept b t.course) hunted.opened ∙ ap (λ y. searching_on y t.course) calm.smooth.way
     ∙ ap (λ x. hunting (record t.course { tally = served t.course.tally; ascent = gone_on_from x t.course.ascent })) up.reached)
     (record { way = calm.smooth.way; passed = refl; unmissed = calm.smooth.unmissed })
     (record { opened = hunted.opened; loud = hunted.loud; first = hunted.first; low = hunted.low })
-    (λ none. absurd (let some : 0 < (above t.course.ascent r).found = found in omega (arith, some, none))) own settled
+    (λ none. absurd (let some : 0 < (above t.course.ascent r).found = found in omega (arith, some, none))) clear settled
     (rises_above t.course.ascent r (those_drawn gs) (106 * count_by is_wanted (those_drawn gs) + 32) up.is up.drawn up.past ready unnamed (omega arith)) tabled
-    (subst (λ n. 106 * count_by is_wanted (those_drawn gs) + 32 + (n + spare start.any t.course.tally.draws) ≤ left)
+    (subst (λ n. 106 * count_by is_wanted (those_drawn gs) + 32 + n ≤ left)
     (sym (hunted_some ((above t.course.ascent r).found + count_by is_wanted (those_drawn gs)) (count_by is_lost gs)
     (more (above t.course.ascent r).found (count_by is_wanted (those_drawn gs)) found))) frames)
   where

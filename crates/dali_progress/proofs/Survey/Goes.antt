@@ -4,6 +4,9 @@ use Rattle.std.specs.Prelude.{◌==◌, if◌then◌else◌}
 use Rattle.dali_frame.specs.Priority.{LATER}
 use Rattle.dali_frame.specs.declared.frames.Forward.{Forward}
 use Rattle.dali_frame.specs.declared.frames.Answer.{Answer}
+use Rattle.dali_special.specs.declared.command.Command.{Command}
+use Rattle.dali_special.specs.declared.command.Command.TheVariants.{RandomByte}
+use Rattle.dali_special.specs.declared.command.Part.TheVariants.{High, Middle, Low}
 use Rattle.dali_special.specs.Command.{command_of}
 use Rattle.dali_gear.specs.declared.row.Reach.TheVariants.{Everyone}
 use Rattle.dali_gear.specs.Gear.{Gear}
@@ -18,7 +21,7 @@ use Rattle.dali_script.specs.Findings.{assigned, search_of, asked_of, found_by, 
 use Rattle.dali_script.specs.Scripts.{Lawful, IsLawful}
 use Rattle.dali_script.specs.declared.stage.Stage.{Stage}
 use Rattle.dali_script.specs.declared.stage.Stage.TheVariants as stage
-use Rattle.dali_script.specs.Stages.{IsTrace, stage_of, next_stage}
+use Rattle.dali_script.specs.Stages.{IsTrace, stage_of, next_stage, finding_at}
 use Rattle.dali_script.specs.Due.{frame_put, record_ordered}
 use Rattle.dali_script.proofs.Transactions.{stage_more, stage_none}
 use Rattle.dali_script.proofs.Found.{finding_more, trace_more}
@@ -50,15 +53,15 @@ use Rattle.dali_events.specs.Promise.{KeepsPromiseNow}
 use Rattle.dali_progress.proofs.Lone.{IsLone, Moment, IsDueOf, due_of, heard_kept, acted_there, sent_there, lone_acted, lone_sent, acts_by}
 use Rattle.dali_progress.proofs.Frames.{Seeks}
 use Rattle.dali_progress.proofs.Both.{never_eight, with_kept, not_free, no_tries, addresses_by, put_no_enrolment, IsKnown, taken_of}
-use Rattle.dali_progress.proofs.Survey.Drawn.{AreNumbered, apart_drawn}
-use Rattle.dali_progress.proofs.Survey.Queried.{OneShort, IsTrue, below_none}
+use Rattle.dali_progress.proofs.Survey.Drawn.{apart_drawn}
+use Rattle.dali_progress.proofs.Survey.Queried.{OneShort, IsTrue, AreOwned, below_none}
 use Rattle.dali_progress.proofs.Survey.Stands.{Begun, survey_frames, SurveyAt, SurveyStands}
 use Rattle.dali_progress.proofs.Survey.Rolls.{IsSurveyTaken}
 use Rattle.dali_progress.proofs.Survey.Sent.{IsTold, SurveySent, survey_sent}
-use Rattle.dali_progress.proofs.Survey.Begins.{Calm, SurveyCommits, IsNext, asks_on}
+use Rattle.dali_progress.proofs.Survey.Begins.{IsAtHand, Calm, SurveyCommits, IsPut, IsNext, asks_on}
 use Rattle.dali_progress.proofs.Survey.Turns.{IsUncontradicted}
 use Rattle.dali_progress.proofs.Survey.Visits.{turned}
-use Rattle.dali_progress.proofs.Survey.Kept.{committed, begins_less, enrol_slack, enrol_one, survey_slack}
+use Rattle.dali_progress.proofs.Survey.Kept.{committed, begins_less, spared, spared_few, survey_slack}
 use Rattle.dali_progress.proofs.Along.{Measure, Goes, slack_at}
 
 -- A SURVEY GOES ON, event by event.
@@ -68,22 +71,23 @@ pub record IsUnsurveyed (start : Begun) (m : Machine) (gs : List Gear) (left : �
   pub tries : m.tries ≡ 0
   pub silent : m.silent ≡ 0
   pub free : m.trace ≡ []
-  pub settled : start.any ≡ false → IsSettled m.kept
+  pub kept : m.kept ≡ start.kept
   pub unmarked : (c : ℕ) → has_short m.heard c ≡ false
   pub unopened : m.course.opened ≡ false
   pub unasked : m.asked ≡ 0
   pub first : m.course.from ≡ 0
   pub same : SameCore start.gear gs
-  pub frames : 192 + survey_frames start gs ≤ left
+  pub frames : 192 + survey_frames gs ≤ left
 
 -- a frame was heard: the machine stands so, once it is told
-pub record Hears (start : Begun) (m : Machine) (f : Forward) (h : Answer) (gs : List Gear) (left : ℕ) : Type 0 where
+pub record Hears (start : Begun) (m : Machine) (p : ℕ) (f : Forward) (h : Answer) (gs : List Gear) (left : ℕ) : Type 0 where
   pub stands : SurveyStands true start (machine_heard m (Some f) h) gs left
   pub running : stage_of (machine_heard m (Some f) h).trace ≡ stage.Free → ⊥
+  pub put : IsPut p m
 
 abbrev pub Holds : Begun → Machine → Option Order → Option Input → List Gear → ℕ → Type 0
 Holds start m None (Some input.Start) gs left = IsUnsurveyed start m gs left
-Holds start m (Some (Put p f)) (Some (input.Heard h)) gs left = Hears start m f h gs left
+Holds start m (Some (Put p f)) (Some (input.Heard h)) gs left = Hears start m p f h gs left
 Holds start m (Some o) None gs left = IsNext start m o gs left
 Holds start m _ _ gs left = ⊥
 
@@ -139,19 +143,42 @@ uncontradicted w c t agree there kept found x is contradicts =
 
 -- what is to come of its order, and that events before the next frame are one less
 abbrev ActsTo : Begun → Machine → Order → List Gear → ℕ → Option Order → Option Input → Type 0
-ActsTo start n o gs left last told = IsNext start n o gs left × (survey_slack start.any (Some o) None + 1 ≤ survey_slack start.any last told)
+ActsTo start n o gs left last told = IsNext start n o gs left × (survey_slack (Some o) None + 1 ≤ survey_slack last told)
 
-order_slack : (any : Bool) (o : Order) → survey_slack any (Some o) None ≤ enrol_slack any
-order_slack any (Put p f) = omega arith
-order_slack any (Commit (Enrol a r)) = omega arith
-order_slack any (Commit x) = enrol_one any
-order_slack any (Done e) = omega arith
-order_slack any (Halt why) = omega arith
+commit_slack : (x : Record) (told : Option Input) → survey_slack (Some (Commit x)) told ≡ survey_slack (Some (Commit x)) None
+commit_slack (Enrol a r) told = refl
+commit_slack (Reserve a r) told = refl
+commit_slack (Release a r) told = refl
 
-commit_slack : (any : Bool) (x : Record) (told : Option Input) → survey_slack any (Some (Commit x)) told ≡ survey_slack any (Some (Commit x)) None
-commit_slack any (Enrol a r) told = refl
-commit_slack any (Reserve a r) told = refl
-commit_slack any (Release a r) told = refl
+-- the first frame of a transaction finds nobody
+first_finds : (c : Command) (h : Answer) → finding_at (next_stage stage.Free c h) ≡ None
+first_finds (RandomByte a High) h = refl
+first_finds (RandomByte a Middle) h = refl
+first_finds (RandomByte a Low) h = refl
+first_finds _ h = refl
+
+-- so whoever is enrolled was found by a later one
+enrols_late : (start : Begun) (m : Machine) (p b r : ℕ) (f : Forward) (h : Answer) (gs : List Gear) (left : ℕ) → Hears start m p f h gs left
+    → IsGivenBy (machine_heard m (Some f) h) (Commit (Enrol b r)) → p ≡ LATER
+enrols_late start m p b r f h gs left hears g = go hears.put where
+  found : (x : Finding) × (finding_at (stage_of (machine_heard m (Some f) h).trace) ≡ Some x)
+  found = let w = g.ordered.allowed.warranted in (w.0, sym hears.stands.trace.finding ∙ w.2)
+
+  go : IsPut p m → p ≡ LATER
+  go (inl late) = late
+  go (inr free) =
+      let first : stage_of (m.trace ++ entry f h ∷ []) ≡ next_stage stage.Free (command_of f) h =
+      stage_more m.trace (entry f h) ∙ ap (λ s. next_stage s (command_of f) h) (ap stage_of free ∙ stage_none) in
+      absurd (let never : None ≡ Some found.0 = sym (ap finding_at first ∙ first_finds (command_of f) h) ∙ found.1 in cc)
+
+order_slack : (start : Begun) (m : Machine) (p : ℕ) (f : Forward) (h : Answer) (o : Order) (gs : List Gear) (left : ℕ) → Hears start m p f h gs left
+    → IsGivenBy (machine_heard m (Some f) h) o → survey_slack (Some o) None + 1 ≤ spared p + 2
+order_slack start m p f h (Put q e) gs left hears g = let few = spared_few q in omega (arith, few)
+order_slack start m p f h (Commit (Enrol b r)) gs left hears g =
+    subst (λ n. 3 ≤ spared n + 2) (sym (enrols_late start m p b r f h gs left hears g)) (omega arith)
+order_slack start m p f h (Commit x) gs left hears g = omega arith
+order_slack start m p f h (Done e) gs left hears g = omega arith
+order_slack start m p f h (Halt why) gs left hears g = omega arith
 
 no_enrolment_yet : IsNoEnrolment None
 no_enrolment_yet b n e = cc
@@ -169,25 +196,24 @@ first_acts start m o gs left told last g one holds v =
         smooth = record { way = refl; passed = refl; unmissed = refl };
       }) begins
           (ap (begins_at (machine_surveying m)) at ∙ ap (at_rest (machine_surveying m)) last)
-          (record { unopened = v.unopened; undrawn = refl; loud = refl }) v.unasked v.first (omega arith) v.settled
-          (λ e c q has. v.unmarked c) one holds v.same (below_none start.gear m.kept.enrolled gs) (count (survey_frames start gs) v.frames),
-      begins_less o (machine_surveying m) start.any 1 begins (omega arith),
+          (record { unopened = v.unopened; undrawn = refl; loud = refl }) v.unasked v.first (omega arith)
+          (λ e. subst IsSettled (sym v.kept) e) (λ c q has. v.unmarked c) one holds v.same (below_none start.gear m.kept.enrolled gs)
+          (count (survey_frames gs) v.frames),
+      begins_less o (machine_surveying m) 1 begins (omega arith),
     )
   where
     count : (wake : ℕ) → 192 + wake ≤ left → 3 * (64 - 0) + wake ≤ left
     count wake enough = omega (arith, enough)
 
 heard_acts : (start : Begun) (m : Machine) (p : ℕ) (f : Forward) (h : Answer) (o : Order) (gs : List Gear) (left : ℕ)
-    → m.last ≡ Some (Put p f) → IsGivenBy (machine_told m (input.Heard h)) o → IsKept m.kept → AreNumbered gs → OneShort gs
-    → IsTrue (machine_told m (input.Heard h)).kept.enrolled gs
-    → IsUncontradicted (machine_told m (input.Heard h)) → IsWhole (machine_after m (input.Heard h) o) → Hears start m f h gs left
+    → m.last ≡ Some (Put p f) → IsGivenBy (machine_told m (input.Heard h)) o → IsAtHand m.kept gs
+    → IsUncontradicted (machine_told m (input.Heard h)) → IsWhole (machine_after m (input.Heard h) o) → Hears start m p f h gs left
     → ActsTo start (machine_after m (input.Heard h) o) o gs left (Some (Put p f)) (Some (input.Heard h))
-heard_acts start m p f h o gs left is g kept numbered one holds agreed whole hears = (
+heard_acts start m p f h o gs left is g hand agreed whole hears = (
   subst (λ t. IsNext start (machine_ordered t o) o gs left) (sym same)
-      (turned start (machine_heard m (Some f) h) o gs left (subst (λ t. IsGivenBy t o) same g) hears.stands kept numbered one
-      (subst (λ (t : Machine). IsTrue t.kept.enrolled gs) same holds) (subst IsUncontradicted same agreed)
+      (turned start (machine_heard m (Some f) h) o gs left (subst (λ t. IsGivenBy t o) same g) hears.stands hand (subst IsUncontradicted same agreed)
       (subst (λ t. IsWhole (machine_ordered t o)) same whole) (put_no_enrolment p f m.last is) hears.running),
-  (let one : survey_slack start.any (Some o) None ≤ enrol_slack start.any = order_slack start.any o in omega (arith, one)),
+  order_slack start m p f h o gs left hears (subst (λ t. IsGivenBy t o) same g),
 ) where
   same : machine_told m (input.Heard h) ≡ machine_heard m (Some f) h
   same = ap (λ l. machine_heard m (frame_put l) h) is
@@ -200,24 +226,24 @@ kept_acts start m x o gs left told is g kept one holds free commits =
     let to = committed start m x o gs left commits.0 commits.1 free is kept.reserved (subst (λ t. IsGivenBy t o) same g) one
     (subst (λ (t : Machine). IsTrue t.kept.enrolled gs) same holds) in (
       subst (λ t. IsNext start (machine_ordered t o) o gs left) (sym same) to.0,
-      subst (λ n. survey_slack start.any (Some o) None + 1 ≤ n) (sym (commit_slack start.any x told)) to.1,
+      subst (λ n. survey_slack (Some o) None + 1 ≤ n) (sym (commit_slack x told)) to.1,
     )
   where
     same : machine_told m input.Committed ≡ with_kept m x
     same = ap (λ l. machine_committed m (record_ordered l)) is
 
 acts : (start : Begun) (w : World) (q c : ℕ) (m : Machine) (out : Option Record) (last : Option Order) (told : Option Input) (i : Input) (o : Order)
-    (left : ℕ) → Moment w q c m out last told → m.last ≡ last → IsDueOf last told i → Succeeds true i → IsGivenBy (machine_told m i) o → IsKept m.kept
-    → AreNumbered w.gear → OneShort w.gear → IsTrue (machine_told m i).kept.enrolled w.gear
+    (left : ℕ) → Moment w q c m out last told → m.last ≡ last → IsDueOf last told i → Succeeds true i → IsGivenBy (machine_told m i) o
+    → IsAtHand m.kept w.gear → IsTrue (machine_told m i).kept.enrolled w.gear
     → ((b : Answer) → i ≡ input.Heard b → IsUncontradicted (machine_told m i)) → IsWhole (machine_after m i o)
     → Holds start m last told w.gear left → ActsTo start (machine_after m i o) o w.gear left last told
-acts start w q c m out last told i o left at is due surveys g kept numbered one true_table agreed whole holds =
+acts start w q c m out last told i o left at is due surveys g hand true_table agreed whole holds =
     acts_by true (λ l t j. Moment w q c m out l t → m.last ≡ l → IsGivenBy (machine_told m j) o → IsTrue (machine_told m j).kept.enrolled w.gear
     → ((b : Answer) → j ≡ input.Heard b → IsUncontradicted (machine_told m j)) → IsWhole (machine_after m j o) → Holds start m l t w.gear left
     → ActsTo start (machine_after m j o) o w.gear left l t)
-    (λ at is g true_table agreed whole holds. first_acts start m o w.gear left (Some input.Start) is g one true_table holds)
-    (λ p f h at is g true_table agreed whole holds. heard_acts start m p f h o w.gear left is g kept numbered one true_table (agreed h refl) whole holds)
-    (λ x at is g true_table agreed whole holds. kept_acts start m x o w.gear left None is g kept one true_table at.1 holds)
+    (λ at is g true_table agreed whole holds. first_acts start m o w.gear left (Some input.Start) is g hand.one hand.holds holds)
+    (λ p f h at is g true_table agreed whole holds. heard_acts start m p f h o w.gear left is g hand (agreed h refl) whole holds)
+    (λ x at is g true_table agreed whole holds. kept_acts start m x o w.gear left None is g hand.kept hand.one true_table at.1 holds)
     w q c m out last told i at due surveys at is g true_table agreed whole holds
 
 -- ---------------------------------------------------------------- one event more of the controller
@@ -232,26 +258,18 @@ next_holds start m _ gs left next = next
 
 -- what is known of the world of a run
 pub record IsSurveyed (w : World) (c : ℕ) : Type 0 where
-  pub kept : IsKept (controller_at w c).records
-  pub numbered : AreNumbered w.gear
-  pub one : OneShort w.gear
-  pub holds : IsTrue (controller_at w c).records.enrolled w.gear
+  pub hand : IsAtHand (controller_at w c).records w.gear
   pub agree : FindingsAgree w
-
--- events before the end, at the most, of so many frames
-abbrev pub events_of : Bool → ℕ → ℕ
-events_of true left = 4 * left
-events_of false left = 3 * left
 
 -- that it goes on, and with how many frames left
 abbrev pub of_survey : Begun → Measure
-of_survey start = record { by = true; known = IsFound; holds = Holds start; slack = survey_slack start.any; events = events_of start.any }
+of_survey start = record { by = true; known = IsFound; holds = Holds start; slack = survey_slack; events = λ left. 3 * left }
 
 pub survey_acts : (start : Begun) (w : World) (q c : ℕ) (m : Machine) (i : Input) (o : Order) (left : ℕ) → Goes (of_survey start) w q c m left
     → Succeeds true i → Allowed w (event.Acted c i o) → IsGivenBy (machine_told m i) o → IsWhole (machine_after m i o) → IsSurveyed w c
     → KeepsPromiseNow (happens w (event.Acted c i o))
     → IsFound (controller_at (happens w (event.Acted c i o)) c) (machine_after m i o) × Holds start (machine_after m i o) (Some o) None w.gear left
-    × (survey_slack start.any (Some o) None + 1 ≤ slack_at (of_survey start) w c)
+    × (survey_slack (Some o) None + 1 ≤ slack_at (of_survey start) w c)
 survey_acts start w q c m i o left goes surveys here by whole known promise = (
   subst (λ k. IsFound k (machine_after m i o)) (sym (acted_there w c i o goes.lone.up))
       (ordered_found (controller_at w c).finding (machine_told m i) o found),
@@ -280,7 +298,7 @@ survey_acts start w q c m i o left goes surveys here by whole known promise = (
   out : ActsTo start (machine_after m i o) o w.gear left (controller_at w c).last (controller_at w c).told
   out =
       acts start w q c m (controller_at w c).outstanding (controller_at w c).last (controller_at w c).told i o left goes.lone.moment goes.lone.last
-      (due_of (controller_at w c) i here.due) surveys by (subst IsKept (sym goes.lone.kept) known.kept) known.numbered known.one holds agreed whole goes.holds
+      (due_of (controller_at w c) i here.due) surveys by (subst (λ k. IsAtHand k w.gear) (sym goes.lone.kept) known.hand) holds agreed whole goes.holds
 
 -- ---------------------------------------------------------------- its frame is sent
 
@@ -291,8 +309,6 @@ never_silent told (Asking a) (stage.Unanswered r) k heard asked c opened start g
 never_silent told (Asking a) (stage.Inconclusive r other) k heard asked c opened start gs left at = absurd at.1.stage_is
 never_silent told Calling (stage.Unanswered r) k heard asked c opened start gs left at = absurd at.stage_is
 never_silent told Calling (stage.Inconclusive r other) k heard asked c opened start gs left at = absurd at.stage_is
-never_silent told Opening (stage.Unanswered r) k heard asked c opened start gs left at = absurd at.1.stage_is
-never_silent told Opening (stage.Inconclusive r other) k heard asked c opened start gs left at = absurd at.1.stage_is
 never_silent told Drawing (stage.Unanswered r) k heard asked c opened start gs left at = absurd at.stage_is
 never_silent told Drawing (stage.Inconclusive r other) k heard asked c opened start gs left at = absurd at.stage_is
 never_silent told Hunting (stage.Unanswered r) k heard asked c opened start gs left at = absurd at.at.stage_is
@@ -301,6 +317,7 @@ never_silent told Visiting (stage.Unanswered r) k heard asked c opened start gs 
 never_silent told Visiting (stage.Inconclusive r other) k heard asked c opened start gs left at = absurd at.at.0.stage_is
 never_silent told (Closing e) (stage.Unanswered r) k heard asked c opened start gs left at = absurd at.stage_is
 never_silent told (Closing e) (stage.Inconclusive r other) k heard asked c opened start gs left at = absurd at.stage_is
+never_silent told Opening s k heard asked c opened start gs left at = absurd at
 never_silent told Probing s k heard asked c opened start gs left at = absurd at
 never_silent told PassingOver s k heard asked c opened start gs left at = absurd at
 never_silent told (Resolving a) s k heard asked c opened start gs left at = absurd at
@@ -358,17 +375,17 @@ pub survey_sends : (start : Begun) (w : World) (q c : ℕ) (m : Machine) (p : �
     → m.last ≡ Some (Put p f) → (controller_at w c).told ≡ None → Allowed w (event.Sent c f h) → IsKnown w c f h → IsSurveyed w c
     → h ≡ heard_of (answers_of Everyone (command_of f) 0 w.gear)
     → (l : ℕ) × (left ≡ suc l) × IsFound (controller_at (happens w (event.Sent c f h)) c) m
-    × Hears start m f h (row_after Everyone (command_of f) 0 w.gear w.left) l
+    × Hears start m p f h (row_after Everyone (command_of f) 0 w.gear w.left) l
 survey_sends start w q c m p f h left goes last told here known surveyed heard =
     let lone = lone_sent w q c m p f h goes.lone last told in
     let holds : IsNext start m (Put p f) w.gear left = next_holds start m (Put p f) w.gear left (rw (sym goes.lone.last ∙ last, told) at goes.holds) in
     let same : w.trace ≡ m.trace = lone.3 in
     let taken : IsSurveyTaken (command_of f) w.gear w.left h =
-    record { taken = taken_of w c f h here known heard; one = surveyed.one; numbered = surveyed.numbered; apart = apart_drawn w known.drawn } in
+    record { taken = taken_of w c f h here known heard; one = surveyed.hand.one; numbered = surveyed.hand.numbered; apart = apart_drawn w known.drawn } in
     let told_so : IsTold m.kept w.gear =
     record {
-      kept = subst IsKept (sym goes.lone.kept) surveyed.kept;
-      holds = subst (λ k. IsTrue k.enrolled w.gear) (sym goes.lone.kept) surveyed.holds;
+      kept = subst IsKept (sym goes.lone.kept) surveyed.hand.kept;
+      owned = subst (λ (k : Kept). AreOwned k.reserved w.gear) (sym goes.lone.kept) surveyed.hand.owned;
     } in
     let sent : SurveySent m.course.purpose (stage_of m.trace) m.kept m.heard m.asked m.course start w.gear w.left left (command_of f) h =
     survey_sent m.course.purpose (stage_of m.trace) m.kept m.heard m.asked m.course start w.gear w.left left (command_of f) h holds.0.at holds.1 taken told_so
@@ -381,5 +398,5 @@ survey_sends start w q c m p f h left goes last told here known surveyed heard =
       sent.0,
       sent.1,
       found_sent w q c m p f h goes.lone last told lone.1 lone.2 goes.known,
-      record { stands = stands_heard start m f h w.gear w.left left holds.0 lawful sent; running = not_free m.trace (entry f h) },
+      record { stands = stands_heard start m f h w.gear w.left left holds.0 lawful sent; running = not_free m.trace (entry f h); put = holds.2 },
     )

@@ -24,8 +24,7 @@ use Rattle.dali_search.specs.declared.step.Step.TheVariants.{Again, Found, Nobod
 use Rattle.dali_search.specs.Ascending.{Ascent, asked_next, ascended, leads_to}
 use Rattle.dali_search.specs.Questions as questions
 use Rattle.dali_search.specs.Questions.{Asking, asking_next, room_left}
-use Rattle.dali_controller.specs.declared.purpose.Purpose.{Purpose}
-use Rattle.dali_controller.specs.declared.purpose.Purpose.TheVariants.{Opening, Hunting, Drawing}
+use Rattle.dali_controller.specs.declared.purpose.Purpose.TheVariants.{Hunting, Drawing}
 use Rattle.dali_controller.specs.Course.{Course, is_yes, least_open, sought, byte_to_send, next_unfinished, searching_first, asking_again}
 use Rattle.dali_controller.specs.Course.{bytes_to_send, hunting, hunted, visiting, calling, drawing, closing as closing_by}
 use Rattle.dali_controller.specs.Machine.{Machine}
@@ -46,7 +45,7 @@ use Rattle.dali_progress.proofs.Both.{never_eight}
 use Rattle.dali_progress.proofs.Survey.Drawn.{those_drawn, is_undrawn, is_lost, bare_split, drawn_tabled, tabled_drawn, kept_at, drawn_length, undrawn_random}
 use Rattle.dali_progress.proofs.Survey.Queried.{unseen}
 use Rattle.dali_progress.proofs.Survey.Woken.{AreLow, none_bare, opened_lost, drawn_is, drawn_none_named}
-use Rattle.dali_progress.proofs.Survey.Stands.{Begun, spare, IsOwn, IsFirstDraw, IsCalledFor, NoneDrawn, Draws, most_drawn, draw_left, called_after}
+use Rattle.dali_progress.proofs.Survey.Stands.{Begun, IsClear, IsFirstDraw, IsCalledFor, NoneDrawn, Draws, draw_left, called_after}
 use Rattle.dali_progress.proofs.Survey.Stands.{hunted_after, roll_frames}
 use Rattle.dali_progress.proofs.Survey.Stands.{frames_after, Rises, Hunts, IsSmooth, SurveyStands}
 use Rattle.dali_progress.proofs.Survey.Rising.{bytes_same, Answered, answered_rise, rises_new, rises_in, IsReachedAt, rise_found, rise_nobody}
@@ -58,22 +57,22 @@ use Rattle.dali_progress.proofs.Survey.Turns.{found_at}
 
 -- ---------------------------------------------------------------- gear have drawn
 
-drawn_frames : (wanted lost bare some left : ℕ) → wanted ≡ bare → lost ≡ 0 → 0 < bare → 106 * bare + 26 + some ≤ left
-    → 106 * wanted + 10 + (hunted_after wanted lost + some) ≤ left
-drawn_frames zero lost bare some left same none there enough = absurd (omega (arith, same, there))
-drawn_frames (suc n) (suc lost) bare some left same none there enough = absurd (omega (arith, none))
-drawn_frames (suc n) zero bare some left same none there enough = omega (arith, same, enough)
+drawn_frames : (wanted lost bare left : ℕ) → wanted ≡ bare → lost ≡ 0 → 0 < bare → 106 * bare + 26 ≤ left
+    → 106 * wanted + 10 + hunted_after wanted lost ≤ left
+drawn_frames zero lost bare left same none there enough = absurd (omega (arith, same, there))
+drawn_frames (suc n) (suc lost) bare left same none there enough = absurd (omega (arith, none))
+drawn_frames (suc n) zero bare left same none there enough = omega (arith, same, enough)
 
-drawn_turns : (start : Begun) (t : Machine) (o : Order) (p : Purpose) (gs : List Gear) (left : ℕ) → IsGivenBy t o → SurveyStands true start t gs left
-    → IsNoEnrolment t.last → stage_of t.trace ≡ stage.Opened → Draws p stage.Opened t.kept t.heard t.course start gs left
+drawn_turns : (start : Begun) (t : Machine) (o : Order) (gs : List Gear) (left : ℕ) → IsGivenBy t o → SurveyStands true start t gs left
+    → IsNoEnrolment t.last → stage_of t.trace ≡ stage.Opened → Draws stage.Opened t.kept t.heard t.course start gs left
     → IsNext start (machine_ordered t o) o gs left
-drawn_turns start t o p gs left g st last is v =
+drawn_turns start t o gs left g st last is v =
     hunts_first start t o t.course gs left (calm_of start t gs left st)
     (given.begins_after t o stage.Opened g is tt (found_at start t gs left stage.Opened st is) last (never_eight t.tries st.tries))
     (ap (begins_at t) is ∙ ap (λ y. searching_first y t.course) st.smooth.way) st.smooth
-    (record { opened = v.opened_is; loud = v.loud; first = λ some. absurd (omega (arith, some, none)); low = v.low }) v.somebody v.own v.settled ready unnamed
+    (record { opened = v.opened_is; loud = v.loud; first = λ some. absurd (omega (arith, some, none)); low = v.low }) v.somebody v.clear v.settled ready unnamed
     (tabled_drawn (unseen start.gear) t.kept.enrolled gs v.tabled)
-    (drawn_frames (count_by is_wanted (those_drawn gs)) (count_by is_lost gs) (count_by is_bare gs) (spare start.any t.course.tally.draws) left
+    (drawn_frames (count_by is_wanted (those_drawn gs)) (count_by is_lost gs) (count_by is_bare gs) left
     (count (count_by is_wanted (those_drawn gs)) (count_by is_bare (those_drawn gs)) (count_by is_lost gs) (count_by is_bare gs)
     (wanted.wanted_count (those_drawn gs) ready unnamed) (bare_split gs) none) none v.somebody (frames v.frames))
   where
@@ -89,28 +88,13 @@ drawn_turns start t o p gs left g st last is v =
     count : (wanted drew lost bare : ℕ) → wanted ≡ drew → bare ≡ drew + lost → lost ≡ 0 → wanted ≡ bare
     count wanted drew lost bare same split none = omega (arith, same, split, none)
 
-    frames : draw_left p stage.Opened + 106 * count_by is_bare gs + 26 + spare start.any t.course.tally.draws ≤ left
-        → 106 * count_by is_bare gs + 26 + spare start.any t.course.tally.draws ≤ left
+    frames : draw_left stage.Opened + 106 * count_by is_bare gs + 26 ≤ left
+        → 106 * count_by is_bare gs + 26 ≤ left
     frames enough = omega (arith, enough)
-
-pub opening_turns : (start : Begun) (t : Machine) (o : Order) (s : Stage) (gs : List Gear) (left : ℕ) → IsGivenBy t o → SurveyStands true start t gs left
-    → IsNoEnrolment t.last → t.course.purpose ≡ Opening → stage_of t.trace ≡ s → (s ≡ stage.Free → ⊥)
-    → Draws Opening s t.kept t.heard t.course start gs left → IsNext start (machine_ordered t o) o gs left
-opening_turns start t o stage.Free gs left g st last purpose is running v = absurd (running refl)
-opening_turns start t o stage.Terminated gs left g st last purpose is running v =
-    turns_by start t o Opening stage.Terminated (Initialise Unaddressed) gs left g st purpose is refl tt refl
-opening_turns start t o stage.InitialisedOnce gs left g st last purpose is running v =
-    turns_by start t o Opening stage.InitialisedOnce (Initialise Unaddressed) gs left g st purpose is refl tt refl
-opening_turns start t o stage.Initialised gs left g st last purpose is running v =
-    turns_by start t o Opening stage.Initialised Randomise gs left g st purpose is refl tt refl
-opening_turns start t o stage.RandomisedOnce gs left g st last purpose is running v =
-    turns_by start t o Opening stage.RandomisedOnce Randomise gs left g st purpose is refl tt refl
-opening_turns start t o stage.Opened gs left g st last purpose is running v = drawn_turns start t o Opening gs left g st last is v
-opening_turns start t o _ gs left g st last purpose is running v = absurd v.stage_is
 
 pub drawing_turns : (start : Begun) (t : Machine) (o : Order) (s : Stage) (gs : List Gear) (left : ℕ) → IsGivenBy t o → SurveyStands true start t gs left
     → IsNoEnrolment t.last → t.course.purpose ≡ Drawing → stage_of t.trace ≡ s → (s ≡ stage.Free → ⊥)
-    → Draws Drawing s t.kept t.heard t.course start gs left → IsNext start (machine_ordered t o) o gs left
+    → Draws s t.kept t.heard t.course start gs left → IsNext start (machine_ordered t o) o gs left
 drawing_turns start t o stage.Free gs left g st last purpose is running v = absurd (running refl)
 drawing_turns start t o stage.Terminated gs left g st last purpose is running v =
     turns_by start t o Drawing stage.Terminated (Initialise Unaddressed) gs left g st purpose is refl tt refl
@@ -126,7 +110,7 @@ drawing_turns start t o stage.DrawFree gs left g st last purpose is running v =
     turns_by start t o Drawing stage.DrawFree Randomise gs left g st purpose is refl tt refl
 drawing_turns start t o stage.RandomisedOnce gs left g st last purpose is running v =
     turns_by start t o Drawing stage.RandomisedOnce Randomise gs left g st purpose is refl tt refl
-drawing_turns start t o stage.Opened gs left g st last purpose is running v = drawn_turns start t o Drawing gs left g st last is v
+drawing_turns start t o stage.Opened gs left g st last purpose is running v = drawn_turns start t o gs left g st last is v
 drawing_turns start t o _ gs left g st last purpose is running v = absurd v.stage_is
 
 -- ---------------------------------------------------------------- nobody is left
@@ -178,15 +162,6 @@ nothing_open t e = go (least_open t.kept t.heard) e where
   go None e = refl
   go (Some a) e = absurd (cc)
 
--- a draw takes no more than what is kept for it
-spare_less : (any : Bool) (draws : ℕ) → spare any (draws + 1) ≤ spare any draws
-spare_less true draws = omega arith
-spare_less false draws = omega arith
-
-one_drawn : (any : Bool) → 0 + 1 ≤ most_drawn any
-one_drawn true = omega arith
-one_drawn false = omega arith
-
 -- what is known where a hunt is over
 record IsOver (start : Begun) (t : Machine) (h : Answer) (gs : List Gear) (left : ℕ) : Type 0 where
   smooth : IsSmooth t.course
@@ -195,12 +170,12 @@ record IsOver (start : Begun) (t : Machine) (h : Answer) (gs : List Gear) (left 
   first : IsFirstDraw t.course.tally gs
   called : t.course.ascent.found ≡ 0 → 0 < count_by is_bare gs
   low : AreLow gs
-  own : start.any ≡ false → IsOwn t.kept t.heard
-  settled : start.any ≡ false → IsSettled t.kept
+  clear : IsClear t.kept t.heard
+  settled : IsSettled start.kept → IsSettled t.kept
   all : OfPowered (those_drawn gs) HasShort
   unwanted : count_by is_wanted (those_drawn gs) ≡ 0
   tabled : AreTabled (unseen start.gear) t.kept.enrolled (those_drawn gs)
-  frames : 1 + (hunted_after (t.course.ascent.found + count_by is_wanted (those_drawn gs)) (count_by is_lost gs) + spare start.any t.course.tally.draws) ≤ left
+  frames : 1 + hunted_after (t.course.ascent.found + count_by is_wanted (those_drawn gs)) (count_by is_lost gs) ≤ left
 
 -- nobody was found: those that never drew do, or no address is open
 vain_over : (start : Begun) (t : Machine) (o : Order) (h : Answer) (r : SearchAddress) (room : ℕ) (gs : List Gear) (left : ℕ) → Calm t
@@ -219,14 +194,14 @@ vain_over start t o h r room gs left calm asks next none v = go (has_open t) ref
   undrawn_yet : t.course.tally.draws ≡ 0
   undrawn_yet = v.first (subst (λ n. 0 < n) lost some)
 
-  after : (m n l some : ℕ) → m ≡ 0 → n ≡ 0 → 1 + (hunted_after (m + n) l + some) ≤ left → 106 * l + 34 + some ≤ left
-  after zero zero l some one two enough = omega (arith, enough)
-  after (suc m) n l some one two enough = absurd (omega (arith, one))
-  after zero (suc n) l some one two enough = absurd (omega (arith, two))
+  after : (m n l : ℕ) → m ≡ 0 → n ≡ 0 → 1 + hunted_after (m + n) l ≤ left → 106 * l + 34 ≤ left
+  after zero zero l one two enough = omega (arith, enough)
+  after (suc m) n l one two enough = absurd (omega (arith, one))
+  after zero (suc n) l one two enough = absurd (omega (arith, two))
 
-  frames : 106 * count_by is_lost gs + 34 + spare start.any t.course.tally.draws ≤ left
+  frames : 106 * count_by is_lost gs + 34 ≤ left
   frames =
-      after t.course.ascent.found (count_by is_wanted (those_drawn gs)) (count_by is_lost gs) (spare start.any t.course.tally.draws) none v.unwanted v.frames
+      after t.course.ascent.found (count_by is_wanted (those_drawn gs)) (count_by is_lost gs) none v.unwanted v.frames
 
   draws : nat_lt t.course.tally.draws 3 ≡ true
   draws = ap (λ n. nat_lt n 3) undrawn_yet
@@ -246,40 +221,39 @@ vain_over start t o h r room gs left calm asks next none v = go (has_open t) ref
         opened_is = v.opened;
         stage_is = tt;
         loud = v.loud;
-        few = subst (λ n. n + 1 ≤ most_drawn start.any) (sym undrawn_yet) (one_drawn start.any);
+        few = subst (λ n. n + 1 ≤ 1) (sym undrawn_yet) (omega arith);
         somebody = some;
         drawn = (none_but gs v.all, refl);
-        own = v.own;
+        clear = v.clear;
         settled = v.settled;
         gear = λ k in_row on. tt;
         low = v.low;
         tabled = whole_table;
-        frames = count (count_by is_bare gs) (count_by is_lost gs) (spare start.any t.course.tally.draws) (spare start.any (t.course.tally.draws + 1)) lost
-            (spare_less start.any t.course.tally.draws) frames;
+        frames = count (count_by is_bare gs) (count_by is_lost gs) lost frames;
       })
     where
       drawn : next_course t ≡ drawing (hunted t.course h)
       drawn = by true is ∙ ap (λ y. if y then drawing (hunted t.course h) else closing_by (hunted t.course h) GaveUp) draws
 
-      count : (bare lost some less : ℕ) → bare ≡ lost → less ≤ some → 106 * lost + 34 + some ≤ left → 8 + 106 * bare + 26 + less ≤ left
-      count bare lost some less same fewer enough = omega (arith, same, fewer, enough)
+      count : (bare lost : ℕ) → bare ≡ lost → 106 * lost + 34 ≤ left → 8 + 106 * bare + 26 ≤ left
+      count bare lost same enough = omega (arith, same, enough)
   go false is =
       first_by start t o (closing_by (hunted t.course h) BlockFull) gs left calm
       (begins_by t o (closing_by (hunted t.course h) BlockFull) r room asks closes refl) closes
       (record { way = v.smooth.way; passed = v.smooth.passed; unmissed = v.smooth.unmissed }) tt
       (record {
         stage_is = tt;
-        well = (some, inl (all_taken t.kept t.heard (nothing_open t is)));
+        well = (some, all_taken t.kept t.heard (nothing_open t is));
         settled = v.settled;
         tabled = whole_table;
-        frames = count (count_by is_lost gs) (spare start.any t.course.tally.draws) frames;
+        frames = count (count_by is_lost gs) frames;
       })
     where
       closes : next_course t ≡ closing_by (hunted t.course h) BlockFull
       closes = by false is ∙ never_full t (hunted t.course h) v.smooth.unmissed
 
-      count : (lost some : ℕ) → 106 * lost + 34 + some ≤ left → 1 ≤ left + 0
-      count lost some enough = omega (arith, enough)
+      count : (lost : ℕ) → 106 * lost + 34 ≤ left → 1 ≤ left + 0
+      count lost enough = omega (arith, enough)
 
 -- somebody was: the roll is called
 found_over : (start : Begun) (t : Machine) (o : Order) (h : Answer) (r : SearchAddress) (room : ℕ) (gs : List Gear) (left : ℕ) → Calm t
@@ -294,17 +268,17 @@ found_over start t o h r room gs left calm asks next some v =
       stage_is = tt;
       quiet = λ silent. absurd (let both : true ≡ false = sym silent ∙ v.loud in cc);
       first = v.first;
-      own = v.own;
+      clear = v.clear;
       settled = v.settled;
       gear = λ k in_row on. tt;
       low = tt;
       tabled = drawn_tabled (unseen start.gear) t.kept.enrolled gs v.tabled;
-      frames = subst (λ b. roll_frames b (count_by is_bare (those_drawn gs)) (count_by is_lost gs) + spare start.any t.course.tally.draws ≤ left + 0)
+      frames = subst (λ b. roll_frames b (count_by is_bare (those_drawn gs)) (count_by is_lost gs) ≤ left + 0)
           (sym v.loud)
-          (subst (λ n. n + spare start.any t.course.tally.draws ≤ left + 0)
+          (subst (λ n. n ≤ left + 0)
           (sym (called_roll (count_by is_bare (those_drawn gs)) (count_by is_lost gs) (none_bare (those_drawn gs) v.all)))
-          (count (called_after (count_by is_lost gs)) (spare start.any t.course.tally.draws)
-          (subst (λ n. 1 + (n + spare start.any t.course.tally.draws) ≤ left)
+          (count (called_after (count_by is_lost gs))
+          (subst (λ n. 1 + n ≤ left)
           (hunted_some (t.course.ascent.found + count_by is_wanted (those_drawn gs)) (count_by is_lost gs)
           (more t.course.ascent.found (count_by is_wanted (those_drawn gs)) some)) v.frames)));
     })
@@ -312,8 +286,8 @@ found_over start t o h r room gs left calm asks next some v =
     more : (m n : ℕ) → 0 < m → 0 < m + n
     more m n some = omega (arith, some)
 
-    count : (after some : ℕ) → 1 + (after + some) ≤ left → after + 1 + some ≤ left + 0
-    count after some enough = omega (arith, enough)
+    count : (after : ℕ) → 1 + after ≤ left → after + 1 ≤ left + 0
+    count after enough = omega (arith, enough)
 
 hunt_over : (start : Begun) (t : Machine) (o : Order) (h : Answer) (r : SearchAddress) (room : ℕ) (gs : List Gear) (left : ℕ) → Calm t
     → o ≡ question (next_course t) r room → next_course t ≡ nobody_left t (hunted t.course h) → IsOver start t h gs left
@@ -360,6 +334,7 @@ goes_on start t o h r room gs left st purpose is next sends v = subst (λ q. IsN
       },
       subst (λ d. Sends Hunting (hunting (hunted t.course h)).number t.kept (stage_of t.trace) d) (sym (read_written c (byte_spelled _ r)))
           (subst (λ s. Sends Hunting (hunting (hunted t.course h)).number t.kept s c) (sym is) refl),
+      inl refl,
     )) where
       c : Command
       c = byte_to_send (hunting (hunted t.course h)).number r
@@ -431,8 +406,8 @@ hunting_turns start t o (stage.Hunted r (Some h) room) gs left g st purpose is r
   plain : (rest after behind : ℕ) → behind ≡ 0 → rest + 0 + after ≤ left + 5 * behind → rest + after ≤ left
   plain rest after behind none enough = omega (arith, none, enough)
 
-  frames : v.rest + (frames_after Hunting t.course.ascent gs + spare start.any t.course.tally.draws) ≤ left
-  frames = plain v.rest (frames_after Hunting t.course.ascent gs + spare start.any t.course.tally.draws) v.behind v.behind_is v.frames
+  frames : v.rest + frames_after Hunting t.course.ascent gs ≤ left
+  frames = plain v.rest (frames_after Hunting t.course.ascent gs) v.behind v.behind_is v.frames
 
   again : (b : Bool) → questions.has_room (asking_next p.before (asked_next t.course.ascent)) (asked_next (ascended t.course.ascent (is_yes h))) ≡ b
       → leads_to (ascended t.course.ascent (is_yes h)) ≡ Again → IsNext start (machine_ordered t o) o gs left
@@ -445,21 +420,21 @@ hunting_turns start t o (stage.Hunted r (Some h) room) gs left g st purpose is r
         first = v.first;
         called = called;
         low = v.low;
-        own = v.own;
+        clear = v.clear;
         settled = v.settled;
         rest = v.rest;
         at = rises_in now asking (those_drawn gs) v.rest r h room answered e stood p.stage_is.1 some;
         tabled = v.tabled;
         behind = v.behind;
         behind_is = v.behind_is;
-        frames = subst (λ n. v.rest + 0 + (n + spare start.any t.course.tally.draws) ≤ left + 5 * v.behind) after v.frames;
+        frames = subst (λ n. v.rest + 0 + n ≤ left + 5 * v.behind) after v.frames;
       })
   again false none e =
       hunts_by start t o (hunted t.course h) v.rest gs left (calm_of start t gs left st)
       (asks ∙ ap (λ c. question c r room) (next Again e) ∙ ap (asked_where t h r room) (fits ∙ none) ∙ sym (ap beginning (next Again e))) (next Again e)
-      (smooth_as t.course (hunted t.course h) refl refl st.smooth) hunted_so called v.own v.settled
+      (smooth_as t.course (hunted t.course h) refl refl st.smooth) hunted_so called v.clear v.settled
       (rises_new now asking (those_drawn gs) v.rest answered e none) v.tabled
-      (subst (λ n. v.rest + (n + spare start.any t.course.tally.draws) ≤ left) after frames)
+      (subst (λ n. v.rest + n ≤ left) after frames)
 
   go : (s : Step) → leads_to (ascended t.course.ascent (is_yes h)) ≡ s → IsNext start (machine_ordered t o) o gs left
   go Again e = again (questions.has_room asking (asked_next now)) refl e
@@ -474,7 +449,7 @@ hunting_turns start t o (stage.Hunted r (Some h) room) gs left g st purpose is r
         first = v.first;
         called = tt;
         low = v.low;
-        own = v.own;
+        clear = v.clear;
         settled = λ e x has. inl (v.settled e x has);
         rest = 11 + search_frames there.more;
         at = (
@@ -502,8 +477,8 @@ hunting_turns start t o (stage.Hunted r (Some h) room) gs left g st purpose is r
         tabled = v.tabled;
         behind = there.more;
         behind_is = there.count;
-        frames = count v.rest there.more (called_after (count_by is_lost gs) + spare start.any t.course.tally.draws) there.frames
-            (subst (λ n. v.rest + (n + spare start.any t.course.tally.draws) ≤ left)
+        frames = count v.rest there.more (called_after (count_by is_lost gs)) there.frames
+            (subst (λ n. v.rest + n ≤ left)
             (hunted_some (t.course.ascent.found + count_by is_wanted (those_drawn gs)) (count_by is_lost gs)
             (some_more t.course.ascent.found (count_by is_wanted (those_drawn gs)) there.more there.count)) frames);
       })
@@ -523,12 +498,12 @@ hunting_turns start t o (stage.Hunted r (Some h) room) gs left g st purpose is r
         first = v.first;
         called = v.called;
         low = v.low;
-        own = v.own;
+        clear = v.clear;
         settled = v.settled;
         all = none.0;
         unwanted = wanted.wanted_count (those_drawn gs) answered.ready answered.unnamed ∙ none_bare (those_drawn gs) none.0;
         tabled = v.tabled;
-        frames = count v.rest (frames_after Hunting t.course.ascent gs + spare start.any t.course.tally.draws) none.1 frames;
+        frames = count v.rest (frames_after Hunting t.course.ascent gs) none.1 frames;
       })
     where
       count : (rest after : ℕ) → 1 ≤ rest → rest + after ≤ left → 1 + after ≤ left

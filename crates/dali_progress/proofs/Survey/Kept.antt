@@ -1,6 +1,8 @@
 use Rattle.std.proofs.Common.{◌≡◌, ℕ, ◌+◌, ◌-◌, ◌*◌, ◌<◌, ◌≤◌, ◌⊎◌, inl, inr, Bool, true, false, List, [], ◌∷◌, ◌++◌, refl, sym, ap, subst, ◌∙◌, arith, Option}
 use Rattle.std.proofs.Common.{Some, None}
+use Rattle.std.specs.Prelude.{◌==◌, if◌then◌else◌}
 use Rattle.std.specs.List.{count_by}
+use Rattle.dali_frame.specs.Priority.{LATER}
 use Rattle.dali_frame.specs.Random.{value_of}
 use Rattle.dali_gear.specs.Gear.{Gear}
 use Rattle.dali_script.specs.declared.records.Record.{Record}
@@ -8,7 +10,7 @@ use Rattle.dali_script.specs.declared.records.Record.TheVariants.{Reserve, Enrol
 use Rattle.dali_script.specs.Records.{Assignment, Has, HasRandom, IsMap}
 use Rattle.dali_script.specs.declared.stage.Stage.TheVariants as stage
 use Rattle.dali_script.specs.Stages.{stage_of}
-use Rattle.dali_script.proofs.Lists.{has_last, has_before, has_cases}
+use Rattle.dali_script.proofs.Lists.{has_last, has_before, has_cases, without_has}
 use Rattle.dali_script.proofs.Members.{same_member}
 use Rattle.dali_script.proofs.Transactions.{stage_none}
 use Rattle.dali_script.specs.declared.orders.Order.{Order}
@@ -22,40 +24,39 @@ use Rattle.dali_controller.specs.Orders.{machine_ordered, AfterEnrolled}
 use Rattle.dali_controller.proofs.Given as given
 use Rattle.dali_controller.proofs.Given.{IsGivenBy, IsNoEnrolment}
 use Rattle.dali_events.specs.Wanted.{wants}
+use Rattle.dali_progress.specs.Rounds.{IsSettled}
 use Rattle.dali_progress.proofs.Stands.{search_frames}
 use Rattle.dali_progress.proofs.Frames.{value_sought}
 use Rattle.dali_progress.proofs.Tables.{tabled_over}
 use Rattle.dali_progress.proofs.Both.{never_eight, no_enrolment, has_random, entry_last, with_kept}
 use Rattle.dali_progress.proofs.Survey.Drawn.{those_drawn, is_lost}
 use Rattle.dali_progress.proofs.Survey.Queried.{OneShort, IsTrue, unseen}
-use Rattle.dali_progress.proofs.Survey.Stands.{Begun, spare, survey_frames, called_after}
+use Rattle.dali_progress.proofs.Survey.Stands.{Begun, survey_frames, called_after}
 use Rattle.dali_progress.proofs.Survey.Begins.{Calm, EnrolsCounted, ReleasesCounted, EnrolsHunted, ReservesHunted, SurveyCommits, IsNext, smooth_as, first_by}
 use Rattle.dali_progress.proofs.Survey.Begins.{asked_none, asks_on}
-use Rattle.dali_progress.proofs.Survey.Begins.{hunts_on, own_enrolled, own_reserved}
+use Rattle.dali_progress.proofs.Survey.Begins.{hunts_on, clear_reserved}
 
 -- A RECORD OF A SURVEY IS KEPT, and the next transaction begins.
 
--- how many events come before the next frame is sent, at the most
-abbrev pub enrol_slack : Bool → ℕ
-enrol_slack true = 2
-enrol_slack false = 1
+-- How many events come before the next frame is sent, at the most. A frame that goes on with a transaction spares one for what
+-- comes after it: a gear is enrolled, what else is reserved for its number is released, and the next transaction begins.
+abbrev pub spared : ℕ → ℕ
+spared p = if p == LATER then 1 else 0
 
-abbrev pub survey_slack : Bool → Option Order → Option Input → ℕ
-survey_slack any None told = 1
-survey_slack any (Some (Put p f)) None = 0
-survey_slack any (Some (Put p f)) (Some i) = enrol_slack any + 1
-survey_slack any (Some (Commit (Enrol a r))) told = enrol_slack any
-survey_slack any (Some (Commit x)) told = 1
-survey_slack any (Some (Done e)) told = 0
-survey_slack any (Some (Halt why)) told = 0
+abbrev pub survey_slack : Option Order → Option Input → ℕ
+survey_slack None told = 1
+survey_slack (Some (Put p f)) None = spared p
+survey_slack (Some (Put p f)) (Some i) = spared p + 2
+survey_slack (Some (Commit (Enrol a r))) told = 2
+survey_slack (Some (Commit x)) told = 1
+survey_slack (Some (Done e)) told = 0
+survey_slack (Some (Halt why)) told = 0
 
-pub enrol_one : (any : Bool) → 1 ≤ enrol_slack any
-enrol_one true = omega arith
-enrol_one false = omega arith
-
-enrol_some : (any : Bool) → 0 + 1 ≤ enrol_slack any
-enrol_some true = omega arith
-enrol_some false = omega arith
+pub spared_few : (p : ℕ) → spared p ≤ 1
+spared_few p = go (p == LATER) where
+  go : (b : Bool) → (if b then 1 else 0) ≤ 1
+  go true = omega arith
+  go false = omega arith
 
 -- ---------------------------------------------------------------- of the census
 
@@ -65,7 +66,7 @@ counted_count a wake left small enough = omega (arith, small, enough)
 -- it is enrolled: what else is reserved for it is released, or the next short address is asked
 counted_next : (start : Begun) (m : Machine) (a r : ℕ) (o : Order) (gs : List Gear) (left : ℕ) → Calm m → EnrolsCounted start m a r gs left → m.trace ≡ []
     → m.last ≡ Some (Commit (Enrol a r)) → IsGivenBy (with_kept m (Enrol a r)) o → OneShort gs → IsTrue (m.kept.enrolled ++ (a, r) ∷ []) gs
-    → IsNext start (machine_ordered (with_kept m (Enrol a r)) o) o gs left × (survey_slack start.any (Some o) None + 1 ≤ enrol_slack start.any)
+    → IsNext start (machine_ordered (with_kept m (Enrol a r)) o) o gs left × (survey_slack (Some o) None + 1 ≤ 2)
 counted_next start m a r o gs left calm v free last g one holds = go o g (g.followed.enrolled a r last) where
   goes : (q : Order) → IsGivenBy (with_kept m (Enrol a r)) q → ((c : ℕ) → Has m.kept.reserved (c, r) → c ≡ a)
       → IsNext start (machine_ordered (with_kept m (Enrol a r)) q) q gs left
@@ -75,37 +76,32 @@ counted_next start m a r o gs left calm v free last g one holds = go o g (g.foll
       (given.enrolled (with_kept m (Enrol a r)) q a r g last free own)
       (ap (begins_at (with_kept m (Enrol a r))) at ∙ ap (at_rest (with_kept m (Enrol a r))) last) v.uncalled v.asked v.from_is
       (let small : a < 64 = v.small in omega (arith, small)) (λ e x has. has_before m.kept.enrolled (a, r) x (v.settled e x has)) v.clear one holds v.same
-      v.tabled (counted_count a (survey_frames start gs) left v.small v.frames)
+      v.tabled (counted_count a (survey_frames gs) left v.small v.frames)
 
   go : (q : Order) → IsGivenBy (with_kept m (Enrol a r)) q → AfterEnrolled (with_kept m (Enrol a r)) a r q
-      → IsNext start (machine_ordered (with_kept m (Enrol a r)) q) q gs left × (survey_slack start.any (Some q) None + 1 ≤ enrol_slack start.any)
-  go (Put p f) g own = (goes (Put p f) g own, enrol_some start.any)
+      → IsNext start (machine_ordered (with_kept m (Enrol a r)) q) q gs left × (survey_slack (Some q) None + 1 ≤ 2)
+  go (Put p f) g own = (goes (Put p f) g own, let few = spared_few p in omega (arith, few))
   go (Commit x) g (c, has, is) =
       subst (λ y. IsNext start (machine_ordered (with_kept m (Enrol a r)) (Commit y)) (Commit y) gs left
-      × (survey_slack start.any (Some (Commit y)) None + 1 ≤ enrol_slack start.any)) (sym is) (releases start.any refl)
-    where
-      releases : (b : Bool) → start.any ≡ b
-          → IsNext start (machine_ordered (with_kept m (Enrol a r)) (Commit (Release c r))) (Commit (Release c r)) gs left
-          × (survey_slack start.any (Some (Commit (Release c r))) None + 1 ≤ enrol_slack start.any)
-      releases false none = absurd (v.unreserved none c has)
-      releases true any = (
+      × (survey_slack (Some (Commit y)) None + 1 ≤ 2)) (sym is) (
         (
           record { tries = calm.tries; silent = calm.silent; smooth = calm.smooth },
           (
             a,
             record {
-              any = any;
               uncalled = v.uncalled;
               asked = asked_none m.course.opened m.asked v.asked;
               small = v.small;
               from_is = v.from_is;
+              settled = λ e x has. has_before m.kept.enrolled (a, r) x (v.settled e x has);
+              clear = v.clear;
               same = v.same;
               tabled = v.tabled;
               frames = v.frames;
             },
           ),
         ),
-        subst (λ b. 1 + 1 ≤ enrol_slack b) (sym any) (omega arith),
+        omega arith,
       )
   go (Done e) g is = absurd is
   go (Halt why) g is = absurd is
@@ -126,11 +122,9 @@ released_next start m c r a o gs left calm v free last g one holds =
     asks_on start (with_kept m (Release c r)) o (a + 1) gs left (record { tries = calm.tries; silent = calm.silent; smooth = calm.smooth })
     (released_begins m c r o calm free last g)
     (ap (begins_at (with_kept m (Release c r))) at ∙ ap (at_rest (with_kept m (Release c r))) last) v.uncalled v.asked v.from_is
-    (let small : a < 64 = v.small in omega (arith, small)) (λ e. absurd (never e)) (λ e. absurd (never e)) one holds v.same v.tabled
-    (counted_count a (survey_frames start gs) left v.small v.frames)
-  where
-    never : start.any ≡ false → ⊥
-    never e = let both : true ≡ false = sym v.any ∙ e in cc
+    (let small : a < 64 = v.small in omega (arith, small)) (λ e x has. v.settled e x (without_has (c, r) m.kept.reserved x has))
+    (λ d q has. v.clear d q (without_has (c, r) m.kept.reserved (d, q) has)) one holds v.same v.tabled
+    (counted_count a (survey_frames gs) left v.small v.frames)
 
 -- ---------------------------------------------------------------- of a visit
 
@@ -149,9 +143,7 @@ hunted_next start m b r o gs left calm v free last map g =
     hunts_on start (with_kept m (Enrol b r)) o r gs left
     (record { tries = calm.tries; silent = calm.silent; smooth = calm.smooth }) (hunted_begins start m b r o gs left v free last map g)
     (ap (begins_at (with_kept m (Enrol b r))) at ∙ ap (at_rest (with_kept m (Enrol b r))) last) v.hunted
-    (λ e. own_enrolled m.kept m.heard b r (v.own e) (λ q has. ap (λ (x : Assignment). x.1)
-    (same_member (λ (x : Assignment). x.0) m.kept.reserved (b, q) (b, r) map.address_once has v.reserved refl)))
-    (λ e x has. settled x has (v.settled e x has))
+    v.clear (λ e x has. settled x has (v.settled e x has))
     v.above v.ready v.unnamed
     (tabled_over (unseen start.gear) ((b, r) ∷ m.kept.enrolled) (m.kept.enrolled ++ (b, r) ∷ []) (those_drawn gs)
     (entry_last m.kept.enrolled (b, r))
@@ -182,7 +174,7 @@ reserved_next start m a r o gs left calm v free last g =
       first = v.hunted.first;
       called = tt;
       low = v.hunted.low;
-      own = λ e. own_reserved m.kept m.heard a r (v.own e) v.open_is;
+      clear = clear_reserved m.kept m.heard a r v.clear v.open_is;
       settled = λ e x has. settled e x (has_cases m.kept.reserved (a, r) x has);
       rest = 7 + search_frames v.more;
       at = (
@@ -214,13 +206,13 @@ reserved_next start m a r o gs left calm v free last g =
       tabled = v.tabled;
       behind = v.more;
       behind_is = v.count;
-      frames = count v.more (called_after (count_by is_lost gs) + spare start.any m.course.tally.draws) v.frames;
+      frames = count v.more (called_after (count_by is_lost gs)) v.frames;
     })
   where
     count : (more after : ℕ) → 39 + 106 * more + after ≤ left → 7 + search_frames more + 27 + after ≤ left + 5 * more
     count more after enough = omega (arith, enough)
 
-    settled : start.any ≡ false → (x : Assignment) → Has m.kept.reserved x ⊎ ((a, r) ≡ x) → Has m.kept.enrolled x ⊎ (x.1 ≡ value_of (sought r))
+    settled : IsSettled start.kept → (x : Assignment) → Has m.kept.reserved x ⊎ ((a, r) ≡ x) → Has m.kept.enrolled x ⊎ (x.1 ≡ value_of (sought r))
     settled e x (inl has) = inl (v.settled e x has)
     settled e x (inr same) = inr (sym (ap (λ (q : Assignment). q.1) same) ∙ sym (value_sought r))
 
@@ -229,24 +221,24 @@ reserved_next start m a r o gs left calm v free last g =
 -- what is to come of its order, and that events before the next frame are one less
 abbrev KeptTo : Begun → Machine → Record → Order → List Gear → ℕ → Type 0
 KeptTo start m x o gs left =
-    IsNext start (machine_ordered (with_kept m x) o) o gs left × (survey_slack start.any (Some o) None + 1 ≤ survey_slack start.any (Some (Commit x)) None)
+    IsNext start (machine_ordered (with_kept m x) o) o gs left × (survey_slack (Some o) None + 1 ≤ survey_slack (Some (Commit x)) None)
 
-pub begins_less : (o : Order) (t : Machine) (any : Bool) (n : ℕ) → o ≡ beginning (next_course t) → 1 ≤ n → survey_slack any (Some o) None + 1 ≤ n
-begins_less o t any n is one = let none : survey_slack any (Some o) None ≡ 0 = rw is refl in omega (arith, none, one)
+pub begins_less : (o : Order) (t : Machine) (n : ℕ) → o ≡ beginning (next_course t) → 1 ≤ n → survey_slack (Some o) None + 1 ≤ n
+begins_less o t n is one = let none : survey_slack (Some o) None ≡ 0 = rw is refl in omega (arith, none, one)
 
 pub committed : (start : Begun) (m : Machine) (x : Record) (o : Order) (gs : List Gear) (left : ℕ) → Calm m → SurveyCommits start m x gs left → m.trace ≡ []
     → m.last ≡ Some (Commit x) → IsMap m.kept.reserved → IsGivenBy (with_kept m x) o → OneShort gs → IsTrue (with_kept m x).kept.enrolled gs
     → KeptTo start m x o gs left
 committed start m (Reserve a r) o gs left calm v free last map g one holds = (
   reserved_next start m a r o gs left calm v free last g,
-  begins_less o (with_kept m (Reserve a r)) start.any 1 (reserved_begins m a r o calm free last g) (omega arith),
+  begins_less o (with_kept m (Reserve a r)) 1 (reserved_begins m a r o calm free last g) (omega arith),
 )
 committed start m (Enrol b r) o gs left calm (inl v) free last map g one holds = counted_next start m b r o gs left calm v free last g one holds
 committed start m (Enrol b r) o gs left calm (inr v) free last map g one holds = (
   hunted_next start m b r o gs left calm v free last map g,
-  begins_less o (with_kept m (Enrol b r)) start.any (enrol_slack start.any) (hunted_begins start m b r o gs left v free last map g) (enrol_one start.any),
+  begins_less o (with_kept m (Enrol b r)) 2 (hunted_begins start m b r o gs left v free last map g) (omega arith),
 )
 committed start m (Release c r) o gs left calm v free last map g one holds = (
   released_next start m c r v.0 o gs left calm v.1 free last g one holds,
-  begins_less o (with_kept m (Release c r)) start.any 1 (released_begins m c r o calm free last g) (omega arith),
+  begins_less o (with_kept m (Release c r)) 1 (released_begins m c r o calm free last g) (omega arith),
 )

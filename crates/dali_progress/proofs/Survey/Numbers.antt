@@ -61,7 +61,7 @@ use Rattle.dali_progress.proofs.Lone.{Moment, IsDueOf, acts_by, due_of}
 use Rattle.dali_progress.proofs.Stands.{Sends}
 use Rattle.dali_progress.proofs.Both.{left_same, none_first, none_apart, visiting_never, closing_never, not_failed, is_complete, with_kept, DrawsOnce}
 use Rattle.dali_progress.proofs.Both.{draws_few, closed_none}
-use Rattle.dali_progress.proofs.Survey.Stands.{Begun, most_drawn, Draws, SurveyAt, SurveyStands}
+use Rattle.dali_progress.proofs.Survey.Stands.{Begun, Draws, SurveyAt, SurveyStands}
 use Rattle.dali_progress.proofs.Survey.Begins.{IsNext}
 use Rattle.dali_progress.proofs.Survey.Goes.{Holds, Hears, of_survey, next_holds}
 use Rattle.dali_progress.proofs.Drawing as drawn
@@ -80,13 +80,13 @@ is_drawing _ = false
 abbrev draws_still : Purpose → Stage → ℕ
 draws_still p s = if is_drawing p then (if is_complete s then 0 else 1) else 0
 
-abbrev to_draw : Bool → Option Order → Purpose → Stage → ℕ → ℕ
-to_draw any None p s draws = most_drawn any
-to_draw any (Some (Put q f)) p s draws = draws_still p s + (most_drawn any - draws)
-to_draw any (Some o) p s draws = most_drawn any - draws
+abbrev to_draw : Option Order → Purpose → Stage → ℕ → ℕ
+to_draw None p s draws = 1
+to_draw (Some (Put q f)) p s draws = draws_still p s + (1 - draws)
+to_draw (Some o) p s draws = 1 - draws
 
-abbrev to_draw_at : Bool → Machine → ℕ
-to_draw_at any m = to_draw any m.last m.course.purpose (stage_of m.trace) m.course.tally.draws
+abbrev to_draw_at : Machine → ℕ
+to_draw_at m = to_draw m.last m.course.purpose (stage_of m.trace) m.course.tally.draws
 
 -- so many numbers take so many draws
 abbrev pub numbers_for : ℕ → ℕ → ℕ
@@ -94,8 +94,8 @@ numbers_for zero n = 0
 numbers_for (suc k) n = n + numbers_for k n
 
 -- THERE ARE NUMBERS ENOUGH for as many draws as may be still to come
-abbrev pub HasNumbers : Bool → Machine → List Gear → List ℕ → Type 0
-HasNumbers any m gs numbers = numbers_for (to_draw_at any m) (count_by is_bare gs) ≤ length numbers
+abbrev pub HasNumbers : Machine → List Gear → List ℕ → Type 0
+HasNumbers m gs numbers = numbers_for (to_draw_at m) (count_by is_bare gs) ≤ length numbers
 
 fewer_for : (k l n : ℕ) → l ≤ k → numbers_for l n ≤ numbers_for k n
 fewer_for k zero n few = omega arith
@@ -117,8 +117,8 @@ has_fewer k l n numbers few enough = let less = fewer_for k l n few in omega (ar
 
 -- gear draw only as often as they may
 few_at : (told : Bool) (p : Purpose) (s : Stage) (k : Kept) (heard : Shorts) (asked : ℕ) (c : Course) (start : Begun) (gs : List Gear) (left : ℕ)
-    → SurveyAt told p s k heard asked c start gs left → (draws_still p s ≡ 0) ⊎ (c.tally.draws ≤ most_drawn start.any)
-few_at told Opening s k heard asked c start gs left at = inr at.1.few
+    → SurveyAt told p s k heard asked c start gs left → (draws_still p s ≡ 0) ⊎ (c.tally.draws ≤ 1)
+few_at told Opening s k heard asked c start gs left at = absurd at
 few_at told Drawing s k heard asked c start gs left at = inr at.few
 few_at told _ s k heard asked c start gs left at = inl refl
 
@@ -169,7 +169,7 @@ quiet_never told Calling s k heard asked c start gs left at quiet = calling_neve
 quiet_never told Hunting s k heard asked c start gs left at quiet = hunting_never c.number k s
 quiet_never told Visiting s k heard asked c start gs left at quiet = visiting_never c.number k s
 quiet_never told (Closing e) s k heard asked c start gs left at quiet = closing_never e c.number k s
-quiet_never told Opening s k heard asked c start gs left at quiet = λ is. cc
+quiet_never told Opening s k heard asked c start gs left at quiet = absurd at
 quiet_never told Drawing s k heard asked c start gs left at quiet = λ is. cc
 quiet_never told _ s k heard asked c start gs left at quiet = λ is. absurd at
 
@@ -189,18 +189,8 @@ never_by p n k s gs c never is = none_apart p n k s gs c never is
 randomised_first : (gs : List Gear) (c : Command) → Some Randomise ≡ Some c → AreOpening stage.Initialised gs → draws_needed Everyone c 0 gs ≡ 0
 randomised_first gs c is gear = let same : Randomise ≡ c = cc in subst (λ d. draws_needed Everyone d 0 gs ≡ 0) same (none_first 0 gs gear)
 
-opening_draws : (s : Stage) (k : Kept) (heard : Shorts) (c : Course) (start : Begun) (gs : List Gear) (left : ℕ) (d : Command)
-    → Draws Opening s k heard c start gs left → Sends Opening c.number k s d → DrawsOnce s d gs
-opening_draws stage.Free k heard c start gs left d v is = inl (never_by Opening c.number k stage.Free gs d (λ e. cc) is)
-opening_draws stage.Terminated k heard c start gs left d v is = inl (never_by Opening c.number k stage.Terminated gs d (λ e. cc) is)
-opening_draws stage.InitialisedOnce k heard c start gs left d v is = inl (never_by Opening c.number k stage.InitialisedOnce gs d (λ e. cc) is)
-opening_draws stage.Initialised k heard c start gs left d v is = inl (randomised_first gs d is v.gear)
-opening_draws stage.RandomisedOnce k heard c start gs left d v is = inr (refl, (let same : d ≡ Randomise = cc in same), v.gear)
-opening_draws stage.Opened k heard c start gs left d v is = absurd (cc)
-opening_draws _ k heard c start gs left d v is = absurd v.stage_is
-
 drawing_draws : (s : Stage) (k : Kept) (heard : Shorts) (c : Course) (start : Begun) (gs : List Gear) (left : ℕ) (d : Command)
-    → Draws Drawing s k heard c start gs left → Sends Drawing c.number k s d → DrawsOnce s d gs
+    → Draws s k heard c start gs left → Sends Drawing c.number k s d → DrawsOnce s d gs
 drawing_draws stage.Free k heard c start gs left d v is = inl (never_by Drawing c.number k stage.Free gs d (λ e. cc) is)
 drawing_draws stage.Terminated k heard c start gs left d v is = inl (never_by Drawing c.number k stage.Terminated gs d (λ e. cc) is)
 drawing_draws stage.InitialisedOnce k heard c start gs left d v is = inl (never_by Drawing c.number k stage.InitialisedOnce gs d (λ e. cc) is)
@@ -215,7 +205,7 @@ drawing_draws _ k heard c start gs left d v is = absurd v.stage_is
 
 draws_by : (told : Bool) (p : Purpose) (s : Stage) (k : Kept) (heard : Shorts) (asked : ℕ) (c : Course) (start : Begun) (gs : List Gear) (left : ℕ)
     (d : Command) → SurveyAt told p s k heard asked c start gs left → is_drawing p ≡ true → Sends p c.number k s d → DrawsOnce s d gs
-draws_by told Opening s k heard asked c start gs left d at draws is = opening_draws s k heard c start gs left d at.1 is
+draws_by told Opening s k heard asked c start gs left d at draws is = absurd at
 draws_by told Drawing s k heard asked c start gs left d at draws is = drawing_draws s k heard c start gs left d at is
 draws_by told _ s k heard asked c start gs left d at draws is = absurd (cc)
 
@@ -463,34 +453,34 @@ later_few limit t s few = same_draws (draws_still t.course.purpose s + (limit - 
 
 -- ---------------------------------------------------------------- it acts
 
-abbrev ordered_draws : Bool → Machine → Order → ℕ
-ordered_draws any t o =
-    to_draw any (Some o) (machine_ordered t o).course.purpose (stage_of (machine_ordered t o).trace) (machine_ordered t o).course.tally.draws
+abbrev ordered_draws : Machine → Order → ℕ
+ordered_draws t o =
+    to_draw (Some o) (machine_ordered t o).course.purpose (stage_of (machine_ordered t o).trace) (machine_ordered t o).course.tally.draws
 
 -- a transaction that begins
 first_draws : (start : Begun) (t : Machine) (f : Forward) (hs : List Gear) (l k : ℕ) → IsNext start (machine_ordered t (Put FIRST f)) (Put FIRST f) hs l
-    → ((draws_still (next_course t).purpose stage.Free ≡ 0) ⊎ ((next_course t).tally.draws ≤ most_drawn start.any)
-    → draws_still (next_course t).purpose stage.Free + (most_drawn start.any - (next_course t).tally.draws) ≤ k)
-    → ordered_draws start.any t (Put FIRST f) ≤ k
+    → ((draws_still (next_course t).purpose stage.Free ≡ 0) ⊎ ((next_course t).tally.draws ≤ 1)
+    → draws_still (next_course t).purpose stage.Free + (1 - (next_course t).tally.draws) ≤ k)
+    → ordered_draws t (Put FIRST f) ≤ k
 first_draws start t f hs l k next few =
-    subst (λ s. draws_still (next_course t).purpose s + (most_drawn start.any - (next_course t).tally.draws) ≤ k) (sym stage_none)
+    subst (λ s. draws_still (next_course t).purpose s + (1 - (next_course t).tally.draws) ≤ k) (sym stage_none)
     (few (few_at false (next_course t).purpose stage.Free t.kept t.heard (machine_ordered t (Put FIRST f)).asked (next_course t) start hs l
     (subst (λ s. SurveyAt false (next_course t).purpose s t.kept t.heard (machine_ordered t (Put FIRST f)).asked (next_course t) start hs l) stage_none
     next.0.at)))
 
 heard_draws : (start : Begun) (t : Machine) (o : Order) (hs : List Gear) (l : ℕ) → t.course.way ≡ Surveying → IsAllowed t o
     → IsNext start (machine_ordered t o) o hs l
-    → ordered_draws start.any t o ≤ draws_still t.course.purpose (stage_of t.trace) + (most_drawn start.any - t.course.tally.draws)
+    → ordered_draws t o ≤ draws_still t.course.purpose (stage_of t.trace) + (1 - t.course.tally.draws)
 heard_draws start t (Put p f) hs l way (inl (first, lawful)) next =
-    subst (λ r. ordered_draws start.any t (Put r f) ≤ draws_still t.course.purpose (stage_of t.trace) + (most_drawn start.any - t.course.tally.draws))
+    subst (λ r. ordered_draws t (Put r f) ≤ draws_still t.course.purpose (stage_of t.trace) + (1 - t.course.tally.draws))
     (sym first)
-    (first_draws start t f hs l (draws_still t.course.purpose (stage_of t.trace) + (most_drawn start.any - t.course.tally.draws))
+    (first_draws start t f hs l (draws_still t.course.purpose (stage_of t.trace) + (1 - t.course.tally.draws))
     (subst (λ r. IsNext start (machine_ordered t (Put r f)) (Put r f) hs l) first next)
-    (comes_few (most_drawn start.any) t.course (next_course t) (stage_of t.trace) (begins_comes t (stage_of t.trace) way)))
+    (comes_few 1 t.course (next_course t) (stage_of t.trace) (begins_comes t (stage_of t.trace) way)))
 heard_draws start t (Put p f) hs l way (inr (later, runs, lawful)) next =
-    subst (λ r. ordered_draws start.any t (Put r f) ≤ draws_still t.course.purpose (stage_of t.trace) + (most_drawn start.any - t.course.tally.draws))
+    subst (λ r. ordered_draws t (Put r f) ≤ draws_still t.course.purpose (stage_of t.trace) + (1 - t.course.tally.draws))
     (sym later)
-    (later_few (most_drawn start.any) t (stage_of t.trace)
+    (later_few 1 t (stage_of t.trace)
     (few_at false (course_on t (stage_of t.trace)).purpose (stage_of t.trace) t.kept t.heard (machine_ordered t (Put LATER f)).asked
     (course_on t (stage_of t.trace)) start hs l
     (subst (λ r. IsNext start (machine_ordered t (Put r f)) (Put r f) hs l) later next).0.at))
@@ -500,17 +490,17 @@ heard_draws start t (Halt w) hs l way allowed next = omega arith
 
 -- at the start, and where a record was kept
 kept_draws : (start : Begun) (t : Machine) (o : Order) (hs : List Gear) (l : ℕ) → t.course.way ≡ Surveying → t.trace ≡ [] → (IsPut t.last → ⊥)
-    → IsAllowed t o → IsNext start (machine_ordered t o) o hs l → ordered_draws start.any t o ≤ most_drawn start.any - t.course.tally.draws
+    → IsAllowed t o → IsNext start (machine_ordered t o) o hs l → ordered_draws t o ≤ 1 - t.course.tally.draws
 kept_draws start t (Put p f) hs l way free never (inl (first, lawful)) next =
-    subst (λ r. ordered_draws start.any t (Put r f) ≤ most_drawn start.any - t.course.tally.draws) (sym first)
-    (first_draws start t f hs l (most_drawn start.any - t.course.tally.draws)
+    subst (λ r. ordered_draws t (Put r f) ≤ 1 - t.course.tally.draws) (sym first)
+    (first_draws start t f hs l (1 - t.course.tally.draws)
     (subst (λ r. IsNext start (machine_ordered t (Put r f)) (Put r f) hs l) first next) (λ few. less))
   where
     quiet : IsQuiet t.course (next_course t)
     quiet =
         subst (λ s. IsQuiet t.course (begins_at t s)) (sym (ap stage_of free ∙ stage_none)) (kept_quiet t t.last way never)
 
-    less : draws_still (next_course t).purpose stage.Free + (most_drawn start.any - (next_course t).tally.draws) ≤ most_drawn start.any - t.course.tally.draws
+    less : draws_still (next_course t).purpose stage.Free + (1 - (next_course t).tally.draws) ≤ 1 - t.course.tally.draws
     less = rw quiet.0 (let more = quiet.1 in omega (arith, more))
 kept_draws start t (Put p f) hs l way free never (inr (later, runs, lawful)) next = absurd (runs free)
 kept_draws start t (Commit x) hs l way free never allowed next = omega arith
@@ -520,73 +510,73 @@ kept_draws start t (Halt w) hs l way free never allowed next = omega arith
 acts_has : (start : Begun) (w : World) (q c : ℕ) (m : Machine) (out : Option Record) (last : Option Order) (told : Option Input) (i : Input) (o : Order)
     (gs hs : List Gear) (numbers : List ℕ) (left l : ℕ) → Moment w q c m out last told → m.last ≡ last → IsDueOf last told i → Succeeds true i
     → IsAllowed (machine_told m i) o → Holds start m last told gs left → IsNext start (machine_after m i o) o hs l
-    → HasNumbers start.any (informed_by m told) gs numbers → HasNumbers start.any (machine_after m i o) gs numbers
+    → HasNumbers (informed_by m told) gs numbers → HasNumbers (machine_after m i o) gs numbers
 acts_has start w q c m out last told i o gs hs numbers left l at is due surveys allowed holds next has =
     acts_by true (λ k t j. Moment w q c m out k t → m.last ≡ k → IsAllowed (machine_told m j) o → Holds start m k t gs left
-    → IsNext start (machine_after m j o) o hs l → HasNumbers start.any (informed_by m t) gs numbers → HasNumbers start.any (machine_after m j o) gs numbers)
+    → IsNext start (machine_after m j o) o hs l → HasNumbers (informed_by m t) gs numbers → HasNumbers (machine_after m j o) gs numbers)
     starts heard keeps w q c m out last told i at due surveys at is allowed holds next has
   where
     starts : Moment w q c m out None (Some input.Start) → m.last ≡ None → IsAllowed (machine_surveying m) o → Holds start m None (Some input.Start) gs left
-        → IsNext start (machine_ordered (machine_surveying m) o) o hs l → HasNumbers start.any m gs numbers
-        → HasNumbers start.any (machine_ordered (machine_surveying m) o) gs numbers
+        → IsNext start (machine_ordered (machine_surveying m) o) o hs l → HasNumbers m gs numbers
+        → HasNumbers (machine_ordered (machine_surveying m) o) gs numbers
     starts at is allowed holds next has =
-        has_fewer (most_drawn start.any) (ordered_draws start.any (machine_surveying m) o) (count_by is_bare gs) (length numbers)
+        has_fewer 1 (ordered_draws (machine_surveying m) o) (count_by is_bare gs) (length numbers)
         (let few = kept_draws start (machine_surveying m) o hs l refl holds.free (subst (λ k. IsPut k → ⊥) (sym is) (λ put. put)) allowed next in
         omega (arith, few))
-        (subst (λ k. numbers_for (to_draw start.any k m.course.purpose (stage_of m.trace) m.course.tally.draws) (count_by is_bare gs) ≤ length numbers) is has)
+        (subst (λ k. numbers_for (to_draw k m.course.purpose (stage_of m.trace) m.course.tally.draws) (count_by is_bare gs) ≤ length numbers) is has)
 
     heard : (p : ℕ) (f : Forward) (h : Answer) → Moment w q c m out (Some (Put p f)) (Some (input.Heard h)) → m.last ≡ Some (Put p f)
-        → IsAllowed (machine_told m (input.Heard h)) o → Hears start m f h gs left → IsNext start (machine_after m (input.Heard h) o) o hs l
-        → HasNumbers start.any (informed_by m (Some (input.Heard h))) gs numbers → HasNumbers start.any (machine_after m (input.Heard h) o) gs numbers
+        → IsAllowed (machine_told m (input.Heard h)) o → Hears start m p f h gs left → IsNext start (machine_after m (input.Heard h) o) o hs l
+        → HasNumbers (informed_by m (Some (input.Heard h))) gs numbers → HasNumbers (machine_after m (input.Heard h) o) gs numbers
     heard p f h at is allowed holds next has =
         let told : machine_told m (input.Heard h) ≡ machine_heard m (Some f) h = ap (λ x. machine_heard m (frame_put x) h) is in
         let stands : SurveyStands true start (machine_told m (input.Heard h)) gs left =
         subst (λ t. SurveyStands true start t gs left) (sym told) holds.stands in
         let t : Machine = machine_told m (input.Heard h) in
-        has_fewer (draws_still t.course.purpose (stage_of t.trace) + (most_drawn start.any - t.course.tally.draws)) (ordered_draws start.any t o)
+        has_fewer (draws_still t.course.purpose (stage_of t.trace) + (1 - t.course.tally.draws)) (ordered_draws t o)
         (count_by is_bare gs)
         (length numbers) (heard_draws start t o hs l stands.smooth.way allowed next)
-        (subst (λ k. numbers_for (to_draw start.any k t.course.purpose (stage_of t.trace) t.course.tally.draws) (count_by is_bare gs) ≤ length numbers)
+        (subst (λ k. numbers_for (to_draw k t.course.purpose (stage_of t.trace) t.course.tally.draws) (count_by is_bare gs) ≤ length numbers)
         (ap (λ (n : Machine). n.last) told ∙ is) has)
 
     keeps : (x : Record) → Moment w q c m out (Some (Commit x)) None → m.last ≡ Some (Commit x) → IsAllowed (machine_told m input.Committed) o
         → Holds start m (Some (Commit x)) None gs left → IsNext start (machine_after m input.Committed o) o hs l
-        → HasNumbers start.any (informed_by m None) gs numbers → HasNumbers start.any (machine_after m input.Committed o) gs numbers
+        → HasNumbers (informed_by m None) gs numbers → HasNumbers (machine_after m input.Committed o) gs numbers
     keeps x at is allowed holds next has =
         let told : machine_told m input.Committed ≡ with_kept m x = ap (λ k. machine_committed m (record_ordered k)) is in
-        subst (λ t. HasNumbers start.any (machine_ordered t o) gs numbers) (sym told)
-        (has_fewer (most_drawn start.any - m.course.tally.draws) (ordered_draws start.any (with_kept m x) o) (count_by is_bare gs) (length numbers)
+        subst (λ t. HasNumbers (machine_ordered t o) gs numbers) (sym told)
+        (has_fewer (1 - m.course.tally.draws) (ordered_draws (with_kept m x) o) (count_by is_bare gs) (length numbers)
         (kept_draws start (with_kept m x) o hs l holds.0.smooth.way at.1 (subst (λ k. IsPut k → ⊥) (sym is) (λ put. put))
         (subst (λ t. IsAllowed t o) told allowed) (subst (λ t. IsNext start (machine_ordered t o) o hs l) told next))
-        (subst (λ k. numbers_for (to_draw start.any k m.course.purpose (stage_of m.trace) m.course.tally.draws) (count_by is_bare gs) ≤ length numbers) is has))
+        (subst (λ k. numbers_for (to_draw k m.course.purpose (stage_of m.trace) m.course.tally.draws) (count_by is_bare gs) ≤ length numbers) is has))
 
 -- ---------------------------------------------------------------- its frame is sent
 
 heard_has : (start : Begun) (m : Machine) (p : ℕ) (f : Forward) (h : Answer) (gs : List Gear) (numbers : List ℕ) (left : ℕ) → m.last ≡ Some (Put p f)
-    → IsNext start m (Put p f) gs left → HasNumbers start.any m gs numbers
+    → IsNext start m (Put p f) gs left → HasNumbers m gs numbers
     → (draws_needed Everyone (command_of f) 0 gs ≤ length numbers)
     × (IsFewer gs numbers (command_of f)
-    → HasNumbers start.any (machine_told m (input.Heard h)) (row_after Everyone (command_of f) 0 gs numbers) (row_left Everyone (command_of f) 0 gs numbers))
+    → HasNumbers (machine_told m (input.Heard h)) (row_after Everyone (command_of f) 0 gs numbers) (row_left Everyone (command_of f) 0 gs numbers))
 heard_has start m p f h gs numbers left last next has = (
   sent.0,
-  λ fewer. subst (λ t. HasNumbers start.any t (row_after Everyone (command_of f) 0 gs numbers) (row_left Everyone (command_of f) 0 gs numbers))
+  λ fewer. subst (λ t. HasNumbers t (row_after Everyone (command_of f) 0 gs numbers) (row_left Everyone (command_of f) 0 gs numbers))
       (sym (ap (λ k. machine_heard m (frame_put k) h) last))
-      (subst (λ k. AreLeft (to_draw start.any k m.course.purpose (stage_of (m.trace ++ entry f h ∷ [])) m.course.tally.draws) gs numbers (command_of f))
+      (subst (λ k. AreLeft (to_draw k m.course.purpose (stage_of (m.trace ++ entry f h ∷ [])) m.course.tally.draws) gs numbers (command_of f))
       (sym last)
-      (subst (λ s. AreLeft (draws_still m.course.purpose s + (most_drawn start.any - m.course.tally.draws)) gs numbers (command_of f))
+      (subst (λ s. AreLeft (draws_still m.course.purpose s + (1 - m.course.tally.draws)) gs numbers (command_of f))
       (sym (stage_more m.trace (entry f h))) (sent.1 fewer))),
 ) where
   sent : (draws_needed Everyone (command_of f) 0 gs ≤ length numbers)
       × (IsFewer gs numbers (command_of f)
-      → AreLeft (draws_still m.course.purpose (next_stage (stage_of m.trace) (command_of f) h) + (most_drawn start.any - m.course.tally.draws)) gs numbers
+      → AreLeft (draws_still m.course.purpose (next_stage (stage_of m.trace) (command_of f) h) + (1 - m.course.tally.draws)) gs numbers
       (command_of f))
   sent =
       sent_numbers false m.course.purpose (stage_of m.trace) m.kept m.heard m.asked m.course start gs numbers left (command_of f) h
-      (most_drawn start.any - m.course.tally.draws) next.0.at next.1
-      (subst (λ k. numbers_for (to_draw start.any k m.course.purpose (stage_of m.trace) m.course.tally.draws) (count_by is_bare gs) ≤ length numbers) last has)
+      (1 - m.course.tally.draws) next.0.at next.1
+      (subst (λ k. numbers_for (to_draw k m.course.purpose (stage_of m.trace) m.course.tally.draws) (count_by is_bare gs) ≤ length numbers) last has)
 
 -- so they are never spent
-pub survey_draws : (start : Begun) → drawn.Draws (of_survey start) (HasNumbers start.any)
+pub survey_draws : (start : Begun) → drawn.Draws (of_survey start) HasNumbers
 survey_draws start = record {
   stays = record {
     acts = λ s c left l i o u here surveys given holds has.

@@ -40,6 +40,10 @@ one_gear gs one g h a first second = one g h a first.there second.there first.sh
 abbrev pub IsTrue : List Assignment → List Gear → Type 0
 IsTrue xs gs = (a r : ℕ) → Has xs (a, r) → (g : ℕ) × (g < length gs) × ((gear_of gs g).short ≡ Some a) × ((gear_of gs g).random ≡ r)
 
+-- whoever has an address that is reserved has the number that it is reserved for
+abbrev pub AreOwned : List Assignment → List Gear → Type 0
+AreOwned reserved gs = (a r g : ℕ) → Has reserved (a, r) → g < length gs → (gear_of gs g).short ≡ Some a → (gear_of gs g).random ≡ r
+
 abbrev pub Nobody : List Gear → ℕ → Type 0
 Nobody gs a = (g : ℕ) → Holds gs g a → ⊥
 

@@ -15,14 +15,14 @@ use Rattle.dali_events.specs.World.{World, Controller, controller_at}
 use Rattle.dali_events.specs.Happens.{happens, kept_after}
 use Rattle.dali_events.specs.Allowed.{Allowed, IsUp, IsDue, IsCommit}
 use Rattle.dali_world.specs.Site.{SiteState, world, site_logged}
-use Rattle.dali_progress.specs.Rounds.{site_after, HasEnded, IsAlone, IsOfRound, Rounds, most_frames, Any, bare}
+use Rattle.dali_progress.specs.Rounds.{site_after, HasEnded, IsAlone, IsOfRound, Rounds, most_frames, BySurvey, bare}
 use Rattle.dali_progress.specs.Ends.{CommitsNothing, NamesAll, table_at}
 use Rattle.dali_progress.proofs.Lone.{acted_there, sent_there, lone_next}
 use Rattle.dali_progress.proofs.Logged.{world_logged}
 use Rattle.dali_progress.proofs.Beginnings.{named}
 use Rattle.dali_progress.proofs.Along.{Runs, runs_on}
 use Rattle.dali_progress.proofs.Survey.Goes.{of_survey}
-use Rattle.dali_progress.proofs.Survey.Bounded.{argument, began_at, starts_any}
+use Rattle.dali_progress.proofs.Survey.Bounded.{argument, began_at, starts}
 use Rattle.dali_progress.proofs.Survey.Stands.{Begun}
 
 -- A SURVEY THAT COMMITS NOTHING keeps the records that it began with.
@@ -81,6 +81,6 @@ pub quiet_tabled : (s : SiteState) (c : ℕ) (es : List Event) (e : End) → IsA
     → HasEnded (site_after s es) c e → NamesAll true s (table_at s c) (site_after s es)
 quiet_tabled s c es e a rounds quiet ended =
     subst (λ (k : Kept). NamesAll true s k.enrolled (site_after s es))
-    (all_keep (began_at true s) s c (most_frames Any (bare s)) es (starts_any s c a) rounds quiet
+    (all_keep (began_at s c) s c (most_frames BySurvey (bare s)) es (starts s c a) rounds quiet
     (λ x is. (let never : None ≡ Some (Commit x) = sym a.last ∙ is in cc)))
-    (named Any s c es e a rounds ended)
+    (named BySurvey s c es e a rounds ended)

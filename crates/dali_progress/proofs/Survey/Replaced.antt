@@ -15,12 +15,12 @@ use Rattle.dali_events.specs.World.{gear_at}
 use Rattle.dali_events.proofs.Invariant.Safe.{holds_after}
 use Rattle.dali_events.proofs.Search.Wanted.{bare_is}
 use Rattle.dali_world.specs.Site.{SiteState, world}
-use Rattle.dali_progress.specs.Rounds.{Rounds, BeginsAlone, Settled, Any, IsAlone, HasEnded, site_after, most_frames, bare}
+use Rattle.dali_progress.specs.Rounds.{Rounds, BySurvey, IsAlone, IsSettledAt, HasEnded, site_after, most_frames, bare}
 use Rattle.dali_progress.specs.Ends.{table_at, IsUnseen}
 use Rattle.dali_progress.specs.Replaced.{IsVacant, HasVacant, HasNew, only, IsServed, AreNamed}
 use Rattle.dali_progress.proofs.Beginnings.{runs_after, named}
 use Rattle.dali_progress.proofs.Survey.Drawn.{count_first, count_nothing}
-use Rattle.dali_progress.proofs.Survey.Bounded.{began_at, starts_any, one_now, tabled}
+use Rattle.dali_progress.proofs.Survey.Bounded.{began_at, starts, one_now, tabled}
 use Rattle.dali_progress.proofs.Gives.{Gives}
 use Rattle.dali_progress.proofs.Survey.Given.{all_give}
 use Rattle.dali_progress.proofs.Survey.Vacant.{IsOver, over, enough_found}
@@ -96,10 +96,10 @@ only_vacant s c g a new = record {
   same b (inl is) = is
   same b (inr has) = absurd has
 
-pub served : (s : SiteState) (c g a : ℕ) (es : List Event) (e : End) → BeginsAlone Settled s c → HasNew s c g a → Rounds true s c es
+pub served : (s : SiteState) (c g a : ℕ) (es : List Event) (e : End) → IsAlone s c → IsSettledAt s c → HasNew s c g a → Rounds true s c es
     → HasEnded (site_after s es) c e → IsServed s (site_after s es) c g e
-served s c g a es e begins new rounds ended =
-    let found = enough_found s c es e begins (only_vacant s c g a new) rounds ended in
+served s c g a es e alone settled new rounds ended =
+    let found = enough_found s c es e alone settled (only_vacant s c g a new) rounds ended in
     let short : HasShort (gear_of hs g) = found.1 g there on in
     record {
       found = found.0;
@@ -107,7 +107,7 @@ served s c g a es e begins new rounds ended =
       within = address_within s c g a new t now.gives short.0 short.1;
       vacant = address_vacant s c g a new t now.gives (one_now t now.by.run) short.0 short.1;
       holds = (there, short.1);
-      named = entry short.0 short.1 (tabled false s t c e now.by g short.0 there (short_now t now.by.run g short.0 there short.1) short.1);
+      named = entry short.0 short.1 (tabled s t c e now.by g short.0 there (short_now t now.by.run g short.0 there short.1) short.1);
     }
   where
     t : SiteState
@@ -117,7 +117,7 @@ served s c g a es e begins new rounds ended =
     hs = (world t).gear
 
     now : IsOver s c es e
-    now = over s c es e begins rounds ended
+    now = over s c es e alone rounds ended
 
     there : g < length hs
     there = subst (λ n. g < n) (sym now.gives.count) new.there
@@ -132,12 +132,12 @@ served s c g a es e begins new rounds ended =
     entry b short (inr had) = absurd (let both : None ≡ Some b = sym (bare_is (gear_of (world s).gear g) new.bare).1 ∙ had.0 in cc)
 
 -- in a block of one address that is the one
-pub served_only : (s : SiteState) (c g a : ℕ) (es : List Event) (e : End) → BeginsAlone Settled s c → HasNew s c g a → block_at s.plan c ≡ only a
+pub served_only : (s : SiteState) (c g a : ℕ) (es : List Event) (e : End) → IsAlone s c → IsSettledAt s c → HasNew s c g a → block_at s.plan c ≡ only a
     → Rounds true s c es → HasEnded (site_after s es) c e
     → HoldsShort (world (site_after s es)) g a × Has (table_at (site_after s es) c) (a, (gear_at (world (site_after s es)) g).random)
-served_only s c g a es e begins new one rounds ended =
+served_only s c g a es e alone settled new one rounds ended =
     let t : SiteState = site_after s es in
-    let done : IsServed s t c g e = served s c g a es e begins new rounds ended in
+    let done : IsServed s t c g e = served s c g a es e alone settled new rounds ended in
     let within : InBlock (only a) done.address = subst (λ b. InBlock b done.address) one done.within in
     let same : done.address ≡ a = let low = within.0 in let high = within.1 in omega (arith, low, high) in
     subst (λ b. HoldsShort (world t) g b × Has (table_at t c) (b, (gear_at (world t) g).random)) same (done.holds, done.named)
@@ -146,7 +146,7 @@ served_only s c g a es e begins new one rounds ended =
 pub others_kept : (s : SiteState) (c : ℕ) (es : List Event) → IsAlone s c → Rounds true s c es → KeepsAddresses (world s) (world (site_after s es))
 others_kept s c es alone rounds k b (there, short) =
     let gives : Gives (block_at s.plan c) (world s).gear (world (site_after s es)).gear =
-    all_give (began_at true s) s c (most_frames Any (bare s)) es (starts_any s c alone) rounds in
+    all_give (began_at s c) s c (most_frames BySurvey (bare s)) es (starts s c alone) rounds in
     ((subst (λ n. k < n) (sym gives.count) there, gives.short k b there short), gives.number k b there short)
 
 pub others_named : (s : SiteState) (c : ℕ) (es : List Event) (e : End) → IsAlone s c → Rounds true s c es → HasEnded (site_after s es) c e
@@ -154,8 +154,8 @@ pub others_named : (s : SiteState) (c : ℕ) (es : List Event) (e : End) → IsA
 others_named s c es e alone rounds ended k b has seen =
     let t : SiteState = site_after s es in
     let kept = others_kept s c es alone rounds k b has in
-    go kept (named Any s c es e alone rounds ended k b kept.0.0
-    (short_now t (runs_after Any s c es alone rounds).runs.run k b kept.0.0 kept.0.1) kept.0.1)
+    go kept (named BySurvey s c es e alone rounds ended k b kept.0.0
+    (short_now t (runs_after BySurvey s c es alone rounds).runs.run k b kept.0.0 kept.0.1) kept.0.1)
   where
     go : HoldsShort (world (site_after s es)) k b × ((gear_at (world (site_after s es)) k).random ≡ (gear_at (world s) k).random)
         → Has (table_at (site_after s es) c) (b, (gear_at (world (site_after s es)) k).random)

@@ -18,8 +18,7 @@ use Rattle.dali_script.specs.Scripts.{CALLING}
 use Rattle.dali_script.specs.declared.stage.Stage.{Stage}
 use Rattle.dali_script.specs.declared.stage.Stage.TheVariants as stage
 use Rattle.dali_script.specs.Stages.{next_stage}
-use Rattle.dali_controller.specs.declared.purpose.Purpose.{Purpose}
-use Rattle.dali_controller.specs.declared.purpose.Purpose.TheVariants.{Opening, Calling, Drawing}
+use Rattle.dali_controller.specs.declared.purpose.Purpose.TheVariants.{Calling, Drawing}
 use Rattle.dali_controller.specs.declared.shorts.Shorts.{Shorts}
 use Rattle.dali_controller.specs.Course.{Course, is_yes, call_turn}
 use Rattle.dali_events.specs.Wanted.{is_bare, AreApart, IsOpened}
@@ -38,7 +37,7 @@ use Rattle.dali_progress.proofs.Survey.Queried.{OneShort, unseen}
 use Rattle.dali_progress.proofs.Survey.Woken.{AreLow, IsByteLow, bare_after, lost_after, drew_after, undrawn_after, stays_initialised, called_answer, low_after}
 use Rattle.dali_progress.proofs.Survey.Woken.{low_sent}
 use Rattle.dali_progress.proofs.Survey.Woken.{nobody_searched}
-use Rattle.dali_progress.proofs.Survey.Stands.{Begun, spare, roll_frames, woken_at, IsCalledBy, CallStage, IsLowAt, call_sent, Calls, DrawStage, draw_left}
+use Rattle.dali_progress.proofs.Survey.Stands.{Begun, roll_frames, woken_at, IsCalledBy, CallStage, IsLowAt, call_sent, Calls, DrawStage, draw_left}
 use Rattle.dali_progress.proofs.Survey.Stands.{IsDrawnBy}
 use Rattle.dali_progress.proofs.Survey.Stands.{Draws}
 use Rattle.dali_progress.proofs.Survey.Begins.{roll_some, roll_none}
@@ -85,25 +84,25 @@ calls_on s t k heard c start gs numbers left d v leaves stage gear low sent few 
     stage_is = stage;
     quiet = λ silent. bare_after d gs numbers leaves ∙ v.quiet silent;
     first = λ some. v.first (subst (λ n. 0 < n) (lost_after d gs numbers leaves) some);
-    own = v.own;
+    clear = v.clear;
     settled = v.settled;
     gear = gear;
     low = low;
     tabled = tabled_left (unseen start.gear) k.enrolled gs numbers d leaves v.tabled;
     frames = subst (λ n. roll_frames c.tally.is_silent n (count_by is_lost (row_after Everyone d 0 gs numbers))
-        + spare start.any c.tally.draws ≤ less.0 + call_sent t)
+        ≤ less.0 + call_sent t)
         (sym (drew_after d gs numbers leaves))
-        (subst (λ n. roll_frames c.tally.is_silent (count_by is_bare (those_drawn gs)) n + spare start.any c.tally.draws ≤ less.0 + call_sent t)
-        (sym (lost_after d gs numbers leaves)) (subst (λ n. roll + spare start.any c.tally.draws ≤ less.0 + n) (sym sent) less.2));
+        (subst (λ n. roll_frames c.tally.is_silent (count_by is_bare (those_drawn gs)) n ≤ less.0 + call_sent t)
+        (sym (lost_after d gs numbers leaves)) (subst (λ n. roll ≤ less.0 + n) (sym sent) less.2));
   },
 ) where
   roll : ℕ
   roll = roll_frames c.tally.is_silent (count_by is_bare (those_drawn gs)) (count_by is_lost gs)
 
-  less : (l : ℕ) × (left ≡ suc l) × (roll + spare start.any c.tally.draws ≤ l + (call_sent s + 1))
+  less : (l : ℕ) × (left ≡ suc l) × (roll ≤ l + (call_sent s + 1))
   less =
       let most = roll_least c.tally.is_silent (count_by is_bare (those_drawn gs)) (count_by is_lost gs) in
-      one_less (roll + spare start.any c.tally.draws) left (call_sent s) v.frames (omega (arith, most, few))
+      one_less roll left (call_sent s) v.frames (omega (arith, most, few))
 
 pub compare_next : (r : SearchAddress) (last : Option Answer) (left : ℕ) (h : Answer) → 0 < left
     → next_stage (stage.Hunted r last left) Compare h ≡ stage.Hunted r (Some h) (left - 1)
@@ -198,20 +197,20 @@ calls_sent _ k heard c start gs numbers left d h v is t seek = absurd v.stage_is
 
 -- ---------------------------------------------------------------- gear draw
 
-abbrev pub DrawnTo : Purpose → Stage → Kept → Shorts → Course → Begun → List Gear → List ℕ → ℕ → Command → Answer → Type 0
-DrawnTo p s k heard c start gs numbers left d h =
-    (l : ℕ) × (left ≡ suc l) × Draws p (next_stage s d h) k heard c start (row_after Everyone d 0 gs numbers) l
+abbrev pub DrawnTo : Stage → Kept → Shorts → Course → Begun → List Gear → List ℕ → ℕ → Command → Answer → Type 0
+DrawnTo s k heard c start gs numbers left d h =
+    (l : ℕ) × (left ≡ suc l) × Draws (next_stage s d h) k heard c start (row_after Everyone d 0 gs numbers) l
 
-draws_less : (rest bare some left : ℕ) → suc rest + 106 * bare + 26 + some ≤ left → (l : ℕ) × (left ≡ suc l) × (rest + 106 * bare + 26 + some ≤ l)
-draws_less rest bare some zero enough = absurd (omega (arith, enough))
-draws_less rest bare some (suc l) enough = (l, refl, omega (arith, enough))
+draws_less : (rest bare left : ℕ) → suc rest + 106 * bare + 26 ≤ left → (l : ℕ) × (left ≡ suc l) × (rest + 106 * bare + 26 ≤ l)
+draws_less rest bare zero enough = absurd (omega (arith, enough))
+draws_less rest bare (suc l) enough = (l, refl, omega (arith, enough))
 
-draws_on : (p : Purpose) (s t : Stage) (k : Kept) (heard : Shorts) (c : Course) (start : Begun) (gs : List Gear) (numbers : List ℕ) (left : ℕ) (d : Command)
-    → Draws p s k heard c start gs left → LeavesShort d → IsByteLow d → DrawStage p t c.number (row_after Everyone d 0 gs numbers)
-    → IsDrawnBy p t c.number (row_after Everyone d 0 gs numbers) → AreOpening (woken_at t) (row_after Everyone d 0 gs numbers)
-    → AreTabled (unseen start.gear) k.enrolled (row_after Everyone d 0 gs numbers) → draw_left p s ≡ suc (draw_left p t)
-    → (l : ℕ) × (left ≡ suc l) × Draws p t k heard c start (row_after Everyone d 0 gs numbers) l
-draws_on p s t k heard c start gs numbers left d v leaves byte stage drawn gear tabled sent = (
+draws_on : (s t : Stage) (k : Kept) (heard : Shorts) (c : Course) (start : Begun) (gs : List Gear) (numbers : List ℕ) (left : ℕ) (d : Command)
+    → Draws s k heard c start gs left → LeavesShort d → IsByteLow d → DrawStage Drawing t c.number (row_after Everyone d 0 gs numbers)
+    → IsDrawnBy Drawing t c.number (row_after Everyone d 0 gs numbers) → AreOpening (woken_at t) (row_after Everyone d 0 gs numbers)
+    → AreTabled (unseen start.gear) k.enrolled (row_after Everyone d 0 gs numbers) → draw_left s ≡ suc (draw_left t)
+    → (l : ℕ) × (left ≡ suc l) × Draws t k heard c start (row_after Everyone d 0 gs numbers) l
+draws_on s t k heard c start gs numbers left d v leaves byte stage drawn gear tabled sent = (
   less.0,
   less.1,
   record {
@@ -221,79 +220,51 @@ draws_on p s t k heard c start gs numbers left d v leaves byte stage drawn gear 
     few = v.few;
     somebody = subst (λ n. 0 < n) (sym (leaving.count_bare_after d gs numbers leaves)) v.somebody;
     drawn = drawn;
-    own = v.own;
+    clear = v.clear;
     settled = v.settled;
     gear = gear;
     low = low_after d gs numbers byte v.low;
     tabled = tabled;
-    frames = subst (λ n. draw_left p t + 106 * n + 26 + spare start.any c.tally.draws ≤ less.0) (sym (leaving.count_bare_after d gs numbers leaves)) less.2;
+    frames = subst (λ n. draw_left t + 106 * n + 26 ≤ less.0) (sym (leaving.count_bare_after d gs numbers leaves)) less.2;
   },
 ) where
-  less : (l : ℕ) × (left ≡ suc l) × (draw_left p t + 106 * count_by is_bare gs + 26 + spare start.any c.tally.draws ≤ l)
+  less : (l : ℕ) × (left ≡ suc l) × (draw_left t + 106 * count_by is_bare gs + 26 ≤ l)
   less =
-      draws_less (draw_left p t) (count_by is_bare gs) (spare start.any c.tally.draws) left
-      (subst (λ n. n + 106 * count_by is_bare gs + 26 + spare start.any c.tally.draws ≤ left) sent v.frames)
-
-pub opens_sent : (s : Stage) (k : Kept) (heard : Shorts) (c : Course) (start : Begun) (gs : List Gear) (numbers : List ℕ) (left : ℕ) (d : Command) (h : Answer)
-    → Draws Opening s k heard c start gs left → Sends Opening c.number k s d → IsSurveyTaken d gs numbers h
-    → DrawnTo Opening s k heard c start gs numbers left d h
-opens_sent stage.Free k heard c start gs numbers left d h v is t =
-    subst (λ e. DrawnTo Opening stage.Free k heard c start gs numbers left e h) (sym is)
-    (draws_on Opening stage.Free stage.Terminated k heard c start gs numbers left Terminate v tt tt tt tt (opening.opening_terminated gs numbers)
-    (tabled_left (unseen start.gear) k.enrolled gs numbers Terminate tt v.tabled) refl)
-opens_sent stage.Terminated k heard c start gs numbers left d h v is t =
-    subst (λ e. DrawnTo Opening stage.Terminated k heard c start gs numbers left e h) (some_is (Initialise Unaddressed) d is)
-    (draws_on Opening stage.Terminated stage.InitialisedOnce k heard c start gs numbers left (Initialise Unaddressed) v tt tt tt tt
-    (opening.opening_initialised_once gs numbers v.gear) (tabled_left (unseen start.gear) k.enrolled gs numbers (Initialise Unaddressed) tt v.tabled) refl)
-opens_sent stage.InitialisedOnce k heard c start gs numbers left d h v is t =
-    subst (λ e. DrawnTo Opening stage.InitialisedOnce k heard c start gs numbers left e h) (some_is (Initialise Unaddressed) d is)
-    (draws_on Opening stage.InitialisedOnce stage.Initialised k heard c start gs numbers left (Initialise Unaddressed) v tt tt tt tt
-    (opening.opening_initialised gs numbers v.gear) (tabled_left (unseen start.gear) k.enrolled gs numbers (Initialise Unaddressed) tt v.tabled) refl)
-opens_sent stage.Initialised k heard c start gs numbers left d h v is t =
-    subst (λ e. DrawnTo Opening stage.Initialised k heard c start gs numbers left e h) (some_is Randomise d is)
-    (draws_on Opening stage.Initialised stage.RandomisedOnce k heard c start gs numbers left Randomise v tt tt tt tt
-    (opening.opening_randomised_once gs numbers v.gear) (tables.tabled_drawn (unseen start.gear) k.enrolled gs numbers (tables.still_once gs v.gear) v.tabled)
-    refl)
-opens_sent stage.RandomisedOnce k heard c start gs numbers left d h v is t =
-    subst (λ e. IsSurveyTaken e gs numbers h → DrawnTo Opening stage.RandomisedOnce k heard c start gs numbers left e h) (some_is Randomise d is)
-    (λ now. draws_on Opening stage.RandomisedOnce stage.Opened k heard c start gs numbers left Randomise v tt tt tt tt
-    (opening.opening_opened gs numbers now.taken.enough now.taken.below v.gear)
-    (tables.tabled_drawn (unseen start.gear) k.enrolled gs numbers (tables.still_twice gs v.gear) v.tabled) refl) t
-opens_sent stage.Opened k heard c start gs numbers left d h v is t = absurd (cc)
-opens_sent _ k heard c start gs numbers left d h v is t = absurd v.stage_is
+      draws_less (draw_left t) (count_by is_bare gs) left
+      (subst (λ n. n + 106 * count_by is_bare gs + 26 ≤ left) sent v.frames)
 
 pub draws_sent : (s : Stage) (k : Kept) (heard : Shorts) (c : Course) (start : Begun) (gs : List Gear) (numbers : List ℕ) (left : ℕ) (d : Command) (h : Answer)
-    → Draws Drawing s k heard c start gs left → Sends Drawing c.number k s d → IsSurveyTaken d gs numbers h
-    → DrawnTo Drawing s k heard c start gs numbers left d h
+    → Draws s k heard c start gs left → Sends Drawing c.number k s d → IsSurveyTaken d gs numbers h
+    → DrawnTo s k heard c start gs numbers left d h
 draws_sent stage.Free k heard c start gs numbers left d h v is t =
-    subst (λ e. DrawnTo Drawing stage.Free k heard c start gs numbers left e h) (sym is)
-    (draws_on Drawing stage.Free stage.Terminated k heard c start gs numbers left Terminate v tt tt tt
+    subst (λ e. DrawnTo stage.Free k heard c start gs numbers left e h) (sym is)
+    (draws_on stage.Free stage.Terminated k heard c start gs numbers left Terminate v tt tt tt
     (undrawn_after Terminate gs numbers tt v.drawn.0, v.drawn.1)
     (opening.opening_terminated gs numbers) (tabled_left (unseen start.gear) k.enrolled gs numbers Terminate tt v.tabled) refl)
 draws_sent stage.Terminated k heard c start gs numbers left d h v is t =
-    subst (λ e. DrawnTo Drawing stage.Terminated k heard c start gs numbers left e h) (some_is (Initialise Unaddressed) d is)
-    (draws_on Drawing stage.Terminated stage.InitialisedOnce k heard c start gs numbers left (Initialise Unaddressed) v tt tt tt
+    subst (λ e. DrawnTo stage.Terminated k heard c start gs numbers left e h) (some_is (Initialise Unaddressed) d is)
+    (draws_on stage.Terminated stage.InitialisedOnce k heard c start gs numbers left (Initialise Unaddressed) v tt tt tt
     (undrawn_after (Initialise Unaddressed) gs numbers tt v.drawn.0, v.drawn.1) (opening.opening_initialised_once gs numbers v.gear)
     (tabled_left (unseen start.gear) k.enrolled gs numbers (Initialise Unaddressed) tt v.tabled) refl)
 draws_sent stage.InitialisedOnce k heard c start gs numbers left d h v is t =
-    subst (λ e. DrawnTo Drawing stage.InitialisedOnce k heard c start gs numbers left e h) (some_is (Initialise Unaddressed) d is)
-    (draws_on Drawing stage.InitialisedOnce stage.Initialised k heard c start gs numbers left (Initialise Unaddressed) v tt tt tt
+    subst (λ e. DrawnTo stage.InitialisedOnce k heard c start gs numbers left e h) (some_is (Initialise Unaddressed) d is)
+    (draws_on stage.InitialisedOnce stage.Initialised k heard c start gs numbers left (Initialise Unaddressed) v tt tt tt
     (undrawn_after (Initialise Unaddressed) gs numbers tt v.drawn.0, v.drawn.1) (opening.opening_initialised gs numbers v.gear)
     (tabled_left (unseen start.gear) k.enrolled gs numbers (Initialise Unaddressed) tt v.tabled) refl)
 draws_sent stage.Initialised k heard c start gs numbers left d h v is t =
-    subst (λ e. DrawnTo Drawing stage.Initialised k heard c start gs numbers left e h) (some_is (SearchHigh c.number.high) d is)
-    (draws_on Drawing stage.Initialised (stage.WokenHigh c.number.high) k heard c start gs numbers left (SearchHigh c.number.high) v tt tt
+    subst (λ e. DrawnTo stage.Initialised k heard c start gs numbers left e h) (some_is (SearchHigh c.number.high) d is)
+    (draws_on stage.Initialised (stage.WokenHigh c.number.high) k heard c start gs numbers left (SearchHigh c.number.high) v tt tt
     (refl, leaving.seek_high gs numbers c.number.high) (undrawn_after (SearchHigh c.number.high) gs numbers tt v.drawn.0, v.drawn.1)
     (stays_initialised (SearchHigh c.number.high) gs numbers tt v.gear)
     (tabled_left (unseen start.gear) k.enrolled gs numbers (SearchHigh c.number.high) tt v.tabled) refl)
 draws_sent (stage.WokenHigh high) k heard c start gs numbers left d h v is t =
-    subst (λ e. DrawnTo Drawing (stage.WokenHigh high) k heard c start gs numbers left e h) (some_is (SearchMiddle c.number.middle) d is)
-    (draws_on Drawing (stage.WokenHigh high) (stage.WokenMiddle high c.number.middle) k heard c start gs numbers left (SearchMiddle c.number.middle) v tt tt
+    subst (λ e. DrawnTo (stage.WokenHigh high) k heard c start gs numbers left e h) (some_is (SearchMiddle c.number.middle) d is)
+    (draws_on (stage.WokenHigh high) (stage.WokenMiddle high c.number.middle) k heard c start gs numbers left (SearchMiddle c.number.middle) v tt tt
     (v.stage_is.0, refl, leaving.seek_middle gs numbers high c.number.middle v.stage_is.1)
     (undrawn_after (SearchMiddle c.number.middle) gs numbers tt v.drawn.0, v.drawn.1) (stays_initialised (SearchMiddle c.number.middle) gs numbers tt v.gear)
     (tabled_left (unseen start.gear) k.enrolled gs numbers (SearchMiddle c.number.middle) tt v.tabled) refl)
 draws_sent (stage.WokenMiddle high middle) k heard c start gs numbers left d h v is t =
-    subst (λ e. IsSurveyTaken e gs numbers h → DrawnTo Drawing (stage.WokenMiddle high middle) k heard c start gs numbers left e h) (some_is Compare d is)
+    subst (λ e. IsSurveyTaken e gs numbers h → DrawnTo (stage.WokenMiddle high middle) k heard c start gs numbers left e h) (some_is Compare d is)
     (λ now. go (now.taken.heard ∙ silent)) t
   where
     small : high < 256
@@ -305,19 +276,19 @@ draws_sent (stage.WokenMiddle high middle) k heard c start gs numbers left d h v
     silent : heard_of (answers_of Everyone Compare 0 gs) ≡ Silence
     silent = nobody_searched gs high middle v.gear v.drawn.0 v.low v.stage_is.2 small less
 
-    go : h ≡ Silence → DrawnTo Drawing (stage.WokenMiddle high middle) k heard c start gs numbers left Compare h
+    go : h ≡ Silence → DrawnTo (stage.WokenMiddle high middle) k heard c start gs numbers left Compare h
     go none =
-        subst (λ a. DrawnTo Drawing (stage.WokenMiddle high middle) k heard c start gs numbers left Compare a) (sym none)
-        (draws_on Drawing (stage.WokenMiddle high middle) stage.DrawFree k heard c start gs numbers left Compare v tt tt tt tt
+        subst (λ a. DrawnTo (stage.WokenMiddle high middle) k heard c start gs numbers left Compare a) (sym none)
+        (draws_on (stage.WokenMiddle high middle) stage.DrawFree k heard c start gs numbers left Compare v tt tt tt tt
         (stays_initialised Compare gs numbers tt v.gear) (tabled_left (unseen start.gear) k.enrolled gs numbers Compare tt v.tabled) refl)
 draws_sent stage.DrawFree k heard c start gs numbers left d h v is t =
-    subst (λ e. DrawnTo Drawing stage.DrawFree k heard c start gs numbers left e h) (some_is Randomise d is)
-    (draws_on Drawing stage.DrawFree stage.RandomisedOnce k heard c start gs numbers left Randomise v tt tt tt tt
+    subst (λ e. DrawnTo stage.DrawFree k heard c start gs numbers left e h) (some_is Randomise d is)
+    (draws_on stage.DrawFree stage.RandomisedOnce k heard c start gs numbers left Randomise v tt tt tt tt
     (opening.opening_randomised_once gs numbers v.gear) (tables.tabled_drawn (unseen start.gear) k.enrolled gs numbers (tables.still_once gs v.gear) v.tabled)
     refl)
 draws_sent stage.RandomisedOnce k heard c start gs numbers left d h v is t =
-    subst (λ e. IsSurveyTaken e gs numbers h → DrawnTo Drawing stage.RandomisedOnce k heard c start gs numbers left e h) (some_is Randomise d is)
-    (λ now. draws_on Drawing stage.RandomisedOnce stage.Opened k heard c start gs numbers left Randomise v tt tt tt tt
+    subst (λ e. IsSurveyTaken e gs numbers h → DrawnTo stage.RandomisedOnce k heard c start gs numbers left e h) (some_is Randomise d is)
+    (λ now. draws_on stage.RandomisedOnce stage.Opened k heard c start gs numbers left Randomise v tt tt tt tt
     (opening.opening_opened gs numbers now.taken.enough now.taken.below v.gear)
     (tables.tabled_drawn (unseen start.gear) k.enrolled gs numbers (tables.still_twice gs v.gear) v.tabled) refl) t
 draws_sent stage.Opened k heard c start gs numbers left d h v is t = absurd (cc)

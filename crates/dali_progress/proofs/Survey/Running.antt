@@ -13,14 +13,14 @@ use Rattle.dali_events.specs.Allowed.{Allowed, IsDue}
 use Rattle.dali_world.specs.Site.{SiteState, world, site_logged}
 use Rattle.dali_replay.specs.Installation.{Installation}
 use Rattle.dali_replay.specs.Installation as replayed
-use Rattle.dali_progress.specs.Rounds.{Succeeds, IsOfRound, Rounds, site_after, frames, IsAlone, most_frames, Any, bare}
+use Rattle.dali_progress.specs.Rounds.{Succeeds, IsOfRound, Rounds, site_after, frames, IsAlone, most_frames, BySurvey, bare}
 use Rattle.dali_progress.proofs.Lone.{Moment, acted_last, sent_last, lone_next}
 use Rattle.dali_progress.proofs.Logged.{world_logged}
 use Rattle.dali_progress.proofs.Running.{IsLeft, AreLeft, Comes, Came}
 use Rattle.dali_progress.proofs.Survey.Stands.{Begun}
 use Rattle.dali_progress.proofs.Along.{Runs, runs_on}
 use Rattle.dali_progress.proofs.Survey.Goes.{of_survey}
-use Rattle.dali_progress.proofs.Survey.Bounded.{argument, began_at, starts_any}
+use Rattle.dali_progress.proofs.Survey.Bounded.{argument, began_at, starts}
 
 -- A RUN OF ROUNDS after a survey began, on an installation with one controller.
 
@@ -92,8 +92,8 @@ are_of_survey start s c left (e ∷ es) u begun rounds whole =
 events_of_run : (s between t : SiteState) (o : Order) (k f : ℕ) → IsAlone s 0 → between ≡ site_logged s (event.Acted 0 input.Survey o)
     → Allowed (world s) (event.Acted 0 input.Survey o) → IsOfRound true s 0 (event.Acted 0 input.Survey o) → Comes between t k f → Came true s t k f
 events_of_run s between t o k f alone logged here of comes =
-    let on = runs_on (of_survey (began_at true s)) (argument (began_at true s)) s 0 (most_frames Any (bare s)) (event.Acted 0 input.Survey o)
-    (starts_any s 0 alone) here of in
+    let on = runs_on (of_survey (began_at s 0)) (argument (began_at s 0)) s 0 (most_frames BySurvey (bare s)) (event.Acted 0 input.Survey o)
+    (starts s 0 alone) here of in
     let begun : begun_last (world (site_logged s (event.Acted 0 input.Survey o))) 0 =
     subst (λ w. begun_last w 0) (sym (world_logged s (event.Acted 0 input.Survey o))) (o, acted_last (world s) 0 input.Survey o here.up) in
     record {
@@ -101,7 +101,7 @@ events_of_run s between t o k f alone logged here of comes =
       rounds = (
         here,
         of,
-        are_of_survey (began_at true s) (site_logged s (event.Acted 0 input.Survey o)) 0 on.rest comes.events on.runs begun
+        are_of_survey (began_at s 0) (site_logged s (event.Acted 0 input.Survey o)) 0 on.rest comes.events on.runs begun
             (subst (λ x. Rounds false x 0 comes.events) logged comes.rounds) (subst (λ x. AreLeft x 0 comes.events) logged comes.left),
       );
       is = comes.is ∙ ap (λ x. site_after x comes.events) logged;

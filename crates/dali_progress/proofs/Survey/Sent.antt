@@ -19,7 +19,6 @@ use Rattle.dali_script.proofs.Lists.{has_map}
 use Rattle.std.proofs.lemmas.Nat.Bits.{bit_at_set_other, bit_at_clear_same, bit_at_clear_other}
 use Rattle.dali_controller.specs.Shorts.{has_short, with_short, without_short}
 use Rattle.dali_events.proofs.Search.Wanted.{number_same, same_number, after_at}
-use Rattle.dali_progress.specs.Rounds.{IsSettled}
 use Rattle.dali_script.specs.Records.{Assignment, IsKept, Kept, Has}
 use Rattle.dali_script.specs.declared.stage.Stage.{Stage}
 use Rattle.dali_script.specs.declared.stage.Stage.TheVariants as stage
@@ -48,11 +47,11 @@ use Rattle.dali_progress.proofs.Frames.{IsTaken, Seeks, at_sent, one_less, value
 use Rattle.dali_progress.proofs.Tables.{IsTabledTo, at_tabled, tabled_left}
 use Rattle.dali_progress.proofs.Survey.Drawn.{those_drawn, is_lost, IsSearching, IsSoughtBy, not_randomise, row_drawn, answers_drawn, searching_of, no_draw}
 use Rattle.dali_progress.proofs.Survey.Drawn.{still_of, lost_same, seek_drawn}
-use Rattle.dali_progress.proofs.Survey.Queried.{Holds, OneGear, OneShort, one_gear, IsTrue, Nobody, HasAnswered, asked_gear, core_then, holds_on, holds_back}
+use Rattle.dali_progress.proofs.Survey.Queried.{Holds, OneGear, OneShort, one_gear, AreOwned, Nobody, HasAnswered, asked_gear, core_then, holds_on, holds_back}
 use Rattle.dali_progress.proofs.Survey.Queried.{unseen, below_on}
 use Rattle.dali_progress.proofs.Survey.Woken.{IsByteLow, low_after}
-use Rattle.dali_progress.proofs.Survey.Rolls.{IsSurveyTaken, calls_sent, opens_sent, draws_sent}
-use Rattle.dali_progress.proofs.Survey.Stands.{Begun, spare, survey_frames, IsClear, IsClearBut, IsClearAt, silent_left, asked_left, Tells, AskStage, Counts}
+use Rattle.dali_progress.proofs.Survey.Rolls.{IsSurveyTaken, calls_sent, draws_sent}
+use Rattle.dali_progress.proofs.Survey.Stands.{Begun, survey_frames, IsClear, IsClearBut, IsClearAt, silent_left, asked_left, Tells, AskStage, Counts}
 use Rattle.dali_progress.proofs.Survey.Stands.{called_after, hunted_after, frames_after, IsCalledFor, surplus, IsBehind, HuntAt, Hunts, SurveyEnds}
 use Rattle.dali_progress.proofs.Survey.Stands.{SurveyCloses}
 use Rattle.dali_progress.proofs.Survey.Stands.{SurveyAt}
@@ -62,7 +61,7 @@ use Rattle.dali_progress.proofs.Survey.Stands.{SurveyAt}
 -- and of the records
 pub record IsTold (k : Kept) (gs : List Gear) : Type 0 where
   pub kept : IsKept k
-  pub holds : IsTrue k.enrolled gs
+  pub owned : AreOwned k.reserved gs
 
 -- ---------------------------------------------------------------- marks
 
@@ -101,8 +100,8 @@ nobody_on gs hs a same none g holds = none g (holds_back gs hs g a same holds)
 
 -- the same census, one frame later
 counts_on : (a : ℕ) (s t : Stage) (k : Kept) (marks after : Shorts) (asked now from : ℕ) (start : Begun) (gs hs : List Gear) (left l : ℕ)
-    → Counts a s k marks asked from start gs left → SameCore gs hs → AskStage t a now hs → (start.any ≡ false → IsClearAt t a k after)
-    → 3 * (63 - a) + asked_left t now + survey_frames start gs ≤ l → Counts a t k after now from start hs l
+    → Counts a s k marks asked from start gs left → SameCore gs hs → AskStage t a now hs → IsClearAt t a k after
+    → 3 * (63 - a) + asked_left t now + survey_frames gs ≤ l → Counts a t k after now from start hs l
 counts_on a s t k marks after asked now from start gs hs left l v same stage clear enough = record {
   small = v.small;
   from_is = v.from_is;
@@ -111,7 +110,7 @@ counts_on a s t k marks after asked now from start gs hs left l v same stage cle
   same = core_then start.gear gs hs v.same same;
   stage_is = stage;
   tabled = below_on a start.gear k.enrolled gs hs same v.tabled;
-  frames = subst (λ n. 3 * (63 - a) + asked_left t now + (106 * n + 66 + spare start.any 0) ≤ l) (sym (leaving.core_count_bare gs hs same)) enough;
+  frames = subst (λ n. 3 * (63 - a) + asked_left t now + (106 * n + 66) ≤ l) (sym (leaving.core_count_bare gs hs same)) enough;
 }
 
 silence_again : (n : ℕ) → n ≤ 2 → (asked_after_silence n ≤ 2) × (silent_left (asked_after_silence n) + 1 ≤ 3 - n)
@@ -146,12 +145,12 @@ first_asked a k marks asked from start gs numbers left h v one heard = go (heard
             → CountedTo a stage.Free k marks asked from start gs numbers left (RandomByte a High) (Byte (high_of (gear_of gs g).random))
         by (inr nobody) = absurd (nobody.0 g holds)
         by (inl none) =
-            let less = spend (3 * (63 - a)) (3 - asked) 2 (survey_frames start gs) left v.frames (omega (arith, none)) in (
+            let less = spend (3 * (63 - a)) (3 - asked) 2 (survey_frames gs) left v.frames (omega (arith, none)) in (
               less.0,
               less.1,
               counts_on a stage.Free (stage.HighAsked a (Some (high_of (gear_of gs g).random))) k marks (with_short marks a) asked 0 from start gs _ left less.0
                   v same (refl, tells_on gs _ a g (λ r. high_of (gear_of gs g).random ≡ high_of r) same holds refl)
-                  (λ e. clear_with k marks a a refl v.small (λ c q has apart. v.clear e c q has)) less.2,
+                  (clear_with k marks a a refl v.small (λ c q has apart. v.clear c q has)) less.2,
             )
   go (inr (none, is)) =
       subst (λ b. CountedTo a stage.Free k marks asked from start gs numbers left (RandomByte a High) b) (sym is) (by (few v.stage_is)) where
@@ -162,7 +161,7 @@ first_asked a k marks asked from start gs numbers left h v one heard = go (heard
         by : asked ≤ 2 → CountedTo a stage.Free k marks asked from start gs numbers left (RandomByte a High) Silence
         by small =
             let again = silence_again asked small in
-            let less = spend (3 * (63 - a)) (3 - asked) (silent_left (asked_after_silence asked)) (survey_frames start gs) left v.frames again.1 in (
+            let less = spend (3 * (63 - a)) (3 - asked) (silent_left (asked_after_silence asked)) (survey_frames gs) left v.frames again.1 in (
               less.0,
               less.1,
               counts_on a stage.Free (stage.HighAsked a None) k marks marks asked (asked_after_silence asked) from start gs _ left less.0 v same
@@ -185,19 +184,19 @@ second_asked a b u k marks asked from start gs numbers left h v one heard =
           let high : u ≡ high_of (gear_of gs g).random = v.stage_is.1.2 ∙ ap (λ i. high_of (gear_of gs i).random) (sym at) in
           let there : next_stage (stage.HighAsked b (Some u)) (RandomByte b Middle) h ≡ stage.MiddleAsked b (Some (u, middle_of (gear_of gs g).random)) =
           rw is (middle_next b (Some u) (Byte (middle_of (gear_of gs g).random))) in
-          let less = spend (3 * (63 - a)) 2 1 (survey_frames start gs) left v.frames (omega arith) in (
+          let less = spend (3 * (63 - a)) 2 1 (survey_frames gs) left v.frames (omega arith) in (
             less.0,
             less.1,
             rw there (counts_on a (stage.HighAsked b (Some u)) (stage.MiddleAsked b (Some (u, middle_of (gear_of gs g).random))) k marks (with_short marks b)
                 asked 0 from start gs _ left less.0 v same
                 (v.stage_is.0, tells_on gs _ a g (λ r. (u ≡ high_of r) × (middle_of (gear_of gs g).random ≡ middle_of r)) same holds (high, refl))
-                (λ e. clear_with k marks b a v.stage_is.0 v.small (v.clear e)) less.2),
+                (clear_with k marks b a v.stage_is.0 v.small v.clear) less.2),
           )
 
 -- a number was told: the mark goes, or it is FFFFFF, and the address is not reserved
-told_clear : (a b n : ℕ) (k : Kept) (marks : Shorts) (gs : List Gear) (g : ℕ) → b ≡ a → a < 64 → IsSettled k → IsTold k gs → OneShort gs → Holds gs g a
+pub told_clear : (a b n : ℕ) (k : Kept) (marks : Shorts) (gs : List Gear) (g : ℕ) → b ≡ a → a < 64 → IsTold k gs → Holds gs g a
     → n ≡ (gear_of gs g).random → IsClearBut k marks a → IsClear k (if n == MASK24 then with_short marks b else without_short marks b)
-told_clear a b n k marks gs g same small settled told one holds number clear c q has = go (n == MASK24) refl (c == a) refl where
+told_clear a b n k marks gs g same small told holds number clear c q has = go (n == MASK24) refl (c == a) refl where
   within : b < 64
   within = subst (λ m. m < 64) (sym same) small
 
@@ -215,10 +214,8 @@ told_clear a b n k marks gs g same small settled told one holds number clear c q
   go false drew false other = without_other marks b c within low (λ e. apart other (e ∙ same)) ∙ clear c q has (apart other)
   go true mask false other = with_other marks b c within (λ e. apart other (e ∙ same)) ∙ clear c q has (apart other)
   go true mask true at =
-      let entry = told.holds c q (settled (c, q) has) in
-      let is : entry.0 ≡ g = one entry.0 g a entry.1 holds.there (entry.2 ∙ ap (λ m. Some m) (same_number c a at)) holds.short in
-      let random : q ≡ n = sym entry.3 ∙ ap (λ i. (gear_of gs i).random) is ∙ sym number in
-      absurd (let top : n ≡ MASK24 = same_number n MASK24 mask in omega (arith, below, random, top))
+      let random : (gear_of gs g).random ≡ q = told.owned c q g has holds.there (holds.short ∙ ap (λ m. Some m) (sym (same_number c a at))) in
+      absurd (let top : n ≡ MASK24 = same_number n MASK24 mask in omega (arith, below, random, number, top))
 
 third_asked : (a b : ℕ) (x : ℕ × ℕ) (k : Kept) (marks : Shorts) (asked from : ℕ) (start : Begun) (gs : List Gear) (numbers : List ℕ) (left : ℕ) (h : Answer)
     → Counts a (stage.MiddleAsked b (Some x)) k marks asked from start gs left → OneShort gs → IsTold k gs
@@ -247,13 +244,13 @@ third_asked a b x k marks asked from start gs numbers left h v one told heard =
           sym (whole_number (gear_of gs g).random x.0 x.1 (low_of (gear_of gs g).random) (sym high) (sym middle) refl) in
           let there : next_stage (stage.MiddleAsked b (Some x)) (RandomByte b Low) h ≡ stage.Spelled b (Some (gear_of gs g).random) =
           rw is (low_next b (Some x) (Byte (low_of (gear_of gs g).random)) ∙ ap (λ n. stage.Spelled b (Some n)) number) in
-          let less = spend (3 * (63 - a)) 1 0 (survey_frames start gs) left v.frames (omega arith) in (
+          let less = spend (3 * (63 - a)) 1 0 (survey_frames gs) left v.frames (omega arith) in (
             less.0,
             less.1,
             rw there (counts_on a (stage.MiddleAsked b (Some x)) (stage.Spelled b (Some (gear_of gs g).random)) k marks
                 (if (gear_of gs g).random == MASK24 then with_short marks b else without_short marks b) asked 0 from start gs _ left less.0 v same
                 (v.stage_is.0, tells g holds, refl)
-                (λ e. told_clear a b (gear_of gs g).random k marks gs g v.stage_is.0 v.small (v.settled e) told one holds refl (v.clear e)) less.2),
+                (told_clear a b (gear_of gs g).random k marks gs g v.stage_is.0 v.small told holds refl v.clear) less.2),
           )
 
 counts_sent : (a : ℕ) (s : Stage) (k : Kept) (marks : Shorts) (asked from : ℕ) (n : SearchAddress) (start : Begun) (gs : List Gear) (numbers : List ℕ)
@@ -420,7 +417,7 @@ hunts_sent p s k heard c start gs numbers left d h hunt v is t seek = (
     first = λ some. v.first (subst (λ m. 0 < m) (lost_same d gs numbers (searching_of gs d by) (still_of gs d by)) some);
     called = hunt_called p s k c.ascent c.number gs numbers v.rest d hunt v.at is v.called;
     low = low_after d gs numbers (hunt_low p s k c.ascent c.number (those_drawn gs) v.rest d hunt v.at is) v.low;
-    own = v.own;
+    clear = v.clear;
     settled = v.settled;
     rest = sent.0;
     at = subst (λ hs. HuntAt true p (next_stage s d h) k c.ascent c.number hs sent.0) row sent.2;
@@ -430,7 +427,7 @@ hunts_sent p s k heard c start gs numbers left d h hunt v is t seek = (
     behind = v.behind;
     behind_is = subst (λ hs. IsBehind p (next_stage s d h) v.behind hs sent.0) row
         (behind_sent p s k c.ascent c.number (those_drawn gs) numbers v.rest sent.0 v.behind d h hunt sent.1 v.at is (seeks_drawn s gs seek) v.behind_is);
-    frames = subst (λ m. sent.0 + surplus p + (m + spare start.any c.tally.draws) ≤ one.0 + 5 * v.behind)
+    frames = subst (λ m. sent.0 + surplus p + m ≤ one.0 + 5 * v.behind)
         (sym (hunt_after p s k c.ascent c.number gs numbers v.rest d hunt v.at is by)) one.2;
   },
 ) where
@@ -444,9 +441,9 @@ hunts_sent p s k heard c start gs numbers left d h hunt v is t seek = (
   row : row_after Everyone d 0 (those_drawn gs) numbers ≡ those_drawn (row_after Everyone d 0 gs numbers)
   row = row_drawn d 0 gs numbers (searching_of gs d by) (still_of gs d by)
 
-  one : (m : ℕ) × (left ≡ suc m) × (sent.0 + surplus p + (frames_after p c.ascent gs + spare start.any c.tally.draws) ≤ m + 5 * v.behind)
+  one : (m : ℕ) × (left ≡ suc m) × (sent.0 + surplus p + frames_after p c.ascent gs ≤ m + 5 * v.behind)
   one =
-      spend_one v.rest (surplus p) (frames_after p c.ascent gs + spare start.any c.tally.draws) left v.behind sent.0 sent.1
+      spend_one v.rest (surplus p) (frames_after p c.ascent gs) left v.behind sent.0 sent.1
       (hunt_deep p s k c.ascent c.number (those_drawn gs) v.rest sent.0 v.behind hunt sent.1 v.at v.behind_is) v.frames
 
 -- ---------------------------------------------------------------- the close
@@ -457,16 +454,16 @@ SameName g h = (h.powered ≡ g.powered) × (h.short ≡ g.short) × (h.random �
 name_kept : (gs : List Gear) (numbers : List ℕ) (k : ℕ) → k < length gs → SameName (gear_of gs k) (gear_of (row_after Everyone Terminate 0 gs numbers) k)
 name_kept gs numbers = after_at Terminate SameName (λ g off. (refl, refl, refl)) (λ g x on. (refl, refl, refl)) gs numbers
 
-ends_still : (any : Bool) (e : End) (k : Kept) (heard : Shorts) (gs : List Gear) (numbers : List ℕ) → SurveyEnds any e k heard gs
-    → SurveyEnds any e k heard (row_after Everyone Terminate 0 gs numbers)
-ends_still any AllFound k heard gs numbers all = λ i in_row on.
+ends_still : (e : End) (k : Kept) (heard : Shorts) (gs : List Gear) (numbers : List ℕ) → SurveyEnds e k heard gs
+    → SurveyEnds e k heard (row_after Everyone Terminate 0 gs numbers)
+ends_still AllFound k heard gs numbers all = λ i in_row on.
     let there : i < length gs = subst (λ m. i < m) (row_length Everyone Terminate 0 gs numbers) in_row in
     let same = name_kept gs numbers i there in
     let short = all i there (sym same.0 ∙ on) in
     (short.0, same.1 ∙ short.1)
-ends_still any BlockFull k heard gs numbers well =
+ends_still BlockFull k heard gs numbers well =
     (subst (λ n. 0 < n) (sym (leaving.count_bare_after Terminate gs numbers tt)) well.0, well.1)
-ends_still any GaveUp k heard gs numbers well = well
+ends_still GaveUp k heard gs numbers well = well
 
 abbrev ClosedTo : End → Stage → Kept → Shorts → Begun → List Gear → List ℕ → ℕ → Command → Answer → Type 0
 ClosedTo e s k heard start gs numbers left c h =
@@ -484,7 +481,7 @@ closes_sent e stage.Free k heard n start gs numbers left c h v is =
             less.1,
             record {
               stage_is = tt;
-              well = ends_still start.any e k heard gs numbers v.well;
+              well = ends_still e k heard gs numbers v.well;
               settled = v.settled;
               tabled = tabled_left (unseen start.gear) k.enrolled gs numbers Terminate tt v.tabled;
               frames = less.2;
@@ -510,8 +507,7 @@ survey_sent Calling s k heard asked c start gs numbers left d h at is t told see
 survey_sent Hunting s k heard asked c start gs numbers left d h at is t told seek = hunts_sent Hunting s k heard c start gs numbers left d h tt at is t seek
 survey_sent Visiting s k heard asked c start gs numbers left d h at is t told seek = hunts_sent Visiting s k heard c start gs numbers left d h tt at is t seek
 survey_sent Drawing s k heard asked c start gs numbers left d h at is t told seek = draws_sent s k heard c start gs numbers left d h at is t
-survey_sent Opening s k heard asked c start gs numbers left d h at is t told seek =
-    let sent = opens_sent s k heard c start gs numbers left d h at.1 is t in (sent.0, sent.1, (at.0, sent.2))
+survey_sent Opening s k heard asked c start gs numbers left d h at is t told seek = absurd at
 survey_sent (Closing e) s k heard asked c start gs numbers left d h at is t told seek = closes_sent e s k heard c.number start gs numbers left d h at is
 survey_sent Probing s k heard asked c start gs numbers left d h at is t told seek = absurd at
 survey_sent PassingOver s k heard asked c start gs numbers left d h at is t told seek = absurd at

@@ -22,7 +22,7 @@ use Rattle.dali_controller.specs.declared.shorts.Shorts.{Shorts}
 use Rattle.dali_controller.specs.declared.tally.Tally.{Tally}
 use Rattle.dali_controller.specs.declared.way.Way.TheVariants.{Surveying}
 use Rattle.dali_controller.specs.Shorts.{has_short}
-use Rattle.dali_controller.specs.Course.{Course, is_anothers, is_yes, sought, bytes_to_send}
+use Rattle.dali_controller.specs.Course.{Course, is_yes, sought, bytes_to_send}
 use Rattle.dali_controller.specs.Machine.{Machine}
 use Rattle.dali_controller.specs.Tally.{none_passed}
 use Rattle.dali_events.specs.Searching.{HasShort}
@@ -38,23 +38,17 @@ use Rattle.dali_progress.proofs.Survey.Queried.{Holds, Nobody, TabledBelow, unse
 
 -- HOW FAR A SURVEY IS, where nothing is disturbed. `start` are the gear at its start.
 
--- how it began: with which gear, and whether with any records, or with such that each reservation has its enrolment
+-- how it began: with which gear and records
 pub record Begun : Type 0 where
   pub gear : List Gear
-  pub any : Bool
+  pub kept : Kept
 
 -- ---------------------------------------------------------------- the census
 
--- Of any records what is reserved may be another's: then a search may be left off in a visit, and gear draw new numbers, as
--- often as they still may.
-abbrev pub spare : Bool → ℕ → ℕ
-spare true draws = 86 * (3 - draws)
-spare false draws = 0
-
 -- so many frames take the roll call, the two hunts, the draw between them, the roll calls after them and the close, for so many
 -- gear without short address
-abbrev pub survey_frames : Begun → List Gear → ℕ
-survey_frames start gs = 106 * count_by is_bare gs + 66 + spare start.any 0
+abbrev pub survey_frames : List Gear → ℕ
+survey_frames gs = 106 * count_by is_bare gs + 66
 
 -- and so many the short address that is asked: three where it is silent, and three where it tells its random address
 abbrev pub silent_left : ℕ → ℕ
@@ -101,12 +95,12 @@ pub record IsUncalled (c : Course) : Type 0 where
 pub record Counts (a : ℕ) (s : Stage) (k : Kept) (heard : Shorts) (asked from : ℕ) (start : Begun) (gs : List Gear) (left : ℕ) : Type 0 where
   pub small : a < 64
   pub from_is : from ≡ a + 1
-  pub settled : start.any ≡ false → IsSettled k
-  pub clear : start.any ≡ false → IsClearAt s a k heard
+  pub settled : IsSettled start.kept → IsSettled k
+  pub clear : IsClearAt s a k heard
   pub same : SameCore start.gear gs
   pub stage_is : AskStage s a asked gs
   pub tabled : TabledBelow a start.gear k.enrolled gs
-  pub frames : 3 * (63 - a) + asked_left s asked + survey_frames start gs ≤ left
+  pub frames : 3 * (63 - a) + asked_left s asked + survey_frames gs ≤ left
 
 -- ---------------------------------------------------------------- the frames of the roll call, and of what follows it
 
@@ -125,10 +119,6 @@ hunted_after (suc found) lost = called_after lost
 abbrev pub roll_frames : Bool → ℕ → ℕ → ℕ
 roll_frames silent drawn lost =
     if drawn + lost == 0 then (if silent then 9 else 17) else 106 * drawn + 17 + hunted_after drawn lost
-
--- what is reserved is nobody else's
-abbrev pub IsOwn : Kept → Shorts → Type 0
-IsOwn k heard = (a r : ℕ) → Has k.reserved (a, r) → is_anothers k heard a r ≡ false
 
 -- once gear have drawn a number, each has one
 abbrev pub IsFirstDraw : Tally → List Gear → Type 0
@@ -183,12 +173,12 @@ pub record Calls (s : Stage) (k : Kept) (heard : Shorts) (c : Course) (start : B
   pub stage_is : CallStage s c.number gs
   pub quiet : c.tally.is_silent ≡ true → count_by is_bare gs ≡ 0
   pub first : IsFirstDraw c.tally gs
-  pub own : start.any ≡ false → IsOwn k heard
-  pub settled : start.any ≡ false → IsSettled k
+  pub clear : IsClear k heard
+  pub settled : IsSettled start.kept → IsSettled k
   pub gear : AreOpening (woken_at s) gs
   pub low : IsLowAt s gs
   pub tabled : AreTabled (unseen start.gear) k.enrolled gs
-  pub frames : roll_frames c.tally.is_silent (count_by is_bare (those_drawn gs)) (count_by is_lost gs) + spare start.any c.tally.draws
+  pub frames : roll_frames c.tally.is_silent (count_by is_bare (those_drawn gs)) (count_by is_lost gs)
       ≤ left + call_sent s
 
 -- ---------------------------------------------------------------- gear draw
@@ -207,20 +197,16 @@ DrawStage p stage.Opened n gs = Unit {0}
 DrawStage p _ n gs = ⊥
 
 -- so many frames of it are still to be sent
-abbrev pub draw_left : Purpose → Stage → ℕ
-draw_left Drawing stage.Free = 8
-draw_left Drawing stage.Terminated = 7
-draw_left Drawing stage.InitialisedOnce = 6
-draw_left Drawing stage.Initialised = 5
-draw_left Drawing (stage.WokenHigh high) = 4
-draw_left Drawing (stage.WokenMiddle high middle) = 3
-draw_left Drawing stage.DrawFree = 2
-draw_left p stage.Free = 5
-draw_left p stage.Terminated = 4
-draw_left p stage.InitialisedOnce = 3
-draw_left p stage.Initialised = 2
-draw_left p stage.RandomisedOnce = 1
-draw_left p _ = 0
+abbrev pub draw_left : Stage → ℕ
+draw_left stage.Free = 8
+draw_left stage.Terminated = 7
+draw_left stage.InitialisedOnce = 6
+draw_left stage.Initialised = 5
+draw_left (stage.WokenHigh high) = 4
+draw_left (stage.WokenMiddle high middle) = 3
+draw_left stage.DrawFree = 2
+draw_left stage.RandomisedOnce = 1
+draw_left _ = 0
 
 -- gear with power and without short address have no number yet
 abbrev pub NoneDrawn : List Gear → Type 0
@@ -233,24 +219,19 @@ IsDrawnBy Drawing stage.Opened n gs = Unit {0}
 IsDrawnBy Drawing s n gs = NoneDrawn gs × (n ≡ sought 0xFFFEFE)
 IsDrawnBy p s n gs = Unit {0}
 
--- how often they draw, at the most
-abbrev pub most_drawn : Bool → ℕ
-most_drawn true = 3
-most_drawn false = 1
-
-pub record Draws (p : Purpose) (s : Stage) (k : Kept) (heard : Shorts) (c : Course) (start : Begun) (gs : List Gear) (left : ℕ) : Type 0 where
+pub record Draws (s : Stage) (k : Kept) (heard : Shorts) (c : Course) (start : Begun) (gs : List Gear) (left : ℕ) : Type 0 where
   pub opened_is : c.opened ≡ true
-  pub stage_is : DrawStage p s c.number gs
+  pub stage_is : DrawStage Drawing s c.number gs
   pub loud : c.tally.is_silent ≡ false
-  pub few : c.tally.draws ≤ most_drawn start.any
+  pub few : c.tally.draws ≤ 1
   pub somebody : 0 < count_by is_bare gs
-  pub drawn : IsDrawnBy p s c.number gs
-  pub own : start.any ≡ false → IsOwn k heard
-  pub settled : start.any ≡ false → IsSettled k
+  pub drawn : IsDrawnBy Drawing s c.number gs
+  pub clear : IsClear k heard
+  pub settled : IsSettled start.kept → IsSettled k
   pub gear : AreOpening (woken_at s) gs
   pub low : AreLow gs
   pub tabled : AreTabled (unseen start.gear) k.enrolled gs
-  pub frames : draw_left p s + 106 * count_by is_bare gs + 26 + spare start.any c.tally.draws ≤ left
+  pub frames : draw_left s + 106 * count_by is_bare gs + 26 ≤ left
 
 -- ---------------------------------------------------------------- the hunts
 
@@ -350,14 +331,14 @@ pub record Hunts (told : Bool) (p : Purpose) (s : Stage) (k : Kept) (heard : Sho
   pub first : IsFirstDraw c.tally gs
   pub called : IsCalledFor p c.ascent gs
   pub low : AreLow gs
-  pub own : start.any ≡ false → IsOwn k heard
-  pub settled : start.any ≡ false → IsSettledBut p c.number k
+  pub clear : IsClear k heard
+  pub settled : IsSettled start.kept → IsSettledBut p c.number k
   pub rest : ℕ
   pub at : HuntAt told p s k c.ascent c.number (those_drawn gs) rest
   pub tabled : AreTabled (unseen start.gear) (to_come s c.number k.enrolled) (those_drawn gs)
   pub behind : ℕ
   pub behind_is : IsBehind p s behind (those_drawn gs) rest
-  pub frames : rest + surplus p + (frames_after p c.ascent gs + spare start.any c.tally.draws) ≤ left + 5 * behind
+  pub frames : rest + surplus p + frames_after p c.ascent gs ≤ left + 5 * behind
 
 -- ---------------------------------------------------------------- the close
 
@@ -366,18 +347,15 @@ abbrev pub AreTaken : Kept → Shorts → Type 0
 AreTaken k heard =
     (a : ℕ) → InBlock k.block a → HasAddress k.reserved a ⊎ (HasAddress k.enrolled a ⊎ (has_short heard a ≡ true))
 
-abbrev pub HasAnothers : Kept → Shorts → Type 0
-HasAnothers k heard = (a : ℕ) × (r : ℕ) × Has k.reserved (a, r) × (is_anothers k heard a r ≡ true)
-
-abbrev pub SurveyEnds : Bool → End → Kept → Shorts → List Gear → Type 0
-SurveyEnds any AllFound k heard gs = OfPowered gs HasShort
-SurveyEnds any BlockFull k heard gs = (0 < count_by is_bare gs) × (AreTaken k heard ⊎ ((any ≡ true) × HasAnothers k heard))
-SurveyEnds any GaveUp k heard gs = ⊥
+abbrev pub SurveyEnds : End → Kept → Shorts → List Gear → Type 0
+SurveyEnds AllFound k heard gs = OfPowered gs HasShort
+SurveyEnds BlockFull k heard gs = (0 < count_by is_bare gs) × AreTaken k heard
+SurveyEnds GaveUp k heard gs = ⊥
 
 pub record SurveyCloses (e : End) (s : Stage) (k : Kept) (heard : Shorts) (start : Begun) (gs : List Gear) (left : ℕ) : Type 0 where
   pub stage_is : CloseStage s
-  pub well : SurveyEnds start.any e k heard gs
-  pub settled : start.any ≡ false → IsSettled k
+  pub well : SurveyEnds e k heard gs
+  pub settled : IsSettled start.kept → IsSettled k
   pub tabled : AreTabled (unseen start.gear) k.enrolled gs
   pub frames : 1 ≤ left + sent_at s
 
@@ -388,9 +366,9 @@ SurveyAt told (Counting a) s k heard asked c start gs left = IsUncalled c × Cou
 SurveyAt told Calling s k heard asked c start gs left = Calls s k heard c start gs left
 SurveyAt told Hunting s k heard asked c start gs left = Hunts told Hunting s k heard c start gs left
 SurveyAt told Visiting s k heard asked c start gs left = Hunts told Visiting s k heard c start gs left
-SurveyAt told Drawing s k heard asked c start gs left = Draws Drawing s k heard c start gs left
-SurveyAt told Opening s k heard asked c start gs left = (start.any ≡ true) × Draws Opening s k heard c start gs left
+SurveyAt told Drawing s k heard asked c start gs left = Draws s k heard c start gs left
 SurveyAt told (Closing e) s k heard asked c start gs left = SurveyCloses e s k heard start gs left
+SurveyAt told Opening s k heard asked c start gs left = ⊥
 SurveyAt told Probing s k heard asked c start gs left = ⊥
 SurveyAt told PassingOver s k heard asked c start gs left = ⊥
 SurveyAt told (Resolving a) s k heard asked c start gs left = ⊥

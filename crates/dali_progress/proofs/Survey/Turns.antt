@@ -17,7 +17,7 @@ use Rattle.dali_gear.specs.Gear.{Gear}
 use Rattle.dali_script.specs.declared.records.Record.TheVariants.{Enrol}
 use Rattle.dali_script.specs.declared.finding.Finding.{Finding}
 use Rattle.dali_script.specs.declared.finding.Finding.TheVariants.{Resolved}
-use Rattle.dali_script.specs.Records.{Has, HasRandom, IsKept, IsFresh, MayAdd}
+use Rattle.dali_script.specs.Records.{Has}
 use Rattle.dali_script.specs.declared.stage.Stage.{Stage}
 use Rattle.dali_script.specs.declared.stage.Stage.TheVariants as stage
 use Rattle.dali_script.specs.Findings.{assigned, finding_of}
@@ -38,15 +38,16 @@ use Rattle.dali_controller.proofs.Given as given
 use Rattle.dali_controller.proofs.Given.{IsGivenBy, IsNoEnrolment}
 use Rattle.dali_events.specs.Wanted.{gear_of, is_wanted, is_bare, IsOpened, NoneNamed}
 use Rattle.dali_events.proofs.Search.Wanted as wanted
-use Rattle.dali_progress.proofs.Both.{never_eight, has_random}
+use Rattle.dali_progress.proofs.Both.{never_eight}
 use Rattle.dali_progress.proofs.Later.{course_stays}
 use Rattle.dali_progress.proofs.Census.Asked.{sending_of}
 use Rattle.dali_progress.proofs.Survey.Drawn.{those_drawn, is_lost, AreNumbered, bare_split, woken_opened, woken_none_named, tabled_drawn}
 use Rattle.dali_progress.proofs.Survey.Queried.{Holds, OneShort, IsTrue, unseen, below_next}
-use Rattle.dali_progress.proofs.Survey.Stands.{Begun, spare, survey_frames, silent_left, Counts, IsUncalled, IsCalledBy, Calls, hunted_after, SurveyAt}
+use Rattle.dali_progress.proofs.Survey.Stands.{Begun, survey_frames, silent_left, Counts, IsUncalled, IsCalledBy, Calls, hunted_after, SurveyAt}
 use Rattle.dali_progress.proofs.Survey.Stands.{SurveyStands}
 use Rattle.dali_progress.proofs.Survey.Woken.{all_short}
-use Rattle.dali_progress.proofs.Survey.Begins.{IsNext, calm_of, calm_ordered, smooth_as, turns_by, first_by, begins_whole, asked_none, asks_on, hunts_first}
+use Rattle.dali_progress.proofs.Survey.Begins.{IsAtHand, IsNext, calm_of, calm_ordered, smooth_as, turns_by, first_by, begins_whole, asked_none, asks_on}
+use Rattle.dali_progress.proofs.Survey.Begins.{hunts_first}
 use Rattle.dali_progress.proofs.Survey.Begins.{roll_some, roll_none}
 
 -- A CONTROLLER THAT SURVEYS ACTS on what it was told, and what it orders goes on with the survey.
@@ -96,7 +97,7 @@ silent_turns start t o a b gs left g st last purpose is uncalled v whole one hol
       (let zero_is : t.asked ≡ 0 = grind (arith, nat_tests, none) in zero_is) v.from_is
       (let small : a < 64 = v.small in omega (arith, small)) v.settled v.clear one holds v.same
       (below_next a start.gear t.kept.enrolled t.kept.enrolled gs v.same v.tabled (λ x h. h) (λ i holds. absurd (v.stage_is.1 i holds)))
-      (count (silent_left t.asked) (survey_frames start gs) v.small v.frames) where
+      (count (silent_left t.asked) (survey_frames gs) v.small v.frames) where
         count : (some wake : ℕ) → a < 64 → 3 * (63 - a) + some + wake ≤ left → 3 * (64 - (a + 1)) + wake ≤ left
         count some wake small enough = omega (arith, small, enough)
   go false again =
@@ -113,7 +114,7 @@ silent_turns start t o a b gs left g st last purpose is uncalled v whole one hol
           same = v.same;
           stage_is = inr (v.stage_is.1, v.stage_is.2);
           tabled = v.tabled;
-          frames = count (3 - t.asked) (silent_left t.asked) (survey_frames start gs) (again_left t.asked again) v.frames;
+          frames = count (3 - t.asked) (silent_left t.asked) (survey_frames gs) (again_left t.asked again) v.frames;
         },
       ))) where
         count : (now some wake : ℕ) → now ≤ some → 3 * (63 - a) + some + wake ≤ left → 3 * (63 - a) + now + wake ≤ left
@@ -122,9 +123,9 @@ silent_turns start t o a b gs left g st last purpose is uncalled v whole one hol
 -- three bytes told a number
 told_turns : (start : Begun) (t : Machine) (o : Order) (a b n : ℕ) (gs : List Gear) (left : ℕ) → IsGivenBy t o → SurveyStands true start t gs left
     → t.course.purpose ≡ Asking a → stage_of t.trace ≡ stage.Spelled b (Some n) → IsUncalled t.course
-    → Counts a (stage.Spelled b (Some n)) t.kept t.heard t.asked t.course.from start gs left → IsKept t.kept → AreNumbered gs → OneShort gs
-    → IsTrue t.kept.enrolled gs → IsUncontradicted t → IsNext start (machine_ordered t o) o gs left
-told_turns start t o a b n gs left g st purpose is uncalled v kept numbered one holds agrees = go (nat_lt n MASK24) refl where
+    → Counts a (stage.Spelled b (Some n)) t.kept t.heard t.asked t.course.from start gs left → IsAtHand t.kept gs
+    → IsUncontradicted t → IsNext start (machine_ordered t o) o gs left
+told_turns start t o a b n gs left g st purpose is uncalled v hand agrees = go (nat_lt n MASK24) refl where
   count : (wake : ℕ) → a < 64 → 3 * (63 - a) + 0 + wake ≤ left → 3 * (64 - (a + 1)) + wake ≤ left
   count wake small enough = omega (arith, small, enough)
 
@@ -140,19 +141,19 @@ told_turns start t o a b n gs left g st purpose is uncalled v kept numbered one 
       → IsNext start (machine_ordered t q) q gs left
   goes q begins here =
       asks_on start t q (a + 1) gs left (calm_of start t gs left st) begins (ap (begins_at t) is) uncalled v.stage_is.2 v.from_is
-      (let small : a < 64 = v.small in omega (arith, small)) v.settled v.clear one holds v.same
+      (let small : a < 64 = v.small in omega (arith, small)) v.settled v.clear hand.one hand.holds v.same
       (below_next a start.gear t.kept.enrolled t.kept.enrolled gs v.same v.tabled (λ x h. h) here)
-      (count (survey_frames start gs) v.small v.frames)
+      (count (survey_frames gs) v.small v.frames)
 
   none_drawn : (n < MASK24 → ⊥) → (i : ℕ) → Holds gs i a → ((gear_of gs i).random ≡ MASK24) ⊎ Has t.kept.enrolled (a, (gear_of gs i).random)
-  none_drawn large i has = by (numbered i has.there) where
+  none_drawn large i has = by (hand.numbered i has.there) where
     by : ((gear_of gs i).random ≡ MASK24) ⊎ ((gear_of gs i).random < MASK24)
         → ((gear_of gs i).random ≡ MASK24) ⊎ Has t.kept.enrolled (a, (gear_of gs i).random)
     by (inl mask) = inl mask
     by (inr small) = absurd (large (subst (λ m. m < MASK24) (sym (v.stage_is.1 i has)) small))
 
-  enrols : (HasRandom t.kept.enrolled n → ⊥) → IsNext start (machine_ordered t (Commit (Enrol a n))) (Commit (Enrol a n)) gs left
-  enrols unknown = (
+  enrols : IsNext start (machine_ordered t (Commit (Enrol a n))) (Commit (Enrol a n)) gs left
+  enrols = (
     calm_ordered start t (Enrol a n) gs left st,
     inl (record {
       uncalled = uncalled;
@@ -161,23 +162,21 @@ told_turns start t o a b n gs left g st purpose is uncalled v kept numbered one 
       from_is = v.from_is;
       settled = v.settled;
       clear = v.clear;
-      unreserved = λ e c has. unknown (has_random t.kept.enrolled c n (v.settled e (c, n) has));
       same = v.same;
       tabled = below_next a start.gear t.kept.enrolled (t.kept.enrolled ++ (a, n) ∷ []) gs v.same v.tabled (λ x h. has_before t.kept.enrolled (a, n) x h)
           (λ i has. inr (subst (λ r. Has (t.kept.enrolled ++ (a, n) ∷ []) (a, r)) (v.stage_is.1 i has) (has_last t.kept.enrolled (a, n))));
-      frames = same_count (survey_frames start gs) v.frames;
+      frames = same_count (survey_frames gs) v.frames;
     }),
   )
 
   follows : (q : Order) → IsGivenBy t q → n < MASK24 → AfterFinding t b n q → IsNext start (machine_ordered t q) q gs left
   follows (Put p f) g small has =
-      goes (Put p f) (given.spelled_known t (Put p f) b n g is (sought small) kept.enrolled has)
+      goes (Put p f) (given.spelled_known t (Put p f) b n g is (sought small) hand.kept.enrolled has)
       (λ i told. inr (subst (λ c. Has t.kept.enrolled (c, (gear_of gs i).random)) v.stage_is.0
       (subst (λ r. Has t.kept.enrolled (b, r)) (v.stage_is.1 i told) has)))
   follows (Commit x) g small same =
-      let may : IsFresh t.kept.enrolled (b, n) = subst (λ y. MayAdd t.kept y) same g.ordered.allowed.may in
       subst (λ y. IsNext start (machine_ordered t (Commit y)) (Commit y) gs left) (sym same)
-      (subst (λ c. IsNext start (machine_ordered t (Commit (Enrol c n))) (Commit (Enrol c n)) gs left) (sym v.stage_is.0) (enrols may.1))
+      (subst (λ c. IsNext start (machine_ordered t (Commit (Enrol c n))) (Commit (Enrol c n)) gs left) (sym v.stage_is.0) enrols)
   follows (Done e) g small never = absurd never
   follows (Halt why) g small contradicts = absurd (agrees (Resolved b n) (found_at start t gs left (stage.Spelled b (Some n)) st is) contradicts)
 
@@ -191,21 +190,20 @@ told_turns start t o a b n gs left g st purpose is uncalled v kept numbered one 
 
 pub census_turns : (start : Begun) (t : Machine) (o : Order) (a : ℕ) (s : Stage) (gs : List Gear) (left : ℕ) → IsGivenBy t o → SurveyStands true start t gs left
     → IsNoEnrolment t.last → t.course.purpose ≡ Asking a → stage_of t.trace ≡ s → (s ≡ stage.Free → ⊥) → IsUncalled t.course
-    → Counts a s t.kept t.heard t.asked t.course.from start gs left → IsKept t.kept → AreNumbered gs → OneShort gs → IsTrue t.kept.enrolled gs
-    → IsUncontradicted t → IsWhole (machine_ordered t o)
+    → Counts a s t.kept t.heard t.asked t.course.from start gs left → IsAtHand t.kept gs → IsUncontradicted t → IsWhole (machine_ordered t o)
     → IsNext start (machine_ordered t o) o gs left
-census_turns start t o a stage.Free gs left g st last purpose is running uncalled v kept numbered one holds agrees whole = absurd (running refl)
-census_turns start t o a (stage.HighAsked b None) gs left g st last purpose is running uncalled v kept numbered one holds agrees whole =
-    silent_turns start t o a b gs left g st last purpose is uncalled v whole one holds
-census_turns start t o a (stage.HighAsked b (Some u)) gs left g st last purpose is running uncalled v kept numbered one holds agrees whole =
+census_turns start t o a stage.Free gs left g st last purpose is running uncalled v hand agrees whole = absurd (running refl)
+census_turns start t o a (stage.HighAsked b None) gs left g st last purpose is running uncalled v hand agrees whole =
+    silent_turns start t o a b gs left g st last purpose is uncalled v whole hand.one hand.holds
+census_turns start t o a (stage.HighAsked b (Some u)) gs left g st last purpose is running uncalled v hand agrees whole =
     turns_by start t o (Asking a) (stage.HighAsked b (Some u)) (RandomByte b Middle) gs left g st purpose is refl
     (subst (λ c. c < 64) (sym v.stage_is.0) v.small) refl
-census_turns start t o a (stage.MiddleAsked b (Some x)) gs left g st last purpose is running uncalled v kept numbered one holds agrees whole =
+census_turns start t o a (stage.MiddleAsked b (Some x)) gs left g st last purpose is running uncalled v hand agrees whole =
     turns_by start t o (Asking a) (stage.MiddleAsked b (Some x)) (RandomByte b Low) gs left g st purpose is refl
     (subst (λ c. c < 64) (sym v.stage_is.0) v.small) refl
-census_turns start t o a (stage.Spelled b (Some n)) gs left g st last purpose is running uncalled v kept numbered one holds agrees whole =
-    told_turns start t o a b n gs left g st purpose is uncalled v kept numbered one holds agrees
-census_turns start t o a _ gs left g st last purpose is running uncalled v kept numbered one holds agrees whole = absurd v.stage_is
+census_turns start t o a (stage.Spelled b (Some n)) gs left g st last purpose is running uncalled v hand agrees whole =
+    told_turns start t o a b n gs left g st purpose is uncalled v hand agrees
+census_turns start t o a _ gs left g st last purpose is running uncalled v hand agrees whole = absurd v.stage_is
 
 -- ---------------------------------------------------------------- the roll call
 
@@ -250,9 +248,9 @@ silent_call_turns start t o r h zero gs left g st purpose is v said nobody few =
   none : count_by is_bare (those_drawn gs) + count_by is_lost gs ≡ 0
   none = sym (bare_split gs) ∙ nobody
 
-  frames : (b : Bool) → t.course.tally.is_silent ≡ b → (if b then 9 else 17) + spare start.any t.course.tally.draws ≤ left + 8
+  frames : (b : Bool) → t.course.tally.is_silent ≡ b → (if b then 9 else 17) ≤ left + 8
   frames b e =
-      subst (λ n. n + spare start.any t.course.tally.draws ≤ left + 8)
+      subst (λ n. n ≤ left + 8)
       (roll_none t.course.tally.is_silent (count_by is_bare (those_drawn gs)) (count_by is_lost gs) none ∙ ap (λ y. if y then 9 else 17) e) v.frames
 
   next : (b : Bool) → t.course.tally.is_silent ≡ b
@@ -270,10 +268,10 @@ silent_call_turns start t o r h zero gs left g st purpose is v said nobody few =
         well = all_short gs nobody;
         settled = v.settled;
         tabled = v.tabled;
-        frames = count (spare start.any t.course.tally.draws) (frames true e);
+        frames = count (frames true e);
       }) where
-        count : (some : ℕ) → 9 + some ≤ left + 8 → 1 ≤ left + 0
-        count some enough = omega (arith, enough)
+        count : 9 ≤ left + 8 → 1 ≤ left + 0
+        count enough = omega (arith, enough)
   go false e =
       first_by start t o (calling (record t.course { tally = silent_call t.course.tally })) gs left (calm_of start t gs left st) begins (next false e)
       (record { way = st.smooth.way; passed = st.smooth.passed; unmissed = st.smooth.unmissed }) tt
@@ -283,17 +281,17 @@ silent_call_turns start t o r h zero gs left g st purpose is v said nobody few =
         stage_is = tt;
         quiet = λ silent. nobody;
         first = v.first;
-        own = v.own;
+        clear = v.clear;
         settled = v.settled;
         gear = λ k in_row on. tt;
         low = tt;
         tabled = v.tabled;
-        frames = subst (λ n. n + spare start.any t.course.tally.draws ≤ left + 0)
+        frames = subst (λ n. n ≤ left + 0)
             (sym (roll_none true (count_by is_bare (those_drawn gs)) (count_by is_lost gs) none))
-            (count (spare start.any t.course.tally.draws) (frames false e));
+            (count (frames false e));
       }) where
-        count : (some : ℕ) → 17 + some ≤ left + 8 → 9 + some ≤ left + 0
-        count some enough = omega (arith, enough)
+        count : 17 ≤ left + 8 → 9 ≤ left + 0
+        count enough = omega (arith, enough)
 silent_call_turns start t o r h (suc (suc room)) gs left g st purpose is v said nobody few = absurd (omega (arith, few))
 
 -- somebody is: who drew a number is searched
@@ -305,11 +303,11 @@ heard_call_turns start t o r h room gs left g st purpose is v numbered said some
     hunts_first start t o heard gs left (calm_of start t gs left st) (g.followed.called r h room is purpose (loud_over h room said))
     (called_next t r h room true is purpose said ∙ ap (λ b. if b then blocked t else hunting_first heard) (unblocked t.course.tally st.smooth.passed))
     (record { way = st.smooth.way; passed = st.smooth.passed; unmissed = st.smooth.unmissed })
-    (record { opened = v.opened_is; loud = refl; first = v.first; low = v.low }) some v.own v.settled opened unnamed
+    (record { opened = v.opened_is; loud = refl; first = v.first; low = v.low }) some v.clear v.settled opened unnamed
     (tabled_drawn (unseen start.gear) t.kept.enrolled gs v.tabled)
-    (subst (λ n. 106 * n + 10 + (hunted_after n (count_by is_lost gs) + spare start.any t.course.tally.draws) ≤ left) (sym count)
-    (enough (count_by is_bare (those_drawn gs)) (hunted_after (count_by is_bare (those_drawn gs)) (count_by is_lost gs)) (spare start.any t.course.tally.draws)
-    room one (subst (λ n. n + spare start.any t.course.tally.draws ≤ left + (8 - room))
+    (subst (λ n. 106 * n + 10 + hunted_after n (count_by is_lost gs) ≤ left) (sym count)
+    (enough (count_by is_bare (those_drawn gs)) (hunted_after (count_by is_bare (those_drawn gs)) (count_by is_lost gs))
+    room one (subst (λ n. n ≤ left + (8 - room))
     (roll_some t.course.tally.is_silent (count_by is_bare (those_drawn gs)) (count_by is_lost gs) (subst (λ n. 0 < n) (bare_split gs) some)) v.frames)))
   where
     heard : Course
@@ -324,8 +322,8 @@ heard_call_turns start t o r h room gs left g st purpose is v numbered said some
     count : count_by is_wanted (those_drawn gs) ≡ count_by is_bare (those_drawn gs)
     count = wanted.wanted_count (those_drawn gs) opened unnamed
 
-    enough : (drew after some room : ℕ) → room ≡ 1 → 106 * drew + 17 + after + some ≤ left + (8 - room) → 106 * drew + 10 + (after + some) ≤ left
-    enough drew after some room one frames = omega (arith, one, frames)
+    enough : (drew after room : ℕ) → room ≡ 1 → 106 * drew + 17 + after ≤ left + (8 - room) → 106 * drew + 10 + after ≤ left
+    enough drew after room one frames = omega (arith, one, frames)
 
 pub calling_turns : (start : Begun) (t : Machine) (o : Order) (s : Stage) (gs : List Gear) (left : ℕ) → IsGivenBy t o → SurveyStands true start t gs left
     → t.course.purpose ≡ Calling → stage_of t.trace ≡ s → (s ≡ stage.Free → ⊥)

@@ -19,7 +19,7 @@ use Rattle.dali_events.specs.World.{controller_at}
 use Rattle.dali_events.proofs.Search.Wanted.{is_bare_by, bare_is, count_less, same_number, number_same}
 use Rattle.dali_world.specs.Site.{SiteState, world, site_logged}
 use Rattle.dali_world.proofs.Logs.{records_now}
-use Rattle.dali_progress.specs.Rounds.{Rounds, BeginsAlone, Settled, HasEnded, IsSettled, site_after, most_frames, bare}
+use Rattle.dali_progress.specs.Rounds.{Rounds, BySurvey, IsAlone, HasEnded, IsSettled, IsSettledAt, site_after, most_frames, bare}
 use Rattle.dali_progress.specs.Replaced.{HasVacant}
 use Rattle.dali_progress.proofs.Logged.{block_now}
 use Rattle.dali_progress.proofs.Along.{Runs}
@@ -153,32 +153,30 @@ taken_held m gs a small settled entries marks (inr (inl enrolled)) =
     subst (IsHeld gs) x.2 (entries x.0.0 x.0.1 x.1)
 taken_held m gs a small settled entries marks (inr (inr mark)) = marks a small mark
 
-ended_so : (e : End) (k : Kept) (heard : Shorts) (gs : List Gear) → SurveyEnds false e k heard gs → (0 < count_by is_bare gs → AreTaken k heard → ⊥)
+ended_so : (e : End) (k : Kept) (heard : Shorts) (gs : List Gear) → SurveyEnds e k heard gs → (0 < count_by is_bare gs → AreTaken k heard → ⊥)
     → (e ≡ AllFound) × OfPowered gs HasShort
 ended_so AllFound k heard gs well never = (refl, well)
 ended_so GaveUp k heard gs well never = absurd well
-ended_so BlockFull k heard gs (some, inl taken) never = absurd (never some taken)
-ended_so BlockFull k heard gs (some, inr other) never = absurd (let both : false ≡ true = other.0 in cc)
+ended_so BlockFull k heard gs (some, taken) never = absurd (never some taken)
 
 -- ---------------------------------------------------------------- its end
 
--- what is known of a survey with settled records that has ended
+-- what is known of a survey that has ended
 pub record IsOver (s : SiteState) (c : ℕ) (es : List Event) (e : End) : Type 0 where
-  pub by : EndsBy false s (site_after s es) c e
+  pub by : EndsBy s (site_after s es) c e
   pub gives : Gives (block_at s.plan c) (world s).gear (world (site_after s es)).gear
   pub marks : AreHeld by.machine.heard (world (site_after s es)).gear
 
-pub over : (s : SiteState) (c : ℕ) (es : List Event) (e : End) → BeginsAlone Settled s c → Rounds true s c es → HasEnded (site_after s es) c e
-    → IsOver s c es e
-over s c es e begins rounds ended =
-    let all = runs_after Settled s c es begins rounds in
-    let by : EndsBy false s (site_after s es) c e = ended_by false s (site_after s es) c all.rest e all.runs ended in
-    let left : ℕ = most_frames Settled (bare s) in
-    let u : Runs (of_survey (began_at false s)) s c left = starts false s c left (omega arith) begins.0 (λ f. begins.1) in
+pub over : (s : SiteState) (c : ℕ) (es : List Event) (e : End) → IsAlone s c → Rounds true s c es → HasEnded (site_after s es) c e → IsOver s c es e
+over s c es e alone rounds ended =
+    let all = runs_after BySurvey s c es alone rounds in
+    let by : EndsBy s (site_after s es) c e = ended_by s (site_after s es) c all.rest e all.runs ended in
+    let left : ℕ = most_frames BySurvey (bare s) in
+    let u : Runs (of_survey (began_at s c)) s c left = starts s c alone in
     record {
       by = by;
-      gives = all_give (began_at false s) s c left es u rounds;
-      marks = end_held (began_at false s) s c left es e begins.0 u rounds ended by.machine by.there;
+      gives = all_give (began_at s c) s c left es u rounds;
+      marks = end_held (began_at s c) s c left es e alone u rounds ended by.machine by.there;
     }
 
 -- the plan stays
@@ -187,9 +185,9 @@ planned P [] s has = has
 planned P (e ∷ es) s has = planned P es (site_logged s e) has
 
 -- WITH ADDRESSES ENOUGH all gear get one
-pub enough_found : (s : SiteState) (c : ℕ) (es : List Event) (e : End) → BeginsAlone Settled s c → HasVacant s c → Rounds true s c es
+pub enough_found : (s : SiteState) (c : ℕ) (es : List Event) (e : End) → IsAlone s c → IsSettledAt s c → HasVacant s c → Rounds true s c es
     → HasEnded (site_after s es) c e → (e ≡ AllFound) × OfPowered (world (site_after s es)).gear HasShort
-enough_found s c es e begins vacant rounds ended = ended_so e now.by.machine.kept now.by.machine.heard hs now.by.well never where
+enough_found s c es e alone settled vacant rounds ended = ended_so e now.by.machine.kept now.by.machine.heard hs now.by.well never where
   t : SiteState
   t = site_after s es
 
@@ -197,7 +195,7 @@ enough_found s c es e begins vacant rounds ended = ended_so e now.by.machine.kep
   hs = (world t).gear
 
   now : IsOver s c es e
-  now = over s c es e begins rounds ended
+  now = over s c es e alone rounds ended
 
   within : (a : ℕ) → Has vacant.addresses a → InBlock (controller_at (world t) c).records.block a
   within a has =
@@ -212,7 +210,7 @@ enough_found s c es e begins vacant rounds ended = ended_so e now.by.machine.kep
   never some taken =
       let fewer =
       fewer_left (block_at s.plan c) (world s).gear hs vacant.addresses now.gives vacant.once (λ a has k there short. vacant.vacant a has k (there, short))
-      (λ a has. taken_held now.by.machine hs a (block_now t c now.by.run now.by.up a (within a has)) (now.by.settled refl) entries now.marks
+      (λ a has. taken_held now.by.machine hs a (block_now t c now.by.run now.by.up a (within a has)) (now.by.settled settled) entries now.marks
       (taken a (subst (λ (k : Kept). InBlock k.block a) (sym now.by.kept) (within a has)))) in
       none (count_by is_bare hs) (length vacant.addresses) (bare s) some fewer vacant.enough
     where

@@ -1,9 +1,8 @@
-use Rattle.std.proofs.Common.{◌≡◌, ℕ, ◌+◌, ◌-◌, ◌*◌, ◌<◌, ◌≤◌, ◌⊎◌, inl, inr, Bool, true, false, zero, suc, List, [], ◌∷◌, refl, sym, ap, subst, ◌∙◌, arith}
+use Rattle.std.proofs.Common.{◌≡◌, ℕ, ◌+◌, ◌-◌, ◌*◌, ◌<◌, ◌≤◌, ◌⊎◌, inl, inr, Bool, true, false, suc, List, [], ◌∷◌, refl, sym, ap, subst, ◌∙◌, arith}
 use Rattle.std.proofs.Common.{Option}
 use Rattle.std.proofs.Common.{Some, None}
 use Rattle.std.specs.Prelude.{◌==◌, ◌&&◌, nat_lt, if◌then◌else◌, is_some, MatchOption}
 use Rattle.std.specs.List.{count_by}
-use Rattle.std.proofs.lemmas.Bool.Decides.{nat_tests}
 use Rattle.dali_frame.specs.declared.numbers.SearchAddress.{SearchAddress}
 use Rattle.dali_frame.specs.Random.{value_of, MASK24}
 use Rattle.dali_special.specs.declared.command.Command.TheVariants.{Program}
@@ -28,7 +27,7 @@ use Rattle.dali_controller.specs.declared.way.Way.{Way}
 use Rattle.dali_controller.specs.declared.way.Way.TheVariants.{Fresh, Surveying}
 use Rattle.dali_controller.specs.Course.{closing_of, address_for, least_open, is_open, is_anothers, opening_anew, closing as closing_by}
 use Rattle.dali_controller.specs.Machine.{Machine, is_withheld, is_withheld_by}
-use Rattle.dali_controller.specs.Next.{next_course, begins_at, beginning, course_by, has_open, may_draw, full, ungiven}
+use Rattle.dali_controller.specs.Next.{next_course, begins_at, course_by, may_draw, full, ungiven}
 use Rattle.dali_controller.specs.Orders.{machine_ordered, AfterFinding, AfterMaskOn, AfterMaskBy, AfterReserved}
 use Rattle.dali_controller.specs.Whole.{IsWhole}
 use Rattle.dali_controller.proofs.Given as given
@@ -41,12 +40,14 @@ use Rattle.dali_progress.proofs.Stands.{search_frames, VisitFrames, Visits, Leav
 use Rattle.dali_progress.proofs.Tables.{tabled_over}
 use Rattle.dali_progress.proofs.Both.{never_eight, has_address, drawn_number}
 use Rattle.dali_progress.proofs.Accounted.{open_is}
-use Rattle.dali_progress.proofs.Survey.Drawn.{those_drawn, is_lost, AreNumbered, bare_split, drawn_tabled}
-use Rattle.dali_progress.proofs.Survey.Queried.{OneShort, IsTrue, unseen}
-use Rattle.dali_progress.proofs.Survey.Stands.{Begun, spare, most_drawn, called_after, Hunts, SurveyCloses, SurveyAt, SurveyStands}
-use Rattle.dali_progress.proofs.Survey.Begins.{IsNext, IsHunted, Above, calm_of, calm_ordered, smooth_as, later_by, turns_by, first_by, hunts_on, all_taken}
+use Rattle.dali_progress.proofs.Survey.Drawn.{those_drawn, is_lost, bare_split, drawn_tabled}
+use Rattle.dali_progress.proofs.Survey.Queried.{unseen}
+use Rattle.dali_progress.proofs.Survey.Stands.{Begun, called_after, Hunts, SurveyCloses, SurveyAt, SurveyStands}
+use Rattle.dali_progress.proofs.Survey.Begins.{IsAtHand, IsNext, IsHunted, Above, calm_of, calm_ordered, smooth_as, later_by, turns_by, first_by, hunts_on}
+use Rattle.dali_progress.proofs.Survey.Begins.{all_taken}
+use Rattle.dali_progress.proofs.Survey.Begins.{nobody_elses}
 use Rattle.dali_progress.proofs.Survey.Turns.{IsUncontradicted, found_at, census_turns, calling_turns}
-use Rattle.dali_progress.proofs.Survey.Hunting.{opening_turns, drawing_turns, never_full, hunting_turns}
+use Rattle.dali_progress.proofs.Survey.Hunting.{drawing_turns, never_full, hunting_turns}
 
 -- A CONTROLLER THAT SURVEYS ACTS, in a visit and at its close; and in whatever transaction.
 
@@ -73,11 +74,6 @@ pub ungiven_next : (t : Machine) (r : SearchAddress) (b : Bool) → stage_of t.t
 ungiven_next t r b is way may =
     ap (begins_at t) is ∙ ap (ungiven t) way ∙ ap (λ y. if y then opening_anew t.course else full t t.course) may
 
-opens_frames : (lost more bare drew sought draws left : ℕ) → bare ≡ drew + lost → sought ≡ drew → sought ≡ suc more → draws < 3
-    → 35 + 106 * more + (called_after lost + 86 * (3 - draws)) ≤ left → 5 + 106 * bare + 26 + 86 * (3 - (draws + 1)) ≤ left
-opens_frames zero more bare drew sought draws left split same count less enough = omega (arith, split, same, count, less, enough)
-opens_frames (suc lost) more bare drew sought draws left split same count less enough = omega (arith, split, same, count, less, enough)
-
 -- a gear that is visited has no address yet
 visited_bare : (r : SearchAddress) (k : Kept) (n : SearchAddress) (gs : List Gear) (rest : ℕ) → Visits (stage.Unnamed r) k n (those_drawn gs) rest
     → 0 < count_by is_bare gs
@@ -88,95 +84,11 @@ visited_bare r k n gs rest w =
     some : (bare drew lost sought more : ℕ) → bare ≡ drew + lost → sought ≡ drew → sought ≡ suc more → 0 < bare
     some bare drew lost sought more split same count = omega (arith, split, same, count)
 
--- what is reserved for its number is another's: gear draw new numbers, or the close comes
-withheld_turns : (start : Begun) (t : Machine) (o : Order) (r : SearchAddress) (a : ℕ) (gs : List Gear) (left : ℕ)
-    → SurveyStands true start t gs left
-    → stage_of t.trace ≡ stage.Unnamed r
-    → Hunts true Visiting (stage.Unnamed r) t.kept t.heard t.course start gs left
-    → Has t.kept.reserved (a, value_of r) → is_anothers t.kept t.heard a (value_of r) ≡ true → o ≡ beginning (next_course t)
-    → IsNext start (machine_ordered t o) o gs left
-withheld_turns start t o r a gs left st is v has other begins = go (may_draw t) refl where
-  w : Visits (stage.Unnamed r) t.kept t.course.number (those_drawn gs) v.rest
-  w = v.at.0
-
-  any : start.any ≡ true
-  any = by start.any refl where
-    by : (b : Bool) → start.any ≡ b → start.any ≡ true
-    by true e = e
-    by false e = absurd (let never : true ≡ false = sym other ∙ v.own e a (value_of r) has in cc)
-
-  never : start.any ≡ false → ⊥
-  never e = let both : true ≡ false = sym any ∙ e in cc
-
-  same_behind : suc w.more ≡ suc v.behind
-  same_behind = sym w.visited.count ∙ v.behind_is
-
-  -- without what it is behind
-  near : (behind after : ℕ) → suc w.more ≡ suc behind → 3 + search_frames w.more ≤ v.rest → v.rest + 27 + after ≤ left + 5 * behind
-      → 35 + 106 * w.more + after ≤ left
-  near behind after same need enough = omega (arith, same, need, enough)
-
-  enough : VisitFrames t.kept t.course.number w.more (v.rest + 4) → 3 + search_frames w.more ≤ v.rest
-  enough (inl e) = let some : 7 + search_frames w.more ≤ v.rest + 4 = e.1 in omega (arith, some)
-  enough (inr e) = omega (arith, e)
-
-  frames : 35 + 106 * w.more + (called_after (count_by is_lost gs) + spare start.any t.course.tally.draws) ≤ left
-  frames = near v.behind (called_after (count_by is_lost gs) + spare start.any t.course.tally.draws) same_behind (enough w.frames) v.frames
-
-  whole_table : AreTabled (unseen start.gear) t.kept.enrolled gs
-  whole_table = drawn_tabled (unseen start.gear) t.kept.enrolled gs v.tabled
-
-  drew : count_by is_wanted (those_drawn gs) ≡ count_by is_bare (those_drawn gs)
-  drew = wanted.wanted_count (those_drawn gs) w.ready w.unnamed
-
-  go : (b : Bool) → may_draw t ≡ b → IsNext start (machine_ordered t o) o gs left
-  go true may =
-      first_by start t o (opening_anew t.course) gs left (calm_of start t gs left st) begins (ungiven_next t r true is st.smooth.way may)
-      (record { way = st.smooth.way; passed = st.smooth.passed; unmissed = st.smooth.unmissed }) tt (
-        any,
-        record {
-          opened_is = v.opened_is;
-          stage_is = tt;
-          loud = v.loud;
-          few = subst (λ b. t.course.tally.draws + 1 ≤ most_drawn b) (sym any) (omega (arith, few));
-          somebody = visited_bare r t.kept t.course.number gs v.rest w;
-          drawn = tt;
-          own = λ e. absurd (never e);
-          settled = λ e. absurd (never e);
-          gear = λ k in_row on. tt;
-          low = v.low;
-          tabled = whole_table;
-          frames = subst (λ b. 5 + 106 * count_by is_bare gs + 26 + spare b (t.course.tally.draws + 1) ≤ left) (sym any)
-              (opens_frames (count_by is_lost gs) w.more (count_by is_bare gs) (count_by is_bare (those_drawn gs)) (count_by is_wanted (those_drawn gs))
-              t.course.tally.draws left (bare_split gs) drew w.visited.count few
-              (subst (λ b. 35 + 106 * w.more + (called_after (count_by is_lost gs) + spare b t.course.tally.draws) ≤ left) any frames));
-        },
-      )
-    where
-      few : t.course.tally.draws < 3
-      few = less t.course.tally.draws (wanted.both_pass (nat_lt t.course.tally.draws 3) (has_open t) may).0 where
-        less : (n : ℕ) → nat_lt n 3 ≡ true → n < 3
-        less n e = grind (arith, nat_tests, e)
-  go false may =
-      first_by start t o (closing_by t.course BlockFull) gs left (calm_of start t gs left st) begins
-      (ungiven_next t r false is st.smooth.way may ∙ never_full t t.course st.smooth.unmissed)
-      (smooth_as t.course (closing_by t.course BlockFull) refl refl st.smooth) tt
-      (record {
-        stage_is = tt;
-        well = (visited_bare r t.kept t.course.number gs v.rest w, inr (any, (a, value_of r, has, other)));
-        settled = λ e. absurd (never e);
-        tabled = whole_table;
-        frames = some w.more (called_after (count_by is_lost gs) + spare start.any t.course.tally.draws) frames;
-      })
-    where
-      some : (more after : ℕ) → 35 + 106 * more + after ≤ left → 1 ≤ left + 0
-      some more after enough = omega (arith, enough)
-
 unnamed_turns : (start : Begun) (t : Machine) (o : Order) (r : SearchAddress) (gs : List Gear) (left : ℕ) → IsGivenBy t o → SurveyStands true start t gs left
-    → IsKept t.kept → t.course.purpose ≡ Visiting → stage_of t.trace ≡ stage.Unnamed r
+    → IsAtHand t.kept gs → t.course.purpose ≡ Visiting → stage_of t.trace ≡ stage.Unnamed r
     → Hunts true Visiting (stage.Unnamed r) t.kept t.heard t.course start gs left
     → IsNext start (machine_ordered t o) o gs left
-unnamed_turns start t o r gs left g st kept purpose is v =
+unnamed_turns start t o r gs left g st hand purpose is v =
     go (address_for t.kept.reserved (value_of r)) (found_address t.kept.reserved (value_of r)) (least_open t.kept t.heard) refl
     (subst (λ y. AfterMaskOn y t (course_by t o) r o) st.smooth.way (g.ordered.unnamed r is)) where
       w : Visits (stage.Unnamed r) t.kept t.course.number (those_drawn gs) v.rest
@@ -197,7 +109,7 @@ unnamed_turns start t o r gs left g st kept purpose is v =
       some (inr e) = omega (arith, e)
 
       -- nothing is reserved for the number, so all that is reserved is enrolled
-      settled : (HasRandom t.kept.reserved (value_of r) → ⊥) → start.any ≡ false → IsSettled t.kept
+      settled : (HasRandom t.kept.reserved (value_of r) → ⊥) → IsSettled start.kept → IsSettled t.kept
       settled none e x has = by (v.settled e x has) where
         by : Has t.kept.enrolled x ⊎ (x.1 ≡ value_of t.course.number) → Has t.kept.enrolled x
         by (inl enrolled) = enrolled
@@ -210,7 +122,7 @@ unnamed_turns start t o r gs left g st kept purpose is v =
         calm_ordered start t (Reserve a (value_of r)) gs left st,
         record {
           hunted = record { opened = v.opened_is; loud = v.loud; first = v.first; low = v.low };
-          own = v.own;
+          clear = v.clear;
           settled = settled none;
           open_is = free;
           ready = w.ready;
@@ -223,8 +135,7 @@ unnamed_turns start t o r gs left g st kept purpose is v =
           more = w.more;
           count = w.visited.count;
           tabled = v.tabled;
-          frames = count w.more v.behind v.rest (called_after (count_by is_lost gs) + spare start.any t.course.tally.draws) same_behind (frames none w.frames)
-              v.frames;
+          frames = count w.more v.behind v.rest (called_after (count_by is_lost gs)) same_behind (frames none w.frames) v.frames;
         },
       ) where
         count : (more behind rest after : ℕ) → suc more ≡ suc behind → 7 + search_frames more ≤ rest → rest + 27 + after ≤ left + 5 * behind
@@ -235,15 +146,15 @@ unnamed_turns start t o r gs left g st kept purpose is v =
           → (free : Option ℕ) → least_open t.kept t.heard ≡ free → AfterMaskBy t r given_to free o → IsNext start (machine_ordered t o) o gs left
       go (Some a) has free least mask = by (is_withheld t a (value_of r)) refl where
         small : a < 64
-        small = kept.reserved.short a (has_address t.kept.reserved a (value_of r) has)
+        small = hand.kept.reserved.short a (has_address t.kept.reserved a (value_of r) has)
 
         by : (b : Bool) → is_withheld t a (value_of r) ≡ b → IsNext start (machine_ordered t o) o gs left
         by false free =
             later_by start t o Visiting (stage.Unnamed r) (Program (Some a)) gs left st (subst (λ b. AfterReserved t a b o) free mask) small purpose is tt
             (a, small, has, refl)
         by true withheld =
-            withheld_turns start t o r a gs left st is v has (withheld_anothers t t.course.way a (value_of r) withheld)
-            (subst (λ b. AfterReserved t a b o) withheld mask)
+            absurd (let never : true ≡ false = sym (withheld_anothers t t.course.way a (value_of r) withheld)
+            ∙ nobody_elses t.kept t.heard gs hand.holds hand.owned v.clear a (value_of r) has in cc)
       go None none (Some a) least mask =
           subst (λ q. IsNext start (machine_ordered t q) q gs left) (sym mask)
           (reserves a (open_is t.kept t.heard (t.kept.block.last + 1 - t.kept.block.first) t.kept.block.first a least) none)
@@ -253,11 +164,10 @@ unnamed_turns start t o r gs left g st kept purpose is v =
           ∙ never_full t t.course st.smooth.unmissed) (smooth_as t.course (closing_by t.course BlockFull) refl refl st.smooth) tt
           (record {
             stage_is = tt;
-            well = (visited_bare r t.kept t.course.number gs v.rest w, inl (all_taken t.kept t.heard least));
+            well = (visited_bare r t.kept t.course.number gs v.rest w, all_taken t.kept t.heard least);
             settled = settled none;
             tabled = drawn_tabled (unseen start.gear) t.kept.enrolled gs v.tabled;
-            frames = count w.more v.behind v.rest (called_after (count_by is_lost gs) + spare start.any t.course.tally.draws) same_behind (some w.frames)
-                v.frames;
+            frames = count w.more v.behind v.rest (called_after (count_by is_lost gs)) same_behind (some w.frames) v.frames;
           })
         where
           never : (b : Bool) → (b && false) ≡ false
@@ -289,8 +199,8 @@ withdrawn_turns start t o r a gs left g st kept purpose is v agreed = go o g (g.
   hunted_so = record { opened = v.opened_is; loud = v.loud; first = v.first; low = v.low }
 
   -- the frames that are left for the search that goes on
-  ends : 106 * count_by is_wanted (those_drawn gs) + 32 + (called_after (count_by is_lost gs) + spare start.any t.course.tally.draws) ≤ left
-  ends = go (count_by is_wanted (those_drawn gs)) ((called_after (count_by is_lost gs) + spare start.any t.course.tally.draws))
+  ends : 106 * count_by is_wanted (those_drawn gs) + 32 + called_after (count_by is_lost gs) ≤ left
+  ends = go (count_by is_wanted (those_drawn gs)) ((called_after (count_by is_lost gs)))
       v.behind v.behind_is.0 v.behind_is.1 v.frames where
         go : (count after behind : ℕ) → count ≤ behind → search_frames behind ≤ v.rest → v.rest + 27 + after ≤ left + 5 * behind
             → 106 * count + 32 + after ≤ left
@@ -306,7 +216,7 @@ withdrawn_turns start t o r a gs left g st kept purpose is v agreed = go o g (g.
   }
 
   -- the one that is reserved for the number is that entry
-  settled : Has t.kept.enrolled (a, value_of r) → start.any ≡ false → IsSettled t.kept
+  settled : Has t.kept.enrolled (a, value_of r) → IsSettled start.kept → IsSettled t.kept
   settled entry e x has = by (v.settled e x has) where
     by : Has t.kept.enrolled x ⊎ (x.1 ≡ value_of t.course.number) → Has t.kept.enrolled x
     by (inl enrolled) = enrolled
@@ -321,14 +231,14 @@ withdrawn_turns start t o r a gs left g st kept purpose is v agreed = go o g (g.
   go : (q : Order) → IsGivenBy t q → AfterFinding t a (value_of r) q → IsNext start (machine_ordered t q) q gs left
   go (Put p f) g has =
       hunts_on start t (Put p f) (value_of r) gs left (calm_of start t gs left st)
-      (given.withdrawn_known t (Put p f) r a g is kept.enrolled has) (ap (begins_at t) is) hunted_so v.own (settled has) up w.ready w.unnamed
+      (given.withdrawn_known t (Put p f) r a g is kept.enrolled has) (ap (begins_at t) is) hunted_so v.clear (settled has) up w.ready w.unnamed
       (tabled_over (unseen start.gear) ((a, value_of r) ∷ t.kept.enrolled) t.kept.enrolled (those_drawn gs) (λ x h. twice x h has) tabled)
       ends
   go (Commit x) g has = subst (λ y. IsNext start (machine_ordered t (Commit y)) (Commit y) gs left) (sym has) (
     calm_ordered start t (Enrol a (value_of r)) gs left st,
     inr (record {
       hunted = hunted_so;
-      own = v.own;
+      clear = v.clear;
       ready = w.ready;
       unnamed = w.unnamed;
       above = up;
@@ -345,24 +255,24 @@ withdrawn_turns start t o r a gs left g st kept purpose is v agreed = go o g (g.
   go (Halt why) g has = absurd (agreed (Queried a (value_of r)) (found_at start t gs left (stage.Withdrawn r a) st is) has)
 
 visiting_turns : (start : Begun) (t : Machine) (o : Order) (s : Stage) (gs : List Gear) (left : ℕ) → IsGivenBy t o → SurveyStands true start t gs left
-    → IsKept t.kept → t.course.purpose ≡ Visiting → stage_of t.trace ≡ s → (s ≡ stage.Free → ⊥)
+    → IsAtHand t.kept gs → t.course.purpose ≡ Visiting → stage_of t.trace ≡ s → (s ≡ stage.Free → ⊥)
     → Hunts true Visiting s t.kept t.heard t.course start gs left → IsUncontradicted t
     → IsNext start (machine_ordered t o) o gs left
-visiting_turns start t o stage.Free gs left g st kept purpose is running v agreed = absurd (running refl)
-visiting_turns start t o (stage.HighSent high) gs left g st kept purpose is running v agreed =
+visiting_turns start t o stage.Free gs left g st hand purpose is running v agreed = absurd (running refl)
+visiting_turns start t o (stage.HighSent high) gs left g st hand purpose is running v agreed =
     turns_by start t o Visiting (stage.HighSent high) _ gs left g st purpose is refl tt refl
-visiting_turns start t o (stage.MiddleSent high middle) gs left g st kept purpose is running v agreed =
+visiting_turns start t o (stage.MiddleSent high middle) gs left g st hand purpose is running v agreed =
     turns_by start t o Visiting (stage.MiddleSent high middle) _ gs left g st purpose is refl tt refl
-visiting_turns start t o (stage.NumberSent r) gs left g st kept purpose is running v agreed =
+visiting_turns start t o (stage.NumberSent r) gs left g st hand purpose is running v agreed =
     turns_by start t o Visiting (stage.NumberSent r) _ gs left g st purpose is refl tt refl
-visiting_turns start t o (stage.Unnamed r) gs left g st kept purpose is running v agreed = unnamed_turns start t o r gs left g st kept purpose is v
-visiting_turns start t o (stage.Programmed r a) gs left g st kept purpose is running v agreed =
+visiting_turns start t o (stage.Unnamed r) gs left g st hand purpose is running v agreed = unnamed_turns start t o r gs left g st hand purpose is v
+visiting_turns start t o (stage.Programmed r a) gs left g st hand purpose is running v agreed =
     turns_by start t o Visiting (stage.Programmed r a) _ gs left g st purpose is refl tt refl
-visiting_turns start t o (stage.Confirmed r a) gs left g st kept purpose is running v agreed =
+visiting_turns start t o (stage.Confirmed r a) gs left g st hand purpose is running v agreed =
     turns_by start t o Visiting (stage.Confirmed r a) _ gs left g st purpose is refl tt refl
-visiting_turns start t o (stage.Withdrawn r a) gs left g st kept purpose is running v agreed =
-    withdrawn_turns start t o r a gs left g st kept purpose is v agreed
-visiting_turns start t o _ gs left g st kept purpose is running v agreed = absurd v.at.0.stage_is
+visiting_turns start t o (stage.Withdrawn r a) gs left g st hand purpose is running v agreed =
+    withdrawn_turns start t o r a gs left g st hand.kept purpose is v agreed
+visiting_turns start t o _ gs left g st hand purpose is running v agreed = absurd v.at.0.stage_is
 
 -- ---------------------------------------------------------------- the close
 
@@ -379,21 +289,21 @@ closing_turns start t o e _ gs left g st purpose is running v = absurd v.stage_i
 -- ---------------------------------------------------------------- of whatever transaction
 
 -- after a frame that was heard
-pub turned : (start : Begun) (t : Machine) (o : Order) (gs : List Gear) (left : ℕ) → IsGivenBy t o → SurveyStands true start t gs left → IsKept t.kept
-    → AreNumbered gs → OneShort gs → IsTrue t.kept.enrolled gs → IsUncontradicted t → IsWhole (machine_ordered t o) → IsNoEnrolment t.last
+pub turned : (start : Begun) (t : Machine) (o : Order) (gs : List Gear) (left : ℕ) → IsGivenBy t o → SurveyStands true start t gs left
+    → IsAtHand t.kept gs → IsUncontradicted t → IsWhole (machine_ordered t o) → IsNoEnrolment t.last
     → (stage_of t.trace ≡ stage.Free → ⊥)
     → IsNext start (machine_ordered t o) o gs left
-turned start t o gs left g st kept numbered one holds agreed whole last running = go t.course.purpose refl st.at where
+turned start t o gs left g st hand agreed whole last running = go t.course.purpose refl st.at where
   go : (p : Purpose) → t.course.purpose ≡ p → SurveyAt true p (stage_of t.trace) t.kept t.heard t.asked t.course start gs left
       → IsNext start (machine_ordered t o) o gs left
   go (Counting a) purpose at =
-      census_turns start t o a (stage_of t.trace) gs left g st last purpose refl running at.0 at.1 kept numbered one holds agreed whole
-  go Calling purpose at = calling_turns start t o (stage_of t.trace) gs left g st purpose refl running at numbered
-  go Opening purpose at = opening_turns start t o (stage_of t.trace) gs left g st last purpose refl running at.1
+      census_turns start t o a (stage_of t.trace) gs left g st last purpose refl running at.0 at.1 hand agreed whole
+  go Calling purpose at = calling_turns start t o (stage_of t.trace) gs left g st purpose refl running at hand.numbered
   go Drawing purpose at = drawing_turns start t o (stage_of t.trace) gs left g st last purpose refl running at
   go Hunting purpose at = hunting_turns start t o (stage_of t.trace) gs left g st purpose refl running at
-  go Visiting purpose at = visiting_turns start t o (stage_of t.trace) gs left g st kept purpose refl running at agreed
+  go Visiting purpose at = visiting_turns start t o (stage_of t.trace) gs left g st hand purpose refl running at agreed
   go (Closing e) purpose at = closing_turns start t o e (stage_of t.trace) gs left g st purpose refl running at
+  go Opening purpose at = absurd at
   go Probing purpose at = absurd at
   go PassingOver purpose at = absurd at
   go (Resolving a) purpose at = absurd at
