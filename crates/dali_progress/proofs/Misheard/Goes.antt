@@ -42,7 +42,7 @@ use Rattle.dali_events.specs.declared.event.Event.TheVariants as event
 use Rattle.dali_events.specs.World.{World, Controller, controller_at}
 use Rattle.dali_events.specs.Happens.{happens, entry, trace_running}
 use Rattle.dali_events.specs.Promise.{KeepsPromiseNow}
-use Rattle.dali_events.specs.Allowed.{Allowed, IsUp}
+use Rattle.dali_events.specs.Allowed.{Allowed}
 use Rattle.dali_events.specs.Runs.{IsRun, LeavesUsed}
 use Rattle.dali_events.proofs.Invariant.Sending.{lawful_of}
 use Rattle.dali_events.proofs.Invariant.Takes.{row_length}
