@@ -280,7 +280,7 @@ start_draws before = record {
       (controller_at (world s) c).told i o
       (world s).gear (world s).left left u.goes.lone.moment u.goes.lone.last (due_of (controller_at (world s) c) i here.due) good
       (given_by u.machine i o (not_failed false i good) given).ordered.allowed u.goes.holds has;
-  sends = λ m p f h gs numbers left last holds has. has_heard m p f h before gs numbers left last (next_holds before m (Put p f) gs left holds) has;
+  sends = λ m p f h gs numbers left rest last holds now has. has_heard m p f h before gs numbers left last (next_holds before m (Put p f) gs left holds) has;
   enough = λ m p f gs numbers left last holds has.
       let next = next_holds before m (Put p f) gs left holds in
       draws_enough m.course.purpose (stage_of m.trace) m.kept m.course.opened m.course.search m.course.number gs numbers left (command_of f) next.0.at next.1

@@ -198,7 +198,7 @@ first_acts start m o gs left told last g one holds v =
           (ap (begins_at (machine_surveying m)) at ∙ ap (at_rest (machine_surveying m)) last)
           (record { unopened = v.unopened; undrawn = refl; loud = refl }) v.unasked v.first (omega arith)
           (λ e. subst IsSettled (sym v.kept) e) (λ c q has. v.unmarked c) one holds v.same (below_none start.gear m.kept.enrolled gs)
-              (count (survey_frames gs) v.frames),
+          (count (survey_frames gs) v.frames),
       begins_less o (machine_surveying m) 1 begins (omega arith),
     )
   where
