@@ -123,7 +123,7 @@ new_served limit g a p between sent text m plan few one is draws enough begins r
     let done =
     run_served limit g a (installation_of p) between sent text m (ran_new BySurvey limit p (only a) between sent text m plan one begins ran)
     (begins_settled (installation_of p).site 0 (begins_new p 64 65536 (only a) plan one)) (new_site p 64 65536 g a plan one is)
-        (room_new BySurvey p plan (inr refl) few) draws enough in
+    (room_new BySurvey p plan (inr refl) few) draws enough in
     let within : InBlock (only a) done.2.address =
     subst (λ (bs : List Block). InBlock (slice_index_or bs 0 no_block) done.2.address) one done.2.within in
     let same : done.2.address ≡ a = let low = within.0 in let high = within.1 in omega (arith, low, high) in
