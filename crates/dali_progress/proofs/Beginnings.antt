@@ -6,16 +6,14 @@ use Rattle.std.proofs.Common.{◌≡◌, ℕ, ◌+◌, ◌≤◌, ◌⊎◌, Non
 use Rattle.dali_arbiter.specs.Arbiter.{next}
 use Rattle.dali_script.specs.declared.orders.Order.TheVariants.{Halt}
 use Rattle.dali_script.specs.declared.orders.End.{End}
-use Rattle.dali_controller.specs.Machine.{Machine, at_first}
+use Rattle.dali_controller.specs.Machine.{Machine}
 use Rattle.dali_events.specs.declared.event.Event.{Event}
 use Rattle.dali_events.specs.World.{controller_at}
 use Rattle.dali_events.specs.Runs.{IsRun}
 use Rattle.dali_world.specs.Site.{SiteState, world, machine_at, IsPumpRefused}
-use Rattle.dali_standing.specs.Seats.{informed_by}
 use Rattle.dali_standing.specs.declared.refusal.Refusal.TheVariants as refusal
 use Rattle.dali_events.specs.declared.trouble.Trouble.TheVariants as trouble
 use Rattle.dali_script.specs.declared.orders.Fault.{Fault}
-use Rattle.dali_progress.proofs.Logged.{same_some}
 use Rattle.dali_progress.proofs.Along.{Measure, Argument, RunsAll, runs_all, few_all, never_halts}
 use Rattle.dali_progress.proofs.Start.Goes.{of_start}
 use Rattle.dali_progress.proofs.Survey.Goes.{of_survey}
@@ -134,7 +132,4 @@ never_spent ByStart s c es a enough rounds =
     (start.starts s c a) rounds (λ m there closed. enough)
 never_spent BySurvey s c es a enough rounds =
     drawing.never_spent (measure BySurvey s c) (argues BySurvey s c) HasNumbers (survey_draws (survey.began_at s c)) s c (most_frames BySurvey (bare s)) es
-    (survey.starts s c a) rounds
-    (λ m there. subst (λ t. HasNumbers (informed_by m t) (world s).gear (world s).left) (sym a.told)
-    (subst (λ n. HasNumbers n (world s).gear (world s).left)
-    (same_some (machine_at s c) (at_first c (controller_at (world s) c).records) m a.machine there) (omega (arith, enough))))
+    (survey.starts s c a) rounds (λ m there k h lost. enough)

@@ -299,7 +299,7 @@ few_in_room ByStart g few = omega (arith, few)
 few_in_room BySurvey g few = omega (arith, few)
 
 -- it begins alone, and has room
-ran_new : (b : Beginning) (limit : ℕ) (p : Plan) (k : Block) (between : Installation) (sent : ℕ) (text : List ℕ) (m : Installation) → IsPlan p
+pub ran_new : (b : Beginning) (limit : ℕ) (p : Plan) (k : Block) (between : Installation) (sent : ℕ) (text : List ℕ) (m : Installation) → IsPlan p
     → p.blocks ≡ k ∷ [] → HasBegun (by_survey b) (installation_of p) between → Ran limit between sent text m
     → RanAlone b limit (installation_of p) between sent text m
 ran_new b limit p k between sent text m plan blocks begins ran = record {
@@ -313,7 +313,7 @@ ran_new b limit p k between sent text m plan blocks begins ran = record {
 used_power : (p : Plan) (queue room : ℕ) → IsPlan p → HavePower (opened_site p queue room)
 used_power p queue room plan u has = ap (λ (g : Gear). g.powered) (stands p plan.used u has)
 
-room_new : (b : Beginning) (p : Plan) → IsPlan p → SparesUsedOf b p → p.gear ≤ 128 → HasRoom b (installation_of p).site
+pub room_new : (b : Beginning) (p : Plan) → IsPlan p → SparesUsedOf b p → p.gear ≤ 128 → HasRoom b (installation_of p).site
 room_new b p plan spares few = record {
   spares = go spares;
   waits = omega arith;

@@ -1,12 +1,33 @@
-use Rattle.std.proofs.Common.{ℕ, ◌+◌, ◌<◌, ◌≤◌, List, sym, subst, arith, length}
+use Rattle.std.proofs.Common.{◌≡◌, ℕ, ◌+◌, ◌<◌, ◌≤◌, ◌⊎◌, inl, inr, Bool, true, false, zero, suc, List, [], ◌∷◌, refl, sym, ap, subst, ◌∙◌, arith}
+use Rattle.std.proofs.Common.{length}
+use Rattle.std.specs.Prelude.{◌==◌, slice_index_or}
+use Rattle.dali_script.specs.declared.block.Block.{Block}
+use Rattle.dali_script.specs.Records.{Assignment, Kept, Has, InBlock}
+use Rattle.dali_script.proofs.Lists.{has_map}
+use Rattle.dali_script.proofs.Members.{mapped_from}
 use Rattle.dali_script.specs.declared.orders.End.{End}
-use Rattle.dali_world.specs.Site.{SiteState, world}
-use Rattle.dali_replay.specs.Installation.{Installation}
-use Rattle.dali_progress.specs.Rounds.{BySurvey, HasEnded, IsSettledAt, most_events, bare}
-use Rattle.dali_progress.specs.Running.{RanAlone, HasRoom, HasEndedBy}
-use Rattle.dali_progress.specs.Replaced.{HasNew, IsServed}
+use Rattle.dali_events.specs.declared.used.Used.{Used}
+use Rattle.dali_events.specs.Used.{used_gear, used_shorts}
+use Rattle.dali_events.specs.Plan.{Plan, IsPlan, block_at, no_block}
+use Rattle.dali_events.specs.World.{gear_at, controller_at}
+use Rattle.dali_events.specs.Promise.{HoldsShort}
+use Rattle.dali_events.specs.Laws.{IsReservedFor, IsOfUsed}
+use Rattle.dali_events.specs.Wanted.{gear_of, is_bare}
+use Rattle.dali_events.proofs.Invariant.Safe.{Holds, holds_after}
+use Rattle.dali_events.proofs.Invariant.Starting.{IsUsedOrFresh, row_at, start_count, stands}
+use Rattle.dali_events.proofs.Search.Wanted.{same_number, number_same}
+use Rattle.dali_world.specs.Site.{SiteState, world, opened_site}
+use Rattle.dali_world.proofs.Logs.{records_now}
+use Rattle.dali_replay.specs.Installation.{Installation, installation_of}
+use Rattle.dali_replay.specs.Rounds.{Ran}
+use Rattle.dali_progress.specs.Rounds.{BeginsAlone, ByStart, BySurvey, HasEnded, IsSettledAt, most_events, bare}
+use Rattle.dali_progress.specs.Running.{RanAlone, HasBegun, HasRoom, HasEndedBy}
+use Rattle.dali_progress.specs.Replaced.{IsVacant, HasNew, IsReplacing, only, IsServed}
+use Rattle.dali_progress.proofs.Logged.{begins_new}
+use Rattle.dali_progress.proofs.Beginnings.{begins_settled}
+use Rattle.dali_progress.proofs.Both.{has_address}
 use Rattle.dali_progress.proofs.Survey.Replaced.{served, one_new}
-use Rattle.dali_progress.proofs.Refused.{run_commissions}
+use Rattle.dali_progress.proofs.Refused.{run_commissions, ran_new, room_new}
 
 -- A RUN OF REPLAY in which a new gear is served.
 
@@ -32,3 +53,78 @@ run_served limit g a n between sent text m ran settled new room numbers enough =
         run_commissions BySurvey limit n between sent text m ran
         (few_events (bare n.site) (one_new n.site 0 g a new) limit enough) room
         (once (bare n.site) (length (world n.site).left) (one_new n.site 0 g a new) numbers)
+
+-- ---------------------------------------------------------------- what is vacant
+
+-- a controller that has a block is there
+block_known : (bs : List Block) (c a : ℕ) → InBlock (slice_index_or bs c no_block) a → c < length bs
+block_known [] c a within = absurd (omega (arith, within.0, within.1))
+block_known (b ∷ bs) zero a within = omega arith
+block_known (b ∷ bs) (suc c) a within = let there : c < length bs = block_known bs c a within in omega (arith, there)
+
+-- with nothing kept, each address of the block that no used gear have
+pub vacant_now : (s : SiteState) (c a : ℕ) → BeginsAlone ByStart s c → InBlock (block_at s.plan c) a → (Has (used_shorts s.plan.used) a → ⊥) → IsVacant s a
+vacant_now s c a begins within unused k (there, short) = go (known.gifts.reserved k a ((known.gifts.holds k a there).0 short)) where
+  known : Holds s.plan (world s)
+  known = holds_after s.plan s.queue s.log begins.0.run
+
+  go : IsReservedFor (world s) a (gear_at (world s) k).random ⊎ IsOfUsed s.plan.used (a, (gear_at (world s) k).random) → ⊥
+  go (inr (u, has, is)) =
+      unused (subst (Has (used_shorts s.plan.used)) (ap (λ (x : Assignment). x.0) is) (has_map (λ (x : Used). x.short) s.plan.used u has))
+  go (inl (d, there, has)) =
+      let records = records_now s.plan s.queue s.log begins.0.run in
+      let other : InBlock (block_at s.plan d) a =
+      subst (λ b. InBlock b a) (records.block d there)
+      ((records.kept d there).within a (has_address (controller_at (world s) d).records.reserved a (gear_at (world s) k).random has)) in
+      let same : c ≡ d =
+      begins.0.run.plan.apart c d a (block_known s.plan.blocks c a within) (block_known s.plan.blocks d a other) within other in
+      nothing (subst (λ (x : Kept). Has x.reserved (a, (gear_at (world s) k).random)) begins.1
+      (subst (λ e. Has (controller_at (world s) e).records.reserved (a, (gear_at (world s) k).random)) (sym same) has))
+    where
+      nothing : Has {A = Assignment} [] (a, (gear_at (world s) k).random) → ⊥
+      nothing has = has
+
+-- ---------------------------------------------------------------- a new installation
+
+new_site : (p : Plan) (queue room g a : ℕ) → IsPlan p → p.blocks ≡ only a ∷ [] → IsReplacing p g a → HasNew (opened_site p queue room) 0 g a
+new_site p queue room g a plan one is = record {
+  there = subst (λ n. g < n) (sym (start_count p)) is.there;
+  bare = new (row_at p g is.there);
+  alone = λ k there none. alone k (subst (λ n. k < n) (start_count p) there) none;
+  within = within;
+  vacant = vacant_now (opened_site p queue room) 0 a (begins_new p queue room (only a) plan one) within is.vacant;
+} where
+  within : InBlock (block_at p 0) a
+  within = subst (λ (bs : List Block). InBlock (slice_index_or bs 0 no_block) a) (sym one) (omega arith, omega arith)
+
+  new : IsUsedOrFresh p g → is_bare (gear_of (world (opened_site p queue room)).gear g) ≡ true
+  new (inl (u, has, same, stands)) = absurd (is.new (subst (Has (used_gear p.used)) same (has_map (λ (x : Used). x.gear) p.used u has)))
+  new (inr fresh) = ap is_bare fresh
+
+  named : (k : ℕ) → Has (used_gear p.used) k → is_bare (gear_of (world (opened_site p queue room)).gear k) ≡ false
+  named k has =
+      let from = mapped_from (λ (x : Used). x.gear) p.used k has in
+      subst (λ n. is_bare (gear_of (world (opened_site p queue room)).gear n) ≡ false) from.2 (ap is_bare (stands p plan.used from.0 from.1))
+
+  alone : (k : ℕ) → k < p.gear → is_bare (gear_of (world (opened_site p queue room)).gear k) ≡ true → k ≡ g
+  alone k there none = go (k == g) refl where
+    go : (b : Bool) → (k == g) ≡ b → k ≡ g
+    go true same = same_number k g same
+    go false other =
+        let used = named k (is.others k there (λ e. (let both : true ≡ false = sym (number_same k g e) ∙ other in cc))) in
+        absurd (let both : true ≡ false = sym none ∙ used in cc)
+
+-- A NEW INSTALLATION in which one gear is new: it gets the address
+pub new_served : (limit g a : ℕ) (p : Plan) (between : Installation) (sent : ℕ) (text : List ℕ) (m : Installation) → IsPlan p → p.gear ≤ 128
+    → p.blocks ≡ only a ∷ [] → IsReplacing p g a → 0 < length p.draws → 1092 < limit → HasBegun true (installation_of p) between
+    → Ran limit between sent text m
+    → (e : End) × HasEnded m.site 0 e × IsServed (installation_of p).site m.site 0 g e × HoldsShort (world m.site) g a
+new_served limit g a p between sent text m plan few one is draws enough begins ran =
+    let done =
+    run_served limit g a (installation_of p) between sent text m (ran_new BySurvey limit p (only a) between sent text m plan one begins ran)
+    (begins_settled (installation_of p).site 0 (begins_new p 64 65536 (only a) plan one)) (new_site p 64 65536 g a plan one is)
+    (room_new BySurvey p plan (inr refl) few) draws enough in
+    let within : InBlock (only a) done.2.address =
+    subst (λ (bs : List Block). InBlock (slice_index_or bs 0 no_block) done.2.address) one done.2.within in
+    let same : done.2.address ≡ a = let low = within.0 in let high = within.1 in omega (arith, low, high) in
+    (done.0, done.1, done.2, subst (HoldsShort (world m.site) g) same done.2.holds)

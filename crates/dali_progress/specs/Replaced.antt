@@ -3,7 +3,8 @@ use Rattle.dali_script.specs.declared.block.Block.{Block}
 use Rattle.dali_script.specs.Records.{Has, InBlock, IsOnce}
 use Rattle.dali_script.specs.declared.orders.End.{End}
 use Rattle.dali_script.specs.declared.orders.End.TheVariants.{AllFound}
-use Rattle.dali_events.specs.Plan.{block_at}
+use Rattle.dali_events.specs.Plan.{Plan, block_at}
+use Rattle.dali_events.specs.Used.{used_gear, used_shorts}
 use Rattle.dali_events.specs.Promise.{HoldsShort}
 use Rattle.dali_events.specs.Wanted.{is_bare}
 use Rattle.dali_events.specs.World.{gear_at}
@@ -35,6 +36,13 @@ pub record HasNew (s : SiteState) (c g a : ℕ) : Type 0 where
   pub alone : (k : ℕ) → k < length (world s).gear → is_bare (gear_at (world s) k) ≡ true → k ≡ g
   pub within : InBlock (block_at s.plan c) a
   pub vacant : IsVacant s a
+
+-- A PLAN IN WHICH ONE IS NEW: all gear but g are used, and none of them has the short address a.
+pub record IsReplacing (p : Plan) (g a : ℕ) : Type 0 where
+  pub there : g < p.gear
+  pub new : Has (used_gear p.used) g → ⊥
+  pub others : (k : ℕ) → k < p.gear → (k ≡ g → ⊥) → Has (used_gear p.used) k
+  pub vacant : Has (used_shorts p.used) a → ⊥
 
 -- a block of one address
 abbrev pub only : ℕ → Block

@@ -24,7 +24,7 @@ ghost use Rattle.dali_script.specs.declared.records.Record.TheVariants.{Reserve}
 ghost use Rattle.dali_script.specs.declared.stage.Stage.TheVariants.{Unnamed};
 ghost use Rattle.dali_script.specs.declared.orders.Input.{Input};
 ghost use Rattle.dali_script.specs.declared.orders.Order.TheVariants.{Put, Commit};
-ghost use Rattle.dali_script.specs.Records.{Has};
+ghost use Rattle.dali_script.specs.Records.{Has, InBlock};
 ghost use Rattle.dali_controller.specs.Course.{address_for};
 ghost use Rattle.dali_controller.specs.Machine.{Machine};
 ghost use Rattle.dali_controller.specs.Whole.{IsWhole};
@@ -35,6 +35,7 @@ ghost use Rattle.dali_events.specs.Plan.{Plan, IsPlan, block_at};
 ghost use Rattle.dali_events.specs.Runs.{IsRun};
 ghost use Rattle.dali_events.specs.Promise.{KeepsPromise, HoldsShort, KeepsAddresses};
 ghost use Rattle.dali_events.specs.World.{controller_at, gear_at};
+ghost use Rattle.dali_events.specs.Used.{used_shorts};
 ghost use Rattle.dali_events.specs.Searching.{HasShort};
 ghost use Rattle.dali_events.specs.Wanted.{OfPowered};
 ghost use Rattle.dali_standing.specs.declared.refusal.Refusal.TheVariants as refusal;
@@ -47,7 +48,7 @@ ghost use Rattle.dali_progress.specs.Rounds.{restarted, Rounds, site_after, fram
 ghost use Rattle.dali_progress.specs.Rounds.{GoesOn, HasEnded};
 ghost use Rattle.dali_progress.specs.Ends.{IsTrueEnd, table_at, NamesAll, CommitsNothing};
 ghost use Rattle.dali_progress.specs.Misheard.{RoundsBut, IsTrueEndBut};
-ghost use Rattle.dali_progress.specs.Replaced.{HasVacant, HasNew, only, IsServed, AreNamed};
+ghost use Rattle.dali_progress.specs.Replaced.{IsVacant, HasVacant, HasNew, IsReplacing, only, IsServed, AreNamed};
 ghost use Rattle.dali_progress.specs.Running.{RanAlone, HasBegun, begun, SparesUsedOf, HasRoom, HasEndedBy, WasRefused};
 ghost use Rattle.dali_progress.specs.Surveyed.{Step, IsCourse, ArePlain, WasHeard, IsAccounted, HasSurveyed};
 ghost use Rattle.dali_progress.specs.Surveyed.{stage_told};
@@ -211,7 +212,10 @@ pub fn a_run_commissions()
 /// Each other gear keeps its address and its random address (`keeps`), and the table names it, unless it had no power
 /// or no number that gear draw (`named`); with any records.
 ///
-/// A run of more than 1092 rounds that begins so, with room and a number left to draw, ends so (`run`).
+/// A run of more than 1092 rounds that begins so, with room and a number left to draw, ends so (`run`). An address of
+/// the block is vacant where the controller has nothing kept and no used gear has it (`vacant`). So a run ends of a new
+/// installation in which all gear but g are used, and the block is one address, which none of them has: g gets it
+/// (`new`).
 pub fn a_replaced_gear_gets_the_address()
     ensures served { (s : SiteState) (c g a : ℕ) (es : List Event) (e : End) → BeginsAlone BySurvey s c
         → IsSettledAt s c → HasNew s c g a → Rounds true s c es → HasEnded (site_after s es) c e
@@ -229,6 +233,13 @@ pub fn a_replaced_gear_gets_the_address()
         → RanAlone BySurvey limit n between sent text m → IsSettledAt n.site 0 → HasNew n.site 0 g a
         → HasRoom BySurvey n.site → 0 < length (world n.site).left → 1092 < limit
         → (e : End) × HasEnded m.site 0 e × IsServed n.site m.site 0 g e }
+    ensures vacant { (s : SiteState) (c a : ℕ) → BeginsAlone ByStart s c → InBlock (block_at s.plan c) a
+        → (Has (used_shorts s.plan.used) a → ⊥) → IsVacant s a }
+    ensures new { (limit g a : ℕ) (p : Plan) (between : Installation) (sent : ℕ) (text : List ℕ) (m : Installation)
+        → IsPlan p → p.gear ≤ 128 → p.blocks ≡ only a ∷ [] → IsReplacing p g a → 0 < length p.draws → 1092 < limit
+        → HasBegun true (installation_of p) between → Ran limit between sent text m
+        → (e : End) × HasEnded m.site 0 e × IsServed (installation_of p).site m.site 0 g e
+        × HoldsShort (world m.site) g a }
 {}
 
 /// A CENSUS IS BOUNDED. Of every list of inputs that are due, from a survey on, whatever bus, store and other

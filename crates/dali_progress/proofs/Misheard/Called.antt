@@ -41,7 +41,7 @@ use Rattle.dali_progress.specs.Misheard.{AreServedBut}
 use Rattle.dali_progress.proofs.Frames.{Seeks, value_sought, some_is}
 use Rattle.dali_progress.proofs.Survey.Rolls.{compare_next}
 use Rattle.dali_progress.proofs.Tables.{LeavesNames}
-use Rattle.dali_progress.proofs.Survey.Woken.{IsByteLow, all_short, undrawn_after, stays_initialised, called_answer, low_after, low_sent}
+use Rattle.dali_progress.proofs.Survey.Woken.{IsByteLow, all_short, undrawn_after, undrawn_once, stays_initialised, called_answer, low_after, low_sent}
 use Rattle.dali_progress.proofs.Survey.Woken.{nobody_searched}
 use Rattle.dali_progress.proofs.Survey.Stands.{woken_at, IsLowAt, DrawStage, IsDrawnBy}
 use Rattle.dali_progress.proofs.Misheard.Gear.{HasDrawn, HaveDrawn, each_after}
@@ -249,11 +249,12 @@ draws_sent g (stage.WokenMiddle high middle) k c silent gs numbers d h v is t =
     go : h ≡ Silence → DrawnTo Drawing (stage.WokenMiddle high middle) c silent gs numbers Compare h
     go none =
         subst (λ a. DrawnTo Drawing (stage.WokenMiddle high middle) c silent gs numbers Compare a) (sym none)
-        (draws_on Drawing (stage.WokenMiddle high middle) stage.DrawFree c silent gs numbers Compare v tt tt tt
+        (draws_on Drawing (stage.WokenMiddle high middle) stage.DrawFree c silent gs numbers Compare v tt tt (undrawn_after Compare gs numbers tt v.drawn.0)
         (stays_initialised Compare gs numbers tt v.gear))
 draws_sent g stage.DrawFree k c silent gs numbers d h v is t =
     subst (λ e. DrawnTo Drawing stage.DrawFree c silent gs numbers e h) (some_is Randomise d is.0)
-    (draws_on Drawing stage.DrawFree stage.RandomisedOnce c silent gs numbers Randomise v tt tt tt (opening.opening_randomised_once gs numbers v.gear))
+    (draws_on Drawing stage.DrawFree stage.RandomisedOnce c silent gs numbers Randomise v tt tt
+    (undrawn_once gs numbers v.gear v.drawn) (opening.opening_randomised_once gs numbers v.gear))
 draws_sent g stage.RandomisedOnce k c silent gs numbers d h v is t =
     subst (λ e. Taken g e gs numbers h → DrawnTo Drawing stage.RandomisedOnce c silent gs numbers e h) (some_is Randomise d is.0)
     (λ now. draws_on Drawing stage.RandomisedOnce stage.Opened c silent gs numbers Randomise v tt tt tt

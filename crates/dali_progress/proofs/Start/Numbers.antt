@@ -276,7 +276,7 @@ start_draws before = record {
         (controller_at (world s) c).told i o
         (world s).gear (world s).left left u.goes.lone.moment u.goes.lone.last (due_of (controller_at (world s) c) i here.due) good
         (given_by u.machine i o (not_failed false i good) given).ordered.allowed u.goes.holds has;
-    sends = λ s c left p f h u here heard last holds has.
+    sends = λ s c left rest p f h u here heard last holds now has.
         has_heard u.machine p f h before (world s).gear (world s).left left last
         (bare_fewer (block_at s.plan c) (world s).gear (row_after Everyone (command_of f) 0 (world s).gear (world s).left) (frame_gives s c f h u.run here))
         (next_holds before u.machine (Put p f) (world s).gear left holds) has;

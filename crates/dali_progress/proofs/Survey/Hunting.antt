@@ -221,7 +221,6 @@ vain_over start t o h r room gs left calm asks next none v = go (has_open t) ref
         opened_is = v.opened;
         stage_is = tt;
         loud = v.loud;
-        few = subst (λ n. n + 1 ≤ 1) (sym undrawn_yet) (omega arith);
         somebody = some;
         drawn = (none_but gs v.all, refl);
         clear = v.clear;

@@ -161,7 +161,7 @@ held_stays start = record {
   acts = λ s c left l i o u here surveys given holds all.
       acted_held (world s) s.queue c u.machine (controller_at (world s) c).outstanding (controller_at (world s) c).last (controller_at (world s) c).told i
       (world s).gear u.goes.lone.moment u.goes.lone.last (due_of (controller_at (world s) c) i here.due) surveys all;
-  sends = λ s c left p f h u here heard last holds all.
+  sends = λ s c left rest p f h u here heard last holds now all.
       let m : Machine = u.machine in
       let next = next_holds start m (Put p f) (world s).gear left holds in
       let marked : AreHeld (heard_after m.course.purpose (next_stage (stage_of m.trace) (command_of f) h) h m.heard) (world s).gear =

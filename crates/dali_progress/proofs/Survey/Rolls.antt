@@ -34,7 +34,8 @@ use Rattle.dali_progress.proofs.Tables as tables
 use Rattle.dali_progress.proofs.Tables.{LeavesNames, tabled_left}
 use Rattle.dali_progress.proofs.Survey.Drawn.{those_drawn, is_lost, AreNumbered}
 use Rattle.dali_progress.proofs.Survey.Queried.{OneShort, unseen}
-use Rattle.dali_progress.proofs.Survey.Woken.{AreLow, IsByteLow, bare_after, lost_after, drew_after, undrawn_after, stays_initialised, called_answer, low_after}
+use Rattle.dali_progress.proofs.Survey.Woken.{AreLow, IsByteLow, bare_after, lost_after, drew_after, undrawn_after, undrawn_once, stays_initialised}
+use Rattle.dali_progress.proofs.Survey.Woken.{called_answer, low_after}
 use Rattle.dali_progress.proofs.Survey.Woken.{low_sent}
 use Rattle.dali_progress.proofs.Survey.Woken.{nobody_searched}
 use Rattle.dali_progress.proofs.Survey.Stands.{Begun, roll_frames, woken_at, IsCalledBy, CallStage, IsLowAt, call_sent, Calls, DrawStage, draw_left}
@@ -217,7 +218,6 @@ draws_on s t k heard c start gs numbers left d v leaves byte stage drawn gear ta
     opened_is = v.opened_is;
     stage_is = stage;
     loud = v.loud;
-    few = v.few;
     somebody = subst (λ n. 0 < n) (sym (leaving.count_bare_after d gs numbers leaves)) v.somebody;
     drawn = drawn;
     clear = v.clear;
@@ -279,11 +279,12 @@ draws_sent (stage.WokenMiddle high middle) k heard c start gs numbers left d h v
     go : h ≡ Silence → DrawnTo (stage.WokenMiddle high middle) k heard c start gs numbers left Compare h
     go none =
         subst (λ a. DrawnTo (stage.WokenMiddle high middle) k heard c start gs numbers left Compare a) (sym none)
-        (draws_on (stage.WokenMiddle high middle) stage.DrawFree k heard c start gs numbers left Compare v tt tt tt tt
+        (draws_on (stage.WokenMiddle high middle) stage.DrawFree k heard c start gs numbers left Compare v tt tt tt
+        (undrawn_after Compare gs numbers tt v.drawn.0)
         (stays_initialised Compare gs numbers tt v.gear) (tabled_left (unseen start.gear) k.enrolled gs numbers Compare tt v.tabled) refl)
 draws_sent stage.DrawFree k heard c start gs numbers left d h v is t =
     subst (λ e. DrawnTo stage.DrawFree k heard c start gs numbers left e h) (some_is Randomise d is)
-    (draws_on stage.DrawFree stage.RandomisedOnce k heard c start gs numbers left Randomise v tt tt tt tt
+    (draws_on stage.DrawFree stage.RandomisedOnce k heard c start gs numbers left Randomise v tt tt tt (undrawn_once gs numbers v.gear v.drawn)
     (opening.opening_randomised_once gs numbers v.gear) (tables.tabled_drawn (unseen start.gear) k.enrolled gs numbers (tables.still_once gs v.gear) v.tabled)
     refl)
 draws_sent stage.RandomisedOnce k heard c start gs numbers left d h v is t =

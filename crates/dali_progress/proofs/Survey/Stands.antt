@@ -213,8 +213,8 @@ abbrev pub NoneDrawn : List Gear → Type 0
 NoneDrawn gs = OfPowered gs (λ g. g.short ≡ None → g.random ≡ MASK24)
 
 abbrev pub IsDrawnBy : Purpose → Stage → SearchAddress → List Gear → Type 0
-IsDrawnBy Drawing stage.DrawFree n gs = Unit {0}
-IsDrawnBy Drawing stage.RandomisedOnce n gs = Unit {0}
+IsDrawnBy Drawing stage.DrawFree n gs = NoneDrawn gs
+IsDrawnBy Drawing stage.RandomisedOnce n gs = NoneDrawn gs
 IsDrawnBy Drawing stage.Opened n gs = Unit {0}
 IsDrawnBy Drawing s n gs = NoneDrawn gs × (n ≡ sought 0xFFFEFE)
 IsDrawnBy p s n gs = Unit {0}
@@ -223,7 +223,6 @@ pub record Draws (s : Stage) (k : Kept) (heard : Shorts) (c : Course) (start : B
   pub opened_is : c.opened ≡ true
   pub stage_is : DrawStage Drawing s c.number gs
   pub loud : c.tally.is_silent ≡ false
-  pub few : c.tally.draws ≤ 1
   pub somebody : 0 < count_by is_bare gs
   pub drawn : IsDrawnBy Drawing s c.number gs
   pub clear : IsClear k heard

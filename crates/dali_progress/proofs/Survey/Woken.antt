@@ -71,7 +71,7 @@ drew_after c gs numbers leaves =
       sum bare bare_now lost lost_now drew drew_now one two three four = omega (arith, one, two, three, four)
 
 -- one that is counted is there
-count_there : (p : Gear → Bool) (gs : List Gear) (k : ℕ) → k < length gs → p (gear_of gs k) ≡ true → 0 < count_by p gs
+pub count_there : (p : Gear → Bool) (gs : List Gear) (k : ℕ) → k < length gs → p (gear_of gs k) ≡ true → 0 < count_by p gs
 count_there p [] k h is = absurd (omega (arith, h))
 count_there p (g ∷ gs) zero h is = rw (count_first p g gs, is) (omega arith)
 count_there p (g ∷ gs) (suc k) h is = let rest = count_there p gs k (omega (arith, h)) is in rw (count_first p g gs) (omega (arith, rest))
@@ -278,4 +278,13 @@ pub undrawn_after : (c : Command) (gs : List Gear) (numbers : List ℕ) → Leav
 undrawn_after c gs numbers leaves all k in_row on none =
     let there : k < length gs = subst (λ n. k < n) (row_length Everyone c 0 gs numbers) in_row in
     let same = after_at c SameNames (λ g off. (refl, refl, refl)) (λ g x up. names_left c g x leaves) gs numbers k there in
+    same.2 ∙ all k there (sym same.0 ∙ on) (sym same.1 ∙ none)
+
+-- nor after a first RANDOMISE
+pub undrawn_once : (gs : List Gear) (numbers : List ℕ) → AreOpening stage.Initialised gs → OfPowered gs (λ g. g.short ≡ None → g.random ≡ MASK24)
+    → OfPowered (row_after Everyone Randomise 0 gs numbers) (λ g. g.short ≡ None → g.random ≡ MASK24)
+undrawn_once gs numbers gear all k in_row on none =
+    let there : k < length gs = subst (λ n. k < n) (row_length Everyone Randomise 0 gs numbers) in_row in
+    let same = after_at Randomise (λ g h. (g.powered ≡ true → g.half ≡ None) → SameNames g h) (λ g off was. (refl, refl, refl))
+    (λ g x up was. (refl, refl, rw (was up) refl)) gs numbers k there (λ up. (gear k there up).0) in
     same.2 ∙ all k there (sym same.0 ∙ on) (sym same.1 ∙ none)
