@@ -103,6 +103,7 @@ fn purpose_after(purpose: Purpose, frame: Forward) -> Purpose
 fn searched(purpose: Purpose) -> Purpose
     ensures hunts { purpose ≡ Purpose.Hunt → result ≡ Purpose.Hunt }
     ensures opens { purpose ≡ Purpose.Opening → result ≡ Purpose.Opening }
+    ensures other { purpose ≢ Purpose.Hunt → purpose ≢ Purpose.Opening → result ≡ Purpose.Search }
     ensures no_hunt { result ≡ Purpose.Hunt → purpose ≡ Purpose.Hunt }
 {
     match purpose {
@@ -124,6 +125,9 @@ fn searched(purpose: Purpose) -> Purpose
 fn compared(purpose: Purpose) -> Purpose
     ensures hunts { purpose ≡ Purpose.Hunt → result ≡ Purpose.Hunt }
     ensures calls { purpose ≡ Purpose.Opening → result ≡ Purpose.Call }
+    ensures again { purpose ≡ Purpose.Call → result ≡ Purpose.Call }
+    ensures other { purpose ≢ Purpose.Hunt → purpose ≢ Purpose.Opening → purpose ≢ Purpose.Call
+        → result ≡ Purpose.Probe }
     ensures no_hunt { result ≡ Purpose.Hunt → purpose ≡ Purpose.Hunt }
 {
     match purpose {
