@@ -38,8 +38,10 @@ use Rattle.dali_special.specs.Command.{frame_of}
 use Rattle.dali_controller.proofs.Courses.{found_number}
 use Rattle.dali_controller.specs.Orders.{IsGiven, IsSought, IsAnswered, IsOrdered, AfterFinding, AfterReserved, AfterMaskBy, AfterMaskOn, AfterMaskSurveyed}
 use Rattle.dali_controller.specs.Orders.{machine_after, machine_ordered}
+use Rattle.dali_controller.specs.Machine.{machine_surveying, machine_lost}
 use Rattle.dali_progress.proofs.Later.{later_leaves}
 use Rattle.dali_progress.specs.Surveyed.{Step, IsTaken, IsCourse, stage_told, heard_at, heard_by, WasHeard, IsPlain, ArePlain, IsAccounted}
+use Rattle.dali_progress.specs.Census.{IsNamed}
 
 -- WHO WAS HEARD IN A SURVEY IS ACCOUNTED FOR.
 
@@ -117,14 +119,20 @@ marks_made b _ h heard a small plain e = absurd (cc)
 
 -- ---------------------------------------------------------------- one step
 
--- what follows three bytes that told a number
-settled : (t : Machine) (a n : ℕ) (o : Order) → AfterFinding t a n o → IsAccounted (machine_ordered t o) a
-settled t a n (Put p f) is = inr (inl (n, is))
-settled t a n (Commit x) is = inr (inr (inl (n, ap (λ y. Some (Commit y)) is)))
-settled t a n (Done e) is = elim is [ ]
-settled t a n (Halt w) is = inr (inr (inr (w, refl)))
+-- who is named is accounted for
+named_counts : (m : Machine) (a r : ℕ) → IsNamed m a r → IsAccounted m a
+named_counts m a r (inl has) = inr (inl (r, has))
+named_counts m a r (inr (inl last)) = inr (inr (inl (r, last)))
+named_counts m a r (inr (inr halts)) = inr (inr (inr halts))
 
-pub put_of : (last : Option Order) (h : Answer) → accepts (due_after last) (input.Heard h) ≡ true → (f : Forward) × (frame_put last ≡ Some f)
+-- what follows three bytes that told a number
+named : (t : Machine) (a r : ℕ) (o : Order) → AfterFinding t a r o → IsNamed (machine_ordered t o) a r
+named t a r (Put p f) is = inl is
+named t a r (Commit x) is = inr (inl (ap (λ y. Some (Commit y)) is))
+named t a r (Done e) is = elim is [ ]
+named t a r (Halt w) is = inr (inr (w, refl))
+
+put_of : (last : Option Order) (h : Answer) → accepts (due_after last) (input.Heard h) ≡ true → (f : Forward) × (frame_put last ≡ Some f)
 put_of (Some (Put p f)) h e = (f, refl)
 put_of _ h e = absurd (cc)
 
@@ -132,8 +140,18 @@ told_heard : (m : Machine) (f : Forward) (h : Answer) → frame_put m.last ≡ S
     → (machine_told m (input.Heard h)).heard ≡ heard_after m.course.purpose (stage_of (machine_told m (input.Heard h)).trace) h m.heard
 told_heard m f h e = rw e refl
 
-pub told_course : (m : Machine) (f : Forward) (h : Answer) → frame_put m.last ≡ Some f → (machine_told m (input.Heard h)).course ≡ m.course
+told_course : (m : Machine) (f : Forward) (h : Answer) → frame_put m.last ≡ Some f → (machine_told m (input.Heard h)).course ≡ m.course
 told_course m f h e = rw e refl
+
+pub named_by : (m : Machine) (h : Answer) (o : Order) (a b r : ℕ) → accepts (due_after m.last) (input.Heard h) ≡ true → IsGiven m (input.Heard h) o
+    → m.course.purpose ≡ Asking b → stage_of (machine_told m (input.Heard h)).trace ≡ stage.Spelled a (Some r) → r < MASK24
+    → IsNamed (machine_after m (input.Heard h) o) a r
+named_by m h o a b r due given asks told drawn =
+    let put = put_of m.last h due in
+    let purpose : (machine_told m (input.Heard h)).course.purpose ≡ Asking b = ap (λ c. c.purpose) (told_course m put.0 h put.1) ∙ asks in
+    let sought : IsSought (machine_told m (input.Heard h)).course.purpose (machine_told m (input.Heard h)).course.number r =
+    subst (λ p. IsSought p (machine_told m (input.Heard h)).course.number r) (sym purpose) drawn in
+    named (machine_told m (input.Heard h)) a r o (given.followed.told a r told sought)
 
 heard_step : (m : Machine) (h : Answer) (o : Order) (a : ℕ) → accepts (due_after m.last) (input.Heard h) ≡ true → IsGiven m (input.Heard h) o
     → Leaves m.course.purpose (stage_of (machine_told m (input.Heard h)).trace)
@@ -143,40 +161,43 @@ heard_step m h o a due given (inl marked) =
     let put = put_of m.last h due in
     inl (ap (λ s. has_short s a) (told_heard m put.0 h put.1) ∙ marked)
 heard_step m h o a due given (inr (b, asks, (n, told, less))) =
-    let put = put_of m.last h due in
-    let purpose : (machine_told m (input.Heard h)).course.purpose ≡ Asking b = ap (λ c. c.purpose) (told_course m put.0 h put.1) ∙ asks in
-    let sought : IsSought (machine_told m (input.Heard h)).course.purpose (machine_told m (input.Heard h)).course.number n =
-    subst (λ p. IsSought p (machine_told m (input.Heard h)).course.number n) (sym purpose) less in
-    settled (machine_told m (input.Heard h)) a n o (given.followed.told a n told sought)
+    named_counts (machine_after m (input.Heard h) o) a n (named_by m h o a b n due given asks told less)
 
 committed_heard : (m : Machine) (x : Option Record) → (machine_committed m x).heard ≡ m.heard
 committed_heard m None = refl
 committed_heard m (Some x) = refl
 
+-- what a machine is told leaves what each way to be told something leaves
+pub told_keeps : (P : Machine → Type 0) (m : Machine) (i : Input) → P m → P (machine_surveying m)
+    → ((f : Forward) (h : Answer) → P (machine_heard m (Some f) h))
+    → P (machine_lost m) → ((x : Record) → P (machine_committed m (Some x))) → P (machine_told m i)
+told_keeps P m (input.Heard h) is surveys heard lost kept = go (frame_put m.last) where
+  go : (f : Option Forward) → P (machine_heard m f h)
+  go None = is
+  go (Some f) = heard f h
+told_keeps P m input.Committed is surveys heard lost kept = go (record_ordered m.last) where
+  go : (x : Option Record) → P (machine_committed m x)
+  go None = is
+  go (Some x) = kept x
+told_keeps P m input.Survey is surveys heard lost kept = surveys
+told_keeps P m input.Destroyed is surveys heard lost kept = lost
+told_keeps P m input.Lapsed is surveys heard lost kept = lost
+told_keeps P m _ is surveys heard lost kept = is
+
 pub told_enrolled : (m : Machine) (i : Input) (y : Assignment) → Has m.kept.enrolled y → Has (machine_told m i).kept.enrolled y
-told_enrolled m (input.Heard h) y has = go (frame_put m.last) where
-  go : (f : Option Forward) → Has (machine_heard m f h).kept.enrolled y
-  go None = has
-  go (Some f) = has
-told_enrolled m input.Committed y has = go (record_ordered m.last) where
-  go : (x : Option Record) → Has (machine_committed m x).kept.enrolled y
-  go None = has
-  go (Some x) = enrolled_stays m.kept x y has
-told_enrolled m _ y has = has
+told_enrolled m i y has = told_keeps (λ t. Has t.kept.enrolled y) m i has has (λ f h. has) has (λ x. enrolled_stays m.kept x y has)
 
 -- an enrolment that is ordered is kept, or the machine halts
-enrolling_step : (m : Machine) (i : Input) (o : Order) (a r : ℕ) → m.last ≡ Some (Commit (Enrol a r)) → accepts (due_after m.last) i ≡ true → IsGiven m i o
-    → IsAccounted (machine_after m i o) a
-enrolling_step m i o a r last waits given = go i (subst (λ l. accepts (due_after l) i ≡ true) last waits) given where
-  go : (i : Input) → accepts due.Store i ≡ true → IsGiven m i o → IsAccounted (machine_after m i o) a
-  go input.Committed e given = inr (inl (r, rw last (has_last m.kept.enrolled (a, r))))
-  go input.CommitFailed e given = inr (inr (inr (fault.Store, ap Some given.answered)))
+pub enrolling : (m : Machine) (i : Input) (o : Order) (a r : ℕ) → m.last ≡ Some (Commit (Enrol a r)) → accepts (due_after m.last) i ≡ true → IsGiven m i o
+    → IsNamed (machine_after m i o) a r
+enrolling m i o a r last waits given = go i (subst (λ l. accepts (due_after l) i ≡ true) last waits) given where
+  go : (i : Input) → accepts due.Store i ≡ true → IsGiven m i o → IsNamed (machine_after m i o) a r
+  go input.Committed e given = inl (rw last (has_last m.kept.enrolled (a, r)))
+  go input.CommitFailed e given = inr (inr (fault.Store, ap Some given.answered))
   go _ e given = absurd (cc)
 
 marked_step : (m : Machine) (i : Input) (o : Order) (a : ℕ) → a < 64 → IsPlain (stage_of (machine_told m i).trace) → accepts (due_after m.last) i ≡ true
     → IsGiven m i o → has_short m.heard a ≡ true → IsAccounted (machine_after m i o) a
-marked_step m input.Start o a small plain due given has = inl has
-marked_step m input.Survey o a small plain due given has = inl has
 marked_step m (input.Heard h) o a small plain due given has =
     heard_step m h o a due given (marks_keep m.course.purpose (stage_of (machine_told m (input.Heard h)).trace) h m.heard a small plain has)
 marked_step m input.Committed o a small plain due given has = inl (ap (λ s. has_short s a) (committed_heard m (record_ordered m.last)) ∙ has)
@@ -190,7 +211,8 @@ accounted_stays s n a small taken plain was = subst (λ (x : Machine). IsAccount
   go : IsAccounted s.before a → IsAccounted (machine_after s.before s.told s.order) a
   go (inl has) = marked_step s.before s.told s.order a small plain taken.due taken.given has
   go (inr (inl (r, has))) = inr (inl (r, told_enrolled s.before s.told (a, r) has))
-  go (inr (inr (inl (r, last)))) = enrolling_step s.before s.told s.order a r last taken.due taken.given
+  go (inr (inr (inl (r, last)))) =
+      named_counts (machine_after s.before s.told s.order) a r (enrolling s.before s.told s.order a r last taken.due taken.given)
   go (inr (inr (inr (w, last)))) = absurd (never_due s.before.last w s.told last taken.due)
 
 heard_of_survey : (p : Purpose) (h : Answer) (s : Stage) (a : ℕ) → heard_by (input.Heard h) p s ≡ Some a → (b : ℕ) × (p ≡ Asking b) × (heard_at s h ≡ Some a)
@@ -268,12 +290,7 @@ ordered_open t a n other ordered =
 given_open : (m : Machine) (i : Input) (a n : ℕ) → ((machine_told m i).course.way ≡ Fresh → ⊥) → IsAnswered m i (Commit (Reserve a n))
     → is_open (machine_told m i).kept (machine_told m i).heard a ≡ true
 given_open m input.CommitFailed a n other answered = absurd (cc)
-given_open m input.Start a n other answered = ordered_open (machine_told m input.Start) a n other answered
-given_open m input.Survey a n other answered = ordered_open (machine_told m input.Survey) a n other answered
-given_open m (input.Heard h) a n other answered = ordered_open (machine_told m (input.Heard h)) a n other answered
-given_open m input.Destroyed a n other answered = ordered_open (machine_told m input.Destroyed) a n other answered
-given_open m input.Lapsed a n other answered = ordered_open (machine_told m input.Lapsed) a n other answered
-given_open m input.Committed a n other answered = ordered_open (machine_told m input.Committed) a n other answered
+given_open m i a n other answered = ordered_open (machine_told m i) a n other answered
 
 -- so it reserves no address that is accounted for
 pub unreserved : (s : Step) (n : Machine) (a r : ℕ) → IsTaken s n → s.order ≡ Commit (Reserve a r) → (n.course.way ≡ Fresh → ⊥) → IsAccounted n a → ⊥

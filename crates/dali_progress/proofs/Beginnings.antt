@@ -1,24 +1,20 @@
 use Rattle.dali_progress.specs.Rounds.{most_events, Beginning, most_frames, Rounds, GoesOn, by_survey, IsAlone, HasEnded, ByStart, BySurvey, frames}
-use Rattle.dali_progress.specs.Rounds.{bare, HasNext, IsSettled, IsSettledAt, site_after, BeginsAlone}
+use Rattle.dali_progress.specs.Rounds.{bare, IsSettled, IsSettledAt, site_after, BeginsAlone}
 use Rattle.dali_progress.specs.Ends.{NamesAll, IsTrueEnd, table_at}
-use Rattle.dali_progress.proofs.Lone.{due_by, IsDueIn, IsLone}
-use Rattle.std.proofs.Common.{◌≡◌, ℕ, ◌+◌, ◌≤◌, ◌⊎◌, None, inl, inr, List, refl, sym, subst, arith, length, Some}
-use Rattle.dali_arbiter.specs.Arbiter.{next}
-use Rattle.dali_script.specs.declared.orders.Order.TheVariants.{Halt}
+use Rattle.dali_progress.proofs.Lone.{IsLone}
+use Rattle.std.proofs.Common.{◌≡◌, ℕ, ◌+◌, ◌≤◌, List, sym, subst, arith, length, Some}
 use Rattle.dali_script.specs.declared.orders.End.{End}
 use Rattle.dali_controller.specs.Machine.{Machine}
 use Rattle.dali_events.specs.declared.event.Event.{Event}
-use Rattle.dali_events.specs.World.{controller_at}
 use Rattle.dali_events.specs.Runs.{IsRun}
 use Rattle.dali_world.specs.Site.{SiteState, world, machine_at, IsPumpRefused}
 use Rattle.dali_standing.specs.declared.refusal.Refusal.TheVariants as refusal
 use Rattle.dali_events.specs.declared.trouble.Trouble.TheVariants as trouble
-use Rattle.dali_script.specs.declared.orders.Fault.{Fault}
-use Rattle.dali_progress.proofs.Along.{Measure, Argument, RunsAll, runs_all, few_all, never_halts}
+use Rattle.dali_progress.proofs.Along.{Measure, Argument, RunsAll, runs_all, few_all, with_left, goes_by}
 use Rattle.dali_progress.proofs.Start.Goes.{of_start}
 use Rattle.dali_progress.proofs.Survey.Goes.{of_survey}
-use Rattle.dali_progress.proofs.Start.Bounded as start
-use Rattle.dali_progress.proofs.Survey.Bounded as survey
+use Rattle.dali_progress.proofs.Start.Goes as start
+use Rattle.dali_progress.proofs.Survey.Goes as survey
 use Rattle.dali_progress.proofs.Drawing as drawing
 use Rattle.dali_progress.proofs.Start.Numbers.{LeavesDraws, start_draws}
 use Rattle.dali_progress.proofs.Survey.Numbers.{HasNumbers, survey_draws}
@@ -71,13 +67,12 @@ few_events b s c es a rounds =
 
 -- ---------------------------------------------------------------- it goes on
 
--- what is so after rounds: it goes together with its bus, and did not halt
+-- what is so after rounds: it goes together with its bus
 pub record IsAfter (s : SiteState) (c : ℕ) : Type 0 where
   pub run : IsRun s.plan s.queue s.log
   pub machine : Machine
   pub there : machine_at s c ≡ Some machine
   pub lone : IsLone (world s) s.queue c machine
-  pub halts : (why : Fault) → (controller_at (world s) c).last ≡ Some (Halt why) → (controller_at (world s) c).told ≡ None → ⊥
 
 pub after : (b : Beginning) (s : SiteState) (c : ℕ) (es : List Event) → BeginsAlone b s c → Rounds (by_survey b) s c es → IsAfter (site_after s es) c
 after b s c es a rounds =
@@ -87,22 +82,14 @@ after b s c es a rounds =
       machine = all.runs.machine;
       there = all.runs.there;
       lone = all.runs.goes.lone;
-      halts = never_halts (measure b s c) (argues b s c) (site_after s es) c all.rest all.runs;
     }
 
 pub goes_on : (b : Beginning) (s : SiteState) (c : ℕ) (es : List Event) → BeginsAlone b s c → Rounds (by_survey b) s c es
     → GoesOn (by_survey b) (site_after s es) c
 goes_on b s c es a rounds =
-    go (due_by (by_survey b) (world (site_after s es)) (site_after s es).queue c now.machine (controller_at (world (site_after s es)) c).last
-    (controller_at (world (site_after s es)) c).told refl refl now.lone.moment now.halts) where
-      now : IsAfter (site_after s es) c
-      now = after b s c es a rounds
-
-      go : ((e : End) × HasEnded (site_after s es) c e) ⊎ (IsDueIn (by_survey b) (world (site_after s es)) c ⊎ HasNext (site_after s es))
-          → GoesOn (by_survey b) (site_after s es) c
-      go (inl ended) = inl ended
-      go (inr (inl due)) = inr (inl (record { input = due.0; succeeds = due.1; due = due.2; free = due.3 }))
-      go (inr (inr next)) = inr (inr next)
+    let all = runs_after b s c es a rounds in
+    goes_by (measure b s c).known (with_left (measure b s c) all.rest) (by_survey b) (site_after s es) c all.runs
+    (λ m why holds. (argues b s c).halts m why (world (site_after s es)).gear all.rest holds)
 
 -- ---------------------------------------------------------------- its end
 

@@ -1,61 +1,67 @@
-use Rattle.dali_progress.specs.Rounds.{Succeeds, IsOfRound}
+use Rattle.dali_progress.specs.Rounds.{Succeeds}
 use Rattle.std.proofs.Common.{◌≡◌, ℕ, ◌+◌, ◌<◌, ◌≤◌, ◌⊎◌, inl, inr, Bool, true, false, suc, List, [], ◌∷◌, ◌++◌, refl, sym, ap, subst, ◌∙◌, arith, Option}
 use Rattle.std.proofs.Common.{Some, None}
-use Rattle.std.specs.Prelude.{if◌then◌else◌, ◌&&◌}
+use Rattle.std.specs.Prelude.{if◌then◌else◌, ◌&&◌, IfSome, ◌==◌}
 use Rattle.dali_frame.specs.declared.numbers.SearchAddress.{SearchAddress}
 use Rattle.dali_frame.specs.Random.{value_of, MASK24}
 use Rattle.dali_special.specs.declared.command.Command.{Command}
 use Rattle.dali_special.specs.Command.{command_of}
 use Rattle.dali_gear.specs.Gear.{Gear, draws_a_number}
 use Rattle.dali_script.specs.declared.records.Record.{Record}
-use Rattle.dali_script.specs.declared.records.Record.TheVariants.{Reserve, Enrol}
-use Rattle.dali_script.specs.Records.{Assignment, Kept, Has, HasAddress, HasRandom, with_record}
+use Rattle.dali_script.specs.declared.records.Record.TheVariants.{Reserve, Enrol, Release}
+use Rattle.dali_script.specs.Records.{Assignment, Kept, Has, HasAddress, HasRandom, with_record, IsMap}
 use Rattle.dali_script.specs.declared.stage.Stage.{Stage}
 use Rattle.dali_script.specs.declared.stage.Stage.TheVariants as stage
-use Rattle.dali_script.specs.Stages.{stage_of, next_stage}
+use Rattle.dali_script.specs.Stages.{stage_of, next_stage, finding_at}
 use Rattle.dali_script.proofs.Lists.{has_map, has_last}
-use Rattle.dali_script.proofs.Members.{has_left, has_right}
+use Rattle.dali_script.proofs.Members.{has_left, has_right, same_member}
 use Rattle.dali_script.specs.declared.orders.Order.{Order}
 use Rattle.dali_script.specs.declared.orders.Order.TheVariants.{Put, Commit, Done, Halt}
-use Rattle.dali_script.specs.declared.orders.End.{End}
 use Rattle.dali_controller.specs.declared.purpose.Purpose.{Purpose}
-use Rattle.dali_controller.specs.declared.purpose.Purpose.TheVariants.{Opening, Probing, Visiting, Closing}
-use Rattle.dali_controller.specs.Course.{sought}
+use Rattle.dali_controller.specs.declared.purpose.Purpose.TheVariants.{Opening, Probing, Visiting, Closing, Hunting, Calling, PassingOver, Asking, Resolving}
+use Rattle.dali_controller.specs.declared.purpose.Purpose.TheVariants.{Drawing}
+use Rattle.dali_controller.specs.Course.{sought, byte_to_send, call_turn, turn_of, first_of, closing_of}
 use Rattle.dali_controller.specs.Machine.{Machine, tries_after}
-use Rattle.dali_controller.proofs.Given.{IsNoEnrolment}
+use Rattle.dali_controller.proofs.Given as given
+use Rattle.dali_controller.proofs.Given.{IsNoEnrolment, IsGivenBy}
 use Rattle.dali_frame.specs.declared.frames.Forward.{Forward}
 use Rattle.dali_frame.specs.declared.frames.Answer.{Answer}
+use Rattle.dali_frame.specs.declared.frames.Answer.TheVariants.{Silence, Byte, Damaged}
 use Rattle.dali_special.specs.declared.command.Command.TheVariants.{Arc, Terminate, Initialise, Randomise}
+use Rattle.dali_special.specs.declared.command.Command.TheVariants.{Compare, SearchHigh, SearchMiddle, SearchLow, Program}
 use Rattle.dali_gear.specs.declared.row.Reach.TheVariants.{Everyone}
 use Rattle.dali_gear.specs.Row.{answers_of, heard_of, drawn_of, takes, left_after, row_left, draws_needed}
 use Rattle.dali_script.specs.declared.trace.Entry.{Entry}
 use Rattle.dali_script.proofs.Firsts.{free_is_empty}
 use Rattle.dali_script.specs.declared.orders.Input.{Input}
 use Rattle.dali_script.specs.declared.orders.Input.TheVariants as input
+use Rattle.dali_script.specs.declared.orders.End.{End}
+use Rattle.dali_script.specs.Scripts.{Lawful, IsLawful}
+use Rattle.dali_script.specs.Findings.{finding_of}
 use Rattle.dali_controller.specs.Orders.{IsAddressing}
+use Rattle.dali_controller.specs.Next.{beginning, next_course}
 use Rattle.dali_events.specs.declared.event.Event.TheVariants as event
-use Rattle.dali_events.specs.World.{World}
-use Rattle.dali_events.specs.Happens.{happens, is_arc}
+use Rattle.dali_events.specs.World.{World, controller_at}
+use Rattle.dali_events.specs.Happens.{happens, is_arc, trace_running}
 use Rattle.dali_events.specs.Allowed.{Allowed}
 use Rattle.dali_events.specs.Runs.{AreDrawn, IsRun}
 use Rattle.dali_events.specs.Searching.{number_at}
-use Rattle.dali_events.specs.Wanted.{Seek, OfPowered, is_bare}
+use Rattle.dali_events.specs.Wanted.{Seek, OfPowered, is_bare, IsOpened, NoneNamed, wants, is_wanted}
 use Rattle.std.specs.List.{count_by}
 use Rattle.std.proofs.lemmas.List.Sums.{sum_by-cons}
-use Rattle.dali_progress.proofs.Tables.{StandsStill, still_twice}
+use Rattle.dali_progress.proofs.Tables.{StandsStill, still_twice, LeavesNames}
 use Rattle.dali_events.proofs.Search.Heard.{opened_apart}
 use Rattle.dali_special.specs.declared.command.Target.TheVariants.{Unaddressed}
 use Rattle.dali_gear.specs.declared.row.Reach.{Reach}
 use Rattle.dali_gear.proofs.RowLemmas.{needs_none}
 use Rattle.dali_events.proofs.Search.Opened.{AreOpening}
 use Rattle.dali_progress.proofs.Lone.{Addresses}
-use Rattle.dali_progress.proofs.Stands.{Opens, Sends}
+use Rattle.dali_progress.proofs.Stands.{Opens, Sends, AsksBy, Visits, VisitFrames, search_frames, CloseStage}
 use Rattle.dali_progress.proofs.Frames.{IsTaken, value_sought}
 use Rattle.dali_progress.proofs.Logged.{drawn_now, world_logged, run_logged}
-use Rattle.dali_arbiter.specs.declared.request.Request.{Request}
-use Rattle.dali_events.specs.declared.event.Event.{Event}
-use Rattle.dali_world.specs.Site.{SiteState, world, site_logged, next_request}
+use Rattle.dali_world.specs.Site.{SiteState, world, site_logged}
 use Rattle.dali_events.proofs.Search.Halves.{gear_are_searched}
+use Rattle.dali_events.proofs.Invariant.Sending.{lawful_of}
 
 -- WHAT BOTH ARGUMENTS USE, of a start and of a survey.
 
@@ -74,16 +80,39 @@ has_random xs a n has = has_map (λ (q : Assignment). q.1) xs (a, n) has
 pub has_address : (xs : List Assignment) (a n : ℕ) → Has xs (a, n) → HasAddress xs a
 has_address xs a n has = has_map (λ (q : Assignment). q.0) xs (a, n) has
 
-pub no_enrolment : (a r : ℕ) (last : Option Order) → last ≡ Some (Commit (Reserve a r)) → IsNoEnrolment last
+no_enrolment : (a r : ℕ) (last : Option Order) → last ≡ Some (Commit (Reserve a r)) → IsNoEnrolment last
 no_enrolment a r last is b n e = let other : Some (Commit (Reserve a r)) ≡ Some (Commit (Enrol b n)) = sym is ∙ e in cc
+
+pub no_enrolment_now : (a r : ℕ) (last : Option Order) → last ≡ Some (Commit (Release a r)) → IsNoEnrolment last
+no_enrolment_now a r last is b n e = let other : Some (Commit (Release a r)) ≡ Some (Commit (Enrol b n)) = sym is ∙ e in cc
+
+pub no_enrolment_yet : (last : Option Order) → last ≡ None → IsNoEnrolment last
+no_enrolment_yet last none b n e = let other : None ≡ Some (Commit (Enrol b n)) = sym none ∙ e in cc
 
 -- with its record
 abbrev pub with_kept : Machine → Record → Machine
 with_kept m x = record m { kept = with_record m.kept x }
 
+-- a visit begins once an address is reserved
+pub reserved_begins : (m : Machine) (a r : ℕ) (o : Order) → m.tries ≡ 0 → m.trace ≡ [] → m.last ≡ Some (Commit (Reserve a r))
+    → IsGivenBy (with_kept m (Reserve a r)) o → o ≡ beginning (next_course (with_kept m (Reserve a r)))
+reserved_begins m a r o tries free last by =
+    given.begins_free (with_kept m (Reserve a r)) o by free (no_enrolment a r m.last last) (never_eight m.tries tries)
+
+-- and another transaction once an entry is kept
+pub enrolled_begins : (m : Machine) (b r : ℕ) (o : Order) → Has m.kept.reserved (b, r) → m.trace ≡ [] → m.last ≡ Some (Commit (Enrol b r))
+    → IsMap m.kept.reserved → IsGivenBy (with_kept m (Enrol b r)) o → o ≡ beginning (next_course (with_kept m (Enrol b r)))
+enrolled_begins m b r o reserved free last map by =
+    given.enrolled (with_kept m (Enrol b r)) o b r by last free
+    (λ a has. ap (λ (q : Assignment). q.0) (same_member (λ (q : Assignment). q.1) m.kept.reserved (a, r) (b, r) map.random_once has reserved refl))
+
 pub entry_last : (xs : List Assignment) (y x : Assignment) → Has (y ∷ xs) x → Has (xs ++ y ∷ []) x
 entry_last xs y x (inl same) = subst (Has (xs ++ y ∷ [])) same (has_last xs y)
 entry_last xs y x (inr has) = has_left xs (y ∷ []) x has
+
+pub entry_twice : (xs : List Assignment) (y : Assignment) → Has xs y → (x : Assignment) → Has (y ∷ xs) x → Has xs x
+entry_twice xs y has x (inl same) = subst (Has xs) same has
+entry_twice xs y has x (inr h) = h
 
 pub put_no_enrolment : (p : ℕ) (f : Forward) (last : Option Order) → last ≡ Some (Put p f) → IsNoEnrolment last
 put_no_enrolment p f last is b n e = let other : Some (Put p f) ≡ Some (Commit (Enrol b n)) = sym is ∙ e in cc
@@ -130,14 +159,12 @@ known_sent s d f h run here =
       },
     )
 
--- what is sent in a round is the request that is next
-pub sent_by : (by : Bool) (P : Event → Type 0) (s : SiteState) (c d : ℕ) (f : Forward) (h : Answer)
-    → ((r : Request) → Allowed (world s) (event.Sent r.sender r.frame h) → next_request s ≡ Some r
-    → h ≡ heard_of (answers_of Everyone (command_of r.frame) 0 (world s).gear) → P (event.Sent r.sender r.frame h))
-    → Allowed (world s) (event.Sent d f h) → IsOfRound by s c (event.Sent d f h) → P (event.Sent d f h)
-sent_by by P s c d f h sent here of =
-    subst (λ e. Allowed (world s) e → P e) (sym (ap (λ n. event.Sent n f h) of.2 ∙ ap (λ g. event.Sent of.0.sender g h) of.3))
-    (λ now. sent of.0 now of.1 (of.4 ∙ ap (λ g. heard_of (answers_of Everyone (command_of g) 0 (world s).gear)) of.3)) here
+pub lawful_now : (w : World) (c : ℕ) (t : List Entry) (f : Forward) (h : Answer) → trace_running w c ≡ t → Allowed w (event.Sent c f h) → IsLawful t f
+lawful_now w c t f h is here = (
+  (controller_at w c).records.block,
+  (controller_at w c).records.reserved,
+  subst (λ e. Lawful (controller_at w c).records.block (controller_at w c).records.reserved e f) is (lawful_of w c f here.may),
+)
 
 pub taken_of : (w : World) (c : ℕ) (f : Forward) (h : Answer) → Allowed w (event.Sent c f h) → IsKnown w c f h
     → h ≡ heard_of (answers_of Everyone (command_of f) 0 w.gear) → IsTaken (command_of f) w.gear w.left h
@@ -147,6 +174,42 @@ taken_of w c f h here known heard = record {
   below = λ x has. known.after.below x.0 x.1 (has_right w.drawn (drawn_of Everyone (command_of f) 0 w.gear w.left) x has);
   apart = opened_apart w known.drawn;
 }
+
+-- ---------------------------------------------------------------- a close is over
+
+pub close_ends : (t : Machine) (o : Order) (e : End) (s : Stage) → IsGivenBy t o → t.course.purpose ≡ Closing e → stage_of t.trace ≡ s → (s ≡ stage.Free → ⊥)
+    → CloseStage s → finding_of t.trace ≡ finding_at s → t.tries ≡ 0 → o ≡ Done e
+close_ends t o e stage.Free by purpose is running closes found tries = absurd (running refl)
+close_ends t o e stage.Terminated by purpose is running closes found tries = given.closed t o e by (ap closing_of purpose) is found (never_eight t.tries tries)
+close_ends t o e _ by purpose is running closes found tries = absurd closes
+
+-- ---------------------------------------------------------------- a visit begins
+
+pub visits_first : (k : Kept) (r more : ℕ) (gs : List Gear) (left : ℕ) → IsOpened gs → NoneNamed gs → wants gs r ≡ true → r < MASK24
+    → count_by is_wanted gs ≡ suc more → VisitFrames k (sought r) more (left + 0) → Visits stage.Free k (sought r) gs left
+visits_first k r more gs left ready unnamed wants_it drawn count frames = record {
+  stage_is = tt;
+  searched = tt;
+  ready = ready;
+  unnamed = unnamed;
+  more = more;
+  visited = record {
+    wanted = subst (λ n. wants gs n ≡ true) (sym (value_sought r)) wants_it;
+    number = r;
+    number_is = refl;
+    drawn = drawn;
+    count = count;
+  };
+  frames = frames;
+}
+
+-- once an address is reserved
+pub frames_reserved : (k : Kept) (a r more left : ℕ) → 7 + search_frames more ≤ left → VisitFrames (with_record k (Reserve a r)) (sought r) more (left + 0)
+frames_reserved k a r more left enough = inl (
+  subst (HasRandom (k.reserved ++ (a, r) ∷ [])) (sym (value_sought r))
+      (has_random (k.reserved ++ (a, r) ∷ []) a r (has_last k.reserved (a, r))),
+  omega (arith, enough),
+)
 
 -- ---------------------------------------------------------------- the numbers that gear draw
 
@@ -175,20 +238,84 @@ none_first k (g ∷ gs) all =
       sum true n first more = absurd (cc)
       sum false n first more = omega (arith, more)
 
-pub probing_never : (n : SearchAddress) (k : Kept) (s : Stage) → Sends Probing n k s Randomise → ⊥
-probing_never n k (stage.Unnamed r) (a, small, has, is) = cc
-probing_never n k (stage.Hunted r last left) is = absurd is
-probing_never n k _ is = cc
+-- ---------------------------------------------------------------- which commands are sent
 
-pub visiting_never : (n : SearchAddress) (k : Kept) (s : Stage) → Sends Visiting n k s Randomise → ⊥
-visiting_never n k (stage.Unnamed r) (a, small, has, is) = cc
-visiting_never n k (stage.Hunted r last left) is = absurd is
-visiting_never n k _ is = cc
+-- a transaction at which no gear draw
+abbrev pub IsDry : Purpose → Type 0
+IsDry Opening = ⊥
+IsDry Drawing = ⊥
+IsDry _ = Unit {0}
 
-pub closing_never : (e : End) (n : SearchAddress) (k : Kept) (s : Stage) → Sends (Closing e) n k s Randomise → ⊥
-closing_never e n k (stage.Unnamed r) (a, small, has, is) = cc
-closing_never e n k (stage.Hunted r last left) is = absurd is
-closing_never e n k _ is = cc
+byte_names : (n r : SearchAddress) → LeavesNames (byte_to_send n r)
+byte_names n r = go (r.high == n.high) (r.low == n.low) (r.middle == n.middle) where
+  go : (a b m : Bool) → LeavesNames (if a then (if b then (if m then Compare else SearchMiddle n.middle) else SearchLow n.low) else SearchHigh n.high)
+  go false b m = tt
+  go true false m = tt
+  go true true false = tt
+  go true true true = tt
+
+called_names : (last : Option Answer) (left : ℕ) → IfSome (call_turn last left) LeavesNames
+called_names None left = tt
+called_names (Some Silence) left = go (left == 1) where
+  go : (b : Bool) → IfSome (if b then Some Compare else None) LeavesNames
+  go true = tt
+  go false = tt
+called_names (Some (Byte v)) left = tt
+called_names (Some Damaged) left = tt
+
+turn_names : (p : Purpose) (n : SearchAddress) (s : Stage) → IsDry p → IfSome (turn_of p n s) LeavesNames
+turn_names Hunting n (stage.Hunted r None left) dry = byte_names n r
+turn_names Hunting n (stage.Hunted r (Some h) left) dry = tt
+turn_names Calling n (stage.Hunted r last left) dry = called_names last left
+turn_names (Asking a) n (stage.HighAsked b None) dry = tt
+turn_names (Asking a) n (stage.HighAsked b (Some v)) dry = tt
+turn_names (Asking a) n (stage.MiddleAsked b None) dry = tt
+turn_names (Asking a) n (stage.MiddleAsked b (Some x)) dry = tt
+turn_names Opening n s dry = absurd dry
+turn_names Drawing n s dry = absurd dry
+turn_names Probing n stage.Free dry = tt
+turn_names Probing n _ dry = tt
+turn_names Hunting n _ dry = tt
+turn_names Visiting n stage.Free dry = tt
+turn_names Visiting n _ dry = tt
+turn_names PassingOver n stage.Free dry = tt
+turn_names PassingOver n _ dry = tt
+turn_names Calling n _ dry = tt
+turn_names (Asking a) n _ dry = tt
+turn_names (Resolving a) n stage.Free dry = tt
+turn_names (Resolving a) n _ dry = tt
+turn_names (Closing e) n stage.Free dry = tt
+turn_names (Closing e) n _ dry = tt
+
+first_names : (p : Purpose) (n : SearchAddress) → LeavesNames (first_of p n)
+first_names Opening n = tt
+first_names _ n = tt
+
+some_names : (o : Option Command) (c : Command) → IfSome o LeavesNames → o ≡ Some c → LeavesNames c
+some_names o c all is = subst (λ x. IfSome x LeavesNames) is all
+
+asked_names : (p : Purpose) (n r : SearchAddress) (last : Option Answer) (left : ℕ) (c : Command) → AsksBy p n r last left c → LeavesNames c
+asked_names Hunting n r last left c is = subst LeavesNames (sym is) (byte_names n r)
+asked_names Calling n r last left c is = some_names (call_turn last left) c (called_names last left) is
+asked_names _ n r last left c is = absurd is
+
+pub is_unnamed : (s : Stage) → ((r : SearchAddress) × (s ≡ stage.Unnamed r)) ⊎ ((r : SearchAddress) → s ≡ stage.Unnamed r → ⊥)
+is_unnamed (stage.Unnamed r) = inl (r, refl)
+is_unnamed _ = inr (λ r e. cc)
+
+-- it leaves numbers and short addresses, but where an address is programmed
+pub names_sent : (p : Purpose) (n : SearchAddress) (k : Kept) (s : Stage) (c : Command) → IsDry p → ((r : SearchAddress) → s ≡ stage.Unnamed r → ⊥)
+    → Sends p n k s c → LeavesNames c
+names_sent p n k stage.Free c dry other is = subst LeavesNames (sym is) (first_names p n)
+names_sent p n k (stage.Unnamed r) c dry other is = absurd (other r refl)
+names_sent p n k (stage.Hunted r last left) c dry other is = asked_names p n r last left c is
+names_sent p n k s c dry other is = some_names (turn_of p n s) c (turn_names p n s dry) is
+
+pub never_draws : (p : Purpose) (n : SearchAddress) (k : Kept) (s : Stage) → IsDry p → Sends p n k s Randomise → ⊥
+never_draws p n k s dry is = go (is_unnamed s) where
+  go : ((r : SearchAddress) × (s ≡ stage.Unnamed r)) ⊎ ((r : SearchAddress) → s ≡ stage.Unnamed r → ⊥) → ⊥
+  go (inl (r, at)) = let given = subst (λ q. Sends p n k q Randomise) at is in let never : Randomise ≡ Program (Some given.0) = given.3 in cc
+  go (inr other) = names_sent p n k s Randomise dry other is
 
 -- only an opening draws
 pub none_apart : (p : Purpose) (n : SearchAddress) (k : Kept) (s : Stage) (gs : List Gear) (c : Command) → (Sends p n k s Randomise → ⊥) → Sends p n k s c

@@ -27,8 +27,8 @@ use Rattle.dali_search.specs.Least.{Search, Agrees, Gives, HasAtMost}
 use Rattle.dali_controller.specs.declared.purpose.Purpose.{Purpose}
 use Rattle.dali_controller.specs.declared.purpose.Purpose.TheVariants.{Opening, Probing, Visiting, Closing}
 use Rattle.dali_controller.specs.Course.{sought, is_yes}
-use Rattle.dali_events.specs.Searching.{number_at}
-use Rattle.dali_events.specs.Wanted.{is_wanted, wants, is_bare, OfPowered, Seek, AreApart, IsOpened, NoneNamedBut, AreNamed}
+use Rattle.dali_events.specs.Searching.{number_at, HasShort}
+use Rattle.dali_events.specs.Wanted.{is_wanted, wants, is_bare, OfPowered, Seek, AreApart, IsOpened, NoneNamedBut, AreNamed, gear_of}
 use Rattle.dali_events.proofs.Invariant.Takes.{row_length}
 use Rattle.dali_events.proofs.Search.Wanted as wanted
 use Rattle.dali_events.proofs.Search.Leaving as leaving
@@ -165,67 +165,43 @@ probes_on s t x n gs hs left l p same stage searched frames = record {
   frames = rw (leaving.core_count_wanted gs hs same) frames;
 }
 
+probe_next : (s t : Stage) (k : Kept) (x : Search) (n : SearchAddress) (gs hs : List Gear) (left : ℕ) → Probes s x n gs left → SameCore gs hs
+    → ProbeStage t hs x.probe → IsSearched t n → sent_at t ≡ sent_at s + 1 → sent_at s < 5 → (l : ℕ) × (left ≡ suc l) × At Probing t k true x n hs l
+probe_next s t k x n gs hs left p same stage searched sent few =
+    let small = probe_small (length x.answers) (count_by is_wanted gs) in
+    let less = one_less (probe_frames (length x.answers) (count_by is_wanted gs)) left (sent_at s) p.frames (omega (arith, small, few)) in (
+      less.0,
+      less.1,
+      (
+        refl,
+        probes_on s t x n gs hs left less.0 p same stage searched
+            (subst (λ m. probe_frames (length x.answers) (count_by is_wanted gs) ≤ less.0 + m) (sym sent) less.2),
+      ),
+    )
+
 probing_sent : (s : Stage) (k : Kept) (x : Search) (n : SearchAddress) (gs : List Gear) (numbers : List ℕ) (left : ℕ) (c : Command) (h : Answer)
     → Probes s x n gs left → Sends Probing n k s c → IsTaken c gs numbers h → Seeks s gs → IsSentTo Probing s k true x n gs numbers left c h
-probing_sent stage.Free k x n gs numbers left c h p is taken seek = subst (λ d. IsSentTo Probing stage.Free k true x n gs numbers left d h) (sym is) go where
-  go : IsSentTo Probing stage.Free k true x n gs numbers left (SearchHigh n.high) h
-  go =
-      let less = one_less (probe_frames (length x.answers) (count_by is_wanted gs)) left 0 p.frames
-      (omega (arith, probe_small (length x.answers) (count_by is_wanted gs))) in (
-        less.0,
-        less.1,
-        (
-          refl,
-          probes_on stage.Free (stage.HighSent n.high) x n gs _ left less.0 p
-              (leaving.core_after (SearchHigh n.high) gs numbers tt) tt refl less.2,
-        ),
-      )
+probing_sent stage.Free k x n gs numbers left c h p is taken seek =
+    subst (λ d. IsSentTo Probing stage.Free k true x n gs numbers left d h) (sym is)
+    (probe_next stage.Free (stage.HighSent n.high) k x n gs _ left p (leaving.core_after (SearchHigh n.high) gs numbers tt) tt refl refl (omega arith))
 probing_sent (stage.HighSent high) k x n gs numbers left c h p is taken seek =
-    subst (λ d. IsSentTo Probing (stage.HighSent high) k true x n gs numbers left d h) (some_is (SearchMiddle n.middle) c is) go where
-      go : IsSentTo Probing (stage.HighSent high) k true x n gs numbers left (SearchMiddle n.middle) h
-      go =
-          let less = one_less (probe_frames (length x.answers) (count_by is_wanted gs)) left 1 p.frames
-          (omega (arith, probe_small (length x.answers) (count_by is_wanted gs))) in (
-            less.0,
-            less.1,
-            (
-              refl,
-              probes_on (stage.HighSent high) (stage.MiddleSent high n.middle) x n gs _ left less.0 p
-                  (leaving.core_after (SearchMiddle n.middle) gs numbers tt) tt (p.searched, refl) less.2,
-            ),
-          )
+    subst (λ d. IsSentTo Probing (stage.HighSent high) k true x n gs numbers left d h) (some_is (SearchMiddle n.middle) c is)
+    (probe_next (stage.HighSent high) (stage.MiddleSent high n.middle) k x n gs _ left p (leaving.core_after (SearchMiddle n.middle) gs numbers tt) tt
+    (p.searched, refl) refl (omega arith))
 probing_sent (stage.MiddleSent high middle) k x n gs numbers left c h p is taken seek =
-    subst (λ d. IsSentTo Probing (stage.MiddleSent high middle) k true x n gs numbers left d h) (some_is (SearchLow n.low) c is) go where
-      go : IsSentTo Probing (stage.MiddleSent high middle) k true x n gs numbers left (SearchLow n.low) h
-      go =
-          let less = one_less (probe_frames (length x.answers) (count_by is_wanted gs)) left 2 p.frames
-          (omega (arith, probe_small (length x.answers) (count_by is_wanted gs))) in (
-            less.0,
-            less.1,
-            (
-              refl,
-              probes_on (stage.MiddleSent high middle) (stage.NumberSent (record { high = high; middle = middle; low = n.low })) x n gs _ left less.0 p
-                  (leaving.core_after (SearchLow n.low) gs numbers tt) tt (whole n high middle p.searched.0 p.searched.1) less.2,
-            ),
-          )
+    subst (λ d. IsSentTo Probing (stage.MiddleSent high middle) k true x n gs numbers left d h) (some_is (SearchLow n.low) c is)
+    (probe_next (stage.MiddleSent high middle) (stage.NumberSent (record { high = high; middle = middle; low = n.low })) k x n gs _ left p
+    (leaving.core_after (SearchLow n.low) gs numbers tt) tt (whole n high middle p.searched.0 p.searched.1) refl (omega arith))
 probing_sent (stage.NumberSent r) k x n gs numbers left c h p is taken seek =
     subst (λ d. IsTaken d gs numbers h → IsSentTo Probing (stage.NumberSent r) k true x n gs numbers left d h) (some_is Compare c is) go taken where
       go : IsTaken Compare gs numbers h → IsSentTo Probing (stage.NumberSent r) k true x n gs numbers left Compare h
       go t =
-          let less = one_less (probe_frames (length x.answers) (count_by is_wanted gs)) left 3 p.frames
-          (omega (arith, probe_small (length x.answers) (count_by is_wanted gs))) in
           let same : SameCore gs (row_after Everyone Compare 0 gs numbers) = leaving.core_after Compare gs numbers tt in
           let asked : value_of r ≡ x.probe = ap value_of (sym p.searched ∙ p.number) ∙ value_sought x.probe in
-          let says : Gives (wants gs) x.probe (is_yes h) = subst (λ q. Gives (wants gs) q (is_yes h)) asked (probe_says gs r h (seek r refl) t.heard) in (
-            less.0,
-            less.1,
-            (
-              refl,
-              probes_on (stage.NumberSent r) (stage.Probed r h) x n gs _ left less.0 p same
-                  (gives_same (wants gs) (wants (row_after Everyone Compare 0 gs numbers)) x.probe (is_yes h)
-                  (λ m. leaving.core_wants gs (row_after Everyone Compare 0 gs numbers) m same) says) p.searched less.2,
-            ),
-          )
+          let says : Gives (wants gs) x.probe (is_yes h) = subst (λ q. Gives (wants gs) q (is_yes h)) asked (probe_says gs r h (seek r refl) t.heard) in
+          probe_next (stage.NumberSent r) (stage.Probed r h) k x n gs _ left p same
+          (gives_same (wants gs) (wants (row_after Everyone Compare 0 gs numbers)) x.probe (is_yes h)
+          (λ m. leaving.core_wants gs (row_after Everyone Compare 0 gs numbers) m same) says) p.searched refl (omega arith)
 probing_sent (stage.Probed r h') k x n gs numbers left c h p is taken seek = absurd (cc)
 probing_sent _ k x n gs numbers left c h p is taken seek = absurd p.stage_is
 
@@ -296,63 +272,38 @@ short_kept gs hs n a same short k in_row on active random =
     let e = same.each k there in
     e.same_short ∙ short k there (sym e.same_powered ∙ on) (subst (λ s. is_active s ≡ true) e.same_state active) (sym e.same_random ∙ random)
 
+visit_next : (s t : Stage) (k : Kept) (x : Search) (n : SearchAddress) (gs hs : List Gear) (left : ℕ) → Visits s k n gs left → SameCore gs hs → VisitStage t
+    → IsSearched t n → sent_at t ≡ sent_at s + 1 → sent_at s < 4 → (l : ℕ) × (left ≡ suc l) × ((true ≡ true) × Visits t k n hs l)
+visit_next s t k x n gs hs left v same stage searched sent few =
+    let less = visit_less k n v.more left (sent_at s) v.frames few in (
+      less.0,
+      less.1,
+      (refl, visits_on s t k n gs hs left less.0 v same stage searched (subst (λ m. VisitFrames k n v.more (less.0 + m)) (sym sent) less.2)),
+    )
+
 visits_sent : (s : Stage) (k : Kept) (x : Search) (n : SearchAddress) (gs : List Gear) (numbers : List ℕ) (left : ℕ) (c : Command) (h : Answer)
     → Visits s k n gs left → Sends Visiting n k s c → IsTaken c gs numbers h → Seeks s gs → IsSentTo Visiting s k true x n gs numbers left c h
-visits_sent stage.Free k x n gs numbers left c h v is taken seek = subst (λ d. IsSentTo Visiting stage.Free k true x n gs numbers left d h) (sym is) go where
-  go : IsSentTo Visiting stage.Free k true x n gs numbers left (SearchHigh n.high) h
-  go =
-      let less = visit_less k n v.more left 0 v.frames (omega arith) in (
-        less.0,
-        less.1,
-        (
-          refl,
-          visits_on stage.Free (stage.HighSent n.high) k n gs _ left less.0 v
-              (leaving.core_after (SearchHigh n.high) gs numbers tt) tt refl less.2,
-        ),
-      )
+visits_sent stage.Free k x n gs numbers left c h v is taken seek =
+    subst (λ d. IsSentTo Visiting stage.Free k true x n gs numbers left d h) (sym is)
+    (visit_next stage.Free (stage.HighSent n.high) k x n gs _ left v (leaving.core_after (SearchHigh n.high) gs numbers tt) tt refl refl (omega arith))
 visits_sent (stage.HighSent high) k x n gs numbers left c h v is taken seek =
-    subst (λ d. IsSentTo Visiting (stage.HighSent high) k true x n gs numbers left d h) (some_is (SearchMiddle n.middle) c is) go where
-      go : IsSentTo Visiting (stage.HighSent high) k true x n gs numbers left (SearchMiddle n.middle) h
-      go =
-          let less = visit_less k n v.more left 1 v.frames (omega arith) in (
-            less.0,
-            less.1,
-            (
-              refl,
-              visits_on (stage.HighSent high) (stage.MiddleSent high n.middle) k n gs _ left less.0 v
-                  (leaving.core_after (SearchMiddle n.middle) gs numbers tt) tt (v.searched, refl) less.2,
-            ),
-          )
+    subst (λ d. IsSentTo Visiting (stage.HighSent high) k true x n gs numbers left d h) (some_is (SearchMiddle n.middle) c is)
+    (visit_next (stage.HighSent high) (stage.MiddleSent high n.middle) k x n gs _ left v (leaving.core_after (SearchMiddle n.middle) gs numbers tt) tt
+    (v.searched, refl) refl (omega arith))
 visits_sent (stage.MiddleSent high middle) k x n gs numbers left c h v is taken seek =
-    subst (λ d. IsSentTo Visiting (stage.MiddleSent high middle) k true x n gs numbers left d h) (some_is (SearchLow n.low) c is) go where
-      go : IsSentTo Visiting (stage.MiddleSent high middle) k true x n gs numbers left (SearchLow n.low) h
-      go =
-          let less = visit_less k n v.more left 2 v.frames (omega arith) in (
-            less.0,
-            less.1,
-            (
-              refl,
-              visits_on (stage.MiddleSent high middle) (stage.NumberSent (record { high = high; middle = middle; low = n.low })) k n gs _ left less.0 v
-                  (leaving.core_after (SearchLow n.low) gs numbers tt) tt (whole n high middle v.searched.0 v.searched.1) less.2,
-            ),
-          )
+    subst (λ d. IsSentTo Visiting (stage.MiddleSent high middle) k true x n gs numbers left d h) (some_is (SearchLow n.low) c is)
+    (visit_next (stage.MiddleSent high middle) (stage.NumberSent (record { high = high; middle = middle; low = n.low })) k x n gs _ left v
+    (leaving.core_after (SearchLow n.low) gs numbers tt) tt (whole n high middle v.searched.0 v.searched.1) refl (omega arith))
 visits_sent (stage.NumberSent r) k x n gs numbers left c h v is taken seek =
     subst (λ d. IsTaken d gs numbers h → IsSentTo Visiting (stage.NumberSent r) k true x n gs numbers left d h) (some_is QueryShort c is) go taken where
       go : IsTaken QueryShort gs numbers h → IsSentTo Visiting (stage.NumberSent r) k true x n gs numbers left QueryShort h
       go t =
-          let less = visit_less k n v.more left 3 v.frames (omega arith) in
           let heard : h ≡ Byte (program_data None) =
           visit_heard gs n r v.more None h v.visited v.searched (seek r refl) (t.apart v.ready)
           (λ i there on active enabled random. v.unnamed i there on enabled) t.heard in
-          let there : queried r h ≡ stage.Unnamed r = ap (queried r) heard ∙ mask_queried r in (
-            less.0,
-            less.1,
-            rw there (
-              refl,
-              visits_on (stage.NumberSent r) (stage.Unnamed r) k n gs _ left less.0 v
-                  (leaving.core_after QueryShort gs numbers tt) tt v.searched less.2,
-            ),
-          )
+          let there : queried r h ≡ stage.Unnamed r = ap (queried r) heard ∙ mask_queried r in
+          rw there (visit_next (stage.NumberSent r) (stage.Unnamed r) k x n gs _ left v (leaving.core_after QueryShort gs numbers tt) tt v.searched refl
+          (omega arith))
 visits_sent (stage.Unnamed r) k x n gs numbers left c h v is taken seek =
     subst (λ d. IsSentTo Visiting (stage.Unnamed r) k true x n gs numbers left d h) (sym is.3) go where
       here : Seek gs r
@@ -460,12 +411,27 @@ visiting_sent s k x n gs numbers left c h v is taken seek = visits_sent s k x n 
 
 -- ---------------------------------------------------------------- the close
 
-ends_still : (e : End) (k : Kept) (gs : List Gear) (numbers : List ℕ) → EndsWell e k gs → EndsWell e k (row_after Everyone Terminate 0 gs numbers)
-ends_still AllFound k gs numbers well = λ i in_row on.
-    let there : i < length gs = subst (λ m. i < m) (row_length Everyone Terminate 0 gs numbers) in_row in
-    let same = leaving.short_after_all Terminate gs numbers tt i there in
-    let short = well i there (sym same.0 ∙ on) in
+-- who has a short address keeps it where a frame gives none
+pub short_left : (d : Command) (gs : List Gear) (numbers : List ℕ) (k : ℕ) → LeavesShort d → k < length (row_after Everyone d 0 gs numbers)
+    → (gear_of (row_after Everyone d 0 gs numbers) k).powered ≡ true → (k < length gs → (gear_of gs k).powered ≡ true → HasShort (gear_of gs k))
+    → HasShort (gear_of (row_after Everyone d 0 gs numbers) k)
+short_left d gs numbers k leaves in_row on had =
+    let there : k < length gs = subst (λ n. k < n) (row_length Everyone d 0 gs numbers) in_row in
+    let same = leaving.short_after_all d gs numbers leaves k there in
+    let short = had there (sym same.0 ∙ on) in
     (short.0, same.1 ∙ short.1)
+
+-- where nobody is wanted each gear with power has one
+pub nobody_short : (gs : List Gear) → IsOpened gs → ((m : ℕ) → wants gs m ≡ true → ⊥) → OfPowered gs HasShort
+nobody_short gs ready nobody k in_row on = go (gear_of gs k).short refl where
+  go : (o : Option ℕ) → (gear_of gs k).short ≡ o → HasShort (gear_of gs k)
+  go (Some a) e = (a, e)
+  go None e =
+      absurd (nobody (gear_of gs k).random (wanted.wants_by gs (gear_of gs k).random k in_row
+      (wanted.is_wanted_by (gear_of gs k) on (ready.bare k in_row on e)) refl))
+
+ends_still : (e : End) (k : Kept) (gs : List Gear) (numbers : List ℕ) → EndsWell e k gs → EndsWell e k (row_after Everyone Terminate 0 gs numbers)
+ends_still AllFound k gs numbers well = λ i in_row on. short_left Terminate gs numbers i tt in_row on (well i)
 ends_still _ k gs numbers well = well
 
 closing_sent : (e : End) (s : Stage) (k : Kept) (opened : Bool) (x : Search) (n : SearchAddress) (gs : List Gear) (numbers : List ℕ) (left : ℕ) (c : Command)

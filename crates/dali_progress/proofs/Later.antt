@@ -1,12 +1,15 @@
-use Rattle.std.proofs.Common.{◌≡◌, ℕ, refl, sym, ap, ◌∙◌, Some, None}
+use Rattle.std.proofs.Common.{◌≡◌, ℕ, refl, sym, ap, ◌∙◌, Some, None, Bool, true, false, Option}
 use Rattle.dali_frame.specs.declared.frames.Answer.{Answer}
+use Rattle.dali_frame.specs.declared.frames.Answer.TheVariants.{Silence, Byte, Damaged}
 use Rattle.dali_frame.specs.declared.frames.Forward.{Forward}
 use Rattle.dali_frame.specs.declared.numbers.SearchAddress.{SearchAddress}
 use Rattle.dali_frame.specs.Priority.{LATER}
+use Rattle.dali_frame.specs.Short.{short_of}
 use Rattle.dali_special.specs.declared.command.Command.{Command}
+use Rattle.dali_special.specs.Command.{MASK}
 use Rattle.dali_script.specs.declared.stage.Stage.{Stage}
 use Rattle.dali_script.specs.declared.stage.Stage.TheVariants as stage
-use Rattle.dali_script.specs.Stages.{stage_of}
+use Rattle.dali_script.specs.Stages.{stage_of, named, queried, answered, verified}
 use Rattle.dali_script.specs.declared.orders.Order.TheVariants.{Put}
 use Rattle.dali_controller.specs.declared.purpose.Purpose.{Purpose}
 use Rattle.dali_controller.specs.declared.purpose.Purpose.TheVariants.{Asking, Hunting}
@@ -14,6 +17,7 @@ use Rattle.dali_controller.specs.Course.{Course, turn_of}
 use Rattle.dali_controller.specs.Machine.{Machine}
 use Rattle.dali_controller.specs.Next.{course_on, asked_on}
 use Rattle.dali_controller.specs.Orders.{machine_ordered, asked_by}
+use Rattle.std.specs.Prelude.{◌==◌, if◌then◌else◌}
 
 -- A LATER FRAME LEAVES THE COURSE, but for the next question of a hunt.
 
@@ -53,3 +57,28 @@ turn_unasked p n s c turn = go s turn where
       unasked_but (stage.Hunted r (Some h) left) p
       (λ e. (let never : None ≡ Some c = sym (ap (λ x. turn_of x n (stage.Hunted r (Some h) left)) e) ∙ turn in cc))
   go _ turn = tt
+
+-- ---------------------------------------------------------------- after a QUERY SHORT ADDRESS
+
+-- whatever is answered
+pub queried_by : (P : Stage → Type 0) (r : SearchAddress) → ((b : ℕ) → P (stage.Found r b)) → P (stage.Unnamed r) → P (stage.Unanswered r)
+    → ((o : Option ℕ) → P (stage.Inconclusive r o)) → (h : Answer) → P (queried r h)
+queried_by P r found unnamed silent other Silence = silent
+queried_by P r found unnamed silent other Damaged = other None
+queried_by P r found unnamed silent other (Byte v) = go (short_of v) (v == MASK) where
+  go : (o : Option ℕ) (m : Bool) → P (named r o m)
+  go (Some b) m = found b
+  go None true = unnamed
+  go None false = other None
+
+pub verified_by : (P : Stage → Type 0) (r : SearchAddress) (a : ℕ) → P (stage.Confirmed r a) → ((o : Option ℕ) → P (stage.Inconclusive r o)) → (h : Answer)
+    → P (verified r a h)
+verified_by P r a same other Silence = other None
+verified_by P r a same other Damaged = other None
+verified_by P r a same other (Byte v) = go (short_of v) where
+  go : (o : Option ℕ) → P (answered r a o)
+  go None = other None
+  go (Some b) = by (b == a) where
+    by : (m : Bool) → P (if m then stage.Confirmed r a else stage.Inconclusive r (Some b))
+    by true = same
+    by false = other (Some b)

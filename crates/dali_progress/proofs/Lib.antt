@@ -21,6 +21,7 @@ mod Accounted
 mod Spared
 mod Census
 mod Survey
+mod Surveying
 mod Misheard
 mod Beginnings
 mod Running

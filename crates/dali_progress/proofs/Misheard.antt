@@ -4,7 +4,6 @@ pub mod Climbing
 pub mod Stands
 pub mod Sent
 pub mod Visited
-pub mod Called
 pub mod Known
 pub mod Begins
 pub mod Turns

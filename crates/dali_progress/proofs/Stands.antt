@@ -19,6 +19,7 @@ use Rattle.dali_controller.specs.declared.purpose.Purpose.TheVariants.{Opening, 
 use Rattle.dali_controller.specs.declared.way.Way.TheVariants.{Fresh}
 use Rattle.dali_controller.specs.Course.{first_of, turn_of, sought, is_yes, byte_to_send, call_turn}
 use Rattle.dali_controller.specs.Machine.{Machine}
+use Rattle.dali_controller.specs.Whole.{AsksOn, Sends as SendsWhole}
 use Rattle.dali_events.specs.Wanted.{is_wanted, wants, is_bare, OfPowered, IsOpened, NoneNamed, NoneNamedBut}
 use Rattle.dali_events.proofs.Search.Opened.{AreOpening}
 use Rattle.dali_progress.specs.Ends.{EndsWell, AreTabled}
@@ -213,3 +214,15 @@ Sends p n k stage.Free c = c ≡ first_of p n
 Sends p n k (stage.Unnamed r) c = (a : ℕ) × (a < 64) × Has k.reserved (a, value_of r) × (c ≡ Program (Some a))
 Sends p n k (stage.Hunted r last left) c = AsksBy p n r last left c
 Sends p n k s c = turn_of p n s ≡ Some c
+
+-- it is so of every frame that a whole machine sends
+asks_of : (p : Purpose) (n r : SearchAddress) (last : Option Answer) (left : ℕ) (c : Command) → AsksOn p n r last left c → AsksBy p n r last left c
+asks_of Hunting n r last left c is = is.0
+asks_of Calling n r last left c is = is.0
+asks_of _ n r last left c is = absurd is
+
+pub sends_of : (p : Purpose) (n : SearchAddress) (k : Kept) (s : Stage) (c : Command) → SendsWhole k n p s c → Sends p n k s c
+sends_of p n k stage.Free c is = is.0
+sends_of p n k (stage.Unnamed r) c (visits, same, (a, small, may, gives)) = (a, small, may.reserved_for, gives)
+sends_of p n k (stage.Hunted r last left) c is = asks_of p n r last left c is
+sends_of p n k _ c is = is.0

@@ -6,14 +6,12 @@ pub mod Stands
 pub mod Rising
 pub mod Behind
 pub mod Begins
-pub mod Rolls
 pub mod Sent
 pub mod Turns
 pub mod Hunting
 pub mod Visits
 pub mod Kept
 pub mod Goes
-pub mod Bounded
 pub mod Again
 pub mod Quiet
 pub mod Given

@@ -1,8 +1,6 @@
-use Rattle.std.proofs.Common.{◌≡◌, ℕ, ◌<◌, ◌⊎◌, inl, inr, Bool, true, false, List, ◌∷◌, refl, sym, ap, subst, ◌∙◌, length, Option, Some, None}
-use Rattle.std.specs.Prelude.{◌==◌, if◌then◌else◌}
+use Rattle.std.proofs.Common.{◌≡◌, ℕ, ◌<◌, ◌⊎◌, inl, inr, Bool, true, false, List, ◌∷◌, refl, sym, ap, subst, ◌∙◌, length, Some}
+use Rattle.std.specs.Prelude.{◌==◌}
 use Rattle.dali_frame.specs.declared.frames.Answer.{Answer}
-use Rattle.dali_frame.specs.declared.frames.Answer.TheVariants.{Silence, Byte, Damaged}
-use Rattle.dali_frame.specs.Short.{short_of}
 use Rattle.dali_frame.specs.declared.numbers.SearchAddress.{SearchAddress}
 use Rattle.dali_frame.specs.Random.{value_of}
 use Rattle.dali_special.specs.declared.command.Command.{Command}
@@ -15,7 +13,7 @@ use Rattle.dali_gear.specs.Row.{row_after}
 use Rattle.dali_script.specs.Records.{Assignment, Kept, Has}
 use Rattle.dali_script.specs.declared.stage.Stage.{Stage}
 use Rattle.dali_script.specs.declared.stage.Stage.TheVariants as stage
-use Rattle.dali_script.specs.Stages.{next_stage, answered, verified}
+use Rattle.dali_script.specs.Stages.{next_stage, verified}
 use Rattle.dali_search.specs.Least.{Search}
 use Rattle.dali_controller.specs.declared.purpose.Purpose.{Purpose}
 use Rattle.dali_controller.specs.declared.purpose.Purpose.TheVariants.{Opening, Probing, Visiting, Closing}
@@ -28,6 +26,7 @@ use Rattle.dali_events.proofs.Search.Programming as programming
 use Rattle.dali_progress.specs.Ends.{AreTabled}
 use Rattle.dali_progress.proofs.Stands.{to_come, Opens, VisitsAt, Probes, Closes, At, Sends}
 use Rattle.dali_progress.proofs.Frames.{Seeks}
+use Rattle.dali_progress.proofs.Later.{verified_by}
 
 -- THE TABLE NAMES THE GEAR, while frames are sent. A gear that has a short address keeps it, with its random address;
 -- and the one that is given an address is the one whose entry is to come.
@@ -183,16 +182,7 @@ probing_tabled before _ k x n gs numbers left c h p is tabled = absurd p.stage_i
 -- what follows PROGRAM SHORT ADDRESS is its confirmation, where the visit goes on
 confirmed : (r : SearchAddress) (a : ℕ) (h : Answer) (k : Kept) (n : SearchAddress) (gs : List Gear) (left : ℕ) → VisitsAt (verified r a h) k n gs left
     → verified r a h ≡ stage.Confirmed r a
-confirmed r a Silence k n gs left at = absurd at.stage_is
-confirmed r a Damaged k n gs left at = absurd at.stage_is
-confirmed r a (Byte v) k n gs left at = go (short_of v) at where
-  go : (o : Option ℕ) → VisitsAt (answered r a o) k n gs left → answered r a o ≡ stage.Confirmed r a
-  go None at = absurd at.stage_is
-  go (Some b) at = same (b == a) at where
-    same : (t : Bool) → VisitsAt (if t then stage.Confirmed r a else stage.Inconclusive r (Some b)) k n gs left
-        → (if t then stage.Confirmed r a else stage.Inconclusive r (Some b)) ≡ stage.Confirmed r a
-    same true at = refl
-    same false at = absurd at.stage_is
+confirmed r a h k n gs left = verified_by (λ q. VisitsAt q k n gs left → q ≡ stage.Confirmed r a) r a (λ at. refl) (λ o at. absurd at.stage_is) h
 
 visiting_tabled : (before : List Gear) (s : Stage) (k : Kept) (n : SearchAddress) (gs : List Gear) (numbers : List ℕ) (left rest : ℕ) (c : Command) (h : Answer)
     → VisitsAt s k n gs left → Sends Visiting n k s c → Seeks s gs

@@ -32,7 +32,7 @@ use Rattle.dali_standing.specs.Standing.{Seated, seat_in, empty_seat, seated, ru
 use Rattle.dali_standing.specs.Standing.{machine_in, machines_after, Moves, MayBeSent, WasOrdered}
 use Rattle.dali_standing.proofs.Seats.{seat_at, world_of, with_seat, running_in, goes_on_in, has_acted, has_offered, has_sent, has_lost, has_collided}
 use Rattle.dali_standing.proofs.Seats.{has_lapsed, has_gone_down, has_come_up, IsMove}
-use Rattle.dali_standing.specs.Settled.{IsAccepted, IsHearing, IsOwning, IsPlacedBy, IsPlaced, IsPlacedOn, Settled, GoesOn}
+use Rattle.dali_standing.specs.Settled.{IsAccepted, IsHearing, IsOwning, IsPlacedBy, IsPlaced, IsPlacedOn, Settled, FollowsItsMachine}
 use Rattle.dali_events.specs.declared.trouble.Trouble.{Trouble}
 use Rattle.dali_events.specs.declared.trouble.Trouble.TheVariants as trouble
 use Rattle.dali_events.specs.Troubles.{heard_under, nobody_at_all}
@@ -286,10 +286,10 @@ sender_hears s was r at h t x view settled first read t_is reached scripted =
       go (inr k) = absurd (let no = k.0 in cc)
 
 -- and its frame goes on with those of its machine
-pub sender_goes_on : (s : Seated) (was : Standing) (r : Request) → flat s ≡ was → Settled s → next was.bus ≡ Some r → GoesOn was r
+pub sender_goes_on : (s : Seated) (was : Standing) (r : Request) → flat s ≡ was → Settled s → next was.bus ≡ Some r → FollowsItsMachine was r
 sender_goes_on s was r view settled first =
-    subst (λ (w : Standing). GoesOn w r) view (go (next_at s r settled (next_here s was r view first)).kind) where
-      go : IsKind s r → GoesOn (flat s) r
+    subst (λ (w : Standing). FollowsItsMachine w r) view (go (next_at s r settled (next_here s was r view first)).kind) where
+      go : IsKind s r → FollowsItsMachine (flat s) r
       go (inl k) scripted = (
         ap (λ (x : Controller). frame_put x.last) (controller_in s.seats r.sender) ∙ ap frame_put k.2,
         λ m has. running_is (owns s.bus.owner r.sender) s.trace (seat_at s r.sender) r.priority r.frame k.1 k.2 (settled.places r.sender)

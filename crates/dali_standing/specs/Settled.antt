@@ -144,8 +144,8 @@ IsPlacedOn s c = (m : Machine) → machine_in s.machines c ≡ Some m
 
 -- A scripted frame that is sent is what its sender ordered last, and goes on with the frames of its
 -- machine.
-abbrev pub GoesOn : Standing → Request → Type 0
-GoesOn s r = is_arc (command_of r.frame) ≡ false
+abbrev pub FollowsItsMachine : Standing → Request → Type 0
+FollowsItsMachine s r = is_arc (command_of r.frame) ≡ false
     → (frame_put (controller_on s r.sender).last ≡ Some r.frame)
     × ((m : Machine) → machine_in s.machines r.sender ≡ Some m
     → (if owns s.bus.owner r.sender then s.trace else []) ≡ m.trace)

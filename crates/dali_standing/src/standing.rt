@@ -17,7 +17,7 @@ ghost use Rattle.dali_standing.specs.Standing.{seats_from};
 ghost use Rattle.dali_standing.specs.Seats.{MayAnswer, LeavesWhole, ReservesUsed, MayReserveUsed, Agrees, trace_of};
 ghost use Rattle.dali_standing.specs.Seats.{told_at, due_of};
 ghost use Rattle.dali_events.specs.Troubles.{heard_under, nobody_at_all};
-ghost use Rattle.dali_standing.specs.Settled.{IsAccepted, IsHearing, IsPlacedOn, GoesOn};
+ghost use Rattle.dali_standing.specs.Settled.{IsAccepted, IsHearing, IsPlacedOn, FollowsItsMachine};
 ghost use Rattle.dali_standing.specs.declared.refusal.Refusal.TheVariants as refusal;
 
 use crate::fitted::FittedGear;
@@ -247,7 +247,7 @@ impl Standing {
         ensures heard { result
             ≡ heard_under trouble (heard_of (answers_of Everyone (command_of request.frame) 0 self.old.gear)) }
         ensures moves { Moves self.old (event.Sent request.sender request.frame result) self.new }
-        ensures goes_on { GoesOn self.old request }
+        ensures goes_on { FollowsItsMachine self.old request }
     {
         let plain = self.fitted.take(request.frame, Reach::Everyone);
         let heard = trouble.heard(plain);

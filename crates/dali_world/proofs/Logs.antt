@@ -41,7 +41,7 @@ use Rattle.dali_arbiter.specs.Arbiter.{owns, total, collision}
 use Rattle.dali_standing.specs.Seats.{MayAnswer, LeavesWhole, MayReserveUsed, IsRunning, IsTold, Waits}
 use Rattle.dali_standing.proofs.InUse.{leaves_acted}
 use Rattle.dali_standing.proofs.Acts.{told_accepted, start_first, committed_last}
-use Rattle.dali_standing.specs.Settled.{IsPlacedBy, IsPlacedOn, GoesOn}
+use Rattle.dali_standing.specs.Settled.{IsPlacedBy, IsPlacedOn, FollowsItsMachine}
 use Rattle.dali_world.proofs.Agreeing.{no_conflict}
 use Rattle.dali_script.specs.declared.orders.Order.TheVariants.{Halt, Done}
 use Rattle.dali_script.specs.declared.orders.End.TheVariants.{AllFound}
@@ -381,9 +381,9 @@ act_known s old shares room c i o site due placed answer whole m there =
     )
 
 -- and of one whose frame is sent
-pub send_known : (s : SiteState) (old : Standing) (shares : List ℕ) (room : ℕ) (r : Request) (h : Answer) → IsSite s old shares room → GoesOn old r
+pub send_known : (s : SiteState) (old : Standing) (shares : List ℕ) (room : ℕ) (r : Request) (h : Answer) → IsSite s old shares room → FollowsItsMachine old r
     → IsKnownOf s (event.Sent r.sender r.frame h)
-send_known s old shares room r h site goes = subst (λ (t : Standing). GoesOn t r) site.stands goes
+send_known s old shares room r h site goes = subst (λ (t : Standing). FollowsItsMachine t r) site.stands goes
 
 pub act_found : (s was : SiteState) (old : Standing) (shares : List ℕ) (room c : ℕ) (i : Input) (o : Order) → s ≡ was → IsSite s old shares room
     → MayAnswer (machine_in old.machines c) i o → (m : Machine) → machine_at was c ≡ Some m → m.course.way ≡ Surveying → o ≡ Done AllFound

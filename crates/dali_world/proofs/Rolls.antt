@@ -281,7 +281,7 @@ close_kept s k c m i (Halt why) run was due last waits given closes surveys = (c
 
 -- ---------------------------------------------------------------- lists with a change at one place
 
-changed_at : (P : Controller → Type 0) (cs : List Controller) (d c : ℕ) (change : Controller → Controller) → P (get_or cs c nobody)
+pub changed_at : (P : Controller → Type 0) (cs : List Controller) (d c : ℕ) (change : Controller → Controller) → P (get_or cs c nobody)
     → (d ≡ c → P (get_or cs c nobody) → P (change (get_or cs c nobody))) → P (get_or (controllers_changed cs d change) c nobody)
 changed_at P [] d c change was does = was
 changed_at P (k ∷ cs) zero zero change was does = does refl was
@@ -289,18 +289,18 @@ changed_at P (k ∷ cs) zero (suc c) change was does = was
 changed_at P (k ∷ cs) (suc d) zero change was does = was
 changed_at P (k ∷ cs) (suc d) (suc c) change was does = changed_at P cs d c change was (λ e. does (ap suc e))
 
-none_set : (ms : List (Option Machine)) (d : ℕ) → get_or (set ms d None) d None ≡ None
+pub none_set : (ms : List (Option Machine)) (d : ℕ) → get_or (set ms d None) d None ≡ None
 none_set [] d = refl
 none_set (x ∷ ms) zero = refl
 none_set (x ∷ ms) (suc d) = none_set ms d
 
-some_set : (ms : List (Option Machine)) (d : ℕ) (n m : Machine) → get_or (set ms d (Some n)) d None ≡ Some m → n ≡ m
+pub some_set : (ms : List (Option Machine)) (d : ℕ) (n m : Machine) → get_or (set ms d (Some n)) d None ≡ Some m → n ≡ m
 some_set [] d n m e = absurd (cc)
 some_set (x ∷ ms) zero n m e = cc
 some_set (x ∷ ms) (suc d) n m e = some_set ms d n m e
 
 -- an event of controller d, by whether it is c
-by_place : (P : Type 0) (d c : ℕ) → (d ≡ c → P) → ((c ≡ d → ⊥) → P) → P
+pub by_place : (P : Type 0) (d c : ℕ) → (d ≡ c → P) → ((c ≡ d → ⊥) → P) → P
 by_place P d c here there = go (nat_eq d c) refl where
   go : (b : Bool) → nat_eq d c ≡ b → P
   go true e = here (let same : d ≡ c = grind (arith, nat_tests) in same)

@@ -90,13 +90,13 @@ answers_first c k g gs = ap (λ o. option_cons o (answers_of Everyone c (k + 1) 
   go true = refl
   go false = refl
 
-none_answer : (c : Command) (k : ℕ) (gs : List Gear) → ((i : ℕ) → i < length gs → answer_to c (gear_of gs i) ≡ None) → answers_of Everyone c k gs ≡ []
+pub none_answer : (c : Command) (k : ℕ) (gs : List Gear) → ((i : ℕ) → i < length gs → answer_to c (gear_of gs i) ≡ None) → answers_of Everyone c k gs ≡ []
 none_answer c k [] none = refl
 none_answer c k (g ∷ gs) none =
     let here : answer_to c g ≡ None = none 0 (omega arith) in
     answers_first c k g gs ∙ ap (λ o. option_cons o (answers_of Everyone c (k + 1) gs)) here ∙ none_answer c (k + 1) gs (λ i h. none (suc i) (omega arith))
 
-one_answers : (c : Command) (k : ℕ) (gs : List Gear) (i v : ℕ) → i < length gs → answer_to c (gear_of gs i) ≡ Some v
+pub one_answers : (c : Command) (k : ℕ) (gs : List Gear) (i v : ℕ) → i < length gs → answer_to c (gear_of gs i) ≡ Some v
     → ((j : ℕ) → j < length gs → (j ≡ i → ⊥) → answer_to c (gear_of gs j) ≡ None) → answers_of Everyone c k gs ≡ v ∷ []
 one_answers c k [] i v h e none = absurd (omega arith)
 one_answers c k (g ∷ gs) zero v h e none =
@@ -111,10 +111,10 @@ one_answers c k (g ∷ gs) (suc i) v h e none =
 pub random_found : (g : Gear) (r : SearchAddress) → g.search ≡ r → g.random ≡ value_of r → is_found g ≡ true
 random_found g r search random = number_same g.random (value_of g.search) (random ∙ ap value_of (sym search))
 
-queried_short : (g : Gear) → g.powered ≡ true → is_active g.state ≡ true → is_found g ≡ true → answer_to QueryShort g ≡ Some (program_data g.short)
+pub queried_short : (g : Gear) → g.powered ≡ true → is_active g.state ≡ true → is_found g ≡ true → answer_to QueryShort g ≡ Some (program_data g.short)
 queried_short g on active found = rw (on, active, found) refl
 
-queried_none : (g : Gear) → (g.powered ≡ true → is_active g.state ≡ true → is_found g ≡ true → ⊥) → answer_to QueryShort g ≡ None
+pub queried_none : (g : Gear) → (g.powered ≡ true → is_active g.state ≡ true → is_found g ≡ true → ⊥) → answer_to QueryShort g ≡ None
 queried_none g other = go g.powered (is_active g.state) (is_found g) refl refl refl where
   go : (a b c : Bool) → g.powered ≡ a → is_active g.state ≡ b → is_found g ≡ c → answer_to QueryShort g ≡ None
   go false b c on active found = rw on refl

@@ -26,7 +26,7 @@ use Rattle.dali_controller.specs.declared.way.Way.TheVariants.{Surveying}
 use Rattle.dali_controller.specs.Course.{Course}
 use Rattle.dali_controller.specs.Machine.{Machine, machine_heard, asked_at, asked_after_silence}
 use Rattle.dali_controller.specs.Next.{next_course, begins_at, goes_on_to, asked_once, course_on}
-use Rattle.dali_controller.specs.Orders.{IsAllowed, machine_ordered, asked_by}
+use Rattle.dali_controller.specs.Orders.{IsAllowed, machine_ordered, asked_by, MayCommit}
 use Rattle.dali_controller.specs.Whole.{IsWhole, IsSending, Knows, Pending, Sends}
 use Rattle.dali_progress.proofs.Later.{IsUnasked, course_stays}
 use Rattle.dali_progress.proofs.Census.Left.{waits, at_stage, of_purpose, of_last, beyond, left, granted, beyond_less, beyond_most, granted_more, waits_least}
@@ -36,14 +36,18 @@ use Rattle.dali_progress.proofs.Census.Left.{of_purpose_most, goes_moves, Furthe
 
 -- ---------------------------------------------------------------- what an order leaves
 
--- by what kind of order it is: a first frame, a later one of a transaction that runs, or none
+-- by what kind of order it is: a first frame, a later one of a transaction that runs, or none; with why a record may be committed
+pub by_kind : (t : Machine) (P : Order → Type 0) → ((f : Forward) → P (Put FIRST f)) → ((f : Forward) → (t.trace ≡ [] → ⊥) → P (Put LATER f))
+    → ((x : Record) → MayCommit t x → P (Commit x)) → ((e : End) → P (Done e)) → ((w : Fault) → P (Halt w)) → (o : Order) → IsAllowed t o → P o
+by_kind t P first later commit done halt (Commit x) may = commit x may
+by_kind t P first later commit done halt (Put p f) (inl may) = subst (λ q. P (Put q f)) (sym may.0) (first f)
+by_kind t P first later commit done halt (Put p f) (inr may) = subst (λ q. P (Put q f)) (sym may.0) (later f may.1)
+by_kind t P first later commit done halt (Done e) may = done e
+by_kind t P first later commit done halt (Halt w) may = halt w
+
 pub by_order : (t : Machine) (P : Order → Type 0) → ((f : Forward) → P (Put FIRST f)) → ((f : Forward) → (t.trace ≡ [] → ⊥) → P (Put LATER f))
     → ((x : Record) → P (Commit x)) → ((e : End) → P (Done e)) → ((w : Fault) → P (Halt w)) → (o : Order) → IsAllowed t o → P o
-by_order t P first later commit done halt (Put p f) (inl may) = subst (λ q. P (Put q f)) (sym may.0) (first f)
-by_order t P first later commit done halt (Put p f) (inr may) = subst (λ q. P (Put q f)) (sym may.0) (later f may.1)
-by_order t P first later commit done halt (Commit x) may = commit x
-by_order t P first later commit done halt (Done e) may = done e
-by_order t P first later commit done halt (Halt w) may = halt w
+by_order t P first later commit = by_kind t P first later (λ x may. commit x)
 
 -- WHAT IS LEFT at most, of a machine that was told something, once it has ordered: more only where short addresses are asked again
 abbrev pub Leaves : ℕ → Machine → Machine → ℕ → Type 0

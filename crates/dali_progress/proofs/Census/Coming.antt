@@ -37,14 +37,21 @@ use Rattle.dali_controller.specs.Orders.{IsGiven, IsAllowed, MayCommit, machine_
 use Rattle.dali_controller.specs.Whole.{IsWhole, IsReady, IsSending, Pending, Sends, Knows}
 use Rattle.dali_progress.specs.Surveyed.{Step, IsTaken, IsCourse, IsPlain, ArePlain, stage_told}
 use Rattle.dali_progress.specs.Census.{IsSurveyed, BeginsBySurvey, AreWhole}
-use Rattle.dali_progress.proofs.Accounted.{unreserved}
+use Rattle.dali_progress.proofs.Accounted.{unreserved, told_keeps}
 use Rattle.dali_progress.proofs.Later.{IsUnasked, asking_unasked, stays_at}
-use Rattle.dali_progress.proofs.Census.Asked.{by_order, Asks, asks_of, self, sending_of}
+use Rattle.dali_progress.proofs.Census.Asked.{by_order, Asks, asks_of, self, sending_of, by_kind}
 use Rattle.dali_progress.proofs.Census.Course.{IsAlone, alone_after, put_is, commit_is, started, runs_after}
 
 -- WHAT A CENSUS SEES of a short address: until it was asked, or the table names it, it is still to come.
 
 -- ---------------------------------------------------------------- which address is asked next
+
+-- what holds of no number from one on holds of that one neither
+pub from_next : (has : ℕ → Bool) (from a : ℕ) → from ≤ a → has from ≡ false → (from + 1 ≤ a → has a ≡ false) → has a ≡ false
+from_next has from a low is more = go (from == a) refl where
+  go : (t : Bool) → (from == a) ≡ t → has a ≡ false
+  go true same = subst (λ c. has c ≡ false) (let at : from ≡ a = grind (arith, nat_tests, same) in at) is
+  go false other = let apart : from ≡ a → ⊥ = grind (arith, nat_tests, other) in more (omega (arith, low, apart))
 
 pub asked_later : (k : Kept) (n from : ℕ) → asked_among k n from ≡ None → (a : ℕ) → from ≤ a → a < from + n → is_asked k a ≡ false
 asked_later k zero from none a low high = absurd (omega (arith, low, high))
@@ -52,12 +59,7 @@ asked_later k (suc n) from none a low high = go (is_asked k from) refl none (ask
   go : (b : Bool) → is_asked k from ≡ b → (if b then Some from else asked_among k n (from + 1)) ≡ None
       → (asked_among k n (from + 1) ≡ None → (c : ℕ) → from + 1 ≤ c → c < (from + 1) + n → is_asked k c ≡ false) → is_asked k a ≡ false
   go true is e more = absurd (cc)
-  go false is e more = here (from == a) refl where
-    here : (t : Bool) → (from == a) ≡ t → is_asked k a ≡ false
-    here true same = subst (λ c. is_asked k c ≡ false) (let at : from ≡ a = grind (arith, nat_tests) in at) is
-    here false other =
-        let apart : from ≡ a → ⊥ = grind (arith, nat_tests) in
-        more e a (omega (arith, low, apart)) (omega (arith, high))
+  go false is e more = from_next (is_asked k) from a low is (λ up. more e a up (omega (arith, high)))
 
 pub asked_before : (k : Kept) (n from c : ℕ) → asked_among k n from ≡ Some c → (a : ℕ) → from ≤ a → a < c → is_asked k a ≡ false
 asked_before k zero from c some a low high = absurd (cc)
@@ -65,10 +67,7 @@ asked_before k (suc n) from c some a low high = go (is_asked k from) refl some (
   go : (b : Bool) → is_asked k from ≡ b → (if b then Some from else asked_among k n (from + 1)) ≡ Some c
       → (asked_among k n (from + 1) ≡ Some c → (d : ℕ) → from + 1 ≤ d → d < c → is_asked k d ≡ false) → is_asked k a ≡ false
   go true is e more = absurd (let same : from ≡ c = cc in omega (arith, low, high, same))
-  go false is e more = here (from == a) refl where
-    here : (t : Bool) → (from == a) ≡ t → is_asked k a ≡ false
-    here true same = subst (λ d. is_asked k d ≡ false) (let at : from ≡ a = grind (arith, nat_tests) in at) is
-    here false other = let apart : from ≡ a → ⊥ = grind (arith, nat_tests) in more e a (omega (arith, low, apart)) high
+  go false is e more = from_next (is_asked k) from a low is (λ up. more e a up high)
 
 -- who is not asked is enrolled
 pub unasked_enrolled : (k : Kept) (a : ℕ) → is_asked k a ≡ false → (r : ℕ) × Has k.enrolled (a, r)
@@ -237,15 +236,6 @@ ahead t a b small purpose surveys opened low unasked next =
       first f (inl same) = inr (inr (b, ap (λ c. c.purpose) same ∙ purpose, inl (subst (λ (c : Course). c.from ≤ a) (sym same) low)))
       first f (inr goes) = inr (begins_on t f a small surveys opened low goes)
 
--- by what kind of order it is, with why a record may be committed
-pub by_kind : (t : Machine) (P : Order → Type 0) → ((f : Forward) → P (Put FIRST f)) → ((f : Forward) → (t.trace ≡ [] → ⊥) → P (Put LATER f))
-    → ((x : Record) → MayCommit t x → P (Commit x)) → ((e : End) → P (Done e)) → ((w : Fault) → P (Halt w)) → (o : Order) → IsAllowed t o → P o
-by_kind t P first later commit done halt (Commit x) may = commit x may
-by_kind t P first later commit done halt (Put p f) (inl may) = subst (λ q. P (Put q f)) (sym may.0) (first f)
-by_kind t P first later commit done halt (Put p f) (inr may) = subst (λ q. P (Put q f)) (sym may.0) (later f may.1)
-by_kind t P first later commit done halt (Done e) may = done e
-by_kind t P first later commit done halt (Halt w) may = halt w
-
 -- the one that is asked, where the question is put again
 pub again : (t : Machine) (a b : ℕ) (s : Stage) → t.course.purpose ≡ Asking b → b ≡ a → next_course t ≡ t.course → stage_of t.trace ≡ s
     → ((n : _) → s ≡ stage.Unnamed n → ⊥) → finding_of t.trace ≡ None → ((c n : ℕ) → t.last ≡ Some (Commit (Enrol c n)) → ⊥)
@@ -285,15 +275,9 @@ asked_after_small (Asking a) s h k small = asked_at_small s h k
 asked_after_small _ s h k small = omega arith
 
 told_small : (m : Machine) (i : Input) → m.asked ≤ 2 → (machine_told m i).asked ≤ 2
-told_small m (input.Heard h) small = go (frame_put m.last) where
-  go : (f : Option Forward) → (machine_heard m f h).asked ≤ 2
-  go None = small
-  go (Some f) = asked_after_small m.course.purpose (stage_of (machine_heard m (Some f) h).trace) h m.asked small
-told_small m input.Committed small = go (record_ordered m.last) where
-  go : (x : Option Record) → (machine_committed m x).asked ≤ 2
-  go None = small
-  go (Some x) = small
-told_small m _ small = small
+told_small m i small =
+    told_keeps (λ t. t.asked ≤ 2) m i small small
+    (λ f h. asked_after_small m.course.purpose (stage_of (machine_heard m (Some f) h).trace) h m.asked small) small (λ x. small)
 
 asked_small : (opened : Bool) (n : ℕ) → n ≤ 2 → asked_by opened n ≤ 2
 asked_small true n small = omega arith

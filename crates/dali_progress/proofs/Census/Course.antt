@@ -24,6 +24,7 @@ use Rattle.dali_progress.specs.Census.{IsSurveyed, BeginsBySurvey, AreWhole, was
 use Rattle.dali_progress.proofs.Census.Left.{waits, of_purpose, of_last, beyond, left, granted, beyond_most}
 use Rattle.dali_progress.proofs.Census.Asked.{same_left, sent_left}
 use Rattle.dali_progress.proofs.Census.Others.{Rests, asking_or, any_left, calm_left, kept_left, ordered_way, ordered_askings}
+use Rattle.dali_progress.proofs.Accounted.{told_keeps}
 
 -- A CENSUS IS BOUNDED: each step, and all of a course.
 
@@ -153,28 +154,10 @@ survey_counts u m input.CommitFailed o one surveys running due given whole alone
 
 -- the way of a survey stays
 told_way : (m : Machine) (i : Input) → m.course.way ≡ Surveying → (machine_told m i).course.way ≡ Surveying
-told_way m input.Survey is = refl
-told_way m (input.Heard h) is = go (frame_put m.last) where
-  go : (f : Option Forward) → (machine_heard m f h).course.way ≡ Surveying
-  go None = is
-  go (Some f) = is
-told_way m input.Committed is = go (record_ordered m.last) where
-  go : (x : Option Record) → (machine_committed m x).course.way ≡ Surveying
-  go None = is
-  go (Some x) = is
-told_way m _ is = is
+told_way m i is = told_keeps (λ t. t.course.way ≡ Surveying) m i is refl (λ f h. is) is (λ x. is)
 
 told_few : (m : Machine) (i : Input) → m.course.tally.askings ≤ 6 → (machine_told m i).course.tally.askings ≤ 6
-told_few m input.Survey few = omega arith
-told_few m (input.Heard h) few = go (frame_put m.last) where
-  go : (f : Option Forward) → (machine_heard m f h).course.tally.askings ≤ 6
-  go None = few
-  go (Some f) = few
-told_few m input.Committed few = go (record_ordered m.last) where
-  go : (x : Option Record) → (machine_committed m x).course.tally.askings ≤ 6
-  go None = few
-  go (Some x) = few
-told_few m _ few = few
+told_few m i few = told_keeps (λ t. t.course.tally.askings ≤ 6) m i few (omega arith) (λ f h. few) few (λ x. few)
 
 -- ---------------------------------------------------------------- a course
 

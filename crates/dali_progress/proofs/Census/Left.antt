@@ -126,7 +126,7 @@ pub quiet : (c d : Course) → d.way ≡ Surveying → d.tally.askings ≡ c.tal
     → Moves c d
 quiet c d way askings from none = record { way = way; on = inl (askings, inl (same_later d.from c.from from, none)) }
 
-asked_within : (k : Kept) (n from a : ℕ) → asked_among k n from ≡ Some a → (from ≤ a) × (a < from + n)
+pub asked_within : (k : Kept) (n from a : ℕ) → asked_among k n from ≡ Some a → (from ≤ a) × (a < from + n)
 asked_within k zero from a e = absurd (cc)
 asked_within k (suc n) from a e = go (is_asked k from) e (asked_within k n (from + 1) a) where
   go : (b : Bool) → (if b then Some from else asked_among k n (from + 1)) ≡ Some a

@@ -29,10 +29,8 @@ use Rattle.dali_controller.specs.Course.{hunted, hunting_first, probed, after_st
 use Rattle.dali_controller.specs.Course.{opening_anew, opening_at_last}
 use Rattle.dali_controller.specs.Machine.{Machine}
 use Rattle.dali_controller.specs.Next.{next_course, begins_at, goes_on_to, at_rest, asked_once, silenced, silenced_on, missed_again, is_failed, most_silent}
-use Rattle.dali_controller.specs.Next.{unanswered}
-use Rattle.dali_controller.specs.Next.{course_on, asked_on, hunted_in, hunted_to, has_open, may_draw, asks_again, full, undrawn, ungiven, is_blocked, blocked}
-use Rattle.dali_controller.specs.Next.{called_to}
-use Rattle.dali_controller.specs.Next.{compared_in}
+use Rattle.dali_controller.specs.Next.{unanswered, course_on, asked_on, hunted_in, hunted_to, has_open, may_draw, asks_again, full, undrawn, ungiven}
+use Rattle.dali_controller.specs.Next.{is_blocked, blocked, called_to, compared_in}
 use Rattle.dali_controller.specs.Tally.{asked_again, silent_call, heard_call}
 use Rattle.dali_controller.specs.Orders.{IsAllowed, machine_ordered, asked_by}
 use Rattle.dali_progress.specs.Census.{was_sent, was_lost}

@@ -1,6 +1,5 @@
 use Rattle.std.proofs.Common.{◌≡◌, ℕ, ◌-◌, ◌+◌, ◌*◌, ◌<◌, ◌≤◌, ◌⊎◌, inl, inr, Bool, true, false, List, [], refl, sym, ap, subst, ◌∙◌, arith, length, Option}
-use Rattle.std.proofs.Common.{Some}
-use Rattle.std.proofs.Common.{None}
+use Rattle.std.proofs.Common.{Some, None}
 use Rattle.std.specs.Prelude.{not, nat_lt, if◌then◌else◌}
 use Rattle.std.proofs.lemmas.Bool.Decides.{nat_tests}
 use Rattle.dali_frame.specs.declared.frames.Forward.{Forward}
@@ -12,7 +11,7 @@ use Rattle.dali_special.specs.Command.{frame_of}
 use Rattle.dali_gear.specs.Gear.{Gear}
 use Rattle.dali_script.specs.declared.records.Record.{Record}
 use Rattle.dali_script.specs.declared.records.Record.TheVariants.{Reserve, Enrol, Release}
-use Rattle.dali_script.specs.Records.{Kept, Has, IsKept, with_record}
+use Rattle.dali_script.specs.Records.{Kept, Has, with_record}
 use Rattle.dali_script.specs.declared.stage.Stage.{Stage}
 use Rattle.dali_script.specs.declared.stage.Stage.TheVariants as stage
 use Rattle.dali_script.specs.Stages.{IsTrace, stage_of}
@@ -39,26 +38,18 @@ use Rattle.dali_events.specs.Wanted.{gear_of, is_wanted, wants}
 use Rattle.dali_events.proofs.Search.Opened.{OpenedBy}
 use Rattle.dali_progress.proofs.Later.{IsUnasked, later_leaves, turn_unasked}
 use Rattle.dali_progress.proofs.Census.Coming.{asked_later, asked_before, unasked_enrolled}
-use Rattle.dali_progress.proofs.Survey.Drawn.{AreNumbered, woken_short}
-use Rattle.dali_progress.proofs.Survey.Queried.{OneShort, IsTrue, AreOwned}
-use Rattle.dali_progress.proofs.Survey.Begins.{asked_within}
-use Rattle.dali_progress.proofs.Survey.Stands.{AreTaken, IsClear}
+use Rattle.dali_progress.proofs.Census.Left.{asked_within}
+use Rattle.dali_progress.proofs.Survey.Drawn.{woken_short}
+use Rattle.dali_progress.proofs.Survey.Queried.{OneShort, IsTrue}
+use Rattle.dali_progress.proofs.Survey.Stands.{AreTaken}
 use Rattle.dali_progress.proofs.Survey.Woken.{AreLow}
-use Rattle.dali_progress.proofs.Misheard.Gear.{Each, AreSought, AreBare, AreKnown, DrewApart}
+use Rattle.dali_progress.proofs.Misheard.Gear.{Each, AreSought, AreBare, AreKnown}
 use Rattle.dali_progress.proofs.Misheard.Climbing as climbing
-use Rattle.dali_progress.proofs.Misheard.Stands.{IsCounted, IsSpent, HuntStage, Rises, IsReached, IsPast, HuntAt, Hunts, EndsBy}
-use Rattle.dali_progress.proofs.Misheard.Stands.{AreTabledBelow, AreSeen, IsCensus, KnownAt, At, MisheardStands}
+use Rattle.dali_progress.proofs.Misheard.Stands.{IsCounted, IsSpent, HuntStage, Rises, IsReached, IsPast, HuntAt, Hunts, EndsBy, AreTabledBelow, AreSeen}
+use Rattle.dali_progress.proofs.Misheard.Stands.{IsCensus, KnownAt, At, MisheardStands}
+use Rattle.dali_progress.proofs.Surveying.{roll_first, IsClear}
 
 -- A TRANSACTION BEGINS, or goes on; and what is to come of an order.
-
--- what is known of the world, where the controller acts
-pub record IsAtHand (k : Kept) (gs : List Gear) : Type 0 where
-  pub kept : IsKept k
-  pub numbered : AreNumbered gs
-  pub apart : DrewApart gs
-  pub one : OneShort gs
-  pub holds : IsTrue k.enrolled gs
-  pub owned : AreOwned k.reserved gs
 
 pub record Calm (g : ℕ) (m : Machine) (gs : List Gear) : Type 0 where
   pub there : g < length gs
@@ -189,25 +180,19 @@ turns_by g t o p s c gs by st purpose at turn =
 
 -- ---------------------------------------------------------------- a first one
 
-goes_first : (g : ℕ) (t : Machine) (o : Order) (gs : List Gear) → Calm g t gs → o ≡ beginning (next_course t) → (next_course t).way ≡ Surveying
-    → At false g (next_course t).purpose stage.Free t.kept t.heard (next_course t) t.silent gs
-    → KnownAt g (next_course t).purpose stage.Free t.kept t.heard (next_course t) gs → IsNext g (machine_ordered t o) o gs
-goes_first g t o gs calm is way at known = subst (λ q. IsNext g (machine_ordered t q) q gs) (sym is) (record {
-  there = calm.there;
-  tries = calm.tries;
-  way = way;
-  trace = subst (λ s. IsTrace s []) (sym stage_none) trace_none;
-  at = subst (λ s. At false g (next_course t).purpose s t.kept t.heard (next_course t) t.silent gs) (sym stage_none) at;
-  known = subst (λ s. KnownAt g (next_course t).purpose s t.kept t.heard (next_course t) gs) (sym stage_none) known;
-})
-
 pub first_by : (g : ℕ) (t : Machine) (o : Order) (cs : Course) (gs : List Gear) → Calm g t gs → o ≡ beginning (next_course t) → next_course t ≡ cs
     → cs.way ≡ Surveying → At false g cs.purpose stage.Free t.kept t.heard cs t.silent gs → KnownAt g cs.purpose stage.Free t.kept t.heard cs gs
     → IsNext g (machine_ordered t o) o gs
-first_by g t o cs gs calm is same way at known =
-    goes_first g t o gs calm is (subst (λ (d : Course). d.way ≡ Surveying) (sym same) way)
-    (subst (λ (d : Course). At false g d.purpose stage.Free t.kept t.heard d t.silent gs) (sym same) at)
-    (subst (λ (d : Course). KnownAt g d.purpose stage.Free t.kept t.heard d gs) (sym same) known)
+first_by g t o cs gs calm is same way at known = subst (λ q. IsNext g (machine_ordered t q) q gs) (sym is) (record {
+  there = calm.there;
+  tries = calm.tries;
+  way = subst (λ (d : Course). d.way ≡ Surveying) (sym same) way;
+  trace = subst (λ s. IsTrace s []) (sym stage_none) trace_none;
+  at = subst (λ s. At false g (next_course t).purpose s t.kept t.heard (next_course t) t.silent gs) (sym stage_none)
+      (subst (λ (d : Course). At false g d.purpose stage.Free t.kept t.heard d t.silent gs) (sym same) at);
+  known = subst (λ s. KnownAt g (next_course t).purpose s t.kept t.heard (next_course t) gs) (sym stage_none)
+      (subst (λ (d : Course). KnownAt g d.purpose stage.Free t.kept t.heard d gs) (sym same) known);
+})
 
 -- ---------------------------------------------------------------- the census, and the first roll call
 
@@ -251,23 +236,18 @@ asks_or_calls g t o c f gs calm is same way unopened counted few clear census on
           first_by g t o (calling_first c) gs calm is next way
           (record {
             opened_is = refl;
-            number = refl;
             counted = counted;
-            stage_is = tt;
-            gear = λ k in_row on. tt;
-            low = tt;
+            roll = roll_first gs;
           })
           (called_known g c.tally t.kept t.heard gs clear
           (census_on f 64 c.tally t.kept t.heard gs one holds (λ d past under. none refl d past (omega (arith, under, few))) census))
       go (Some a) next none before within =
           let high : a < f + (64 - f) = (within a refl).1 in
           first_by g t o (asking c a) gs calm is next way
-          (record { unopened = unopened; counted = counted; stage_is = tt })
+          (record { unopened = unopened; counted = counted })
           (record {
-            small = omega (arith, high, few);
+            ask = record { small = omega (arith, high, few); asked = tt; clear = clear };
             from_is = refl;
-            asked = tt;
-            clear = clear;
             census = census_on f a c.tally t.kept t.heard gs one holds (λ d past under. before a refl d past under) census;
           })
 

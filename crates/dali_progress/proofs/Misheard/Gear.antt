@@ -1,5 +1,4 @@
-use Rattle.std.proofs.Common.{◌≡◌, ℕ, ◌<◌, ◌⊎◌, inl, inr, Bool, true, false, List, refl, sym, ap, subst, ◌∙◌, arith, length}
-use Rattle.std.proofs.Common.{Some, None}
+use Rattle.std.proofs.Common.{◌≡◌, ℕ, ◌<◌, ◌⊎◌, inl, inr, Bool, true, false, List, refl, sym, ap, subst, ◌∙◌, arith, length, Some, None}
 use Rattle.std.specs.Prelude.{◌&&◌, ◌==◌, is_some, if◌then◌else◌}
 use Rattle.dali_frame.specs.declared.frames.Answer.TheVariants.{Byte}
 use Rattle.dali_frame.specs.declared.numbers.SearchAddress.{SearchAddress}
@@ -14,9 +13,6 @@ use Rattle.dali_gear.specs.Gear.{Gear, draws_a_number, is_second, is_active, is_
 use Rattle.dali_gear.specs.Row.{row_after, answers_of, heard_of}
 use Rattle.dali_script.specs.Records.{Assignment, Has}
 use Rattle.dali_script.specs.declared.stage.Stage.TheVariants as stage
-use Rattle.dali_script.proofs.Members.{same_member}
-use Rattle.dali_events.specs.World.{World}
-use Rattle.dali_events.specs.Runs.{AreDrawn}
 use Rattle.dali_events.specs.Searching.{HasShort}
 use Rattle.dali_events.specs.Wanted.{gear_of, is_wanted, Seek}
 use Rattle.dali_events.proofs.Invariant.Takes.{row_length}
@@ -24,11 +20,11 @@ use Rattle.dali_events.proofs.Invariant.Known.{found_random}
 use Rattle.dali_events.proofs.Search.Opened.{AreOpening}
 use Rattle.dali_events.proofs.Search.Wanted.{same_number, number_same, after_at, wanted_powered, wanted_active}
 use Rattle.dali_events.proofs.Search.Leaving.{SameGear, SameCore}
-use Rattle.dali_events.proofs.Search.Heard.{random_found}
+use Rattle.dali_events.proofs.Search.Heard.{random_found, one_answers, queried_short, queried_none}
 use Rattle.dali_events.proofs.Search.Programming.{after_program, Programs, programs_at}
 use Rattle.dali_events.proofs.Search.Withdrawing.{after_withdraw, Withdraws, withdraws_at}
 use Rattle.dali_progress.proofs.Stands.{HaveShort}
-use Rattle.dali_progress.proofs.Survey.Queried.{one_answers}
+use Rattle.dali_progress.proofs.Survey.Drawn.{DrewApart}
 
 -- WHAT IS TRUE OF GEAR WHERE ONE IS MISHEARD: of each gear with power, by its number in the row.
 
@@ -97,21 +93,6 @@ AreKnown reserved enrolled gs = Each gs (IsKnown reserved enrolled)
 abbrev pub HasOne : ℕ → ℕ → List Gear → Type 0
 HasOne v a gs =
     (k : ℕ) × (k < length gs) × ((gear_of gs k).powered ≡ true) × ((gear_of gs k).short ≡ Some a) × ((gear_of gs k).random ≡ v)
-
--- no two have drawn one number
-abbrev pub DrewApart : List Gear → Type 0
-DrewApart gs =
-    (j k : ℕ) → j < length gs → k < length gs → (gear_of gs j).random < MASK24 → (gear_of gs j).random ≡ (gear_of gs k).random → j ≡ k
-
-pub drew_apart : (w : World) → AreDrawn w → DrewApart w.gear
-drew_apart w drawn j k h i small same =
-    ap (λ draw. draw.0) (same_member (λ draw. draw.1) w.drawn (j, (gear_of w.gear j).random) (k, (gear_of w.gear k).random) drawn.once
-    (drew j h small) (drew k i (subst (λ n. n < MASK24) same small)) same) where
-      drew : (g : ℕ) → g < length w.gear → (gear_of w.gear g).random < MASK24 → Has w.drawn (g, (gear_of w.gear g).random)
-      drew g there below = go (drawn.random g there) where
-        go : ((gear_of w.gear g).random ≡ MASK24) ⊎ Has w.drawn (g, (gear_of w.gear g).random) → Has w.drawn (g, (gear_of w.gear g).random)
-        go (inl none) = absurd (omega (arith, none, below))
-        go (inr has) = has
 
 -- ---------------------------------------------------------------- frames that leave all but search addresses
 
@@ -325,17 +306,6 @@ pub random_withdrawn : (gs : List Gear) (numbers : List ℕ) (k : ℕ) → k < l
 random_withdrawn gs numbers k there = after_at Withdraw (λ y z. z.random ≡ y.random) (λ y off. refl) (λ y x on. refl) gs numbers k there
 
 -- ---------------------------------------------------------------- QUERY SHORT ADDRESS
-
-queried_short : (y : Gear) → y.powered ≡ true → is_active y.state ≡ true → is_found y ≡ true → answer_to QueryShort y ≡ Some (program_data y.short)
-queried_short y on active found = rw (on, active, found) refl
-
-queried_none : (y : Gear) → (y.powered ≡ true → is_active y.state ≡ true → is_found y ≡ true → ⊥) → answer_to QueryShort y ≡ None
-queried_none y other = go y.powered (is_active y.state) (is_found y) refl refl refl where
-  go : (a b c : Bool) → y.powered ≡ a → is_active y.state ≡ b → is_found y ≡ c → answer_to QueryShort y ≡ None
-  go false b c on active found = rw on refl
-  go true false c on active found = rw (on, active) refl
-  go true true false on active found = rw (on, active, found) refl
-  go true true true on active found = absurd (other on active found)
 
 -- the one gear that has the number answers
 pub query_is : (gs : List Gear) (r : SearchAddress) (k : ℕ) → Seek gs r → DrewApart gs → value_of r < MASK24 → k < length gs

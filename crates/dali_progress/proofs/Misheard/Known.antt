@@ -1,179 +1,216 @@
-use Rattle.std.proofs.Common.{◌≡◌, ℕ, ◌<◌, ◌⊎◌, inl, inr, Bool, true, false, List, refl, sym, ap, subst, ◌∙◌, Some, None}
-use Rattle.std.specs.Prelude.{◌==◌, if◌then◌else◌}
+use Rattle.std.proofs.Common.{◌≡◌, ℕ, ◌<◌, inl, inr, true, false, List, refl, sym, subst, ◌∙◌, length, ◌⊎◌, Bool, Some, None}
 use Rattle.dali_frame.specs.declared.frames.Answer.{Answer}
-use Rattle.dali_frame.specs.declared.frames.Answer.TheVariants.{Silence, Byte}
 use Rattle.dali_frame.specs.declared.numbers.SearchAddress.{SearchAddress}
-use Rattle.dali_frame.specs.Random.{value_of, number_of, high_of, middle_of, low_of, MASK24}
+use Rattle.dali_frame.specs.Random.{MASK24, value_of}
 use Rattle.dali_special.specs.declared.command.Command.{Command}
-use Rattle.dali_special.specs.declared.command.Command.TheVariants.{Terminate, Initialise, Randomise, Compare, Withdraw, SearchHigh, SearchMiddle, SearchLow}
-use Rattle.dali_special.specs.declared.command.Command.TheVariants.{Program, QueryShort, RandomByte}
-use Rattle.dali_special.specs.declared.command.Part.TheVariants.{High, Middle, Low}
-use Rattle.dali_special.specs.declared.command.Target.TheVariants.{Unaddressed}
+use Rattle.dali_special.specs.declared.command.Command.TheVariants.{Terminate, Program}
 use Rattle.dali_gear.specs.declared.row.Reach.TheVariants.{Everyone}
 use Rattle.dali_gear.specs.Gear.{Gear}
-use Rattle.dali_gear.specs.Row.{row_after, answers_of, heard_of}
-use Rattle.dali_script.specs.Records.{Assignment, Kept, Has, HasAddress, InBlock, IsKept}
+use Rattle.dali_gear.specs.Row.{row_after}
+use Rattle.dali_script.specs.Records.{Kept, Assignment, Has, HasAddress, InBlock}
 use Rattle.dali_script.specs.declared.stage.Stage.{Stage}
 use Rattle.dali_script.specs.declared.stage.Stage.TheVariants as stage
 use Rattle.dali_script.specs.Stages.{next_stage}
-use Rattle.dali_script.proofs.Transactions.{middle_next, low_next}
+use Rattle.dali_script.specs.declared.orders.End.{End}
+use Rattle.dali_script.specs.declared.orders.End.TheVariants.{AllFound, BlockFull, GaveUp}
 use Rattle.dali_controller.specs.declared.purpose.Purpose.{Purpose}
-use Rattle.dali_controller.specs.declared.purpose.Purpose.TheVariants.{Opening, Probing, Visiting, Resolving, Closing, Hunting, Asking, Calling}
-use Rattle.dali_controller.specs.declared.purpose.Purpose.TheVariants.{Drawing, PassingOver}
+use Rattle.dali_controller.specs.declared.purpose.Purpose.TheVariants.{Opening, Probing, Visiting, Resolving, Closing, Hunting, Asking, Calling, Drawing}
+use Rattle.dali_controller.specs.declared.purpose.Purpose.TheVariants.{PassingOver}
 use Rattle.dali_controller.specs.declared.shorts.Shorts.{Shorts}
-use Rattle.dali_controller.specs.declared.tally.Tally.{Tally}
-use Rattle.dali_controller.specs.Shorts.{has_short, with_short, without_short}
-use Rattle.dali_controller.specs.Course.{Course, byte_to_send}
-use Rattle.dali_controller.specs.Machine.{heard_after, marked_at}
+use Rattle.dali_controller.specs.Course.{Course}
+use Rattle.dali_controller.specs.Machine.{silent_after, heard_after, marked_at}
 use Rattle.dali_controller.specs.Whole.{Sends}
 use Rattle.dali_events.specs.Wanted.{gear_of}
-use Rattle.dali_events.proofs.Invariant.Resolving.{whole_number}
-use Rattle.dali_events.proofs.Search.Leaving as leaving
-use Rattle.dali_events.proofs.Search.Leaving.{SameCore}
-use Rattle.dali_events.proofs.Search.Opened.{AreOpening}
-use Rattle.dali_events.proofs.Search.Wanted.{same_number, number_same}
-use Rattle.dali_progress.proofs.Both.{has_address}
-use Rattle.dali_progress.proofs.Frames.{Seeks, some_is}
+use Rattle.dali_events.proofs.Search.Wanted.{after_at, same_number, number_same}
+use Rattle.dali_events.proofs.Search.Leaving.{LeavesShort, SameCore}
+use Rattle.dali_progress.specs.Misheard.{AreServedBut}
+use Rattle.dali_progress.proofs.Frames.{Seeks, short_left}
 use Rattle.dali_progress.proofs.Tables.{LeavesNames}
-use Rattle.dali_progress.proofs.Accounted.{with_has}
-use Rattle.dali_progress.proofs.Survey.Woken.{leaves_short}
-use Rattle.dali_progress.proofs.Survey.Queried.{Holds, Nobody, AreOwned, one_gear}
-use Rattle.dali_progress.proofs.Survey.Stands.{AreTaken}
-use Rattle.dali_progress.proofs.Survey.Sent.{heard_high, tells_on, nobody_on, with_other, without_other, clear_with, told_clear}
 use Rattle.dali_progress.proofs.Misheard.Gear as gear
-use Rattle.dali_progress.proofs.Misheard.Gear.{IsKnown, AreKnown, each_after, each_core}
-use Rattle.dali_progress.proofs.Misheard.Stands.{IsSpent, IsTabled, AreTabledBelow, IsCensus, Census, KnownAt, Calls, At}
-use Rattle.dali_progress.proofs.Misheard.Sent.{Taken, truth}
-use Rattle.dali_progress.proofs.Misheard.Called.{keeps_names, served_left, is_compare}
+use Rattle.dali_progress.proofs.Misheard.Gear.{HasDrawn, HaveDrawn, each_after, IsKnown, AreKnown, each_core}
+use Rattle.dali_progress.proofs.Misheard.Stands.{Asks, Calls, Draws, EndsBy, Closes, At, IsCounted, IsCountedFor, Census, KnownAt, IsSpent, IsTabled}
+use Rattle.dali_progress.proofs.Misheard.Stands.{AreTabledBelow, IsCensus}
+use Rattle.dali_progress.proofs.Misheard.Sent.{Taken, counted_on, hunting_sent, but_taken, truth}
+use Rattle.dali_progress.proofs.Misheard.Visited.{visiting_sent, passing_sent}
+use Rattle.dali_progress.proofs.Stands.{sends_of}
+use Rattle.dali_progress.proofs.Surveying.{RollSent, DrawSent, IsDraws, roll_sent, draw_sent, open_sent, quiet_roll, quiet_draw, AskedTo, asked_sent}
+use Rattle.dali_progress.proofs.Surveying.{quiet_asked, DrawsBy, AskedAt, with_other, without_other}
+use Rattle.dali_progress.proofs.Survey.Queried.{IsAtHand, Holds}
+use Rattle.dali_progress.proofs.Survey.Woken.{names_left, all_left, leaves_short}
+use Rattle.std.specs.Prelude.{◌==◌, if◌then◌else◌}
+use Rattle.dali_frame.specs.declared.frames.Answer.TheVariants.{Silence, Byte, Damaged}
+use Rattle.dali_controller.specs.declared.tally.Tally.{Tally}
+use Rattle.dali_controller.specs.Shorts.{has_short, with_short, without_short}
+use Rattle.dali_progress.proofs.Both.{has_address, IsDry, is_unnamed, names_sent}
+use Rattle.dali_progress.proofs.Accounted.{with_has}
+use Rattle.dali_progress.proofs.Survey.Stands.{AreTaken}
+use Rattle.dali_progress.proofs.Survey.Drawn.{AreNumbered}
+
+-- A FRAME OF A ROLL CALL IS SENT, or one after which gear draw, or one of the census or the close; and of whatever transaction.
+
+-- ---------------------------------------------------------------- gear keep their numbers and short addresses
+
+random_left : (d : Command) (gs : List Gear) (numbers : List ℕ) → LeavesNames d → (k : ℕ) → k < length gs
+    → (gear_of (row_after Everyone d 0 gs numbers) k).random ≡ (gear_of gs k).random
+random_left d gs numbers leaves k there =
+    after_at d (λ y z. z.random ≡ y.random) (λ y off. refl) (λ y x on. (names_left d y x leaves).2) gs numbers k there
+
+drawn_left : (d : Command) (gs : List Gear) (numbers : List ℕ) → LeavesNames d → HaveDrawn gs → HaveDrawn (row_after Everyone d 0 gs numbers)
+drawn_left d gs numbers leaves =
+    each_after d HasDrawn HasDrawn (λ k y x was none. (let same = names_left d y x leaves in
+    subst (λ n. n < MASK24) (sym same.2) (was (sym same.1 ∙ none)))) gs numbers
+
+served_left : (g : ℕ) (d : Command) (gs : List Gear) (numbers : List ℕ) → LeavesShort d → AreServedBut g gs
+    → AreServedBut g (row_after Everyone d 0 gs numbers)
+served_left g d gs numbers leaves all k in_row other on = short_left d gs numbers k leaves in_row on (λ there. all k there other)
+
+-- ---------------------------------------------------------------- the roll call
+
+abbrev pub CalledTo : ℕ → Stage → Course → ℕ → List Gear → List ℕ → Command → Answer → Type 0
+CalledTo g s c silent gs numbers d h =
+    Calls g (next_stage s d h) c (silent_after (next_stage s d h) c.opened silent) (row_after Everyone d 0 gs numbers)
+
+roll_of : (g : ℕ) (s : Stage) (k : Kept) (c : Course) (silent : ℕ) (gs : List Gear) (numbers : List ℕ) (d : Command) (h : Answer)
+    → Calls g s c silent gs → Sends k c.number Calling s d → Taken g d gs numbers h → Seeks s gs → RollSent s c.number gs numbers d h
+roll_of g s k c silent gs numbers d h v is t seek =
+    roll_sent s c.number k gs numbers d h v.roll (sends_of Calling c.number k s d is) (but_taken g d gs numbers h t) seek
+
+calls_sent : (g : ℕ) (s : Stage) (k : Kept) (c : Course) (silent : ℕ) (gs : List Gear) (numbers : List ℕ) (d : Command) (h : Answer)
+    → Calls g s c silent gs → g < length gs → RollSent s c.number gs numbers d h → CalledTo g s c silent gs numbers d h
+calls_sent g s k c silent gs numbers d h v there to = record {
+  opened_is = v.opened_is;
+  counted = subst (λ n. IsCounted g c.tally n 0 (row_after Everyone d 0 gs numbers))
+      (sym (quiet_roll (next_stage s d h) c.number (row_after Everyone d 0 gs numbers) c.opened silent to.roll))
+      (counted_on g c.tally silent 0 gs (row_after Everyone d 0 gs numbers) v.counted (random_left d gs numbers to.leaves g there)
+      (drawn_left d gs numbers to.leaves));
+  roll = to.roll;
+}
+
+-- ---------------------------------------------------------------- gear draw
+
+abbrev pub DrawnTo : Purpose → Stage → Course → ℕ → List Gear → List ℕ → Command → Answer → Type 0
+DrawnTo p s c silent gs numbers d h =
+    Draws p (next_stage s d h) c (silent_after (next_stage s d h) c.opened silent) (row_after Everyone d 0 gs numbers)
+
+draw_of : (g : ℕ) (s : Stage) (k : Kept) (c : Course) (silent : ℕ) (gs : List Gear) (numbers : List ℕ) (d : Command) (h : Answer)
+    → Draws Drawing s c silent gs → Sends k c.number Drawing s d → Taken g d gs numbers h → DrawSent Drawing s c.number gs numbers d h
+draw_of g s k c silent gs numbers d h v is t =
+    draw_sent s c.number k gs numbers d h v.draw (sends_of Drawing c.number k s d is) (but_taken g d gs numbers h t)
+
+open_of : (g : ℕ) (s : Stage) (k : Kept) (c : Course) (silent : ℕ) (gs : List Gear) (numbers : List ℕ) (d : Command) (h : Answer)
+    → Draws Opening s c silent gs → Sends k c.number Opening s d → Taken g d gs numbers h → DrawSent Opening s c.number gs numbers d h
+open_of g s k c silent gs numbers d h v is t =
+    open_sent s c.number k gs numbers d h v.draw (sends_of Opening c.number k s d is) (but_taken g d gs numbers h t)
+
+draws_sent : (p : Purpose) (s : Stage) (c : Course) (silent : ℕ) (gs : List Gear) (numbers : List ℕ) (d : Command) (h : Answer) → IsDraws p
+    → Draws p s c silent gs → DrawSent p s c.number gs numbers d h → DrawnTo p s c silent gs numbers d h
+draws_sent p s c silent gs numbers d h is v to = record {
+  opened_is = v.opened_is;
+  counted = subst (λ n. IsCountedFor c.tally n)
+      (sym (quiet_draw p (next_stage s d h) c.number (row_after Everyone d 0 gs numbers) c.opened silent is to.draw)) v.counted;
+  draw = to.draw;
+}
+
+-- ---------------------------------------------------------------- the close
+
+ends_still : (g : ℕ) (e : End) (k : Kept) (heard : Shorts) (gs : List Gear) (numbers : List ℕ) → EndsBy g e k heard gs
+    → EndsBy g e k heard (row_after Everyone Terminate 0 gs numbers)
+ends_still g AllFound k heard gs numbers all = all_left Terminate gs numbers tt all
+ends_still g BlockFull k heard gs numbers well = well
+ends_still g GaveUp k heard gs numbers (inl served) = inl (served_left g Terminate gs numbers tt served)
+ends_still g GaveUp k heard gs numbers (inr well) = inr well
+
+closes_sent : (g : ℕ) (e : End) (s : Stage) (k : Kept) (heard : Shorts) (n : SearchAddress) (gs : List Gear) (numbers : List ℕ) (d : Command) (h : Answer)
+    → Closes g e s k heard gs → Sends k n (Closing e) s d → Closes g e (next_stage s d h) k heard (row_after Everyone d 0 gs numbers)
+closes_sent g e stage.Free k heard n gs numbers d h v is =
+    subst (λ q. Closes g e (next_stage stage.Free q h) k heard (row_after Everyone q 0 gs numbers)) (sym is.0)
+    (record { stage_is = tt; well = ends_still g e k heard gs numbers v.well })
+closes_sent g e stage.Terminated k heard n gs numbers d h v is = absurd (let never = is.0 in cc)
+closes_sent g e _ k heard n gs numbers d h v is = absurd v.stage_is
+
+-- ---------------------------------------------------------------- the census
+
+asks_of : (g a : ℕ) (s : Stage) (k : Kept) (heard : Shorts) (c : Course) (gs : List Gear) (numbers : List ℕ) (d : Command) (h : Answer)
+    → Census a s k heard c gs → Sends k c.number (Asking a) s d → Taken g d gs numbers h → IsAtHand k gs → AskedTo a s k heard gs numbers d h
+asks_of g a s k heard c gs numbers d h v is t hand =
+    asked_sent a s k heard c.number gs numbers d h v.ask (sends_of (Asking a) c.number k s d is) hand (truth g d gs numbers h t)
+
+asks_sent : (g a : ℕ) (s : Stage) (k : Kept) (heard : Shorts) (c : Course) (silent : ℕ) (gs : List Gear) (numbers : List ℕ) (d : Command) (h : Answer)
+    → Asks g c silent gs → g < length gs → AskedTo a s k heard gs numbers d h
+    → Asks g c (silent_after (next_stage s d h) c.opened silent) (row_after Everyone d 0 gs numbers)
+asks_sent g a s k heard c silent gs numbers d h v there to = record {
+  unopened = v.unopened;
+  counted = subst (λ n. IsCounted g c.tally n 0 (row_after Everyone d 0 gs numbers))
+      (sym (quiet_asked a (next_stage s d h) (row_after Everyone d 0 gs numbers) c.opened silent to.0.asked))
+      (counted_on g c.tally silent 0 gs (row_after Everyone d 0 gs numbers) v.counted (gear.random_core gs (row_after Everyone d 0 gs numbers) g to.1 there)
+      (gear.drawn_core gs (row_after Everyone d 0 gs numbers) to.1));
+}
+
+-- ---------------------------------------------------------------- of whatever transaction
+
+abbrev pub SentTo : ℕ → Purpose → Stage → Kept → Shorts → Course → ℕ → List Gear → List ℕ → Command → Answer → Type 0
+SentTo g p s k heard c silent gs numbers d h =
+    At true g p (next_stage s d h) k (heard_after p (next_stage s d h) h heard) c (silent_after (next_stage s d h) c.opened silent)
+    (row_after Everyone d 0 gs numbers)
+
+pub at_sent : (g : ℕ) (p : Purpose) (s : Stage) (k : Kept) (heard : Shorts) (c : Course) (silent : ℕ) (gs : List Gear) (numbers : List ℕ) (d : Command)
+    (h : Answer) → At false g p s k heard c silent gs → KnownAt g p s k heard c gs → Sends k c.number p s d → Taken g d gs numbers h → IsAtHand k gs
+    → Seeks s gs → SentTo g p s k heard c silent gs numbers d h
+at_sent g (Asking a) s k heard c silent gs numbers d h at known is t told seek =
+    asks_sent g a s k heard c silent gs numbers d h at t.there (asks_of g a s k heard c gs numbers d h known is t told)
+at_sent g Calling s k heard c silent gs numbers d h at known is t told seek =
+    calls_sent g s k c silent gs numbers d h at t.there (roll_of g s k c silent gs numbers d h at is t seek)
+at_sent g Hunting s k heard c silent gs numbers d h at known is t told seek = hunting_sent g s k c silent gs numbers d h at is t seek
+at_sent g Visiting s k heard c silent gs numbers d h at known is t told seek = visiting_sent g s k c silent gs numbers d h at is t seek
+at_sent g PassingOver s k heard c silent gs numbers d h at known is t told seek = passing_sent g s k c silent gs numbers d h at is t seek
+at_sent g Drawing s k heard c silent gs numbers d h at known is t told seek =
+    draws_sent Drawing s c silent gs numbers d h tt at (draw_of g s k c silent gs numbers d h at is t)
+at_sent g Opening s k heard c silent gs numbers d h at known is t told seek =
+    draws_sent Opening s c silent gs numbers d h tt at (open_of g s k c silent gs numbers d h at is t)
+at_sent g (Closing e) s k heard c silent gs numbers d h at known is t told seek = closes_sent g e s k heard c.number gs numbers d h at is
+at_sent g Probing s k heard c silent gs numbers d h at known is t told seek = absurd at
+at_sent g (Resolving a) s k heard c silent gs numbers d h at known is t told seek = absurd at
 
 -- WHO IS KNOWN, once a frame is sent.
 
 -- ---------------------------------------------------------------- what a frame does to gear
 
--- it leaves numbers and short addresses, or gives an address that is reserved, or gear draw
+-- it leaves numbers and short addresses, or gear draw; or it gives an address that is reserved
 abbrev pub Does : Kept → Stage → List Gear → Command → Type 0
 Does k s gs d =
-    LeavesNames d
-    ⊎ (((r : SearchAddress) × (a : ℕ) × (s ≡ stage.Unnamed r) × (d ≡ Program (Some a)) × Has k.reserved (a, value_of r))
-    ⊎ ((d ≡ Randomise) × (AreOpening stage.Initialised gs ⊎ AreOpening stage.RandomisedOnce gs)))
+    DrawsBy d gs ⊎ ((r : SearchAddress) × (a : ℕ) × (s ≡ stage.Unnamed r) × (d ≡ Program (Some a)) × Has k.reserved (a, value_of r))
 
-leaves : (k : Kept) (s : Stage) (gs : List Gear) (c d : Command) → LeavesNames c → d ≡ c → Does k s gs d
-leaves k s gs c d names is = inl (subst LeavesNames (sym is) names)
+does_by : (p : Purpose) (n : SearchAddress) (s : Stage) (k : Kept) (gs : List Gear) (d : Command) → IsDry p → Sends k n p s d → Does k s gs d
+does_by p n s k gs d dry is = go (is_unnamed s) where
+  given : (r : SearchAddress) → s ≡ stage.Unnamed r → Sends k n p (stage.Unnamed r) d → Does k s gs d
+  given r at (visits, same, (a, small, may, gives)) = inr (r, a, at, gives, may.reserved_for)
 
-byte_leaves : (n r : SearchAddress) → LeavesNames (byte_to_send n r)
-byte_leaves n r = go (r.high == n.high) (r.low == n.low) (r.middle == n.middle) where
-  go : (a b m : Bool) → LeavesNames (if a then (if b then (if m then Compare else SearchMiddle n.middle) else SearchLow n.low) else SearchHigh n.high)
-  go false b m = tt
-  go true false m = tt
-  go true true false = tt
-  go true true true = tt
-
-turned_to : (x c : Command) → Some x ≡ Some c → c ≡ x
-turned_to x c e = sym (some_is x c e)
-
-names_of : (c d : Command) → LeavesNames c → d ≡ c → LeavesNames d
-names_of c d names is = subst LeavesNames (sym is) names
-
--- a roll call leaves them
-call_leaves : (g : ℕ) (s : Stage) (k : Kept) (c : Course) (silent : ℕ) (gs : List Gear) (d : Command) → Calls g s c silent gs → Sends k c.number Calling s d
-    → LeavesNames d
-call_leaves g stage.Free k c silent gs d at is = names_of Terminate d tt is.0
-call_leaves g stage.Terminated k c silent gs d at is = names_of (Initialise Unaddressed) d tt (turned_to _ d is.0)
-call_leaves g stage.InitialisedOnce k c silent gs d at is = names_of (Initialise Unaddressed) d tt (turned_to _ d is.0)
-call_leaves g stage.Initialised k c silent gs d at is = names_of (SearchHigh c.number.high) d tt (turned_to _ d is.0)
-call_leaves g (stage.WokenHigh high) k c silent gs d at is = names_of (SearchLow c.number.low) d tt (turned_to _ d is.0)
-call_leaves g (stage.WokenLow high low) k c silent gs d at is = names_of (SearchMiddle c.number.middle) d tt (turned_to _ d is.0)
-call_leaves g (stage.Hunted r last room) k c silent gs d at is = names_of Compare d tt (is_compare last room d is.0)
-call_leaves g _ k c silent gs d at is = absurd at.stage_is
-
-does_at : (g : ℕ) (p : Purpose) (s : Stage) (k : Kept) (heard : Shorts) (c : Course) (silent : ℕ) (gs : List Gear) (d : Command) → ((a : ℕ) → p ≡ Asking a → ⊥)
-    → At false g p s k heard c silent gs → Sends k c.number p s d → Does k s gs d
-does_at g (Asking a) s k heard c silent gs d other at is = absurd (other a refl)
-does_at g Calling s k heard c silent gs d other at is = inl (call_leaves g s k c silent gs d at is)
-does_at g Hunting stage.Free k heard c silent gs d other at is = leaves k stage.Free gs (SearchHigh c.number.high) d tt is.0
-does_at g Hunting (stage.HighSent high) k heard c silent gs d other at is =
-    leaves k (stage.HighSent high) gs (SearchLow c.number.low) d tt (turned_to _ d is.0)
-does_at g Hunting (stage.LowSent high low) k heard c silent gs d other at is =
-    leaves k (stage.LowSent high low) gs (SearchMiddle c.number.middle) d tt (turned_to _ d is.0)
-does_at g Hunting (stage.Hunted r last room) k heard c silent gs d other at is =
-    leaves k (stage.Hunted r last room) gs (byte_to_send c.number r) d (byte_leaves c.number r) is.0
-does_at g Hunting _ k heard c silent gs d other at is = absurd at.at.stage_is
-does_at g Visiting stage.Free k heard c silent gs d other at is = leaves k stage.Free gs (SearchHigh c.number.high) d tt is.0
-does_at g Visiting (stage.HighSent high) k heard c silent gs d other at is =
-    leaves k (stage.HighSent high) gs (SearchMiddle c.number.middle) d tt (turned_to _ d is.0)
-does_at g Visiting (stage.MiddleSent high middle) k heard c silent gs d other at is =
-    leaves k (stage.MiddleSent high middle) gs (SearchLow c.number.low) d tt (turned_to _ d is.0)
-does_at g Visiting (stage.NumberSent r) k heard c silent gs d other at is = leaves k (stage.NumberSent r) gs QueryShort d tt (turned_to _ d is.0)
-does_at g Visiting (stage.Found r b) k heard c silent gs d other at is = leaves k (stage.Found r b) gs Withdraw d tt (turned_to _ d is.0)
-does_at g Visiting (stage.Programmed r a) k heard c silent gs d other at is = leaves k (stage.Programmed r a) gs QueryShort d tt (turned_to _ d is.0)
-does_at g Visiting (stage.Confirmed r a) k heard c silent gs d other at is = leaves k (stage.Confirmed r a) gs Withdraw d tt (turned_to _ d is.0)
-does_at g Visiting (stage.Unnamed r) k heard c silent gs d other at (one, same, (a, small, may, gives)) =
-    inr (inl (r, a, refl, gives, may.reserved_for))
-does_at g Visiting (stage.Unanswered r) k heard c silent gs d other at is = absurd (let never = is.0 in cc)
-does_at g Visiting (stage.Inconclusive r x) k heard c silent gs d other at is = absurd (let never = is.0 in cc)
-does_at g Visiting (stage.Withdrawn r a) k heard c silent gs d other at is = absurd (let never = is.0 in cc)
-does_at g Visiting _ k heard c silent gs d other at is = absurd at.at.stage_is
-does_at g PassingOver stage.Free k heard c silent gs d other at is = leaves k stage.Free gs (SearchHigh c.number.high) d tt is.0
-does_at g PassingOver (stage.HighSent high) k heard c silent gs d other at is =
-    leaves k (stage.HighSent high) gs (SearchMiddle c.number.middle) d tt (turned_to _ d is.0)
-does_at g PassingOver (stage.MiddleSent high middle) k heard c silent gs d other at is =
-    leaves k (stage.MiddleSent high middle) gs (SearchLow c.number.low) d tt (turned_to _ d is.0)
-does_at g PassingOver (stage.NumberSent r) k heard c silent gs d other at is = leaves k (stage.NumberSent r) gs Withdraw d tt (turned_to _ d is.0)
-does_at g PassingOver (stage.PassedOver r) k heard c silent gs d other at is = absurd (let never = is.0 in cc)
-does_at g PassingOver _ k heard c silent gs d other at is = absurd at.at.stage_is
-does_at g Opening stage.Free k heard c silent gs d other at is = leaves k stage.Free gs Terminate d tt is.0
-does_at g Opening stage.Terminated k heard c silent gs d other at is = leaves k stage.Terminated gs (Initialise Unaddressed) d tt (turned_to _ d is.0)
-does_at g Opening stage.InitialisedOnce k heard c silent gs d other at is =
-    leaves k stage.InitialisedOnce gs (Initialise Unaddressed) d tt (turned_to _ d is.0)
-does_at g Opening stage.Initialised k heard c silent gs d other at is = inr (inr (turned_to _ d is.0, inl at.gear))
-does_at g Opening stage.RandomisedOnce k heard c silent gs d other at is = inr (inr (turned_to _ d is.0, inr at.gear))
-does_at g Opening stage.Opened k heard c silent gs d other at is = absurd (let never = is.0 in cc)
-does_at g Opening _ k heard c silent gs d other at is = absurd at.stage_is
-does_at g Drawing stage.Free k heard c silent gs d other at is = leaves k stage.Free gs Terminate d tt is.0
-does_at g Drawing stage.Terminated k heard c silent gs d other at is = leaves k stage.Terminated gs (Initialise Unaddressed) d tt (turned_to _ d is.0)
-does_at g Drawing stage.InitialisedOnce k heard c silent gs d other at is =
-    leaves k stage.InitialisedOnce gs (Initialise Unaddressed) d tt (turned_to _ d is.0)
-does_at g Drawing stage.Initialised k heard c silent gs d other at is =
-    leaves k stage.Initialised gs (SearchHigh c.number.high) d tt (turned_to _ d is.0)
-does_at g Drawing (stage.WokenHigh high) k heard c silent gs d other at is =
-    leaves k (stage.WokenHigh high) gs (SearchMiddle c.number.middle) d tt (turned_to _ d is.0)
-does_at g Drawing (stage.WokenMiddle high middle) k heard c silent gs d other at is =
-    leaves k (stage.WokenMiddle high middle) gs Compare d tt (turned_to _ d is.0)
-does_at g Drawing stage.DrawFree k heard c silent gs d other at is = inr (inr (turned_to _ d is.0, inl at.gear))
-does_at g Drawing stage.RandomisedOnce k heard c silent gs d other at is = inr (inr (turned_to _ d is.0, inr at.gear))
-does_at g Drawing stage.Opened k heard c silent gs d other at is = absurd (let never = is.0 in cc)
-does_at g Drawing _ k heard c silent gs d other at is = absurd at.stage_is
-does_at g (Closing e) stage.Free k heard c silent gs d other at is = leaves k stage.Free gs Terminate d tt is.0
-does_at g (Closing e) stage.Terminated k heard c silent gs d other at is = absurd (let never = is.0 in cc)
-does_at g (Closing e) _ k heard c silent gs d other at is = absurd at.stage_is
-does_at g Probing s k heard c silent gs d other at is = absurd at
-does_at g (Resolving a) s k heard c silent gs d other at is = absurd at
+  go : ((r : SearchAddress) × (s ≡ stage.Unnamed r)) ⊎ ((r : SearchAddress) → s ≡ stage.Unnamed r → ⊥) → Does k s gs d
+  go (inl (r, at)) = given r at (subst (λ q. Sends k n p q d) at is)
+  go (inr other) = inl (inl (names_sent p n k s d dry other (sends_of p n k s d is)))
 
 known_after : (k : Kept) (s : Stage) (gs : List Gear) (numbers : List ℕ) (d : Command) → Does k s gs d → Seeks s gs → AreKnown k.reserved k.enrolled gs
     → AreKnown k.reserved k.enrolled (row_after Everyone d 0 gs numbers)
-known_after k s gs numbers d (inl names) seek known =
+known_after k s gs numbers d (inl (inl names)) seek known =
     each_after d (IsKnown k.reserved k.enrolled) (IsKnown k.reserved k.enrolled) (λ i y x was a small short drew.
-    (let same = keeps_names d y x names in
-    subst (λ n. Has k.enrolled (a, n) ⊎ Has k.reserved (a, n)) (sym same.0)
-    (was a small (sym same.1 ∙ short) (subst (λ n. n < MASK24) same.0 drew)))) gs numbers known
-known_after k s gs numbers d (inr (inl (r, a, at, gives, has))) seek known =
+    (let same = names_left d y x names in
+    subst (λ n. Has k.enrolled (a, n) ⊎ Has k.reserved (a, n)) (sym same.2)
+    (was a small (sym same.1 ∙ short) (subst (λ n. n < MASK24) same.2 drew)))) gs numbers known
+known_after k s gs numbers d (inl (inr (draws, inl all))) seek known =
+    subst (λ e. AreKnown k.reserved k.enrolled (row_after Everyone e 0 gs numbers)) (sym draws) (gear.known_once k.reserved k.enrolled gs numbers all known)
+known_after k s gs numbers d (inl (inr (draws, inr all))) seek known =
+    subst (λ e. AreKnown k.reserved k.enrolled (row_after Everyone e 0 gs numbers)) (sym draws) (gear.known_twice k.reserved k.enrolled gs numbers all known)
+known_after k s gs numbers d (inr (r, a, at, gives, has)) seek known =
     subst (λ e. AreKnown k.reserved k.enrolled (row_after Everyone e 0 gs numbers)) (sym gives)
     (gear.known_programmed k.reserved k.enrolled gs numbers r a (subst (λ q. Seeks q gs) at seek r refl) has known)
-known_after k s gs numbers d (inr (inr (draws, inl all))) seek known =
-    subst (λ e. AreKnown k.reserved k.enrolled (row_after Everyone e 0 gs numbers)) (sym draws) (gear.known_once k.reserved k.enrolled gs numbers all known)
-known_after k s gs numbers d (inr (inr (draws, inr all))) seek known =
-    subst (λ e. AreKnown k.reserved k.enrolled (row_after Everyone e 0 gs numbers)) (sym draws) (gear.known_twice k.reserved k.enrolled gs numbers all known)
 
 -- ---------------------------------------------------------------- marks
 
--- what is known of the records: whoever has an address that is reserved has the number that it is reserved for
-pub record AreToldOf (k : Kept) (gs : List Gear) : Type 0 where
-  pub kept : IsKept k
-  pub block : (a : ℕ) → InBlock k.block a → a < 64
-  pub owned : AreOwned k.reserved gs
-
 apart_of : (a b : ℕ) → (a == b) ≡ false → a ≡ b → ⊥
 apart_of a b other e = let never : true ≡ false = sym (number_same a b e) ∙ other in cc
+
+same_small : (a b : ℕ) → b ≡ a → a < 64 → b < 64
+same_small a b same small = subst (λ n. n < 64) (sym same) small
 
 -- where no address of the block is left
 taken_with : (k : Kept) (heard : Shorts) (b : ℕ) → b < 64 → AreTaken k heard → AreTaken k (with_short heard b)
@@ -188,9 +225,10 @@ taken_with k heard b small taken a within = by (taken a within) where
     more false other = with_other heard b a small (apart_of a b other) ∙ marked
 
 -- the gear that told its number is known
-taken_without : (k : Kept) (heard : Shorts) (b n i : ℕ) (gs : List Gear) → AreToldOf k gs → b < 64 → Holds gs i b → (gear_of gs i).random ≡ n → n < MASK24
+taken_without : (k : Kept) (heard : Shorts) (b n i : ℕ) (gs : List Gear) → ((c : ℕ) → InBlock k.block c → c < 64) → b < 64 → Holds gs i b
+    → (gear_of gs i).random ≡ n → n < MASK24
     → AreKnown k.reserved k.enrolled gs → AreTaken k heard → AreTaken k (without_short heard b)
-taken_without k heard b n i gs told small holds random drew known taken a within = by (taken a within) where
+taken_without k heard b n i gs block small holds random drew known taken a within = by (taken a within) where
   here : Has k.enrolled (b, n) ⊎ Has k.reserved (b, n)
       → HasAddress k.reserved b ⊎ (HasAddress k.enrolled b ⊎ (has_short (without_short heard b) b ≡ true))
   here (inl has) = inr (inl (has_address k.enrolled b n has))
@@ -206,7 +244,7 @@ taken_without k heard b n i gs told small holds random drew known taken a within
         subst (λ c. HasAddress k.reserved c ⊎ (HasAddress k.enrolled c ⊎ (has_short (without_short heard b) c ≡ true))) (sym (same_number a b is))
         (here (subst (λ m. Has k.enrolled (b, m) ⊎ Has k.reserved (b, m)) random
         (known i holds.there holds.on b small holds.short (subst (λ m. m < MASK24) (sym random) drew))))
-    at false other = inr (inr (without_other heard b a small (told.block a within) (apart_of a b other) ∙ marked))
+    at false other = inr (inr (without_other heard b a small (block a within) (apart_of a b other) ∙ marked))
 
 -- ---------------------------------------------------------------- the census
 
@@ -225,111 +263,50 @@ census_with : (f b : ℕ) (y : Tally) (k : Kept) (heard : Shorts) (gs : List Gea
 census_with f b y k heard gs small (inl first) = inl first
 census_with f b y k heard gs small (inr later) = inr (later.0, taken_with k heard b small later.1)
 
-census_told : (f b n i : ℕ) (y : Tally) (k : Kept) (heard : Shorts) (gs : List Gear) → AreToldOf k gs → b < 64 → Holds gs i b → (gear_of gs i).random ≡ n
+census_told : (f b n i : ℕ) (y : Tally) (k : Kept) (heard : Shorts) (gs : List Gear) → ((c : ℕ) → InBlock k.block c → c < 64) → b < 64 → Holds gs i b
+    → (gear_of gs i).random ≡ n
     → (n ≡ MASK24) ⊎ (n < MASK24) → IsCensus f y k heard gs
     → IsCensus f y k (if n == MASK24 then with_short heard b else without_short heard b) gs
-census_told f b n i y k heard gs told small holds random numbered (inl first) = inl first
-census_told f b n i y k heard gs told small holds random numbered (inr later) = go (n == MASK24) refl where
+census_told f b n i y k heard gs block small holds random numbered (inl first) = inl first
+census_told f b n i y k heard gs block small holds random numbered (inr later) = go (n == MASK24) refl where
   go : (t : Bool) → (n == MASK24) ≡ t → IsCensus f y k (if t then with_short heard b else without_short heard b) gs
   go true mask = inr (later.0, taken_with k heard b small later.1)
-  go false drew = inr (later.0, taken_without k heard b n i gs told small holds random (less numbered) later.0 later.1) where
+  go false drew = inr (later.0, taken_without k heard b n i gs block small holds random (less numbered) later.0 later.1) where
     less : (n ≡ MASK24) ⊎ (n < MASK24) → n < MASK24
     less (inl mask) = absurd (let never : true ≡ false = sym (number_same n MASK24 mask) ∙ drew in cc)
     less (inr small) = small
 
-abbrev CensusTo : ℕ → Stage → Kept → Shorts → Course → List Gear → List ℕ → Command → Answer → Type 0
-CensusTo a s k heard c gs numbers d h =
-    Census a (next_stage s d h) k (marked_at (next_stage s d h) h heard) c (row_after Everyone d 0 gs numbers)
+-- what is marked once an answer was heard
+census_marked : (a : ℕ) (t : Stage) (y : Tally) (k : Kept) (heard : Shorts) (h : Answer) (gs : List Gear) → a < 64 → AskedAt t a gs
+    → ((b : ℕ) → InBlock k.block b → b < 64) → AreNumbered gs → IsCensus a y k heard gs → IsCensus a y k (marked_at t h heard) gs
+census_marked a (stage.HighAsked b None) y k heard Silence gs small asked block numbered v = v
+census_marked a (stage.HighAsked b None) y k heard (Byte u) gs small asked block numbered v = census_with a b y k heard gs (same_small a b asked.0 small) v
+census_marked a (stage.HighAsked b None) y k heard Damaged gs small asked block numbered v = census_with a b y k heard gs (same_small a b asked.0 small) v
+census_marked a (stage.HighAsked b (Some u)) y k heard h gs small asked block numbered v = census_with a b y k heard gs (same_small a b asked.0 small) v
+census_marked a (stage.MiddleAsked b None) y k heard h gs small asked block numbered v = absurd asked
+census_marked a (stage.MiddleAsked b (Some x)) y k heard h gs small asked block numbered v = census_with a b y k heard gs (same_small a b asked.0 small) v
+census_marked a (stage.Spelled b None) y k heard h gs small asked block numbered v = absurd asked
+census_marked a (stage.Spelled b (Some n)) y k heard h gs small asked block numbered v =
+    census_told a b n asked.1.0 y k heard gs block (same_small a b asked.0 small) (subst (λ c. Holds gs asked.1.0 c) (sym asked.0) asked.1.1) (sym asked.1.2)
+    (subst (λ m. (m ≡ MASK24) ⊎ (m < MASK24)) (sym asked.1.2) (numbered asked.1.0 asked.1.1.there)) v
+census_marked a stage.Free y k heard h gs small asked block numbered v = v
+census_marked a _ y k heard h gs small asked block numbered v = absurd asked
 
-census_sent : (g a : ℕ) (s : Stage) (k : Kept) (heard : Shorts) (c : Course) (gs : List Gear) (numbers : List ℕ) (d : Command) (h : Answer)
-    → Census a s k heard c gs → Sends k c.number (Asking a) s d → Taken g d gs numbers h → AreToldOf k gs → CensusTo a s k heard c gs numbers d h
-census_sent g a stage.Free k heard c gs numbers d h v is t told =
-    subst (λ e. Taken g e gs numbers h → CensusTo a stage.Free k heard c gs numbers e h) (sym is.0) go t where
-      same : SameCore gs (row_after Everyone (RandomByte a High) 0 gs numbers)
-      same = leaving.core_after (RandomByte a High) gs numbers tt
+numbered_core : (gs hs : List Gear) → SameCore gs hs → AreNumbered gs → AreNumbered hs
+numbered_core gs hs same numbered i there =
+    let was : i < length gs = subst (λ n. i < n) same.same_length there in
+    subst (λ m. (m ≡ MASK24) ⊎ (m < MASK24)) (sym (same.each i was).same_random) (numbered i was)
 
-      go : Taken g (RandomByte a High) gs numbers h → CensusTo a stage.Free k heard c gs numbers (RandomByte a High) h
-      go t = by (heard_high a High gs h (one_gear gs t.one)
-          (truth g (RandomByte a High) gs numbers h t (λ e. (let never : RandomByte a High ≡ QueryShort = e in cc)))) where
-            by : ((i : ℕ) × Holds gs i a × (h ≡ Byte (high_of (gear_of gs i).random))) ⊎ (Nobody gs a × (h ≡ Silence))
-                → CensusTo a stage.Free k heard c gs numbers (RandomByte a High) h
-            by (inl (i, holds, byte)) = subst (λ b. CensusTo a stage.Free k heard c gs numbers (RandomByte a High) b) (sym byte) (record {
-              small = v.small;
-              from_is = v.from_is;
-              asked = (refl, tells_on gs _ a i (λ r. high_of (gear_of gs i).random ≡ high_of r) same holds refl);
-              clear = clear_with k heard a a refl v.small (λ e q has apart. v.clear e q has);
-              census = census_core a c.tally k (with_short heard a) gs _ same (census_with a a c.tally k heard gs v.small v.census);
-            })
-            by (inr (none, silent)) = subst (λ b. CensusTo a stage.Free k heard c gs numbers (RandomByte a High) b) (sym silent) (record {
-              small = v.small;
-              from_is = v.from_is;
-              asked = (refl, nobody_on gs _ a same none);
-              clear = v.clear;
-              census = census_core a c.tally k heard gs _ same v.census;
-            })
-census_sent g a (stage.HighAsked b (Some u)) k heard c gs numbers d h v is t told =
-    subst (λ e. Taken g e gs numbers h → CensusTo a (stage.HighAsked b (Some u)) k heard c gs numbers e h) (some_is (RandomByte b Middle) d is.0) go t where
-      same : SameCore gs (row_after Everyone (RandomByte b Middle) 0 gs numbers)
-      same = leaving.core_after (RandomByte b Middle) gs numbers tt
-
-      go : Taken g (RandomByte b Middle) gs numbers h → CensusTo a (stage.HighAsked b (Some u)) k heard c gs numbers (RandomByte b Middle) h
-      go t =
-          by (heard_high a Middle gs h (one_gear gs t.one) (subst (λ e. h ≡ heard_of (answers_of Everyone (RandomByte e Middle) 0 gs)) v.asked.0
-          (truth g (RandomByte b Middle) gs numbers h t (λ e. (let never : RandomByte b Middle ≡ QueryShort = e in cc))))) where
-            by : ((i : ℕ) × Holds gs i a × (h ≡ Byte (middle_of (gear_of gs i).random))) ⊎ (Nobody gs a × (h ≡ Silence))
-                → CensusTo a (stage.HighAsked b (Some u)) k heard c gs numbers (RandomByte b Middle) h
-            by (inr (none, silent)) = absurd (none v.asked.1.0 v.asked.1.1)
-            by (inl (i, holds, byte)) =
-                let at : i ≡ v.asked.1.0 = one_gear gs t.one i v.asked.1.0 a holds v.asked.1.1 in
-                let high : u ≡ high_of (gear_of gs i).random = v.asked.1.2 ∙ ap (λ j. high_of (gear_of gs j).random) (sym at) in
-                let there : next_stage (stage.HighAsked b (Some u)) (RandomByte b Middle) h ≡ stage.MiddleAsked b (Some (u, middle_of (gear_of gs i).random)) =
-                rw byte (middle_next b (Some u) (Byte (middle_of (gear_of gs i).random))) in
-                rw there (record {
-                  small = v.small;
-                  from_is = v.from_is;
-                  asked = (
-                    v.asked.0,
-                    tells_on gs _ a i (λ r. (u ≡ high_of r) × (middle_of (gear_of gs i).random ≡ middle_of r)) same holds (high, refl),
-                  );
-                  clear = clear_with k heard b a v.asked.0 v.small v.clear;
-                  census = census_core a c.tally k (with_short heard b) gs _ same
-                      (census_with a b c.tally k heard gs (subst (λ n. n < 64) (sym v.asked.0) v.small) v.census);
-                })
-census_sent g a (stage.HighAsked b None) k heard c gs numbers d h v is t told = absurd (let never = is.0 in cc)
-census_sent g a (stage.MiddleAsked b (Some x)) k heard c gs numbers d h v is t told =
-    subst (λ e. Taken g e gs numbers h → CensusTo a (stage.MiddleAsked b (Some x)) k heard c gs numbers e h) (some_is (RandomByte b Low) d is.0) go t where
-      same : SameCore gs (row_after Everyone (RandomByte b Low) 0 gs numbers)
-      same = leaving.core_after (RandomByte b Low) gs numbers tt
-
-      go : Taken g (RandomByte b Low) gs numbers h → CensusTo a (stage.MiddleAsked b (Some x)) k heard c gs numbers (RandomByte b Low) h
-      go t =
-          by (heard_high a Low gs h (one_gear gs t.one) (subst (λ e. h ≡ heard_of (answers_of Everyone (RandomByte e Low) 0 gs)) v.asked.0
-          (truth g (RandomByte b Low) gs numbers h t (λ e. (let never : RandomByte b Low ≡ QueryShort = e in cc))))) where
-            by : ((i : ℕ) × Holds gs i a × (h ≡ Byte (low_of (gear_of gs i).random))) ⊎ (Nobody gs a × (h ≡ Silence))
-                → CensusTo a (stage.MiddleAsked b (Some x)) k heard c gs numbers (RandomByte b Low) h
-            by (inr (none, silent)) = absurd (none v.asked.1.0 v.asked.1.1)
-            by (inl (i, holds, byte)) =
-                let at : i ≡ v.asked.1.0 = one_gear gs t.one i v.asked.1.0 a holds v.asked.1.1 in
-                let high : x.0 ≡ high_of (gear_of gs i).random = v.asked.1.2.0 ∙ ap (λ j. high_of (gear_of gs j).random) (sym at) in
-                let middle : x.1 ≡ middle_of (gear_of gs i).random = v.asked.1.2.1 ∙ ap (λ j. middle_of (gear_of gs j).random) (sym at) in
-                let number : number_of x.0 x.1 (low_of (gear_of gs i).random) ≡ (gear_of gs i).random =
-                sym (whole_number (gear_of gs i).random x.0 x.1 (low_of (gear_of gs i).random) (sym high) (sym middle) refl) in
-                let there : next_stage (stage.MiddleAsked b (Some x)) (RandomByte b Low) h ≡ stage.Spelled b (Some (gear_of gs i).random) =
-                rw byte (low_next b (Some x) (Byte (low_of (gear_of gs i).random)) ∙ ap (λ n. stage.Spelled b (Some n)) number) in
-                rw there (record {
-                  small = v.small;
-                  from_is = v.from_is;
-                  asked = (v.asked.0, tells_on gs _ a i (λ r. (gear_of gs i).random ≡ r) same holds refl);
-                  clear = told_clear a b (gear_of gs i).random k heard gs i v.asked.0 v.small
-                      (record { kept = told.kept; owned = told.owned }) holds refl v.clear;
-                  census = census_core a c.tally k
-                      (if (gear_of gs i).random == MASK24 then with_short heard b else without_short heard b) gs _ same
-                      (census_told a b (gear_of gs i).random i c.tally k heard gs told (subst (λ n. n < 64) (sym v.asked.0) v.small)
-                      (subst (λ n. Holds gs i n) (sym v.asked.0) holds) refl (t.numbered i holds.there) v.census);
-                })
-census_sent g a (stage.MiddleAsked b None) k heard c gs numbers d h v is t told = absurd v.asked
-census_sent g a (stage.Spelled b (Some n)) k heard c gs numbers d h v is t told = absurd (let never = is.0 in cc)
-census_sent g a _ k heard c gs numbers d h v is t told = absurd v.asked
+census_sent : (a : ℕ) (s : Stage) (k : Kept) (heard : Shorts) (c : Course) (gs : List Gear) (numbers : List ℕ) (d : Command) (h : Answer)
+    → Census a s k heard c gs → IsAtHand k gs → AskedTo a s k heard gs numbers d h
+    → Census a (next_stage s d h) k (marked_at (next_stage s d h) h heard) c (row_after Everyone d 0 gs numbers)
+census_sent a s k heard c gs numbers d h v hand to = record {
+  ask = to.0;
+  from_is = v.from_is;
+  census = census_marked a (next_stage s d h) c.tally k heard h (row_after Everyone d 0 gs numbers) v.ask.small to.0.asked hand.block
+      (numbered_core gs (row_after Everyone d 0 gs numbers) to.1 hand.numbered)
+      (census_core a c.tally k heard gs (row_after Everyone d 0 gs numbers) to.1 v.census);
+}
 
 -- ---------------------------------------------------------------- of whatever transaction
 
@@ -339,30 +316,25 @@ spent_left g y k heard d gs numbers names (inl served) = inl (λ passed drew. se
 spent_left g y k heard d gs numbers names (inr filled) = inr filled
 
 pub known_sent : (g : ℕ) (p : Purpose) (s : Stage) (k : Kept) (heard : Shorts) (c : Course) (silent : ℕ) (gs : List Gear) (numbers : List ℕ) (d : Command)
-    (h : Answer) → At false g p s k heard c silent gs → KnownAt g p s k heard c gs → Sends k c.number p s d → Taken g d gs numbers h → AreToldOf k gs
+    (h : Answer) → At false g p s k heard c silent gs → KnownAt g p s k heard c gs → Sends k c.number p s d → Taken g d gs numbers h → IsAtHand k gs
     → Seeks s gs
     → KnownAt g p (next_stage s d h) k (heard_after p (next_stage s d h) h heard) c (row_after Everyone d 0 gs numbers)
-known_sent g (Asking a) s k heard c silent gs numbers d h at known is t told seek = census_sent g a s k heard c gs numbers d h known is t told
-known_sent g Calling s k heard c silent gs numbers d h at known is t told seek = (
-  (known_after k s gs numbers d (inl (call_leaves g s k c silent gs d at is)) seek known.0.0, known.0.1),
-  spent_left g c.tally k heard d gs numbers (call_leaves g s k c silent gs d at is) known.1,
-)
-known_sent g Hunting s k heard c silent gs numbers d h at known is t told seek =
-    (known_after k s gs numbers d (does_at g Hunting s k heard c silent gs d (λ a e. (let never : Hunting ≡ Asking a = e in cc)) at is) seek known.0, known.1)
-known_sent g Visiting s k heard c silent gs numbers d h at known is t told seek =
-    (known_after k s gs numbers d (does_at g Visiting s k heard c silent gs d (λ a e. (let never : Visiting ≡ Asking a = e in cc)) at is) seek known.0, known.1)
-known_sent g PassingOver s k heard c silent gs numbers d h at known is t told seek = (
-  known_after k s gs numbers d (does_at g PassingOver s k heard c silent gs d (λ a e. (let never : PassingOver ≡ Asking a = e in cc)) at is) seek known.0,
-  known.1,
-)
+known_sent g (Asking a) s k heard c silent gs numbers d h at known is t told seek =
+    census_sent a s k heard c gs numbers d h known told (asks_of g a s k heard c gs numbers d h known is t told)
+known_sent g Calling s k heard c silent gs numbers d h at known is t told seek =
+    let leaves = (roll_of g s k c silent gs numbers d h at is t seek).leaves in
+    ((known_after k s gs numbers d (inl (inl leaves)) seek known.0.0, known.0.1), spent_left g c.tally k heard d gs numbers leaves known.1)
 known_sent g Drawing s k heard c silent gs numbers d h at known is t told seek =
-    (known_after k s gs numbers d (does_at g Drawing s k heard c silent gs d (λ a e. (let never : Drawing ≡ Asking a = e in cc)) at is) seek known.0, known.1)
+    (known_after k s gs numbers d (inl (draw_of g s k c silent gs numbers d h at is t).does) seek known.0, known.1)
 known_sent g Opening s k heard c silent gs numbers d h at known is t told seek =
-    (known_after k s gs numbers d (does_at g Opening s k heard c silent gs d (λ a e. (let never : Opening ≡ Asking a = e in cc)) at is) seek known.0, known.1)
-known_sent g (Closing e) s k heard c silent gs numbers d h at known is t told seek = (
-  known_after k s gs numbers d (does_at g (Closing e) s k heard c silent gs d (λ a same. (let never : Closing e ≡ Asking a = same in cc)) at is)
-      seek known.0,
-  known.1,
-)
+    (known_after k s gs numbers d (inl (open_of g s k c silent gs numbers d h at is t).does) seek known.0, known.1)
+known_sent g Hunting s k heard c silent gs numbers d h at known is t told seek =
+    (known_after k s gs numbers d (does_by Hunting c.number s k gs d tt is) seek known.0, known.1)
+known_sent g Visiting s k heard c silent gs numbers d h at known is t told seek =
+    (known_after k s gs numbers d (does_by Visiting c.number s k gs d tt is) seek known.0, known.1)
+known_sent g PassingOver s k heard c silent gs numbers d h at known is t told seek =
+    (known_after k s gs numbers d (does_by PassingOver c.number s k gs d tt is) seek known.0, known.1)
+known_sent g (Closing e) s k heard c silent gs numbers d h at known is t told seek =
+    (known_after k s gs numbers d (does_by (Closing e) c.number s k gs d tt is) seek known.0, known.1)
 known_sent g Probing s k heard c silent gs numbers d h at known is t told seek = absurd at
 known_sent g (Resolving a) s k heard c silent gs numbers d h at known is t told seek = absurd at

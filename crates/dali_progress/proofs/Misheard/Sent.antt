@@ -1,12 +1,10 @@
-use Rattle.std.proofs.Common.{◌≡◌, ℕ, ◌+◌, ◌-◌, ◌*◌, ◌<◌, ◌≤◌, inl, inr, Bool, true, false, List, refl, sym, subst, ◌∙◌, arith, length, Option}
-use Rattle.std.proofs.Common.{Some, None}
+use Rattle.std.proofs.Common.{◌≡◌, ℕ, ◌+◌, ◌-◌, ◌*◌, ◌<◌, ◌≤◌, inl, inr, Bool, true, false, List, refl, sym, subst, ◌∙◌, arith, length, Option, Some, None}
 use Rattle.std.specs.Prelude.{◌==◌, ◌%◌, not, if◌then◌else◌}
 use Rattle.dali_frame.specs.declared.frames.Answer.{Answer}
 use Rattle.dali_frame.specs.declared.numbers.SearchAddress.{SearchAddress}
 use Rattle.dali_frame.specs.Random.{value_of, MASK24}
 use Rattle.dali_special.specs.declared.command.Command.{Command}
-use Rattle.dali_special.specs.declared.command.Command.TheVariants.{Compare, SearchHigh, SearchMiddle, SearchLow}
-use Rattle.dali_special.specs.declared.command.Command.TheVariants.{QueryShort}
+use Rattle.dali_special.specs.declared.command.Command.TheVariants.{Compare, SearchHigh, SearchMiddle, SearchLow, QueryShort}
 use Rattle.dali_gear.specs.declared.row.Reach.TheVariants.{Everyone}
 use Rattle.dali_gear.specs.Gear.{Gear}
 use Rattle.dali_gear.specs.Row.{row_after, draws_needed, drawn_of, answers_of, heard_of}
@@ -17,8 +15,7 @@ use Rattle.dali_script.specs.Stages.{next_stage}
 use Rattle.dali_search.specs.Least.{Gives}
 use Rattle.dali_search.specs.Ascending.{Ascent, asked_next, one_if}
 use Rattle.dali_controller.specs.declared.purpose.Purpose.{Purpose}
-use Rattle.dali_controller.specs.declared.purpose.Purpose.TheVariants.{Hunting}
-use Rattle.dali_controller.specs.declared.purpose.Purpose.TheVariants.{PassingOver}
+use Rattle.dali_controller.specs.declared.purpose.Purpose.TheVariants.{Hunting, PassingOver}
 use Rattle.dali_controller.specs.declared.tally.Tally.{Tally}
 use Rattle.dali_controller.specs.Course.{Course, is_yes, sought, byte_to_send}
 use Rattle.dali_controller.specs.Machine.{silent_after}
@@ -26,17 +23,16 @@ use Rattle.dali_controller.specs.Next.{is_failed}
 use Rattle.dali_controller.specs.Whole.{Sends}
 use Rattle.dali_events.specs.Wanted.{gear_of, is_wanted, wants}
 use Rattle.dali_events.proofs.Search.Leaving as leaving
-use Rattle.dali_events.proofs.Search.Leaving.{SameCore, LeavesCore, LeavesShort}
+use Rattle.dali_events.proofs.Search.Leaving.{SameCore}
 use Rattle.dali_progress.specs.Misheard.{IsHeardBut}
 use Rattle.dali_progress.proofs.Frames.{Seeks, probe_says, gives_same, some_is}
-use Rattle.dali_progress.proofs.Survey.Drawn.{AreNumbered}
-use Rattle.dali_progress.proofs.Survey.Queried.{OneShort}
+use Rattle.dali_progress.proofs.Survey.Drawn.{AreNumbered, DrewApart}
 use Rattle.dali_progress.proofs.Survey.Woken.{AreLow, IsByteLow, low_after}
 use Rattle.dali_progress.proofs.Survey.Rising.{IsByteSent, byte_sent}
 use Rattle.dali_progress.proofs.Misheard.Gear as gear
-use Rattle.dali_progress.proofs.Misheard.Gear.{HasDrawn, HaveDrawn, AreSought, AreBare, AreBareBut, AreNamedBut, DrewApart, each_after}
-use Rattle.dali_progress.proofs.Misheard.Stands.{IsCounted, HuntStage, Rises, IsReached}
-use Rattle.dali_progress.proofs.Misheard.Stands.{IsOfOne, HuntAt, found_at, failed_at, IsQuietAt, IsFew, Hunts}
+use Rattle.dali_progress.proofs.Misheard.Gear.{HaveDrawn, AreSought}
+use Rattle.dali_progress.proofs.Misheard.Stands.{IsCounted, HuntStage, Rises, IsReached, IsOfOne, HuntAt, found_at, failed_at, IsQuietAt, IsFew, Hunts}
+use Rattle.dali_progress.proofs.Surveying.{IsTakenBut}
 
 -- A FRAME IS SENT, and each gear with power takes it.
 
@@ -48,7 +44,6 @@ pub record Taken (g : ℕ) (c : Command) (gs : List Gear) (numbers : List ℕ) (
   pub below : (x : ℕ × ℕ) → Has (drawn_of Everyone c 0 gs numbers) x → x.1 < MASK24
   pub apart : DrewApart gs
   pub numbered : AreNumbered gs
-  pub one : OneShort gs
 
 -- all but QUERY SHORT ADDRESS is heard as it is
 pub truth : (g : ℕ) (c : Command) (gs : List Gear) (numbers : List ℕ) (h : Answer) → Taken g c gs numbers h → (c ≡ QueryShort → ⊥)
@@ -57,6 +52,9 @@ truth g c gs numbers h t other = go t.heard where
   go : IsHeardBut g gs c h → h ≡ heard_of (answers_of Everyone c 0 gs)
   go (inl is) = is
   go (inr mis) = absurd (other mis.0)
+
+pub but_taken : (g : ℕ) (c : Command) (gs : List Gear) (numbers : List ℕ) (h : Answer) → Taken g c gs numbers h → IsTakenBut c gs numbers h
+but_taken g c gs numbers h t = record { heard = truth g c gs numbers h t; enough = t.enough; below = t.below; numbered = t.numbered }
 
 -- ---------------------------------------------------------------- what is counted stays
 
@@ -70,29 +68,23 @@ counted_on g y silent more gs hs v random drawn = record {
   drawn = λ some. drawn (v.drawn some);
 }
 
+-- a visit that failed
+counted_failed : (g : ℕ) (y : Tally) (silent : ℕ) (gs : List Gear) → IsCounted g y silent 0 gs → IsCounted g y (silent + 1) 1 gs
+counted_failed g y silent gs v = record {
+  calls = v.calls;
+  draws = v.draws;
+  passed = v.passed;
+  quiet = more silent (one_if (not (is_failed y.failed (gear_of gs g).random))) (2 * y.passed.count + 1 + 20 * y.draws) v.quiet;
+  drawn = v.drawn;
+} where
+  more : (n k x : ℕ) → n + k ≤ x + 0 → n + 1 + k ≤ x + 1
+  more n k x enough = omega (arith, enough)
+
 -- once the machine is told
 counted_told : (t : Stage) (g : ℕ) (y : Tally) (silent : ℕ) (gs : List Gear) → IsCounted g y silent 0 gs
     → IsCounted g y (silent_after t true silent) (failed_at t) gs
-counted_told (stage.Unanswered r) g y silent gs v =
-    record {
-      calls = v.calls;
-      draws = v.draws;
-      passed = v.passed;
-      quiet = more silent (one_if (not (is_failed y.failed (gear_of gs g).random))) (2 * y.passed.count + 1 + 20 * y.draws) v.quiet;
-      drawn = v.drawn;
-    } where
-      more : (n k x : ℕ) → n + k ≤ x + 0 → n + 1 + k ≤ x + 1
-      more n k x enough = omega (arith, enough)
-counted_told (stage.Inconclusive r other) g y silent gs v =
-    record {
-      calls = v.calls;
-      draws = v.draws;
-      passed = v.passed;
-      quiet = more silent (one_if (not (is_failed y.failed (gear_of gs g).random))) (2 * y.passed.count + 1 + 20 * y.draws) v.quiet;
-      drawn = v.drawn;
-    } where
-      more : (n k x : ℕ) → n + k ≤ x + 0 → n + 1 + k ≤ x + 1
-      more n k x enough = omega (arith, enough)
+counted_told (stage.Unanswered r) g y silent gs v = counted_failed g y silent gs v
+counted_told (stage.Inconclusive r other) g y silent gs v = counted_failed g y silent gs v
 counted_told (stage.Withdrawn r a) g y silent gs v =
     record {
       calls = v.calls;

@@ -1,7 +1,7 @@
 use Rattle.std.proofs.Common.{◌≡◌, ℕ, ◌+◌, ◌*◌, ◌<◌, ◌≤◌, ◌⊎◌, Bool, true, false, List, length, Some, None}
 use Rattle.std.specs.Prelude.{not}
 use Rattle.dali_frame.specs.declared.numbers.SearchAddress.{SearchAddress}
-use Rattle.dali_frame.specs.Random.{value_of, high_of, middle_of, MASK24}
+use Rattle.dali_frame.specs.Random.{value_of, MASK24}
 use Rattle.dali_gear.specs.Gear.{Gear}
 use Rattle.dali_script.specs.Records.{Assignment, Kept, Has}
 use Rattle.dali_script.specs.declared.stage.Stage.{Stage}
@@ -13,8 +13,8 @@ use Rattle.dali_search.specs.declared.step.Step.TheVariants.{Again, Found}
 use Rattle.dali_search.specs.Least.{Gives}
 use Rattle.dali_search.specs.Ascending.{Ascent, IsAscent, Knows, asked_next, leads_to, one_if}
 use Rattle.dali_controller.specs.declared.purpose.Purpose.{Purpose}
-use Rattle.dali_controller.specs.declared.purpose.Purpose.TheVariants.{Opening, Probing, Visiting, Resolving, Closing, Hunting, Asking, Calling}
-use Rattle.dali_controller.specs.declared.purpose.Purpose.TheVariants.{Drawing, PassingOver}
+use Rattle.dali_controller.specs.declared.purpose.Purpose.TheVariants.{Opening, Probing, Visiting, Resolving, Closing, Hunting, Asking, Calling, Drawing}
+use Rattle.dali_controller.specs.declared.purpose.Purpose.TheVariants.{PassingOver}
 use Rattle.dali_controller.specs.declared.shorts.Shorts.{Shorts}
 use Rattle.dali_controller.specs.declared.tally.Tally.{Tally}
 use Rattle.dali_controller.specs.declared.way.Way.TheVariants.{Surveying}
@@ -23,13 +23,12 @@ use Rattle.dali_controller.specs.Machine.{Machine}
 use Rattle.dali_controller.specs.Next.{is_failed}
 use Rattle.dali_events.specs.Searching.{HasShort}
 use Rattle.dali_events.specs.Wanted.{gear_of, is_wanted, wants, OfPowered}
-use Rattle.dali_events.proofs.Search.Opened.{AreOpening}
 use Rattle.dali_progress.specs.Misheard.{AreServedBut}
 use Rattle.dali_progress.proofs.Stands.{CloseStage, HaveShort}
-use Rattle.dali_progress.proofs.Survey.Queried.{Nobody}
-use Rattle.dali_progress.proofs.Survey.Stands.{woken_at, IsLowAt, DrawStage, IsDrawnBy, AreTaken, IsClear, IsClearAt, Tells}
+use Rattle.dali_progress.proofs.Survey.Stands.{AreTaken}
 use Rattle.dali_progress.proofs.Survey.Woken.{AreLow}
 use Rattle.dali_progress.proofs.Misheard.Gear.{Each, AreSought, AreBare, AreBareBut, HaveDrawn, AreKnown, HasOne}
+use Rattle.dali_progress.proofs.Surveying.{IsRollCall, IsDraw, IsAskedOf, IsClear}
 
 -- HOW FAR A SURVEY IS, where gear g is misheard and nothing else is disturbed. No frames are counted; what its end says is true.
 
@@ -59,48 +58,23 @@ IsSpent g y k heard gs = (0 < y.passed.count → 0 < y.draws → AreServedBut g 
 
 -- ---------------------------------------------------------------- the census
 
-abbrev pub AskStage : Stage → Type 0
-AskStage stage.Free = Unit {0}
-AskStage (stage.HighAsked b x) = Unit {0}
-AskStage (stage.MiddleAsked b x) = Unit {0}
-AskStage (stage.Spelled b x) = Unit {0}
-AskStage _ = ⊥
-
-pub record Asks (g : ℕ) (s : Stage) (c : Course) (silent : ℕ) (gs : List Gear) : Type 0 where
+pub record Asks (g : ℕ) (c : Course) (silent : ℕ) (gs : List Gear) : Type 0 where
   pub unopened : c.opened ≡ false
   pub counted : IsCounted g c.tally silent 0 gs
-  pub stage_is : AskStage s
 
 -- ---------------------------------------------------------------- the roll call
 
-abbrev pub CallStage : Stage → List Gear → Type 0
-CallStage stage.Free gs = Unit {0}
-CallStage stage.Terminated gs = Unit {0}
-CallStage stage.InitialisedOnce gs = Unit {0}
-CallStage stage.Initialised gs = Unit {0}
-CallStage (stage.WokenHigh high) gs = Unit {0}
-CallStage (stage.WokenLow high low) gs = Unit {0}
-CallStage (stage.Hunted r None left) gs = Unit {0}
-CallStage (stage.Hunted r (Some h) left) gs = is_yes h ≡ false → OfPowered gs HasShort
-CallStage _ gs = ⊥
-
 pub record Calls (g : ℕ) (s : Stage) (c : Course) (silent : ℕ) (gs : List Gear) : Type 0 where
   pub opened_is : c.opened ≡ true
-  pub number : c.number ≡ sought MASK24
   pub counted : IsCounted g c.tally silent 0 gs
-  pub stage_is : CallStage s gs
-  pub gear : AreOpening (woken_at s) gs
-  pub low : IsLowAt s gs
+  pub roll : IsRollCall s c.number gs
 
 -- ---------------------------------------------------------------- gear draw
 
 pub record Draws (p : Purpose) (s : Stage) (c : Course) (silent : ℕ) (gs : List Gear) : Type 0 where
   pub opened_is : c.opened ≡ true
   pub counted : IsCountedFor c.tally silent
-  pub stage_is : DrawStage p s c.number gs
-  pub drawn : IsDrawnBy p s c.number gs
-  pub gear : AreOpening (woken_at s) gs
-  pub low : AreLow gs
+  pub draw : IsDraw p s c.number gs
 
 -- ---------------------------------------------------------------- the search that goes up
 
@@ -225,7 +199,7 @@ pub record Closes (g : ℕ) (e : End) (s : Stage) (k : Kept) (heard : Shorts) (g
 -- ---------------------------------------------------------------- of whatever transaction
 
 abbrev pub At : Bool → ℕ → Purpose → Stage → Kept → Shorts → Course → ℕ → List Gear → Type 0
-At told g (Asking a) s k heard c silent gs = Asks g s c silent gs
+At told g (Asking a) s k heard c silent gs = Asks g c silent gs
 At told g Calling s k heard c silent gs = Calls g s c silent gs
 At told g Hunting s k heard c silent gs = Hunts told g Hunting s c silent gs
 At told g Visiting s k heard c silent gs = Hunts told g Visiting s c silent gs
@@ -237,15 +211,6 @@ At told g Probing s k heard c silent gs = ⊥
 At told g (Resolving a) s k heard c silent gs = ⊥
 
 -- ---------------------------------------------------------------- who is known
-
--- the gear that told what was heard so far of the short address that is asked, or nobody
-abbrev pub AskedAt : Stage → ℕ → List Gear → Type 0
-AskedAt stage.Free a gs = Unit {0}
-AskedAt (stage.HighAsked b None) a gs = (b ≡ a) × Nobody gs a
-AskedAt (stage.HighAsked b (Some v)) a gs = (b ≡ a) × Tells gs a (λ r. v ≡ high_of r)
-AskedAt (stage.MiddleAsked b (Some x)) a gs = (b ≡ a) × Tells gs a (λ r. (x.0 ≡ high_of r) × (x.1 ≡ middle_of r))
-AskedAt (stage.Spelled b (Some n)) a gs = (b ≡ a) × Tells gs a (λ r. n ≡ r)
-AskedAt _ a gs = ⊥
 
 -- THE FIRST TIME that short addresses are asked, the table has each gear below this one
 abbrev pub IsTabled : ℕ → List Assignment → ℕ → Gear → Type 0
@@ -260,10 +225,8 @@ IsCensus f y k heard gs =
     ((y.passed.count ≡ 0) × AreTabledBelow f k.enrolled gs) ⊎ (AreKnown k.reserved k.enrolled gs × AreTaken k heard)
 
 pub record Census (a : ℕ) (s : Stage) (k : Kept) (heard : Shorts) (c : Course) (gs : List Gear) : Type 0 where
-  pub small : a < 64
+  pub ask : IsAskedOf a s k heard gs
   pub from_is : c.from ≡ a + 1
-  pub asked : AskedAt s a gs
-  pub clear : IsClearAt s a k heard
   pub census : IsCensus a c.tally k heard gs
 
 -- Afterwards each gear is known, and what is reserved is not marked.

@@ -1,17 +1,9 @@
-use Rattle.std.proofs.Common.{◌≡◌, ℕ, ◌+◌, ◌*◌, ◌<◌, ◌≤◌, ◌⊎◌, inl, inr, Bool, true, false, List, [], ◌∷◌, ◌++◌, refl, sym, ap, subst, ◌∙◌, arith, Option, Some}
-use Rattle.std.proofs.Common.{None}
+use Rattle.std.proofs.Common.{◌≡◌, ℕ, ◌+◌, ◌*◌, ◌<◌, ◌≤◌, ◌⊎◌, inl, inr, Bool, true, false, List, [], ◌∷◌, ◌++◌, refl, sym, ap, subst, ◌∙◌, arith, Some, None}
 use Rattle.std.specs.Prelude.{◌==◌, ◌&&◌, not, nat_lt, if◌then◌else◌}
 use Rattle.std.proofs.lemmas.Bool.Decides.{nat_tests}
 use Rattle.dali_frame.specs.declared.frames.Answer.{Answer}
-use Rattle.dali_frame.specs.declared.frames.Forward.{Forward}
 use Rattle.dali_frame.specs.declared.numbers.SearchAddress.{SearchAddress}
 use Rattle.dali_frame.specs.Random.{MASK24}
-use Rattle.dali_frame.specs.Priority.{LATER}
-use Rattle.dali_special.specs.declared.command.Command.{Command}
-use Rattle.dali_special.specs.declared.command.Command.TheVariants.{Initialise, Randomise, Compare, RandomByte}
-use Rattle.dali_special.specs.declared.command.Part.TheVariants.{Middle, Low}
-use Rattle.dali_special.specs.declared.command.Target.TheVariants.{Unaddressed}
-use Rattle.dali_special.specs.Command.{command_of}
 use Rattle.dali_gear.specs.Gear.{Gear}
 use Rattle.dali_script.specs.declared.records.Record.TheVariants.{Enrol}
 use Rattle.dali_script.specs.Records.{Assignment, Kept, Has, HasAddress, IsKept, IsFresh, MayAdd, with_record}
@@ -27,38 +19,31 @@ use Rattle.dali_script.specs.declared.orders.Order.TheVariants.{Put, Commit, Don
 use Rattle.dali_script.specs.declared.orders.End.TheVariants.{AllFound, GaveUp}
 use Rattle.dali_search.specs.Ascending.{one_if}
 use Rattle.dali_controller.specs.declared.purpose.Purpose.{Purpose}
-use Rattle.dali_controller.specs.declared.purpose.Purpose.TheVariants.{Opening, Asking, Calling}
-use Rattle.dali_controller.specs.declared.purpose.Purpose.TheVariants.{Drawing}
+use Rattle.dali_controller.specs.declared.purpose.Purpose.TheVariants.{Asking, Calling}
 use Rattle.dali_controller.specs.declared.tally.Tally.{Tally}
 use Rattle.dali_controller.specs.declared.shorts.Shorts.{Shorts}
 use Rattle.dali_controller.specs.Shorts.{has_short}
-use Rattle.dali_controller.specs.Course.{Course, call_turn, is_yes}
-use Rattle.dali_controller.specs.Course.{calling, opening_at_last, closing as closing_by, hunting_first}
-use Rattle.dali_controller.specs.Course.{searching_first}
+use Rattle.dali_controller.specs.Course.{Course, call_turn, is_yes, turn_of, calling, opening_at_last, closing as closing_by, searching_first}
 use Rattle.dali_controller.specs.Tally.{heard_call, silent_call}
 use Rattle.dali_controller.specs.Machine.{Machine}
-use Rattle.dali_controller.specs.Next.{next_course, begins_at, beginning, course_on, asked_once, called_to, compared_in, blocked, is_blocked}
-use Rattle.dali_controller.specs.Next.{full, has_open, may_draw, is_failed}
+use Rattle.dali_controller.specs.Next.{next_course, begins_at, beginning, asked_once, blocked, is_blocked, full, has_open, may_draw, is_failed}
 use Rattle.dali_controller.specs.Orders.{machine_ordered, AfterFinding, IsSought}
-use Rattle.dali_controller.specs.Whole.{IsWhole, Sends as SendsWhole}
+use Rattle.dali_controller.specs.Whole.{IsWhole}
 use Rattle.dali_controller.proofs.Given as given
 use Rattle.dali_controller.proofs.Given.{IsGivenBy, IsNoEnrolment}
 use Rattle.dali_events.specs.Wanted.{gear_of}
 use Rattle.dali_events.proofs.Search.Wanted as wanted
 use Rattle.dali_progress.proofs.Both.{never_eight, has_address}
-use Rattle.dali_progress.proofs.Later.{course_stays}
-use Rattle.dali_progress.proofs.Census.Asked.{sending_of}
-use Rattle.dali_progress.proofs.Survey.Queried.{Holds, one_gear}
-use Rattle.dali_progress.proofs.Survey.Turns.{IsUncontradicted}
+use Rattle.dali_progress.proofs.Survey.Queried.{Holds, one_gear, IsAtHand}
+use Rattle.dali_progress.proofs.Survey.Turns.{IsUncontradicted, silent_next, heard_next}
 use Rattle.dali_progress.proofs.Survey.Hunting.{nothing_open}
-use Rattle.dali_progress.proofs.Survey.Stands.{AreTaken, IsClear}
+use Rattle.dali_progress.proofs.Survey.Stands.{AreTaken}
 use Rattle.dali_progress.proofs.Survey.Begins.{begins_whole, all_taken}
 use Rattle.dali_progress.proofs.Misheard.Gear as gear
 use Rattle.dali_progress.proofs.Misheard.Gear.{AreKnown, HasOne}
-use Rattle.dali_progress.proofs.Misheard.Stands.{IsSpent, Asks, Calls, Draws, AreTabledBelow, AreSeen, IsCensus, Census, KnownAt}
-use Rattle.dali_progress.proofs.Misheard.Stands.{EndsBy, MisheardStands}
-use Rattle.dali_progress.proofs.Misheard.Begins.{IsAtHand, KeepsAsked, IsOwn, Keeps, IsNext, calm_of, calm_ordered, turns_by, first_by, asks_on, one_most}
-use Rattle.dali_progress.proofs.Misheard.Begins.{hunts_first}
+use Rattle.dali_progress.proofs.Misheard.Stands.{IsSpent, Asks, Calls, Draws, AreTabledBelow, AreSeen, IsCensus, Census, KnownAt, EndsBy, MisheardStands}
+use Rattle.dali_progress.proofs.Misheard.Begins.{KeepsAsked, IsOwn, Keeps, IsNext, calm_of, calm_ordered, first_by, asks_on, one_most, hunts_first}
+use Rattle.dali_progress.proofs.Surveying.{roll_first, called_short, roll_over, IsClear}
 
 -- A CONTROLLER ACTS on what it was told, and what it orders goes on with the survey.
 
@@ -68,16 +53,6 @@ pub found_at : {told : Bool} (g : ℕ) (t : Machine) (gs : List Gear) (s : Stage
 found_at g t gs s st is = st.trace.finding ∙ ap finding_at is
 
 -- ---------------------------------------------------------------- the census
-
--- a whole machine sends nothing more at a stage where nothing is to be sent
-pub whole_over : (t : Machine) (p : Purpose) (s : Stage) → t.course.purpose ≡ p → stage_of t.trace ≡ s
-    → ((f : Forward) → SendsWhole t.kept t.course.number p s (command_of f) → ⊥) → (f : Forward) → course_on t (stage_of t.trace) ≡ t.course
-    → IsWhole (machine_ordered t (Put LATER f)) → ⊥
-whole_over t p s purpose at never f stays whole =
-    never f (subst (λ q. SendsWhole t.kept t.course.number p q (command_of f)) at
-    (subst (λ q. SendsWhole t.kept t.course.number q (stage_of t.trace) (command_of f)) purpose
-    (subst (λ (c : Course). SendsWhole t.kept c.number c.purpose (stage_of t.trace) (command_of f)) stays
-    (sending_of (machine_ordered t (Put LATER f)) LATER f refl whole).sends)))
 
 -- who is known, by what the transaction is for
 pub known_as : (g : ℕ) (t : Machine) (gs : List Gear) (p : Purpose) → MisheardStands true g t gs → t.course.purpose ≡ p
@@ -98,12 +73,12 @@ tabled_next f xs ys gs more below here i there on a low short drew = go (nat_lt 
       (here i (record { there = there; on = on; short = short ∙ ap (λ c. Some c) same }) drew)
 
 -- the next short address is to be asked
-next_asks : (g a : ℕ) (s : Stage) (k : Kept) (heard : Shorts) (c : Course) (silent : ℕ) (gs : List Gear) → Asks g s c silent gs → Census a s k heard c gs
+next_asks : (g a : ℕ) (s : Stage) (k : Kept) (heard : Shorts) (c : Course) (silent : ℕ) (gs : List Gear) → Asks g c silent gs → Census a s k heard c gs
     → IsClear k heard → ((i : ℕ) → Holds gs i a → (gear_of gs i).random < MASK24 → Has k.enrolled (a, (gear_of gs i).random)) → KeepsAsked g k heard c silent gs
 next_asks g a s k heard c silent gs v w clear here = record {
   unopened = v.unopened;
   counted = v.counted;
-  small = subst (λ n. n ≤ 64) (sym w.from_is) (let few : a < 64 = w.small in omega (arith, few));
+  small = subst (λ n. n ≤ 64) (sym w.from_is) (let few : a < 64 = w.ask.small in omega (arith, few));
   clear = clear;
   census = subst (λ n. IsCensus n c.tally k heard gs) (sym w.from_is) (go w.census);
 } where
@@ -138,32 +113,32 @@ own_by k b n gs kept known one small drew fresh a has =
 -- three bytes told a number
 told_turns : (g : ℕ) (t : Machine) (o : Order) (a b n : ℕ) (gs : List Gear) → IsGivenBy t o → MisheardStands true g t gs → IsAtHand t.kept gs
     → IsUncontradicted t
-    → t.course.purpose ≡ Asking a → stage_of t.trace ≡ stage.Spelled b (Some n) → Asks g (stage.Spelled b (Some n)) t.course t.silent gs
+    → t.course.purpose ≡ Asking a → stage_of t.trace ≡ stage.Spelled b (Some n) → Asks g t.course t.silent gs
     → Census a (stage.Spelled b (Some n)) t.kept t.heard t.course gs → IsNext g (machine_ordered t o) o gs
 told_turns g t o a b n gs by st hand agreed purpose is v w = go (nat_lt n MASK24) refl where
   who : ℕ
-  who = w.asked.1.0
+  who = w.ask.asked.1.0
 
-  holds : Holds gs w.asked.1.0 a
-  holds = w.asked.1.1
+  holds : Holds gs w.ask.asked.1.0 a
+  holds = w.ask.asked.1.1
 
-  number : n ≡ (gear_of gs w.asked.1.0).random
-  number = w.asked.1.2
+  number : n ≡ (gear_of gs w.ask.asked.1.0).random
+  number = w.ask.asked.1.2
 
   same : (i : ℕ) → Holds gs i a → (gear_of gs i).random ≡ n
-  same i has = ap (λ j. (gear_of gs j).random) (one_gear gs hand.one i w.asked.1.0 a has holds) ∙ sym number
+  same i has = ap (λ j. (gear_of gs j).random) (one_gear gs hand.one i w.ask.asked.1.0 a has holds) ∙ sym number
 
   goes : (q : Order) → q ≡ beginning (next_course t)
       → ((i : ℕ) → Holds gs i a → (gear_of gs i).random < MASK24 → Has t.kept.enrolled (a, (gear_of gs i).random)) → IsNext g (machine_ordered t q) q gs
   goes q begins here =
       asks_on g t q gs (calm_of g t gs st) begins (ap (begins_at t) is)
-      (next_asks g a (stage.Spelled b (Some n)) t.kept t.heard t.course t.silent gs v w w.clear here) hand.one hand.holds
+      (next_asks g a (stage.Spelled b (Some n)) t.kept t.heard t.course t.silent gs v w w.ask.clear here) hand.one hand.holds
 
   sought_is : n < MASK24 → IsSought t.course.purpose t.course.number n
   sought_is small = subst (λ p. IsSought p t.course.number n) (sym purpose) small
 
   few : t.course.from ≤ 64
-  few = subst (λ m. m ≤ 64) (sym w.from_is) (let small : a < 64 = w.small in omega (arith, small))
+  few = subst (λ m. m ≤ 64) (sym w.from_is) (let small : a < 64 = w.ask.small in omega (arith, small))
 
   enrols : n < MASK24 → IsFresh t.kept.enrolled (b, n) → Keeps g t.kept t.heard t.course t.silent (Enrol b n) gs
   enrols small fresh = by_census w.census where
@@ -172,7 +147,7 @@ told_turns g t o a b n gs by st hand agreed purpose is v w = go (nat_lt n MASK24
 
     asks : IsCensus t.course.from t.course.tally (with_record t.kept (Enrol b n)) t.heard gs
         → KeepsAsked g (with_record t.kept (Enrol b n)) t.heard t.course t.silent gs
-    asks census = record { unopened = v.unopened; counted = v.counted; small = few; clear = w.clear; census = census }
+    asks census = record { unopened = v.unopened; counted = v.counted; small = few; clear = w.ask.clear; census = census }
 
     by_census : IsCensus a t.course.tally t.kept t.heard gs → Keeps g t.kept t.heard t.course t.silent (Enrol b n) gs
     by_census (inl first) = inl (asks (inl (first.0, tabled)), inl (first.0, tabled)) where
@@ -180,21 +155,21 @@ told_turns g t o a b n gs by st hand agreed purpose is v w = go (nat_lt n MASK24
       tabled = subst (λ f. AreTabledBelow f (t.kept.enrolled ++ (b, n) ∷ []) gs) (sym w.from_is)
           (tabled_next a t.kept.enrolled (t.kept.enrolled ++ (b, n) ∷ []) gs more first.1
           (λ i has drew. subst (λ m. Has (t.kept.enrolled ++ (b, n) ∷ []) (a, m)) (sym (same i has))
-          (subst (λ c. Has (t.kept.enrolled ++ (b, n) ∷ []) (c, n)) w.asked.0 (has_last t.kept.enrolled (b, n)))))
+          (subst (λ c. Has (t.kept.enrolled ++ (b, n) ∷ []) (c, n)) w.ask.asked.0 (has_last t.kept.enrolled (b, n)))))
     by_census (inr later) = inl (
       asks (inr (
         gear.known_more t.kept.reserved t.kept.enrolled t.kept.reserved (t.kept.enrolled ++ (b, n) ∷ []) gs (λ x has. has) more later.0,
         taken_enrolled t.kept t.heard b n later.1,
       )),
       inr (own_by t.kept b n gs hand.kept later.0
-          (w.asked.1.0, holds.there, holds.on, subst (λ c. (gear_of gs w.asked.1.0).short ≡ Some c) (sym w.asked.0) holds.short, sym number)
-          (subst (λ c. c < 64) (sym w.asked.0) w.small) small fresh.0),
+          (w.ask.asked.1.0, holds.there, holds.on, subst (λ c. (gear_of gs w.ask.asked.1.0).short ≡ Some c) (sym w.ask.asked.0) holds.short, sym number)
+          (subst (λ c. c < 64) (sym w.ask.asked.0) w.ask.small) small fresh.0),
     )
 
   follows : (q : Order) → IsGivenBy t q → n < MASK24 → AfterFinding t b n q → IsNext g (machine_ordered t q) q gs
   follows (Put p f) by small has =
       goes (Put p f) (given.spelled_known t (Put p f) b n by is (sought_is small) hand.kept.enrolled has)
-      (λ i told drew. subst (λ m. Has t.kept.enrolled (a, m)) (sym (same i told)) (subst (λ c. Has t.kept.enrolled (c, n)) w.asked.0 has))
+      (λ i told drew. subst (λ m. Has t.kept.enrolled (a, m)) (sym (same i told)) (subst (λ c. Has t.kept.enrolled (c, n)) w.ask.asked.0 has))
   follows (Commit x) by small is_enrol =
       let may : IsFresh t.kept.enrolled (b, n) = subst (λ y. MayAdd t.kept y) is_enrol by.ordered.allowed.may in
       subst (λ y. IsNext g (machine_ordered t (Commit y)) (Commit y) gs) (sym is_enrol) (calm_ordered g t (Enrol b n) gs st, enrols small may)
@@ -212,16 +187,15 @@ told_turns g t o a b n gs by st hand agreed purpose is v w = go (nat_lt n MASK24
 
 pub census_turns : (g : ℕ) (t : Machine) (o : Order) (a : ℕ) (s : Stage) (gs : List Gear) → IsGivenBy t o → MisheardStands true g t gs → IsAtHand t.kept gs
     → IsUncontradicted t
-    → IsNoEnrolment t.last → t.course.purpose ≡ Asking a → stage_of t.trace ≡ s → (s ≡ stage.Free → ⊥) → Asks g s t.course t.silent gs
-    → Census a s t.kept t.heard t.course gs → IsWhole (machine_ordered t o) → IsNext g (machine_ordered t o) o gs
-census_turns g t o a stage.Free gs by st hand agreed last purpose is running v w whole = absurd (running refl)
-census_turns g t o a (stage.HighAsked b None) gs by st hand agreed last purpose is running v w whole = go (t.asked == 0) refl where
+    → IsNoEnrolment t.last → t.course.purpose ≡ Asking a → stage_of t.trace ≡ s → (s ≡ stage.Free → ⊥) → Asks g t.course t.silent gs
+    → Census a s t.kept t.heard t.course gs → IsWhole (machine_ordered t o) → turn_of (Asking a) t.course.number s ≡ None
+    → IsNext g (machine_ordered t o) o gs
+census_turns g t o a stage.Free gs by st hand agreed last purpose is running v w whole over = absurd (running refl)
+census_turns g t o a (stage.HighAsked b None) gs by st hand agreed last purpose is running v w whole over = go (t.asked == 0) refl where
   begins : o ≡ beginning (next_course t)
   begins =
-      begins_whole t o (stage.HighAsked b None) by is (λ r e. cc) (λ e. cc) (found_at g t gs (stage.HighAsked b None) st is) last
-      (never_eight t.tries st.tries)
-      (λ f. whole_over t (Asking a) (stage.HighAsked b None) purpose is (λ f sends. (let none = sends.0 in cc)) f
-      (course_stays t (stage.HighAsked b None) is tt)) whole
+      begins_whole t o (Asking a) (stage.HighAsked b None) by purpose is (λ r e. cc) (λ e. cc) tt (λ f sends. (let none = sends.0 in cc))
+      (found_at g t gs (stage.HighAsked b None) st is) last st.tries whole
 
   next : next_course t ≡ asked_once t (t.asked == 0)
   next = ap (begins_at t) is
@@ -229,18 +203,17 @@ census_turns g t o a (stage.HighAsked b None) gs by st hand agreed last purpose 
   go : (e : Bool) → (t.asked == 0) ≡ e → IsNext g (machine_ordered t o) o gs
   go true none =
       asks_on g t o gs (calm_of g t gs st) begins (next ∙ ap (asked_once t) none)
-      (next_asks g a (stage.HighAsked b None) t.kept t.heard t.course t.silent gs v w w.clear (λ i has drew. absurd (w.asked.1 i has))) hand.one hand.holds
+      (next_asks g a (stage.HighAsked b None) t.kept t.heard t.course t.silent gs v w w.ask.clear (λ i has drew. absurd (w.ask.asked.1 i has)))
+      hand.one hand.holds
   go false again =
       first_by g t o t.course gs (calm_of g t gs st) begins (next ∙ ap (asked_once t) again) st.way
-      (rw purpose (record { unopened = v.unopened; counted = v.counted; stage_is = tt }))
-      (rw purpose (record { small = w.small; from_is = w.from_is; asked = tt; clear = w.clear; census = w.census }))
-census_turns g t o a (stage.HighAsked b (Some u)) gs by st hand agreed last purpose is running v w whole =
-    turns_by g t o (Asking a) (stage.HighAsked b (Some u)) (RandomByte b Middle) gs by st purpose is refl
-census_turns g t o a (stage.MiddleAsked b (Some x)) gs by st hand agreed last purpose is running v w whole =
-    turns_by g t o (Asking a) (stage.MiddleAsked b (Some x)) (RandomByte b Low) gs by st purpose is refl
-census_turns g t o a (stage.Spelled b (Some n)) gs by st hand agreed last purpose is running v w whole =
+      (rw purpose (record { unopened = v.unopened; counted = v.counted }))
+      (rw purpose (record { ask = record { small = w.ask.small; asked = tt; clear = w.ask.clear }; from_is = w.from_is; census = w.census }))
+census_turns g t o a (stage.HighAsked b (Some u)) gs by st hand agreed last purpose is running v w whole over = absurd (cc)
+census_turns g t o a (stage.MiddleAsked b (Some x)) gs by st hand agreed last purpose is running v w whole over = absurd (cc)
+census_turns g t o a (stage.Spelled b (Some n)) gs by st hand agreed last purpose is running v w whole over =
     told_turns g t o a b n gs by st hand agreed purpose is v w
-census_turns g t o a _ gs by st hand agreed last purpose is running v w whole = absurd w.asked
+census_turns g t o a _ gs by st hand agreed last purpose is running v w whole over = absurd w.ask.asked
 
 -- ---------------------------------------------------------------- the roll call
 
@@ -256,11 +229,6 @@ heard_few y calls passed unblocked = go (nat_lt y.calls 3) refl (nat_lt 0 y.pass
   go false less false e none = let zero_is : y.passed.count ≡ 0 = grind (arith, nat_tests, e) in rw less (calls, omega (arith, zero_is))
   go false less true e none = absurd (let both : (not (nat_lt y.calls 3) && nat_lt 0 y.passed.count) ≡ true = rw (less, e) refl in
       let never : true ≡ false = sym both ∙ none in cc)
-
-called_next : (t : Machine) (r : SearchAddress) (h : Answer) (room : ℕ) (b : Bool) → stage_of t.trace ≡ stage.Hunted r (Some h) room
-    → t.course.purpose ≡ Calling → is_yes h ≡ b → next_course t ≡ called_to t b t.course
-called_next t r h room b is purpose said =
-    ap (begins_at t) is ∙ ap (λ p. compared_in t p h) purpose ∙ ap (λ y. called_to t y t.course) said
 
 -- the fourth one since a visit succeeded, with somebody passed over
 blocked_turns : (g : ℕ) (t : Machine) (o : Order) (r : SearchAddress) (h : Answer) (room : ℕ) (gs : List Gear) → MisheardStands true g t gs
@@ -293,10 +261,7 @@ blocked_turns g t o r h room gs st v known begins next is_blocked_now = go (nat_
               t.course.tally.draws v.counted.quiet v.counted.passed v.counted.calls
               (let less : t.course.tally.draws < 3 = grind (arith, nat_tests, few) in less);
         };
-        stage_is = tt;
-        drawn = tt;
-        gear = λ k in_row on. tt;
-        low = v.low;
+        draw = record { stage_is = tt; drawn = tt; gear = λ k in_row on. tt; low = v.roll.low };
       }) known.0
     where
       most : (silent one count calls draws : ℕ) → silent + one ≤ 2 * count + 1 + 20 * draws + 0 → count ≤ calls + draws + 1 → calls ≤ 3 → draws < 3
@@ -327,16 +292,13 @@ answered_call g t o r h room gs by st purpose is v over = go (is_yes h) refl whe
   silent_one : is_yes h ≡ false → (b : Bool) → t.course.tally.is_silent ≡ b → IsNext g (machine_ordered t o) o gs
   silent_one quiet_so true twice =
       first_by g t o (closing_by t.course AllFound) gs (calm_of g t gs st) begins
-      (called_next t r h room false is purpose quiet_so
-      ∙ ap (λ b. if b then closing_by t.course AllFound else calling (record t.course { tally = silent_call t.course.tally })) twice) st.way
-      (record { stage_is = tt; well = v.stage_is quiet_so }) known.0
+      (silent_next t r h room true is purpose quiet_so twice) st.way
+      (record { stage_is = tt; well = called_short h room gs v.roll.stage_is.1 quiet_so }) known.0
   silent_one quiet_so false once =
       first_by g t o (calling (record t.course { tally = silent_call t.course.tally })) gs (calm_of g t gs st) begins
-      (called_next t r h room false is purpose quiet_so
-      ∙ ap (λ b. if b then closing_by t.course AllFound else calling (record t.course { tally = silent_call t.course.tally })) once) st.way
+      (silent_next t r h room false is purpose quiet_so once) st.way
       (record {
         opened_is = v.opened_is;
-        number = refl;
         counted = record {
           calls = v.counted.calls;
           draws = v.counted.draws;
@@ -344,28 +306,24 @@ answered_call g t o r h room gs by st purpose is v over = go (is_yes h) refl whe
           quiet = v.counted.quiet;
           drawn = v.counted.drawn;
         };
-        stage_is = tt;
-        gear = λ k in_row on. tt;
-        low = tt;
+        roll = roll_first gs;
       }) known
 
   heard_one : is_yes h ≡ true → (b : Bool) → is_blocked t.course.tally ≡ b → IsNext g (machine_ordered t o) o gs
   heard_one heard_so true stuck =
       blocked_turns g t o r h room gs st v known begins
-      (called_next t r h room true is purpose heard_so
-      ∙ ap (λ b. if b then blocked t else hunting_first (record t.course { tally = heard_call t.course.tally })) stuck) stuck
+      (heard_next t r h room true is purpose heard_so stuck) stuck
   heard_one heard_so false free =
       let few = heard_few t.course.tally v.counted.calls v.counted.passed free in
       hunts_first g t o (record t.course { tally = heard_call t.course.tally }) gs (calm_of g t gs st) begins
-      (called_next t r h room true is purpose heard_so
-      ∙ ap (λ b. if b then blocked t else hunting_first (record t.course { tally = heard_call t.course.tally })) free) st.way v.opened_is
+      (heard_next t r h room false is purpose heard_so free) st.way v.opened_is
       (record {
         calls = few.0;
         draws = v.counted.draws;
         passed = more t.course.tally.passed.count ((heard_call t.course.tally).calls + t.course.tally.draws) few.1;
         quiet = v.counted.quiet;
         drawn = v.counted.drawn;
-      }) few.1 v.low (λ k there on. (v.gear k there on).1) known.0
+      }) few.1 v.roll.low (λ k there on. (v.roll.gear k there on).1) known.0
     where
       more : (n m : ℕ) → n ≤ m → n ≤ m + 1
       more n m less = omega (arith, less)
@@ -375,26 +333,15 @@ answered_call g t o r h room gs by st purpose is v over = go (is_yes h) refl whe
   go true heard_so = heard_one heard_so (is_blocked t.course.tally) refl
 
 pub calling_turns : (g : ℕ) (t : Machine) (o : Order) (s : Stage) (gs : List Gear) → IsGivenBy t o → MisheardStands true g t gs → t.course.purpose ≡ Calling
-    → stage_of t.trace ≡ s → (s ≡ stage.Free → ⊥) → Calls g s t.course t.silent gs → IsNext g (machine_ordered t o) o gs
-calling_turns g t o stage.Free gs by st purpose is running v = absurd (running refl)
-calling_turns g t o stage.Terminated gs by st purpose is running v =
-    turns_by g t o Calling stage.Terminated (Initialise Unaddressed) gs by st purpose is refl
-calling_turns g t o stage.InitialisedOnce gs by st purpose is running v =
-    turns_by g t o Calling stage.InitialisedOnce (Initialise Unaddressed) gs by st purpose is refl
-calling_turns g t o stage.Initialised gs by st purpose is running v = turns_by g t o Calling stage.Initialised _ gs by st purpose is refl
-calling_turns g t o (stage.WokenHigh high) gs by st purpose is running v = turns_by g t o Calling (stage.WokenHigh high) _ gs by st purpose is refl
-calling_turns g t o (stage.WokenLow high low) gs by st purpose is running v = turns_by g t o Calling (stage.WokenLow high low) _ gs by st purpose is refl
-calling_turns g t o (stage.Hunted r None room) gs by st purpose is running v =
-    turns_by g t o Calling (stage.Hunted r None room) Compare gs by st purpose is refl
-calling_turns g t o (stage.Hunted r (Some h) room) gs by st purpose is running v = go (call_turn (Some h) room) refl where
-  go : (q : Option Command) → call_turn (Some h) room ≡ q → IsNext g (machine_ordered t o) o gs
-  go (Some d) e = turns_by g t o Calling (stage.Hunted r (Some h) room) d gs by st purpose is e
-  go None e = answered_call g t o r h room gs by st purpose is v e
-calling_turns g t o _ gs by st purpose is running v = absurd v.stage_is
+    → stage_of t.trace ≡ s → (s ≡ stage.Free → ⊥) → Calls g s t.course t.silent gs → turn_of Calling t.course.number s ≡ None
+    → IsNext g (machine_ordered t o) o gs
+calling_turns g t o s gs by st purpose is running v over =
+    let at = roll_over s t.course.number gs v.roll over running in
+    answered_call g t o at.0 at.1 at.2 gs by st purpose (is ∙ at.3) (subst (λ q. Calls g q t.course t.silent gs) at.3 v) at.4
 
 -- ---------------------------------------------------------------- gear have drawn
 
-drawn_turns : (g : ℕ) (t : Machine) (o : Order) (p : Purpose) (gs : List Gear) → IsGivenBy t o → MisheardStands true g t gs → IsNoEnrolment t.last
+pub drawn_turns : (g : ℕ) (t : Machine) (o : Order) (p : Purpose) (gs : List Gear) → IsGivenBy t o → MisheardStands true g t gs → IsNoEnrolment t.last
     → stage_of t.trace ≡ stage.Opened → Draws p stage.Opened t.course t.silent gs → AreSeen t.kept t.heard gs
     → IsNext g (machine_ordered t o) o gs
 drawn_turns g t o p gs by st last is v known =
@@ -407,39 +354,11 @@ drawn_turns g t o p gs by st last is v known =
       passed = more t.course.tally.passed.count (t.course.tally.calls + t.course.tally.draws) v.counted.passed;
       quiet = enough t.silent (one_if (not (is_failed t.course.tally.failed (gear_of gs g).random))) t.course.tally.passed.count t.course.tally.draws
           (one_most (not (is_failed t.course.tally.failed (gear_of gs g).random))) v.counted.quiet;
-      drawn = λ some k there on. (v.gear k there on).0;
-    }) v.counted.passed v.low (λ k there on. (v.gear k there on).1) known
+      drawn = λ some k there on. (v.draw.gear k there on).0;
+    }) v.counted.passed v.draw.low (λ k there on. (v.draw.gear k there on).1) known
   where
     more : (n m : ℕ) → n ≤ m → n ≤ m + 1
     more n m less = omega (arith, less)
 
     enough : (silent one count draws : ℕ) → one ≤ 1 → silent ≤ 2 * count + 20 * draws → silent + one ≤ 2 * count + 1 + 20 * draws + 0
     enough silent one count draws most quiet = omega (arith, most, quiet)
-
-pub opening_turns : (g : ℕ) (t : Machine) (o : Order) (s : Stage) (gs : List Gear) → IsGivenBy t o → MisheardStands true g t gs → IsNoEnrolment t.last
-    → t.course.purpose ≡ Opening → stage_of t.trace ≡ s → (s ≡ stage.Free → ⊥) → Draws Opening s t.course t.silent gs → IsNext g (machine_ordered t o) o gs
-opening_turns g t o stage.Free gs by st last purpose is running v = absurd (running refl)
-opening_turns g t o stage.Terminated gs by st last purpose is running v =
-    turns_by g t o Opening stage.Terminated (Initialise Unaddressed) gs by st purpose is refl
-opening_turns g t o stage.InitialisedOnce gs by st last purpose is running v =
-    turns_by g t o Opening stage.InitialisedOnce (Initialise Unaddressed) gs by st purpose is refl
-opening_turns g t o stage.Initialised gs by st last purpose is running v = turns_by g t o Opening stage.Initialised Randomise gs by st purpose is refl
-opening_turns g t o stage.RandomisedOnce gs by st last purpose is running v = turns_by g t o Opening stage.RandomisedOnce Randomise gs by st purpose is refl
-opening_turns g t o stage.Opened gs by st last purpose is running v = drawn_turns g t o Opening gs by st last is v (known_as g t gs Opening st purpose)
-opening_turns g t o _ gs by st last purpose is running v = absurd v.stage_is
-
-pub drawing_turns : (g : ℕ) (t : Machine) (o : Order) (s : Stage) (gs : List Gear) → IsGivenBy t o → MisheardStands true g t gs → IsNoEnrolment t.last
-    → t.course.purpose ≡ Drawing → stage_of t.trace ≡ s → (s ≡ stage.Free → ⊥) → Draws Drawing s t.course t.silent gs → IsNext g (machine_ordered t o) o gs
-drawing_turns g t o stage.Free gs by st last purpose is running v = absurd (running refl)
-drawing_turns g t o stage.Terminated gs by st last purpose is running v =
-    turns_by g t o Drawing stage.Terminated (Initialise Unaddressed) gs by st purpose is refl
-drawing_turns g t o stage.InitialisedOnce gs by st last purpose is running v =
-    turns_by g t o Drawing stage.InitialisedOnce (Initialise Unaddressed) gs by st purpose is refl
-drawing_turns g t o stage.Initialised gs by st last purpose is running v = turns_by g t o Drawing stage.Initialised _ gs by st purpose is refl
-drawing_turns g t o (stage.WokenHigh high) gs by st last purpose is running v = turns_by g t o Drawing (stage.WokenHigh high) _ gs by st purpose is refl
-drawing_turns g t o (stage.WokenMiddle high middle) gs by st last purpose is running v =
-    turns_by g t o Drawing (stage.WokenMiddle high middle) Compare gs by st purpose is refl
-drawing_turns g t o stage.DrawFree gs by st last purpose is running v = turns_by g t o Drawing stage.DrawFree Randomise gs by st purpose is refl
-drawing_turns g t o stage.RandomisedOnce gs by st last purpose is running v = turns_by g t o Drawing stage.RandomisedOnce Randomise gs by st purpose is refl
-drawing_turns g t o stage.Opened gs by st last purpose is running v = drawn_turns g t o Drawing gs by st last is v (known_as g t gs Drawing st purpose)
-drawing_turns g t o _ gs by st last purpose is running v = absurd v.stage_is

@@ -1,5 +1,4 @@
-use Rattle.std.proofs.Common.{◌≡◌, ℕ, ◌<◌, ◌≤◌, ◌⊎◌, inl, inr, Bool, true, false, List, refl, sym, ap, subst, ◌∙◌, arith, length, Option}
-use Rattle.std.proofs.Common.{Some, None}
+use Rattle.std.proofs.Common.{◌≡◌, ℕ, ◌<◌, ◌≤◌, ◌⊎◌, inl, inr, Bool, true, false, List, refl, sym, ap, subst, ◌∙◌, arith, length, Option, Some, None}
 use Rattle.std.specs.Prelude.{◌==◌, ◌&&◌, ◌/◌, ◌%◌, nat_lt, if◌then◌else◌}
 use Rattle.std.proofs.lemmas.Bool.Decides.{nat_tests}
 use Rattle.dali_frame.specs.declared.frames.Answer.{Answer}
@@ -35,8 +34,9 @@ use Rattle.dali_progress.proofs.Frames.{Seeks, value_sought, some_is, mask_queri
 use Rattle.dali_progress.proofs.Survey.Woken.{low_after}
 use Rattle.dali_progress.proofs.Misheard.Gear as gear
 use Rattle.dali_progress.proofs.Misheard.Gear.{AreSought, AreBare, AreBareBut, AreNamedBut, HasOne}
-use Rattle.dali_progress.proofs.Misheard.Stands.{IsCounted, IsReached, IsPast, IsOfOne, VisitStage, PassStage, Visits, HuntAt, found_at, failed_at, Hunts}
+use Rattle.dali_progress.proofs.Misheard.Stands.{StageOf, IsCounted, IsReached, IsPast, IsOfOne, VisitStage, Visits, HuntAt, found_at, failed_at, Hunts}
 use Rattle.dali_progress.proofs.Misheard.Sent.{Taken, counted_on, told_hunts, few_on, reached_core, own_core, hunts_core, low_byte, HuntedTo}
+use Rattle.dali_progress.proofs.Later.{queried_by, verified_by}
 
 -- A FRAME OF A VISIT IS SENT. Where it is gear g that is visited, anything may be heard of it; of any other it is heard what it
 -- answers.
@@ -153,13 +153,9 @@ visit_heard g v n r o gs numbers h t wants_it small same seek short = go (there.
 
 -- ---------------------------------------------------------------- the frames of a visit
 
-visits_as : (g : ℕ) (s t : Stage) (x : Ascent) (n : SearchAddress) (gs hs : List Gear) → (w : Visits g Visiting s x n gs)
-    → VisitStage g t x w.visited n hs → Visits g Visiting t x n hs
-visits_as g s t x n gs hs w stage = record { visited = w.visited; number = w.number; drawn = w.drawn; stage_is = stage }
-
-passes_as : (g : ℕ) (s t : Stage) (x : Ascent) (n : SearchAddress) (gs hs : List Gear) → (w : Visits g PassingOver s x n gs)
-    → PassStage g t x w.visited hs → Visits g PassingOver t x n hs
-passes_as g s t x n gs hs w stage = record { visited = w.visited; number = w.number; drawn = w.drawn; stage_is = stage }
+visits_as : (g : ℕ) (p : Purpose) (s t : Stage) (x : Ascent) (n : SearchAddress) (gs hs : List Gear) → (w : Visits g p s x n gs)
+    → StageOf g p t x w.visited n hs → Visits g p t x n hs
+visits_as g p s t x n gs hs w stage = record { visited = w.visited; number = w.number; drawn = w.drawn; stage_is = stage }
 
 same_value : (n r : SearchAddress) (v : ℕ) → n ≡ r → n ≡ sought v → value_of r ≡ v
 same_value n r v is number = ap value_of (sym is ∙ number) ∙ value_sought v
@@ -206,34 +202,14 @@ withdraws g p s t c silent r gs numbers v failed one there seek named at =
         wanted.is_wanted_by (gear_of gs g) up
         (gear.still_enabled (value_of r) (gear_of gs g) (gear_of hs g) w up (wanted.wanted_enabled (gear_of hs g) is)).0
 
-found_queried : (r : SearchAddress) (h : Answer) (x : Ascent) → found_at (queried r h) x ≡ x.found
-found_queried r Silence x = refl
-found_queried r Damaged x = refl
-found_queried r (Byte b) x = go (short_of b) (b == MASK) where
-  go : (o : Option ℕ) (m : Bool) → found_at (named r o m) x ≡ x.found
-  go (Some d) m = refl
-  go None true = refl
-  go None false = refl
-
-found_verified : (r : SearchAddress) (a : ℕ) (h : Answer) (x : Ascent) → found_at (verified r a h) x ≡ x.found
-found_verified r a Silence x = refl
-found_verified r a Damaged x = refl
-found_verified r a (Byte b) x = go (short_of b) where
-  by : (d : ℕ) (same : Bool) → found_at (if same then stage.Confirmed r a else stage.Inconclusive r (Some d)) x ≡ x.found
-  by d true = refl
-  by d false = refl
-
-  go : (o : Option ℕ) → found_at (answered r a o) x ≡ x.found
-  go None = refl
-  go (Some d) = by d (d == a)
-
 -- QUERY SHORT ADDRESS, before an address is programmed
 asked_sent : (g : ℕ) (r : SearchAddress) (c : Course) (silent : ℕ) (gs : List Gear) (numbers : List ℕ) (h : Answer)
     → Hunts false g Visiting (stage.NumberSent r) c silent gs → c.number ≡ r → Taken g QueryShort gs numbers h → Seek gs r
     → HuntedTo g Visiting (stage.NumberSent r) c silent gs numbers QueryShort h
 asked_sent g r c silent gs numbers h v is t seek =
-    hunts_core g Visiting (stage.NumberSent r) (queried r h) c silent gs numbers QueryShort v refl refl (found_queried r h c.ascent) same tt t.there
-    (visits_as g (stage.NumberSent r) (queried r h) c.ascent c.number gs hs w (go heard)) where
+    hunts_core g Visiting (stage.NumberSent r) (queried r h) c silent gs numbers QueryShort v refl refl
+    (queried_by (λ q. found_at q c.ascent ≡ c.ascent.found) r (λ b. refl) refl refl (λ o. refl) h) same tt t.there
+    (visits_as g Visiting (stage.NumberSent r) (queried r h) c.ascent c.number gs hs w (go heard)) where
       hs : List Gear
       hs = row_after Everyone QueryShort 0 gs numbers
 
@@ -264,7 +240,7 @@ programmed_sent g a r c silent gs numbers h v is small there seek =
     (counted_on g c.tally silent 0 gs hs v.counted (gear.random_programmed gs numbers a g there) (gear.drawn_programmed gs numbers r a seek))
     (few_on Visiting g c.tally gs hs before v.few) (low_after (Program (Some a)) gs numbers tt v.low)
     (gear.sought_programmed g c.ascent.found gs numbers r a seek v.sought_are)
-    (visits_as g (stage.Unnamed r) (stage.Programmed r a) c.ascent c.number gs hs w (
+    (visits_as g Visiting (stage.Unnamed r) (stage.Programmed r a) c.ascent c.number gs hs w (
       record {
         is = w.stage_is.0.is;
         reached = w.stage_is.0.reached;
@@ -296,8 +272,9 @@ confirmed_sent : (g a : ℕ) (r : SearchAddress) (c : Course) (silent : ℕ) (gs
     → Hunts false g Visiting (stage.Programmed r a) c silent gs → c.number ≡ r → Taken g QueryShort gs numbers h → Seek gs r
     → HuntedTo g Visiting (stage.Programmed r a) c silent gs numbers QueryShort h
 confirmed_sent g a r c silent gs numbers h v is t seek =
-    hunts_core g Visiting (stage.Programmed r a) (verified r a h) c silent gs numbers QueryShort v refl refl (found_verified r a h c.ascent) same tt t.there
-    (visits_as g (stage.Programmed r a) (verified r a h) c.ascent c.number gs hs w (go heard)) where
+    hunts_core g Visiting (stage.Programmed r a) (verified r a h) c silent gs numbers QueryShort v refl refl
+    (verified_by (λ q. found_at q c.ascent ≡ c.ascent.found) r a refl (λ o. refl) h) same tt t.there
+    (visits_as g Visiting (stage.Programmed r a) (verified r a h) c.ascent c.number gs hs w (go heard)) where
       hs : List Gear
       hs = row_after Everyone QueryShort 0 gs numbers
 
@@ -331,27 +308,25 @@ pub visiting_sent : (g : ℕ) (s : Stage) (k : Kept) (c : Course) (silent : ℕ)
     → Hunts false g Visiting s c silent gs → Sends k c.number Visiting s d → Taken g d gs numbers h → Seeks s gs
     → HuntedTo g Visiting s c silent gs numbers d h
 visiting_sent g stage.Free k c silent gs numbers d h v is t seek =
+    let same : SameCore gs (row_after Everyone (SearchHigh c.number.high) 0 gs numbers) = leaving.core_after (SearchHigh c.number.high) gs numbers tt in
     subst (λ e. HuntedTo g Visiting stage.Free c silent gs numbers e h) (sym is.0)
     (hunts_core g Visiting stage.Free (stage.HighSent c.number.high) c silent gs numbers (SearchHigh c.number.high) v refl refl refl same tt t.there
-    (visits_as g stage.Free (stage.HighSent c.number.high) c.ascent c.number gs _ v.at (both_core g v.at.visited c.ascent gs _ same v.at.stage_is))) where
-      same : SameCore gs (row_after Everyone (SearchHigh c.number.high) 0 gs numbers)
-      same = leaving.core_after (SearchHigh c.number.high) gs numbers tt
+    (visits_as g Visiting stage.Free (stage.HighSent c.number.high) c.ascent c.number gs _ v.at (both_core g v.at.visited c.ascent gs _ same v.at.stage_is)))
 visiting_sent g (stage.HighSent high) k c silent gs numbers d h v is t seek =
+    let same : SameCore gs (row_after Everyone (SearchMiddle c.number.middle) 0 gs numbers) = leaving.core_after (SearchMiddle c.number.middle) gs numbers tt in
     subst (λ e. HuntedTo g Visiting (stage.HighSent high) c silent gs numbers e h) (some_is (SearchMiddle c.number.middle) d is.0)
     (hunts_core g Visiting (stage.HighSent high) (stage.MiddleSent high c.number.middle) c silent gs numbers (SearchMiddle c.number.middle) v refl refl refl
     same tt t.there
-    (visits_as g (stage.HighSent high) (stage.MiddleSent high c.number.middle) c.ascent c.number gs _ v.at
-    (both_core g v.at.visited c.ascent gs _ same v.at.stage_is))) where
-      same : SameCore gs (row_after Everyone (SearchMiddle c.number.middle) 0 gs numbers)
-      same = leaving.core_after (SearchMiddle c.number.middle) gs numbers tt
+    (visits_as g Visiting (stage.HighSent high) (stage.MiddleSent high c.number.middle) c.ascent c.number gs _ v.at
+    (both_core g v.at.visited c.ascent gs _ same v.at.stage_is)))
 visiting_sent g (stage.MiddleSent high middle) k c silent gs numbers d h v is t seek =
+    let same : SameCore gs (row_after Everyone (SearchLow c.number.low) 0 gs numbers) = leaving.core_after (SearchLow c.number.low) gs numbers tt in
     subst (λ e. HuntedTo g Visiting (stage.MiddleSent high middle) c silent gs numbers e h) (some_is (SearchLow c.number.low) d is.0)
     (hunts_core g Visiting (stage.MiddleSent high middle) (stage.NumberSent (record { high = high; middle = middle; low = c.number.low })) c silent gs numbers
     (SearchLow c.number.low) v refl refl refl same (low_byte c.number v.at.visited v.at.number) t.there
-    (visits_as g (stage.MiddleSent high middle) (stage.NumberSent (record { high = high; middle = middle; low = c.number.low })) c.ascent c.number gs _ v.at
-    (both_core g v.at.visited c.ascent gs _ same v.at.stage_is))) where
-      same : SameCore gs (row_after Everyone (SearchLow c.number.low) 0 gs numbers)
-      same = leaving.core_after (SearchLow c.number.low) gs numbers tt
+    (visits_as g Visiting (stage.MiddleSent high middle) (stage.NumberSent (record { high = high; middle = middle; low = c.number.low }))
+    c.ascent c.number gs _ v.at
+    (both_core g v.at.visited c.ascent gs _ same v.at.stage_is)))
 visiting_sent g (stage.NumberSent r) k c silent gs numbers d h v is t seek =
     subst (λ e. Taken g e gs numbers h → HuntedTo g Visiting (stage.NumberSent r) c silent gs numbers e h) (some_is QueryShort d is.0)
     (λ now. asked_sent g r c silent gs numbers h v is.1 now (seek r refl)) t
@@ -365,7 +340,7 @@ visiting_sent g (stage.Found r b) k c silent gs numbers d h v is t seek =
     subst (λ e. HuntedTo g Visiting (stage.Found r b) c silent gs numbers e h) (some_is Withdraw d is.0)
     (withdraws g Visiting (stage.Found r b) (stage.Withdrawn r b) c silent r gs numbers v refl refl t.there (seek r refl)
     (subst (λ m. AreNamedBut g m gs) (sym value) (gear.own_named g v.at.visited gs t.apart t.there v.at.drawn v.at.stage_is.2))
-    (visits_as g (stage.Found r b) (stage.Withdrawn r b) c.ascent c.number gs _ v.at (
+    (visits_as g Visiting (stage.Found r b) (stage.Withdrawn r b) c.ascent c.number gs _ v.at (
       past_withdrawn c.ascent v.at.visited gs numbers r (seek r refl) value v.at.stage_is.0,
       gear.bare_withdrawn g gs numbers r (seek r refl) (gear.bare_weaker g (value_of r) gs v.at.stage_is.1),
       gear.one_withdrawn v.at.visited b gs numbers r (seek r refl) v.at.stage_is.3,
@@ -378,7 +353,7 @@ visiting_sent g (stage.Confirmed r a) k c silent gs numbers d h v is t seek =
     subst (λ e. HuntedTo g Visiting (stage.Confirmed r a) c silent gs numbers e h) (some_is Withdraw d is.0)
     (withdraws g Visiting (stage.Confirmed r a) (stage.Withdrawn r a) c silent r gs numbers v refl refl t.there (seek r refl)
     (subst (λ m. AreNamedBut g m gs) (sym value) (gear.have_named g v.at.visited a gs v.at.stage_is.2))
-    (visits_as g (stage.Confirmed r a) (stage.Withdrawn r a) c.ascent c.number gs _ v.at (
+    (visits_as g Visiting (stage.Confirmed r a) (stage.Withdrawn r a) c.ascent c.number gs _ v.at (
       past_withdrawn c.ascent v.at.visited gs numbers r (seek r refl) value v.at.stage_is.0,
       gear.bare_withdrawn g gs numbers r (seek r refl) (subst (λ m. AreBareBut g m gs) (sym value) v.at.stage_is.1),
       gear.one_withdrawn v.at.visited a gs numbers r (seek r refl) has,
@@ -408,33 +383,31 @@ pub passing_sent : (g : ℕ) (s : Stage) (k : Kept) (c : Course) (silent : ℕ) 
     → Hunts false g PassingOver s c silent gs → Sends k c.number PassingOver s d → Taken g d gs numbers h → Seeks s gs
     → HuntedTo g PassingOver s c silent gs numbers d h
 passing_sent g stage.Free k c silent gs numbers d h v is t seek =
+    let same : SameCore gs (row_after Everyone (SearchHigh c.number.high) 0 gs numbers) = leaving.core_after (SearchHigh c.number.high) gs numbers tt in
     subst (λ e. HuntedTo g PassingOver stage.Free c silent gs numbers e h) (sym is.0)
     (hunts_core g PassingOver stage.Free (stage.HighSent c.number.high) c silent gs numbers (SearchHigh c.number.high) v refl refl refl same tt t.there
-    (passes_as g stage.Free (stage.HighSent c.number.high) c.ascent c.number gs _ v.at
-    (three_core g v.at.visited c.ascent gs _ same t.there v.at.stage_is))) where
-      same : SameCore gs (row_after Everyone (SearchHigh c.number.high) 0 gs numbers)
-      same = leaving.core_after (SearchHigh c.number.high) gs numbers tt
+    (visits_as g PassingOver stage.Free (stage.HighSent c.number.high) c.ascent c.number gs _ v.at
+    (three_core g v.at.visited c.ascent gs _ same t.there v.at.stage_is)))
 passing_sent g (stage.HighSent high) k c silent gs numbers d h v is t seek =
+    let same : SameCore gs (row_after Everyone (SearchMiddle c.number.middle) 0 gs numbers) = leaving.core_after (SearchMiddle c.number.middle) gs numbers tt in
     subst (λ e. HuntedTo g PassingOver (stage.HighSent high) c silent gs numbers e h) (some_is (SearchMiddle c.number.middle) d is.0)
     (hunts_core g PassingOver (stage.HighSent high) (stage.MiddleSent high c.number.middle) c silent gs numbers (SearchMiddle c.number.middle) v refl refl refl
     same tt t.there
-    (passes_as g (stage.HighSent high) (stage.MiddleSent high c.number.middle) c.ascent c.number gs _ v.at
-    (three_core g v.at.visited c.ascent gs _ same t.there v.at.stage_is))) where
-      same : SameCore gs (row_after Everyone (SearchMiddle c.number.middle) 0 gs numbers)
-      same = leaving.core_after (SearchMiddle c.number.middle) gs numbers tt
+    (visits_as g PassingOver (stage.HighSent high) (stage.MiddleSent high c.number.middle) c.ascent c.number gs _ v.at
+    (three_core g v.at.visited c.ascent gs _ same t.there v.at.stage_is)))
 passing_sent g (stage.MiddleSent high middle) k c silent gs numbers d h v is t seek =
+    let same : SameCore gs (row_after Everyone (SearchLow c.number.low) 0 gs numbers) = leaving.core_after (SearchLow c.number.low) gs numbers tt in
     subst (λ e. HuntedTo g PassingOver (stage.MiddleSent high middle) c silent gs numbers e h) (some_is (SearchLow c.number.low) d is.0)
     (hunts_core g PassingOver (stage.MiddleSent high middle) (stage.NumberSent (record { high = high; middle = middle; low = c.number.low })) c silent gs
     numbers (SearchLow c.number.low) v refl refl refl same (low_byte c.number v.at.visited v.at.number) t.there
-    (passes_as g (stage.MiddleSent high middle) (stage.NumberSent (record { high = high; middle = middle; low = c.number.low })) c.ascent c.number gs _ v.at
-    (three_core g v.at.visited c.ascent gs _ same t.there v.at.stage_is))) where
-      same : SameCore gs (row_after Everyone (SearchLow c.number.low) 0 gs numbers)
-      same = leaving.core_after (SearchLow c.number.low) gs numbers tt
+    (visits_as g PassingOver (stage.MiddleSent high middle) (stage.NumberSent (record { high = high; middle = middle; low = c.number.low }))
+    c.ascent c.number gs _ v.at
+    (three_core g v.at.visited c.ascent gs _ same t.there v.at.stage_is)))
 passing_sent g (stage.NumberSent r) k c silent gs numbers d h v is t seek =
     subst (λ e. HuntedTo g PassingOver (stage.NumberSent r) c silent gs numbers e h) (some_is Withdraw d is.0)
     (withdraws g PassingOver (stage.NumberSent r) (stage.PassedOver r) c silent r gs numbers v refl refl t.there (seek r refl)
     (subst (λ m. AreNamedBut g m gs) (sym value) (gear.own_named g v.at.visited gs t.apart t.there v.at.drawn v.at.stage_is.2))
-    (passes_as g (stage.NumberSent r) (stage.PassedOver r) c.ascent c.number gs _ v.at (
+    (visits_as g PassingOver (stage.NumberSent r) (stage.PassedOver r) c.ascent c.number gs _ v.at (
       past_withdrawn c.ascent v.at.visited gs numbers r (seek r refl) value v.at.stage_is.0,
       gear.bare_withdrawn g gs numbers r (seek r refl) (gear.bare_weaker g (value_of r) gs v.at.stage_is.1),
       gear.random_withdrawn gs numbers g t.there ∙ v.at.stage_is.2,

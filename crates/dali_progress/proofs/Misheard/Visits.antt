@@ -7,7 +7,7 @@ use Rattle.dali_frame.specs.declared.numbers.SearchAddress.{SearchAddress}
 use Rattle.dali_frame.specs.Random.{value_of, MASK24}
 use Rattle.dali_frame.specs.Priority.{LATER}
 use Rattle.dali_special.specs.declared.command.Command.{Command}
-use Rattle.dali_special.specs.declared.command.Command.TheVariants.{Withdraw, QueryShort, Program}
+use Rattle.dali_special.specs.declared.command.Command.TheVariants.{Program}
 use Rattle.dali_special.specs.Command.{frame_of}
 use Rattle.dali_gear.specs.declared.state.InitialisationState.TheVariants.{Enabled}
 use Rattle.dali_gear.specs.Gear.{Gear}
@@ -20,25 +20,23 @@ use Rattle.dali_script.specs.declared.finding.Finding.TheVariants.{Queried}
 use Rattle.dali_script.specs.Stages.{stage_of}
 use Rattle.dali_script.specs.declared.orders.Order.{Order}
 use Rattle.dali_script.specs.declared.orders.Order.TheVariants.{Put, Commit, Done, Halt}
-use Rattle.dali_script.specs.declared.orders.End.{End}
 use Rattle.dali_script.specs.declared.orders.End.TheVariants.{BlockFull, GaveUp}
 use Rattle.dali_search.specs.declared.step.Step.{Step}
 use Rattle.dali_search.specs.declared.step.Step.TheVariants.{Again, Found, Nobody}
 use Rattle.dali_search.specs.Least.{Gives}
 use Rattle.dali_search.specs.Ascending.{Ascent, Knows, IsAscent, ascent_at_first, asked_next, leads_to, ascended, one_if}
 use Rattle.dali_controller.specs.declared.purpose.Purpose.{Purpose}
-use Rattle.dali_controller.specs.declared.purpose.Purpose.TheVariants.{Opening, Probing, Visiting, Resolving, Closing, Hunting, Asking, Calling}
-use Rattle.dali_controller.specs.declared.purpose.Purpose.TheVariants.{Drawing, PassingOver}
+use Rattle.dali_controller.specs.declared.purpose.Purpose.TheVariants.{Opening, Probing, Visiting, Resolving, Closing, Hunting, Asking, Calling, Drawing}
+use Rattle.dali_controller.specs.declared.purpose.Purpose.TheVariants.{PassingOver}
 use Rattle.dali_controller.specs.declared.tally.Tally.{Tally}
-use Rattle.dali_controller.specs.Course.{Course, is_yes, sought, byte_to_send, bytes_to_send, address_for, least_open, closing_of}
-use Rattle.dali_controller.specs.Course.{ask_or_call, asking_again, next_asked, calling, drawing, opening_anew, closing as closing_by, hunting, visiting}
-use Rattle.dali_controller.specs.Course.{passing_over, missed, hunted}
-use Rattle.dali_controller.specs.Tally.{asked_again, passed_over}
+use Rattle.dali_controller.specs.Course.{Course, is_yes, byte_to_send, bytes_to_send, address_for, least_open, turn_of, ask_or_call}
+use Rattle.dali_controller.specs.Course.{asking_again, next_asked, calling, drawing, opening_anew, closing as closing_by, hunting, visiting, passing_over}
+use Rattle.dali_controller.specs.Course.{missed, hunted}
+use Rattle.dali_controller.specs.Tally.{asked_again, passed_over, drew}
 use Rattle.dali_controller.specs.Machine.{Machine, is_withheld}
-use Rattle.dali_controller.specs.Next.{next_course, begins_at, beginning, course_by, course_on, asked_on, compared_in, hunted_to, nobody_left, undrawn, full}
-use Rattle.dali_controller.specs.Next.{asks_again, has_open, may_draw, silenced, silenced_on, missed_again, is_failed, unanswered, most_silent, question}
-use Rattle.dali_controller.specs.Next.{is_hunting}
-use Rattle.dali_controller.specs.Orders.{machine_ordered, asked_by, AfterFinding, AfterMaskOn, AfterMaskBy, AfterReserved}
+use Rattle.dali_controller.specs.Next.{next_course, begins_at, beginning, course_by, hunted_to, nobody_left, undrawn, full, asks_again, has_open}
+use Rattle.dali_controller.specs.Next.{may_draw, silenced, silenced_on, missed_again, is_failed, unanswered, most_silent, question, is_hunting}
+use Rattle.dali_controller.specs.Orders.{machine_ordered, AfterFinding, AfterMaskOn, AfterMaskBy, AfterReserved}
 use Rattle.dali_controller.specs.Whole.{IsWhole}
 use Rattle.dali_controller.proofs.Given as given
 use Rattle.dali_controller.proofs.Given.{IsGivenBy, IsNoEnrolment}
@@ -46,25 +44,25 @@ use Rattle.dali_events.specs.Searching.{HasShort}
 use Rattle.dali_events.specs.Wanted.{gear_of, is_wanted, wants}
 use Rattle.dali_events.proofs.Search.Wanted as wanted
 use Rattle.dali_progress.specs.Misheard.{AreServedBut}
-use Rattle.dali_progress.proofs.Both.{never_eight}
+use Rattle.dali_progress.proofs.Both.{never_eight, close_ends}
 use Rattle.dali_progress.proofs.Frames.{value_sought}
-use Rattle.dali_progress.proofs.Survey.Drawn.{AreNumbered}
-use Rattle.dali_progress.proofs.Survey.Stands.{NoneDrawn, AreTaken}
+use Rattle.dali_progress.proofs.Survey.Drawn.{AreNumbered, DrewApart}
+use Rattle.dali_progress.proofs.Survey.Stands.{AreTaken}
 use Rattle.dali_progress.proofs.Survey.Rising.{knows_told}
 use Rattle.dali_progress.proofs.Survey.Woken.{AreLow}
-use Rattle.dali_progress.proofs.Later.{course_stays}
 use Rattle.dali_progress.proofs.Survey.Begins.{clear_reserved, nobody_elses, begins_whole, all_taken}
 use Rattle.dali_progress.proofs.Survey.Turns.{IsUncontradicted}
-use Rattle.dali_progress.proofs.Survey.Hunting.{found_same, begins_by, nothing_open}
+use Rattle.dali_progress.proofs.Survey.Hunting.{found_same, begins_by, nothing_open, later_asked, vain_next, asked_where, hunted_next}
 use Rattle.dali_progress.proofs.Survey.Visits.{found_address, withheld_anothers, ungiven_next}
-use Rattle.dali_progress.proofs.Misheard.Gear.{AreSought, AreBare, HaveDrawn, DrewApart, HasOne}
+use Rattle.dali_progress.proofs.Survey.Queried.{IsAtHand}
+use Rattle.dali_progress.proofs.Misheard.Gear.{AreSought, AreBare, HaveDrawn, HasOne}
 use Rattle.dali_progress.proofs.Misheard.Climbing as climbing
-use Rattle.dali_progress.proofs.Misheard.Stands.{AreSeen, IsCounted, Rises, IsReached, IsPast, IsOfOne, Visits, Hunts, EndsBy, Closes, At}
-use Rattle.dali_progress.proofs.Misheard.Stands.{MisheardStands}
+use Rattle.dali_progress.proofs.Misheard.Stands.{AreSeen, IsCounted, Rises, IsReached, IsOfOne, Visits, Hunts, Closes, At, Draws, MisheardStands, IsCountedFor}
 use Rattle.dali_progress.proofs.Misheard.Stands as stands
-use Rattle.dali_progress.proofs.Misheard.Begins.{IsAtHand, KeepsPast, IsOwn, IsNext, Calm, calm_of, calm_ordered, later_by, turns_by, first_by, fills}
-use Rattle.dali_progress.proofs.Misheard.Begins.{hunts_above, hunts_on}
-use Rattle.dali_progress.proofs.Misheard.Turns.{found_at, known_as, own_by, whole_over, census_turns, calling_turns, opening_turns, drawing_turns}
+use Rattle.dali_progress.proofs.Misheard.Begins.{KeepsPast, IsOwn, IsNext, Calm, calm_of, calm_ordered, later_by, turns_by, first_by, fills, hunts_above}
+use Rattle.dali_progress.proofs.Misheard.Begins.{hunts_on}
+use Rattle.dali_progress.proofs.Misheard.Turns.{found_at, known_as, own_by, census_turns, calling_turns, drawn_turns}
+use Rattle.dali_progress.proofs.Surveying.{NoneDrawn, roll_first, IsDraws, draw_over}
 
 -- A CONTROLLER ACTS while gear are hunted and visited, and at its close; and in whatever transaction.
 
@@ -95,6 +93,23 @@ none_drawn g found gs sought_are nothing numbered nobody k there on none = go (n
   go (inl mask) = mask
   go (inr small) = absurd (left_none gs k nobody there on (sought_are k there on (λ same. nothing) none small) small)
 
+-- what is counted where gear draw once more
+counted_draw : (g : ℕ) (y : Tally) (silent : ℕ) (gs : List Gear) → IsCounted g y silent 0 gs → nat_lt y.draws 3 ≡ true → IsCountedFor (drew y) silent
+counted_draw g y silent gs v few = record {
+  calls = v.calls;
+  draws = less y.draws few;
+  passed = more y.passed.count y.calls y.draws v.passed;
+  quiet = enough silent (one_if (not (is_failed y.failed (gear_of gs g).random))) y.passed.count y.draws v.quiet;
+} where
+  less : (n : ℕ) → nat_lt n 3 ≡ true → n + 1 ≤ 3
+  less n e = grind (arith, nat_tests, e)
+
+  more : (count calls draws : ℕ) → count ≤ calls + draws + 1 → count ≤ calls + (draws + 1)
+  more count calls draws enough = omega (arith, enough)
+
+  enough : (silent one count draws : ℕ) → silent + one ≤ 2 * count + 1 + 20 * draws + 0 → silent ≤ 2 * count + 20 * (draws + 1)
+  enough silent one count draws quiet = omega (arith, quiet)
+
 -- another transaction begins where the block is full
 full_rests : (t : Machine) (c : Course) → is_hunting (full t c).purpose ≡ false
 full_rests t c = go (asks_again t) where
@@ -124,51 +139,32 @@ vain_over g t o h r room gs asks next none v = go (has_open t) refl (nat_lt t.co
   calm : Calm g t gs
   calm = calm_of g t gs v.stands
 
-  by : (a b : Bool) → has_open t ≡ a → nat_lt t.course.tally.draws 3 ≡ b
-      → next_course t
-      ≡ (if a then (if b then drawing (hunted t.course h) else closing_by (hunted t.course h) GaveUp) else full t (hunted t.course h))
-  by a b free few =
-      next ∙ ap (λ q. if q then (if nat_lt t.course.tally.draws 3 then drawing (hunted t.course h) else closing_by (hunted t.course h) GaveUp)
-      else full t (hunted t.course h)) free
-      ∙ ap (λ q. if a then (if q then drawing (hunted t.course h) else closing_by (hunted t.course h) GaveUp) else full t (hunted t.course h)) few
-
   go : (a : Bool) → has_open t ≡ a → (b : Bool) → nat_lt t.course.tally.draws 3 ≡ b → IsNext g (machine_ordered t o) o gs
   go true free true few =
-      first_by g t o (drawing (hunted t.course h)) gs calm (begins_by t o (drawing (hunted t.course h)) r room asks (by true true free few) refl)
-      (by true true free few) v.stands.way
+      first_by g t o (drawing (hunted t.course h)) gs calm
+      (begins_by t o (drawing (hunted t.course h)) r room asks (vain_next t h true true next free few) refl)
+      (vain_next t h true true next free few) v.stands.way
       (record {
         opened_is = v.opened_is;
-        counted = record {
-          calls = v.counted.calls;
-          draws = less t.course.tally.draws few;
-          passed = more t.course.tally.passed.count t.course.tally.calls t.course.tally.draws v.counted.passed;
-          quiet = enough t.silent (one_if (not (is_failed t.course.tally.failed (gear_of gs g).random))) t.course.tally.passed.count t.course.tally.draws
-              v.counted.quiet;
+        counted = counted_draw g t.course.tally t.silent gs v.counted few;
+        draw = record {
+          stage_is = tt;
+          drawn = (none_drawn g t.course.ascent.found gs v.sought_are none v.hand.numbered v.nobody, refl);
+          gear = λ k in_row on. tt;
+          low = v.low;
         };
-        stage_is = tt;
-        drawn = (none_drawn g t.course.ascent.found gs v.sought_are none v.hand.numbered v.nobody, refl);
-        gear = λ k in_row on. tt;
-        low = v.low;
       }) v.known
-    where
-      less : (n : ℕ) → nat_lt n 3 ≡ true → n + 1 ≤ 3
-      less n e = grind (arith, nat_tests, e)
-
-      more : (count calls draws : ℕ) → count ≤ calls + draws + 1 → count ≤ calls + (draws + 1)
-      more count calls draws enough = omega (arith, enough)
-
-      enough : (silent one count draws : ℕ) → silent + one ≤ 2 * count + 1 + 20 * draws + 0 → silent ≤ 2 * count + 20 * (draws + 1)
-      enough silent one count draws quiet = omega (arith, quiet)
   go true free false spent =
       first_by g t o (closing_by (hunted t.course h) GaveUp) gs calm
-      (begins_by t o (closing_by (hunted t.course h) GaveUp) r room asks (by true false free spent) refl) (by true false free spent) v.stands.way
+      (begins_by t o (closing_by (hunted t.course h) GaveUp) r room asks (vain_next t h true false next free spent) refl)
+      (vain_next t h true false next free spent) v.stands.way
       (record { stage_is = tt; well = inl (served_by g t.course.ascent.found gs v.sought_are (v.counted.drawn (some t.course.tally.draws spent)) v.nobody) })
       v.known
     where
       some : (n : ℕ) → nat_lt n 3 ≡ false → 0 < n
       some n e = grind (arith, nat_tests, e)
   go false shut b few =
-      fills g t o (hunted t.course h) gs calm (begins_full (by false b shut few)) (by false b shut few) v.stands.way v.counted
+      fills g t o (hunted t.course h) gs calm (begins_full (vain_next t h false b next shut few)) (vain_next t h false b next shut few) v.stands.way v.counted
       v.known (all_taken t.kept t.heard (nothing_open t shut)) v.hand.one v.hand.holds
     where
       begins_full : next_course t ≡ full t (hunted t.course h) → o ≡ beginning (next_course t)
@@ -182,11 +178,8 @@ found_over g t o h r room gs asks next v =
     v.stands.way
     (record {
       opened_is = v.opened_is;
-      number = refl;
       counted = v.counted;
-      stage_is = tt;
-      gear = λ k in_row on. tt;
-      low = tt;
+      roll = roll_first gs;
     })
     (v.known, inl (λ passed drew. served_by g t.course.ascent.found gs v.sought_are (v.counted.drawn drew) v.nobody))
 
@@ -211,7 +204,7 @@ goes_on : (g : ℕ) (t : Machine) (o : Order) (h : Answer) (r : SearchAddress) (
     → Hunts false g Hunting (stage.Hunted r (Some h) room) (hunting (hunted t.course h)) t.silent gs
     → AreSeen t.kept t.heard gs → IsNext g (machine_ordered t o) o gs
 goes_on g t o h r room gs st purpose is next sends v known = subst (λ q. IsNext g (machine_ordered t q) q gs) (sym sends)
-    (subst (λ m. IsNext g m (Put LATER (frame_of c)) gs) (sym later) (record {
+    (subst (λ m. IsNext g m (Put LATER (frame_of c)) gs) (sym (later_asked t h r room (frame_of c) purpose is next)) (record {
       there = st.there;
       tries = st.tries;
       way = st.way;
@@ -221,12 +214,6 @@ goes_on g t o h r room gs st purpose is next sends v known = subst (λ q. IsNext
     })) where
       c : Command
       c = byte_to_send (hunting (hunted t.course h)).number r
-
-      later : machine_ordered t (Put LATER (frame_of c))
-          ≡ record t { last = Some (Put LATER (frame_of c)); course = hunting (hunted t.course h); asked = asked_by t.course.opened t.asked }
-      later =
-          ap (λ (d : Course). record t { last = Some (Put LATER (frame_of c)); course = d; asked = asked_by d.opened t.asked })
-          (ap (course_on t) is ∙ ap (λ p. asked_on t p h) purpose ∙ sym (ap (begins_at t) is ∙ ap (λ p. compared_in t p h) purpose) ∙ next)
 
 answered_turns : (g : ℕ) (t : Machine) (o : Order) (r : SearchAddress) (h : Answer) (room : ℕ) (gs : List Gear) → IsGivenBy t o
     → MisheardStands true g t gs → IsAtHand t.kept gs → t.course.purpose ≡ Hunting → stage_of t.trace ≡ stage.Hunted r (Some h) room
@@ -254,28 +241,16 @@ answered_turns g t o r h room gs by st hand purpose is v = go (leads_to (ascende
   asks = by.followed.hunted r h room is purpose
 
   next : (s : Step) → leads_to (ascended t.course.ascent (is_yes h)) ≡ s → next_course t ≡ hunted_to t s (hunted t.course h)
-  next s e = ap (begins_at t) is ∙ ap (λ q. compared_in t q h) purpose ∙ ap (λ x. hunted_to t x (hunted t.course h)) e
+  next s e = hunted_next t h r room s purpose is e
 
   sought_are : AreSought g (hunted t.course h).ascent.found gs
   sought_are = subst (λ n. AreSought g n gs) (sym (found_same t.course.ascent (is_yes h))) v.sought_are
-
-  rises : leads_to (ascended t.course.ascent (is_yes h)) ≡ Again
-      → Rises false g stage.Free (ascended t.course.ascent (is_yes h)) (sought (asked_next (ascended t.course.ascent (is_yes h)))) gs
-  rises e = record { is = ascent; knows = knows; running = e; number = refl; bare = p.bare; stage_is = tt }
-
-  rises_in : leads_to (ascended t.course.ascent (is_yes h)) ≡ Again
-      → Rises false g (stage.Hunted r (Some h) room) (ascended t.course.ascent (is_yes h)) (sought (asked_next (ascended t.course.ascent (is_yes h)))) gs
-  rises_in e = record { is = ascent; knows = knows; running = e; number = refl; bare = p.bare; stage_is = tt }
-
-  asked : Bool → Order
-  asked b = if b then Put LATER (frame_of (byte_to_send (hunting (hunted t.course h)).number r)) else beginning (hunting (hunted t.course h))
 
   again : (b : Bool) → nat_lt (bytes_to_send (hunting (hunted t.course h)).number r) room ≡ b
       → leads_to (ascended t.course.ascent (is_yes h)) ≡ Again → IsNext g (machine_ordered t o) o gs
   again true some e =
       goes_on g t o h r room gs st purpose is (next Again e)
-      (asks ∙ ap (λ c. question c r room) (next Again e)
-      ∙ ap (λ b. if b then Put LATER (frame_of (byte_to_send (hunting (hunted t.course h)).number r)) else beginning (hunting (hunted t.course h))) some)
+      (asked_where t o h r room true asks (next Again e) some)
       (record {
         opened_is = v.opened_is;
         counted = v.counted;
@@ -283,13 +258,11 @@ answered_turns g t o r h room gs by st hand purpose is v = go (leads_to (ascende
         low = v.low;
         sought_are = sought_are;
         quiet = tt;
-        at = rises_in e;
+        at = record { is = ascent; knows = knows; running = e; number = refl; bare = p.bare; stage_is = tt };
       }) known
   again false none e =
       first_by g t o (hunting (hunted t.course h)) gs (calm_of g t gs st)
-      (asks ∙ ap (λ c. question c r room) (next Again e)
-      ∙ ap (λ b. if b then Put LATER (frame_of (byte_to_send (hunting (hunted t.course h)).number r)) else beginning (hunting (hunted t.course h))) none
-      ∙ sym (ap beginning (next Again e))) (next Again e) st.way
+      (asked_where t o h r room false asks (next Again e) none) (next Again e) st.way
       (record {
         opened_is = v.opened_is;
         counted = v.counted;
@@ -297,7 +270,7 @@ answered_turns g t o r h room gs by st hand purpose is v = go (leads_to (ascende
         low = v.low;
         sought_are = sought_are;
         quiet = tt;
-        at = rises e;
+        at = record { is = ascent; knows = knows; running = e; number = refl; bare = p.bare; stage_is = tt };
       }) known
 
   go : (s : Step) → leads_to (ascended t.course.ascent (is_yes h)) ≡ s → IsNext g (machine_ordered t o) o gs
@@ -335,15 +308,13 @@ answered_turns g t o r h room gs by st hand purpose is v = go (leads_to (ascende
 
 hunting_turns : (g : ℕ) (t : Machine) (o : Order) (s : Stage) (gs : List Gear) → IsGivenBy t o → MisheardStands true g t gs → IsAtHand t.kept gs
     → t.course.purpose ≡ Hunting → stage_of t.trace ≡ s → (s ≡ stage.Free → ⊥) → Hunts true g Hunting s t.course t.silent gs
-    → IsNext g (machine_ordered t o) o gs
-hunting_turns g t o stage.Free gs by st hand purpose is running v = absurd (running refl)
-hunting_turns g t o (stage.HighSent high) gs by st hand purpose is running v = turns_by g t o Hunting (stage.HighSent high) _ gs by st purpose is refl
-hunting_turns g t o (stage.LowSent high low) gs by st hand purpose is running v =
-    turns_by g t o Hunting (stage.LowSent high low) _ gs by st purpose is refl
-hunting_turns g t o (stage.Hunted r None room) gs by st hand purpose is running v =
-    turns_by g t o Hunting (stage.Hunted r None room) (byte_to_send t.course.number r) gs by st purpose is refl
-hunting_turns g t o (stage.Hunted r (Some h) room) gs by st hand purpose is running v = answered_turns g t o r h room gs by st hand purpose is v
-hunting_turns g t o _ gs by st hand purpose is running v = absurd v.at.stage_is
+    → turn_of Hunting t.course.number s ≡ None → IsNext g (machine_ordered t o) o gs
+hunting_turns g t o stage.Free gs by st hand purpose is running v over = absurd (running refl)
+hunting_turns g t o (stage.HighSent high) gs by st hand purpose is running v over = absurd (cc)
+hunting_turns g t o (stage.LowSent high low) gs by st hand purpose is running v over = absurd (cc)
+hunting_turns g t o (stage.Hunted r None room) gs by st hand purpose is running v over = absurd (cc)
+hunting_turns g t o (stage.Hunted r (Some h) room) gs by st hand purpose is running v over = answered_turns g t o r h room gs by st hand purpose is v
+hunting_turns g t o _ gs by st hand purpose is running v over = absurd v.at.stage_is
 
 -- ---------------------------------------------------------------- a visit that failed
 
@@ -482,27 +453,9 @@ ungiven_turns g t o r gs st v is begins filled known hand = go (may_draw t) refl
       first_by g t o (opening_anew t.course) gs (calm_of g t gs st) begins (ungiven_next t r true is st.way may) st.way
       (record {
         opened_is = v.opened_is;
-        counted = record {
-          calls = v.counted.calls;
-          draws = less t.course.tally.draws (wanted.both_pass (nat_lt t.course.tally.draws 3) (has_open t) may).0;
-          passed = more t.course.tally.passed.count t.course.tally.calls t.course.tally.draws v.counted.passed;
-          quiet = enough t.silent (one_if (not (is_failed t.course.tally.failed (gear_of gs g).random))) t.course.tally.passed.count t.course.tally.draws
-              v.counted.quiet;
-        };
-        stage_is = tt;
-        drawn = tt;
-        gear = λ k in_row on. tt;
-        low = v.low;
+        counted = counted_draw g t.course.tally t.silent gs v.counted (wanted.both_pass (nat_lt t.course.tally.draws 3) (has_open t) may).0;
+        draw = record { stage_is = tt; drawn = tt; gear = λ k in_row on. tt; low = v.low };
       }) known
-    where
-      less : (n : ℕ) → nat_lt n 3 ≡ true → n + 1 ≤ 3
-      less n e = grind (arith, nat_tests, e)
-
-      more : (count calls draws : ℕ) → count ≤ calls + draws + 1 → count ≤ calls + (draws + 1)
-      more count calls draws enough = omega (arith, enough)
-
-      enough : (silent one count draws : ℕ) → silent + one ≤ 2 * count + 1 + 20 * draws + 0 → silent ≤ 2 * count + 20 * (draws + 1)
-      enough silent one count draws quiet = omega (arith, quiet)
   go false may = fills g t o t.course gs (calm_of g t gs st) begins (ungiven_next t r false is st.way may) st.way v.counted known filled hand.one hand.holds
 
 -- an address that is open is not marked
@@ -590,48 +543,38 @@ withdrawn_turns g t o r a gs by st hand agreed purpose is v = go o by (by.ordere
 
 visiting_turns : (g : ℕ) (t : Machine) (o : Order) (s : Stage) (gs : List Gear) → IsGivenBy t o → MisheardStands true g t gs → IsAtHand t.kept gs
     → IsUncontradicted t → IsNoEnrolment t.last → t.course.purpose ≡ Visiting → stage_of t.trace ≡ s → (s ≡ stage.Free → ⊥)
-    → Hunts true g Visiting s t.course t.silent gs → IsNext g (machine_ordered t o) o gs
-visiting_turns g t o stage.Free gs by st hand agreed last purpose is running v = absurd (running refl)
-visiting_turns g t o (stage.HighSent high) gs by st hand agreed last purpose is running v =
-    turns_by g t o Visiting (stage.HighSent high) _ gs by st purpose is refl
-visiting_turns g t o (stage.MiddleSent high middle) gs by st hand agreed last purpose is running v =
-    turns_by g t o Visiting (stage.MiddleSent high middle) _ gs by st purpose is refl
-visiting_turns g t o (stage.NumberSent r) gs by st hand agreed last purpose is running v =
-    turns_by g t o Visiting (stage.NumberSent r) QueryShort gs by st purpose is refl
-visiting_turns g t o (stage.Found r b) gs by st hand agreed last purpose is running v =
-    turns_by g t o Visiting (stage.Found r b) Withdraw gs by st purpose is refl
-visiting_turns g t o (stage.Unnamed r) gs by st hand agreed last purpose is running v = unnamed_turns g t o r gs by st hand purpose is v
-visiting_turns g t o (stage.Programmed r a) gs by st hand agreed last purpose is running v =
-    turns_by g t o Visiting (stage.Programmed r a) QueryShort gs by st purpose is refl
-visiting_turns g t o (stage.Confirmed r a) gs by st hand agreed last purpose is running v =
-    turns_by g t o Visiting (stage.Confirmed r a) Withdraw gs by st purpose is refl
-visiting_turns g t o (stage.Withdrawn r a) gs by st hand agreed last purpose is running v = withdrawn_turns g t o r a gs by st hand agreed purpose is v
-visiting_turns g t o (stage.Unanswered r) gs by st hand agreed last purpose is running v =
+    → Hunts true g Visiting s t.course t.silent gs → turn_of Visiting t.course.number s ≡ None → IsNext g (machine_ordered t o) o gs
+visiting_turns g t o stage.Free gs by st hand agreed last purpose is running v over = absurd (running refl)
+visiting_turns g t o (stage.HighSent high) gs by st hand agreed last purpose is running v over = absurd (cc)
+visiting_turns g t o (stage.MiddleSent high middle) gs by st hand agreed last purpose is running v over = absurd (cc)
+visiting_turns g t o (stage.NumberSent r) gs by st hand agreed last purpose is running v over = absurd (cc)
+visiting_turns g t o (stage.Found r b) gs by st hand agreed last purpose is running v over = absurd (cc)
+visiting_turns g t o (stage.Unnamed r) gs by st hand agreed last purpose is running v over = unnamed_turns g t o r gs by st hand purpose is v
+visiting_turns g t o (stage.Programmed r a) gs by st hand agreed last purpose is running v over = absurd (cc)
+visiting_turns g t o (stage.Confirmed r a) gs by st hand agreed last purpose is running v over = absurd (cc)
+visiting_turns g t o (stage.Withdrawn r a) gs by st hand agreed last purpose is running v over = withdrawn_turns g t o r a gs by st hand agreed purpose is v
+visiting_turns g t o (stage.Unanswered r) gs by st hand agreed last purpose is running v over =
     failed_turns g t o (stage.Unanswered r) gs st hand.apart v refl refl v.at v.at.stage_is (known_as g t gs Visiting st purpose)
     (given.begins_after t o (stage.Unanswered r) by is tt (found_at g t gs (stage.Unanswered r) st is) last (never_eight t.tries st.tries))
     (ap (begins_at t) is ∙ ap (λ b. unanswered t r b (address_for t.kept.reserved (value_of r))) v.opened_is)
-visiting_turns g t o (stage.Inconclusive r other) gs by st hand agreed last purpose is running v =
+visiting_turns g t o (stage.Inconclusive r other) gs by st hand agreed last purpose is running v over =
     failed_turns g t o (stage.Inconclusive r other) gs st hand.apart v refl refl v.at v.at.stage_is (known_as g t gs Visiting st purpose)
     (by.followed.unconfirmed r other is) (ap (begins_at t) is)
-visiting_turns g t o _ gs by st hand agreed last purpose is running v = absurd v.at.stage_is
+visiting_turns g t o _ gs by st hand agreed last purpose is running v over = absurd v.at.stage_is
 
 -- ---------------------------------------------------------------- gear g is passed over
 
 passing_turns : (g : ℕ) (t : Machine) (o : Order) (s : Stage) (gs : List Gear) → IsGivenBy t o → MisheardStands true g t gs → IsNoEnrolment t.last
     → t.course.purpose ≡ PassingOver → stage_of t.trace ≡ s → (s ≡ stage.Free → ⊥) → Hunts true g PassingOver s t.course t.silent gs
-    → IsWhole (machine_ordered t o) → IsNext g (machine_ordered t o) o gs
-passing_turns g t o stage.Free gs by st last purpose is running v whole = absurd (running refl)
-passing_turns g t o (stage.HighSent high) gs by st last purpose is running v whole =
-    turns_by g t o PassingOver (stage.HighSent high) _ gs by st purpose is refl
-passing_turns g t o (stage.MiddleSent high middle) gs by st last purpose is running v whole =
-    turns_by g t o PassingOver (stage.MiddleSent high middle) _ gs by st purpose is refl
-passing_turns g t o (stage.NumberSent r) gs by st last purpose is running v whole =
-    turns_by g t o PassingOver (stage.NumberSent r) Withdraw gs by st purpose is refl
-passing_turns g t o (stage.PassedOver r) gs by st last purpose is running v whole =
+    → IsWhole (machine_ordered t o) → turn_of PassingOver t.course.number s ≡ None → IsNext g (machine_ordered t o) o gs
+passing_turns g t o stage.Free gs by st last purpose is running v whole over = absurd (running refl)
+passing_turns g t o (stage.HighSent high) gs by st last purpose is running v whole over = absurd (cc)
+passing_turns g t o (stage.MiddleSent high middle) gs by st last purpose is running v whole over = absurd (cc)
+passing_turns g t o (stage.NumberSent r) gs by st last purpose is running v whole over = absurd (cc)
+passing_turns g t o (stage.PassedOver r) gs by st last purpose is running v whole over =
     hunts_above g t o t.course w.visited gs (calm_of g t gs st)
-    (begins_whole t o (stage.PassedOver r) by is (λ q e. cc) (λ e. cc) (found_at g t gs (stage.PassedOver r) st is) last (never_eight t.tries st.tries)
-    (λ f. whole_over t PassingOver (stage.PassedOver r) purpose is (λ f sends. (let none = sends.0 in cc)) f
-    (course_stays t (stage.PassedOver r) is tt)) whole)
+    (begins_whole t o PassingOver (stage.PassedOver r) by purpose is (λ q e. cc) (λ e. cc) tt (λ f sends. (let none = sends.0 in cc))
+    (found_at g t gs (stage.PassedOver r) st is) last st.tries whole)
     (ap (begins_at t) is) st.way v.opened_is v.counted (λ wanted_is. absurd (unwanted wanted_is)) v.low v.sought_are w.stage_is.1 w.drawn w.stage_is.0
     (known_as g t gs PassingOver st purpose)
   where
@@ -642,35 +585,36 @@ passing_turns g t o (stage.PassedOver r) gs by st last purpose is running v whol
     unwanted wanted_is =
         let more : w.visited < w.visited = w.stage_is.0.past w.visited (wanted.wants_by gs w.visited g st.there wanted_is w.stage_is.2) in
         omega (arith, more)
-passing_turns g t o _ gs by st last purpose is running v whole = absurd v.at.stage_is
-
--- ---------------------------------------------------------------- the close
-
-closing_turns : (g : ℕ) (t : Machine) (o : Order) (e : End) (s : Stage) (gs : List Gear) → IsGivenBy t o → MisheardStands true g t gs
-    → t.course.purpose ≡ Closing e → stage_of t.trace ≡ s → (s ≡ stage.Free → ⊥) → Closes g e s t.kept t.heard gs
-    → IsNext g (machine_ordered t o) o gs
-closing_turns g t o e stage.Free gs by st purpose is running v = absurd (running refl)
-closing_turns g t o e stage.Terminated gs by st purpose is running v =
-    let ends : o ≡ Done e =
-    given.closed t o e by (ap closing_of purpose) is (found_at g t gs stage.Terminated st is) (never_eight t.tries st.tries) in
-    subst (λ q. IsNext g (machine_ordered t q) q gs) (sym ends) v.well
-closing_turns g t o e _ gs by st purpose is running v = absurd v.stage_is
+passing_turns g t o _ gs by st last purpose is running v whole over = absurd v.at.stage_is
 
 -- ---------------------------------------------------------------- of whatever transaction
 
 -- after a frame that was heard
 pub turned : (g : ℕ) (t : Machine) (o : Order) (gs : List Gear) → IsGivenBy t o → MisheardStands true g t gs → IsAtHand t.kept gs → IsUncontradicted t
     → IsWhole (machine_ordered t o) → IsNoEnrolment t.last → (stage_of t.trace ≡ stage.Free → ⊥) → IsNext g (machine_ordered t o) o gs
-turned g t o gs by st hand agreed whole last running = go t.course.purpose refl st.at where
-  go : (p : Purpose) → t.course.purpose ≡ p → At true g p (stage_of t.trace) t.kept t.heard t.course t.silent gs → IsNext g (machine_ordered t o) o gs
-  go (Asking a) purpose at =
-      census_turns g t o a (stage_of t.trace) gs by st hand agreed last purpose refl running at (known_as g t gs (Asking a) st purpose) whole
-  go Calling purpose at = calling_turns g t o (stage_of t.trace) gs by st purpose refl running at
-  go Opening purpose at = opening_turns g t o (stage_of t.trace) gs by st last purpose refl running at
-  go Drawing purpose at = drawing_turns g t o (stage_of t.trace) gs by st last purpose refl running at
-  go Hunting purpose at = hunting_turns g t o (stage_of t.trace) gs by st hand purpose refl running at
-  go Visiting purpose at = visiting_turns g t o (stage_of t.trace) gs by st hand agreed last purpose refl running at
-  go PassingOver purpose at = passing_turns g t o (stage_of t.trace) gs by st last purpose refl running at whole
-  go (Closing e) purpose at = closing_turns g t o e (stage_of t.trace) gs by st purpose refl running at
-  go Probing purpose at = absurd at
-  go (Resolving a) purpose at = absurd at
+turned g t o gs by st hand agreed whole last running = turn (turn_of t.course.purpose t.course.number (stage_of t.trace)) refl where
+  drew : (p : Purpose) → IsDraws p → t.course.purpose ≡ p → Draws p (stage_of t.trace) t.course t.silent gs → AreSeen t.kept t.heard gs
+      → turn_of p t.course.number (stage_of t.trace) ≡ None → IsNext g (machine_ordered t o) o gs
+  drew p draws purpose at known over =
+      let opened = draw_over p (stage_of t.trace) t.course.number gs draws at.draw over running in
+      drawn_turns g t o p gs by st last opened (subst (λ s. Draws p s t.course t.silent gs) opened at) known
+
+  go : (p : Purpose) → t.course.purpose ≡ p → At true g p (stage_of t.trace) t.kept t.heard t.course t.silent gs
+      → turn_of p t.course.number (stage_of t.trace) ≡ None → IsNext g (machine_ordered t o) o gs
+  go (Asking a) purpose at over =
+      census_turns g t o a (stage_of t.trace) gs by st hand agreed last purpose refl running at (known_as g t gs (Asking a) st purpose) whole over
+  go Calling purpose at over = calling_turns g t o (stage_of t.trace) gs by st purpose refl running at over
+  go Opening purpose at over = drew Opening tt purpose at (known_as g t gs Opening st purpose) over
+  go Drawing purpose at over = drew Drawing tt purpose at (known_as g t gs Drawing st purpose) over
+  go Hunting purpose at over = hunting_turns g t o (stage_of t.trace) gs by st hand purpose refl running at over
+  go Visiting purpose at over = visiting_turns g t o (stage_of t.trace) gs by st hand agreed last purpose refl running at over
+  go PassingOver purpose at over = passing_turns g t o (stage_of t.trace) gs by st last purpose refl running at whole over
+  go (Closing e) purpose at over =
+      subst (λ q. IsNext g (machine_ordered t q) q gs)
+      (sym (close_ends t o e (stage_of t.trace) by purpose refl running at.stage_is st.trace.finding st.tries)) at.well
+  go Probing purpose at over = absurd at
+  go (Resolving a) purpose at over = absurd at
+
+  turn : (q : Option Command) → turn_of t.course.purpose t.course.number (stage_of t.trace) ≡ q → IsNext g (machine_ordered t o) o gs
+  turn (Some c) e = turns_by g t o t.course.purpose (stage_of t.trace) c gs by st refl refl e
+  turn None over = go t.course.purpose refl st.at over

@@ -29,8 +29,7 @@ use Rattle.dali_progress.proofs.Lone.{due_of, Moment, lone_next, acts_by}
 use Rattle.dali_progress.proofs.Logged.{world_logged}
 use Rattle.dali_progress.proofs.Survey.Stands.{Begun}
 use Rattle.dali_progress.proofs.Along.{Runs, runs_on}
-use Rattle.dali_progress.proofs.Survey.Goes.{of_survey}
-use Rattle.dali_progress.proofs.Survey.Bounded.{argument, began_at, starts}
+use Rattle.dali_progress.proofs.Survey.Goes.{of_survey, argument, began_at, starts}
 
 -- A SURVEY THAT NOTHING DISTURBS asks in peace, where all used gear have power.
 

@@ -21,8 +21,9 @@ use Rattle.dali_progress.specs.Rounds.{site_after}
 use Rattle.dali_progress.specs.Spared.{IsOfCall, AreOfCalls, HasJustBegun, IsUsedOf, HearsUsed, HasAsked, StaysBegun}
 use Rattle.dali_progress.proofs.Logged.{machines_logged, some_within}
 use Rattle.dali_progress.proofs.Spared.Lives.{IsFair, IsFewAt, lives_more, unstarted_unopened}
-use Rattle.dali_progress.proofs.Spared.Calls.{IsLivedAt, Heeds, counts_after, heeded_on, none_yet, just_lived, lived_all, unrefused_now, none_set, some_same}
-use Rattle.dali_progress.proofs.Spared.Calls.{by_place, counts_more, counts_still}
+use Rattle.dali_world.proofs.Rolls.{none_set, by_place}
+use Rattle.dali_progress.proofs.Spared.Calls.{IsLivedAt, Heeds, counts_after, heeded_on, none_yet, just_lived, lived_all, unrefused_now, some_same}
+use Rattle.dali_progress.proofs.Spared.Calls.{counts_more, counts_still}
 
 -- ONCE ITS QUESTIONS ARE OVER whoever has an address is accounted for, whatever the controller hears if it asks again, until it
 -- begins anew.

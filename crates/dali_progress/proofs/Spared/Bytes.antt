@@ -4,7 +4,6 @@ use Rattle.std.specs.List.{AllByRecursion}
 use Rattle.dali_frame.specs.declared.frames.Answer.{Answer}
 use Rattle.dali_frame.specs.declared.frames.Answer.TheVariants.{Silence, Byte, Damaged}
 use Rattle.dali_frame.specs.declared.numbers.SearchAddress.{SearchAddress}
-use Rattle.dali_frame.specs.Short.{short_of}
 use Rattle.dali_frame.specs.Random.{MASK24}
 use Rattle.dali_special.specs.declared.command.Command.{Command}
 use Rattle.dali_special.specs.declared.command.Target.TheVariants.{Unaddressed}
@@ -12,18 +11,19 @@ use Rattle.dali_special.specs.declared.command.Command.TheVariants.{Initialise, 
 use Rattle.dali_special.specs.declared.command.Command.TheVariants.{QueryShort, RandomByte}
 use Rattle.dali_special.specs.declared.command.Part.{Part}
 use Rattle.dali_special.specs.declared.command.Part.TheVariants.{High, Middle, Low}
-use Rattle.dali_special.specs.Command.{MASK, IsSpelled}
+use Rattle.dali_special.specs.Command.{IsSpelled}
 use Rattle.dali_gear.specs.declared.row.Reach.TheVariants.{Everyone}
 use Rattle.dali_gear.specs.Gear.{Gear, answer, byte_at, has_short}
 use Rattle.dali_gear.specs.Row.{takes, option_cons, answers_of}
 use Rattle.dali_script.specs.declared.stage.Stage.{Stage}
 use Rattle.dali_script.specs.declared.stage.Stage.TheVariants as stage
-use Rattle.dali_script.specs.Stages.{next_stage, named, queried, answered, verified, hunted, byte_heard, bytes_heard, number_heard, doubted}
+use Rattle.dali_script.specs.Stages.{next_stage, queried, verified, hunted, byte_heard, bytes_heard, number_heard, doubted}
 use Rattle.dali_events.specs.World.{World, gear_at}
 use Rattle.dali_events.specs.Runs.{IsDrawer, AreDrawn}
 use Rattle.dali_events.specs.Allowed.{Hears}
 use Rattle.dali_events.specs.Wanted.{gear_of}
 use Rattle.dali_progress.specs.Surveyed.{IsPlain}
+use Rattle.dali_progress.proofs.Later.{queried_by, verified_by}
 
 -- WHAT GEAR TELL OF A RANDOM ADDRESS ARE BYTES, so what a machine reads from three of them is a number to FFFFFF.
 
@@ -116,24 +116,10 @@ third_read a (Some b) Damaged two three = tt
 third_read a None h two three = tt
 
 queried_read : (r : SearchAddress) (h : Answer) → IsRead (queried r h)
-queried_read r Silence = tt
-queried_read r Damaged = tt
-queried_read r (Byte v) = go (short_of v) (v == MASK) where
-  go : (o : Option ℕ) (m : Bool) → IsRead (named r o m)
-  go (Some c) m = tt
-  go None true = tt
-  go None false = tt
+queried_read r h = queried_by IsRead r (λ b. tt) tt tt (λ o. tt) h
 
 verified_read : (r : SearchAddress) (a : ℕ) (h : Answer) → IsRead (verified r a h)
-verified_read r a Silence = tt
-verified_read r a Damaged = tt
-verified_read r a (Byte v) = go (short_of v) where
-  go : (o : Option ℕ) → IsRead (answered r a o)
-  go None = tt
-  go (Some c) = same (c == a) where
-    same : (m : Bool) → IsRead (if m then stage.Confirmed r a else stage.Inconclusive r (Some c))
-    same true = tt
-    same false = tt
+verified_read r a h = verified_by IsRead r a tt (λ o. tt) h
 
 middle_read : (a c : ℕ) (high : Option ℕ) (h : Answer) → IsRead (stage.HighAsked a high) → IsByteOf (RandomByte c Middle) h
     → IsRead (next_stage (stage.HighAsked a high) (RandomByte c Middle) h)

@@ -33,6 +33,7 @@ use Rattle.dali_standing.specs.declared.refusal.Refusal.TheVariants as refusal
 use Rattle.dali_standing.specs.Seats.{Waits, MayAnswer, LeavesWhole, ReservesUsed}
 use Rattle.dali_standing.specs.Standing.{machine_in, machines_at, machines_after}
 use Rattle.dali_world.specs.Site.{SiteState, opened_site, world, machines, machine_at, site_logged, IsActRefused}
+use Rattle.dali_world.proofs.Rolls.{changed_at, none_set, some_set, by_place}
 use Rattle.dali_progress.specs.Rounds.{site_after}
 use Rattle.dali_progress.specs.Spared.{IsOfCall, AreOfCalls, HasJustBegun, IsUsedOf, BeginsBySurveys, asks_first, is_silence, silences_after, IsHeardInTime}
 use Rattle.dali_progress.specs.Spared.{HearsUsed}
@@ -49,24 +50,6 @@ IsLived U z v w ms c = (m : Machine) → machine_in ms c ≡ Some m → Lives U 
 
 -- ---------------------------------------------------------------- lists with a change at one place
 
-changed_at : (P : Controller → Type 0) (cs : List Controller) (d c : ℕ) (change : Controller → Controller) → P (get_or cs c nobody)
-    → (d ≡ c → P (get_or cs c nobody) → P (change (get_or cs c nobody))) → P (get_or (controllers_changed cs d change) c nobody)
-changed_at P [] d c change was does = was
-changed_at P (k ∷ cs) zero zero change was does = does refl was
-changed_at P (k ∷ cs) zero (suc c) change was does = was
-changed_at P (k ∷ cs) (suc d) zero change was does = was
-changed_at P (k ∷ cs) (suc d) (suc c) change was does = changed_at P cs d c change was (λ e. does (ap suc e))
-
-pub none_set : (ms : List (Option Machine)) (d : ℕ) → get_or (set ms d None) d None ≡ None
-none_set [] d = refl
-none_set (x ∷ ms) zero = refl
-none_set (x ∷ ms) (suc d) = none_set ms d
-
-some_set : (ms : List (Option Machine)) (d : ℕ) (n m : Machine) → get_or (set ms d (Some n)) d None ≡ Some m → n ≡ m
-some_set [] d n m e = absurd (cc)
-some_set (x ∷ ms) zero n m e = cc
-some_set (x ∷ ms) (suc d) n m e = some_set ms d n m e
-
 pub some_same : (n m : Machine) → Some n ≡ Some m → n ≡ m
 some_same n m e = cc
 
@@ -75,13 +58,6 @@ some_same n m e = cc
 elsewhere : (U : ℕ → Type 0) (z : Block) (v : ℕ → ℕ) (w w' : World) (ms ms' : List (Option Machine)) (c : ℕ) → controller_at w' c ≡ controller_at w c
     → machine_in ms' c ≡ machine_in ms c → IsLived U z v w ms c → IsLived U z v w' ms' c
 elsewhere U z v w w' ms ms' c controller machine l m there = subst (λ (k : Controller). Lives U z v k m) (sym controller) (l m (sym machine ∙ there))
-
--- an event of controller d, by whether it is c
-pub by_place : (P : Type 0) (d c : ℕ) → (d ≡ c → P) → ((c ≡ d → ⊥) → P) → P
-by_place P d c here there = go (nat_eq d c) refl where
-  go : (b : Bool) → nat_eq d c ≡ b → P
-  go true e = here (let same : d ≡ c = grind (arith, nat_tests) in same)
-  go false e = there (let other : c ≡ d → ⊥ = grind (arith, nat_tests) in other)
 
 -- ---------------------------------------------------------------- it acts
 

@@ -24,7 +24,8 @@ use Rattle.dali_controller.specs.Orders.{IsGiven, IsAllowed, machine_after, mach
 use Rattle.dali_controller.specs.Whole.{IsWhole}
 use Rattle.dali_progress.proofs.Later.{IsUnasked, course_stays}
 use Rattle.dali_progress.proofs.Census.Course.{put_is}
-use Rattle.dali_progress.proofs.Census.Coming.{IsEnded, Hearing, hearing_of, none_found, no_record, by_kind, over_ends}
+use Rattle.dali_progress.proofs.Census.Coming.{IsEnded, Hearing, hearing_of, none_found, no_record, over_ends}
+use Rattle.dali_progress.proofs.Census.Asked.{by_kind}
 
 -- HOW OFTEN IN A ROW the address that is asked was silent is at most how often it was silent at all, by a count that only grows.
 

@@ -35,7 +35,7 @@ use Rattle.dali_events.specs.Allowed.{IsDue, IsCommit}
 use Rattle.dali_standing.specs.Seats.{ReservesUsed}
 use Rattle.dali_progress.specs.Surveyed.{Step, IsTaken, IsCourse, ArePlain, stage_told, IsPlain, IsAccounted}
 use Rattle.dali_progress.specs.Census.{BeginsBySurvey, AreWhole, FallsSilent, WasSilent}
-use Rattle.dali_progress.proofs.Accounted.{accounted_stays, unreserved}
+use Rattle.dali_progress.proofs.Accounted.{accounted_stays, unreserved, told_keeps}
 use Rattle.dali_progress.proofs.Census.Asked.{Asks, asks_of, self, sending_of}
 use Rattle.dali_progress.proofs.Census.Others.{ordered_way}
 use Rattle.dali_progress.proofs.Census.Coming.{IsToCome, IsEnded, Watched, no_reservation, counting_ready, storing_of, unreserved_on, over_ends}
@@ -221,16 +221,7 @@ ordered_read t (Halt w) read = free_read
 -- ---------------------------------------------------------------- who surveyed has surveyed
 
 told_surveyed : (m : Machine) (i : Input) → (m.course.way ≡ Fresh → ⊥) → (machine_told m i).course.way ≡ Fresh → ⊥
-told_surveyed m input.Survey other = λ e. cc
-told_surveyed m (input.Heard h) other = go (frame_put m.last) where
-  go : (f : Option Forward) → (machine_heard m f h).course.way ≡ Fresh → ⊥
-  go None = other
-  go (Some f) = other
-told_surveyed m input.Committed other = go (record_ordered m.last) where
-  go : (x : Option Record) → (machine_committed m x).course.way ≡ Fresh → ⊥
-  go None = other
-  go (Some x) = other
-told_surveyed m _ other = other
+told_surveyed m i other = told_keeps (λ t. t.course.way ≡ Fresh → ⊥) m i other (λ e. cc) (λ f h. other) other (λ x. other)
 
 ordered_surveyed : (t : Machine) (o : Order) → (t.course.way ≡ Fresh → ⊥) → (machine_ordered t o).course.way ≡ Fresh → ⊥
 ordered_surveyed t o other e = other (sym (ordered_way t o) ∙ e)
@@ -328,15 +319,7 @@ asked_silent U z n k m i o a l due used falls =
 
 -- its records are of one block
 pub told_block : (m : Machine) (i : Input) → (machine_told m i).kept.block ≡ m.kept.block
-told_block m (input.Heard h) = go (frame_put m.last) where
-  go : (f : Option Forward) → (machine_heard m f h).kept.block ≡ m.kept.block
-  go None = refl
-  go (Some f) = refl
-told_block m input.Committed = go (record_ordered m.last) where
-  go : (x : Option Record) → (machine_committed m x).kept.block ≡ m.kept.block
-  go None = refl
-  go (Some x) = block_stays m.kept x
-told_block m _ = refl
+told_block m i = told_keeps (λ t. t.kept.block ≡ m.kept.block) m i refl refl (λ f h. refl) refl (λ x. block_stays m.kept x)
 
 -- once its questions are over, each of them is safe
 safe_opened : (U : ℕ → Type 0) (z : Block) (n : ℕ → ℕ) (k : Controller) (m : Machine) (a : ℕ) → Lives U z n k m → (m.last ≡ None → ⊥) → U a → a < 64

@@ -1,4 +1,4 @@
-use Rattle.std.proofs.Common.{◌≡◌, ℕ, ◌+◌, ◌*◌, ◌≤◌, Bool, false, suc, List, [], ◌∷◌, ◌++◌, refl, sym, ap, subst, ◌∙◌, arith, Option, Some, None}
+use Rattle.std.proofs.Common.{◌≡◌, ℕ, ◌+◌, ◌*◌, ◌≤◌, Bool, false, suc, List, [], ◌∷◌, ◌++◌, refl, sym, subst, ◌∙◌, arith, Option, Some, None, inl}
 use Rattle.std.specs.List.{count_by}
 use Rattle.dali_frame.specs.declared.frames.Forward.{Forward}
 use Rattle.dali_frame.specs.declared.frames.Answer.{Answer}
@@ -7,14 +7,11 @@ use Rattle.dali_special.specs.Command.{command_of}
 use Rattle.dali_gear.specs.declared.row.Reach.TheVariants.{Everyone}
 use Rattle.dali_gear.specs.Gear.{Gear}
 use Rattle.dali_gear.specs.Row.{row_after, answers_of, heard_of}
-use Rattle.dali_arbiter.specs.Arbiter.{next}
-use Rattle.dali_script.specs.declared.records.Record.{Record}
 use Rattle.dali_script.specs.Records.{Kept, IsKept}
-use Rattle.dali_script.specs.Scripts.{Lawful, IsLawful}
+use Rattle.dali_script.specs.Scripts.{IsLawful}
 use Rattle.dali_script.specs.declared.stage.Stage.{Stage}
 use Rattle.dali_script.specs.declared.stage.Stage.TheVariants as stage
 use Rattle.dali_script.specs.Stages.{IsTrace, stage_of, next_stage}
-use Rattle.dali_script.specs.Due.{frame_put, record_ordered}
 use Rattle.dali_script.proofs.Transactions.{stage_more}
 use Rattle.dali_script.proofs.Found.{trace_more}
 use Rattle.dali_script.specs.declared.orders.Input.{Input}
@@ -24,7 +21,7 @@ use Rattle.dali_script.specs.declared.orders.Order.TheVariants.{Put, Commit, Don
 use Rattle.dali_search.specs.Least.{Search}
 use Rattle.dali_controller.specs.declared.purpose.Purpose.{Purpose}
 use Rattle.dali_controller.specs.declared.purpose.Purpose.TheVariants.{Opening, Probing, Visiting, Closing}
-use Rattle.dali_controller.specs.Machine.{Machine, machine_heard, machine_committed, machine_told, silent_after}
+use Rattle.dali_controller.specs.Machine.{Machine, machine_heard, machine_told, silent_after, at_first}
 use Rattle.dali_controller.specs.Orders.{machine_ordered, machine_after}
 use Rattle.dali_controller.specs.Course.{Course}
 use Rattle.dali_controller.specs.Next.{next_course, beginning}
@@ -34,16 +31,18 @@ use Rattle.dali_events.specs.World.{World, controller_at}
 use Rattle.dali_events.specs.Happens.{entry}
 use Rattle.dali_events.specs.Allowed.{Allowed}
 use Rattle.dali_events.specs.Wanted.{is_bare}
-use Rattle.dali_events.proofs.Invariant.Sending.{lawful_of}
-use Rattle.dali_progress.specs.Rounds.{Succeeds}
-use Rattle.dali_progress.specs.Ends.{AreTabled}
-use Rattle.dali_progress.proofs.Lone.{Moment, IsDueOf, due_of, lone_sent, acts_by}
+use Rattle.dali_progress.specs.Rounds.{Succeeds, HasEnded, ByStart, bare, BeginsAlone}
+use Rattle.dali_progress.specs.Ends.{AreTabled, EndsWell, NamesAll, IsTrueEnd, table_at}
+use Rattle.dali_progress.proofs.Lone.{lone_sent}
 use Rattle.dali_progress.proofs.Stands.{search_frames, to_come, At, Stands}
 use Rattle.dali_progress.proofs.Frames.{Seeks, at_sent}
 use Rattle.dali_progress.proofs.Tables.{IsTabledTo, at_tabled}
-use Rattle.dali_progress.proofs.Start.Turns.{IsUndisturbed, CommitsTo, IsNext, turned, started, started_begins, committed, committed_begins}
-use Rattle.dali_progress.proofs.Both.{with_kept, not_free, IsKnown, taken_of, no_tries, put_no_enrolment}
-use Rattle.dali_progress.proofs.Along.{Measure, Goes, slack_at}
+use Rattle.dali_progress.proofs.Start.Turns.{IsUndisturbed, IsNext, turned, started, started_begins, committed, committed_begins}
+use Rattle.dali_progress.proofs.Both.{with_kept, not_free, IsKnown, taken_of, no_tries, put_no_enrolment, lawful_now}
+use Rattle.dali_progress.proofs.Along.{Measure, Goes, slack_at, Argument, Runs, held_ended, runs_first, with_left, HoldsBy, holds_next, acts_from}
+use Rattle.dali_script.specs.declared.orders.End.{End}
+use Rattle.dali_world.specs.Site.{SiteState, world}
+use Rattle.dali_progress.proofs.Logged.{kept_now}
 
 -- COMMISSIONING GOES ON, event by event.
 
@@ -62,29 +61,19 @@ pub record Hears (before : List Gear) (m : Machine) (f : Forward) (h : Answer) (
   pub stands : Stands before (machine_heard m (Some f) h) gs left
   pub running : stage_of (machine_heard m (Some f) h).trace ≡ stage.Free → ⊥
 
+abbrev First : List Gear → ℕ → Machine → List Gear → Type 0
+First before left m gs = IsFresh before m gs left
+
+abbrev HeardSo : List Gear → ℕ → Machine → ℕ → Forward → Answer → List Gear → Type 0
+HeardSo before left m p f h gs = Hears before m f h gs left
+
+abbrev Next : List Gear → ℕ → Machine → Order → List Gear → Type 0
+Next before left m o gs = IsNext before m o gs left
+
 abbrev pub Holds : List Gear → Machine → Option Order → Option Input → List Gear → ℕ → Type 0
-Holds before m None (Some input.Start) gs left = IsFresh before m gs left
-Holds before m (Some (Put p f)) (Some (input.Heard h)) gs left = Hears before m f h gs left
-Holds before m (Some o) None gs left = IsNext before m o gs left
-Holds before m _ _ gs left = ⊥
+Holds before m last told gs left = HoldsBy (First before left) (HeardSo before left) (Next before left) m last told gs
 
 -- ---------------------------------------------------------------- the controller acts
-
-heard_next : (before : List Gear) (m : Machine) (p : ℕ) (f : Forward) (h : Answer) (o : Order) (gs : List Gear) (left : ℕ) → m.last ≡ Some (Put p f)
-    → IsGivenBy (machine_told m (input.Heard h)) o → IsKept m.kept → Hears before m f h gs left
-    → IsNext before (machine_after m (input.Heard h) o) o gs left
-heard_next before m p f h o gs left is g kept hears =
-    let told : machine_told m (input.Heard h) ≡ machine_heard m (Some f) h = ap (λ l. machine_heard m (frame_put l) h) is in
-    subst (λ t. IsNext before (machine_ordered t o) o gs left) (sym told)
-    (turned before (machine_heard m (Some f) h) o gs left (subst (λ t. IsGivenBy t o) told g) hears.stands kept (put_no_enrolment p f m.last is) hears.running)
-
-kept_next : (before : List Gear) (m : Machine) (x : Record) (o : Order) (gs : List Gear) (left : ℕ) → m.last ≡ Some (Commit x)
-    → IsGivenBy (machine_told m input.Committed) o → IsKept m.kept → m.trace ≡ [] → IsUndisturbed m × CommitsTo before m x gs left
-    → IsNext before (machine_after m input.Committed o) o gs left
-kept_next before m x o gs left is g kept free commits =
-    let told : machine_told m input.Committed ≡ with_kept m x = ap (λ l. machine_committed m (record_ordered l)) is in
-    subst (λ t. IsNext before (machine_ordered t o) o gs left) (sym told)
-    (committed before m x o gs left commits.0 commits.1 free is kept.reserved (subst (λ t. IsGivenBy t o) told g))
 
 -- how many events come before the next frame is sent, at the most
 abbrev pub slack : Option Order → Option Input → ℕ
@@ -116,34 +105,8 @@ first_acts before m o gs left is g v = (
   one_less (slack (Some o) None) (slack_first o (next_course m) (started_begins m o g v.calm v.free is)),
 )
 
-kept_acts : (before : List Gear) (m : Machine) (x : Record) (o : Order) (gs : List Gear) (left : ℕ) → m.last ≡ Some (Commit x)
-    → IsGivenBy (machine_told m input.Committed) o → IsKept m.kept → m.trace ≡ [] → IsUndisturbed m × CommitsTo before m x gs left
-    → ActsTo before (machine_after m input.Committed o) o gs left (Some (Commit x)) None
-kept_acts before m x o gs left is g kept free commits = (
-  kept_next before m x o gs left is g kept free commits,
-  one_less (slack (Some o) None) (slack_first o (next_course (with_kept m x)) (committed_begins before m x o gs left commits.0 commits.1 free is kept.reserved
-      (subst (λ t. IsGivenBy t o) (ap (λ l. machine_committed m (record_ordered l)) is) g))),
-)
-
-acts : (before : List Gear) (w : World) (q c : ℕ) (m : Machine) (out : Option Record) (last : Option Order) (told : Option Input) (i : Input) (o : Order)
-    (left : ℕ) → Moment w q c m out last told → m.last ≡ last → IsDueOf last told i → Succeeds false i → IsGivenBy (machine_told m i) o → IsKept m.kept
-    → Holds before m last told w.gear left → ActsTo before (machine_after m i o) o w.gear left last told
-acts before w q c m out last told i o left at is due good g kept holds =
-    acts_by false (λ l t j. Moment w q c m out l t → m.last ≡ l → IsGivenBy (machine_told m j) o → Holds before m l t w.gear left
-    → ActsTo before (machine_after m j o) o w.gear left l t) (λ at is g holds. first_acts before m o w.gear left is g holds)
-    (λ p f h at is g holds. (heard_next before m p f h o w.gear left is g kept holds, one_more (slack (Some o) None) (slack_one o)))
-    (λ x at is g holds. kept_acts before m x o w.gear left is g kept at.1 holds) w q c m out last told i at due good at is g holds
-  where
-    one_more : (x : ℕ) → x ≤ 1 → x + 1 ≤ 2
-    one_more x less = omega (arith, less)
-
-holds_next : (before : List Gear) (m : Machine) (o : Order) (gs : List Gear) (left : ℕ) → IsNext before m o gs left → Holds before m (Some o) None gs left
-holds_next before m (Put p f) gs left next = next
-holds_next before m _ gs left next = next
-
-pub next_holds : (before : List Gear) (m : Machine) (o : Order) (gs : List Gear) (left : ℕ) → Holds before m (Some o) None gs left → IsNext before m o gs left
-next_holds before m (Put p f) gs left next = next
-next_holds before m _ gs left next = next
+one_more : (x : ℕ) → x ≤ 1 → x + 1 ≤ 2
+one_more x less = omega (arith, less)
 
 -- that it does, and with how many frames left
 abbrev pub of_start : List Gear → Measure
@@ -152,10 +115,24 @@ of_start before = record { by = false; known = λ k m. Unit {0}; holds = Holds b
 pub start_acts : (before : List Gear) (w : World) (q c : ℕ) (m : Machine) (i : Input) (o : Order) (left : ℕ) → Goes (of_start before) w q c m left
     → Succeeds false i → Allowed w (event.Acted c i o) → IsGivenBy (machine_told m i) o → IsKept (controller_at w c).records
     → Unit {0} × Holds before (machine_after m i o) (Some o) None w.gear left × (slack (Some o) None + 1 ≤ slack_at (of_start before) w c)
-start_acts before w q c m i o left goes good here given kept =
-    let out = acts before w q c m (controller_at w c).outstanding (controller_at w c).last (controller_at w c).told i o left goes.lone.moment goes.lone.last
-    (due_of (controller_at w c) i here.due) good given (subst IsKept (sym goes.lone.kept) kept) goes.holds in
-    (tt, holds_next before (machine_after m i o) o w.gear left out.0, out.1)
+start_acts before w q c m i o left goes good here by known =
+    (tt, holds_next (First before left) (HeardSo before left) (Next before left) (machine_after m i o) o w.gear out.0, out.1) where
+      kept : IsKept m.kept
+      kept = subst IsKept (sym goes.lone.kept) known
+
+      out : ActsTo before (machine_after m i o) o w.gear left (controller_at w c).last (controller_at w c).told
+      out =
+          acts_from (First before left) (HeardSo before left) (Next before left) false (λ j n. Unit {0})
+          (λ l t n. ActsTo before (machine_ordered n o) o w.gear left l t) w q c m i o (λ last given none v. first_acts before m o w.gear left last given v)
+          (λ p f h is given none hears. (
+            turned before (machine_heard m (Some f) h) o w.gear left given hears.stands kept (put_no_enrolment p f m.last is) hears.running,
+            one_more (slack (Some o) None) (slack_one o),
+          ))
+          (λ x is free given none next. (
+            committed before m x o w.gear left next.0 next.1 free is kept.reserved given,
+            one_less (slack (Some o) None) (slack_first o (next_course (with_kept m x))
+                (committed_begins before m x o w.gear left next.0 next.1 free is kept.reserved given)),
+          )) goes.lone good here.due by tt goes.holds
 
 -- ---------------------------------------------------------------- its frame is sent
 
@@ -200,17 +177,13 @@ pub start_sends : (before : List Gear) (w : World) (q c : ℕ) (m : Machine) (p 
     → (l : ℕ) × (left ≡ suc l) × Unit {0} × Hears before m f h (row_after Everyone (command_of f) 0 w.gear w.left) l
 start_sends before w q c m p f h left goes last told here known heard =
     let lone = lone_sent w q c m p f h goes.lone last told in
-    let holds : IsNext before m (Put p f) w.gear left = next_holds before m (Put p f) w.gear left (rw (sym goes.lone.last ∙ last, told) at goes.holds) in
+    let holds : IsNext before m (Put p f) w.gear left = rw (sym goes.lone.last ∙ last, told) at goes.holds in
     let same : w.trace ≡ m.trace = lone.3 in
     let sent = at_sent m.course.purpose (stage_of m.trace) m.kept m.course.opened m.course.search m.course.number w.gear w.left left
     (command_of f) h holds.0.at holds.1 (taken_of w c f h here known heard) (subst (λ t. Seeks (stage_of t) w.gear) same known.seeks) in
     let tabled = at_tabled before m.course.purpose (stage_of m.trace) m.kept m.course.opened _ m.course.search m.course.number w.gear w.left left sent.0
     (command_of f) h holds.0.at holds.1 (subst (λ t. Seeks (stage_of t) w.gear) same known.seeks) sent.2 holds.0.tabled in
-    let lawful : IsLawful m.trace f = (
-      (controller_at w c).records.block,
-      (controller_at w c).records.reserved,
-      subst (λ t. Lawful (controller_at w c).records.block (controller_at w c).records.reserved t f) lone.2 (lawful_of w c f here.may),
-    ) in (
+    let lawful : IsLawful m.trace f = lawful_now w c m.trace f h lone.2 here in (
       sent.0,
       sent.1,
       tt,
@@ -219,3 +192,36 @@ start_sends before w q c m p f h left goes last told here known heard =
         running = not_free m.trace (entry f h);
       },
     )
+
+-- THE FIRST ARGUMENT, its start, and its end.
+
+pub argument : (before : List Gear) → Argument (of_start before)
+argument before = record {
+  acts = λ s c m i o left run now goes good here given whole.
+      start_acts before (world s) s.queue c m i o left goes good here given (kept_now s c run goes.lone.up);
+  sends = λ s c m p f h left run goes last told here known heard. start_sends before (world s) s.queue c m p f h left goes last told here known heard;
+  spends = λ p f h rest left is. omega (arith, is);
+  halts = λ m why gs left holds. holds;
+  first = refl;
+}
+
+-- THE START
+pub starts : (s : SiteState) (c : ℕ) → BeginsAlone ByStart s c → Runs (of_start (world s).gear) s c (111 * bare s + 10)
+starts s c a =
+    runs_first (of_start (world s).gear).known (with_left (of_start (world s).gear) (111 * bare s + 10)) s c a.0 tt
+    (subst (λ k. IsFresh (world s).gear (at_first c k) (world s).gear (111 * bare s + 10)) (sym a.1) (record {
+      calm = record { tries = refl; fresh = refl; silent = refl; within = λ x has. absurd has };
+      tabled = λ g b in_row short. inl short;
+      free = refl;
+      nothing = refl;
+      unopened = refl;
+      opening = refl;
+      frames = omega arith;
+    }))
+
+-- what an end leaves, where the site was once as s
+pub ended_by : (s after : SiteState) (c left : ℕ) (e : End) → Runs (of_start (world s).gear) after c left → HasEnded after c e
+    → IsTrueEnd ByStart s after c e × NamesAll false s (table_at after c) after
+ended_by s after c left e r ended =
+    subst (λ (k : Kept). EndsWell e k (world after).gear × AreTabled (world s).gear k.enrolled (world after).gear) r.goes.lone.kept
+    (held_ended (of_start (world s).gear) after c left e r ended).0

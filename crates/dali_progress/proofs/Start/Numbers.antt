@@ -45,10 +45,8 @@ use Rattle.dali_progress.proofs.Lone.{due_of, IsDueOf, Moment, acts_by}
 use Rattle.dali_progress.proofs.Later.{unasked_but, stays_at}
 use Rattle.dali_progress.proofs.Stands.{CloseStage, At, Stands, Sends}
 use Rattle.dali_progress.proofs.Start.Turns.{IsNext, CommitsTo, goes_on_anew}
-use Rattle.dali_progress.proofs.Start.Goes.{Hears, Holds, next_holds, of_start}
-use Rattle.dali_progress.proofs.Both.{closing_never, none_apart, visiting_never, probing_never, left_same, opening_none, opening_draws, draws_few, is_complete}
-use Rattle.dali_progress.proofs.Both.{with_kept}
-use Rattle.dali_progress.proofs.Both.{not_failed}
+use Rattle.dali_progress.proofs.Start.Goes.{Hears, Holds, of_start}
+use Rattle.dali_progress.proofs.Both.{none_apart, never_draws, left_same, opening_none, opening_draws, draws_few, is_complete, with_kept, not_failed}
 use Rattle.dali_progress.proofs.Drawing.{Draws}
 
 -- THE NUMBERS THAT GEAR DRAW: where there is one for each gear at the start, they are never spent. Gear draw once, at the
@@ -83,11 +81,11 @@ draws_enough Opening s k opened x n gs numbers left c at is has =
     let few = draws_few s c gs (opening_draws s k n gs left c at.1 is) in
     let left = has at.0 (opening_early s n k c is) in omega (arith, few, left)
 draws_enough Probing s k opened x n gs numbers left c at is has =
-    enough_none (draws_needed Everyone c 0 gs) (length numbers) (none_apart Probing n k s gs c (probing_never n k s) is)
+    enough_none (draws_needed Everyone c 0 gs) (length numbers) (none_apart Probing n k s gs c (never_draws Probing n k s tt) is)
 draws_enough Visiting s k opened x n gs numbers left c at is has =
-    enough_none (draws_needed Everyone c 0 gs) (length numbers) (none_apart Visiting n k s gs c (visiting_never n k s) is)
+    enough_none (draws_needed Everyone c 0 gs) (length numbers) (none_apart Visiting n k s gs c (never_draws Visiting n k s tt) is)
 draws_enough (Closing e) s k opened x n gs numbers left c at is has =
-    enough_none (draws_needed Everyone c 0 gs) (length numbers) (none_apart (Closing e) n k s gs c (closing_never e n k s) is)
+    enough_none (draws_needed Everyone c 0 gs) (length numbers) (none_apart (Closing e) n k s gs c (never_draws (Closing e) n k s tt) is)
 draws_enough _ s k opened x n gs numbers left c at is has = absurd at
 
 none_drawn : (p : Purpose) (s : Stage) (k : Kept) (opened : Bool) (x : Search) (n : SearchAddress) (gs : List Gear) (left : ℕ) (c : Command) (h : Answer)
@@ -97,7 +95,7 @@ none_drawn Opening s k opened x n gs left c h at is early closed = (opening_none
 none_drawn Probing s k opened x n gs left c h at is early closed = absurd (let both : true ≡ false = sym at.0 ∙ early in cc)
 none_drawn Visiting s k opened x n gs left c h at is early closed = absurd (let both : true ≡ false = sym at.0 ∙ early in cc)
 none_drawn (Closing e) s k opened x n gs left c h at is early closed =
-    (none_apart (Closing e) n k s gs c (closing_never e n k s) is, close_early s at.stage_is)
+    (none_apart (Closing e) n k s gs c (never_draws (Closing e) n k s tt) is, close_early s at.stage_is)
   where
     close_early : (s : Stage) → CloseStage s → is_complete s ≡ false
     close_early stage.Opened at = absurd at
@@ -279,10 +277,9 @@ start_draws before = record {
     sends = λ s c left rest p f h u here heard last holds now has.
         has_heard u.machine p f h before (world s).gear (world s).left left last
         (bare_fewer (block_at s.plan c) (world s).gear (row_after Everyone (command_of f) 0 (world s).gear (world s).left) (frame_gives s c f h u.run here))
-        (next_holds before u.machine (Put p f) (world s).gear left holds) has;
+        holds has;
   };
   enough = λ m p f gs numbers left last holds has.
-      let next = next_holds before m (Put p f) gs left holds in
-      draws_enough m.course.purpose (stage_of m.trace) m.kept m.course.opened m.course.search m.course.number gs numbers left (command_of f) next.0.at next.1
+      draws_enough m.course.purpose (stage_of m.trace) m.kept m.course.opened m.course.search m.course.number gs numbers left (command_of f) holds.0.at holds.1
       (λ early before_it. has (undrawn_last m (Some (Put p f)) last (early, before_it)));
 }

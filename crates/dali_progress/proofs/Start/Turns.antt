@@ -1,5 +1,5 @@
 use Rattle.std.proofs.Common.{◌≡◌, ℕ, ◌+◌, ◌*◌, ◌-◌, ◌<◌, ◌≤◌, ◌⊎◌, inl, inr, Bool, true, false, zero, suc, List, [], ◌∷◌, ◌++◌, refl, sym, ap, subst, ◌∙◌}
-use Rattle.std.proofs.Common.{arith, length, length-append, nat_lt, get_or, Option, Some, None}
+use Rattle.std.proofs.Common.{arith, length, length-append, nat_lt, Some, None}
 use Rattle.std.specs.Prelude.{◌==◌, if◌then◌else◌}
 use Rattle.std.specs.List.{count_by}
 use Rattle.std.proofs.lemmas.Bool.Decides.{nat_tests}
@@ -18,7 +18,7 @@ use Rattle.dali_script.specs.declared.stage.Stage.{Stage}
 use Rattle.dali_script.specs.declared.stage.Stage.TheVariants as stage
 use Rattle.dali_script.specs.Findings.{finding_of}
 use Rattle.dali_script.specs.Stages.{IsTrace, stage_of, finding_at}
-use Rattle.dali_script.proofs.Lists.{has_cases, has_last}
+use Rattle.dali_script.proofs.Lists.{has_cases}
 use Rattle.dali_script.proofs.Members.{has_left, same_member}
 use Rattle.dali_script.proofs.Transactions.{stage_none}
 use Rattle.dali_script.proofs.Found.{trace_none}
@@ -50,10 +50,11 @@ use Rattle.dali_events.proofs.Search.Opened as opening
 use Rattle.dali_progress.specs.Ends.{EndsWell, AreTabled}
 use Rattle.dali_progress.proofs.Stands.{to_come, search_frames, probe_frames, Opens, Probes, VisitFrames, Visits, Leaves, VisitsAt, Closes, At, IsWithin}
 use Rattle.dali_progress.proofs.Stands.{Stands, Sends}
-use Rattle.dali_progress.proofs.Frames.{value_sought}
 use Rattle.dali_progress.proofs.Later.{IsUnasked, later_leaves, turn_unasked}
 use Rattle.dali_progress.proofs.Tables.{tabled_over}
-use Rattle.dali_progress.proofs.Both.{no_enrolment, has_random, with_kept, never_eight, drawn_number, has_address, entry_last}
+use Rattle.dali_progress.proofs.Both.{with_kept, never_eight, drawn_number, has_address, entry_last, visits_first, frames_reserved, enrolled_begins}
+use Rattle.dali_progress.proofs.Both.{reserved_begins, no_enrolment_yet, entry_twice}
+use Rattle.dali_progress.proofs.Frames.{nobody_short}
 
 -- A CONTROLLER ACTS on what it was told, and what it orders goes on with the commissioning.
 
@@ -111,12 +112,11 @@ goes_later before t o s c gs left st at unasked is spelled sends = subst (λ q. 
       subst (λ d. Sends t.course.purpose t.course.number t.kept (stage_of t.trace) d) (sym (read_written c spelled)) sends,
     ))
 
-goes_first : (before : List Gear) (t : Machine) (o : Order) (gs : List Gear) (left : ℕ) → IsUndisturbed t → AreTabled before t.kept.enrolled gs
-    → o ≡ beginning (next_course t)
-    → IsSpelled (first_of (next_course t).purpose (next_course t).number)
-    → At (next_course t).purpose stage.Free t.kept (next_course t).opened (next_course t).search (next_course t).number gs left
+goes_by : (before : List Gear) (t : Machine) (o : Order) (cs : Course) (gs : List Gear) (left : ℕ) → IsUndisturbed t → AreTabled before t.kept.enrolled gs
+    → o ≡ beginning (next_course t) → next_course t ≡ cs
+    → IsSpelled (first_of cs.purpose cs.number) → At cs.purpose stage.Free t.kept cs.opened cs.search cs.number gs left
     → IsNext before (machine_ordered t o) o gs left
-goes_first before t o gs left calm tabled is spelled at = subst (λ q. IsNext before (machine_ordered t q) q gs left) (sym is) (
+goes_by before t o cs gs left calm tabled is same spelled at = subst (λ q. IsNext before (machine_ordered t q) q gs left) (sym is) (
   record {
     tries = calm.tries;
     fresh = keeps_fresh t calm.fresh;
@@ -124,21 +124,14 @@ goes_first before t o gs left calm tabled is spelled at = subst (λ q. IsNext be
     trace = subst (λ s. IsTrace s []) (sym stage_none) trace_none;
     within = calm.within;
     tabled = subst (λ s. AreTabled before (to_come s (next_course t).number t.kept.enrolled) gs) (sym stage_none) tabled;
-    at = subst (λ s. At (next_course t).purpose s t.kept (next_course t).opened (next_course t).search (next_course t).number gs left) (sym stage_none) at;
+    at = subst (λ s. At (next_course t).purpose s t.kept (next_course t).opened (next_course t).search (next_course t).number gs left) (sym stage_none)
+        (subst (λ (d : Course). At d.purpose stage.Free t.kept d.opened d.search d.number gs left) (sym same) at);
   },
   subst (λ s. Sends (next_course t).purpose (next_course t).number t.kept s (command_of (frame_of (first_of (next_course t).purpose (next_course t).number))))
       (sym stage_none)
-      (read_written (first_of (next_course t).purpose (next_course t).number) spelled),
+      (read_written (first_of (next_course t).purpose (next_course t).number)
+      (subst (λ (d : Course). IsSpelled (first_of d.purpose d.number)) (sym same) spelled)),
 )
-
--- of a course that is known
-goes_by : (before : List Gear) (t : Machine) (o : Order) (cs : Course) (gs : List Gear) (left : ℕ) → IsUndisturbed t → AreTabled before t.kept.enrolled gs
-    → o ≡ beginning (next_course t) → next_course t ≡ cs
-    → IsSpelled (first_of cs.purpose cs.number) → At cs.purpose stage.Free t.kept cs.opened cs.search cs.number gs left
-    → IsNext before (machine_ordered t o) o gs left
-goes_by before t o cs gs left calm tabled is same spelled at =
-    goes_first before t o gs left calm tabled is (subst (λ (d : Course). IsSpelled (first_of d.purpose d.number)) (sym same) spelled)
-    (subst (λ (d : Course). At d.purpose stage.Free t.kept d.opened d.search d.number gs left) (sym same) at)
 
 -- the finding of a transaction by its stage
 found_none : (before : List Gear) (t : Machine) (gs : List Gear) (left : ℕ) (s : Stage) → Stands before t gs left → stage_of t.trace ≡ s → finding_at s ≡ None
@@ -274,14 +267,9 @@ found_wanted gs x r ready narrowing agrees is =
 
 -- where nobody is left, every gear with power has a short address
 pub all_have : (gs : List Gear) (x : Search) → IsOpened gs → IsNarrowing x → Agrees (wants gs) x.answers → x.step ≡ Nobody → OfPowered gs HasShort
-all_have gs x ready narrowing agrees is k in_row on = go (get_or gs k fresh).short refl where
-  nobody : (m : ℕ) → wants gs m ≡ true → ⊥
-  nobody = subst (Says (wants gs)) is (searching.says_least x narrowing (wants gs) (λ m e. wanted.wanted_below gs m ready e) agrees)
-
-  go : (o : Option ℕ) → (get_or gs k fresh).short ≡ o → HasShort (get_or gs k fresh)
-  go (Some a) e = (a, e)
-  go None e = absurd (nobody (get_or gs k fresh).random
-      (wanted.wants_by gs (get_or gs k fresh).random k in_row (wanted.is_wanted_by (get_or gs k fresh) on (ready.bare k in_row on e)) refl))
+all_have gs x ready narrowing agrees is =
+    nobody_short gs ready
+    (subst (Says (wants gs)) is (searching.says_least x narrowing (wants gs) (λ m e. wanted.wanted_below gs m ready e) agrees))
 
 found_frames : (answers n left more : ℕ) → probe_frames answers n ≤ left + 4 → n ≡ suc more → 11 + search_frames more ≤ left + 0
 found_frames answers zero left more enough is = absurd (omega (arith, is))
@@ -321,21 +309,8 @@ probed_at (Found r) k c said gs left is ready unnamed narrowing agrees enough =
       tt,
       (
         refl,
-        record {
-          stage_is = tt;
-          searched = tt;
-          ready = ready;
-          unnamed = unnamed;
-          more = more.0;
-          visited = record {
-            wanted = subst (λ m. wants gs m ≡ true) (sym (value_sought r)) found.0;
-            number = r;
-            number_is = refl;
-            drawn = found.1;
-            count = more.1;
-          };
-          frames = inr (found_frames (length c.search.answers) (count_by is_wanted gs) left more.0 enough more.1);
-        },
+        visits_first k r more.0 gs left ready unnamed found.0 found.1 more.1
+            (inr (found_frames (length c.search.answers) (count_by is_wanted gs) left more.0 enough more.1)),
       ),
     )
 probed_at Nobody k c said gs left is ready unnamed narrowing agrees enough = (
@@ -435,14 +410,10 @@ withdrawn_turns before t o r a gs left g st kept purpose is opened v = go o g (g
   tabled = subst (λ (m : SearchAddress). AreTabled before ((a, value_of m) ∷ t.kept.enrolled) gs) (sym v.searched)
       (tabled_at before t gs left (stage.Withdrawn r a) st is)
 
-  twice : (x : Assignment) → Has ((a, value_of r) ∷ t.kept.enrolled) x → Has t.kept.enrolled (a, value_of r) → Has t.kept.enrolled x
-  twice x (inl same) has = subst (Has t.kept.enrolled) same has
-  twice x (inr h) has = h
-
   go : (q : Order) → IsGivenBy t q → AfterFinding t a (value_of r) q → IsNext before (machine_ordered t q) q gs left
   go (Put p f) g has =
       searches_anew before t (Put p f) gs left (calm_of before t gs left st)
-      (tabled_over before ((a, value_of r) ∷ t.kept.enrolled) t.kept.enrolled gs (λ x h. twice x h has) tabled)
+      (tabled_over before ((a, value_of r) ∷ t.kept.enrolled) t.kept.enrolled gs (entry_twice t.kept.enrolled (a, value_of r) has) tabled)
       (given.withdrawn_known t (Put p f) r a g is kept.enrolled has) (ap (begins_at t) is ∙ goes_on_anew t opened st.fresh) v.ready v.unnamed v.frames
   go (Commit x) g has = subst (λ y. IsNext before (machine_ordered t (Commit y)) (Commit y) gs left) (sym has) (
     record { tries = st.tries; fresh = st.fresh; silent = st.silent; within = st.within },
@@ -504,11 +475,8 @@ nothing_unfinished k (suc n) from none =
     let here : unfinished_at k from ≡ None = rw none refl in
     rw here (nothing_unfinished k n (from + 1) none)
 
-no_enrolment_yet : IsNoEnrolment None
-no_enrolment_yet b n e = cc
-
 pub started_begins : (t : Machine) (o : Order) → IsGivenBy t o → IsUndisturbed t → t.trace ≡ [] → t.last ≡ None → o ≡ beginning (next_course t)
-started_begins t o g calm free last = given.begins_free t o g free (subst IsNoEnrolment (sym last) no_enrolment_yet) (never_eight t.tries calm.tries)
+started_begins t o g calm free last = given.begins_free t o g free (no_enrolment_yet t.last last) (never_eight t.tries calm.tries)
 
 pub started : (before : List Gear) (t : Machine) (o : Order) (gs : List Gear) (left : ℕ) → IsGivenBy t o → IsUndisturbed t → AreTabled before t.kept.enrolled gs
     → t.trace ≡ [] → t.last ≡ None → t.kept.reserved ≡ [] → t.course.opened ≡ false → t.course.purpose ≡ Opening
@@ -533,12 +501,6 @@ within_enrolled k b r within reserved x has = go (has_cases k.enrolled (b, r) x 
   go (inl e) = within x e
   go (inr e) = subst (Has k.reserved) e reserved
 
-reserved_begins : (m : Machine) (a r : ℕ) (o : Order) → IsUndisturbed m → m.trace ≡ [] → m.last ≡ Some (Commit (Reserve a r))
-    → IsGivenBy (with_kept m (Reserve a r)) o
-    → o ≡ beginning (next_course (with_kept m (Reserve a r)))
-reserved_begins m a r o calm free last g =
-    given.begins_free (with_kept m (Reserve a r)) o g free (no_enrolment a r m.last last) (never_eight m.tries calm.tries)
-
 reserved_next : (before : List Gear) (m : Machine) (a r : ℕ) (o : Order) (gs : List Gear) (left : ℕ) → IsUndisturbed m → Reserves before m r gs left
     → m.trace ≡ []
     → m.last ≡ Some (Commit (Reserve a r))
@@ -548,36 +510,12 @@ reserved_next before m a r o gs left calm v free last g =
     let t : Machine = with_kept m (Reserve a r) in
     goes_by before (with_kept m (Reserve a r)) o (visiting m.course r) gs left
     (record { tries = calm.tries; fresh = calm.fresh; silent = calm.silent; within = within_reserved m.kept a r calm.within }) v.tabled
-    (reserved_begins m a r o calm free last g)
+    (reserved_begins m a r o calm.tries free last g)
     (ap (begins_at (with_kept m (Reserve a r))) stage ∙ ap (at_rest (with_kept m (Reserve a r))) last) tt (
       v.opened,
-      record {
-        stage_is = tt;
-        searched = tt;
-        ready = v.ready;
-        unnamed = v.unnamed;
-        more = v.more;
-        visited = record {
-          wanted = subst (λ n. wants gs n ≡ true) (sym (value_sought r)) v.wanted;
-          number = r;
-          number_is = refl;
-          drawn = v.drawn;
-          count = v.count;
-        };
-        frames = inl (
-          subst (HasRandom (m.kept.reserved ++ (a, r) ∷ [])) (sym (value_sought r))
-              (has_random (m.kept.reserved ++ (a, r) ∷ []) a r (has_last m.kept.reserved (a, r))),
-          omega (arith, v.frames),
-        );
-      },
+      visits_first (with_record m.kept (Reserve a r)) r v.more gs left v.ready v.unnamed v.wanted v.drawn v.count
+          (frames_reserved m.kept a r v.more left v.frames),
     )
-
-enrolled_begins : (before : List Gear) (m : Machine) (b r : ℕ) (o : Order) (gs : List Gear) (left : ℕ) → Enrols before m b r gs left → m.trace ≡ []
-    → m.last ≡ Some (Commit (Enrol b r)) → IsMap m.kept.reserved
-    → IsGivenBy (with_kept m (Enrol b r)) o → o ≡ beginning (next_course (with_kept m (Enrol b r)))
-enrolled_begins before m b r o gs left v free last map g =
-    given.enrolled (with_kept m (Enrol b r)) o b r g last free
-    (λ a has. ap (λ (q : Assignment). q.0) (same_member (λ (q : Assignment). q.1) m.kept.reserved (a, r) (b, r) map.random_once has v.reserved refl))
 
 enrolled_next : (before : List Gear) (m : Machine) (b r : ℕ) (o : Order) (gs : List Gear) (left : ℕ) → IsUndisturbed m → Enrols before m b r gs left
     → m.trace ≡ []
@@ -588,7 +526,7 @@ enrolled_next before m b r o gs left calm v free last map g =
     searches_anew before (with_kept m (Enrol b r)) o gs left
     (record { tries = calm.tries; fresh = calm.fresh; silent = calm.silent; within = within_enrolled m.kept b r calm.within v.reserved })
     (tabled_over before ((b, r) ∷ m.kept.enrolled) (m.kept.enrolled ++ (b, r) ∷ []) gs (entry_last m.kept.enrolled (b, r)) v.tabled)
-    (enrolled_begins before m b r o gs left v free last map g)
+    (enrolled_begins m b r o v.reserved free last map g)
     (ap (begins_at (with_kept m (Enrol b r))) stage ∙ ap (at_rest (with_kept m (Enrol b r))) last ∙ goes_on_anew (with_kept m (Enrol b r)) v.opened calm.fresh)
     v.ready v.unnamed v.frames
 
@@ -604,6 +542,6 @@ committed before m _ o gs left calm v free last map g = absurd v
 pub committed_begins : (before : List Gear) (m : Machine) (x : Record) (o : Order) (gs : List Gear) (left : ℕ) → IsUndisturbed m → CommitsTo before m x gs left
     → m.trace ≡ [] → m.last ≡ Some (Commit x) → IsMap m.kept.reserved
     → IsGivenBy (with_kept m x) o → o ≡ beginning (next_course (with_kept m x))
-committed_begins before m (Reserve a r) o gs left calm v free last map g = reserved_begins m a r o calm free last g
-committed_begins before m (Enrol b r) o gs left calm v free last map g = enrolled_begins before m b r o gs left v free last map g
+committed_begins before m (Reserve a r) o gs left calm v free last map g = reserved_begins m a r o calm.tries free last g
+committed_begins before m (Enrol b r) o gs left calm v free last map g = enrolled_begins m b r o v.reserved free last map g
 committed_begins before m _ o gs left calm v free last map g = absurd v

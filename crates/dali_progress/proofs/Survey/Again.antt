@@ -14,7 +14,7 @@ use Rattle.dali_world.specs.Site.{SiteState, world, site_logged, machines, machi
 use Rattle.dali_progress.specs.Rounds.{site_after, HasEnded, IsAlone, restarted, Rounds, BySurvey}
 use Rattle.dali_progress.proofs.Lone.{still, Rests}
 use Rattle.dali_progress.proofs.Logged.{world_logged, run_logged, machines_logged, some_within}
-use Rattle.dali_progress.proofs.Survey.Bounded.{EndsBy, ended_by}
+use Rattle.dali_progress.proofs.Survey.Goes.{EndsBy, ended_by}
 use Rattle.dali_progress.proofs.Beginnings.{runs_after}
 
 -- A CONTROLLER THAT ENDED A SURVEY, and comes up again, surveys alone once more.

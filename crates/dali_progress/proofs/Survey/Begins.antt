@@ -8,12 +8,11 @@ use Rattle.dali_frame.specs.declared.frames.Forward.{Forward}
 use Rattle.dali_frame.specs.Random.{MASK24}
 use Rattle.dali_frame.specs.Priority.{FIRST, LATER}
 use Rattle.dali_special.specs.declared.command.Command.{Command}
-use Rattle.dali_special.specs.Command.{command_of, frame_of, IsSpelled}
-use Rattle.dali_special.proofs.Table.{read_written}
+use Rattle.dali_special.specs.Command.{frame_of, command_of}
 use Rattle.dali_gear.specs.Gear.{Gear}
 use Rattle.dali_script.specs.declared.records.Record.{Record}
 use Rattle.dali_script.specs.declared.records.Record.TheVariants.{Reserve, Enrol, Release}
-use Rattle.dali_script.specs.Records.{Assignment, Kept, Has, HasAddress, IsKept, with_record}
+use Rattle.dali_script.specs.Records.{Assignment, Kept, Has, HasAddress, with_record}
 use Rattle.dali_script.specs.declared.stage.Stage.{Stage}
 use Rattle.dali_script.specs.declared.stage.Stage.TheVariants as stage
 use Rattle.dali_script.specs.Findings.{finding_of}
@@ -31,13 +30,13 @@ use Rattle.dali_controller.specs.declared.purpose.Purpose.TheVariants.{Hunting, 
 use Rattle.dali_controller.specs.declared.shorts.Shorts.{Shorts}
 use Rattle.dali_controller.specs.declared.tally.Tally.{Tally}
 use Rattle.dali_controller.specs.Shorts.{has_short}
-use Rattle.dali_controller.specs.Course.{Course, first_of, turn_of, number_at, is_open, open_among, least_open, is_another, is_anothers, is_asked, asked_among}
+use Rattle.dali_controller.specs.Course.{Course, turn_of, number_at, is_open, open_among, least_open, is_another, is_anothers, is_asked}
 use Rattle.dali_controller.specs.Course.{next_asked, ask_or_call, asking, calling_first, going_on, going_on_early, sought, hunting, hunting_first, searching_on}
 use Rattle.dali_controller.specs.Tally.{served}
 use Rattle.dali_controller.specs.Machine.{Machine}
 use Rattle.dali_controller.specs.Next.{next_course, course_by, beginning, goes_on_to, BeginsWith}
 use Rattle.dali_controller.specs.Orders.{machine_ordered, asked_by, IsAllowed, IsCaused}
-use Rattle.dali_controller.specs.Whole.{IsWhole}
+use Rattle.dali_controller.specs.Whole.{IsWhole, Sends as SendsWhole}
 use Rattle.dali_controller.proofs.Courses.{found_number}
 use Rattle.dali_controller.proofs.Given as given
 use Rattle.dali_controller.proofs.Given.{IsGivenBy, IsNoEnrolment}
@@ -45,26 +44,20 @@ use Rattle.dali_events.specs.Wanted.{is_bare, is_wanted, wants, IsOpened, NoneNa
 use Rattle.dali_events.proofs.Search.Leaving.{SameCore}
 use Rattle.dali_progress.specs.Ends.{AreTabled}
 use Rattle.dali_progress.specs.Rounds.{IsSettled}
-use Rattle.dali_progress.proofs.Census.Coming.{asked_later, asked_before, unasked_enrolled}
-use Rattle.dali_progress.proofs.Stands.{Sends}
-use Rattle.dali_progress.proofs.Later.{IsUnasked, later_leaves, turn_unasked}
+use Rattle.dali_progress.proofs.Census.Coming.{asked_later, asked_before, unasked_enrolled, from_next}
+use Rattle.dali_progress.proofs.Census.Asked.{sending_of}
+use Rattle.dali_progress.proofs.Census.Left.{asked_within}
+use Rattle.dali_progress.proofs.Later.{IsUnasked, later_leaves, turn_unasked, course_stays}
 use Rattle.dali_progress.proofs.Survey.Queried.{OneShort, IsTrue, AreOwned, TabledBelow, unseen, below_all, below_named}
-use Rattle.dali_progress.proofs.Survey.Drawn.{AreNumbered, those_drawn, is_lost, bare_split}
+use Rattle.dali_progress.proofs.Survey.Drawn.{those_drawn, is_lost, bare_split}
 use Rattle.dali_progress.proofs.Survey.Woken.{AreLow}
-use Rattle.dali_progress.proofs.Survey.Stands.{Begun, survey_frames, IsClear, Counts, IsUncalled, IsFirstDraw, IsCalledFor, called_after}
-use Rattle.dali_progress.proofs.Survey.Stands.{hunted_after}
-use Rattle.dali_progress.proofs.Survey.Stands.{roll_frames, frames_after, Rises, HuntAt, Hunts, AreTaken, SurveyEnds, IsSmooth, SurveyAt, SurveyStands}
+use Rattle.dali_progress.proofs.Survey.Stands.{Begun, survey_frames, Counts, IsUncalled, IsFirstDraw, IsCalledFor, called_after, hunted_after, roll_frames}
+use Rattle.dali_progress.proofs.Survey.Stands.{frames_after, Rises, HuntAt, Hunts, AreTaken, SurveyEnds, IsSmooth, SurveyAt, SurveyStands}
 use Rattle.dali_progress.proofs.Survey.Rising.{rises_so, rises_first, rises_above}
+use Rattle.dali_progress.proofs.Surveying.{roll_first, IsClear}
+use Rattle.dali_progress.proofs.Both.{never_eight}
 
 -- A TRANSACTION OF A SURVEY BEGINS, or goes on; and what is to come of an order.
-
--- what is known of the records and of the gear, where the controller acts
-pub record IsAtHand (k : Kept) (gs : List Gear) : Type 0 where
-  pub kept : IsKept k
-  pub numbered : AreNumbered gs
-  pub one : OneShort gs
-  pub holds : IsTrue k.enrolled gs
-  pub owned : AreOwned k.reserved gs
 
 -- what every machine has that is not disturbed
 pub record Calm (m : Machine) : Type 0 where
@@ -72,8 +65,8 @@ pub record Calm (m : Machine) : Type 0 where
   pub silent : m.silent ≡ 0
   pub smooth : IsSmooth m.course
 
--- a gear that told its number is to be enrolled, and then the next short address is asked
-pub record EnrolsCounted (start : Begun) (m : Machine) (a r : ℕ) (gs : List Gear) (left : ℕ) : Type 0 where
+-- the next short address is asked, once a record is kept: with these entries of the table
+pub record AsksCounted (start : Begun) (m : Machine) (a : ℕ) (entries : List Assignment) (gs : List Gear) (left : ℕ) : Type 0 where
   pub uncalled : IsUncalled m.course
   pub asked : m.asked ≡ 0
   pub small : a < 64
@@ -81,20 +74,16 @@ pub record EnrolsCounted (start : Begun) (m : Machine) (a r : ℕ) (gs : List Ge
   pub settled : IsSettled start.kept → IsSettled m.kept
   pub clear : IsClear m.kept m.heard
   pub same : SameCore start.gear gs
-  pub tabled : TabledBelow (a + 1) start.gear (m.kept.enrolled ++ (a, r) ∷ []) gs
+  pub tabled : TabledBelow (a + 1) start.gear entries gs
   pub frames : 3 * (63 - a) + survey_frames gs ≤ left
 
--- what was reserved for it is to be released, and then the next short address is asked
-pub record ReleasesCounted (start : Begun) (m : Machine) (a : ℕ) (gs : List Gear) (left : ℕ) : Type 0 where
-  pub uncalled : IsUncalled m.course
-  pub asked : m.asked ≡ 0
-  pub small : a < 64
-  pub from_is : m.course.from ≡ a + 1
-  pub settled : IsSettled start.kept → IsSettled m.kept
-  pub clear : IsClear m.kept m.heard
-  pub same : SameCore start.gear gs
-  pub tabled : TabledBelow (a + 1) start.gear m.kept.enrolled gs
-  pub frames : 3 * (63 - a) + survey_frames gs ≤ left
+-- a gear that told its number is to be enrolled
+abbrev pub EnrolsCounted : Begun → Machine → ℕ → ℕ → List Gear → ℕ → Type 0
+EnrolsCounted start m a r gs left = AsksCounted start m a (m.kept.enrolled ++ (a, r) ∷ []) gs left
+
+-- what was reserved for it is to be released
+abbrev pub ReleasesCounted : Begun → Machine → ℕ → List Gear → ℕ → Type 0
+ReleasesCounted start m a gs left = AsksCounted start m a m.kept.enrolled gs left
 
 -- an ascent goes on above who was found, where who is left is above it
 pub record Above (x : Ascent) (r : ℕ) (gs : List Gear) : Type 0 where
@@ -151,8 +140,7 @@ IsPut p m = (p ≡ LATER) ⊎ (m.trace ≡ [])
 
 -- what is to come of an order
 abbrev pub IsNext : Begun → Machine → Order → List Gear → ℕ → Type 0
-IsNext start m (Put p f) gs left =
-    SurveyStands false start m gs left × Sends m.course.purpose m.course.number m.kept (stage_of m.trace) (command_of f) × IsPut p m
+IsNext start m (Put p f) gs left = SurveyStands false start m gs left × IsPut p m
 IsNext start m (Commit x) gs left = Calm m × SurveyCommits start m x gs left
 IsNext start m (Done e) gs left =
     SurveyEnds e m.kept m.heard gs × AreTabled (unseen start.gear) m.kept.enrolled gs × (IsSettled start.kept → IsSettled m.kept)
@@ -217,67 +205,60 @@ untold Hunting s k heard asked c start gs left unasked at = hunts_untold Hunting
 untold Visiting s k heard asked c start gs left unasked at = hunts_untold Visiting s k heard c start gs left unasked at
 untold _ s k heard asked c start gs left unasked at = at
 
-pub later_by : (start : Begun) (t : Machine) (o : Order) (p : Purpose) (s : Stage) (c : Command) (gs : List Gear) (left : ℕ) → SurveyStands true start t gs left
-    → o ≡ Put LATER (frame_of c) → IsSpelled c → t.course.purpose ≡ p → stage_of t.trace ≡ s → IsUnasked s p → Sends p t.course.number t.kept s c
-    → IsNext start (machine_ordered t o) o gs left
-later_by start t o p s c gs left st is spelled purpose at unasked sends = subst (λ q. IsNext start (machine_ordered t q) q gs left) (sym is)
-    (subst (λ m. IsNext start m (Put LATER (frame_of c)) gs left) (sym (later_leaves t (frame_of c) s at here)) (
+pub later_by : (start : Begun) (t : Machine) (o : Order) (s : Stage) (f : Forward) (gs : List Gear) (left : ℕ) → SurveyStands true start t gs left
+    → o ≡ Put LATER f → stage_of t.trace ≡ s → IsUnasked s t.course.purpose → IsNext start (machine_ordered t o) o gs left
+later_by start t o s f gs left st is at unasked = subst (λ q. IsNext start (machine_ordered t q) q gs left) (sym is)
+    (subst (λ m. IsNext start m (Put LATER f) gs left) (sym (later_leaves t f s at unasked)) (
       record {
         tries = st.tries;
         silent = st.silent;
         smooth = st.smooth;
         trace = st.trace;
         at = untold t.course.purpose (stage_of t.trace) t.kept t.heard t.asked t.course start gs left
-            (subst (λ q. IsUnasked q t.course.purpose) (sym at) here) st.at;
+            (subst (λ q. IsUnasked q t.course.purpose) (sym at) unasked) st.at;
       },
-      subst (λ d. Sends t.course.purpose t.course.number t.kept (stage_of t.trace) d) (sym (read_written c spelled)) (rw (purpose, at) sends),
       inl refl,
     ))
-  where
-    here : IsUnasked s t.course.purpose
-    here = subst (IsUnasked s) (sym purpose) unasked
 
 pub turns_by : (start : Begun) (t : Machine) (o : Order) (p : Purpose) (s : Stage) (c : Command) (gs : List Gear) (left : ℕ) → IsGivenBy t o
-    → SurveyStands true start t gs left → t.course.purpose ≡ p → stage_of t.trace ≡ s → turn_of p t.course.number s ≡ Some c → IsSpelled c
-    → Sends p t.course.number t.kept s c → IsNext start (machine_ordered t o) o gs left
-turns_by start t o p s c gs left g st purpose at turn spelled sends =
-    later_by start t o p s c gs left st (given.turns t o c g (rw (purpose, at) turn)) spelled purpose at (turn_unasked p t.course.number s c turn) sends
-
-goes_first : (start : Begun) (t : Machine) (o : Order) (gs : List Gear) (left : ℕ) → Calm t → o ≡ beginning (next_course t) → IsSmooth (next_course t)
-    → IsSpelled (first_of (next_course t).purpose (next_course t).number)
-    → SurveyAt false (next_course t).purpose stage.Free t.kept t.heard (asked_by (next_course t).opened t.asked) (next_course t) start gs left
+    → SurveyStands true start t gs left → t.course.purpose ≡ p → stage_of t.trace ≡ s → turn_of p t.course.number s ≡ Some c
     → IsNext start (machine_ordered t o) o gs left
-goes_first start t o gs left calm is smooth spelled at = subst (λ q. IsNext start (machine_ordered t q) q gs left) (sym is) (
-  record {
-    tries = calm.tries;
-    silent = calm.silent;
-    smooth = smooth;
-    trace = subst (λ s. IsTrace s []) (sym stage_none) trace_none;
-    at = subst (λ s. SurveyAt false (next_course t).purpose s t.kept t.heard (asked_by (next_course t).opened t.asked) (next_course t) start gs left)
-        (sym stage_none) at;
-  },
-  subst (λ s. Sends (next_course t).purpose (next_course t).number t.kept s (command_of (frame_of (first_of (next_course t).purpose (next_course t).number))))
-      (sym stage_none)
-      (read_written (first_of (next_course t).purpose (next_course t).number) spelled),
-  inr refl,
-)
+turns_by start t o p s c gs left g st purpose at turn =
+    later_by start t o s (frame_of c) gs left st (given.turns t o c g (rw (purpose, at) turn)) at
+    (subst (IsUnasked s) (sym purpose) (turn_unasked p t.course.number s c turn))
 
 pub first_by : (start : Begun) (t : Machine) (o : Order) (cs : Course) (gs : List Gear) (left : ℕ) → Calm t → o ≡ beginning (next_course t)
-    → next_course t ≡ cs → IsSmooth cs → IsSpelled (first_of cs.purpose cs.number)
-    → SurveyAt false cs.purpose stage.Free t.kept t.heard (asked_by cs.opened t.asked) cs start gs left
+    → next_course t ≡ cs → IsSmooth cs → SurveyAt false cs.purpose stage.Free t.kept t.heard (asked_by cs.opened t.asked) cs start gs left
     → IsNext start (machine_ordered t o) o gs left
-first_by start t o cs gs left calm is same smooth spelled at =
-    goes_first start t o gs left calm is (subst IsSmooth (sym same) smooth)
-    (subst (λ (d : Course). IsSpelled (first_of d.purpose d.number)) (sym same) spelled)
-    (subst (λ (d : Course). SurveyAt false d.purpose stage.Free t.kept t.heard (asked_by d.opened t.asked) d start gs left) (sym same) at)
+first_by start t o cs gs left calm is same smooth at =
+    subst (λ q. IsNext start (machine_ordered t q) q gs left) (sym is) (
+      record {
+        tries = calm.tries;
+        silent = calm.silent;
+        smooth = subst IsSmooth (sym same) smooth;
+        trace = subst (λ s. IsTrace s []) (sym stage_none) trace_none;
+        at = subst (λ s. SurveyAt false (next_course t).purpose s t.kept t.heard (asked_by (next_course t).opened t.asked) (next_course t) start gs left)
+            (sym stage_none)
+            (subst (λ (d : Course). SurveyAt false d.purpose stage.Free t.kept t.heard (asked_by d.opened t.asked) d start gs left) (sym same) at);
+      },
+      inr refl,
+    )
 
 -- ---------------------------------------------------------------- a transaction that is over although a frame might follow
 
 -- no later frame is put, since a whole machine sends none there
-pub begins_whole : (t : Machine) (o : Order) (s : Stage) → IsGivenBy t o → stage_of t.trace ≡ s → ((r : SearchAddress) → s ≡ stage.Unnamed r → ⊥)
-    → (s ≡ stage.Terminated → ⊥) → finding_of t.trace ≡ None → IsNoEnrolment t.last → (t.tries ≡ 8 → ⊥)
-    → ((f : Forward) → IsWhole (machine_ordered t (Put LATER f)) → ⊥) → IsWhole (machine_ordered t o) → o ≡ beginning (next_course t)
-begins_whole t o s g at named closed found last tries later = go o g where
+pub begins_whole : (t : Machine) (o : Order) (p : Purpose) (s : Stage) → IsGivenBy t o → t.course.purpose ≡ p → stage_of t.trace ≡ s
+    → ((r : SearchAddress) → s ≡ stage.Unnamed r → ⊥) → (s ≡ stage.Terminated → ⊥) → IsUnasked s t.course.purpose
+    → ((f : Forward) → SendsWhole t.kept t.course.number p s (command_of f) → ⊥) → finding_of t.trace ≡ None → IsNoEnrolment t.last → t.tries ≡ 0
+    → IsWhole (machine_ordered t o) → o ≡ beginning (next_course t)
+begins_whole t o p s g purpose at named closed unasked never found last tries = go o g where
+  later : (f : Forward) → IsWhole (machine_ordered t (Put LATER f)) → ⊥
+  later f whole =
+      never f (subst (λ q. SendsWhole t.kept t.course.number p q (command_of f)) at
+      (subst (λ q. SendsWhole t.kept t.course.number q (stage_of t.trace) (command_of f)) purpose
+      (subst (λ (c : Course). SendsWhole t.kept c.number c.purpose (stage_of t.trace) (command_of f)) (course_stays t s at unasked)
+      (sending_of (machine_ordered t (Put LATER f)) LATER f refl whole).sends)))
+
   first : (f : Forward) → BeginsWith (course_by t (Put FIRST f)) (Put FIRST f) → Put FIRST f ≡ beginning (next_course t)
   first f begins = ap (λ h. Put FIRST h) (begins refl)
 
@@ -289,7 +270,7 @@ begins_whole t o s g at named closed found last tries later = go o g where
   go (Commit x) g whole = absurd (given.unwarranted t x (λ r e. named r (sym at ∙ e)) found last g.ordered.allowed.warranted)
   go (Done e) g whole = absurd (by g.ordered.caused) where
     by : IsCaused t t.course (Done e) → ⊥
-    by (inl cause) = tries cause.1
+    by (inl cause) = never_eight t.tries tries cause.1
     by (inr cause) = closed (sym at ∙ cause.1)
   go (Halt fault.Conflict) g whole = absurd (by g.ordered.caused) where
     by : IsCaused t t.course (Halt fault.Conflict) → ⊥
@@ -348,12 +329,7 @@ none_open k heard (suc n) from none a low high = go (is_open k heard from) refl 
   go : (b : Bool) → is_open k heard from ≡ b → (if b then Some from else open_among k heard n (from + 1)) ≡ None
       → (open_among k heard n (from + 1) ≡ None → (d : ℕ) → from + 1 ≤ d → d < from + 1 + n → is_open k heard d ≡ false) → is_open k heard a ≡ false
   go true is e more = absurd (cc)
-  go false is e more = here (from == a) refl where
-    here : (t : Bool) → (from == a) ≡ t → is_open k heard a ≡ false
-    here true same = subst (λ d. is_open k heard d ≡ false) (let at : from ≡ a = grind (arith, nat_tests, same) in at) is
-    here false other =
-        let apart : from ≡ a → ⊥ = grind (arith, nat_tests, other) in
-        more e a (omega (arith, low, apart)) (omega (arith, high))
+  go false is e more = from_next (is_open k heard) from a low is (λ up. more e a up (omega (arith, high)))
 
 pub all_taken : (k : Kept) (heard : Shorts) → least_open k heard ≡ None → AreTaken k heard
 all_taken k heard none a within =
@@ -413,14 +389,6 @@ pub asked_none : (opened : Bool) (n : ℕ) → n ≡ 0 → asked_by opened n ≡
 asked_none true n none = refl
 asked_none false n none = none
 
-pub asked_within : (k : Kept) (n from c : ℕ) → asked_among k n from ≡ Some c → (from ≤ c) × (c < from + n)
-asked_within k zero from c e = absurd (cc)
-asked_within k (suc n) from c e = go (is_asked k from) e (asked_within k n (from + 1) c) where
-  go : (b : Bool) → (if b then Some from else asked_among k n (from + 1)) ≡ Some c
-      → (asked_among k n (from + 1) ≡ Some c → (from + 1 ≤ c) × (c < from + 1 + n)) → (from ≤ c) × (c < from + suc n)
-  go true e more = let same : from ≡ c = cc in (omega (arith, same), omega (arith, same))
-  go false e more = let there = more e in let low : from + 1 ≤ c = there.0 in let high : c < from + 1 + n = there.1 in (omega (arith, low), omega (arith, high))
-
 pub asks_on : (start : Begun) (t : Machine) (o : Order) (f : ℕ) (gs : List Gear) (left : ℕ) → Calm t → o ≡ beginning (next_course t)
     → next_course t ≡ goes_on_to t → IsUncalled t.course → t.asked ≡ 0 → t.course.from ≡ f → f ≤ 64
     → (IsSettled start.kept → IsSettled t.kept)
@@ -444,15 +412,14 @@ asks_on start t o f gs left calm is next uncalled asked from few settled clear o
           let high : d < f + (64 - f) = there.1 in
           let small : d < 64 = omega (arith, high, few) in
           let unasked : asked_by t.course.opened t.asked ≡ 0 = asked_none t.course.opened t.asked asked in
-          first_by start t o (asking t.course d) gs left calm is at (smooth_as t.course (asking t.course d) refl refl calm.smooth) small (
+          first_by start t o (asking t.course d) gs left calm is at (smooth_as t.course (asking t.course d) refl refl calm.smooth) (
             record { unopened = uncalled.unopened; undrawn = uncalled.undrawn; loud = uncalled.loud },
             record {
-              small = small;
+              ask = record { small = small; asked = tt; clear = clear };
               from_is = refl;
               settled = settled;
-              clear = clear;
               same = same;
-              stage_is = inl unasked;
+              count = inl unasked;
               tabled = below_named f d start.gear t.kept.enrolled gs one holds tabled
                   (λ c past under. unasked_enrolled t.kept c (before d refl c past under));
               frames = count (survey_frames gs) d (asked_by t.course.opened t.asked) low small unasked enough;
@@ -462,17 +429,14 @@ asks_on start t o f gs left calm is next uncalled asked from few settled clear o
           count : (rest d asked : ℕ) → f ≤ d → d < 64 → asked ≡ 0 → 3 * (64 - f) + rest ≤ left → 3 * (63 - d) + (3 - asked) + rest ≤ left
           count rest d asked low small none enough = omega (arith, low, small, none, enough)
       go None at none before within =
-          first_by start t o (calling_first t.course) gs left calm is at (smooth_as t.course (calling_first t.course) refl refl calm.smooth) tt
+          first_by start t o (calling_first t.course) gs left calm is at (smooth_as t.course (calling_first t.course) refl refl calm.smooth)
           (record {
             opened_is = refl;
-            number = refl;
-            stage_is = tt;
+            roll = roll_first gs;
             quiet = λ silent. absurd (let both : true ≡ false = sym silent ∙ uncalled.loud in cc);
             first = λ some. uncalled.undrawn;
             clear = clear;
             settled = settled;
-            gear = λ k in_row on. tt;
-            low = tt;
             tabled = below_all start.gear t.kept.enrolled gs same
                 (below_named f 64 start.gear t.kept.enrolled gs one holds tabled
                 (λ c past under. unasked_enrolled t.kept c (none refl c past (omega (arith, under, few)))));
@@ -494,7 +458,7 @@ pub hunts_by : (start : Begun) (t : Machine) (o : Order) (cs : Course) (rest : �
     → AreTabled (unseen start.gear) t.kept.enrolled (those_drawn gs)
     → rest + frames_after Hunting cs.ascent gs ≤ left → IsNext start (machine_ordered t o) o gs left
 hunts_by start t o cs rest gs left calm is next smooth hunted called clear settled rises tabled frames =
-    first_by start t o (hunting cs) gs left calm is next (smooth_as cs (hunting cs) refl refl smooth) tt
+    first_by start t o (hunting cs) gs left calm is next (smooth_as cs (hunting cs) refl refl smooth)
     (record {
       opened_is = hunted.opened;
       loud = hunted.loud;

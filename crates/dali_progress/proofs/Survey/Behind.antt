@@ -1,21 +1,17 @@
-use Rattle.std.proofs.Common.{◌≡◌, ℕ, ◌+◌, ◌*◌, ◌<◌, ◌≤◌, inl, inr, Bool, true, false, suc, List, refl, sym, ap, subst, ◌∙◌, arith, Option, Some, None}
+use Rattle.std.proofs.Common.{◌≡◌, ℕ, ◌+◌, ◌*◌, ◌<◌, ◌≤◌, inl, inr, true, false, suc, List, refl, sym, ap, subst, ◌∙◌, arith}
 use Rattle.std.specs.List.{count_by}
-use Rattle.std.specs.Prelude.{◌==◌, if◌then◌else◌}
 use Rattle.dali_frame.specs.declared.frames.Answer.{Answer}
-use Rattle.dali_frame.specs.declared.frames.Answer.TheVariants.{Silence, Byte, Damaged}
 use Rattle.dali_frame.specs.declared.numbers.SearchAddress.{SearchAddress}
 use Rattle.dali_frame.specs.Random.{value_of}
 use Rattle.dali_special.specs.declared.command.Command.{Command}
 use Rattle.dali_special.specs.declared.command.Command.TheVariants.{Withdraw, SearchHigh, SearchMiddle, SearchLow, QueryShort}
-use Rattle.dali_frame.specs.Short.{short_of}
-use Rattle.dali_special.specs.Command.{MASK}
 use Rattle.dali_gear.specs.declared.row.Reach.TheVariants.{Everyone}
 use Rattle.dali_gear.specs.Gear.{Gear}
 use Rattle.dali_gear.specs.Row.{row_after}
 use Rattle.dali_script.specs.Records.{Kept}
 use Rattle.dali_script.specs.declared.stage.Stage.{Stage}
 use Rattle.dali_script.specs.declared.stage.Stage.TheVariants as stage
-use Rattle.dali_script.specs.Stages.{next_stage, queried, named, verified, answered}
+use Rattle.dali_script.specs.Stages.{next_stage, queried, verified}
 use Rattle.dali_search.specs.Ascending.{Ascent}
 use Rattle.dali_controller.specs.declared.purpose.Purpose.{Purpose}
 use Rattle.dali_controller.specs.declared.purpose.Purpose.TheVariants.{Visiting, Hunting}
@@ -25,8 +21,9 @@ use Rattle.dali_events.proofs.Search.Withdrawing as withdrawing
 use Rattle.dali_events.proofs.Search.Leaving as leaving
 use Rattle.dali_events.proofs.Search.Leaving.{SameCore, LeavesShort}
 use Rattle.dali_progress.proofs.Stands.{search_frames, VisitFrames, VisitsAt, Sends}
-use Rattle.dali_progress.proofs.Frames.{Seeks}
+use Rattle.dali_progress.proofs.Frames.{Seeks, some_is}
 use Rattle.dali_progress.proofs.Survey.Stands.{IsBehind, IsLeastAt, IsReached, HuntAt}
+use Rattle.dali_progress.proofs.Later.{queried_by, verified_by}
 
 -- THE GEAR THAT IS VISITED is the least that is wanted; and how many gear are behind: that are counted with more frames than
 -- the search needs for them.
@@ -37,33 +34,19 @@ IsHunt Hunting = Unit {0}
 IsHunt Visiting = Unit {0}
 IsHunt _ = ⊥
 
-some_is : (x c : Command) → Some x ≡ Some c → x ≡ c
-some_is x c e = cc
-
 -- ---------------------------------------------------------------- who is visited stays the least
 
-first_query : (r : SearchAddress) (h : Answer) (q : SearchAddress) (a : ℕ) → queried r h ≡ stage.Withdrawn q a → ⊥
-first_query r Silence q a is = cc
-first_query r Damaged q a is = cc
-first_query r (Byte v) q a is = go (short_of v) (v == MASK) is where
-  go : (o : Option ℕ) (m : Bool) → named r o m ≡ stage.Withdrawn q a → ⊥
-  go (Some b) m is = cc
-  go None true is = cc
-  go None false is = cc
+abbrev IsNotLeft : Stage → Type 0
+IsNotLeft t = (q : SearchAddress) (a : ℕ) → t ≡ stage.Withdrawn q a → ⊥
 
-second_query : (r : SearchAddress) (b : ℕ) (h : Answer) (q : SearchAddress) (a : ℕ) → verified r b h ≡ stage.Withdrawn q a → ⊥
-second_query r b Silence q a is = cc
-second_query r b Damaged q a is = cc
-second_query r b (Byte v) q a is = go (short_of v) is where
-  go : (o : Option ℕ) → answered r b o ≡ stage.Withdrawn q a → ⊥
-  go None is = cc
-  go (Some d) is = same (d == b) is where
-    same : (t : Bool) → (if t then stage.Confirmed r b else stage.Inconclusive r (Some d)) ≡ stage.Withdrawn q a → ⊥
-    same true is = cc
-    same false is = cc
+first_query : (r : SearchAddress) (h : Answer) → IsNotLeft (queried r h)
+first_query r h = queried_by IsNotLeft r (λ b q a is. cc) (λ q a is. cc) (λ q a is. cc) (λ o q a is. cc) h
+
+second_query : (r : SearchAddress) (b : ℕ) (h : Answer) → IsNotLeft (verified r b h)
+second_query r b h = verified_by IsNotLeft r b (λ q a is. cc) (λ o q a is. cc) h
 
 least_by : (t : Stage) (n : SearchAddress) (hs : List Gear) → ((m : ℕ) → wants hs m ≡ true → value_of n ≤ m)
-    → ((q : SearchAddress) (a : ℕ) → t ≡ stage.Withdrawn q a → ⊥) → IsLeastAt t n hs
+    → IsNotLeft t → IsLeastAt t n hs
 least_by (stage.Withdrawn q a) n hs least never = absurd (never q a refl)
 least_by _ n hs least never = least
 
@@ -104,7 +87,7 @@ least_sent _ k x n gs numbers left c h v is seek at = absurd v.stage_is
 -- ---------------------------------------------------------------- how many gear are behind
 
 behind_by : (t : Stage) (behind : ℕ) (hs : List Gear) (l : ℕ) → count_by is_wanted hs ≡ suc behind
-    → ((q : SearchAddress) (a : ℕ) → t ≡ stage.Withdrawn q a → ⊥) → IsBehind Visiting t behind hs l
+    → IsNotLeft t → IsBehind Visiting t behind hs l
 behind_by (stage.Withdrawn q a) behind hs l count never = absurd (never q a refl)
 behind_by _ behind hs l count never = count
 

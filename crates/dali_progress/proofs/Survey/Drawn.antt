@@ -358,26 +358,28 @@ numbered_of w drawn k h = go (drawn.random k h) where
   go (inl none) = inl none
   go (inr has) = inr (drawn.below k (gear_of w.gear k).random has)
 
--- gear that drew are apart
-pub apart_drawn : (w : World) → AreDrawn w → IsOpened (those_drawn w.gear) → AreApart (those_drawn w.gear)
-apart_drawn w drawn opened j k h i on up live awake same =
-    let first = drew j h on live in
-    let second = drew k i up awake in
-    ap (λ draw. draw.0) (same_member (λ draw. draw.1) w.drawn (j, (gear_of (those_drawn w.gear) j).random) (k, (gear_of (those_drawn w.gear) k).random)
-    drawn.once first second same) where
-      drew : (g : ℕ) → g < length (those_drawn w.gear) → (gear_of (those_drawn w.gear) g).powered ≡ true
-          → is_active (gear_of (those_drawn w.gear) g).state ≡ true → Has w.drawn (g, (gear_of (those_drawn w.gear) g).random)
-      drew g there on active = go (drawn.random g seen.there) where
-        seen : IsSeen w.gear g
-        seen = who_seen w.gear g there on
+-- no two have drawn one number
+abbrev pub DrewApart : List Gear → Type 0
+DrewApart gs =
+    (j k : ℕ) → j < length gs → k < length gs → (gear_of gs j).random < MASK24 → (gear_of gs j).random ≡ (gear_of gs k).random → j ≡ k
 
-        random : (gear_of (those_drawn w.gear) g).random ≡ (gear_of w.gear g).random
-        random = ap (λ (x : Gear). x.random) seen.same
+pub drew_apart : (w : World) → AreDrawn w → DrewApart w.gear
+drew_apart w drawn j k h i small same =
+    ap (λ draw. draw.0) (same_member (λ draw. draw.1) w.drawn (j, (gear_of w.gear j).random) (k, (gear_of w.gear k).random) drawn.once
+    (drew j h small) (drew k i (subst (λ n. n < MASK24) same small)) same) where
+      drew : (g : ℕ) → g < length w.gear → (gear_of w.gear g).random < MASK24 → Has w.drawn (g, (gear_of w.gear g).random)
+      drew g there below = go (drawn.random g there) where
+        go : ((gear_of w.gear g).random ≡ MASK24) ⊎ Has w.drawn (g, (gear_of w.gear g).random) → Has w.drawn (g, (gear_of w.gear g).random)
+        go (inl none) = absurd (omega (arith, none, below))
+        go (inr has) = has
 
-        go : ((gear_of w.gear g).random ≡ MASK24) ⊎ Has w.drawn (g, (gear_of w.gear g).random) → Has w.drawn (g, (gear_of (those_drawn w.gear) g).random)
-        go (inl none) =
-            absurd (let small : (gear_of (those_drawn w.gear) g).random < MASK24 = opened.drawn g there on active in omega (arith, none, random, small))
-        go (inr has) = subst (λ n. Has w.drawn (g, n)) (sym random) has
+-- so gear that drew are apart
+pub apart_drawn : (gs : List Gear) → DrewApart gs → IsOpened (those_drawn gs) → AreApart (those_drawn gs)
+apart_drawn gs apart opened j k h i on up live awake same =
+    let one = who_seen gs j h on in
+    let two = who_seen gs k i up in
+    let random : (gear_of (those_drawn gs) j).random ≡ (gear_of gs j).random = ap (λ (x : Gear). x.random) one.same in
+    apart j k one.there two.there (subst (λ n. n < MASK24) random (opened.drawn j h on live)) (sym random ∙ same ∙ ap (λ (x : Gear). x.random) two.same)
 
 pub woken_short : (g : Gear) → OpenedBy g → is_active g.state ≡ true → g.short ≡ None
 woken_short g opened active = go g.short refl where

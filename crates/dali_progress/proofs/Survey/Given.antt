@@ -12,8 +12,7 @@ use Rattle.dali_progress.proofs.Logged.{world_logged}
 use Rattle.dali_progress.proofs.Gives.{Gives, gives_self, gives_then, frame_gives}
 use Rattle.dali_progress.proofs.Along.{Runs, runs_on}
 use Rattle.dali_progress.proofs.Survey.Stands.{Begun}
-use Rattle.dali_progress.proofs.Survey.Goes.{of_survey}
-use Rattle.dali_progress.proofs.Survey.Bounded.{argument}
+use Rattle.dali_progress.proofs.Survey.Goes.{of_survey, argument}
 
 -- WHO IS GIVEN A SHORT ADDRESS in a whole survey of one controller alone.
 

@@ -1,5 +1,5 @@
 use Rattle.std.proofs.Common.{◌≡◌, ℕ, ◌-◌, ◌+◌, ◌*◌, ◌<◌, ◌≤◌, inl, inr, Bool, true, false, suc, List, [], ◌∷◌, ◌++◌, refl, sym, ap, subst, ◌∙◌, arith, length}
-use Rattle.std.proofs.Common.{Option, Some, None}
+use Rattle.std.proofs.Common.{Option, Some, None, ◌⊎◌}
 use Rattle.std.specs.Prelude.{◌==◌, if◌then◌else◌}
 use Rattle.dali_frame.specs.Priority.{LATER}
 use Rattle.dali_frame.specs.declared.frames.Forward.{Forward}
@@ -12,13 +12,12 @@ use Rattle.dali_gear.specs.declared.row.Reach.TheVariants.{Everyone}
 use Rattle.dali_gear.specs.Gear.{Gear}
 use Rattle.dali_gear.specs.Row.{row_after, answers_of, heard_of}
 use Rattle.dali_controller.specs.declared.shorts.Shorts.{Shorts}
-use Rattle.dali_script.specs.Records.{Kept, Assignment, Has, IsKept}
-use Rattle.dali_arbiter.specs.Arbiter.{next}
+use Rattle.dali_script.specs.Records.{Kept, Assignment, Has}
 use Rattle.dali_script.specs.declared.finding.Finding.{Finding}
 use Rattle.dali_script.specs.declared.records.Record.{Record}
-use Rattle.dali_script.specs.declared.records.Record.TheVariants.{Reserve, Enrol, Release}
+use Rattle.dali_script.specs.declared.records.Record.TheVariants.{Enrol}
 use Rattle.dali_script.specs.Findings.{assigned, search_of, asked_of, found_by, later, finding_of}
-use Rattle.dali_script.specs.Scripts.{Lawful, IsLawful}
+use Rattle.dali_script.specs.Scripts.{IsLawful}
 use Rattle.dali_script.specs.declared.stage.Stage.{Stage}
 use Rattle.dali_script.specs.declared.stage.Stage.TheVariants as stage
 use Rattle.dali_script.specs.Stages.{IsTrace, stage_of, next_stage, finding_at}
@@ -42,27 +41,40 @@ use Rattle.dali_controller.proofs.Given.{IsGivenBy, IsNoEnrolment}
 use Rattle.dali_events.specs.declared.event.Event.TheVariants as event
 use Rattle.dali_events.specs.World.{World, Controller, controller_at}
 use Rattle.dali_events.specs.Happens.{happens, entry, trace_running}
-use Rattle.dali_events.specs.Allowed.{Allowed}
+use Rattle.dali_events.specs.Allowed.{Allowed, IsUp}
 use Rattle.dali_events.specs.Laws.{FindingsAgree, HasFound}
-use Rattle.dali_events.proofs.Invariant.Sending.{lawful_of}
 use Rattle.dali_events.proofs.Search.Leaving.{SameCore}
 use Rattle.dali_standing.specs.Seats.{IsFound, informed_by}
-use Rattle.dali_progress.specs.Rounds.{IsSettled, Succeeds}
+use Rattle.dali_progress.specs.Rounds.{IsSettled, Succeeds, HasEnded, IsAlone, IsSettledAt, bare, most_frames, BySurvey}
 use Rattle.dali_controller.specs.Shorts.{has_short}
 use Rattle.dali_events.specs.Promise.{KeepsPromiseNow}
-use Rattle.dali_progress.proofs.Lone.{IsLone, Moment, IsDueOf, due_of, heard_kept, acted_there, sent_there, lone_acted, lone_sent, acts_by}
+use Rattle.dali_progress.proofs.Lone.{IsLone, Moment, IsDueOf, due_of, heard_kept, acted_there, sent_there, lone_acted, lone_sent, acts_by, Rests}
 use Rattle.dali_progress.proofs.Frames.{Seeks}
-use Rattle.dali_progress.proofs.Both.{never_eight, with_kept, not_free, no_tries, addresses_by, put_no_enrolment, IsKnown, taken_of}
-use Rattle.dali_progress.proofs.Survey.Drawn.{apart_drawn}
-use Rattle.dali_progress.proofs.Survey.Queried.{OneShort, IsTrue, AreOwned, below_none}
-use Rattle.dali_progress.proofs.Survey.Stands.{Begun, survey_frames, SurveyAt, SurveyStands}
-use Rattle.dali_progress.proofs.Survey.Rolls.{IsSurveyTaken}
-use Rattle.dali_progress.proofs.Survey.Sent.{IsTold, SurveySent, survey_sent}
-use Rattle.dali_progress.proofs.Survey.Begins.{IsAtHand, Calm, SurveyCommits, IsPut, IsNext, asks_on}
+use Rattle.dali_progress.proofs.Both.{never_eight, not_free, no_tries, addresses_by, put_no_enrolment, IsKnown, taken_of, lawful_now, no_enrolment_yet}
+use Rattle.dali_progress.proofs.Survey.Queried.{OneShort, IsTrue, below_none, IsAtHand, AreOwned, IsPassed, core_self, unseen, unseen_was}
+use Rattle.dali_progress.proofs.Survey.Stands.{Begun, survey_frames, SurveyAt, SurveyStands, SurveyEnds}
+use Rattle.dali_progress.proofs.Survey.Sent.{SurveySent, survey_sent}
+use Rattle.dali_progress.proofs.Survey.Begins.{IsPut, IsNext, asks_on}
 use Rattle.dali_progress.proofs.Survey.Turns.{IsUncontradicted}
 use Rattle.dali_progress.proofs.Survey.Visits.{turned}
 use Rattle.dali_progress.proofs.Survey.Kept.{committed, begins_less, spared, spared_few, survey_slack}
-use Rattle.dali_progress.proofs.Along.{Measure, Goes, slack_at}
+use Rattle.dali_progress.proofs.Along.{Measure, Goes, slack_at, Argument, Runs, held_ended, runs_first, with_left, HoldsBy, holds_next, acts_from}
+use Rattle.dali_progress.proofs.Stands.{Sends, sends_of}
+use Rattle.dali_progress.proofs.Census.Asked.{sending_of}
+use Rattle.dali_progress.proofs.Surveying.{quiet_roll, quiet_draw, quiet_asked}
+use Rattle.std.proofs.lemmas.Nat.Bits.{bit_at-zero}
+use Rattle.std.proofs.lemmas.List.{append-nil}
+use Rattle.dali_script.specs.declared.orders.End.{End}
+use Rattle.dali_script.specs.declared.orders.End.TheVariants.{AllFound, BlockFull, GaveUp}
+use Rattle.dali_events.specs.Runs.{IsRun}
+use Rattle.dali_events.specs.Wanted.{gear_of}
+use Rattle.dali_events.proofs.Invariant.Agreeing.{findings_agree_in}
+use Rattle.dali_events.proofs.Invariant.Safe.{keeps_promise, holds_after}
+use Rattle.dali_events.proofs.Invariant.Sparing.{one_owner}
+use Rattle.dali_world.specs.Site.{SiteState, world, site_logged, machine_at}
+use Rattle.dali_progress.specs.Ends.{AreTabled, SurveyEndsWell, IsSurveyDone, IsUnseen, NamesAll, table_at}
+use Rattle.dali_progress.proofs.Logged.{world_logged, drawn_now, kept_now, block_now}
+use Rattle.dali_progress.proofs.Survey.Drawn.{numbered_of, drew_apart}
 
 -- A SURVEY GOES ON, event by event.
 
@@ -85,11 +97,17 @@ pub record Hears (start : Begun) (m : Machine) (p : ℕ) (f : Forward) (h : Answ
   pub running : stage_of (machine_heard m (Some f) h).trace ≡ stage.Free → ⊥
   pub put : IsPut p m
 
+abbrev Next : Begun → ℕ → Machine → Order → List Gear → Type 0
+Next start left m o gs = IsNext start m o gs left × IsWhole m
+
+abbrev First : Begun → ℕ → Machine → List Gear → Type 0
+First start left m gs = IsUnsurveyed start m gs left
+
+abbrev HeardSo : Begun → ℕ → Machine → ℕ → Forward → Answer → List Gear → Type 0
+HeardSo start left m p f h gs = Hears start m p f h gs left
+
 abbrev pub Holds : Begun → Machine → Option Order → Option Input → List Gear → ℕ → Type 0
-Holds start m None (Some input.Start) gs left = IsUnsurveyed start m gs left
-Holds start m (Some (Put p f)) (Some (input.Heard h)) gs left = Hears start m p f h gs left
-Holds start m (Some o) None gs left = IsNext start m o gs left
-Holds start m _ _ gs left = ⊥
+Holds start m last told gs left = HoldsBy (First start left) (HeardSo start left) (Next start left) m last told gs
 
 -- ---------------------------------------------------------------- what it found
 
@@ -145,11 +163,6 @@ uncontradicted w c t agree there kept found x is contradicts =
 abbrev ActsTo : Begun → Machine → Order → List Gear → ℕ → Option Order → Option Input → Type 0
 ActsTo start n o gs left last told = IsNext start n o gs left × (survey_slack (Some o) None + 1 ≤ survey_slack last told)
 
-commit_slack : (x : Record) (told : Option Input) → survey_slack (Some (Commit x)) told ≡ survey_slack (Some (Commit x)) None
-commit_slack (Enrol a r) told = refl
-commit_slack (Reserve a r) told = refl
-commit_slack (Release a r) told = refl
-
 -- the first frame of a transaction finds nobody
 first_finds : (c : Command) (h : Answer) → finding_at (next_stage stage.Free c h) ≡ None
 first_finds (RandomByte a High) h = refl
@@ -180,16 +193,13 @@ order_slack start m p f h (Commit x) gs left hears g = omega arith
 order_slack start m p f h (Done e) gs left hears g = omega arith
 order_slack start m p f h (Halt why) gs left hears g = omega arith
 
-no_enrolment_yet : IsNoEnrolment None
-no_enrolment_yet b n e = cc
-
 first_acts : (start : Begun) (m : Machine) (o : Order) (gs : List Gear) (left : ℕ) (told : Option Input) → m.last ≡ None
     → IsGivenBy (machine_surveying m) o → OneShort gs → IsTrue m.kept.enrolled gs → IsUnsurveyed start m gs left
     → ActsTo start (machine_ordered (machine_surveying m) o) o gs left None told
 first_acts start m o gs left told last g one holds v =
     let at : stage_of m.trace ≡ stage.Free = ap stage_of v.free ∙ stage_none in
     let begins : o ≡ beginning (next_course (machine_surveying m)) =
-    given.begins_free (machine_surveying m) o g v.free (subst IsNoEnrolment (sym last) no_enrolment_yet) (never_eight m.tries v.tries) in (
+    given.begins_free (machine_surveying m) o g v.free (no_enrolment_yet m.last last) (never_eight m.tries v.tries) in (
       asks_on start (machine_surveying m) o 0 gs left (record {
         tries = v.tries;
         silent = v.silent;
@@ -205,57 +215,6 @@ first_acts start m o gs left told last g one holds v =
     count : (wake : ℕ) → 192 + wake ≤ left → 3 * (64 - 0) + wake ≤ left
     count wake enough = omega (arith, enough)
 
-heard_acts : (start : Begun) (m : Machine) (p : ℕ) (f : Forward) (h : Answer) (o : Order) (gs : List Gear) (left : ℕ)
-    → m.last ≡ Some (Put p f) → IsGivenBy (machine_told m (input.Heard h)) o → IsAtHand m.kept gs
-    → IsUncontradicted (machine_told m (input.Heard h)) → IsWhole (machine_after m (input.Heard h) o) → Hears start m p f h gs left
-    → ActsTo start (machine_after m (input.Heard h) o) o gs left (Some (Put p f)) (Some (input.Heard h))
-heard_acts start m p f h o gs left is g hand agreed whole hears = (
-  subst (λ t. IsNext start (machine_ordered t o) o gs left) (sym same)
-      (turned start (machine_heard m (Some f) h) o gs left (subst (λ t. IsGivenBy t o) same g) hears.stands hand (subst IsUncontradicted same agreed)
-      (subst (λ t. IsWhole (machine_ordered t o)) same whole) (put_no_enrolment p f m.last is) hears.running),
-  order_slack start m p f h o gs left hears (subst (λ t. IsGivenBy t o) same g),
-) where
-  same : machine_told m (input.Heard h) ≡ machine_heard m (Some f) h
-  same = ap (λ l. machine_heard m (frame_put l) h) is
-
-kept_acts : (start : Begun) (m : Machine) (x : Record) (o : Order) (gs : List Gear) (left : ℕ) (told : Option Input) → m.last ≡ Some (Commit x)
-    → IsGivenBy (machine_told m input.Committed) o → IsKept m.kept → OneShort gs
-    → IsTrue (machine_told m input.Committed).kept.enrolled gs → m.trace ≡ [] → Calm m × SurveyCommits start m x gs left
-    → ActsTo start (machine_after m input.Committed o) o gs left (Some (Commit x)) told
-kept_acts start m x o gs left told is g kept one holds free commits =
-    let to = committed start m x o gs left commits.0 commits.1 free is kept.reserved (subst (λ t. IsGivenBy t o) same g) one
-    (subst (λ (t : Machine). IsTrue t.kept.enrolled gs) same holds) in (
-      subst (λ t. IsNext start (machine_ordered t o) o gs left) (sym same) to.0,
-      subst (λ n. survey_slack (Some o) None + 1 ≤ n) (sym (commit_slack x told)) to.1,
-    )
-  where
-    same : machine_told m input.Committed ≡ with_kept m x
-    same = ap (λ l. machine_committed m (record_ordered l)) is
-
-acts : (start : Begun) (w : World) (q c : ℕ) (m : Machine) (out : Option Record) (last : Option Order) (told : Option Input) (i : Input) (o : Order)
-    (left : ℕ) → Moment w q c m out last told → m.last ≡ last → IsDueOf last told i → Succeeds true i → IsGivenBy (machine_told m i) o
-    → IsAtHand m.kept w.gear → IsTrue (machine_told m i).kept.enrolled w.gear
-    → ((b : Answer) → i ≡ input.Heard b → IsUncontradicted (machine_told m i)) → IsWhole (machine_after m i o)
-    → Holds start m last told w.gear left → ActsTo start (machine_after m i o) o w.gear left last told
-acts start w q c m out last told i o left at is due surveys g hand true_table agreed whole holds =
-    acts_by true (λ l t j. Moment w q c m out l t → m.last ≡ l → IsGivenBy (machine_told m j) o → IsTrue (machine_told m j).kept.enrolled w.gear
-    → ((b : Answer) → j ≡ input.Heard b → IsUncontradicted (machine_told m j)) → IsWhole (machine_after m j o) → Holds start m l t w.gear left
-    → ActsTo start (machine_after m j o) o w.gear left l t)
-    (λ at is g true_table agreed whole holds. first_acts start m o w.gear left (Some input.Start) is g hand.one hand.holds holds)
-    (λ p f h at is g true_table agreed whole holds. heard_acts start m p f h o w.gear left is g hand (agreed h refl) whole holds)
-    (λ x at is g true_table agreed whole holds. kept_acts start m x o w.gear left None is g hand.kept hand.one true_table at.1 holds)
-    w q c m out last told i at due surveys at is g true_table agreed whole holds
-
--- ---------------------------------------------------------------- one event more of the controller
-
-holds_next : (start : Begun) (m : Machine) (o : Order) (gs : List Gear) (left : ℕ) → IsNext start m o gs left → Holds start m (Some o) None gs left
-holds_next start m (Put p f) gs left next = next
-holds_next start m _ gs left next = next
-
-pub next_holds : (start : Begun) (m : Machine) (o : Order) (gs : List Gear) (left : ℕ) → Holds start m (Some o) None gs left → IsNext start m o gs left
-next_holds start m (Put p f) gs left next = next
-next_holds start m _ gs left next = next
-
 -- what is known of the world of a run
 pub record IsSurveyed (w : World) (c : ℕ) : Type 0 where
   pub hand : IsAtHand (controller_at w c).records w.gear
@@ -265,52 +224,69 @@ pub record IsSurveyed (w : World) (c : ℕ) : Type 0 where
 abbrev pub of_survey : Begun → Measure
 of_survey start = record { by = true; known = IsFound; holds = Holds start; slack = survey_slack; events = λ left. 3 * left }
 
+-- what is known once it has acted: of the records and of the gear before; its finding is that of the controller; what it was told
+-- leaves its table true, which does not contradict what the transaction found
+pub record IsActedSo (w : World) (c : ℕ) (m : Machine) (i : Input) (o : Order) : Type 0 where
+  pub hand : IsAtHand m.kept w.gear
+  pub found : IsFound (controller_at (happens w (event.Acted c i o)) c) (machine_after m i o)
+  pub holds : IsTrue (machine_told m i).kept.enrolled w.gear
+  pub agreed : (b : Answer) → i ≡ input.Heard b → IsUncontradicted (machine_told m i)
+
+pub acted_so : (w : World) (q c : ℕ) (m : Machine) (i : Input) (o : Order) → IsLone w q c m → IsFound (controller_at w c) m → Succeeds true i
+    → Allowed w (event.Acted c i o) → IsGivenBy (machine_told m i) o → IsSurveyed w c → KeepsPromiseNow (happens w (event.Acted c i o))
+    → IsActedSo w c m i o
+acted_so w q c m i o l was surveys here by known promise = record {
+  hand = subst (λ k. IsAtHand k w.gear) (sym l.kept) known.hand;
+  found = subst (λ k. IsFound k (machine_after m i o)) (sym (acted_there w c i o l.up)) (ordered_found (controller_at w c).finding (machine_told m i) o found);
+  holds = λ a r has. (
+      let there = promise.tables c (a, r) (lone.up.known, subst (λ k. Has k.enrolled (a, r)) lone.kept has) in
+      (there.0, there.1.0, there.1.1, there.2));
+  agreed = λ b is.
+      uncontradicted w c (machine_told m i) known.agree l.up.known (ap (λ j. (machine_told m j).kept) is ∙ heard_kept m (frame_put m.last) b ∙ l.kept) found;
+} where
+  lone : IsLone (happens w (event.Acted c i o)) q c (machine_after m i o)
+  lone = lone_acted true w q c m i o l surveys (addresses_by o by.ordered.addressing) here
+
+  found : later (controller_at w c).finding (finding_of (machine_told m i).trace) ≡ (controller_at w c).finding
+  found =
+      found_told w q c m (controller_at w c).outstanding (controller_at w c) (controller_at w c).last (controller_at w c).told i l.moment
+      (due_of (controller_at w c) i here.due) surveys refl was
+
 pub survey_acts : (start : Begun) (w : World) (q c : ℕ) (m : Machine) (i : Input) (o : Order) (left : ℕ) → Goes (of_survey start) w q c m left
     → Succeeds true i → Allowed w (event.Acted c i o) → IsGivenBy (machine_told m i) o → IsWhole (machine_after m i o) → IsSurveyed w c
     → KeepsPromiseNow (happens w (event.Acted c i o))
     → IsFound (controller_at (happens w (event.Acted c i o)) c) (machine_after m i o) × Holds start (machine_after m i o) (Some o) None w.gear left
     × (survey_slack (Some o) None + 1 ≤ slack_at (of_survey start) w c)
 survey_acts start w q c m i o left goes surveys here by whole known promise = (
-  subst (λ k. IsFound k (machine_after m i o)) (sym (acted_there w c i o goes.lone.up))
-      (ordered_found (controller_at w c).finding (machine_told m i) o found),
-  holds_next start (machine_after m i o) o w.gear left out.0,
+  so.found,
+  holds_next (First start left) (HeardSo start left) (Next start left) (machine_after m i o) o w.gear (out.0, whole),
   out.1,
 ) where
-  lone : IsLone (happens w (event.Acted c i o)) q c (machine_after m i o)
-  lone = lone_acted true w q c m i o goes.lone surveys (addresses_by o by.ordered.addressing) here
-
-  -- its table, with what was kept now
-  holds : IsTrue (machine_told m i).kept.enrolled w.gear
-  holds a r has =
-      let there = promise.tables c (a, r) (lone.up.known, subst (λ k. Has k.enrolled (a, r)) lone.kept has) in
-      (there.0, there.1.0, there.1.1, there.2)
-
-  found : later (controller_at w c).finding (finding_of (machine_told m i).trace) ≡ (controller_at w c).finding
-  found =
-      found_told w q c m (controller_at w c).outstanding (controller_at w c) (controller_at w c).last (controller_at w c).told i goes.lone.moment
-      (due_of (controller_at w c) i here.due) surveys refl goes.known
-
-  agreed : (b : Answer) → i ≡ input.Heard b → IsUncontradicted (machine_told m i)
-  agreed b is =
-      uncontradicted w c (machine_told m i) known.agree goes.lone.up.known
-      (ap (λ j. (machine_told m j).kept) is ∙ heard_kept m (frame_put m.last) b ∙ goes.lone.kept) found
+  so : IsActedSo w c m i o
+  so = acted_so w q c m i o goes.lone goes.known surveys here by known promise
 
   out : ActsTo start (machine_after m i o) o w.gear left (controller_at w c).last (controller_at w c).told
   out =
-      acts start w q c m (controller_at w c).outstanding (controller_at w c).last (controller_at w c).told i o left goes.lone.moment goes.lone.last
-      (due_of (controller_at w c) i here.due) surveys by (subst (λ k. IsAtHand k w.gear) (sym goes.lone.kept) known.hand) holds agreed whole goes.holds
+      acts_from (First start left) (HeardSo start left) (Next start left) true
+      (λ j n. IsTrue n.kept.enrolled w.gear × ((b : Answer) → j ≡ input.Heard b → IsUncontradicted n) × IsWhole (machine_ordered n o))
+      (λ l t n. ActsTo start (machine_ordered n o) o w.gear left l t) w q c m i o
+      (λ last given known v. first_acts start m o w.gear left (Some input.Start) last given so.hand.one so.hand.holds v)
+      (λ p f h is given known hears. (
+        turned start (machine_heard m (Some f) h) o w.gear left given hears.stands so.hand (known.1 h refl) known.2 (put_no_enrolment p f m.last is)
+            hears.running,
+        order_slack start m p f h o w.gear left hears given,
+      ))
+      (λ x is free given known next. committed start m x o w.gear left next.0.0 next.0.1 free is so.hand.kept.reserved given so.hand.one known.0)
+      goes.lone surveys here.due by (so.holds, so.agreed, whole) goes.holds
 
 -- ---------------------------------------------------------------- its frame is sent
 
 -- no stage on the way is one of a search that led to no gear
 never_silent : (told : Bool) (p : Purpose) (s : Stage) (k : Kept) (heard : Shorts) (asked : ℕ) (c : Course) (opened : Bool) (start : Begun)
     (gs : List Gear) (left : ℕ) → SurveyAt told p s k heard asked c start gs left → silent_after s opened 0 ≡ 0
-never_silent told (Asking a) (stage.Unanswered r) k heard asked c opened start gs left at = absurd at.1.stage_is
-never_silent told (Asking a) (stage.Inconclusive r other) k heard asked c opened start gs left at = absurd at.1.stage_is
-never_silent told Calling (stage.Unanswered r) k heard asked c opened start gs left at = absurd at.stage_is
-never_silent told Calling (stage.Inconclusive r other) k heard asked c opened start gs left at = absurd at.stage_is
-never_silent told Drawing (stage.Unanswered r) k heard asked c opened start gs left at = absurd at.stage_is
-never_silent told Drawing (stage.Inconclusive r other) k heard asked c opened start gs left at = absurd at.stage_is
+never_silent told (Asking a) s k heard asked c opened start gs left at = quiet_asked a s gs opened 0 at.1.ask.asked
+never_silent told Calling s k heard asked c opened start gs left at = quiet_roll s c.number gs opened 0 at.roll
+never_silent told Drawing s k heard asked c opened start gs left at = quiet_draw Drawing s c.number gs opened 0 tt at.draw
 never_silent told Hunting (stage.Unanswered r) k heard asked c opened start gs left at = absurd at.at.stage_is
 never_silent told Hunting (stage.Inconclusive r other) k heard asked c opened start gs left at = absurd at.at.stage_is
 never_silent told Visiting (stage.Unanswered r) k heard asked c opened start gs left at = absurd at.at.0.stage_is
@@ -371,6 +347,10 @@ found_sent w q c m p f h l last untold told running found =
     was : later (controller_at w c).finding (finding_of m.trace) ≡ (controller_at w c).finding
     was = subst (λ t. later (controller_at w c).finding (finding_of (informed_by m t).trace) ≡ (controller_at w c).finding) untold found
 
+pub sends_now : (m : Machine) (p : ℕ) (f : Forward) → m.last ≡ Some (Put p f) → IsWhole m
+    → Sends m.course.purpose m.course.number m.kept (stage_of m.trace) (command_of f)
+sends_now m p f last whole = sends_of m.course.purpose m.course.number m.kept (stage_of m.trace) (command_of f) (sending_of m p f last whole).sends
+
 pub survey_sends : (start : Begun) (w : World) (q c : ℕ) (m : Machine) (p : ℕ) (f : Forward) (h : Answer) (left : ℕ) → Goes (of_survey start) w q c m left
     → m.last ≡ Some (Put p f) → (controller_at w c).told ≡ None → Allowed w (event.Sent c f h) → IsKnown w c f h → IsSurveyed w c
     → h ≡ heard_of (answers_of Everyone (command_of f) 0 w.gear)
@@ -378,25 +358,143 @@ pub survey_sends : (start : Begun) (w : World) (q c : ℕ) (m : Machine) (p : �
     × Hears start m p f h (row_after Everyone (command_of f) 0 w.gear w.left) l
 survey_sends start w q c m p f h left goes last told here known surveyed heard =
     let lone = lone_sent w q c m p f h goes.lone last told in
-    let holds : IsNext start m (Put p f) w.gear left = next_holds start m (Put p f) w.gear left (rw (sym goes.lone.last ∙ last, told) at goes.holds) in
+    let holds : Next start left m (Put p f) w.gear = rw (sym goes.lone.last ∙ last, told) at goes.holds in
     let same : w.trace ≡ m.trace = lone.3 in
-    let taken : IsSurveyTaken (command_of f) w.gear w.left h =
-    record { taken = taken_of w c f h here known heard; one = surveyed.hand.one; numbered = surveyed.hand.numbered; apart = apart_drawn w known.drawn } in
-    let told_so : IsTold m.kept w.gear =
-    record {
-      kept = subst IsKept (sym goes.lone.kept) surveyed.hand.kept;
-      owned = subst (λ (k : Kept). AreOwned k.reserved w.gear) (sym goes.lone.kept) surveyed.hand.owned;
-    } in
+    let told_so : IsAtHand m.kept w.gear = subst (λ k. IsAtHand k w.gear) (sym goes.lone.kept) surveyed.hand in
     let sent : SurveySent m.course.purpose (stage_of m.trace) m.kept m.heard m.asked m.course start w.gear w.left left (command_of f) h =
-    survey_sent m.course.purpose (stage_of m.trace) m.kept m.heard m.asked m.course start w.gear w.left left (command_of f) h holds.0.at holds.1 taken told_so
+    survey_sent m.course.purpose (stage_of m.trace) m.kept m.heard m.asked m.course start w.gear w.left left (command_of f) h holds.0.0.at
+    (sends_now m p f last holds.1) (taken_of w c f h here known heard) told_so
     (subst (λ t. Seeks (stage_of t) w.gear) same known.seeks) in
-    let lawful : IsLawful m.trace f = (
-      (controller_at w c).records.block,
-      (controller_at w c).records.reserved,
-      subst (λ t. Lawful (controller_at w c).records.block (controller_at w c).records.reserved t f) lone.2 (lawful_of w c f here.may),
-    ) in (
+    let lawful : IsLawful m.trace f = lawful_now w c m.trace f h lone.2 here in (
       sent.0,
       sent.1,
       found_sent w q c m p f h goes.lone last told lone.1 lone.2 goes.known,
-      record { stands = stands_heard start m f h w.gear w.left left holds.0 lawful sent; running = not_free m.trace (entry f h); put = holds.2 },
+      record { stands = stands_heard start m f h w.gear w.left left holds.0.0 lawful sent; running = not_free m.trace (entry f h); put = holds.0.1 },
     )
+
+-- THE SECOND ARGUMENT, its start, and its end.
+
+-- with these gear and records
+abbrev pub began_at : SiteState → ℕ → Begun
+began_at s c = record { gear = (world s).gear; kept = (controller_at (world s) c).records }
+
+-- what is known of it, since its log is a run
+pub promise_now : (s : SiteState) → IsRun s.plan s.queue s.log → KeepsPromiseNow (world s)
+promise_now s run = (keeps_promise s.plan s.queue s.log run).always s.log [] (append-nil s.log)
+
+pub one_now : (s : SiteState) → IsRun s.plan s.queue s.log → OneShort (world s).gear
+one_now s run g h a in_row there one two = (promise_now s run).one_gear g h a (in_row, one) (there, two)
+
+pub true_now : (s : SiteState) (c : ℕ) → IsRun s.plan s.queue s.log → IsUp (world s) c → IsTrue (controller_at (world s) c).records.enrolled (world s).gear
+true_now s c run up a r has = let there = (promise_now s run).tables c (a, r) (up.known, has) in (there.0, there.1.0, there.1.1, there.2)
+
+pub owned_now : (s : SiteState) (c : ℕ) → IsRun s.plan s.queue s.log → IsUp (world s) c → AreOwned (controller_at (world s) c).records.reserved (world s).gear
+owned_now s c run up a r i has there short =
+    let all = holds_after s.plan s.queue s.log run in
+    one_owner s.plan (world s).controllers run.plan all.reserves all.spares a (gear_of (world s).gear i).random r
+    (all.gifts.reserved i a ((all.gifts.holds i a there).0 short)) (inl (c, up.known, has))
+
+pub agree_now : (s : SiteState) → IsRun s.plan s.queue s.log → FindingsAgree (world s)
+agree_now s run = findings_agree_in s.plan s.queue s.log [] (subst (λ es. IsRun s.plan s.queue es) (sym (append-nil s.log)) run)
+
+pub surveyed_now : (s : SiteState) (c : ℕ) → IsRun s.plan s.queue s.log → IsUp (world s) c → IsSurveyed (world s) c
+surveyed_now s c run up =
+    record {
+      hand = record {
+        kept = kept_now s c run up;
+        block = block_now s c run up;
+        numbered = numbered_of (world s) (drawn_now s run);
+        apart = drew_apart (world s) (drawn_now s run);
+        one = one_now s run;
+        holds = true_now s c run up;
+        owned = owned_now s c run up;
+      };
+      agree = agree_now s run;
+    }
+
+pub argument : (start : Begun) → Argument (of_survey start)
+argument start = record {
+  acts = λ s c m i o left run now goes surveys here given whole.
+      survey_acts start (world s) s.queue c m i o left goes surveys here given (whole refl) (surveyed_now s c run goes.lone.up)
+      (subst KeepsPromiseNow (world_logged s (event.Acted c i o)) (promise_now (site_logged s (event.Acted c i o)) now));
+  sends = λ s c m p f h left run goes last told here known heard.
+      survey_sends start (world s) s.queue c m p f h left goes last told here known (surveyed_now s c run goes.lone.up) heard;
+  spends = λ p f h rest left is. omega (arith, is);
+  halts = λ m why gs left holds. holds.0;
+  first = refl;
+}
+
+-- THE START
+pub starts : (s : SiteState) (c : ℕ) → IsAlone s c → Runs (of_survey (began_at s c)) s c (most_frames BySurvey (bare s))
+starts s c a =
+    runs_first IsFound (with_left (of_survey (began_at s c)) (most_frames BySurvey (bare s))) s c a (rw a.told refl)
+    (record {
+      tries = refl;
+      silent = refl;
+      free = refl;
+      kept = refl;
+      unmarked = λ b. ap (λ n. n == 1) (bit_at-zero b);
+      unopened = refl;
+      unasked = refl;
+      first = refl;
+      same = core_self (world s).gear;
+      frames = omega arith;
+    })
+
+-- ---------------------------------------------------------------- an end says what is true
+
+-- what an end leaves
+pub record EndsBy (s after : SiteState) (c : ℕ) (e : End) : Type 0 where
+  pub machine : Machine
+  pub there : machine_at after c ≡ Some machine
+  pub kept : machine.kept ≡ (controller_at (world after) c).records
+  pub well : SurveyEnds e machine.kept machine.heard (world after).gear
+  pub tabled : AreTabled (unseen (world s).gear) machine.kept.enrolled (world after).gear
+  pub settled : IsSettledAt s c → IsSettled machine.kept
+  pub run : IsRun after.plan after.queue after.log
+  pub up : IsUp (world after) c
+  pub rests : Rests (world after) after.queue
+
+pub ended_by : (s after : SiteState) (c left : ℕ) (e : End) → Runs (of_survey (began_at s c)) after c left → HasEnded after c e → EndsBy s after c e
+ended_by s after c left e r ended =
+    let at = held_ended (of_survey (began_at s c)) after c left e r ended in
+    record {
+      machine = r.machine;
+      there = r.there;
+      kept = r.goes.lone.kept;
+      well = at.0.0.0;
+      tabled = at.0.0.1;
+      settled = at.0.0.2;
+      run = r.run;
+      up = r.goes.lone.up;
+      rests = at.1;
+    }
+
+ends_so : (e : End) (m : Machine) (gs : List Gear) → SurveyEnds e m.kept m.heard gs → SurveyEndsWell e m gs
+ends_so AllFound m gs well = well
+ends_so BlockFull m gs full = full
+ends_so GaveUp m gs well = well
+
+one_machine : (x y : Machine) → Some x ≡ Some y → x ≡ y
+one_machine x y e = cc
+
+pub ends : (s after : SiteState) (c : ℕ) (e : End) → EndsBy s after c e → IsSurveyDone after c e
+ends s after c e by m there = subst (λ n. SurveyEndsWell e n (world after).gear) (one_machine by.machine m (sym by.there ∙ there))
+    (ends_so e by.machine (world after).gear by.well)
+
+-- settled records stay so
+pub ends_settled : (s after : SiteState) (c : ℕ) (e : End) → EndsBy s after c e → IsSettledAt s c → IsSettledAt after c
+ends_settled s after c e by settled = subst IsSettled by.kept (by.settled settled)
+
+pub tabled : (s after : SiteState) (c : ℕ) (e : End) → EndsBy s after c e → NamesAll true s (table_at after c) after
+tabled s after c e by g short in_row small is = go (by.tabled g short in_row is) where
+  passed : IsPassed (gear_of (world s).gear g) short → IsUnseen (gear_of (world s).gear g)
+  passed (inl off) = inl off
+  passed (inr (inl mask)) = inr mask
+  passed (inr (inr large)) = absurd (omega (arith, small, large))
+
+  go : ((gear_of (unseen (world s).gear) g).short ≡ Some short) ⊎ Has by.machine.kept.enrolled (short, (gear_of (world after).gear g).random)
+      → Has (table_at after c) (short, (gear_of (world after).gear g).random)
+      ⊎ (((gear_of (world s).gear g).short ≡ Some short) × IsUnseen (gear_of (world s).gear g))
+  go (inr has) = inl (subst (λ k. Has k.enrolled (short, (gear_of (world after).gear g).random)) by.kept has)
+  go (inl had) = let was = unseen_was (world s).gear g short had in inr (was.0, passed was.1)

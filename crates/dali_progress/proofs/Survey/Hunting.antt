@@ -1,17 +1,14 @@
-use Rattle.std.proofs.Common.{◌≡◌, ℕ, ◌+◌, ◌*◌, ◌<◌, ◌≤◌, inl, inr, Bool, true, false, zero, suc, List, refl, sym, ap, subst, ◌∙◌, arith, Option}
-use Rattle.std.proofs.Common.{Some, None}
+use Rattle.std.proofs.Common.{◌≡◌, ℕ, ◌+◌, ◌*◌, ◌<◌, ◌≤◌, inl, inr, Bool, true, false, zero, suc, List, refl, sym, ap, subst, ◌∙◌, arith, Option, Some, None}
 use Rattle.std.specs.Prelude.{◌==◌, ◌&&◌, nat_lt, if◌then◌else◌, is_some}
 use Rattle.std.specs.List.{count_by}
 use Rattle.std.proofs.lemmas.Bool.Decides.{nat_tests}
 use Rattle.dali_frame.specs.declared.frames.Answer.{Answer}
+use Rattle.dali_frame.specs.declared.frames.Forward.{Forward}
 use Rattle.dali_frame.specs.declared.numbers.SearchAddress.{SearchAddress}
 use Rattle.dali_frame.specs.Random.{MASK24}
 use Rattle.dali_frame.specs.Priority.{LATER}
 use Rattle.dali_special.specs.declared.command.Command.{Command}
-use Rattle.dali_special.specs.declared.command.Command.TheVariants.{Initialise, Randomise, Compare, SearchHigh, SearchMiddle, SearchLow}
-use Rattle.dali_special.specs.Command.{frame_of, IsSpelled}
-use Rattle.dali_special.proofs.Table.{read_written}
-use Rattle.dali_special.specs.declared.command.Target.TheVariants.{Unaddressed}
+use Rattle.dali_special.specs.Command.{frame_of}
 use Rattle.dali_gear.specs.Gear.{Gear}
 use Rattle.dali_script.specs.declared.stage.Stage.{Stage}
 use Rattle.dali_script.specs.declared.stage.Stage.TheVariants as stage
@@ -24,8 +21,8 @@ use Rattle.dali_search.specs.declared.step.Step.TheVariants.{Again, Found, Nobod
 use Rattle.dali_search.specs.Ascending.{Ascent, asked_next, ascended, leads_to}
 use Rattle.dali_search.specs.Questions as questions
 use Rattle.dali_search.specs.Questions.{Asking, asking_next, room_left}
-use Rattle.dali_controller.specs.declared.purpose.Purpose.TheVariants.{Hunting, Drawing}
-use Rattle.dali_controller.specs.Course.{Course, is_yes, least_open, sought, byte_to_send, next_unfinished, searching_first, asking_again}
+use Rattle.dali_controller.specs.declared.purpose.Purpose.TheVariants.{Hunting}
+use Rattle.dali_controller.specs.Course.{Course, is_yes, least_open, sought, byte_to_send, next_unfinished, searching_first, asking_again, turn_of}
 use Rattle.dali_controller.specs.Course.{bytes_to_send, hunting, hunted, visiting, calling, drawing, closing as closing_by}
 use Rattle.dali_controller.specs.Machine.{Machine}
 use Rattle.dali_controller.specs.Next.{next_course, begins_at, beginning, has_open, hunted_to, is_hunting, question, asks_again, full, undrawn, nobody_left}
@@ -34,24 +31,23 @@ use Rattle.dali_controller.specs.Orders.{machine_ordered, asked_by}
 use Rattle.dali_controller.proofs.Given as given
 use Rattle.dali_controller.proofs.Given.{IsGivenBy, IsNoEnrolment}
 use Rattle.dali_events.specs.Searching.{HasShort}
-use Rattle.dali_events.specs.Wanted.{IsOpened, NoneNamed, gear_of, is_wanted, wants, is_bare, OfPowered}
+use Rattle.dali_events.specs.Wanted.{IsOpened, NoneNamed, gear_of, is_wanted, is_bare, OfPowered}
 use Rattle.dali_events.proofs.Search.Wanted as wanted
 use Rattle.dali_events.proofs.Search.Opened as opening
 use Rattle.dali_progress.specs.Ends.{AreTabled}
 use Rattle.dali_progress.specs.Rounds.{IsSettled}
-use Rattle.dali_progress.proofs.Stands.{search_frames, Sends}
+use Rattle.dali_progress.proofs.Stands.{search_frames}
 use Rattle.dali_progress.proofs.Frames.{value_sought}
-use Rattle.dali_progress.proofs.Both.{never_eight}
+use Rattle.dali_progress.proofs.Both.{never_eight, visits_first}
 use Rattle.dali_progress.proofs.Survey.Drawn.{those_drawn, is_undrawn, is_lost, bare_split, drawn_tabled, tabled_drawn, kept_at, drawn_length, undrawn_random}
 use Rattle.dali_progress.proofs.Survey.Queried.{unseen}
 use Rattle.dali_progress.proofs.Survey.Woken.{AreLow, none_bare, opened_lost, drawn_is, drawn_none_named}
-use Rattle.dali_progress.proofs.Survey.Stands.{Begun, IsClear, IsFirstDraw, IsCalledFor, NoneDrawn, Draws, draw_left, called_after}
-use Rattle.dali_progress.proofs.Survey.Stands.{hunted_after, roll_frames}
-use Rattle.dali_progress.proofs.Survey.Stands.{frames_after, Rises, Hunts, IsSmooth, SurveyStands}
+use Rattle.dali_progress.proofs.Survey.Stands.{Begun, IsFirstDraw, IsCalledFor, Draws, called_after, hunted_after, roll_frames, frames_after, Rises, Hunts}
+use Rattle.dali_progress.proofs.Survey.Stands.{IsSmooth, SurveyStands}
 use Rattle.dali_progress.proofs.Survey.Rising.{bytes_same, Answered, answered_rise, rises_new, rises_in, IsReachedAt, rise_found, rise_nobody}
-use Rattle.dali_progress.proofs.Survey.Begins.{Calm, IsNext, IsHunted, calm_of, smooth_as, turns_by, first_by, hunts_by, hunts_first, hunted_some, called_roll}
-use Rattle.dali_progress.proofs.Survey.Begins.{all_taken}
+use Rattle.dali_progress.proofs.Survey.Begins.{Calm, IsNext, IsHunted, calm_of, smooth_as, first_by, hunts_by, hunts_first, hunted_some, called_roll, all_taken}
 use Rattle.dali_progress.proofs.Survey.Turns.{found_at}
+use Rattle.dali_progress.proofs.Surveying.{NoneDrawn, draw_left, roll_first, IsClear}
 
 -- A CONTROLLER THAT SURVEYS ACTS, while gear draw, and while it searches.
 
@@ -63,27 +59,28 @@ drawn_frames zero lost bare left same none there enough = absurd (omega (arith, 
 drawn_frames (suc n) (suc lost) bare left same none there enough = absurd (omega (arith, none))
 drawn_frames (suc n) zero bare left same none there enough = omega (arith, same, enough)
 
-drawn_turns : (start : Begun) (t : Machine) (o : Order) (gs : List Gear) (left : ℕ) → IsGivenBy t o → SurveyStands true start t gs left
+pub drawn_turns : (start : Begun) (t : Machine) (o : Order) (gs : List Gear) (left : ℕ) → IsGivenBy t o → SurveyStands true start t gs left
     → IsNoEnrolment t.last → stage_of t.trace ≡ stage.Opened → Draws stage.Opened t.kept t.heard t.course start gs left
     → IsNext start (machine_ordered t o) o gs left
 drawn_turns start t o gs left g st last is v =
     hunts_first start t o t.course gs left (calm_of start t gs left st)
     (given.begins_after t o stage.Opened g is tt (found_at start t gs left stage.Opened st is) last (never_eight t.tries st.tries))
     (ap (begins_at t) is ∙ ap (λ y. searching_first y t.course) st.smooth.way) st.smooth
-    (record { opened = v.opened_is; loud = v.loud; first = λ some. absurd (omega (arith, some, none)); low = v.low }) v.somebody v.clear v.settled ready unnamed
+    (record { opened = v.opened_is; loud = v.loud; first = λ some. absurd (omega (arith, some, none)); low = v.draw.low })
+    v.somebody v.clear v.settled ready unnamed
     (tabled_drawn (unseen start.gear) t.kept.enrolled gs v.tabled)
     (drawn_frames (count_by is_wanted (those_drawn gs)) (count_by is_lost gs) (count_by is_bare gs) left
     (count (count_by is_wanted (those_drawn gs)) (count_by is_bare (those_drawn gs)) (count_by is_lost gs) (count_by is_bare gs)
     (wanted.wanted_count (those_drawn gs) ready unnamed) (bare_split gs) none) none v.somebody (frames v.frames))
   where
     none : count_by is_lost gs ≡ 0
-    none = opened_lost gs v.gear
+    none = opened_lost gs v.draw.gear
 
     ready : IsOpened (those_drawn gs)
-    ready = drawn_is gs (opening.opened_is gs v.gear)
+    ready = drawn_is gs (opening.opened_is gs v.draw.gear)
 
     unnamed : NoneNamed (those_drawn gs)
-    unnamed = drawn_none_named gs (opening.opened_none_named gs v.gear)
+    unnamed = drawn_none_named gs (opening.opened_none_named gs v.draw.gear)
 
     count : (wanted drew lost bare : ℕ) → wanted ≡ drew → bare ≡ drew + lost → lost ≡ 0 → wanted ≡ bare
     count wanted drew lost bare same split none = omega (arith, same, split, none)
@@ -91,27 +88,6 @@ drawn_turns start t o gs left g st last is v =
     frames : draw_left stage.Opened + 106 * count_by is_bare gs + 26 ≤ left
         → 106 * count_by is_bare gs + 26 ≤ left
     frames enough = omega (arith, enough)
-
-pub drawing_turns : (start : Begun) (t : Machine) (o : Order) (s : Stage) (gs : List Gear) (left : ℕ) → IsGivenBy t o → SurveyStands true start t gs left
-    → IsNoEnrolment t.last → t.course.purpose ≡ Drawing → stage_of t.trace ≡ s → (s ≡ stage.Free → ⊥)
-    → Draws s t.kept t.heard t.course start gs left → IsNext start (machine_ordered t o) o gs left
-drawing_turns start t o stage.Free gs left g st last purpose is running v = absurd (running refl)
-drawing_turns start t o stage.Terminated gs left g st last purpose is running v =
-    turns_by start t o Drawing stage.Terminated (Initialise Unaddressed) gs left g st purpose is refl tt refl
-drawing_turns start t o stage.InitialisedOnce gs left g st last purpose is running v =
-    turns_by start t o Drawing stage.InitialisedOnce (Initialise Unaddressed) gs left g st purpose is refl tt refl
-drawing_turns start t o stage.Initialised gs left g st last purpose is running v =
-    turns_by start t o Drawing stage.Initialised _ gs left g st purpose is refl tt refl
-drawing_turns start t o (stage.WokenHigh high) gs left g st last purpose is running v =
-    turns_by start t o Drawing (stage.WokenHigh high) _ gs left g st purpose is refl tt refl
-drawing_turns start t o (stage.WokenMiddle high middle) gs left g st last purpose is running v =
-    turns_by start t o Drawing (stage.WokenMiddle high middle) Compare gs left g st purpose is refl tt refl
-drawing_turns start t o stage.DrawFree gs left g st last purpose is running v =
-    turns_by start t o Drawing stage.DrawFree Randomise gs left g st purpose is refl tt refl
-drawing_turns start t o stage.RandomisedOnce gs left g st last purpose is running v =
-    turns_by start t o Drawing stage.RandomisedOnce Randomise gs left g st purpose is refl tt refl
-drawing_turns start t o stage.Opened gs left g st last purpose is running v = drawn_turns start t o gs left g st last is v
-drawing_turns start t o _ gs left g st last purpose is running v = absurd v.stage_is
 
 -- ---------------------------------------------------------------- nobody is left
 
@@ -125,7 +101,7 @@ none_but gs all k in_row on none = go (is_undrawn (gear_of gs k)) refl where
       let short = all k (subst (λ n. k < n) (sym (drawn_length gs)) in_row) (ap (λ (x : Gear). x.powered) same ∙ on) in
       absurd (let never : None ≡ Some short.0 = sym none ∙ (sym (ap (λ (x : Gear). x.short) same) ∙ short.1) in cc)
 
-hunted_next : (t : Machine) (h : Answer) (r : SearchAddress) (room : ℕ) (s : Step) → t.course.purpose ≡ Hunting
+pub hunted_next : (t : Machine) (h : Answer) (r : SearchAddress) (room : ℕ) (s : Step) → t.course.purpose ≡ Hunting
     → stage_of t.trace ≡ stage.Hunted r (Some h) room
     → leads_to (ascended t.course.ascent (is_yes h)) ≡ s → next_course t ≡ hunted_to t s (hunted t.course h)
 hunted_next t h r room s purpose is leads =
@@ -177,6 +153,14 @@ record IsOver (start : Begun) (t : Machine) (h : Answer) (gs : List Gear) (left 
   tabled : AreTabled (unseen start.gear) t.kept.enrolled (those_drawn gs)
   frames : 1 + hunted_after (t.course.ascent.found + count_by is_wanted (those_drawn gs)) (count_by is_lost gs) ≤ left
 
+-- what follows where nobody was found
+pub vain_next : (t : Machine) (h : Answer) (a b : Bool) → next_course t ≡ undrawn t (hunted t.course h) → has_open t ≡ a → nat_lt t.course.tally.draws 3 ≡ b
+    → next_course t ≡ (if a then (if b then drawing (hunted t.course h) else closing_by (hunted t.course h) GaveUp) else full t (hunted t.course h))
+vain_next t h a b next free few =
+    next ∙ ap (λ q. if q then (if nat_lt t.course.tally.draws 3 then drawing (hunted t.course h) else closing_by (hunted t.course h) GaveUp)
+    else full t (hunted t.course h)) free
+    ∙ ap (λ q. if a then (if q then drawing (hunted t.course h) else closing_by (hunted t.course h) GaveUp) else full t (hunted t.course h)) few
+
 -- nobody was found: those that never drew do, or no address is open
 vain_over : (start : Begun) (t : Machine) (o : Order) (h : Answer) (r : SearchAddress) (room : ℕ) (gs : List Gear) (left : ℕ) → Calm t
     → o ≡ question (next_course t) r room → next_course t ≡ undrawn t (hunted t.course h) → t.course.ascent.found ≡ 0 → IsOver start t h gs left
@@ -206,40 +190,30 @@ vain_over start t o h r room gs left calm asks next none v = go (has_open t) ref
   draws : nat_lt t.course.tally.draws 3 ≡ true
   draws = ap (λ n. nat_lt n 3) undrawn_yet
 
-  by : (b : Bool) → has_open t ≡ b
-      → next_course t ≡ (if b then (if nat_lt t.course.tally.draws 3 then drawing (hunted t.course h) else closing_by (hunted t.course h) GaveUp)
-      else full t (hunted t.course h))
-  by b is =
-      next ∙ ap (λ y. if y then (if nat_lt t.course.tally.draws 3 then drawing (hunted t.course h) else closing_by (hunted t.course h) GaveUp)
-      else full t (hunted t.course h)) is
-
   go : (b : Bool) → has_open t ≡ b → IsNext start (machine_ordered t o) o gs left
   go true is =
       first_by start t o (drawing (hunted t.course h)) gs left calm (begins_by t o (drawing (hunted t.course h)) r room asks drawn refl) drawn
-      (record { way = v.smooth.way; passed = v.smooth.passed; unmissed = v.smooth.unmissed }) tt
+      (record { way = v.smooth.way; passed = v.smooth.passed; unmissed = v.smooth.unmissed })
       (record {
         opened_is = v.opened;
-        stage_is = tt;
+        draw = record { stage_is = tt; drawn = (none_but gs v.all, refl); gear = λ k in_row on. tt; low = v.low };
         loud = v.loud;
         somebody = some;
-        drawn = (none_but gs v.all, refl);
         clear = v.clear;
         settled = v.settled;
-        gear = λ k in_row on. tt;
-        low = v.low;
         tabled = whole_table;
         frames = count (count_by is_bare gs) (count_by is_lost gs) lost frames;
       })
     where
       drawn : next_course t ≡ drawing (hunted t.course h)
-      drawn = by true is ∙ ap (λ y. if y then drawing (hunted t.course h) else closing_by (hunted t.course h) GaveUp) draws
+      drawn = vain_next t h true true next is draws
 
       count : (bare lost : ℕ) → bare ≡ lost → 106 * lost + 34 ≤ left → 8 + 106 * bare + 26 ≤ left
       count bare lost same enough = omega (arith, same, enough)
   go false is =
       first_by start t o (closing_by (hunted t.course h) BlockFull) gs left calm
       (begins_by t o (closing_by (hunted t.course h) BlockFull) r room asks closes refl) closes
-      (record { way = v.smooth.way; passed = v.smooth.passed; unmissed = v.smooth.unmissed }) tt
+      (record { way = v.smooth.way; passed = v.smooth.passed; unmissed = v.smooth.unmissed })
       (record {
         stage_is = tt;
         well = (some, all_taken t.kept t.heard (nothing_open t is));
@@ -249,7 +223,7 @@ vain_over start t o h r room gs left calm asks next none v = go (has_open t) ref
       })
     where
       closes : next_course t ≡ closing_by (hunted t.course h) BlockFull
-      closes = by false is ∙ never_full t (hunted t.course h) v.smooth.unmissed
+      closes = vain_next t h false true next is draws ∙ never_full t (hunted t.course h) v.smooth.unmissed
 
       count : (lost : ℕ) → 106 * lost + 34 ≤ left → 1 ≤ left + 0
       count lost enough = omega (arith, enough)
@@ -260,17 +234,14 @@ found_over : (start : Begun) (t : Machine) (o : Order) (h : Answer) (r : SearchA
     → IsNext start (machine_ordered t o) o gs left
 found_over start t o h r room gs left calm asks next some v =
     first_by start t o (calling (hunted t.course h)) gs left calm (begins_by t o (calling (hunted t.course h)) r room asks next refl) next
-    (record { way = v.smooth.way; passed = v.smooth.passed; unmissed = v.smooth.unmissed }) tt
+    (record { way = v.smooth.way; passed = v.smooth.passed; unmissed = v.smooth.unmissed })
     (record {
       opened_is = v.opened;
-      number = refl;
-      stage_is = tt;
+      roll = roll_first gs;
       quiet = λ silent. absurd (let both : true ≡ false = sym silent ∙ v.loud in cc);
       first = v.first;
       clear = v.clear;
       settled = v.settled;
-      gear = λ k in_row on. tt;
-      low = tt;
       tabled = drawn_tabled (unseen start.gear) t.kept.enrolled gs v.tabled;
       frames = subst (λ b. roll_frames b (count_by is_bare (those_drawn gs)) (count_by is_lost gs) ≤ left + 0)
           (sym v.loud)
@@ -307,14 +278,14 @@ hunt_over start t o h r room gs left calm asks next v = go ((hunted t.course h).
 
 -- ---------------------------------------------------------------- a hunt
 
--- COMPARE was answered
-byte_spelled : (n r : SearchAddress) → IsSpelled (byte_to_send n r)
-byte_spelled n r = go (r.high == n.high) (r.low == n.low) (r.middle == n.middle) where
-  go : (b d e : Bool) → IsSpelled (if b then (if d then (if e then Compare else SearchMiddle n.middle) else SearchLow n.low) else SearchHigh n.high)
-  go false d e = tt
-  go true false e = tt
-  go true true false = tt
-  go true true true = tt
+-- a machine that puts the next question in the same transaction
+pub later_asked : (t : Machine) (h : Answer) (r : SearchAddress) (room : ℕ) (f : Forward) → t.course.purpose ≡ Hunting
+    → stage_of t.trace ≡ stage.Hunted r (Some h) room → next_course t ≡ hunting (hunted t.course h)
+    → machine_ordered t (Put LATER f)
+    ≡ record t { last = Some (Put LATER f); course = hunting (hunted t.course h); asked = asked_by t.course.opened t.asked }
+later_asked t h r room f purpose is next =
+    ap (λ (d : Course). record t { last = Some (Put LATER f); course = d; asked = asked_by d.opened t.asked })
+    (ap (course_on t) is ∙ ap (λ p. asked_on t p h) purpose ∙ sym (ap (begins_at t) is ∙ ap (λ p. compared_in t p h) purpose) ∙ next)
 
 -- the next question, in the same transaction
 goes_on : (start : Begun) (t : Machine) (o : Order) (h : Answer) (r : SearchAddress) (room : ℕ) (gs : List Gear) (left : ℕ) → SurveyStands true start t gs left
@@ -323,7 +294,7 @@ goes_on : (start : Begun) (t : Machine) (o : Order) (h : Answer) (r : SearchAddr
     → Hunts false Hunting (stage.Hunted r (Some h) room) t.kept t.heard (hunting (hunted t.course h)) start gs left
     → IsNext start (machine_ordered t o) o gs left
 goes_on start t o h r room gs left st purpose is next sends v = subst (λ q. IsNext start (machine_ordered t q) q gs left) (sym sends)
-    (subst (λ m. IsNext start m (Put LATER (frame_of c)) gs left) (sym later) (
+    (subst (λ m. IsNext start m (Put LATER (frame_of c)) gs left) (sym (later_asked t h r room (frame_of c) purpose is next)) (
       record {
         tries = st.tries;
         silent = st.silent;
@@ -331,35 +302,28 @@ goes_on start t o h r room gs left st purpose is next sends v = subst (λ q. IsN
         trace = st.trace;
         at = subst (λ s. Hunts false Hunting s t.kept t.heard (hunting (hunted t.course h)) start gs left) (sym is) v;
       },
-      subst (λ d. Sends Hunting (hunting (hunted t.course h)).number t.kept (stage_of t.trace) d) (sym (read_written c (byte_spelled _ r)))
-          (subst (λ s. Sends Hunting (hunting (hunted t.course h)).number t.kept s c) (sym is) refl),
       inl refl,
     )) where
       c : Command
       c = byte_to_send (hunting (hunted t.course h)).number r
 
-      later : machine_ordered t (Put LATER (frame_of c))
-          ≡ record t { last = Some (Put LATER (frame_of c)); course = hunting (hunted t.course h); asked = asked_by t.course.opened t.asked }
-      later =
-          ap (λ (d : Course). record t { last = Some (Put LATER (frame_of c)); course = d; asked = asked_by d.opened t.asked })
-          (ap (course_on t) is ∙ ap (λ p. asked_on t p h) purpose ∙ sym (ap (begins_at t) is ∙ ap (λ p. compared_in t p h) purpose) ∙ next)
-
 -- which question is put, by whether there is room
-abbrev asked_where : (t : Machine) (h : Answer) (r : SearchAddress) (room : ℕ) → Bool → Order
-asked_where t h r room b =
-    if b then Put LATER (frame_of (byte_to_send (hunting (hunted t.course h)).number r)) else beginning (hunting (hunted t.course h))
+pub asked_where : (t : Machine) (o : Order) (h : Answer) (r : SearchAddress) (room : ℕ) (b : Bool) → o ≡ question (next_course t) r room
+    → next_course t ≡ hunting (hunted t.course h) → nat_lt (bytes_to_send (hunting (hunted t.course h)).number r) room ≡ b
+    → o ≡ (if b then Put LATER (frame_of (byte_to_send (hunting (hunted t.course h)).number r)) else beginning (next_course t))
+asked_where t o h r room b asks next fits =
+    asks ∙ ap (λ c. question c r room) next
+    ∙ rw fits (ap (λ c. if b then Put LATER (frame_of (byte_to_send (hunting (hunted t.course h)).number r)) else beginning c) (sym next))
 
 pub hunting_turns : (start : Begun) (t : Machine) (o : Order) (s : Stage) (gs : List Gear) (left : ℕ) → IsGivenBy t o → SurveyStands true start t gs left
     → t.course.purpose ≡ Hunting → stage_of t.trace ≡ s → (s ≡ stage.Free → ⊥)
-    → Hunts true Hunting s t.kept t.heard t.course start gs left → IsNext start (machine_ordered t o) o gs left
-hunting_turns start t o stage.Free gs left g st purpose is running v = absurd (running refl)
-hunting_turns start t o (stage.HighSent high) gs left g st purpose is running v =
-    turns_by start t o Hunting (stage.HighSent high) _ gs left g st purpose is refl tt refl
-hunting_turns start t o (stage.LowSent high low) gs left g st purpose is running v =
-    turns_by start t o Hunting (stage.LowSent high low) _ gs left g st purpose is refl tt refl
-hunting_turns start t o (stage.Hunted r None room) gs left g st purpose is running v =
-    turns_by start t o Hunting (stage.Hunted r None room) (byte_to_send t.course.number r) gs left g st purpose is refl (byte_spelled t.course.number r) refl
-hunting_turns start t o (stage.Hunted r (Some h) room) gs left g st purpose is running v = go (leads_to (ascended t.course.ascent (is_yes h))) refl where
+    → Hunts true Hunting s t.kept t.heard t.course start gs left → turn_of Hunting t.course.number s ≡ None
+    → IsNext start (machine_ordered t o) o gs left
+hunting_turns start t o stage.Free gs left g st purpose is running v over = absurd (running refl)
+hunting_turns start t o (stage.HighSent high) gs left g st purpose is running v over = absurd (cc)
+hunting_turns start t o (stage.LowSent high low) gs left g st purpose is running v over = absurd (cc)
+hunting_turns start t o (stage.Hunted r None room) gs left g st purpose is running v over = absurd (cc)
+hunting_turns start t o (stage.Hunted r (Some h) room) gs left g st purpose is running v over = go (leads_to (ascended t.course.ascent (is_yes h))) refl where
   p : Rises true (stage.Hunted r (Some h) room) t.course.ascent t.course.number (those_drawn gs) v.rest
   p = v.at
 
@@ -412,7 +376,7 @@ hunting_turns start t o (stage.Hunted r (Some h) room) gs left g st purpose is r
       → leads_to (ascended t.course.ascent (is_yes h)) ≡ Again → IsNext start (machine_ordered t o) o gs left
   again true some e =
       goes_on start t o h r room gs left st purpose is (next Again e)
-      (asks ∙ ap (λ c. question c r room) (next Again e) ∙ ap (asked_where t h r room) (fits ∙ some))
+      (asked_where t o h r room true asks (next Again e) (fits ∙ some))
       (record {
         opened_is = v.opened_is;
         loud = v.loud;
@@ -430,7 +394,7 @@ hunting_turns start t o (stage.Hunted r (Some h) room) gs left g st purpose is r
       })
   again false none e =
       hunts_by start t o (hunted t.course h) v.rest gs left (calm_of start t gs left st)
-      (asks ∙ ap (λ c. question c r room) (next Again e) ∙ ap (asked_where t h r room) (fits ∙ none) ∙ sym (ap beginning (next Again e))) (next Again e)
+      (asked_where t o h r room false asks (next Again e) (fits ∙ none)) (next Again e)
       (smooth_as t.course (hunted t.course h) refl refl st.smooth) hunted_so called v.clear v.settled
       (rises_new now asking (those_drawn gs) v.rest answered e none) v.tabled
       (subst (λ n. v.rest + n ≤ left) after frames)
@@ -441,7 +405,7 @@ hunting_turns start t o (stage.Hunted r (Some h) room) gs left g st purpose is r
       let there : IsReachedAt now m (those_drawn gs) v.rest = rise_found now asking (those_drawn gs) v.rest m answered e in
       first_by start t o (visiting (hunted t.course h) m) gs left (calm_of start t gs left st)
       (begins_by t o (visiting (hunted t.course h) m) r room asks (next (Found m) e) refl) (next (Found m) e)
-      (smooth_as t.course (visiting (hunted t.course h) m) refl refl st.smooth) tt
+      (smooth_as t.course (visiting (hunted t.course h) m) refl refl st.smooth)
       (record {
         opened_is = v.opened_is;
         loud = v.loud;
@@ -452,21 +416,8 @@ hunting_turns start t o (stage.Hunted r (Some h) room) gs left g st purpose is r
         settled = λ e x has. inl (v.settled e x has);
         rest = 11 + search_frames there.more;
         at = (
-          record {
-            stage_is = tt;
-            searched = tt;
-            ready = answered.ready;
-            unnamed = answered.unnamed;
-            more = there.more;
-            visited = record {
-              wanted = subst (λ k. wants (those_drawn gs) k ≡ true) (sym (value_sought m)) there.wanted_is;
-              number = m;
-              number_is = refl;
-              drawn = there.drawn;
-              count = there.count;
-            };
-            frames = inr (omega arith);
-          },
+          visits_first t.kept m there.more (those_drawn gs) (11 + search_frames there.more) answered.ready answered.unnamed there.wanted_is there.drawn
+              there.count (inr (omega arith)),
           record {
             is = answered.way.way.is;
             reached = e ∙ ap Found (sym (value_sought m));
@@ -507,4 +458,4 @@ hunting_turns start t o (stage.Hunted r (Some h) room) gs left g st purpose is r
     where
       count : (rest after : ℕ) → 1 ≤ rest → rest + after ≤ left → 1 + after ≤ left
       count rest after some enough = omega (arith, some, enough)
-hunting_turns start t o _ gs left g st purpose is running v = absurd v.at.stage_is
+hunting_turns start t o _ gs left g st purpose is running v over = absurd v.at.stage_is

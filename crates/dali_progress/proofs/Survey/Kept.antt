@@ -7,7 +7,7 @@ use Rattle.dali_frame.specs.Random.{value_of}
 use Rattle.dali_gear.specs.Gear.{Gear}
 use Rattle.dali_script.specs.declared.records.Record.{Record}
 use Rattle.dali_script.specs.declared.records.Record.TheVariants.{Reserve, Enrol, Release}
-use Rattle.dali_script.specs.Records.{Assignment, Has, HasRandom, IsMap}
+use Rattle.dali_script.specs.Records.{Assignment, Has, IsMap, with_record}
 use Rattle.dali_script.specs.declared.stage.Stage.TheVariants as stage
 use Rattle.dali_script.specs.Stages.{stage_of}
 use Rattle.dali_script.proofs.Lists.{has_last, has_before, has_cases, without_has}
@@ -22,19 +22,17 @@ use Rattle.dali_controller.specs.Machine.{Machine}
 use Rattle.dali_controller.specs.Next.{next_course, begins_at, at_rest, beginning}
 use Rattle.dali_controller.specs.Orders.{machine_ordered, AfterEnrolled}
 use Rattle.dali_controller.proofs.Given as given
-use Rattle.dali_controller.proofs.Given.{IsGivenBy, IsNoEnrolment}
-use Rattle.dali_events.specs.Wanted.{wants}
+use Rattle.dali_controller.proofs.Given.{IsGivenBy}
 use Rattle.dali_progress.specs.Rounds.{IsSettled}
 use Rattle.dali_progress.proofs.Stands.{search_frames}
 use Rattle.dali_progress.proofs.Frames.{value_sought}
 use Rattle.dali_progress.proofs.Tables.{tabled_over}
-use Rattle.dali_progress.proofs.Both.{never_eight, no_enrolment, has_random, entry_last, with_kept}
+use Rattle.dali_progress.proofs.Both.{never_eight, entry_last, with_kept, no_enrolment_now, visits_first, frames_reserved, reserved_begins, enrolled_begins}
 use Rattle.dali_progress.proofs.Survey.Drawn.{those_drawn, is_lost}
 use Rattle.dali_progress.proofs.Survey.Queried.{OneShort, IsTrue, unseen}
 use Rattle.dali_progress.proofs.Survey.Stands.{Begun, survey_frames, called_after}
 use Rattle.dali_progress.proofs.Survey.Begins.{Calm, EnrolsCounted, ReleasesCounted, EnrolsHunted, ReservesHunted, SurveyCommits, IsNext, smooth_as, first_by}
-use Rattle.dali_progress.proofs.Survey.Begins.{asked_none, asks_on}
-use Rattle.dali_progress.proofs.Survey.Begins.{hunts_on, clear_reserved}
+use Rattle.dali_progress.proofs.Survey.Begins.{asked_none, asks_on, hunts_on, clear_reserved}
 
 -- A RECORD OF A SURVEY IS KEPT, and the next transaction begins.
 
@@ -63,6 +61,12 @@ spared_few p = go (p == LATER) where
 counted_count : (a wake left : ℕ) → a < 64 → 3 * (63 - a) + wake ≤ left → 3 * (64 - (a + 1)) + wake ≤ left
 counted_count a wake left small enough = omega (arith, small, enough)
 
+pub rest_next : (m : Machine) (x : Record) → m.trace ≡ [] → m.last ≡ Some (Commit x)
+    → next_course (with_kept m x) ≡ at_rest (with_kept m x) (Some (Commit x))
+rest_next m x free last =
+    let at : stage_of m.trace ≡ stage.Free = ap stage_of free ∙ stage_none in
+    ap (begins_at (with_kept m x)) at ∙ ap (at_rest (with_kept m x)) last
+
 -- it is enrolled: what else is reserved for it is released, or the next short address is asked
 counted_next : (start : Begun) (m : Machine) (a r : ℕ) (o : Order) (gs : List Gear) (left : ℕ) → Calm m → EnrolsCounted start m a r gs left → m.trace ≡ []
     → m.last ≡ Some (Commit (Enrol a r)) → IsGivenBy (with_kept m (Enrol a r)) o → OneShort gs → IsTrue (m.kept.enrolled ++ (a, r) ∷ []) gs
@@ -71,10 +75,9 @@ counted_next start m a r o gs left calm v free last g one holds = go o g (g.foll
   goes : (q : Order) → IsGivenBy (with_kept m (Enrol a r)) q → ((c : ℕ) → Has m.kept.reserved (c, r) → c ≡ a)
       → IsNext start (machine_ordered (with_kept m (Enrol a r)) q) q gs left
   goes q g own =
-      let at : stage_of m.trace ≡ stage.Free = ap stage_of free ∙ stage_none in
       asks_on start (with_kept m (Enrol a r)) q (a + 1) gs left (record { tries = calm.tries; silent = calm.silent; smooth = calm.smooth })
       (given.enrolled (with_kept m (Enrol a r)) q a r g last free own)
-      (ap (begins_at (with_kept m (Enrol a r))) at ∙ ap (at_rest (with_kept m (Enrol a r))) last) v.uncalled v.asked v.from_is
+      (rest_next m (Enrol a r) free last) v.uncalled v.asked v.from_is
       (let small : a < 64 = v.small in omega (arith, small)) (λ e x has. has_before m.kept.enrolled (a, r) x (v.settled e x has)) v.clear one holds v.same
       v.tabled (counted_count a (survey_frames gs) left v.small v.frames)
 
@@ -110,39 +113,28 @@ counted_next start m a r o gs left calm v free last g one holds = go o g (g.foll
 released_begins : (m : Machine) (c r : ℕ) (o : Order) → Calm m → m.trace ≡ [] → m.last ≡ Some (Commit (Release c r)) → IsGivenBy (with_kept m (Release c r)) o
     → o ≡ beginning (next_course (with_kept m (Release c r)))
 released_begins m c r o calm free last g =
-    given.begins_free (with_kept m (Release c r)) o g free (no_enrolment_of m.last last) (never_eight m.tries calm.tries) where
-      no_enrolment_of : (l : Option Order) → l ≡ Some (Commit (Release c r)) → IsNoEnrolment l
-      no_enrolment_of l is b n e = let other : Some (Commit (Release c r)) ≡ Some (Commit (Enrol b n)) = sym is ∙ e in cc
+    given.begins_free (with_kept m (Release c r)) o g free (no_enrolment_now c r m.last last) (never_eight m.tries calm.tries)
 
 released_next : (start : Begun) (m : Machine) (c r a : ℕ) (o : Order) (gs : List Gear) (left : ℕ) → Calm m → ReleasesCounted start m a gs left → m.trace ≡ []
     → m.last ≡ Some (Commit (Release c r)) → IsGivenBy (with_kept m (Release c r)) o → OneShort gs → IsTrue m.kept.enrolled gs
     → IsNext start (machine_ordered (with_kept m (Release c r)) o) o gs left
 released_next start m c r a o gs left calm v free last g one holds =
-    let at : stage_of m.trace ≡ stage.Free = ap stage_of free ∙ stage_none in
     asks_on start (with_kept m (Release c r)) o (a + 1) gs left (record { tries = calm.tries; silent = calm.silent; smooth = calm.smooth })
     (released_begins m c r o calm free last g)
-    (ap (begins_at (with_kept m (Release c r))) at ∙ ap (at_rest (with_kept m (Release c r))) last) v.uncalled v.asked v.from_is
+    (rest_next m (Release c r) free last) v.uncalled v.asked v.from_is
     (let small : a < 64 = v.small in omega (arith, small)) (λ e x has. v.settled e x (without_has (c, r) m.kept.reserved x has))
     (λ d q has. v.clear d q (without_has (c, r) m.kept.reserved (d, q) has)) one holds v.same v.tabled
     (counted_count a (survey_frames gs) left v.small v.frames)
 
 -- ---------------------------------------------------------------- of a visit
 
-hunted_begins : (start : Begun) (m : Machine) (b r : ℕ) (o : Order) (gs : List Gear) (left : ℕ) → EnrolsHunted start m b r gs left → m.trace ≡ []
-    → m.last ≡ Some (Commit (Enrol b r)) → IsMap m.kept.reserved → IsGivenBy (with_kept m (Enrol b r)) o
-    → o ≡ beginning (next_course (with_kept m (Enrol b r)))
-hunted_begins start m b r o gs left v free last map g =
-    given.enrolled (with_kept m (Enrol b r)) o b r g last free
-    (λ a has. ap (λ (q : Assignment). q.0) (same_member (λ (q : Assignment). q.1) m.kept.reserved (a, r) (b, r) map.random_once has v.reserved refl))
-
 hunted_next : (start : Begun) (m : Machine) (b r : ℕ) (o : Order) (gs : List Gear) (left : ℕ) → Calm m → EnrolsHunted start m b r gs left → m.trace ≡ []
     → m.last ≡ Some (Commit (Enrol b r)) → IsMap m.kept.reserved → IsGivenBy (with_kept m (Enrol b r)) o
     → IsNext start (machine_ordered (with_kept m (Enrol b r)) o) o gs left
 hunted_next start m b r o gs left calm v free last map g =
-    let at : stage_of m.trace ≡ stage.Free = ap stage_of free ∙ stage_none in
     hunts_on start (with_kept m (Enrol b r)) o r gs left
-    (record { tries = calm.tries; silent = calm.silent; smooth = calm.smooth }) (hunted_begins start m b r o gs left v free last map g)
-    (ap (begins_at (with_kept m (Enrol b r))) at ∙ ap (at_rest (with_kept m (Enrol b r))) last) v.hunted
+    (record { tries = calm.tries; silent = calm.silent; smooth = calm.smooth }) (enrolled_begins m b r o v.reserved free last map g)
+    (rest_next m (Enrol b r) free last) v.hunted
     v.clear (λ e x has. settled x has (v.settled e x has))
     v.above v.ready v.unnamed
     (tabled_over (unseen start.gear) ((b, r) ∷ m.kept.enrolled) (m.kept.enrolled ++ (b, r) ∷ []) (those_drawn gs)
@@ -156,18 +148,12 @@ hunted_next start m b r o gs left calm v free last map g =
         subst (Has (m.kept.enrolled ++ (b, r) ∷ []))
         (sym (same_member (λ (q : Assignment). q.1) m.kept.reserved x (b, r) map.random_once has v.reserved number)) (has_last m.kept.enrolled (b, r))
 
-reserved_begins : (m : Machine) (a r : ℕ) (o : Order) → Calm m → m.trace ≡ [] → m.last ≡ Some (Commit (Reserve a r)) → IsGivenBy (with_kept m (Reserve a r)) o
-    → o ≡ beginning (next_course (with_kept m (Reserve a r)))
-reserved_begins m a r o calm free last g =
-    given.begins_free (with_kept m (Reserve a r)) o g free (no_enrolment a r m.last last) (never_eight m.tries calm.tries)
-
 reserved_next : (start : Begun) (m : Machine) (a r : ℕ) (o : Order) (gs : List Gear) (left : ℕ) → Calm m → ReservesHunted start m a r gs left → m.trace ≡ []
     → m.last ≡ Some (Commit (Reserve a r)) → IsGivenBy (with_kept m (Reserve a r)) o → IsNext start (machine_ordered (with_kept m (Reserve a r)) o) o gs left
 reserved_next start m a r o gs left calm v free last g =
-    let at : stage_of m.trace ≡ stage.Free = ap stage_of free ∙ stage_none in
     first_by start (with_kept m (Reserve a r)) o (visiting m.course r) gs left (record { tries = calm.tries; silent = calm.silent; smooth = calm.smooth })
-    (reserved_begins m a r o calm free last g) (ap (begins_at (with_kept m (Reserve a r))) at ∙ ap (at_rest (with_kept m (Reserve a r))) last)
-    (smooth_as m.course (visiting m.course r) refl refl calm.smooth) tt
+    (reserved_begins m a r o calm.tries free last g) (rest_next m (Reserve a r) free last)
+    (smooth_as m.course (visiting m.course r) refl refl calm.smooth)
     (record {
       opened_is = v.hunted.opened;
       loud = v.hunted.loud;
@@ -178,25 +164,8 @@ reserved_next start m a r o gs left calm v free last g =
       settled = λ e x has. settled e x (has_cases m.kept.reserved (a, r) x has);
       rest = 7 + search_frames v.more;
       at = (
-        record {
-          stage_is = tt;
-          searched = tt;
-          ready = v.ready;
-          unnamed = v.unnamed;
-          more = v.more;
-          visited = record {
-            wanted = subst (λ n. wants (those_drawn gs) n ≡ true) (sym (value_sought r)) v.wanted;
-            number = r;
-            number_is = refl;
-            drawn = v.drawn;
-            count = v.count;
-          };
-          frames = inl (
-            subst (HasRandom (m.kept.reserved ++ (a, r) ∷ [])) (sym (value_sought r))
-                (has_random (m.kept.reserved ++ (a, r) ∷ []) a r (has_last m.kept.reserved (a, r))),
-            omega arith,
-          );
-        },
+        visits_first (with_record m.kept (Reserve a r)) r v.more (those_drawn gs) (7 + search_frames v.more) v.ready v.unnamed v.wanted v.drawn v.count
+            (frames_reserved m.kept a r v.more (7 + search_frames v.more) (omega arith)),
         record {
           is = v.is;
           reached = v.reached ∙ ap Found (sym (value_sought r));
@@ -231,12 +200,12 @@ pub committed : (start : Begun) (m : Machine) (x : Record) (o : Order) (gs : Lis
     → KeptTo start m x o gs left
 committed start m (Reserve a r) o gs left calm v free last map g one holds = (
   reserved_next start m a r o gs left calm v free last g,
-  begins_less o (with_kept m (Reserve a r)) 1 (reserved_begins m a r o calm free last g) (omega arith),
+  begins_less o (with_kept m (Reserve a r)) 1 (reserved_begins m a r o calm.tries free last g) (omega arith),
 )
 committed start m (Enrol b r) o gs left calm (inl v) free last map g one holds = counted_next start m b r o gs left calm v free last g one holds
 committed start m (Enrol b r) o gs left calm (inr v) free last map g one holds = (
   hunted_next start m b r o gs left calm v free last map g,
-  begins_less o (with_kept m (Enrol b r)) 2 (hunted_begins start m b r o gs left v free last map g) (omega arith),
+  begins_less o (with_kept m (Enrol b r)) 2 (enrolled_begins m b r o v.reserved free last map g) (omega arith),
 )
 committed start m (Release c r) o gs left calm v free last map g one holds = (
   released_next start m c r v.0 o gs left calm v.1 free last g one holds,

@@ -22,7 +22,6 @@ use Rattle.dali_script.proofs.Transactions.{middle_next, low_next, stage_more}
 use Rattle.dali_script.specs.Due.{frame_put, record_ordered}
 use Rattle.dali_script.specs.declared.orders.Input.{Input}
 use Rattle.dali_script.specs.declared.orders.Order.{Order}
-use Rattle.dali_script.specs.declared.orders.Order.TheVariants.{Put}
 use Rattle.dali_script.specs.declared.orders.End.{End}
 use Rattle.dali_controller.specs.declared.purpose.Purpose.{Purpose}
 use Rattle.dali_controller.specs.declared.purpose.Purpose.TheVariants.{Asking}
@@ -46,10 +45,9 @@ use Rattle.dali_progress.proofs.Along.{Runs, RunsAll, runs_all}
 use Rattle.dali_progress.proofs.Drawing as staying
 use Rattle.dali_progress.proofs.Survey.Queried.{Holds, Nobody, OneGear, one_gear}
 use Rattle.dali_progress.proofs.Survey.Stands.{Begun, Counts, SurveyAt}
-use Rattle.dali_progress.proofs.Survey.Sent.{heard_high, with_other, without_same, without_other}
-use Rattle.dali_progress.proofs.Survey.Goes.{of_survey, next_holds}
-use Rattle.dali_progress.proofs.Survey.Bounded.{argument, one_now}
+use Rattle.dali_progress.proofs.Survey.Goes.{of_survey, sends_now, argument, one_now}
 use Rattle.dali_progress.proofs.Gives.{Gives, frame_gives}
+use Rattle.dali_progress.proofs.Surveying.{heard_high, with_other, without_same, without_other}
 
 -- WHAT A SURVEY HAS MARKED, SOMEBODY HAS, where nothing is disturbed.
 
@@ -113,21 +111,21 @@ asked_marks a stage.Free k marks asked from n start gs left c h v is one heard =
     go : ((g : ℕ) × Holds gs g a × (h ≡ Byte (high_of (gear_of gs g).random))) ⊎ (Nobody gs a × (h ≡ Silence))
         → Marks (next_stage stage.Free (RandomByte a High) h) h gs
     go (inl (g, holds, byte)) =
-        subst (λ b. Marks (next_stage stage.Free (RandomByte a High) b) b gs) (sym byte) (v.small, (g, holds.there, holds.short))
+        subst (λ b. Marks (next_stage stage.Free (RandomByte a High) b) b gs) (sym byte) (v.ask.small, (g, holds.there, holds.short))
     go (inr (none, silent)) = subst (λ b. Marks (next_stage stage.Free (RandomByte a High) b) b gs) (sym silent) tt
 asked_marks a (stage.HighAsked b (Some u)) k marks asked from n start gs left c h v is one heard =
-    let tells = v.stage_is.1 in
+    let tells = v.ask.asked.1 in
     subst (λ d. Marks (next_stage (stage.HighAsked b (Some u)) d h) h gs) (some_is (RandomByte b Middle) c is)
     (subst (λ t. Marks t h gs) (sym (middle_next b (Some u) h))
-    (subst (λ d. (d < 64) × IsHeld gs d) (sym v.stage_is.0) (v.small, (tells.0, tells.1.there, tells.1.short))))
+    (subst (λ d. (d < 64) × IsHeld gs d) (sym v.ask.asked.0) (v.ask.small, (tells.0, tells.1.there, tells.1.short))))
 asked_marks a (stage.HighAsked b None) k marks asked from n start gs left c h v is one heard = absurd (cc)
 asked_marks a (stage.MiddleAsked b (Some x)) k marks asked from n start gs left c h v is one heard =
-    let tells = v.stage_is.1 in
+    let tells = v.ask.asked.1 in
     subst (λ d. Marks (next_stage (stage.MiddleAsked b (Some x)) d h) h gs) (some_is (RandomByte b Low) c is)
     (subst (λ t. Marks t h gs) (sym (low_next b (Some x) h))
-    (subst (λ d. (d < 64) × IsHeld gs d) (sym v.stage_is.0) (v.small, (tells.0, tells.1.there, tells.1.short))))
+    (subst (λ d. (d < 64) × IsHeld gs d) (sym v.ask.asked.0) (v.ask.small, (tells.0, tells.1.there, tells.1.short))))
 asked_marks a (stage.Spelled b (Some m)) k marks asked from n start gs left c h v is one heard = absurd (cc)
-asked_marks a _ k marks asked from n start gs left c h v is one heard = absurd v.stage_is
+asked_marks a _ k marks asked from n start gs left c h v is one heard = absurd v.ask.asked
 
 -- of whatever transaction
 sent_held : (p : Purpose) (s : Stage) (k : Kept) (heard : Shorts) (asked : ℕ) (n : SearchAddress) (start : Begun) (gs : List Gear) (left : ℕ) (d : Command)
@@ -163,10 +161,10 @@ held_stays start = record {
       (world s).gear u.goes.lone.moment u.goes.lone.last (due_of (controller_at (world s) c) i here.due) surveys all;
   sends = λ s c left rest p f h u here heard last holds now all.
       let m : Machine = u.machine in
-      let next = next_holds start m (Put p f) (world s).gear left holds in
       let marked : AreHeld (heard_after m.course.purpose (next_stage (stage_of m.trace) (command_of f) h) h m.heard) (world s).gear =
       sent_held m.course.purpose (stage_of m.trace) m.kept m.heard m.asked m.course.number start (world s).gear left (command_of f) h
-      (counts_of m.course.purpose false m start (world s).gear left next.0.at) next.1 (one_gear (world s).gear (one_now s u.run)) heard all in
+      (counts_of m.course.purpose false m start (world s).gear left holds.0.0.at) (sends_now m p f last holds.1)
+      (one_gear (world s).gear (one_now s u.run)) heard all in
       subst (λ l. AreHeld (machine_heard m (frame_put l) h).heard (row_after Everyone (command_of f) 0 (world s).gear (world s).left)) (sym last)
       (subst (λ t. AreHeld (heard_after m.course.purpose t h m.heard) (row_after Everyone (command_of f) 0 (world s).gear (world s).left))
       (sym (stage_more m.trace (entry f h)))

@@ -1,17 +1,14 @@
-use Rattle.std.proofs.Common.{◌≡◌, ℕ, ◌<◌, ◌≤◌, inl, inr, Bool, true, false, List, refl, sym, subst, arith, length, Option, Some, None}
+use Rattle.std.proofs.Common.{◌≡◌, ℕ, ◌<◌, ◌≤◌, inl, inr, Bool, true, false, List, refl, sym, subst, arith, length, Option, Some, None, ◌⊎◌}
 use Rattle.std.specs.Prelude.{if◌then◌else◌, ◌==◌, ◌&&◌, not, is_some, nat_le}
 use Rattle.std.specs.List.{count_by}
 use Rattle.std.proofs.lemmas.Bool.Decides.{nat_tests}
 use Rattle.dali_frame.specs.Random.{MASK24}
 use Rattle.dali_frame.specs.declared.frames.Forward.{Forward}
 use Rattle.dali_frame.specs.declared.frames.Answer.{Answer}
-use Rattle.dali_frame.specs.declared.frames.Answer.TheVariants.{Silence, Byte, Damaged}
+use Rattle.dali_frame.specs.declared.frames.Answer.TheVariants.{Silence}
 use Rattle.dali_frame.specs.declared.numbers.SearchAddress.{SearchAddress}
 use Rattle.dali_special.specs.declared.command.Command.{Command}
-use Rattle.dali_special.specs.declared.command.Command.TheVariants.{Terminate, Initialise, Randomise, Compare, Withdraw, SearchHigh, SearchMiddle, SearchLow}
-use Rattle.dali_special.specs.declared.command.Command.TheVariants.{Program, QueryShort, RandomByte}
-use Rattle.dali_special.specs.declared.command.Part.TheVariants.{High, Middle, Low}
-use Rattle.dali_special.specs.declared.command.Target.TheVariants.{Unaddressed}
+use Rattle.dali_special.specs.declared.command.Command.TheVariants.{Randomise, Program}
 use Rattle.dali_special.specs.Command.{command_of}
 use Rattle.dali_gear.specs.declared.row.Reach.TheVariants.{Everyone}
 use Rattle.dali_gear.specs.Gear.{Gear, is_active, is_found, gear_taken}
@@ -22,13 +19,13 @@ use Rattle.dali_script.specs.declared.stage.Stage.{Stage}
 use Rattle.dali_script.specs.declared.stage.Stage.TheVariants as stage
 use Rattle.dali_script.specs.Stages.{stage_of, next_stage}
 use Rattle.dali_script.specs.declared.orders.Order.TheVariants.{Put}
-use Rattle.dali_script.specs.declared.orders.End.{End}
 use Rattle.dali_script.proofs.Transactions.{stage_more}
 use Rattle.dali_controller.specs.declared.shorts.Shorts.{Shorts}
 use Rattle.dali_controller.specs.declared.purpose.Purpose.{Purpose}
 use Rattle.dali_controller.specs.declared.purpose.Purpose.TheVariants.{Hunting, Visiting, Closing, Asking, Calling, Drawing}
-use Rattle.dali_controller.specs.Course.{Course, byte_to_send, call_turn}
+use Rattle.dali_controller.specs.Course.{Course}
 use Rattle.dali_controller.specs.Machine.{Machine, heard_after, asked_after}
+use Rattle.dali_controller.specs.Whole.{IsWhole}
 use Rattle.dali_events.specs.Happens.{entry}
 use Rattle.dali_events.specs.Plan.{block_at}
 use Rattle.dali_events.specs.Wanted.{gear_of, is_bare}
@@ -38,13 +35,15 @@ use Rattle.dali_events.proofs.Search.Opened.{AreOpening}
 use Rattle.dali_world.specs.Site.{world}
 use Rattle.dali_progress.proofs.Gives.{bare_fewer, frame_gives}
 use Rattle.dali_progress.proofs.Stands.{Sends}
-use Rattle.dali_progress.proofs.Both.{left_same, none_first, none_apart, is_complete, DrawsOnce, draws_few, closed_none}
+use Rattle.dali_progress.proofs.Both.{left_same, none_first, none_apart, is_complete, DrawsOnce, draws_few, closed_none, IsDry, is_unnamed, names_sent}
 use Rattle.dali_progress.proofs.Drawing as drawn
 use Rattle.dali_progress.proofs.Survey.Drawn.{is_lost, count_nothing}
 use Rattle.dali_progress.proofs.Survey.Woken.{count_there, opened_lost}
-use Rattle.dali_progress.proofs.Survey.Stands.{Begun, NoneDrawn, woken_at, Draws, SurveyAt}
+use Rattle.dali_progress.proofs.Survey.Stands.{Begun, Draws, SurveyAt}
 use Rattle.dali_progress.proofs.Survey.Begins.{IsNext}
-use Rattle.dali_progress.proofs.Survey.Goes.{Hears, of_survey, next_holds}
+use Rattle.dali_progress.proofs.Survey.Goes.{Hears, of_survey, sends_now}
+use Rattle.dali_progress.proofs.Surveying.{NoneDrawn, woken_at}
+use Rattle.dali_progress.proofs.Tables.{LeavesNames}
 
 -- THE NUMBERS THAT GEAR DRAW in a survey: where there is one for each gear with power and without short address, they are never
 -- spent. Gear draw once, where none without short address has a number; afterwards each has one.
@@ -61,75 +60,16 @@ IsPlain Randomise = ⊥
 IsPlain (Program None) = ⊥
 IsPlain _ = Unit {0}
 
-by_turn : (x c : Command) → IsPlain x → Some x ≡ Some c → IsPlain c
-by_turn x c plain is = let same : x ≡ c = cc in subst IsPlain same plain
+names_plain : (c : Command) → LeavesNames c → IsPlain c
+names_plain Randomise leaves = absurd leaves
+names_plain (Program short) leaves = absurd leaves
+names_plain _ leaves = tt
 
-by_same : (x c : Command) → IsPlain x → c ≡ x → IsPlain c
-by_same x c plain is = subst IsPlain (sym is) plain
-
-asking_plain : (b : ℕ) (n : SearchAddress) (k : Kept) (s : Stage) (c : Command) → Sends (Asking b) n k s c → IsPlain c
-asking_plain b n k stage.Free c is = by_same (RandomByte b High) c tt is
-asking_plain b n k (stage.Unnamed r) c (a, small, has, is) = by_same (Program (Some a)) c tt is
-asking_plain b n k (stage.Hunted r last room) c is = absurd is
-asking_plain b n k (stage.HighAsked d (Some v)) c is = by_turn (RandomByte d Middle) c tt is
-asking_plain b n k (stage.HighAsked d None) c is = absurd (cc)
-asking_plain b n k (stage.MiddleAsked d (Some x)) c is = by_turn (RandomByte d Low) c tt is
-asking_plain b n k (stage.MiddleAsked d None) c is = absurd (cc)
-asking_plain b n k _ c is = absurd (cc)
-
-called_plain : (last : Option Answer) (room : ℕ) (c : Command) → call_turn last room ≡ Some c → IsPlain c
-called_plain None room c is = by_turn Compare c tt is
-called_plain (Some Silence) room c is = go (room == 1) is where
-  go : (b : Bool) → (if b then Some Compare else None) ≡ Some c → IsPlain c
-  go true is = by_turn Compare c tt is
-  go false is = absurd (cc)
-called_plain (Some (Byte v)) room c is = absurd (cc)
-called_plain (Some Damaged) room c is = absurd (cc)
-
-calling_plain : (n : SearchAddress) (k : Kept) (s : Stage) (c : Command) → Sends Calling n k s c → IsPlain c
-calling_plain n k stage.Free c is = by_same Terminate c tt is
-calling_plain n k (stage.Unnamed r) c (a, small, has, is) = by_same (Program (Some a)) c tt is
-calling_plain n k (stage.Hunted r last room) c is = called_plain last room c is
-calling_plain n k stage.Terminated c is = by_turn (Initialise Unaddressed) c tt is
-calling_plain n k stage.InitialisedOnce c is = by_turn (Initialise Unaddressed) c tt is
-calling_plain n k stage.Initialised c is = by_turn (SearchHigh n.high) c tt is
-calling_plain n k (stage.WokenHigh high) c is = by_turn (SearchLow n.low) c tt is
-calling_plain n k (stage.WokenLow high low) c is = by_turn (SearchMiddle n.middle) c tt is
-calling_plain n k _ c is = absurd (cc)
-
-byte_plain : (n r : SearchAddress) → IsPlain (byte_to_send n r)
-byte_plain n r = go (r.high == n.high) (r.low == n.low) (r.middle == n.middle) where
-  go : (b d e : Bool) → IsPlain (if b then (if d then (if e then Compare else SearchMiddle n.middle) else SearchLow n.low) else SearchHigh n.high)
-  go false d e = tt
-  go true false e = tt
-  go true true false = tt
-  go true true true = tt
-
-hunting_plain : (n : SearchAddress) (k : Kept) (s : Stage) (c : Command) → Sends Hunting n k s c → IsPlain c
-hunting_plain n k stage.Free c is = by_same (SearchHigh n.high) c tt is
-hunting_plain n k (stage.Unnamed r) c (a, small, has, is) = by_same (Program (Some a)) c tt is
-hunting_plain n k (stage.Hunted r last room) c is = by_same (byte_to_send n r) c (byte_plain n r) is
-hunting_plain n k (stage.HighSent high) c is = by_turn (SearchLow n.low) c tt is
-hunting_plain n k (stage.LowSent high low) c is = by_turn (SearchMiddle n.middle) c tt is
-hunting_plain n k _ c is = absurd (cc)
-
-visiting_plain : (n : SearchAddress) (k : Kept) (s : Stage) (c : Command) → Sends Visiting n k s c → IsPlain c
-visiting_plain n k stage.Free c is = by_same (SearchHigh n.high) c tt is
-visiting_plain n k (stage.Unnamed r) c (a, small, has, is) = by_same (Program (Some a)) c tt is
-visiting_plain n k (stage.Hunted r last room) c is = absurd is
-visiting_plain n k (stage.HighSent high) c is = by_turn (SearchMiddle n.middle) c tt is
-visiting_plain n k (stage.MiddleSent high middle) c is = by_turn (SearchLow n.low) c tt is
-visiting_plain n k (stage.NumberSent r) c is = by_turn QueryShort c tt is
-visiting_plain n k (stage.Found r b) c is = by_turn Withdraw c tt is
-visiting_plain n k (stage.Programmed r a) c is = by_turn QueryShort c tt is
-visiting_plain n k (stage.Confirmed r a) c is = by_turn Withdraw c tt is
-visiting_plain n k _ c is = absurd (cc)
-
-closing_plain : (e : End) (n : SearchAddress) (k : Kept) (s : Stage) (c : Command) → Sends (Closing e) n k s c → IsPlain c
-closing_plain e n k stage.Free c is = by_same Terminate c tt is
-closing_plain e n k (stage.Unnamed r) c (a, small, has, is) = by_same (Program (Some a)) c tt is
-closing_plain e n k (stage.Hunted r last room) c is = absurd is
-closing_plain e n k _ c is = absurd (cc)
+dry_plain : (p : Purpose) (n : SearchAddress) (k : Kept) (s : Stage) (c : Command) → IsDry p → Sends p n k s c → IsPlain c
+dry_plain p n k s c dry is = go (is_unnamed s) where
+  go : ((r : SearchAddress) × (s ≡ stage.Unnamed r)) ⊎ ((r : SearchAddress) → s ≡ stage.Unnamed r → ⊥) → IsPlain c
+  go (inl (r, at)) = let given = subst (λ q. Sends p n k q c) at is in subst IsPlain (sym given.3) tt
+  go (inr other) = names_plain c (names_sent p n k s c dry other is)
 
 -- who is without number and short address after such a frame was so before
 lost_back : (c : Command) (g : Gear) (x : ℕ) → IsPlain c → is_lost (gear_taken c x g) ≡ true → is_lost g ≡ true
@@ -198,16 +138,16 @@ enough_bare m gs numbers undrawn has = go (nat_le (count_by is_bare gs) (length 
 -- until they have drawn
 undrawn_at : (s : Stage) (k : Kept) (heard : Shorts) (c : Course) (start : Begun) (gs : List Gear) (left : ℕ) (d : Command)
     → Draws s k heard c start gs left → Sends Drawing c.number k s d → NoneDrawn gs
-undrawn_at stage.Free k heard c start gs left d v is = v.drawn.0
-undrawn_at stage.Terminated k heard c start gs left d v is = v.drawn.0
-undrawn_at stage.InitialisedOnce k heard c start gs left d v is = v.drawn.0
-undrawn_at stage.Initialised k heard c start gs left d v is = v.drawn.0
-undrawn_at (stage.WokenHigh high) k heard c start gs left d v is = v.drawn.0
-undrawn_at (stage.WokenMiddle high middle) k heard c start gs left d v is = v.drawn.0
-undrawn_at stage.DrawFree k heard c start gs left d v is = v.drawn
-undrawn_at stage.RandomisedOnce k heard c start gs left d v is = v.drawn
+undrawn_at stage.Free k heard c start gs left d v is = v.draw.drawn.0
+undrawn_at stage.Terminated k heard c start gs left d v is = v.draw.drawn.0
+undrawn_at stage.InitialisedOnce k heard c start gs left d v is = v.draw.drawn.0
+undrawn_at stage.Initialised k heard c start gs left d v is = v.draw.drawn.0
+undrawn_at (stage.WokenHigh high) k heard c start gs left d v is = v.draw.drawn.0
+undrawn_at (stage.WokenMiddle high middle) k heard c start gs left d v is = v.draw.drawn.0
+undrawn_at stage.DrawFree k heard c start gs left d v is = v.draw.drawn
+undrawn_at stage.RandomisedOnce k heard c start gs left d v is = v.draw.drawn
 undrawn_at stage.Opened k heard c start gs left d v is = absurd (cc)
-undrawn_at _ k heard c start gs left d v is = absurd v.stage_is
+undrawn_at _ k heard c start gs left d v is = absurd v.draw.stage_is
 
 randomised_first : (gs : List Gear) (c : Command) → Some Randomise ≡ Some c → AreOpening stage.Initialised gs → draws_needed Everyone c 0 gs ≡ 0
 randomised_first gs c is gear = let same : Randomise ≡ c = cc in subst (λ d. draws_needed Everyone d 0 gs ≡ 0) same (none_first 0 gs gear)
@@ -222,10 +162,10 @@ drawing_draws stage.Initialised k heard c start gs left d v is = inl (none_apart
 drawing_draws (stage.WokenHigh high) k heard c start gs left d v is = inl (none_apart Drawing c.number k (stage.WokenHigh high) gs d (λ e. cc) is)
 drawing_draws (stage.WokenMiddle high middle) k heard c start gs left d v is =
     inl (none_apart Drawing c.number k (stage.WokenMiddle high middle) gs d (λ e. cc) is)
-drawing_draws stage.DrawFree k heard c start gs left d v is = inl (randomised_first gs d is v.gear)
-drawing_draws stage.RandomisedOnce k heard c start gs left d v is = inr (refl, (let same : d ≡ Randomise = cc in same), v.gear)
+drawing_draws stage.DrawFree k heard c start gs left d v is = inl (randomised_first gs d is v.draw.gear)
+drawing_draws stage.RandomisedOnce k heard c start gs left d v is = inr (refl, (let same : d ≡ Randomise = cc in same), v.draw.gear)
 drawing_draws stage.Opened k heard c start gs left d v is = absurd (cc)
-drawing_draws _ k heard c start gs left d v is = absurd v.stage_is
+drawing_draws _ k heard c start gs left d v is = absurd v.draw.stage_is
 
 complete_is : (s : Stage) → is_complete s ≡ true → s ≡ stage.Opened
 complete_is stage.Opened e = refl
@@ -255,7 +195,7 @@ drawing_enough m s k heard after c start gs numbers left rest d h v is has =
     go fewer now true done = λ i there lost.
         absurd (let none : count_by is_lost (row_after Everyone d 0 gs numbers) ≡ 0 =
         opened_lost (row_after Everyone d 0 gs numbers)
-        (subst (λ t. AreOpening (woken_at t) (row_after Everyone d 0 gs numbers)) (complete_is (next_stage s d h) done) now.gear) in
+        (subst (λ t. AreOpening (woken_at t) (row_after Everyone d 0 gs numbers)) (complete_is (next_stage s d h) done) now.draw.gear) in
         let some = count_there is_lost (row_after Everyone d 0 gs numbers) i there lost in omega (arith, none, some))
 
 -- ---------------------------------------------------------------- of whatever transaction
@@ -265,24 +205,24 @@ sent_enough : (m : Machine) (p : Purpose) (s : Stage) (k : Kept) (heard after : 
     → HasNumbers m gs numbers
     → IsEnough m gs numbers d (SurveyAt true p (next_stage s d h) k after later c start (row_after Everyone d 0 gs numbers) rest)
 sent_enough m (Asking a) s k heard after asked later c start gs numbers left rest d h at is has =
-    plain_enough m gs numbers d _ (asking_plain a c.number k s d is) has
+    plain_enough m gs numbers d _ (dry_plain (Asking a) c.number k s d tt is) has
 sent_enough m Calling s k heard after asked later c start gs numbers left rest d h at is has =
-    plain_enough m gs numbers d _ (calling_plain c.number k s d is) has
+    plain_enough m gs numbers d _ (dry_plain Calling c.number k s d tt is) has
 sent_enough m Hunting s k heard after asked later c start gs numbers left rest d h at is has =
-    plain_enough m gs numbers d _ (hunting_plain c.number k s d is) has
+    plain_enough m gs numbers d _ (dry_plain Hunting c.number k s d tt is) has
 sent_enough m Visiting s k heard after asked later c start gs numbers left rest d h at is has =
-    plain_enough m gs numbers d _ (visiting_plain c.number k s d is) has
+    plain_enough m gs numbers d _ (dry_plain Visiting c.number k s d tt is) has
 sent_enough m (Closing e) s k heard after asked later c start gs numbers left rest d h at is has =
-    plain_enough m gs numbers d _ (closing_plain e c.number k s d is) has
+    plain_enough m gs numbers d _ (dry_plain (Closing e) c.number k s d tt is) has
 sent_enough m Drawing s k heard after asked later c start gs numbers left rest d h at is has =
     drawing_enough m s k heard after c start gs numbers left rest d h at is has
 sent_enough m _ s k heard after asked later c start gs numbers left rest d h at is has = absurd at
 
 -- so they are never spent
 heard_enough : (start : Begun) (m : Machine) (p : ℕ) (f : Forward) (h : Answer) (gs : List Gear) (numbers : List ℕ) (left rest : ℕ)
-    → IsNext start m (Put p f) gs left → HasNumbers m gs numbers
+    → IsNext start m (Put p f) gs left × IsWhole m → m.last ≡ Some (Put p f) → HasNumbers m gs numbers
     → IsEnough m gs numbers (command_of f) (Hears start m p f h (row_after Everyone (command_of f) 0 gs numbers) rest)
-heard_enough start m p f h gs numbers left rest next has = (
+heard_enough start m p f h gs numbers left rest next last has = (
   sent.0,
   λ fewer now. sent.1 fewer (subst (λ s. SurveyAt true m.course.purpose s m.kept (heard_after m.course.purpose s h m.heard)
       (asked_after m.course.purpose s h m.asked) m.course start (row_after Everyone (command_of f) 0 gs numbers) rest)
@@ -296,17 +236,18 @@ heard_enough start m p f h gs numbers left rest next has = (
         (asked_after m.course.purpose to h m.asked) m.course start (row_after Everyone (command_of f) 0 gs numbers) rest)
     sent =
         sent_enough m m.course.purpose (stage_of m.trace) m.kept m.heard (heard_after m.course.purpose to h m.heard) m.asked
-        (asked_after m.course.purpose to h m.asked) m.course start gs numbers left rest (command_of f) h next.0.at next.1 has
+        (asked_after m.course.purpose to h m.asked) m.course start gs numbers left rest (command_of f) h next.0.0.at
+        (sends_now m p f last next.1) has
 
 pub survey_draws : (start : Begun) → drawn.Draws (of_survey start) HasNumbers
 survey_draws start = record {
   stays = record {
     acts = λ s c left l i o u here surveys given holds has. has;
     sends = λ s c left rest p f h u here heard last holds now has.
-        (heard_enough start u.machine p f h (world s).gear (world s).left left rest (next_holds start u.machine (Put p f) (world s).gear left holds) has).1
+        (heard_enough start u.machine p f h (world s).gear (world s).left left rest holds last has).1
         (bare_fewer (block_at s.plan c) (world s).gear (row_after Everyone (command_of f) 0 (world s).gear (world s).left) (frame_gives s c f h u.run here))
         now;
   };
   enough = λ m p f gs numbers left last holds has.
-      (heard_enough start m p f Silence gs numbers left left (next_holds start m (Put p f) gs left holds) has).0;
+      (heard_enough start m p f Silence gs numbers left left holds last has).0;
 }

@@ -11,11 +11,13 @@ use Rattle.dali_special.specs.declared.command.Part.{Part}
 use Rattle.dali_gear.specs.declared.row.Reach.TheVariants.{Everyone}
 use Rattle.dali_gear.specs.Gear.{Gear, fresh, has_short, byte_at, answer, answer_to}
 use Rattle.dali_gear.specs.Row.{option_cons, answers_of}
-use Rattle.dali_script.specs.Records.{Assignment, Has}
+use Rattle.dali_script.specs.Records.{Assignment, Has, Kept, IsKept, InBlock}
 use Rattle.dali_events.specs.Wanted.{gear_of}
 use Rattle.dali_events.proofs.Search.Wanted.{both_pass, same_number, number_same, at_any}
 use Rattle.dali_events.proofs.Search.Leaving.{SameGear, SameCore}
+use Rattle.dali_events.proofs.Search.Heard.{none_answer, one_answers}
 use Rattle.dali_progress.specs.Ends.{AreTabled}
+use Rattle.dali_progress.proofs.Survey.Drawn.{AreNumbered, DrewApart}
 
 -- A SHORT ADDRESS IS ASKED FOR ITS RANDOM ADDRESS, of gear no two of which have one short address.
 
@@ -44,34 +46,18 @@ IsTrue xs gs = (a r : ℕ) → Has xs (a, r) → (g : ℕ) × (g < length gs) ×
 abbrev pub AreOwned : List Assignment → List Gear → Type 0
 AreOwned reserved gs = (a r g : ℕ) → Has reserved (a, r) → g < length gs → (gear_of gs g).short ≡ Some a → (gear_of gs g).random ≡ r
 
+-- what is known of the records and of the gear, whoever is misheard
+pub record IsAtHand (k : Kept) (gs : List Gear) : Type 0 where
+  pub kept : IsKept k
+  pub block : (a : ℕ) → InBlock k.block a → a < 64
+  pub numbered : AreNumbered gs
+  pub apart : DrewApart gs
+  pub one : OneShort gs
+  pub holds : IsTrue k.enrolled gs
+  pub owned : AreOwned k.reserved gs
+
 abbrev pub Nobody : List Gear → ℕ → Type 0
 Nobody gs a = (g : ℕ) → Holds gs g a → ⊥
-
--- ---------------------------------------------------------------- one answers, or nobody
-
-answers_first : (c : Command) (k : ℕ) (g : Gear) (gs : List Gear)
-    → answers_of Everyone c k (g ∷ gs) ≡ option_cons (answer_to c g) (answers_of Everyone c (k + 1) gs)
-answers_first c k g gs = ap (λ o. option_cons o (answers_of Everyone c (k + 1) gs)) (go g.powered) where
-  go : (on : Bool) → (if on && true then answer c g else None) ≡ (if on then answer c g else None)
-  go true = refl
-  go false = refl
-
-none_answer : (c : Command) (k : ℕ) (gs : List Gear) → ((i : ℕ) → i < length gs → answer_to c (gear_of gs i) ≡ None) → answers_of Everyone c k gs ≡ []
-none_answer c k [] none = refl
-none_answer c k (g ∷ gs) none =
-    let here : answer_to c g ≡ None = none 0 (omega arith) in
-    answers_first c k g gs ∙ ap (λ o. option_cons o (answers_of Everyone c (k + 1) gs)) here ∙ none_answer c (k + 1) gs (λ i h. none (suc i) (omega arith))
-
-pub one_answers : (c : Command) (k : ℕ) (gs : List Gear) (i v : ℕ) → i < length gs → answer_to c (gear_of gs i) ≡ Some v
-    → ((j : ℕ) → j < length gs → (j ≡ i → ⊥) → answer_to c (gear_of gs j) ≡ None) → answers_of Everyone c k gs ≡ v ∷ []
-one_answers c k [] i v h e none = absurd (omega arith)
-one_answers c k (g ∷ gs) zero v h e none =
-    answers_first c k g gs ∙ ap (λ o. option_cons o (answers_of Everyone c (k + 1) gs)) e
-    ∙ ap (λ bytes. v ∷ bytes) (none_answer c (k + 1) gs (λ j in_row. none (suc j) (omega arith) (λ same. omega arith)))
-one_answers c k (g ∷ gs) (suc i) v h e none =
-    let here : answer_to c g ≡ None = none 0 (omega arith) (λ same. omega arith) in
-    answers_first c k g gs ∙ ap (λ o. option_cons o (answers_of Everyone c (k + 1) gs)) here
-    ∙ one_answers c (k + 1) gs i v (omega arith) e (λ j in_row other. none (suc j) (omega arith) (λ same. other (omega arith)))
 
 -- whether it is the one
 abbrev is_asked_of : ℕ → Gear → Bool

@@ -21,8 +21,7 @@ use Rattle.dali_progress.proofs.Lone.{acted_there, sent_there, lone_next}
 use Rattle.dali_progress.proofs.Logged.{world_logged}
 use Rattle.dali_progress.proofs.Beginnings.{named}
 use Rattle.dali_progress.proofs.Along.{Runs, runs_on}
-use Rattle.dali_progress.proofs.Survey.Goes.{of_survey}
-use Rattle.dali_progress.proofs.Survey.Bounded.{argument, began_at, starts}
+use Rattle.dali_progress.proofs.Survey.Goes.{of_survey, argument, began_at, starts}
 use Rattle.dali_progress.proofs.Survey.Stands.{Begun}
 
 -- A SURVEY THAT COMMITS NOTHING keeps the records that it began with.

@@ -20,7 +20,7 @@ use Rattle.dali_progress.specs.Ends.{table_at, IsUnseen}
 use Rattle.dali_progress.specs.Replaced.{IsVacant, HasVacant, HasNew, only, IsServed, AreNamed}
 use Rattle.dali_progress.proofs.Beginnings.{runs_after, named}
 use Rattle.dali_progress.proofs.Survey.Drawn.{count_first, count_nothing}
-use Rattle.dali_progress.proofs.Survey.Bounded.{began_at, starts, one_now, tabled}
+use Rattle.dali_progress.proofs.Survey.Goes.{began_at, starts, one_now, tabled}
 use Rattle.dali_progress.proofs.Gives.{Gives}
 use Rattle.dali_progress.proofs.Survey.Given.{all_give}
 use Rattle.dali_progress.proofs.Survey.Vacant.{IsOver, over, enough_found}

@@ -1,5 +1,5 @@
 use Rattle.std.proofs.Common.{◌≡◌, ℕ, ◌+◌, ◌-◌, ◌*◌, ◌<◌, ◌≤◌, ◌⊎◌, inl, inr, Bool, true, false, zero, suc, List, refl, sym, ap, subst, ◌∙◌, arith, nat_lt}
-use Rattle.std.proofs.Common.{Option, Some, None, length}
+use Rattle.std.proofs.Common.{Option, Some, None}
 use Rattle.std.specs.Prelude.{◌==◌, if◌then◌else◌}
 use Rattle.std.specs.List.{count_by}
 use Rattle.std.proofs.lemmas.Bool.Decides.{nat_tests}
@@ -25,13 +25,13 @@ use Rattle.dali_search.proofs.TrueAnswers.{somebody_costs, nobody_costs, first_t
 use Rattle.dali_controller.specs.declared.purpose.Purpose.TheVariants.{Hunting}
 use Rattle.dali_controller.specs.Course.{sought, is_yes, byte_to_send, bytes_to_send}
 use Rattle.dali_events.specs.Searching.{HasShort}
-use Rattle.dali_events.specs.Wanted.{gear_of, is_wanted, wants, OfPowered, IsOpened, NoneNamed}
+use Rattle.dali_events.specs.Wanted.{is_wanted, wants, OfPowered, IsOpened, NoneNamed}
 use Rattle.dali_events.proofs.Search.Leaving as leaving
 use Rattle.dali_events.proofs.Search.Leaving.{SameCore}
 use Rattle.dali_events.proofs.Search.Wanted as wanted
 use Rattle.dali_progress.specs.Ends.{AreTabled}
 use Rattle.dali_progress.proofs.Stands.{to_come, Sends}
-use Rattle.dali_progress.proofs.Frames.{IsTaken, Seeks, probe_says, value_sought, gives_same}
+use Rattle.dali_progress.proofs.Frames.{IsTaken, Seeks, probe_says, value_sought, gives_same, some_is, nobody_short}
 use Rattle.dali_progress.proofs.Tables.{LeavesNames, tabled_left}
 use Rattle.dali_progress.proofs.Survey.Drawn.{IsSoughtBy}
 use Rattle.dali_progress.proofs.Survey.Stands.{pending, after_rise, thirds_for, RiseStage, Rises}
@@ -194,9 +194,6 @@ hunted_sent r last room x n gs numbers left h v is enough c sends taken seek =
                       (λ m. leaving.core_wants gs (row_after Everyone Compare 0 gs numbers) m same) says,
                 ) one.2),
           )
-
-some_is : (x c : Command) → Some x ≡ Some c → x ≡ c
-some_is x c e = cc
 
 new_room : (q : Asking) (m : ℕ) → has_room q m ≡ false → (room_left q m ≡ 4) × (frames_to_ask q m ≡ 4)
 new_room q m none = (rw none refl, rw none refl)
@@ -426,81 +423,53 @@ rise_found x q gs left m v is = go (count_by is_wanted gs) refl v.frames where
 -- nobody is: each gear with power has a short address
 pub rise_nobody : (x : Ascent) (q : Asking) (gs : List Gear) (left : ℕ) → Answered x q gs left → leads_to x ≡ Nobody → OfPowered gs HasShort × (1 ≤ left)
 rise_nobody x q gs left v is = (
-  λ k in_row on. have k in_row on (gear_of gs k).short refl,
+  nobody_short gs v.ready (subst (Says (wants gs)) is (says_found (wants gs) x v.way.way.is (λ k has. wanted.wanted_below gs k v.ready has) v.knows)),
   (let some : 1 ≤ after_rise (count_by is_wanted gs) = after_some (count_by is_wanted gs) in
       let frames : v.budget + after_rise (count_by is_wanted gs) ≤ left = v.frames in omega (arith, some, frames)),
-) where
-  nobody : (m : ℕ) → wants gs m ≡ true → ⊥
-  nobody = subst (Says (wants gs)) is (says_found (wants gs) x v.way.way.is (λ k has. wanted.wanted_below gs k v.ready has) v.knows)
-
-  have : (k : ℕ) → k < length gs → (gear_of gs k).powered ≡ true → (o : Option ℕ) → (gear_of gs k).short ≡ o → HasShort (gear_of gs k)
-  have k in_row on (Some a) e = (a, e)
-  have k in_row on None e =
-      absurd (nobody (gear_of gs k).random (wanted.wants_by gs (gear_of gs k).random k in_row
-      (wanted.is_wanted_by (gear_of gs k) on (v.ready.bare k in_row on e)) refl))
+)
 
 -- ---------------------------------------------------------------- where it begins
 
 nothing_before : (m : ℕ) → has_room no_question m ≡ false
 nothing_before m = grind (arith, nat_tests)
 
+rises_anew : (x : Ascent) (gs : List Gear) (left budget : ℕ) → IsTrueWay x no_question → leads_to x ≡ Again → Knows (wants gs) x → IsOpened gs
+    → NoneNamed gs → thirds_for (count_by is_wanted gs) x no_question ≤ 3 * budget → budget + after_rise (count_by is_wanted gs) ≤ left
+    → Rises false stage.Free x (sought (asked_next x)) gs left
+rises_anew x gs left budget way again knows ready unnamed enough frames =
+    rises_new x no_question gs left
+    (record { way = way; knows = knows; ready = ready; unnamed = unnamed; budget = budget; enough = enough; frames = frames }) again
+    (nothing_before (asked_next x))
+
 pub rises_first : (gs : List Gear) (left : ℕ) → IsOpened gs → NoneNamed gs → 106 * count_by is_wanted gs + 10 ≤ left
     → Rises false stage.Free ascent_at_first (sought (asked_next ascent_at_first)) gs left
 rises_first gs left ready unnamed frames = go (count_by is_wanted gs) refl frames where
-  knows : Knows (wants gs) ascent_at_first
-  knows = record { above = λ m has. omega arith; below = λ small. absurd (omega (arith, small)) }
-
-  begins : (budget : ℕ) → thirds_for (count_by is_wanted gs) ascent_at_first no_question ≤ 3 * budget → 4 ≤ budget
-      → budget + after_rise (count_by is_wanted gs) ≤ left → Rises false stage.Free ascent_at_first (sought (asked_next ascent_at_first)) gs left
-  begins budget enough some frames = record {
-    before = no_question;
-    way = (first_true no_question refl).0;
-    running = refl;
-    knows = knows;
-    number = refl;
-    ready = ready;
-    unnamed = unnamed;
-    stage_is = nothing_before (asked_next ascent_at_first);
-    budget = budget;
-    enough = enough;
-    afford = rw (new_room no_question (asked_next ascent_at_first) (nothing_before (asked_next ascent_at_first))).1 some;
-    frames = rw (new_room no_question (asked_next ascent_at_first) (nothing_before (asked_next ascent_at_first))).1 (omega (arith, frames));
-  }
+  begins : (budget : ℕ) → thirds_for (count_by is_wanted gs) ascent_at_first no_question ≤ 3 * budget → budget + after_rise (count_by is_wanted gs) ≤ left
+      → Rises false stage.Free ascent_at_first (sought (asked_next ascent_at_first)) gs left
+  begins budget =
+      rises_anew ascent_at_first gs left budget (first_true no_question refl).0 refl
+      (record { above = λ m has. omega arith; below = λ small. absurd (omega (arith, small)) }) ready unnamed
 
   go : (count : ℕ) → count_by is_wanted gs ≡ count → 106 * count + 10 ≤ left
       → Rises false stage.Free ascent_at_first (sought (asked_next ascent_at_first)) gs left
-  go zero is frames = begins 5 (rw (is, (first_true no_question refl).2) (omega arith)) (omega arith) (rw is (omega (arith, frames)))
-  go (suc more) is frames = begins 73 (rw (is, (first_true no_question refl).1) (omega arith)) (omega arith) (rw is (omega (arith, frames)))
+  go zero is frames = begins 5 (rw (is, (first_true no_question refl).2) (omega arith)) (rw is (omega (arith, frames)))
+  go (suc more) is frames = begins 73 (rw (is, (first_true no_question refl).1) (omega arith)) (rw is (omega (arith, frames)))
 
 pub rises_above : (x : Ascent) (r : ℕ) (gs : List Gear) (left : ℕ) → IsAscent x → r < MASK24 → ((m : ℕ) → wants gs m ≡ true → r < m) → IsOpened gs
     → NoneNamed gs
     → 106 * count_by is_wanted gs + 32 ≤ left → Rises false stage.Free (above x r) (sought (asked_next (above x r))) gs left
 rises_above x r gs left is small past ready unnamed frames = go (count_by is_wanted gs) refl frames where
-  knows : Knows (wants gs) (above x r)
-  knows = record { above = λ m has. let over : r < m = past m has in omega (arith, over); below = λ low. absurd (omega (arith, low)) }
-
-  begins : (budget : ℕ) → thirds_for (count_by is_wanted gs) (above x r) no_question ≤ 3 * budget → 4 ≤ budget
-      → budget + after_rise (count_by is_wanted gs) ≤ left → Rises false stage.Free (above x r) (sought (asked_next (above x r))) gs left
-  begins budget enough some frames = record {
-    before = no_question;
-    way = (above_true x r no_question is small refl).0;
-    running = refl;
-    knows = knows;
-    number = refl;
-    ready = ready;
-    unnamed = unnamed;
-    stage_is = nothing_before (asked_next (above x r));
-    budget = budget;
-    enough = enough;
-    afford = rw (new_room no_question (asked_next (above x r)) (nothing_before (asked_next (above x r)))).1 some;
-    frames = rw (new_room no_question (asked_next (above x r)) (nothing_before (asked_next (above x r)))).1 (omega (arith, frames));
-  }
+  begins : (budget : ℕ) → thirds_for (count_by is_wanted gs) (above x r) no_question ≤ 3 * budget → budget + after_rise (count_by is_wanted gs) ≤ left
+      → Rises false stage.Free (above x r) (sought (asked_next (above x r))) gs left
+  begins budget =
+      rises_anew (above x r) gs left budget (above_true x r no_question is small refl).0 refl
+      (record { above = λ m has. let over : r < m = past m has in omega (arith, over); below = λ low. absurd (omega (arith, low)) }) ready unnamed
 
   go : (count : ℕ) → count_by is_wanted gs ≡ count → 106 * count + 32 ≤ left
       → Rises false stage.Free (above x r) (sought (asked_next (above x r))) gs left
-  go zero counts frames = begins 31 (rw (counts, (above_true x r no_question is small refl).2) (omega arith)) (omega arith) (rw counts (omega (arith, frames)))
+  go zero counts frames = begins 31 (rw (counts, (above_true x r no_question is small refl).2) (omega arith)) (rw counts (omega (arith, frames)))
   go (suc more) counts frames =
-      begins 95 (rw (counts, (above_true x r no_question is small refl).1) (omega arith)) (omega arith) (rw counts (omega (arith, frames)))
+      begins 95 (rw (counts, (above_true x r no_question is small refl).1) (omega arith)) (rw counts (omega (arith, frames)))
 
 -- ---------------------------------------------------------------- the table
 

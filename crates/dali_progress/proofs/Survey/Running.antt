@@ -19,8 +19,7 @@ use Rattle.dali_progress.proofs.Logged.{world_logged}
 use Rattle.dali_progress.proofs.Running.{IsLeft, AreLeft, Comes, Came}
 use Rattle.dali_progress.proofs.Survey.Stands.{Begun}
 use Rattle.dali_progress.proofs.Along.{Runs, runs_on}
-use Rattle.dali_progress.proofs.Survey.Goes.{of_survey}
-use Rattle.dali_progress.proofs.Survey.Bounded.{argument, began_at, starts}
+use Rattle.dali_progress.proofs.Survey.Goes.{of_survey, argument, began_at, starts}
 
 -- A RUN OF ROUNDS after a survey began, on an installation with one controller.
 

@@ -1,117 +1,147 @@
-use Rattle.std.proofs.Common.{◌≡◌, ℕ, ◌+◌, ◌-◌, ◌*◌, ◌<◌, ◌≤◌, ◌⊎◌, inl, inr, Bool, true, false, zero, suc, List, [], ◌∷◌, refl, sym, ap, subst, ◌∙◌, arith}
-use Rattle.std.proofs.Common.{length, Some, None, w64}
-use Rattle.std.specs.Prelude.{◌==◌, ◌%◌, nat_lt, ◌&&◌, if◌then◌else◌}
+use Rattle.std.proofs.Common.{◌≡◌, ℕ, ◌+◌, ◌*◌, ◌<◌, ◌≤◌, Bool, true, false, zero, suc, List, refl, sym, subst, ◌∙◌, arith, ◌-◌, inl, inr, [], ◌∷◌, ap, Option}
+use Rattle.std.proofs.Common.{Some, None}
+use Rattle.std.specs.Prelude.{if◌then◌else◌, ◌%◌, nat_lt, ◌&&◌}
 use Rattle.std.specs.List.{count_by}
-use Rattle.std.proofs.lemmas.Bool.Decides.{nat_tests}
 use Rattle.dali_frame.specs.declared.frames.Answer.{Answer}
-use Rattle.dali_frame.specs.declared.frames.Answer.TheVariants.{Silence, Byte}
-use Rattle.dali_frame.specs.declared.numbers.SearchAddress.{SearchAddress}
-use Rattle.dali_frame.specs.Random.{value_of, number_of, high_of, middle_of, low_of, MASK24}
 use Rattle.dali_special.specs.declared.command.Command.{Command}
-use Rattle.dali_special.specs.declared.command.Command.TheVariants.{Terminate, Withdraw, SearchMiddle, SearchLow, QueryShort, RandomByte}
-use Rattle.dali_special.specs.declared.command.Part.{Part}
-use Rattle.dali_special.specs.declared.command.Part.TheVariants.{High, Middle, Low}
 use Rattle.dali_gear.specs.declared.row.Reach.TheVariants.{Everyone}
-use Rattle.dali_gear.specs.Gear.{Gear, byte_at, draws_a_number}
-use Rattle.dali_gear.specs.Row.{takes, left_after, row_after, drawn_one, drawn_of, answers_of, heard_of}
-use Rattle.dali_gear.proofs.RowLemmas.{needs_none}
-use Rattle.dali_script.proofs.Lists.{has_map}
-use Rattle.std.proofs.lemmas.Nat.Bits.{bit_at_set_other, bit_at_clear_same, bit_at_clear_other}
-use Rattle.dali_controller.specs.Shorts.{has_short, with_short, without_short}
-use Rattle.dali_events.proofs.Search.Wanted.{number_same, same_number, after_at}
-use Rattle.dali_script.specs.Records.{Assignment, IsKept, Kept, Has}
+use Rattle.dali_gear.specs.Gear.{Gear, draws_a_number}
+use Rattle.dali_gear.specs.Row.{row_after, takes, left_after, drawn_one, drawn_of, answers_of, heard_of}
+use Rattle.dali_script.specs.Records.{Kept, Has}
 use Rattle.dali_script.specs.declared.stage.Stage.{Stage}
+use Rattle.dali_script.specs.Stages.{next_stage, byte_heard, number_heard}
+use Rattle.dali_controller.specs.declared.purpose.Purpose.TheVariants.{Calling, Drawing, Opening, Probing, Visiting, Resolving, Closing, Asking, Hunting}
+use Rattle.dali_controller.specs.declared.purpose.Purpose.TheVariants.{PassingOver}
+use Rattle.dali_controller.specs.declared.shorts.Shorts.{Shorts}
+use Rattle.dali_controller.specs.Course.{Course, sought}
+use Rattle.dali_events.specs.Wanted.{is_bare, is_wanted}
+use Rattle.dali_events.proofs.Search.Leaving as leaving
+use Rattle.dali_progress.proofs.Stands.{Sends, to_come, VisitsAt}
+use Rattle.dali_progress.proofs.Frames.{IsTaken, Seeks, one_less, at_sent, value_sought, some_is}
+use Rattle.dali_progress.proofs.Tables.{tabled_left, IsTabledTo, at_tabled}
+use Rattle.dali_progress.proofs.Survey.Drawn.{those_drawn, is_lost, AreNumbered, IsSearching, IsSoughtBy, not_randomise, row_drawn, answers_drawn, searching_of}
+use Rattle.dali_progress.proofs.Survey.Drawn.{no_draw, still_of, lost_same, seek_drawn, apart_drawn, DrewApart, AreNumbered}
+use Rattle.dali_progress.proofs.Survey.Queried.{unseen, core_then, holds_back, IsAtHand, below_on}
+use Rattle.dali_progress.proofs.Survey.Woken.{bare_after, lost_after, drew_after, IsByteLow, low_after, all_left}
+use Rattle.dali_progress.proofs.Survey.Stands.{Begun, roll_frames, Calls, Draws, survey_frames, silent_left, asked_left, Counts, AskCount, called_after}
+use Rattle.dali_progress.proofs.Survey.Stands.{hunted_after, frames_after, IsCalledFor, surplus, IsBehind, HuntAt, Hunts, SurveyEnds, SurveyCloses, SurveyAt}
+use Rattle.dali_progress.proofs.Survey.Begins.{roll_some, roll_none}
+use Rattle.dali_progress.proofs.Surveying.{IsTakenBut, RollSent, DrawSent, call_sent, draw_left, roll_sent, draw_sent, draws_short, draws_tabled, AskedAt}
+use Rattle.dali_progress.proofs.Surveying.{asked_sent}
+use Rattle.std.proofs.lemmas.Bool.Decides.{nat_tests}
+use Rattle.dali_frame.specs.declared.frames.Answer.TheVariants.{Silence, Byte, Damaged}
+use Rattle.dali_frame.specs.declared.numbers.SearchAddress.{SearchAddress}
+use Rattle.dali_frame.specs.Random.{value_of, MASK24}
+use Rattle.dali_special.specs.declared.command.Command.TheVariants.{Terminate, Withdraw, SearchMiddle, SearchLow, QueryShort, RandomByte}
+use Rattle.dali_special.specs.declared.command.Part.TheVariants.{High, Middle, Low}
+use Rattle.dali_gear.proofs.RowLemmas.{needs_none}
 use Rattle.dali_script.specs.declared.stage.Stage.TheVariants as stage
-use Rattle.dali_script.specs.Stages.{next_stage}
 use Rattle.dali_script.proofs.Transactions.{middle_next, low_next}
 use Rattle.dali_script.specs.declared.orders.End.{End}
 use Rattle.dali_script.specs.declared.orders.End.TheVariants.{AllFound, BlockFull, GaveUp}
 use Rattle.dali_search.specs.Least.{at_first}
 use Rattle.dali_search.specs.Ascending.{Ascent, asked_next}
 use Rattle.dali_controller.specs.declared.purpose.Purpose.{Purpose}
-use Rattle.dali_controller.specs.declared.purpose.Purpose.TheVariants.{Opening, Probing, Visiting, Resolving, Closing, Asking, Hunting, Calling, Drawing}
-use Rattle.dali_controller.specs.declared.purpose.Purpose.TheVariants.{PassingOver}
-use Rattle.dali_controller.specs.declared.shorts.Shorts.{Shorts}
-use Rattle.dali_controller.specs.Course.{Course, sought}
 use Rattle.dali_controller.specs.Machine.{heard_after, asked_after, asked_after_silence, asked_at, marked_at}
-use Rattle.dali_events.specs.Wanted.{gear_of, is_wanted}
-use Rattle.dali_events.proofs.Invariant.Takes.{row_length}
-use Rattle.dali_events.proofs.Invariant.Resolving.{whole_number}
-use Rattle.dali_events.proofs.Search.Leaving as leaving
 use Rattle.dali_events.proofs.Search.Leaving.{SameCore, LeavesCore, LeavesShort}
 use Rattle.dali_progress.specs.Ends.{AreTabled}
-use Rattle.dali_progress.proofs.Stands.{to_come, VisitsAt, Sends}
 use Rattle.dali_progress.proofs.Survey.Behind.{IsHunt, least_sent, behind_sent, hunt_deep}
 use Rattle.dali_progress.proofs.Survey.Rising.{rises_sent, rising_one, rising_tabled, rising_sought}
-use Rattle.dali_progress.proofs.Frames.{IsTaken, Seeks, at_sent, one_less, value_sought}
-use Rattle.dali_progress.proofs.Tables.{IsTabledTo, at_tabled, tabled_left}
-use Rattle.dali_progress.proofs.Survey.Drawn.{those_drawn, is_lost, IsSearching, IsSoughtBy, not_randomise, row_drawn, answers_drawn, searching_of, no_draw}
-use Rattle.dali_progress.proofs.Survey.Drawn.{still_of, lost_same, seek_drawn}
-use Rattle.dali_progress.proofs.Survey.Queried.{Holds, OneGear, OneShort, one_gear, AreOwned, Nobody, HasAnswered, asked_gear, core_then, holds_on, holds_back}
-use Rattle.dali_progress.proofs.Survey.Queried.{unseen, below_on}
-use Rattle.dali_progress.proofs.Survey.Woken.{IsByteLow, low_after}
-use Rattle.dali_progress.proofs.Survey.Rolls.{IsSurveyTaken, calls_sent, draws_sent}
-use Rattle.dali_progress.proofs.Survey.Stands.{Begun, survey_frames, IsClear, IsClearBut, IsClearAt, silent_left, asked_left, Tells, AskStage, Counts}
-use Rattle.dali_progress.proofs.Survey.Stands.{called_after, hunted_after, frames_after, IsCalledFor, surplus, IsBehind, HuntAt, Hunts, SurveyEnds}
-use Rattle.dali_progress.proofs.Survey.Stands.{SurveyCloses}
-use Rattle.dali_progress.proofs.Survey.Stands.{SurveyAt}
+
+-- A FRAME OF A ROLL CALL IS SENT, or one after which gear draw, and one frame less is left.
+
+but_of : (c : Command) (gs : List Gear) (numbers : List ℕ) (h : Answer) → IsTaken c gs numbers h → AreNumbered gs → IsTakenBut c gs numbers h
+but_of c gs numbers h t numbered = record { heard = λ other. t.heard; enough = t.enough; below = t.below; numbered = numbered }
+
+-- ---------------------------------------------------------------- the roll call
+
+roll_least : (silent : Bool) (drawn lost : ℕ) → 9 ≤ roll_frames silent drawn lost
+roll_least silent drawn lost = go (drawn + lost) refl where
+  ends : (b : Bool) → 9 ≤ (if b then 9 else 17)
+  ends true = omega arith
+  ends false = omega arith
+
+  go : (n : ℕ) → drawn + lost ≡ n → 9 ≤ roll_frames silent drawn lost
+  go zero is = let last = ends silent in rw (roll_none silent drawn lost is) last
+  go (suc n) is = rw (roll_some silent drawn lost (omega (arith, is))) (omega arith)
+
+abbrev CalledTo : Stage → Kept → Shorts → Course → Begun → List Gear → List ℕ → ℕ → Command → Answer → Type 0
+CalledTo s k heard c start gs numbers left d h =
+    (l : ℕ) × (left ≡ suc l) × Calls (next_stage s d h) k heard c start (row_after Everyone d 0 gs numbers) l
+
+calls_sent : (s : Stage) (k : Kept) (heard : Shorts) (c : Course) (start : Begun) (gs : List Gear) (numbers : List ℕ) (left : ℕ) (d : Command) (h : Answer)
+    → Calls s k heard c start gs left → Sends Calling c.number k s d → IsTaken d gs numbers h → IsAtHand k gs → Seeks s gs
+    → CalledTo s k heard c start gs numbers left d h
+calls_sent s k heard c start gs numbers left d h v is t told seek = (
+  less.0,
+  less.1,
+  record {
+    opened_is = v.opened_is;
+    roll = to.roll;
+    quiet = λ silent. bare_after d gs numbers to.leaves ∙ v.quiet silent;
+    first = λ some. v.first (subst (λ n. 0 < n) (lost_after d gs numbers to.leaves) some);
+    clear = v.clear;
+    settled = v.settled;
+    tabled = tabled_left (unseen start.gear) k.enrolled gs numbers d to.leaves v.tabled;
+    frames = subst (λ n. roll_frames c.tally.is_silent n (count_by is_lost (row_after Everyone d 0 gs numbers)) ≤ less.0 + call_sent (next_stage s d h))
+        (sym (drew_after d gs numbers to.leaves))
+        (subst (λ n. roll_frames c.tally.is_silent (count_by is_bare (those_drawn gs)) n ≤ less.0 + call_sent (next_stage s d h))
+        (sym (lost_after d gs numbers to.leaves)) (subst (λ n. roll ≤ less.0 + n) (sym to.one) less.2));
+  },
+) where
+  to : RollSent s c.number gs numbers d h
+  to = roll_sent s c.number k gs numbers d h v.roll is (but_of d gs numbers h t told.numbered) seek
+
+  roll : ℕ
+  roll = roll_frames c.tally.is_silent (count_by is_bare (those_drawn gs)) (count_by is_lost gs)
+
+  less : (l : ℕ) × (left ≡ suc l) × (roll ≤ l + (call_sent s + 1))
+  less =
+      let most = roll_least c.tally.is_silent (count_by is_bare (those_drawn gs)) (count_by is_lost gs) in
+      let few = to.few in
+      one_less roll left (call_sent s) v.frames (omega (arith, most, few))
+
+-- ---------------------------------------------------------------- gear draw
+
+abbrev DrawnTo : Stage → Kept → Shorts → Course → Begun → List Gear → List ℕ → ℕ → Command → Answer → Type 0
+DrawnTo s k heard c start gs numbers left d h =
+    (l : ℕ) × (left ≡ suc l) × Draws (next_stage s d h) k heard c start (row_after Everyone d 0 gs numbers) l
+
+draws_less : (rest bare left : ℕ) → suc rest + 106 * bare + 26 ≤ left → (l : ℕ) × (left ≡ suc l) × (rest + 106 * bare + 26 ≤ l)
+draws_less rest bare zero enough = absurd (omega (arith, enough))
+draws_less rest bare (suc l) enough = (l, refl, omega (arith, enough))
+
+draws_sent : (s : Stage) (k : Kept) (heard : Shorts) (c : Course) (start : Begun) (gs : List Gear) (numbers : List ℕ) (left : ℕ) (d : Command) (h : Answer)
+    → Draws s k heard c start gs left → Sends Drawing c.number k s d → IsTaken d gs numbers h → IsAtHand k gs
+    → DrawnTo s k heard c start gs numbers left d h
+draws_sent s k heard c start gs numbers left d h v is t told = (
+  less.0,
+  less.1,
+  record {
+    opened_is = v.opened_is;
+    draw = to.draw;
+    loud = v.loud;
+    somebody = subst (λ n. 0 < n) (sym same) v.somebody;
+    clear = v.clear;
+    settled = v.settled;
+    tabled = draws_tabled (unseen start.gear) k.enrolled gs numbers d to.does v.tabled;
+    frames = subst (λ n. draw_left (next_stage s d h) + 106 * n + 26 ≤ less.0) (sym same) less.2;
+  },
+) where
+  to : DrawSent Drawing s c.number gs numbers d h
+  to = draw_sent s c.number k gs numbers d h v.draw is (but_of d gs numbers h t told.numbered)
+
+  same : count_by is_bare (row_after Everyone d 0 gs numbers) ≡ count_by is_bare gs
+  same = leaving.count_bare_after d gs numbers (draws_short d gs to.does)
+
+  less : (l : ℕ) × (left ≡ suc l) × (draw_left (next_stage s d h) + 106 * count_by is_bare gs + 26 ≤ l)
+  less =
+      draws_less (draw_left (next_stage s d h)) (count_by is_bare gs) left
+      (subst (λ n. n + 106 * count_by is_bare gs + 26 ≤ left) (to.one refl) v.frames)
 
 -- A FRAME OF A SURVEY IS SENT, and one frame less is left.
 
--- and of the records
-pub record IsTold (k : Kept) (gs : List Gear) : Type 0 where
-  pub kept : IsKept k
-  pub owned : AreOwned k.reserved gs
-
--- ---------------------------------------------------------------- marks
-
-pub with_other : (s : Shorts) (b c : ℕ) → b < 64 → (c ≡ b → ⊥) → has_short (with_short s b) c ≡ has_short s c
-with_other s b c small apart = ap (λ n. n == 1) (bit_at_set_other w64 s.bits b small c apart)
-
-pub without_same : (s : Shorts) (b c : ℕ) → b < 64 → c ≡ b → has_short (without_short s b) c ≡ false
-without_same s b c small same = subst (λ n. has_short (without_short s b) n ≡ false) (sym same) (ap (λ n. n == 1) (bit_at_clear_same w64 s.bits b small))
-
-pub without_other : (s : Shorts) (b c : ℕ) → b < 64 → c < 64 → (c ≡ b → ⊥) → has_short (without_short s b) c ≡ has_short s c
-without_other s b c small within apart = ap (λ n. n == 1) (bit_at_clear_other w64 s.bits b small c within apart)
-
-pub clear_with : (k : Kept) (heard : Shorts) (b a : ℕ) → b ≡ a → a < 64 → IsClearBut k heard a → IsClearBut k (with_short heard b) a
-clear_with k heard b a same small clear c q has apart =
-    with_other heard b c (subst (λ n. n < 64) (sym same) small) (λ e. apart (e ∙ same)) ∙ clear c q has apart
-
 -- ---------------------------------------------------------------- a question
-
-some_is : (x c : Command) → Some x ≡ Some c → x ≡ c
-some_is x c e = cc
-
--- what was heard of the one gear, or of nobody
-pub heard_high : (a : ℕ) (part : Part) (gs : List Gear) (h : Answer) → OneGear gs → h ≡ heard_of (answers_of Everyone (RandomByte a part) 0 gs)
-    → ((g : ℕ) × Holds gs g a × (h ≡ Byte (byte_at part (gear_of gs g).random))) ⊎ (Nobody gs a × (h ≡ Silence))
-heard_high a part gs h one heard = go (asked_gear gs a part one) where
-  go : HasAnswered gs a part → ((g : ℕ) × Holds gs g a × (h ≡ Byte (byte_at part (gear_of gs g).random))) ⊎ (Nobody gs a × (h ≡ Silence))
-  go (inl (g, holds, answers)) = inl (g, holds, heard ∙ ap heard_of answers)
-  go (inr (none, answers)) = inr (none, heard ∙ ap heard_of answers)
-
--- the gear that told, in the row afterwards
-pub tells_on : (gs hs : List Gear) (a g : ℕ) (P : ℕ → Type 0) → SameCore gs hs → Holds gs g a → P (gear_of gs g).random → Tells hs a P
-tells_on gs hs a g P same holds told = (g, holds_on gs hs g a same holds, subst P (sym (same.each g holds.there).same_random) told)
-
-pub nobody_on : (gs hs : List Gear) (a : ℕ) → SameCore gs hs → Nobody gs a → Nobody hs a
-nobody_on gs hs a same none g holds = none g (holds_back gs hs g a same holds)
-
--- the same census, one frame later
-counts_on : (a : ℕ) (s t : Stage) (k : Kept) (marks after : Shorts) (asked now from : ℕ) (start : Begun) (gs hs : List Gear) (left l : ℕ)
-    → Counts a s k marks asked from start gs left → SameCore gs hs → AskStage t a now hs → IsClearAt t a k after
-    → 3 * (63 - a) + asked_left t now + survey_frames gs ≤ l → Counts a t k after now from start hs l
-counts_on a s t k marks after asked now from start gs hs left l v same stage clear enough = record {
-  small = v.small;
-  from_is = v.from_is;
-  settled = v.settled;
-  clear = clear;
-  same = core_then start.gear gs hs v.same same;
-  stage_is = stage;
-  tabled = below_on a start.gear k.enrolled gs hs same v.tabled;
-  frames = subst (λ n. 3 * (63 - a) + asked_left t now + (106 * n + 66) ≤ l) (sym (leaving.core_count_bare gs hs same)) enough;
-}
 
 silence_again : (n : ℕ) → n ≤ 2 → (asked_after_silence n ≤ 2) × (silent_left (asked_after_silence n) + 1 ≤ 3 - n)
 silence_again zero few = (omega arith, omega arith)
@@ -120,9 +150,54 @@ silence_again (suc (suc n)) few =
     let past : nat_lt (suc (suc n)) 2 ≡ false = grind (arith, nat_tests) in
     rw past (omega arith, omega (arith, few))
 
+few_asked : (a asked : ℕ) (gs : List Gear) → AskCount stage.Free a asked gs → asked ≤ 2
+few_asked a asked gs (inl none) = omega (arith, none)
+few_asked a asked gs (inr nobody) = nobody.1
+
 spend : (base need now wake left : ℕ) → base + need + wake ≤ left → now + 1 ≤ need → (l : ℕ) × (left ≡ suc l) × (base + now + wake ≤ l)
 spend base need now wake zero enough less = absurd (omega (arith, enough, less))
 spend base need now wake (suc l) enough less = (l, refl, omega (arith, enough, less))
+
+-- what the next question takes, and what is left
+abbrev SpentTo : ℕ → Stage → ℕ → List Gear → List Gear → ℕ → Command → Answer → Type 0
+SpentTo a s asked gs hs left c h =
+    (l : ℕ) × (left ≡ suc l) × AskCount (next_stage s c h) a (asked_at (next_stage s c h) h asked) hs
+    × (3 * (63 - a) + asked_left (next_stage s c h) (asked_at (next_stage s c h) h asked) + survey_frames gs ≤ l)
+
+first_spent : (a asked : ℕ) (gs hs : List Gear) (left : ℕ) (h : Answer) → AskCount stage.Free a asked gs → SameCore gs hs
+    → AskedAt (stage.HighAsked a (byte_heard h)) a hs → 3 * (63 - a) + (3 - asked) + survey_frames gs ≤ left
+    → SpentTo a stage.Free asked gs hs left (RandomByte a High) h
+first_spent a asked gs hs left (Byte v) (inr nobody) same told enough = absurd (nobody.0 told.1.0 (holds_back gs hs told.1.0 a same told.1.1))
+first_spent a asked gs hs left (Byte v) (inl none) same told enough =
+    let less = spend (3 * (63 - a)) (3 - asked) 2 (survey_frames gs) left enough (omega (arith, none)) in (less.0, less.1, tt, less.2)
+first_spent a asked gs hs left Silence count same told enough =
+    let again = silence_again asked (few_asked a asked gs count) in
+    let less = spend (3 * (63 - a)) (3 - asked) (silent_left (asked_after_silence asked)) (survey_frames gs) left enough again.1 in
+    (less.0, less.1, again.0, less.2)
+first_spent a asked gs hs left Damaged count same told enough =
+    let few = few_asked a asked gs count in
+    let less = spend (3 * (63 - a)) (3 - asked) 0 (survey_frames gs) left enough (omega (arith, few)) in (less.0, less.1, omega arith, less.2)
+
+counts_spent : (a : ℕ) (s : Stage) (k : Kept) (marks : Shorts) (asked from : ℕ) (n : SearchAddress) (start : Begun) (gs hs : List Gear) (left : ℕ)
+    (c : Command) (h : Answer) → Counts a s k marks asked from start gs left → Sends (Asking a) n k s c → SameCore gs hs → AskedAt (next_stage s c h) a hs
+    → SpentTo a s asked gs hs left c h
+counts_spent a stage.Free k marks asked from n start gs hs left c h v is same told =
+    subst (λ d. AskedAt (next_stage stage.Free d h) a hs → SpentTo a stage.Free asked gs hs left d h) (sym is)
+    (λ now. first_spent a asked gs hs left h v.count same now v.frames) told
+counts_spent a (stage.HighAsked b (Some u)) k marks asked from n start gs hs left c h v is same told =
+    let less = spend (3 * (63 - a)) 2 1 (survey_frames gs) left v.frames (omega arith) in
+    subst (λ d. SpentTo a (stage.HighAsked b (Some u)) asked gs hs left d h) (some_is (RandomByte b Middle) c is)
+    (rw (middle_next b (Some u) h) (less.0, less.1, tt, less.2))
+counts_spent a (stage.HighAsked b None) k marks asked from n start gs hs left c h v is same told = absurd (cc)
+counts_spent a (stage.MiddleAsked b (Some x)) k marks asked from n start gs hs left c h v is same told =
+    let less = spend (3 * (63 - a)) 1 0 (survey_frames gs) left v.frames (omega arith) in
+    subst (λ d. SpentTo a (stage.MiddleAsked b (Some x)) asked gs hs left d h) (some_is (RandomByte b Low) c is)
+    (rw (low_next b (Some x) h) (less.0, less.1, count (number_heard (Some x) h), less.2)) where
+      count : (o : Option ℕ) → AskCount (stage.Spelled b o) a 0 hs
+      count None = tt
+      count (Some m) = refl
+counts_spent a (stage.Spelled b (Some m)) k marks asked from n start gs hs left c h v is same told = absurd (cc)
+counts_spent a _ k marks asked from n start gs hs left c h v is same told = absurd v.ask.asked
 
 abbrev CountedTo : ℕ → Stage → Kept → Shorts → ℕ → ℕ → Begun → List Gear → List ℕ → ℕ → Command → Answer → Type 0
 CountedTo a s k marks asked from start gs numbers left c h =
@@ -130,147 +205,25 @@ CountedTo a s k marks asked from start gs numbers left c h =
     × Counts a (next_stage s c h) k (marked_at (next_stage s c h) h marks) (asked_at (next_stage s c h) h asked) from start
     (row_after Everyone c 0 gs numbers) l
 
-first_asked : (a : ℕ) (k : Kept) (marks : Shorts) (asked from : ℕ) (start : Begun) (gs : List Gear) (numbers : List ℕ) (left : ℕ) (h : Answer)
-    → Counts a stage.Free k marks asked from start gs left → OneGear gs → h ≡ heard_of (answers_of Everyone (RandomByte a High) 0 gs)
-    → CountedTo a stage.Free k marks asked from start gs numbers left (RandomByte a High) h
-first_asked a k marks asked from start gs numbers left h v one heard = go (heard_high a High gs h one heard) where
-  same : SameCore gs (row_after Everyone (RandomByte a High) 0 gs numbers)
-  same = leaving.core_after (RandomByte a High) gs numbers tt
-
-  go : ((g : ℕ) × Holds gs g a × (h ≡ Byte (high_of (gear_of gs g).random))) ⊎ (Nobody gs a × (h ≡ Silence))
-      → CountedTo a stage.Free k marks asked from start gs numbers left (RandomByte a High) h
-  go (inl (g, holds, is)) =
-      subst (λ b. CountedTo a stage.Free k marks asked from start gs numbers left (RandomByte a High) b) (sym is) (by v.stage_is) where
-        by : (asked ≡ 0) ⊎ (Nobody gs a × (asked ≤ 2))
-            → CountedTo a stage.Free k marks asked from start gs numbers left (RandomByte a High) (Byte (high_of (gear_of gs g).random))
-        by (inr nobody) = absurd (nobody.0 g holds)
-        by (inl none) =
-            let less = spend (3 * (63 - a)) (3 - asked) 2 (survey_frames gs) left v.frames (omega (arith, none)) in (
-              less.0,
-              less.1,
-              counts_on a stage.Free (stage.HighAsked a (Some (high_of (gear_of gs g).random))) k marks (with_short marks a) asked 0 from start gs _ left less.0
-                  v same (refl, tells_on gs _ a g (λ r. high_of (gear_of gs g).random ≡ high_of r) same holds refl)
-                  (clear_with k marks a a refl v.small (λ c q has apart. v.clear c q has)) less.2,
-            )
-  go (inr (none, is)) =
-      subst (λ b. CountedTo a stage.Free k marks asked from start gs numbers left (RandomByte a High) b) (sym is) (by (few v.stage_is)) where
-        few : (asked ≡ 0) ⊎ (Nobody gs a × (asked ≤ 2)) → asked ≤ 2
-        few (inl zero_is) = omega (arith, zero_is)
-        few (inr nobody) = nobody.1
-
-        by : asked ≤ 2 → CountedTo a stage.Free k marks asked from start gs numbers left (RandomByte a High) Silence
-        by small =
-            let again = silence_again asked small in
-            let less = spend (3 * (63 - a)) (3 - asked) (silent_left (asked_after_silence asked)) (survey_frames gs) left v.frames again.1 in (
-              less.0,
-              less.1,
-              counts_on a stage.Free (stage.HighAsked a None) k marks marks asked (asked_after_silence asked) from start gs _ left less.0 v same
-                  (refl, nobody_on gs _ a same none, again.0) v.clear less.2,
-            )
-
-second_asked : (a b u : ℕ) (k : Kept) (marks : Shorts) (asked from : ℕ) (start : Begun) (gs : List Gear) (numbers : List ℕ) (left : ℕ) (h : Answer)
-    → Counts a (stage.HighAsked b (Some u)) k marks asked from start gs left → OneGear gs → h ≡ heard_of (answers_of Everyone (RandomByte b Middle) 0 gs)
-    → CountedTo a (stage.HighAsked b (Some u)) k marks asked from start gs numbers left (RandomByte b Middle) h
-second_asked a b u k marks asked from start gs numbers left h v one heard =
-    go (heard_high a Middle gs h one (subst (λ d. h ≡ heard_of (answers_of Everyone (RandomByte d Middle) 0 gs)) v.stage_is.0 heard)) where
-      same : SameCore gs (row_after Everyone (RandomByte b Middle) 0 gs numbers)
-      same = leaving.core_after (RandomByte b Middle) gs numbers tt
-
-      go : ((g : ℕ) × Holds gs g a × (h ≡ Byte (middle_of (gear_of gs g).random))) ⊎ (Nobody gs a × (h ≡ Silence))
-          → CountedTo a (stage.HighAsked b (Some u)) k marks asked from start gs numbers left (RandomByte b Middle) h
-      go (inr (none, is)) = absurd (none v.stage_is.1.0 v.stage_is.1.1)
-      go (inl (g, holds, is)) =
-          let at : g ≡ v.stage_is.1.0 = one g v.stage_is.1.0 a holds v.stage_is.1.1 in
-          let high : u ≡ high_of (gear_of gs g).random = v.stage_is.1.2 ∙ ap (λ i. high_of (gear_of gs i).random) (sym at) in
-          let there : next_stage (stage.HighAsked b (Some u)) (RandomByte b Middle) h ≡ stage.MiddleAsked b (Some (u, middle_of (gear_of gs g).random)) =
-          rw is (middle_next b (Some u) (Byte (middle_of (gear_of gs g).random))) in
-          let less = spend (3 * (63 - a)) 2 1 (survey_frames gs) left v.frames (omega arith) in (
-            less.0,
-            less.1,
-            rw there (counts_on a (stage.HighAsked b (Some u)) (stage.MiddleAsked b (Some (u, middle_of (gear_of gs g).random))) k marks (with_short marks b)
-                asked 0 from start gs _ left less.0 v same
-                (v.stage_is.0, tells_on gs _ a g (λ r. (u ≡ high_of r) × (middle_of (gear_of gs g).random ≡ middle_of r)) same holds (high, refl))
-                (clear_with k marks b a v.stage_is.0 v.small v.clear) less.2),
-          )
-
--- a number was told: the mark goes, or it is FFFFFF, and the address is not reserved
-pub told_clear : (a b n : ℕ) (k : Kept) (marks : Shorts) (gs : List Gear) (g : ℕ) → b ≡ a → a < 64 → IsTold k gs → Holds gs g a
-    → n ≡ (gear_of gs g).random → IsClearBut k marks a → IsClear k (if n == MASK24 then with_short marks b else without_short marks b)
-told_clear a b n k marks gs g same small told holds number clear c q has = go (n == MASK24) refl (c == a) refl where
-  within : b < 64
-  within = subst (λ m. m < 64) (sym same) small
-
-  low : c < 64
-  low = told.kept.reserved.short c (has_map (λ (x : Assignment). x.0) k.reserved (c, q) has)
-
-  below : q < MASK24
-  below = told.kept.reserved_drawn q (has_map (λ (x : Assignment). x.1) k.reserved (c, q) has)
-
-  apart : (c == a) ≡ false → c ≡ a → ⊥
-  apart other e = let at : (c == a) ≡ true = number_same c a e in let never : true ≡ false = sym at ∙ other in cc
-
-  go : (t : Bool) → (n == MASK24) ≡ t → (u : Bool) → (c == a) ≡ u → has_short (if t then with_short marks b else without_short marks b) c ≡ false
-  go false drew true at = without_same marks b c within (same_number c a at ∙ sym same)
-  go false drew false other = without_other marks b c within low (λ e. apart other (e ∙ same)) ∙ clear c q has (apart other)
-  go true mask false other = with_other marks b c within (λ e. apart other (e ∙ same)) ∙ clear c q has (apart other)
-  go true mask true at =
-      let random : (gear_of gs g).random ≡ q = told.owned c q g has holds.there (holds.short ∙ ap (λ m. Some m) (sym (same_number c a at))) in
-      absurd (let top : n ≡ MASK24 = same_number n MASK24 mask in omega (arith, below, random, number, top))
-
-third_asked : (a b : ℕ) (x : ℕ × ℕ) (k : Kept) (marks : Shorts) (asked from : ℕ) (start : Begun) (gs : List Gear) (numbers : List ℕ) (left : ℕ) (h : Answer)
-    → Counts a (stage.MiddleAsked b (Some x)) k marks asked from start gs left → OneShort gs → IsTold k gs
-    → h ≡ heard_of (answers_of Everyone (RandomByte b Low) 0 gs)
-    → CountedTo a (stage.MiddleAsked b (Some x)) k marks asked from start gs numbers left (RandomByte b Low) h
-third_asked a b x k marks asked from start gs numbers left h v one told heard =
-    go (heard_high a Low gs h (one_gear gs one) (subst (λ d. h ≡ heard_of (answers_of Everyone (RandomByte d Low) 0 gs)) v.stage_is.0 heard)) where
-      same : SameCore gs (row_after Everyone (RandomByte b Low) 0 gs numbers)
-      same = leaving.core_after (RandomByte b Low) gs numbers tt
-
-      tells : (g : ℕ) → Holds gs g a → (i : ℕ) → Holds (row_after Everyone (RandomByte b Low) 0 gs numbers) i a
-          → (gear_of gs g).random ≡ (gear_of (row_after Everyone (RandomByte b Low) 0 gs numbers) i).random
-      tells g holds i has =
-          let back : Holds gs i a = holds_back gs (row_after Everyone (RandomByte b Low) 0 gs numbers) i a same has in
-          let at : g ≡ i = one_gear gs one g i a holds back in
-          ap (λ j. (gear_of gs j).random) at ∙ sym (same.each i back.there).same_random
-
-      go : ((g : ℕ) × Holds gs g a × (h ≡ Byte (low_of (gear_of gs g).random))) ⊎ (Nobody gs a × (h ≡ Silence))
-          → CountedTo a (stage.MiddleAsked b (Some x)) k marks asked from start gs numbers left (RandomByte b Low) h
-      go (inr (none, is)) = absurd (none v.stage_is.1.0 v.stage_is.1.1)
-      go (inl (g, holds, is)) =
-          let at : g ≡ v.stage_is.1.0 = one_gear gs one g v.stage_is.1.0 a holds v.stage_is.1.1 in
-          let high : x.0 ≡ high_of (gear_of gs g).random = v.stage_is.1.2.0 ∙ ap (λ i. high_of (gear_of gs i).random) (sym at) in
-          let middle : x.1 ≡ middle_of (gear_of gs g).random = v.stage_is.1.2.1 ∙ ap (λ i. middle_of (gear_of gs i).random) (sym at) in
-          let number : number_of x.0 x.1 (low_of (gear_of gs g).random) ≡ (gear_of gs g).random =
-          sym (whole_number (gear_of gs g).random x.0 x.1 (low_of (gear_of gs g).random) (sym high) (sym middle) refl) in
-          let there : next_stage (stage.MiddleAsked b (Some x)) (RandomByte b Low) h ≡ stage.Spelled b (Some (gear_of gs g).random) =
-          rw is (low_next b (Some x) (Byte (low_of (gear_of gs g).random)) ∙ ap (λ n. stage.Spelled b (Some n)) number) in
-          let less = spend (3 * (63 - a)) 1 0 (survey_frames gs) left v.frames (omega arith) in (
-            less.0,
-            less.1,
-            rw there (counts_on a (stage.MiddleAsked b (Some x)) (stage.Spelled b (Some (gear_of gs g).random)) k marks
-                (if (gear_of gs g).random == MASK24 then with_short marks b else without_short marks b) asked 0 from start gs _ left less.0 v same
-                (v.stage_is.0, tells g holds, refl)
-                (told_clear a b (gear_of gs g).random k marks gs g v.stage_is.0 v.small told holds refl v.clear) less.2),
-          )
-
 counts_sent : (a : ℕ) (s : Stage) (k : Kept) (marks : Shorts) (asked from : ℕ) (n : SearchAddress) (start : Begun) (gs : List Gear) (numbers : List ℕ)
-    (left : ℕ)
-    (c : Command) (h : Answer) → Counts a s k marks asked from start gs left → Sends (Asking a) n k s c → OneShort gs → IsTold k gs
+    (left : ℕ) (c : Command) (h : Answer) → Counts a s k marks asked from start gs left → Sends (Asking a) n k s c → IsAtHand k gs
     → h ≡ heard_of (answers_of Everyone c 0 gs) → CountedTo a s k marks asked from start gs numbers left c h
-counts_sent a stage.Free k marks asked from n start gs numbers left c h v is one told heard =
-    subst (λ d. h ≡ heard_of (answers_of Everyone d 0 gs) → CountedTo a stage.Free k marks asked from start gs numbers left d h) (sym is)
-    (first_asked a k marks asked from start gs numbers left h v (one_gear gs one)) heard
-counts_sent a (stage.HighAsked b (Some u)) k marks asked from n start gs numbers left c h v is one told heard =
-    subst (λ d. h ≡ heard_of (answers_of Everyone d 0 gs) → CountedTo a (stage.HighAsked b (Some u)) k marks asked from start gs numbers left d h)
-    (some_is (RandomByte b Middle) c is)
-    (second_asked a b u k marks asked from start gs numbers left h v (one_gear gs one)) heard
-counts_sent a (stage.HighAsked b None) k marks asked from n start gs numbers left c h v is one told heard = absurd (cc)
-counts_sent a (stage.MiddleAsked b (Some x)) k marks asked from n start gs numbers left c h v is one told heard =
-    subst (λ d. h ≡ heard_of (answers_of Everyone d 0 gs) → CountedTo a (stage.MiddleAsked b (Some x)) k marks asked from start gs numbers left d h)
-    (some_is (RandomByte b Low) c is)
-    (third_asked a b x k marks asked from start gs numbers left h v one told) heard
-counts_sent a (stage.Spelled b (Some m)) k marks asked from n start gs numbers left c h v is one told heard = absurd (cc)
-counts_sent a _ k marks asked from n start gs numbers left c h v is one told heard = absurd v.stage_is
+counts_sent a s k marks asked from n start gs numbers left c h v is told heard =
+    let to = asked_sent a s k marks n gs numbers c h v.ask is told (λ other. heard) in
+    let less = counts_spent a s k marks asked from n start gs (row_after Everyone c 0 gs numbers) left c h v is to.1 to.0.asked in (
+      less.0,
+      less.1,
+      record {
+        ask = to.0;
+        from_is = v.from_is;
+        settled = v.settled;
+        same = core_then start.gear gs (row_after Everyone c 0 gs numbers) v.same to.1;
+        count = less.2;
+        tabled = below_on a start.gear k.enrolled gs (row_after Everyone c 0 gs numbers) to.1 v.tabled;
+        frames = subst (λ m. 3 * (63 - a) + asked_left (next_stage s c h) (asked_at (next_stage s c h) h asked) + (106 * m + 66) ≤ less.0)
+            (sym (leaving.core_count_bare gs (row_after Everyone c 0 gs numbers) to.1)) less.3;
+      },
+    )
 
 -- ---------------------------------------------------------------- a search, or the opening
 
@@ -307,13 +260,13 @@ none_drawn c k (g ∷ hs) numbers x is has =
     (subst (λ ds. Has ds x) (drawn_one_none (takes Everyone k g) (draws_a_number c g) k numbers
     (drawn_of Everyone c (k + 1) hs (left_after (takes Everyone k g && draws_a_number c g) numbers)) (no_draw c g is)) has)
 
-taken_drawn : (c : Command) (gs : List Gear) (numbers : List ℕ) (h : Answer) → IsSoughtBy gs c → IsSurveyTaken c gs numbers h
+taken_drawn : (c : Command) (gs : List Gear) (numbers : List ℕ) (h : Answer) → IsSoughtBy gs c → IsTaken c gs numbers h → DrewApart gs
     → IsTaken c (those_drawn gs) numbers h
-taken_drawn c gs numbers h by t = record {
-  heard = t.taken.heard ∙ sym (ap heard_of (answers_drawn c 0 gs (still_of gs c by)));
+taken_drawn c gs numbers h by t apart = record {
+  heard = t.heard ∙ sym (ap heard_of (answers_drawn c 0 gs (still_of gs c by)));
   enough = rw (needs_none Everyone c 0 (those_drawn gs) (not_randomise c (searching_of gs c by))) (omega arith);
   below = λ x has. absurd (none_drawn c 0 (those_drawn gs) numbers x (searching_of gs c by) has);
-  apart = t.apart;
+  apart = apart_drawn gs apart;
 }
 
 -- the frame is one of a search
@@ -407,8 +360,8 @@ hunt_after _ s k x n gs numbers left c hunt at is by = absurd hunt
 
 hunts_sent : (p : Purpose) (s : Stage) (k : Kept) (heard : Shorts) (c : Course) (start : Begun) (gs : List Gear)
     (numbers : List ℕ) (left : ℕ) (d : Command) (h : Answer) → IsHunt p → Hunts false p s k heard c start gs left → Sends p c.number k s d
-    → IsSurveyTaken d gs numbers h → Seeks s gs → HuntedTo p s k heard c start gs numbers left d h
-hunts_sent p s k heard c start gs numbers left d h hunt v is t seek = (
+    → IsTaken d gs numbers h → IsAtHand k gs → Seeks s gs → HuntedTo p s k heard c start gs numbers left d h
+hunts_sent p s k heard c start gs numbers left d h hunt v is t told seek = (
   one.0,
   one.1,
   record {
@@ -436,7 +389,7 @@ hunts_sent p s k heard c start gs numbers left d h hunt v is t seek = (
 
   sent : (l : ℕ) × (v.rest ≡ suc l) × HuntAt true p (next_stage s d h) k c.ascent c.number (row_after Everyone d 0 (those_drawn gs) numbers) l
   sent =
-      hunt_sent p s k c.ascent c.number (those_drawn gs) numbers v.rest d h hunt v.at is (taken_drawn d gs numbers h by t) (seeks_drawn s gs seek)
+      hunt_sent p s k c.ascent c.number (those_drawn gs) numbers v.rest d h hunt v.at is (taken_drawn d gs numbers h by t told.apart) (seeks_drawn s gs seek)
 
   row : row_after Everyone d 0 (those_drawn gs) numbers ≡ those_drawn (row_after Everyone d 0 gs numbers)
   row = row_drawn d 0 gs numbers (searching_of gs d by) (still_of gs d by)
@@ -448,19 +401,9 @@ hunts_sent p s k heard c start gs numbers left d h hunt v is t seek = (
 
 -- ---------------------------------------------------------------- the close
 
-abbrev SameName : Gear → Gear → Type 0
-SameName g h = (h.powered ≡ g.powered) × (h.short ≡ g.short) × (h.random ≡ g.random)
-
-name_kept : (gs : List Gear) (numbers : List ℕ) (k : ℕ) → k < length gs → SameName (gear_of gs k) (gear_of (row_after Everyone Terminate 0 gs numbers) k)
-name_kept gs numbers = after_at Terminate SameName (λ g off. (refl, refl, refl)) (λ g x on. (refl, refl, refl)) gs numbers
-
 ends_still : (e : End) (k : Kept) (heard : Shorts) (gs : List Gear) (numbers : List ℕ) → SurveyEnds e k heard gs
     → SurveyEnds e k heard (row_after Everyone Terminate 0 gs numbers)
-ends_still AllFound k heard gs numbers all = λ i in_row on.
-    let there : i < length gs = subst (λ m. i < m) (row_length Everyone Terminate 0 gs numbers) in_row in
-    let same = name_kept gs numbers i there in
-    let short = all i there (sym same.0 ∙ on) in
-    (short.0, same.1 ∙ short.1)
+ends_still AllFound k heard gs numbers all = all_left Terminate gs numbers tt all
 ends_still BlockFull k heard gs numbers well =
     (subst (λ n. 0 < n) (sym (leaving.count_bare_after Terminate gs numbers tt)) well.0, well.1)
 ends_still GaveUp k heard gs numbers well = well
@@ -500,13 +443,15 @@ SurveySent p s k heard asked c start gs numbers left d h =
 
 pub survey_sent : (p : Purpose) (s : Stage) (k : Kept) (heard : Shorts) (asked : ℕ) (c : Course) (start : Begun) (gs : List Gear) (numbers : List ℕ) (left : ℕ)
     (d : Command) (h : Answer) → SurveyAt false p s k heard asked c start gs left
-    → Sends p c.number k s d → IsSurveyTaken d gs numbers h → IsTold k gs → Seeks s gs → SurveySent p s k heard asked c start gs numbers left d h
+    → Sends p c.number k s d → IsTaken d gs numbers h → IsAtHand k gs → Seeks s gs → SurveySent p s k heard asked c start gs numbers left d h
 survey_sent (Asking a) s k heard asked c start gs numbers left d h at is t told seek =
-    let sent = counts_sent a s k heard asked c.from c.number start gs numbers left d h at.1 is t.one told t.taken.heard in (sent.0, sent.1, (at.0, sent.2))
-survey_sent Calling s k heard asked c start gs numbers left d h at is t told seek = calls_sent s k heard c start gs numbers left d h at is t seek
-survey_sent Hunting s k heard asked c start gs numbers left d h at is t told seek = hunts_sent Hunting s k heard c start gs numbers left d h tt at is t seek
-survey_sent Visiting s k heard asked c start gs numbers left d h at is t told seek = hunts_sent Visiting s k heard c start gs numbers left d h tt at is t seek
-survey_sent Drawing s k heard asked c start gs numbers left d h at is t told seek = draws_sent s k heard c start gs numbers left d h at is t
+    let sent = counts_sent a s k heard asked c.from c.number start gs numbers left d h at.1 is told t.heard in (sent.0, sent.1, (at.0, sent.2))
+survey_sent Calling s k heard asked c start gs numbers left d h at is t told seek = calls_sent s k heard c start gs numbers left d h at is t told seek
+survey_sent Hunting s k heard asked c start gs numbers left d h at is t told seek =
+    hunts_sent Hunting s k heard c start gs numbers left d h tt at is t told seek
+survey_sent Visiting s k heard asked c start gs numbers left d h at is t told seek =
+    hunts_sent Visiting s k heard c start gs numbers left d h tt at is t told seek
+survey_sent Drawing s k heard asked c start gs numbers left d h at is t told seek = draws_sent s k heard c start gs numbers left d h at is t told
 survey_sent Opening s k heard asked c start gs numbers left d h at is t told seek = absurd at
 survey_sent (Closing e) s k heard asked c start gs numbers left d h at is t told seek = closes_sent e s k heard c.number start gs numbers left d h at is
 survey_sent Probing s k heard asked c start gs numbers left d h at is t told seek = absurd at

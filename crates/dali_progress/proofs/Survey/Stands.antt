@@ -1,9 +1,8 @@
 use Rattle.std.proofs.Common.{◌≡◌, ℕ, ◌+◌, ◌-◌, ◌*◌, ◌<◌, ◌≤◌, ◌⊎◌, Bool, true, false, zero, suc, List, Some, None}
 use Rattle.std.specs.Prelude.{◌==◌, if◌then◌else◌}
 use Rattle.std.specs.List.{count_by}
-use Rattle.dali_frame.specs.declared.frames.Answer.{Answer}
 use Rattle.dali_frame.specs.declared.numbers.SearchAddress.{SearchAddress}
-use Rattle.dali_frame.specs.Random.{value_of, high_of, middle_of, MASK24}
+use Rattle.dali_frame.specs.Random.{value_of}
 use Rattle.dali_gear.specs.Gear.{Gear}
 use Rattle.dali_script.specs.Records.{Assignment, Kept, Has, HasAddress, InBlock}
 use Rattle.dali_script.specs.declared.stage.Stage.{Stage}
@@ -26,15 +25,15 @@ use Rattle.dali_controller.specs.Course.{Course, is_yes, sought, bytes_to_send}
 use Rattle.dali_controller.specs.Machine.{Machine}
 use Rattle.dali_controller.specs.Tally.{none_passed}
 use Rattle.dali_events.specs.Searching.{HasShort}
-use Rattle.dali_events.specs.Wanted.{gear_of, is_bare, is_wanted, wants, OfPowered, IsOpened, NoneNamed}
-use Rattle.dali_events.proofs.Search.Leaving.{SameCore, SeekHigh, SeekMiddle}
-use Rattle.dali_events.proofs.Search.Opened.{AreOpening}
+use Rattle.dali_events.specs.Wanted.{is_bare, is_wanted, wants, OfPowered, IsOpened, NoneNamed}
+use Rattle.dali_events.proofs.Search.Leaving.{SameCore}
 use Rattle.dali_progress.specs.Ends.{AreTabled}
 use Rattle.dali_progress.specs.Rounds.{IsSettled}
 use Rattle.dali_progress.proofs.Stands.{to_come, search_frames, VisitsAt, CloseStage, sent_at}
 use Rattle.dali_progress.proofs.Survey.Drawn.{those_drawn, is_lost}
 use Rattle.dali_progress.proofs.Survey.Woken.{AreLow}
-use Rattle.dali_progress.proofs.Survey.Queried.{Holds, Nobody, TabledBelow, unseen}
+use Rattle.dali_progress.proofs.Survey.Queried.{Nobody, TabledBelow, unseen}
+use Rattle.dali_progress.proofs.Surveying.{IsRollCall, IsDraw, call_sent, draw_left, IsAskedOf, IsClear}
 
 -- HOW FAR A SURVEY IS, where nothing is disturbed. `start` are the gear at its start.
 
@@ -62,43 +61,25 @@ asked_left (stage.MiddleAsked b x) asked = 1
 asked_left stage.Free asked = 3 - asked
 asked_left _ asked = 0
 
--- the gear that told what was heard so far
-abbrev pub Tells : List Gear → ℕ → (ℕ → Type 0) → Type 0
-Tells gs a P = (g : ℕ) × Holds gs g a × P (gear_of gs g).random
-
-abbrev pub AskStage : Stage → ℕ → ℕ → List Gear → Type 0
-AskStage stage.Free a asked gs = (asked ≡ 0) ⊎ (Nobody gs a × (asked ≤ 2))
-AskStage (stage.HighAsked b None) a asked gs = (b ≡ a) × Nobody gs a × (asked ≤ 2)
-AskStage (stage.HighAsked b (Some v)) a asked gs = (b ≡ a) × Tells gs a (λ r. v ≡ high_of r)
-AskStage (stage.MiddleAsked b (Some x)) a asked gs = (b ≡ a) × Tells gs a (λ r. (x.0 ≡ high_of r) × (x.1 ≡ middle_of r))
-AskStage (stage.Spelled b (Some n)) a asked gs = (b ≡ a) × ((g : ℕ) → Holds gs g a → n ≡ (gear_of gs g).random) × (asked ≡ 0)
-AskStage _ a asked gs = ⊥
-
--- what is reserved is not marked, but the one that is asked, while somebody tells a number there
-abbrev pub IsClear : Kept → Shorts → Type 0
-IsClear k heard = (c q : ℕ) → Has k.reserved (c, q) → has_short heard c ≡ false
-
-abbrev pub IsClearBut : Kept → Shorts → ℕ → Type 0
-IsClearBut k heard a = (c q : ℕ) → Has k.reserved (c, q) → (c ≡ a → ⊥) → has_short heard c ≡ false
-
-abbrev pub IsClearAt : Stage → ℕ → Kept → Shorts → Type 0
-IsClearAt (stage.HighAsked b (Some v)) a k heard = IsClearBut k heard a
-IsClearAt (stage.MiddleAsked b x) a k heard = IsClearBut k heard a
-IsClearAt _ a k heard = IsClear k heard
-
 -- before the first roll call
 pub record IsUncalled (c : Course) : Type 0 where
   pub unopened : c.opened ≡ false
   pub undrawn : c.tally.draws ≡ 0
   pub loud : c.tally.is_silent ≡ false
 
+-- a question is asked again after silence; a number told ends that
+abbrev pub AskCount : Stage → ℕ → ℕ → List Gear → Type 0
+AskCount stage.Free a asked gs = (asked ≡ 0) ⊎ (Nobody gs a × (asked ≤ 2))
+AskCount (stage.HighAsked b None) a asked gs = asked ≤ 2
+AskCount (stage.Spelled b (Some n)) a asked gs = asked ≡ 0
+AskCount _ a asked gs = Unit {0}
+
 pub record Counts (a : ℕ) (s : Stage) (k : Kept) (heard : Shorts) (asked from : ℕ) (start : Begun) (gs : List Gear) (left : ℕ) : Type 0 where
-  pub small : a < 64
+  pub ask : IsAskedOf a s k heard gs
   pub from_is : from ≡ a + 1
   pub settled : IsSettled start.kept → IsSettled k
-  pub clear : IsClearAt s a k heard
   pub same : SameCore start.gear gs
-  pub stage_is : AskStage s a asked gs
+  pub count : AskCount s a asked gs
   pub tabled : TabledBelow a start.gear k.enrolled gs
   pub frames : 3 * (63 - a) + asked_left s asked + survey_frames gs ≤ left
 
@@ -124,111 +105,28 @@ roll_frames silent drawn lost =
 abbrev pub IsFirstDraw : Tally → List Gear → Type 0
 IsFirstDraw y gs = 0 < count_by is_lost gs → y.draws ≡ 0
 
--- from INITIALISE on, what is true of each gear before it draws
-abbrev pub woken_at : Stage → Stage
-woken_at (stage.WokenHigh high) = stage.Initialised
-woken_at (stage.WokenLow high low) = stage.Initialised
-woken_at (stage.WokenMiddle high middle) = stage.Initialised
-woken_at stage.DrawFree = stage.Initialised
-woken_at (stage.Hunted r last left) = stage.Initialised
-woken_at s = s
-
 -- ---------------------------------------------------------------- the roll call
-
--- nobody answers only where nobody is without short address
-abbrev pub IsCalledBy : Answer → ℕ → List Gear → Type 0
-IsCalledBy h left gs =
-    ((is_yes h ≡ false) × (count_by is_bare gs ≡ 0) × (left < 2)) ⊎ ((is_yes h ≡ true) × (0 < count_by is_bare gs) × (left ≡ 1))
-
-abbrev pub CallStage : Stage → SearchAddress → List Gear → Type 0
-CallStage stage.Free n gs = Unit {0}
-CallStage stage.Terminated n gs = Unit {0}
-CallStage stage.InitialisedOnce n gs = Unit {0}
-CallStage stage.Initialised n gs = Unit {0}
-CallStage (stage.WokenHigh high) n gs = n.high ≡ high
-CallStage (stage.WokenLow high low) n gs = (n.high ≡ high) × (n.low ≡ low)
-CallStage (stage.Hunted r None left) n gs = (r ≡ n) × (left ≡ 2)
-CallStage (stage.Hunted r (Some h) left) n gs = (r ≡ n) × IsCalledBy h left gs
-CallStage _ n gs = ⊥
-
--- once the low byte was sent
-abbrev pub IsLowAt : Stage → List Gear → Type 0
-IsLowAt (stage.WokenLow high low) gs = AreLow gs
-IsLowAt (stage.Hunted r last left) gs = AreLow gs
-IsLowAt _ gs = Unit {0}
-
--- so many of its frames were sent
-abbrev pub call_sent : Stage → ℕ
-call_sent stage.Terminated = 1
-call_sent stage.InitialisedOnce = 2
-call_sent stage.Initialised = 3
-call_sent (stage.WokenHigh high) = 4
-call_sent (stage.WokenLow high low) = 5
-call_sent (stage.Hunted r last left) = 8 - left
-call_sent _ = 0
 
 pub record Calls (s : Stage) (k : Kept) (heard : Shorts) (c : Course) (start : Begun) (gs : List Gear) (left : ℕ) : Type 0 where
   pub opened_is : c.opened ≡ true
-  pub number : c.number ≡ sought MASK24
-  pub stage_is : CallStage s c.number gs
+  pub roll : IsRollCall s c.number gs
   pub quiet : c.tally.is_silent ≡ true → count_by is_bare gs ≡ 0
   pub first : IsFirstDraw c.tally gs
   pub clear : IsClear k heard
   pub settled : IsSettled start.kept → IsSettled k
-  pub gear : AreOpening (woken_at s) gs
-  pub low : IsLowAt s gs
   pub tabled : AreTabled (unseen start.gear) k.enrolled gs
   pub frames : roll_frames c.tally.is_silent (count_by is_bare (those_drawn gs)) (count_by is_lost gs)
       ≤ left + call_sent s
 
 -- ---------------------------------------------------------------- gear draw
 
--- at an opening whichever number they have; else only where nobody is to be searched, since nobody has drawn
-abbrev pub DrawStage : Purpose → Stage → SearchAddress → List Gear → Type 0
-DrawStage p stage.Free n gs = Unit {0}
-DrawStage p stage.Terminated n gs = Unit {0}
-DrawStage p stage.InitialisedOnce n gs = Unit {0}
-DrawStage p stage.Initialised n gs = Unit {0}
-DrawStage Drawing (stage.WokenHigh high) n gs = (n.high ≡ high) × SeekHigh gs high
-DrawStage Drawing (stage.WokenMiddle high middle) n gs = (n.high ≡ high) × (n.middle ≡ middle) × SeekMiddle gs high middle
-DrawStage Drawing stage.DrawFree n gs = Unit {0}
-DrawStage p stage.RandomisedOnce n gs = Unit {0}
-DrawStage p stage.Opened n gs = Unit {0}
-DrawStage p _ n gs = ⊥
-
--- so many frames of it are still to be sent
-abbrev pub draw_left : Stage → ℕ
-draw_left stage.Free = 8
-draw_left stage.Terminated = 7
-draw_left stage.InitialisedOnce = 6
-draw_left stage.Initialised = 5
-draw_left (stage.WokenHigh high) = 4
-draw_left (stage.WokenMiddle high middle) = 3
-draw_left stage.DrawFree = 2
-draw_left stage.RandomisedOnce = 1
-draw_left _ = 0
-
--- gear with power and without short address have no number yet
-abbrev pub NoneDrawn : List Gear → Type 0
-NoneDrawn gs = OfPowered gs (λ g. g.short ≡ None → g.random ≡ MASK24)
-
-abbrev pub IsDrawnBy : Purpose → Stage → SearchAddress → List Gear → Type 0
-IsDrawnBy Drawing stage.DrawFree n gs = NoneDrawn gs
-IsDrawnBy Drawing stage.RandomisedOnce n gs = NoneDrawn gs
-IsDrawnBy Drawing stage.Opened n gs = Unit {0}
-IsDrawnBy Drawing s n gs = NoneDrawn gs × (n ≡ sought 0xFFFEFE)
-IsDrawnBy p s n gs = Unit {0}
-
 pub record Draws (s : Stage) (k : Kept) (heard : Shorts) (c : Course) (start : Begun) (gs : List Gear) (left : ℕ) : Type 0 where
   pub opened_is : c.opened ≡ true
-  pub stage_is : DrawStage Drawing s c.number gs
+  pub draw : IsDraw Drawing s c.number gs
   pub loud : c.tally.is_silent ≡ false
   pub somebody : 0 < count_by is_bare gs
-  pub drawn : IsDrawnBy Drawing s c.number gs
   pub clear : IsClear k heard
   pub settled : IsSettled start.kept → IsSettled k
-  pub gear : AreOpening (woken_at s) gs
-  pub low : AreLow gs
   pub tabled : AreTabled (unseen start.gear) k.enrolled gs
   pub frames : draw_left s + 106 * count_by is_bare gs + 26 ≤ left
 

@@ -4,15 +4,8 @@ use Rattle.std.specs.Prelude.{◌==◌, ◌&&◌, not, nat_lt, if◌then◌else�
 use Rattle.std.specs.List.{count_by}
 use Rattle.std.proofs.lemmas.Bool.Decides.{nat_tests}
 use Rattle.dali_frame.specs.declared.frames.Answer.{Answer}
-use Rattle.dali_frame.specs.declared.frames.Answer.TheVariants.{Silence, Byte, Damaged}
-use Rattle.dali_frame.specs.declared.frames.Forward.{Forward}
 use Rattle.dali_frame.specs.declared.numbers.SearchAddress.{SearchAddress}
 use Rattle.dali_frame.specs.Random.{MASK24}
-use Rattle.dali_frame.specs.Priority.{LATER}
-use Rattle.dali_special.specs.declared.command.Command.TheVariants.{RandomByte, Initialise, Compare}
-use Rattle.dali_special.specs.declared.command.Part.TheVariants.{Middle, Low}
-use Rattle.dali_special.specs.declared.command.Target.TheVariants.{Unaddressed}
-use Rattle.dali_special.specs.Command.{command_of}
 use Rattle.dali_gear.specs.Gear.{Gear}
 use Rattle.dali_script.specs.declared.records.Record.TheVariants.{Enrol}
 use Rattle.dali_script.specs.declared.finding.Finding.{Finding}
@@ -28,27 +21,23 @@ use Rattle.dali_script.specs.declared.orders.Order.TheVariants.{Put, Commit, Don
 use Rattle.dali_script.specs.declared.orders.End.TheVariants.{AllFound}
 use Rattle.dali_controller.specs.declared.purpose.Purpose.TheVariants.{Asking, Calling}
 use Rattle.dali_controller.specs.declared.tally.Tally.{Tally}
-use Rattle.dali_controller.specs.Course.{Course, call_turn, calling, closing, hunting_first, is_yes}
+use Rattle.dali_controller.specs.Course.{Course, call_turn, calling, closing, hunting_first, is_yes, turn_of}
 use Rattle.dali_controller.specs.Tally.{none_passed, is_some_passed, heard_call, silent_call}
 use Rattle.dali_controller.specs.Machine.{Machine}
 use Rattle.dali_controller.specs.Next.{next_course, begins_at, beginning, asked_once, called_to, compared_in, blocked, is_blocked}
 use Rattle.dali_controller.specs.Orders.{machine_ordered, asked_by, Contradicts, AfterFinding, IsSought}
-use Rattle.dali_controller.specs.Whole.{IsWhole, Sends as SendsWhole}
+use Rattle.dali_controller.specs.Whole.{IsWhole}
 use Rattle.dali_controller.proofs.Given as given
 use Rattle.dali_controller.proofs.Given.{IsGivenBy, IsNoEnrolment}
 use Rattle.dali_events.specs.Wanted.{gear_of, is_wanted, is_bare, IsOpened, NoneNamed}
 use Rattle.dali_events.proofs.Search.Wanted as wanted
-use Rattle.dali_progress.proofs.Both.{never_eight}
-use Rattle.dali_progress.proofs.Later.{course_stays}
-use Rattle.dali_progress.proofs.Census.Asked.{sending_of}
 use Rattle.dali_progress.proofs.Survey.Drawn.{those_drawn, is_lost, AreNumbered, bare_split, woken_opened, woken_none_named, tabled_drawn}
-use Rattle.dali_progress.proofs.Survey.Queried.{Holds, OneShort, IsTrue, unseen, below_next}
-use Rattle.dali_progress.proofs.Survey.Stands.{Begun, survey_frames, silent_left, Counts, IsUncalled, IsCalledBy, Calls, hunted_after, SurveyAt}
-use Rattle.dali_progress.proofs.Survey.Stands.{SurveyStands}
+use Rattle.dali_progress.proofs.Survey.Queried.{Holds, OneShort, IsTrue, unseen, below_next, IsAtHand, one_gear}
+use Rattle.dali_progress.proofs.Survey.Stands.{Begun, survey_frames, silent_left, Counts, IsUncalled, Calls, hunted_after, SurveyAt, SurveyStands}
 use Rattle.dali_progress.proofs.Survey.Woken.{all_short}
-use Rattle.dali_progress.proofs.Survey.Begins.{IsAtHand, IsNext, calm_of, calm_ordered, smooth_as, turns_by, first_by, begins_whole, asked_none, asks_on}
-use Rattle.dali_progress.proofs.Survey.Begins.{hunts_first}
+use Rattle.dali_progress.proofs.Survey.Begins.{IsNext, calm_of, calm_ordered, smooth_as, first_by, begins_whole, asked_none, asks_on, hunts_first}
 use Rattle.dali_progress.proofs.Survey.Begins.{roll_some, roll_none}
+use Rattle.dali_progress.proofs.Surveying.{IsCalledBy, roll_first, roll_over}
 
 -- A CONTROLLER THAT SURVEYS ACTS on what it was told, and what it orders goes on with the survey.
 
@@ -63,17 +52,6 @@ found_at start t gs left s st is = st.trace.finding ∙ ap finding_at is
 
 -- ---------------------------------------------------------------- the census
 
--- a whole machine asks nothing more after silence
-silent_over : (t : Machine) (a b : ℕ) → t.course.purpose ≡ Asking a → stage_of t.trace ≡ stage.HighAsked b None → (f : Forward)
-    → IsWhole (machine_ordered t (Put LATER f)) → ⊥
-silent_over t a b purpose at f whole =
-    let sends = (sending_of (machine_ordered t (Put LATER f)) LATER f refl whole).sends in
-    let here : SendsWhole t.kept t.course.number (Asking a) (stage.HighAsked b None) (command_of f) =
-    subst (λ s. SendsWhole t.kept t.course.number (Asking a) s (command_of f)) at
-    (subst (λ p. SendsWhole t.kept t.course.number p (stage_of t.trace) (command_of f)) purpose
-    (subst (λ (c : Course). SendsWhole t.kept c.number c.purpose (stage_of t.trace) (command_of f)) (course_stays t (stage.HighAsked b None) at tt) sends)) in
-    absurd (let none : None ≡ Some (command_of f) = here.0 in cc)
-
 again_left : (asked : ℕ) → (asked == 0) ≡ false → 3 - asked ≤ silent_left asked
 again_left zero e = absurd (let none : (zero == 0) ≡ true = refl in cc)
 again_left (suc k) e = omega arith
@@ -85,8 +63,8 @@ silent_turns : (start : Begun) (t : Machine) (o : Order) (a b : ℕ) (gs : List 
 silent_turns start t o a b gs left g st last purpose is uncalled v whole one holds = go (t.asked == 0) refl where
   begins : o ≡ beginning (next_course t)
   begins =
-      begins_whole t o (stage.HighAsked b None) g is (λ r e. cc) (λ e. cc) (found_at start t gs left (stage.HighAsked b None) st is) last
-      (never_eight t.tries st.tries) (silent_over t a b purpose is) whole
+      begins_whole t o (Asking a) (stage.HighAsked b None) g purpose is (λ r e. cc) (λ e. cc) tt (λ f sends. (let none = sends.0 in cc))
+      (found_at start t gs left (stage.HighAsked b None) st is) last st.tries whole
 
   next : next_course t ≡ asked_once t (t.asked == 0)
   next = ap (begins_at t) is
@@ -95,24 +73,22 @@ silent_turns start t o a b gs left g st last purpose is uncalled v whole one hol
   go true none =
       asks_on start t o (a + 1) gs left (calm_of start t gs left st) begins (next ∙ ap (asked_once t) none) uncalled
       (let zero_is : t.asked ≡ 0 = grind (arith, nat_tests, none) in zero_is) v.from_is
-      (let small : a < 64 = v.small in omega (arith, small)) v.settled v.clear one holds v.same
-      (below_next a start.gear t.kept.enrolled t.kept.enrolled gs v.same v.tabled (λ x h. h) (λ i holds. absurd (v.stage_is.1 i holds)))
-      (count (silent_left t.asked) (survey_frames gs) v.small v.frames) where
+      (let small : a < 64 = v.ask.small in omega (arith, small)) v.settled v.ask.clear one holds v.same
+      (below_next a start.gear t.kept.enrolled t.kept.enrolled gs v.same v.tabled (λ x h. h) (λ i holds. absurd (v.ask.asked.1 i holds)))
+      (count (silent_left t.asked) (survey_frames gs) v.ask.small v.frames) where
         count : (some wake : ℕ) → a < 64 → 3 * (63 - a) + some + wake ≤ left → 3 * (64 - (a + 1)) + wake ≤ left
         count some wake small enough = omega (arith, small, enough)
   go false again =
       first_by start t o t.course gs left (calm_of start t gs left st) begins (next ∙ ap (asked_once t) again) st.smooth
-      (rw purpose v.small)
       (subst (λ n. SurveyAt false t.course.purpose stage.Free t.kept t.heard n t.course start gs left)
       (sym (ap (λ b. asked_by b t.asked) uncalled.unopened)) (rw purpose (
         record { unopened = uncalled.unopened; undrawn = uncalled.undrawn; loud = uncalled.loud },
         record {
-          small = v.small;
+          ask = record { small = v.ask.small; asked = tt; clear = v.ask.clear };
           from_is = v.from_is;
           settled = v.settled;
-          clear = v.clear;
           same = v.same;
-          stage_is = inr (v.stage_is.1, v.stage_is.2);
+          count = inr (v.ask.asked.1, v.count);
           tabled = v.tabled;
           frames = count (3 - t.asked) (silent_left t.asked) (survey_frames gs) (again_left t.asked again) v.frames;
         },
@@ -132,6 +108,9 @@ told_turns start t o a b n gs left g st purpose is uncalled v hand agrees = go (
   same_count : (wake : ℕ) → 3 * (63 - a) + 0 + wake ≤ left → 3 * (63 - a) + wake ≤ left
   same_count wake enough = omega (arith, enough)
 
+  told_by : (i : ℕ) → Holds gs i a → n ≡ (gear_of gs i).random
+  told_by i has = v.ask.asked.1.2 ∙ ap (λ j. (gear_of gs j).random) (one_gear gs hand.one v.ask.asked.1.0 i a v.ask.asked.1.1 has)
+
   sought : n < MASK24 → IsSought t.course.purpose t.course.number n
   sought small = subst (λ p. IsSought p t.course.number n) (sym purpose) small
 
@@ -140,31 +119,31 @@ told_turns start t o a b n gs left g st purpose is uncalled v hand agrees = go (
       → ((i : ℕ) → Holds gs i a → ((gear_of gs i).random ≡ MASK24) ⊎ Has t.kept.enrolled (a, (gear_of gs i).random))
       → IsNext start (machine_ordered t q) q gs left
   goes q begins here =
-      asks_on start t q (a + 1) gs left (calm_of start t gs left st) begins (ap (begins_at t) is) uncalled v.stage_is.2 v.from_is
-      (let small : a < 64 = v.small in omega (arith, small)) v.settled v.clear hand.one hand.holds v.same
+      asks_on start t q (a + 1) gs left (calm_of start t gs left st) begins (ap (begins_at t) is) uncalled v.count v.from_is
+      (let small : a < 64 = v.ask.small in omega (arith, small)) v.settled v.ask.clear hand.one hand.holds v.same
       (below_next a start.gear t.kept.enrolled t.kept.enrolled gs v.same v.tabled (λ x h. h) here)
-      (count (survey_frames gs) v.small v.frames)
+      (count (survey_frames gs) v.ask.small v.frames)
 
   none_drawn : (n < MASK24 → ⊥) → (i : ℕ) → Holds gs i a → ((gear_of gs i).random ≡ MASK24) ⊎ Has t.kept.enrolled (a, (gear_of gs i).random)
   none_drawn large i has = by (hand.numbered i has.there) where
     by : ((gear_of gs i).random ≡ MASK24) ⊎ ((gear_of gs i).random < MASK24)
         → ((gear_of gs i).random ≡ MASK24) ⊎ Has t.kept.enrolled (a, (gear_of gs i).random)
     by (inl mask) = inl mask
-    by (inr small) = absurd (large (subst (λ m. m < MASK24) (sym (v.stage_is.1 i has)) small))
+    by (inr small) = absurd (large (subst (λ m. m < MASK24) (sym (told_by i has)) small))
 
   enrols : IsNext start (machine_ordered t (Commit (Enrol a n))) (Commit (Enrol a n)) gs left
   enrols = (
     calm_ordered start t (Enrol a n) gs left st,
     inl (record {
       uncalled = uncalled;
-      asked = asked_none t.course.opened t.asked v.stage_is.2;
-      small = v.small;
+      asked = asked_none t.course.opened t.asked v.count;
+      small = v.ask.small;
       from_is = v.from_is;
       settled = v.settled;
-      clear = v.clear;
+      clear = v.ask.clear;
       same = v.same;
       tabled = below_next a start.gear t.kept.enrolled (t.kept.enrolled ++ (a, n) ∷ []) gs v.same v.tabled (λ x h. has_before t.kept.enrolled (a, n) x h)
-          (λ i has. inr (subst (λ r. Has (t.kept.enrolled ++ (a, n) ∷ []) (a, r)) (v.stage_is.1 i has) (has_last t.kept.enrolled (a, n))));
+          (λ i has. inr (subst (λ r. Has (t.kept.enrolled ++ (a, n) ∷ []) (a, r)) (told_by i has) (has_last t.kept.enrolled (a, n))));
       frames = same_count (survey_frames gs) v.frames;
     }),
   )
@@ -172,11 +151,11 @@ told_turns start t o a b n gs left g st purpose is uncalled v hand agrees = go (
   follows : (q : Order) → IsGivenBy t q → n < MASK24 → AfterFinding t b n q → IsNext start (machine_ordered t q) q gs left
   follows (Put p f) g small has =
       goes (Put p f) (given.spelled_known t (Put p f) b n g is (sought small) hand.kept.enrolled has)
-      (λ i told. inr (subst (λ c. Has t.kept.enrolled (c, (gear_of gs i).random)) v.stage_is.0
-      (subst (λ r. Has t.kept.enrolled (b, r)) (v.stage_is.1 i told) has)))
+      (λ i told. inr (subst (λ c. Has t.kept.enrolled (c, (gear_of gs i).random)) v.ask.asked.0
+      (subst (λ r. Has t.kept.enrolled (b, r)) (told_by i told) has)))
   follows (Commit x) g small same =
       subst (λ y. IsNext start (machine_ordered t (Commit y)) (Commit y) gs left) (sym same)
-      (subst (λ c. IsNext start (machine_ordered t (Commit (Enrol c n))) (Commit (Enrol c n)) gs left) (sym v.stage_is.0) enrols)
+      (subst (λ c. IsNext start (machine_ordered t (Commit (Enrol c n))) (Commit (Enrol c n)) gs left) (sym v.ask.asked.0) enrols)
   follows (Done e) g small never = absurd never
   follows (Halt why) g small contradicts = absurd (agrees (Resolved b n) (found_at start t gs left (stage.Spelled b (Some n)) st is) contradicts)
 
@@ -191,39 +170,37 @@ told_turns start t o a b n gs left g st purpose is uncalled v hand agrees = go (
 pub census_turns : (start : Begun) (t : Machine) (o : Order) (a : ℕ) (s : Stage) (gs : List Gear) (left : ℕ) → IsGivenBy t o → SurveyStands true start t gs left
     → IsNoEnrolment t.last → t.course.purpose ≡ Asking a → stage_of t.trace ≡ s → (s ≡ stage.Free → ⊥) → IsUncalled t.course
     → Counts a s t.kept t.heard t.asked t.course.from start gs left → IsAtHand t.kept gs → IsUncontradicted t → IsWhole (machine_ordered t o)
-    → IsNext start (machine_ordered t o) o gs left
-census_turns start t o a stage.Free gs left g st last purpose is running uncalled v hand agrees whole = absurd (running refl)
-census_turns start t o a (stage.HighAsked b None) gs left g st last purpose is running uncalled v hand agrees whole =
+    → turn_of (Asking a) t.course.number s ≡ None → IsNext start (machine_ordered t o) o gs left
+census_turns start t o a stage.Free gs left g st last purpose is running uncalled v hand agrees whole over = absurd (running refl)
+census_turns start t o a (stage.HighAsked b None) gs left g st last purpose is running uncalled v hand agrees whole over =
     silent_turns start t o a b gs left g st last purpose is uncalled v whole hand.one hand.holds
-census_turns start t o a (stage.HighAsked b (Some u)) gs left g st last purpose is running uncalled v hand agrees whole =
-    turns_by start t o (Asking a) (stage.HighAsked b (Some u)) (RandomByte b Middle) gs left g st purpose is refl
-    (subst (λ c. c < 64) (sym v.stage_is.0) v.small) refl
-census_turns start t o a (stage.MiddleAsked b (Some x)) gs left g st last purpose is running uncalled v hand agrees whole =
-    turns_by start t o (Asking a) (stage.MiddleAsked b (Some x)) (RandomByte b Low) gs left g st purpose is refl
-    (subst (λ c. c < 64) (sym v.stage_is.0) v.small) refl
-census_turns start t o a (stage.Spelled b (Some n)) gs left g st last purpose is running uncalled v hand agrees whole =
+census_turns start t o a (stage.HighAsked b (Some u)) gs left g st last purpose is running uncalled v hand agrees whole over = absurd (cc)
+census_turns start t o a (stage.MiddleAsked b (Some x)) gs left g st last purpose is running uncalled v hand agrees whole over = absurd (cc)
+census_turns start t o a (stage.Spelled b (Some n)) gs left g st last purpose is running uncalled v hand agrees whole over =
     told_turns start t o a b n gs left g st purpose is uncalled v hand agrees
-census_turns start t o a _ gs left g st last purpose is running uncalled v hand agrees whole = absurd v.stage_is
+census_turns start t o a _ gs left g st last purpose is running uncalled v hand agrees whole over = absurd v.ask.asked
 
 -- ---------------------------------------------------------------- the roll call
-
--- a no is silence
-no_silent : (h : Answer) → is_yes h ≡ false → h ≡ Silence
-no_silent Silence e = refl
-no_silent (Byte v) e = absurd (cc)
-no_silent Damaged e = absurd (cc)
-
--- nothing is asked after a yes, and after the second silence
-loud_over : (h : Answer) (room : ℕ) → is_yes h ≡ true → call_turn (Some h) room ≡ None
-loud_over Silence room e = absurd (cc)
-loud_over (Byte v) room e = refl
-loud_over Damaged room e = refl
 
 called_next : (t : Machine) (r : SearchAddress) (h : Answer) (room : ℕ) (b : Bool) → stage_of t.trace ≡ stage.Hunted r (Some h) room
     → t.course.purpose ≡ Calling
     → is_yes h ≡ b → next_course t ≡ called_to t b t.course
 called_next t r h room b is purpose said =
     ap (begins_at t) is ∙ ap (λ p. compared_in t p h) purpose ∙ ap (λ y. called_to t y t.course) said
+
+pub silent_next : (t : Machine) (r : SearchAddress) (h : Answer) (room : ℕ) (b : Bool) → stage_of t.trace ≡ stage.Hunted r (Some h) room
+    → t.course.purpose ≡ Calling → is_yes h ≡ false → t.course.tally.is_silent ≡ b
+    → next_course t ≡ (if b then closing t.course AllFound else calling (record t.course { tally = silent_call t.course.tally }))
+silent_next t r h room b is purpose said silent =
+    called_next t r h room false is purpose said
+    ∙ ap (λ y. if y then closing t.course AllFound else calling (record t.course { tally = silent_call t.course.tally })) silent
+
+pub heard_next : (t : Machine) (r : SearchAddress) (h : Answer) (room : ℕ) (b : Bool) → stage_of t.trace ≡ stage.Hunted r (Some h) room
+    → t.course.purpose ≡ Calling → is_yes h ≡ true → is_blocked t.course.tally ≡ b
+    → next_course t ≡ (if b then blocked t else hunting_first (record t.course { tally = heard_call t.course.tally }))
+heard_next t r h room b is purpose said stuck =
+    called_next t r h room true is purpose said
+    ∙ ap (λ y. if y then blocked t else hunting_first (record t.course { tally = heard_call t.course.tally })) stuck
 
 -- nobody was passed over
 unblocked : (y : Tally) → y.passed ≡ none_passed → is_blocked y ≡ false
@@ -233,36 +210,23 @@ unblocked y none = ap (λ p. not (nat_lt y.calls 3) && is_some_passed p) none �
   both false = refl
 
 -- nobody is without short address: the roll is called once more, or the close comes
-silent_call_turns : (start : Begun) (t : Machine) (o : Order) (r : SearchAddress) (h : Answer) (room : ℕ) (gs : List Gear) (left : ℕ) → IsGivenBy t o
+silent_call_turns : (start : Begun) (t : Machine) (o : Order) (r : SearchAddress) (h : Answer) (room : ℕ) (gs : List Gear) (left : ℕ)
     → SurveyStands true start t gs left → t.course.purpose ≡ Calling → stage_of t.trace ≡ stage.Hunted r (Some h) room
-    → Calls (stage.Hunted r (Some h) room) t.kept t.heard t.course start gs left → is_yes h ≡ false → count_by is_bare gs ≡ 0 → room < 2
-    → IsNext start (machine_ordered t o) o gs left
-silent_call_turns start t o r h (suc zero) gs left g st purpose is v said nobody few =
-    turns_by start t o Calling (stage.Hunted r (Some h) 1) Compare gs left g st purpose is turn tt turn where
-      turn : call_turn (Some h) 1 ≡ Some Compare
-      turn = ap (λ a. call_turn (Some a) 1) (no_silent h said)
-silent_call_turns start t o r h zero gs left g st purpose is v said nobody few = go t.course.tally.is_silent refl where
-  begins : o ≡ beginning (next_course t)
-  begins = g.followed.called r h 0 is purpose (ap (λ a. call_turn (Some a) 0) (no_silent h said))
-
+    → Calls (stage.Hunted r (Some h) room) t.kept t.heard t.course start gs left → o ≡ beginning (next_course t) → is_yes h ≡ false
+    → count_by is_bare gs ≡ 0 → IsNext start (machine_ordered t o) o gs left
+silent_call_turns start t o r h room gs left st purpose is v begins said nobody = go t.course.tally.is_silent refl where
   none : count_by is_bare (those_drawn gs) + count_by is_lost gs ≡ 0
   none = sym (bare_split gs) ∙ nobody
 
-  frames : (b : Bool) → t.course.tally.is_silent ≡ b → (if b then 9 else 17) ≤ left + 8
+  frames : (b : Bool) → t.course.tally.is_silent ≡ b → (if b then 9 else 17) ≤ left + (8 - room)
   frames b e =
-      subst (λ n. n ≤ left + 8)
+      subst (λ n. n ≤ left + (8 - room))
       (roll_none t.course.tally.is_silent (count_by is_bare (those_drawn gs)) (count_by is_lost gs) none ∙ ap (λ y. if y then 9 else 17) e) v.frames
-
-  next : (b : Bool) → t.course.tally.is_silent ≡ b
-      → next_course t ≡ (if b then closing t.course AllFound else calling (record t.course { tally = silent_call t.course.tally }))
-  next b e =
-      called_next t r h 0 false is purpose said
-      ∙ ap (λ y. if y then closing t.course AllFound else calling (record t.course { tally = silent_call t.course.tally })) e
 
   go : (b : Bool) → t.course.tally.is_silent ≡ b → IsNext start (machine_ordered t o) o gs left
   go true e =
-      first_by start t o (closing t.course AllFound) gs left (calm_of start t gs left st) begins (next true e)
-      (smooth_as t.course (closing t.course AllFound) refl refl st.smooth) tt
+      first_by start t o (closing t.course AllFound) gs left (calm_of start t gs left st) begins (silent_next t r h room true is purpose said e)
+      (smooth_as t.course (closing t.course AllFound) refl refl st.smooth)
       (record {
         stage_is = tt;
         well = all_short gs nobody;
@@ -270,40 +234,37 @@ silent_call_turns start t o r h zero gs left g st purpose is v said nobody few =
         tabled = v.tabled;
         frames = count (frames true e);
       }) where
-        count : 9 ≤ left + 8 → 1 ≤ left + 0
+        count : 9 ≤ left + (8 - room) → 1 ≤ left + 0
         count enough = omega (arith, enough)
   go false e =
-      first_by start t o (calling (record t.course { tally = silent_call t.course.tally })) gs left (calm_of start t gs left st) begins (next false e)
-      (record { way = st.smooth.way; passed = st.smooth.passed; unmissed = st.smooth.unmissed }) tt
+      first_by start t o (calling (record t.course { tally = silent_call t.course.tally })) gs left (calm_of start t gs left st) begins
+      (silent_next t r h room false is purpose said e)
+      (record { way = st.smooth.way; passed = st.smooth.passed; unmissed = st.smooth.unmissed })
       (record {
         opened_is = v.opened_is;
-        number = refl;
-        stage_is = tt;
+        roll = roll_first gs;
         quiet = λ silent. nobody;
         first = v.first;
         clear = v.clear;
         settled = v.settled;
-        gear = λ k in_row on. tt;
-        low = tt;
         tabled = v.tabled;
         frames = subst (λ n. n ≤ left + 0)
             (sym (roll_none true (count_by is_bare (those_drawn gs)) (count_by is_lost gs) none))
             (count (frames false e));
       }) where
-        count : 17 ≤ left + 8 → 9 ≤ left + 0
+        count : 17 ≤ left + (8 - room) → 9 ≤ left + 0
         count enough = omega (arith, enough)
-silent_call_turns start t o r h (suc (suc room)) gs left g st purpose is v said nobody few = absurd (omega (arith, few))
 
 -- somebody is: who drew a number is searched
-heard_call_turns : (start : Begun) (t : Machine) (o : Order) (r : SearchAddress) (h : Answer) (room : ℕ) (gs : List Gear) (left : ℕ) → IsGivenBy t o
+heard_call_turns : (start : Begun) (t : Machine) (o : Order) (r : SearchAddress) (h : Answer) (room : ℕ) (gs : List Gear) (left : ℕ)
     → SurveyStands true start t gs left → t.course.purpose ≡ Calling → stage_of t.trace ≡ stage.Hunted r (Some h) room
-    → Calls (stage.Hunted r (Some h) room) t.kept t.heard t.course start gs left → AreNumbered gs → is_yes h ≡ true → 0 < count_by is_bare gs → room ≡ 1
-    → IsNext start (machine_ordered t o) o gs left
-heard_call_turns start t o r h room gs left g st purpose is v numbered said some one =
-    hunts_first start t o heard gs left (calm_of start t gs left st) (g.followed.called r h room is purpose (loud_over h room said))
-    (called_next t r h room true is purpose said ∙ ap (λ b. if b then blocked t else hunting_first heard) (unblocked t.course.tally st.smooth.passed))
+    → Calls (stage.Hunted r (Some h) room) t.kept t.heard t.course start gs left → AreNumbered gs → o ≡ beginning (next_course t) → is_yes h ≡ true
+    → 0 < count_by is_bare gs → room ≡ 1 → IsNext start (machine_ordered t o) o gs left
+heard_call_turns start t o r h room gs left st purpose is v numbered begins said some one =
+    hunts_first start t o heard gs left (calm_of start t gs left st) begins
+    (heard_next t r h room false is purpose said (unblocked t.course.tally st.smooth.passed))
     (record { way = st.smooth.way; passed = st.smooth.passed; unmissed = st.smooth.unmissed })
-    (record { opened = v.opened_is; loud = refl; first = v.first; low = v.low }) some v.clear v.settled opened unnamed
+    (record { opened = v.opened_is; loud = refl; first = v.first; low = v.roll.low }) some v.clear v.settled opened unnamed
     (tabled_drawn (unseen start.gear) t.kept.enrolled gs v.tabled)
     (subst (λ n. 106 * n + 10 + hunted_after n (count_by is_lost gs) ≤ left) (sym count)
     (enough (count_by is_bare (those_drawn gs)) (hunted_after (count_by is_bare (those_drawn gs)) (count_by is_lost gs))
@@ -314,10 +275,10 @@ heard_call_turns start t o r h room gs left g st purpose is v numbered said some
     heard = record t.course { tally = heard_call t.course.tally }
 
     opened : IsOpened (those_drawn gs)
-    opened = woken_opened gs numbered v.gear
+    opened = woken_opened gs numbered v.roll.gear
 
     unnamed : NoneNamed (those_drawn gs)
-    unnamed = woken_none_named gs v.gear
+    unnamed = woken_none_named gs v.roll.gear
 
     count : count_by is_wanted (those_drawn gs) ≡ count_by is_bare (those_drawn gs)
     count = wanted.wanted_count (those_drawn gs) opened unnamed
@@ -327,22 +288,18 @@ heard_call_turns start t o r h room gs left g st purpose is v numbered said some
 
 pub calling_turns : (start : Begun) (t : Machine) (o : Order) (s : Stage) (gs : List Gear) (left : ℕ) → IsGivenBy t o → SurveyStands true start t gs left
     → t.course.purpose ≡ Calling → stage_of t.trace ≡ s → (s ≡ stage.Free → ⊥)
-    → Calls s t.kept t.heard t.course start gs left → AreNumbered gs → IsNext start (machine_ordered t o) o gs left
-calling_turns start t o stage.Free gs left g st purpose is running v numbered = absurd (running refl)
-calling_turns start t o stage.Terminated gs left g st purpose is running v numbered =
-    turns_by start t o Calling stage.Terminated (Initialise Unaddressed) gs left g st purpose is refl tt refl
-calling_turns start t o stage.InitialisedOnce gs left g st purpose is running v numbered =
-    turns_by start t o Calling stage.InitialisedOnce (Initialise Unaddressed) gs left g st purpose is refl tt refl
-calling_turns start t o stage.Initialised gs left g st purpose is running v numbered =
-    turns_by start t o Calling stage.Initialised _ gs left g st purpose is refl tt refl
-calling_turns start t o (stage.WokenHigh high) gs left g st purpose is running v numbered =
-    turns_by start t o Calling (stage.WokenHigh high) _ gs left g st purpose is refl tt refl
-calling_turns start t o (stage.WokenLow high low) gs left g st purpose is running v numbered =
-    turns_by start t o Calling (stage.WokenLow high low) _ gs left g st purpose is refl tt refl
-calling_turns start t o (stage.Hunted r None room) gs left g st purpose is running v numbered =
-    turns_by start t o Calling (stage.Hunted r None room) Compare gs left g st purpose is refl tt refl
-calling_turns start t o (stage.Hunted r (Some h) room) gs left g st purpose is running v numbered = go v.stage_is.1 where
-  go : IsCalledBy h room gs → IsNext start (machine_ordered t o) o gs left
-  go (inl none) = silent_call_turns start t o r h room gs left g st purpose is v none.0 none.1 none.2
-  go (inr said) = heard_call_turns start t o r h room gs left g st purpose is v numbered said.0 said.1 said.2
-calling_turns start t o _ gs left g st purpose is running v numbered = absurd v.stage_is
+    → Calls s t.kept t.heard t.course start gs left → AreNumbered gs → turn_of Calling t.course.number s ≡ None → IsNext start (machine_ordered t o) o gs left
+calling_turns start t o s gs left g st purpose is running v numbered over =
+    let at = roll_over s t.course.number gs v.roll over running in
+    go at.0 at.1 at.2 (is ∙ at.3) (subst (λ q. Calls q t.kept t.heard t.course start gs left) at.3 v) at.4
+  where
+    go : (r : SearchAddress) (h : Answer) (room : ℕ) → stage_of t.trace ≡ stage.Hunted r (Some h) room
+        → Calls (stage.Hunted r (Some h) room) t.kept t.heard t.course start gs left → call_turn (Some h) room ≡ None
+        → IsNext start (machine_ordered t o) o gs left
+    go r h room is v over = by v.roll.stage_is.1 where
+      begins : o ≡ beginning (next_course t)
+      begins = g.followed.called r h room is purpose over
+
+      by : IsCalledBy h room gs → IsNext start (machine_ordered t o) o gs left
+      by (inl none) = silent_call_turns start t o r h room gs left st purpose is v begins none.0 none.1
+      by (inr said) = heard_call_turns start t o r h room gs left st purpose is v numbered begins said.0 said.1 said.2

@@ -26,8 +26,7 @@ use Rattle.dali_progress.proofs.Along.{Runs}
 use Rattle.dali_progress.proofs.Beginnings.{runs_after}
 use Rattle.dali_progress.proofs.Survey.Drawn.{count_first}
 use Rattle.dali_progress.proofs.Survey.Stands.{SurveyEnds, AreTaken}
-use Rattle.dali_progress.proofs.Survey.Bounded.{EndsBy, began_at, starts, ended_by, true_now}
-use Rattle.dali_progress.proofs.Survey.Goes.{of_survey}
+use Rattle.dali_progress.proofs.Survey.Goes.{EndsBy, began_at, starts, ended_by, true_now, of_survey}
 use Rattle.dali_progress.proofs.Gives.{Gives, bare_before}
 use Rattle.dali_progress.proofs.Survey.Given.{all_give}
 use Rattle.dali_progress.proofs.Survey.Marked.{IsHeld, AreHeld, end_held}

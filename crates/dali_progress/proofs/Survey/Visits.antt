@@ -1,11 +1,12 @@
-use Rattle.std.proofs.Common.{◌≡◌, ℕ, ◌+◌, ◌-◌, ◌*◌, ◌<◌, ◌≤◌, ◌⊎◌, inl, inr, Bool, true, false, suc, List, [], ◌∷◌, refl, sym, ap, subst, ◌∙◌, arith}
-use Rattle.std.proofs.Common.{Option}
+use Rattle.std.proofs.Common.{◌≡◌, ℕ, ◌+◌, ◌-◌, ◌*◌, ◌<◌, ◌≤◌, ◌⊎◌, inl, inr, Bool, true, false, suc, List, [], ◌∷◌, refl, sym, ap, subst, ◌∙◌, arith, Option}
 use Rattle.std.proofs.Common.{Some, None}
 use Rattle.std.specs.Prelude.{◌==◌, ◌&&◌, nat_lt, if◌then◌else◌, is_some, MatchOption}
 use Rattle.std.specs.List.{count_by}
 use Rattle.dali_frame.specs.declared.numbers.SearchAddress.{SearchAddress}
 use Rattle.dali_frame.specs.Random.{value_of, MASK24}
 use Rattle.dali_special.specs.declared.command.Command.TheVariants.{Program}
+use Rattle.dali_special.specs.declared.command.Command.{Command}
+use Rattle.dali_special.specs.Command.{frame_of}
 use Rattle.dali_gear.specs.Gear.{Gear}
 use Rattle.dali_script.specs.declared.records.Record.TheVariants.{Reserve, Enrol}
 use Rattle.dali_script.specs.declared.finding.Finding.TheVariants.{Queried}
@@ -15,7 +16,6 @@ use Rattle.dali_script.specs.declared.stage.Stage.TheVariants as stage
 use Rattle.dali_script.specs.Stages.{stage_of}
 use Rattle.dali_script.specs.declared.orders.Order.{Order}
 use Rattle.dali_script.specs.declared.orders.Order.TheVariants.{Put, Commit, Done, Halt}
-use Rattle.dali_script.specs.declared.orders.End.{End}
 use Rattle.dali_script.specs.declared.orders.End.TheVariants.{BlockFull}
 use Rattle.dali_script.proofs.Lists.{has_map}
 use Rattle.dali_script.proofs.Members.{same_member}
@@ -25,7 +25,7 @@ use Rattle.dali_controller.specs.declared.purpose.Purpose.TheVariants.{Opening, 
 use Rattle.dali_controller.specs.declared.purpose.Purpose.TheVariants.{Asking as Counting}
 use Rattle.dali_controller.specs.declared.way.Way.{Way}
 use Rattle.dali_controller.specs.declared.way.Way.TheVariants.{Fresh, Surveying}
-use Rattle.dali_controller.specs.Course.{closing_of, address_for, least_open, is_open, is_anothers, opening_anew, closing as closing_by}
+use Rattle.dali_controller.specs.Course.{address_for, least_open, is_open, is_anothers, opening_anew, closing as closing_by, turn_of}
 use Rattle.dali_controller.specs.Machine.{Machine, is_withheld, is_withheld_by}
 use Rattle.dali_controller.specs.Next.{next_course, begins_at, course_by, may_draw, full, ungiven}
 use Rattle.dali_controller.specs.Orders.{machine_ordered, AfterFinding, AfterMaskOn, AfterMaskBy, AfterReserved}
@@ -38,16 +38,16 @@ use Rattle.dali_progress.specs.Ends.{AreTabled}
 use Rattle.dali_progress.specs.Rounds.{IsSettled}
 use Rattle.dali_progress.proofs.Stands.{search_frames, VisitFrames, Visits, Leaves}
 use Rattle.dali_progress.proofs.Tables.{tabled_over}
-use Rattle.dali_progress.proofs.Both.{never_eight, has_address, drawn_number}
+use Rattle.dali_progress.proofs.Both.{drawn_number, close_ends, entry_twice}
 use Rattle.dali_progress.proofs.Accounted.{open_is}
 use Rattle.dali_progress.proofs.Survey.Drawn.{those_drawn, is_lost, bare_split, drawn_tabled}
-use Rattle.dali_progress.proofs.Survey.Queried.{unseen}
-use Rattle.dali_progress.proofs.Survey.Stands.{Begun, called_after, Hunts, SurveyCloses, SurveyAt, SurveyStands}
-use Rattle.dali_progress.proofs.Survey.Begins.{IsAtHand, IsNext, IsHunted, Above, calm_of, calm_ordered, smooth_as, later_by, turns_by, first_by, hunts_on}
-use Rattle.dali_progress.proofs.Survey.Begins.{all_taken}
+use Rattle.dali_progress.proofs.Survey.Queried.{unseen, IsAtHand}
+use Rattle.dali_progress.proofs.Survey.Stands.{Begun, called_after, Hunts, SurveyAt, SurveyStands, Draws}
+use Rattle.dali_progress.proofs.Survey.Begins.{IsNext, IsHunted, Above, calm_of, calm_ordered, smooth_as, later_by, turns_by, first_by, hunts_on, all_taken}
 use Rattle.dali_progress.proofs.Survey.Begins.{nobody_elses}
 use Rattle.dali_progress.proofs.Survey.Turns.{IsUncontradicted, found_at, census_turns, calling_turns}
-use Rattle.dali_progress.proofs.Survey.Hunting.{drawing_turns, never_full, hunting_turns}
+use Rattle.dali_progress.proofs.Survey.Hunting.{never_full, hunting_turns, drawn_turns}
+use Rattle.dali_progress.proofs.Surveying.{draw_over}
 
 -- A CONTROLLER THAT SURVEYS ACTS, in a visit and at its close; and in whatever transaction.
 
@@ -145,13 +145,9 @@ unnamed_turns start t o r gs left g st hand purpose is v =
       go : (given_to : Option ℕ) → MatchOption given_to (HasRandom t.kept.reserved (value_of r) → ⊥) (λ a. Has t.kept.reserved (a, value_of r))
           → (free : Option ℕ) → least_open t.kept t.heard ≡ free → AfterMaskBy t r given_to free o → IsNext start (machine_ordered t o) o gs left
       go (Some a) has free least mask = by (is_withheld t a (value_of r)) refl where
-        small : a < 64
-        small = hand.kept.reserved.short a (has_address t.kept.reserved a (value_of r) has)
-
         by : (b : Bool) → is_withheld t a (value_of r) ≡ b → IsNext start (machine_ordered t o) o gs left
         by false free =
-            later_by start t o Visiting (stage.Unnamed r) (Program (Some a)) gs left st (subst (λ b. AfterReserved t a b o) free mask) small purpose is tt
-            (a, small, has, refl)
+            later_by start t o (stage.Unnamed r) (frame_of (Program (Some a))) gs left st (subst (λ b. AfterReserved t a b o) free mask) is tt
         by true withheld =
             absurd (let never : true ≡ false = sym (withheld_anothers t t.course.way a (value_of r) withheld)
             ∙ nobody_elses t.kept t.heard gs hand.holds hand.owned v.clear a (value_of r) has in cc)
@@ -161,7 +157,7 @@ unnamed_turns start t o r gs left g st hand purpose is v =
       go None none None least mask =
           first_by start t o (closing_by t.course BlockFull) gs left (calm_of start t gs left st) mask
           (ungiven_next t r false is st.smooth.way (ap (λ x. nat_lt t.course.tally.draws 3 && is_some x) least ∙ never (nat_lt t.course.tally.draws 3))
-          ∙ never_full t t.course st.smooth.unmissed) (smooth_as t.course (closing_by t.course BlockFull) refl refl st.smooth) tt
+          ∙ never_full t t.course st.smooth.unmissed) (smooth_as t.course (closing_by t.course BlockFull) refl refl st.smooth)
           (record {
             stage_is = tt;
             well = (visited_bare r t.kept t.course.number gs v.rest w, all_taken t.kept t.heard least);
@@ -224,15 +220,12 @@ withdrawn_turns start t o r a gs left g st kept purpose is v agreed = go o g (g.
         subst (Has t.kept.enrolled)
         (sym (same_member (λ (q : Assignment). q.1) t.kept.reserved x (a, value_of r) kept.reserved.random_once has reserved (number ∙ same))) entry
 
-  twice : (x : Assignment) → Has ((a, value_of r) ∷ t.kept.enrolled) x → Has t.kept.enrolled (a, value_of r) → Has t.kept.enrolled x
-  twice x (inl same) has = subst (Has t.kept.enrolled) same has
-  twice x (inr h) has = h
-
   go : (q : Order) → IsGivenBy t q → AfterFinding t a (value_of r) q → IsNext start (machine_ordered t q) q gs left
   go (Put p f) g has =
       hunts_on start t (Put p f) (value_of r) gs left (calm_of start t gs left st)
       (given.withdrawn_known t (Put p f) r a g is kept.enrolled has) (ap (begins_at t) is) hunted_so v.clear (settled has) up w.ready w.unnamed
-      (tabled_over (unseen start.gear) ((a, value_of r) ∷ t.kept.enrolled) t.kept.enrolled (those_drawn gs) (λ x h. twice x h has) tabled)
+      (tabled_over (unseen start.gear) ((a, value_of r) ∷ t.kept.enrolled) t.kept.enrolled (those_drawn gs) (entry_twice t.kept.enrolled (a, value_of r) has)
+      tabled)
       ends
   go (Commit x) g has = subst (λ y. IsNext start (machine_ordered t (Commit y)) (Commit y) gs left) (sym has) (
     calm_ordered start t (Enrol a (value_of r)) gs left st,
@@ -256,35 +249,18 @@ withdrawn_turns start t o r a gs left g st kept purpose is v agreed = go o g (g.
 
 visiting_turns : (start : Begun) (t : Machine) (o : Order) (s : Stage) (gs : List Gear) (left : ℕ) → IsGivenBy t o → SurveyStands true start t gs left
     → IsAtHand t.kept gs → t.course.purpose ≡ Visiting → stage_of t.trace ≡ s → (s ≡ stage.Free → ⊥)
-    → Hunts true Visiting s t.kept t.heard t.course start gs left → IsUncontradicted t
+    → Hunts true Visiting s t.kept t.heard t.course start gs left → IsUncontradicted t → turn_of Visiting t.course.number s ≡ None
     → IsNext start (machine_ordered t o) o gs left
-visiting_turns start t o stage.Free gs left g st hand purpose is running v agreed = absurd (running refl)
-visiting_turns start t o (stage.HighSent high) gs left g st hand purpose is running v agreed =
-    turns_by start t o Visiting (stage.HighSent high) _ gs left g st purpose is refl tt refl
-visiting_turns start t o (stage.MiddleSent high middle) gs left g st hand purpose is running v agreed =
-    turns_by start t o Visiting (stage.MiddleSent high middle) _ gs left g st purpose is refl tt refl
-visiting_turns start t o (stage.NumberSent r) gs left g st hand purpose is running v agreed =
-    turns_by start t o Visiting (stage.NumberSent r) _ gs left g st purpose is refl tt refl
-visiting_turns start t o (stage.Unnamed r) gs left g st hand purpose is running v agreed = unnamed_turns start t o r gs left g st hand purpose is v
-visiting_turns start t o (stage.Programmed r a) gs left g st hand purpose is running v agreed =
-    turns_by start t o Visiting (stage.Programmed r a) _ gs left g st purpose is refl tt refl
-visiting_turns start t o (stage.Confirmed r a) gs left g st hand purpose is running v agreed =
-    turns_by start t o Visiting (stage.Confirmed r a) _ gs left g st purpose is refl tt refl
-visiting_turns start t o (stage.Withdrawn r a) gs left g st hand purpose is running v agreed =
+visiting_turns start t o stage.Free gs left g st hand purpose is running v agreed over = absurd (running refl)
+visiting_turns start t o (stage.HighSent high) gs left g st hand purpose is running v agreed over = absurd (cc)
+visiting_turns start t o (stage.MiddleSent high middle) gs left g st hand purpose is running v agreed over = absurd (cc)
+visiting_turns start t o (stage.NumberSent r) gs left g st hand purpose is running v agreed over = absurd (cc)
+visiting_turns start t o (stage.Unnamed r) gs left g st hand purpose is running v agreed over = unnamed_turns start t o r gs left g st hand purpose is v
+visiting_turns start t o (stage.Programmed r a) gs left g st hand purpose is running v agreed over = absurd (cc)
+visiting_turns start t o (stage.Confirmed r a) gs left g st hand purpose is running v agreed over = absurd (cc)
+visiting_turns start t o (stage.Withdrawn r a) gs left g st hand purpose is running v agreed over =
     withdrawn_turns start t o r a gs left g st hand.kept purpose is v agreed
-visiting_turns start t o _ gs left g st hand purpose is running v agreed = absurd v.at.0.stage_is
-
--- ---------------------------------------------------------------- the close
-
-closing_turns : (start : Begun) (t : Machine) (o : Order) (e : End) (s : Stage) (gs : List Gear) (left : ℕ) → IsGivenBy t o → SurveyStands true start t gs left
-    → t.course.purpose ≡ Closing e → stage_of t.trace ≡ s → (s ≡ stage.Free → ⊥)
-    → SurveyCloses e s t.kept t.heard start gs left → IsNext start (machine_ordered t o) o gs left
-closing_turns start t o e stage.Free gs left g st purpose is running v = absurd (running refl)
-closing_turns start t o e stage.Terminated gs left g st purpose is running v =
-    let ends : o ≡ Done e =
-    given.closed t o e g (ap closing_of purpose) is (found_at start t gs left stage.Terminated st is) (never_eight t.tries st.tries) in
-    subst (λ q. IsNext start (machine_ordered t q) q gs left) (sym ends) (v.well, v.tabled, v.settled)
-closing_turns start t o e _ gs left g st purpose is running v = absurd v.stage_is
+visiting_turns start t o _ gs left g st hand purpose is running v agreed over = absurd v.at.0.stage_is
 
 -- ---------------------------------------------------------------- of whatever transaction
 
@@ -293,17 +269,25 @@ pub turned : (start : Begun) (t : Machine) (o : Order) (gs : List Gear) (left : 
     → IsAtHand t.kept gs → IsUncontradicted t → IsWhole (machine_ordered t o) → IsNoEnrolment t.last
     → (stage_of t.trace ≡ stage.Free → ⊥)
     → IsNext start (machine_ordered t o) o gs left
-turned start t o gs left g st hand agreed whole last running = go t.course.purpose refl st.at where
+turned start t o gs left g st hand agreed whole last running = by (turn_of t.course.purpose t.course.number (stage_of t.trace)) refl where
   go : (p : Purpose) → t.course.purpose ≡ p → SurveyAt true p (stage_of t.trace) t.kept t.heard t.asked t.course start gs left
-      → IsNext start (machine_ordered t o) o gs left
-  go (Counting a) purpose at =
-      census_turns start t o a (stage_of t.trace) gs left g st last purpose refl running at.0 at.1 hand agreed whole
-  go Calling purpose at = calling_turns start t o (stage_of t.trace) gs left g st purpose refl running at hand.numbered
-  go Drawing purpose at = drawing_turns start t o (stage_of t.trace) gs left g st last purpose refl running at
-  go Hunting purpose at = hunting_turns start t o (stage_of t.trace) gs left g st purpose refl running at
-  go Visiting purpose at = visiting_turns start t o (stage_of t.trace) gs left g st hand purpose refl running at agreed
-  go (Closing e) purpose at = closing_turns start t o e (stage_of t.trace) gs left g st purpose refl running at
-  go Opening purpose at = absurd at
-  go Probing purpose at = absurd at
-  go PassingOver purpose at = absurd at
-  go (Resolving a) purpose at = absurd at
+      → turn_of p t.course.number (stage_of t.trace) ≡ None → IsNext start (machine_ordered t o) o gs left
+  go (Counting a) purpose at over =
+      census_turns start t o a (stage_of t.trace) gs left g st last purpose refl running at.0 at.1 hand agreed whole over
+  go Calling purpose at over = calling_turns start t o (stage_of t.trace) gs left g st purpose refl running at hand.numbered over
+  go Drawing purpose at over =
+      let drew = draw_over Drawing (stage_of t.trace) t.course.number gs tt at.draw over running in
+      drawn_turns start t o gs left g st last drew (subst (λ s. Draws s t.kept t.heard t.course start gs left) drew at)
+  go Hunting purpose at over = hunting_turns start t o (stage_of t.trace) gs left g st purpose refl running at over
+  go Visiting purpose at over = visiting_turns start t o (stage_of t.trace) gs left g st hand purpose refl running at agreed over
+  go (Closing e) purpose at over =
+      subst (λ q. IsNext start (machine_ordered t q) q gs left)
+      (sym (close_ends t o e (stage_of t.trace) g purpose refl running at.stage_is st.trace.finding st.tries)) (at.well, at.tabled, at.settled)
+  go Opening purpose at over = absurd at
+  go Probing purpose at over = absurd at
+  go PassingOver purpose at over = absurd at
+  go (Resolving a) purpose at over = absurd at
+
+  by : (q : Option Command) → turn_of t.course.purpose t.course.number (stage_of t.trace) ≡ q → IsNext start (machine_ordered t o) o gs left
+  by (Some c) turn = turns_by start t o t.course.purpose (stage_of t.trace) c gs left g st refl refl turn
+  by None over = go t.course.purpose refl st.at over

@@ -1,6 +1,5 @@
 use Rattle.std.proofs.Common.{◌≡◌, ℕ, ◌+◌, ◌<◌, ◌≤◌, ◌⊎◌, inl, inr, Bool, true, false, zero, suc, List, [], ◌∷◌, refl, sym, ap, subst, ◌∙◌, arith, length}
-use Rattle.std.proofs.Common.{Option}
-use Rattle.std.proofs.Common.{Some, None}
+use Rattle.std.proofs.Common.{Option, Some, None}
 use Rattle.std.specs.Prelude.{◌&&◌, nat_le, if◌then◌else◌}
 use Rattle.std.specs.List.{count_by}
 use Rattle.std.proofs.lemmas.Bool.Decides.{nat_tests}
@@ -28,16 +27,17 @@ use Rattle.dali_events.proofs.Search.Opened.{AreOpening, IsOpening}
 use Rattle.dali_progress.proofs.Tables.{LeavesNames}
 use Rattle.dali_progress.proofs.Survey.Drawn.{those_drawn, is_undrawn, is_lost, bare_split, count_first, count_nothing, of_drawn, undrawn_random, woken_short}
 use Rattle.dali_progress.proofs.Survey.Drawn.{AreNumbered}
+use Rattle.dali_progress.proofs.Frames.{short_left}
 
 -- GEAR WITHOUT SHORT ADDRESS while the roll is called, and while they draw.
 
 -- ---------------------------------------------------------------- how many they are
 
 -- frames that leave power, short and random addresses
-abbrev SameNames : Gear → Gear → Type 0
+abbrev pub SameNames : Gear → Gear → Type 0
 SameNames g h = (h.powered ≡ g.powered) × (h.short ≡ g.short) × (h.random ≡ g.random)
 
-names_left : (c : Command) (g : Gear) (x : ℕ) → LeavesNames c → SameNames g (gear_taken c x g)
+pub names_left : (c : Command) (g : Gear) (x : ℕ) → LeavesNames c → SameNames g (gear_taken c x g)
 names_left Randomise g x leaves = absurd leaves
 names_left (Program short) g x leaves = absurd leaves
 names_left _ g x leaves = (refl, refl, refl)
@@ -83,6 +83,11 @@ all_short gs none k h on = go (gear_of gs k).short refl where
   go (Some a) e = (a, e)
   go None e =
       absurd (let some : 0 < count_by is_bare gs = count_there is_bare gs k h (wanted.is_bare_by (gear_of gs k) on e) in omega (arith, some, none))
+
+-- and a frame that gives none leaves it
+pub all_left : (d : Command) (gs : List Gear) (numbers : List ℕ) → LeavesShort d → OfPowered gs HasShort
+    → OfPowered (row_after Everyone d 0 gs numbers) HasShort
+all_left d gs numbers leaves all k in_row on = short_left d gs numbers k leaves in_row on (all k)
 
 -- and the other way round
 pub none_bare : (hs : List Gear) → OfPowered hs HasShort → count_by is_bare hs ≡ 0
