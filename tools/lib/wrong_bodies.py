@@ -20,8 +20,6 @@ from collections.abc import Callable, Iterable, Iterator
 
 from lib import proving
 
-# How many edits are tried by one check: each loads what it reads once.
-TOGETHER = 30
 # What a try comes to.
 REFUSED, PROVED, BAD, UNSURE = "refused", "proved", "BAD EDIT", "NOT TRIED"
 HEAD = re.compile(r"\s*(?:pub(?:\(\w+\))? )?(?:const )?(?:unsafe )?fn (\w+)")
@@ -33,8 +31,10 @@ class Unfit(Exception):
 
 
 class Edit(typing.NamedTuple):
-    """An edit of a file of a crate: what it puts in place of what, and the functions in which that stands."""
+    """An edit of a file of a crate: the folder in which it stands and its name there, what it puts in place of what, and the functions in
+    which that stands."""
 
+    folder: str
     name: str
     file: str
     pairs: list[tuple[str, str]]
@@ -66,7 +66,7 @@ def read(file: pathlib.Path, crate: proving.Crate) -> Edit:
         raise Unfit("it wants a line 'file:', and then pairs of lines 'old:' and 'new:', and no other line")
     if texts[::2] == texts[1::2]:
         raise Unfit("it changes nothing")
-    edit = Edit(file.name, words[0][1], list(zip(texts[::2], texts[1::2])), set())
+    edit = Edit(file.parent.name, file.name, words[0][1], list(zip(texts[::2], texts[1::2])), set())
     text, changed = edit.applied((crate.folder / edit.file).read_text())
     return edit._replace(functions=functions(edit.file, text.splitlines(), changed))
 
@@ -157,12 +157,12 @@ def check(crate: proving.Crate, edits: list[Edit], paths: Iterable[str]) -> tupl
         return checked(crate, place, paths)
 
 
-def check_planted(crate: proving.Crate, edits: list[Edit]) -> tuple[str, dict[str, str]]:
+def check_planted(crate: proving.Crate, edits: list[Edit]) -> tuple[str, dict[tuple[str, str], str]]:
     """Checks the functions of edits, planted beside the right ones: what was said, and the path of each edit that could be planted."""
     with tempfile.TemporaryDirectory() as folder:
         place = pathlib.Path(folder)
         lay_out(crate, place)
-        paths = {edit.name: path for number, edit in enumerate(edits) if (path := plant(crate, place, edit, number))}
+        paths = {edit[:2]: path for number, edit in enumerate(edits) if (path := plant(crate, place, edit, number))}
         return checked(crate, place, paths.values())[1] if paths else "", paths
 
 
@@ -185,7 +185,7 @@ def refused(said: str, functions: set[str]) -> str | None:
 
 def proved(said: str, functions: set[str]) -> bool:
     """Whether each of these functions is proved."""
-    names = re.findall(r"^fn (\S+): proved$", said, re.M)
+    names = re.findall(r"^fn (\S+): proved(?:, may wait)?$", said, re.M)
     return all(any(name == it or name.endswith(f"::{it}") for name in names) for it in functions)
 
 
@@ -212,7 +212,7 @@ def tried(crate: proving.Crate, edits: list[Edit]) -> Iterator[Came]:
             yield from tried(crate, half)
         return
     for edit in edits:
-        why = refused(said, {paths[edit.name]}) if edit.name in paths else None
+        why = refused(said, {paths[edit[:2]]}) if edit[:2] in paths else None
         yield edit, *((REFUSED, why) if why else alone(crate, edit, REFUSED))
 
 
@@ -227,7 +227,7 @@ def accepted(crate: proving.Crate, edits: list[Edit]) -> Iterator[Came]:
     """What the prover says of a crate with each of these twins, and why."""
     said, paths = check_planted(crate, edits)
     for edit in edits:
-        is_so = edit.name in paths and proved(said, {paths[edit.name]})
+        is_so = edit[:2] in paths and proved(said, {paths[edit[:2]]})
         yield edit, *((PROVED, "") if is_so else alone(crate, edit, PROVED))
 
 
@@ -265,7 +265,8 @@ def folders(kinds: tuple[str, ...], names: Iterable[str]) -> list[tuple[proving.
 
 
 def run(title: str, tries: list[tuple[proving.Crate, str]], trial: Trial, wanted: str, is_planted_alone: bool = False) -> int:
-    """Tries the edits that stand in folders of crates, or those alone that can be planted: each by a trial that must come to what is wanted.
+    """Tries the edits that stand in folders of crates, all of a crate at once, or those alone that can be planted: each by a trial that must
+    come to what is wanted.
 
     Prints what each came to, and answers the status of a command.
     """
@@ -273,23 +274,22 @@ def run(title: str, tries: list[tuple[proving.Crate, str]], trial: Trial, wanted
         return status
     count = {True: 0, False: 0}
 
-    def tell(crate, kept, name, kind, why):
+    def tell(crate, folder, name, kind, why):
         count[kind == wanted] += 1
-        print(f"{kept} {crate.name}/{name}: {kind}{': ' if why else ''}{why}", flush=True)
+        print(f"{folder} {crate.name}/{name}: {kind}{': ' if why else ''}{why}", flush=True)
 
-    def try_all(crate, kept, edits):
+    def try_all(crate, edits):
         for edit, kind, why in trial(crate, edits):
-            tell(crate, kept, edit.name, kind, why)
+            tell(crate, edit.folder, edit.name, kind, why)
 
+    of_crates = {}
+    for crate, folder in tries:
+        edits, unfit = edits_of(crate, folder)
+        for name, why in unfit:
+            tell(crate, folder, name, BAD, why)
+        of_crates.setdefault(crate, []).extend(plantable(crate, edits) if is_planted_alone else edits)
     with concurrent.futures.ThreadPoolExecutor(proving.processors()) as lanes:
-        running = []
-        for crate, kept in tries:
-            edits, unfit = edits_of(crate, kept)
-            for name, why in unfit:
-                tell(crate, kept, name, BAD, why)
-            edits = plantable(crate, edits) if is_planted_alone else edits
-            running += [lanes.submit(try_all, crate, kept, edits[at : at + TOGETHER]) for at in range(0, len(edits), TOGETHER)]
-        for it in running:
+        for it in [lanes.submit(try_all, crate, edits) for crate, edits in of_crates.items()]:
             it.result()
     print(f"{count[True]} passed, {count[False]} failed")
     return 1 if count[False] else 0
