@@ -129,10 +129,11 @@ fn one_controller_surveys_gear_from_the_factory(rt: HostRuntime) -> Result<(), F
     surveys_nobody(&rt)
 }
 
-/// Whether a line says that a controller ended by itself: it found nobody more, or its block was full.
+/// Whether a line says that a controller ended by itself. On a busy machine it may give up, where the others end its
+/// searches again and again.
 fn has_ended(line: &&str) -> bool {
     let end = word(line, 2);
-    word(line, 0) == "controller" && (end == "all-found" || end == "block-full")
+    word(line, 0) == "controller" && matches!(end, "all-found" | "block-full" | "gave-up")
 }
 
 /// Whether a line shows a gear with a short address.
