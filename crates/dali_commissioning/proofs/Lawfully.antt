@@ -10,8 +10,9 @@ use Rattle.dali_script.specs.declared.orders.Input.TheVariants.{Start, Survey, H
 use Rattle.dali_script.specs.Records.{Assignment}
 use Rattle.dali_frame.specs.declared.frames.Answer.{Answer}
 use Rattle.dali_frame.specs.declared.numbers.SearchAddress.{SearchAddress}
-use Rattle.dali_script.specs.Scripts.{Lawful, Resolve, Open, Hunt, Close, AreAsking, ASKING}
-use Rattle.dali_commissioning.specs.Unaddressed.{waking, comparing, ending, AreLawful}
+use Rattle.dali_frame.specs.Random.{high_of, middle_of, low_of}
+use Rattle.dali_script.specs.Scripts.{Lawful, Resolve, Open, Hunt, PassOver, Close, AreAsking, ASKING}
+use Rattle.dali_commissioning.specs.Unaddressed.{waking, withdrawing, comparing, ending, AreLawful}
 use Rattle.dali_commissioning.specs.Census.{AreHeard, entries_of, query_at, part_at}
 
 queried : (a n : ℕ) → a < 64 → command_of (query_at a n) ≡ RandomByte a (part_at n)
@@ -52,6 +53,35 @@ pub ended : (b : Block) (reserved : List Assignment) (heard : List Answer) → A
 unfolding command_of
 ended b reserved [] = (Close, tt, refl)
 ended b reserved (h ∷ more) = ((Close, tt, refl), tt)
+
+abbrev at_number : ℕ → SearchAddress
+at_number r = record { high = high_of r; middle = middle_of r; low = low_of r }
+
+pub withdrawn : (b : Block) (reserved : List Assignment) (r : ℕ) (heard : List Answer) → AreLawful b reserved [] (withdrawing r) heard
+unfolding command_of
+withdrawn b reserved r [] = (PassOver (at_number r), tt, refl)
+withdrawn b reserved r (h ∷ []) = ((PassOver (at_number r), tt, refl), (PassOver (at_number r), tt, (refl, tt, refl)))
+withdrawn b reserved r (h ∷ i ∷ []) = (
+  (PassOver (at_number r), tt, refl),
+  ((PassOver (at_number r), tt, (refl, tt, refl)), (PassOver (at_number r), tt, (refl, tt, (refl, tt, refl)))),
+)
+withdrawn b reserved r (h ∷ i ∷ j ∷ []) = (
+  (PassOver (at_number r), tt, refl),
+  (
+    (PassOver (at_number r), tt, (refl, tt, refl)),
+    ((PassOver (at_number r), tt, (refl, tt, (refl, tt, refl))), (PassOver (at_number r), tt, (refl, tt, (refl, tt, (refl, tt, refl))))),
+  ),
+)
+withdrawn b reserved r (h ∷ i ∷ j ∷ k ∷ more) = (
+  (PassOver (at_number r), tt, refl),
+  (
+    (PassOver (at_number r), tt, (refl, tt, refl)),
+    (
+      (PassOver (at_number r), tt, (refl, tt, (refl, tt, refl))),
+      ((PassOver (at_number r), tt, (refl, tt, (refl, tt, (refl, tt, refl)))), tt),
+    ),
+  ),
+)
 
 abbrev all_ones : SearchAddress
 all_ones = record { high = 255; middle = 255; low = 255 }

@@ -8,3 +8,4 @@ pub mod Larger
 pub mod Ran
 pub mod Spelled
 mod Blocks
+pub mod Giving

@@ -7,17 +7,17 @@ use Rattle.dali_script.specs.declared.orders.Input.{Input}
 use Rattle.dali_commissioning.specs.Drivers.{Talk}
 use Rattle.dali_commissioning.specs.declared.unaddressed.Putting.{Putting}
 use Rattle.dali_commissioning.specs.Census.{answer_told}
-use Rattle.dali_commissioning.specs.Unaddressed.{asking, IsPutSo, ArePut, is_yes, joined_yes, found_at, found_by, AreTried, AreLeftOver, AreLostSo}
+use Rattle.dali_commissioning.specs.Unaddressed.{IsPutSo, ArePut, is_yes, joined_yes, found_at, found_by, AreTried, AreLeftOver, AreLostSo}
 use Rattle.dali_commissioning.proofs.Asked.{is_heard}
 
 -- all was tried so often, and lost
-pub record HaveTried (count : ℕ) (x y : Talk) : Type 0 where
+pub record HaveTried (puttings : List Putting) (count : ℕ) (x y : Talk) : Type 0 where
   pub tried : List (List Input)
-  pub are : AreTried tried x y
+  pub are : AreTried puttings tried x y
   pub counted : length tried ≡ count
 
-pub none_tried : (x : Talk) → HaveTried 0 x x
-none_tried x = record { tried = []; are = refl; counted = refl }
+pub none_tried : (puttings : List Putting) (x : Talk) → HaveTried puttings 0 x x
+none_tried puttings x = record { tried = []; are = refl; counted = refl }
 
 -- what putting the frames once came to
 abbrev pub ComesTo : List Putting → Option Bool → Talk → Talk → Type 0
@@ -63,10 +63,9 @@ pub lost_first : (all puttings : List Putting) (p : Putting) (told : Input) (x y
 lost_first all puttings p told x y heard are put told_so is =
     subst (λ l. ComesTo l None x y) (sym are) (put_lost p puttings told x y heard put told_so is)
 
-pub tried_more : (count : ℕ) (puttings : List Putting) (x y z : Talk) (found : Option Bool) → HaveTried count x y
-    → puttings ≡ asking → ComesTo puttings found y z → found ≡ None → HaveTried (count + 1) x z
-tried_more count puttings x y z found so_far are comes none =
-    let (told, put, says) = subst (λ p. ComesTo p found y z) are comes in
+pub tried_more : (count : ℕ) (puttings : List Putting) (x y z : Talk) (found : Option Bool) → HaveTried puttings count x y
+    → ComesTo puttings found y z → found ≡ None → HaveTried puttings (count + 1) x z
+tried_more count puttings x y z found so_far (told, put, says) none =
     let one : suc (length so_far.tried) ≡ length so_far.tried + 1 = omega arith in
     record {
       tried = told ∷ so_far.tried;
@@ -75,10 +74,9 @@ tried_more count puttings x y z found so_far are comes none =
     }
 
 pub found_at_last : (count : ℕ) (puttings : List Putting) (x y z : Talk) (outcome : Option Bool) (found : Bool)
-    → HaveTried count x y → puttings ≡ asking → ComesTo puttings outcome y z → outcome ≡ Some found → AreLeftOver found x z
-found_at_last count puttings x y z outcome found so_far are comes is =
-    let (told, put, says) = subst (λ p. ComesTo p outcome y z) are comes in
+    → HaveTried puttings count x y → ComesTo puttings outcome y z → outcome ≡ Some found → AreLeftOver puttings found x z
+found_at_last count puttings x y z outcome found so_far (told, put, says) is =
     (so_far.tried, told, y, so_far.are, put, sym says ∙ is)
 
-pub all_lost : (count : ℕ) (x y : Talk) → HaveTried count x y → count ≡ 8 → AreLostSo x y
-all_lost count x y so_far is = (so_far.tried, so_far.are, so_far.counted ∙ is)
+pub all_lost : (count : ℕ) (puttings : List Putting) (x y : Talk) → HaveTried puttings count x y → count ≡ 8 → AreLostSo puttings x y
+all_lost count puttings x y so_far is = (so_far.tried, so_far.are, so_far.counted ∙ is)

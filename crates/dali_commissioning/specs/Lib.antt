@@ -6,3 +6,5 @@ pub mod Census
 pub mod Unaddressed
 pub mod Places
 pub mod Runs
+pub mod Looking
+pub mod Giving

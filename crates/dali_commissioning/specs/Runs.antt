@@ -21,7 +21,7 @@ use Rattle.dali_commissioning.specs.declared.beginning.Begun.TheVariants as begu
 use Rattle.dali_commissioning.specs.Drivers.{Talk}
 use Rattle.dali_commissioning.specs.declared.beginning.Checked.{Checked}
 use Rattle.dali_commissioning.specs.Census.{AreCounted, IsLost, is_addressed}
-use Rattle.dali_commissioning.specs.Unaddressed.{AreLeftOver, AreLostSo}
+use Rattle.dali_commissioning.specs.Unaddressed.{asking, AreLeftOver, AreLostSo}
 use Rattle.dali_commissioning.specs.Steps.{Step, first_told, last_order, committed_by}
 use Rattle.dali_commissioning.specs.Steps.{has_committed}
 use Rattle.dali_commissioning.specs.Conducted.{Conducted, Commits, Stays, order_of}
@@ -154,7 +154,7 @@ pub record IsChecked {S : Type 0} (is_up is_sound : S → Type 0) (holds : S →
   pub at : Talk
   pub counted : AreCounted (without_records block) others 0 found.replies.items x at
   pub all : length found.replies.items ≡ 64
-  pub unaddressed : AreLeftOver found.has_unaddressed at y
+  pub unaddressed : AreLeftOver asking found.has_unaddressed at y
 
 -- a question of a check was given up
 abbrev pub IsCheckLost : Block → List Block → Talk → Talk → Type 0
@@ -164,7 +164,7 @@ IsCheckLost block others x y =
     × (at : Talk)
     × AreCounted (without_records block) others 0 replies x at
     × (length replies ≡ 64)
-    × AreLostSo at y)
+    × AreLostSo asking at y)
 
 -- the first reserved short address outside of a block
 abbrev pub outside : Block → List Assignment → Option ℕ

@@ -2,10 +2,11 @@ use Rattle.std.specs.Prelude.{◌≡◌, ◌⊎◌, ℕ, Bool, true, false, ◌|
 use Rattle.std.specs.Prelude.{Option, Some, None, length}
 use Rattle.dali_frame.specs.declared.frames.Answer.{Answer}
 use Rattle.dali_frame.specs.declared.frames.Answer.TheVariants.{Silence, Byte, Damaged}
+use Rattle.dali_frame.specs.Random.{high_of, middle_of, low_of}
 use Rattle.dali_special.specs.declared.command.Target.TheVariants.{Unaddressed}
 use Rattle.dali_special.specs.declared.command.Command.{Command}
 use Rattle.dali_special.specs.declared.command.Command.TheVariants.{Terminate, Initialise}
-use Rattle.dali_special.specs.declared.command.Command.TheVariants.{Compare}
+use Rattle.dali_special.specs.declared.command.Command.TheVariants.{Compare, Withdraw}
 use Rattle.dali_special.specs.declared.command.Command.TheVariants.{SearchHigh, SearchMiddle}
 use Rattle.dali_special.specs.declared.command.Command.TheVariants.{SearchLow}
 use Rattle.dali_special.specs.Command.{frame_of}
@@ -34,22 +35,42 @@ comparing =
 abbrev pub ending : List Command
 ending = Terminate ∷ []
 
+-- Gear with this number are withdrawn in between, where others are asked for (WITHDRAW): they do
+-- not answer then.
+abbrev pub withdrawing : ℕ → List Command
+withdrawing r =
+    SearchHigh (high_of r) ∷ SearchMiddle (middle_of r) ∷ SearchLow (low_of r) ∷ Withdraw ∷ []
+
 -- how each is put: its priority, its half of a pair, and whether it asks
 abbrev pub put_so : ℕ → Command → Half → Bool → Putting
 put_so p c half asks = record { priority = p; frame = frame_of c; half = half; asks = asks }
 
-abbrev pub asking : List Putting
-asking =
+abbrev pub woken_then : List Putting → List Putting
+woken_then more =
     put_so 3 Terminate Whole false
     ∷ put_so 1 (Initialise Unaddressed) First false
-    ∷ put_so 1 (Initialise Unaddressed) Second false
-    ∷ put_so 3 (SearchHigh 255) Whole false
+    ∷ put_so 1 (Initialise Unaddressed) Second false ∷ more
+
+abbrev pub asked_to_the_end : List Putting
+asked_to_the_end =
+    put_so 3 (SearchHigh 255) Whole false
     ∷ put_so 1 (SearchLow 255) Whole false
     ∷ put_so 1 (SearchMiddle 255) Whole false
     ∷ put_so 1 Compare Whole true
     ∷ put_so 1 Compare Whole true
     ∷ put_so 1 Compare Whole true
     ∷ put_so 3 Terminate Whole false ∷ []
+
+abbrev pub asking : List Putting
+asking = woken_then asked_to_the_end
+
+abbrev pub asking_beside : ℕ → List Putting
+asking_beside r =
+    woken_then
+    (put_so 3 (SearchHigh (high_of r)) Whole false
+    ∷ put_so 1 (SearchMiddle (middle_of r)) Whole false
+    ∷ put_so 1 (SearchLow (low_of r)) Whole false
+    ∷ put_so 1 Withdraw Whole false ∷ asked_to_the_end)
 
 abbrev pub IsPutSo : Putting → Input → Talk → Talk → Type 0
 IsPutSo p told x y = IsPut p.priority p.frame p.half told x y
@@ -84,28 +105,29 @@ found_by (p ∷ puttings) [] = None
 found_by (p ∷ puttings) (told ∷ more) =
     found_at p.asks (answer_told told) (found_by puttings more)
 
--- all of it was tried so often, last first, and each time a frame was lost
-abbrev pub AreTried : List (List Input) → Talk → Talk → Type 0
-AreTried [] x y = y ≡ x
-AreTried (told ∷ before) x y =
+-- all of them were tried so often, last first, and each time a frame was lost
+abbrev pub AreTried : List Putting → List (List Input) → Talk → Talk → Type 0
+AreTried puttings [] x y = y ≡ x
+AreTried puttings (told ∷ before) x y =
     (mid : Talk)
-    × AreTried before x mid
-    × ArePut asking told mid y
-    × (found_by asking told ≡ None)
+    × AreTried puttings before x mid
+    × ArePut puttings told mid y
+    × (found_by puttings told ≡ None)
 
 -- ASKED TO THE END: whether somebody was heard.
-abbrev pub AreLeftOver : Bool → Talk → Talk → Type 0
-AreLeftOver found x y =
+abbrev pub AreLeftOver : List Putting → Bool → Talk → Talk → Type 0
+AreLeftOver puttings found x y =
     (before : List (List Input))
     × (told : List Input)
     × (mid : Talk)
-    × AreTried before x mid
-    × ArePut asking told mid y
-    × (found_by asking told ≡ Some found)
+    × AreTried puttings before x mid
+    × ArePut puttings told mid y
+    × (found_by puttings told ≡ Some found)
 
 -- GIVEN UP after eight times.
-abbrev pub AreLostSo : Talk → Talk → Type 0
-AreLostSo x y = (tried : List (List Input)) × AreTried tried x y × (length tried ≡ 8)
+abbrev pub AreLostSo : List Putting → Talk → Talk → Type 0
+AreLostSo puttings x y =
+    (tried : List (List Input)) × AreTried puttings tried x y × (length tried ≡ 8)
 
 -- each of these frames may follow those before it, whatever was heard after them, for every sender
 abbrev pub AreLawful : Block → List Assignment → List Entry → List Command → List Answer → Type 0

@@ -1,6 +1,6 @@
 //! What follows from the contracts of this crate, in its words. Programs don't call these.
 
-ghost use Rattle.std.specs.Prelude.{◌≡◌, ℕ, ◌<◌, ◌≤◌, true, Some, List, [], length};
+ghost use Rattle.std.specs.Prelude.{◌≡◌, ℕ, ◌<◌, ◌≤◌, true, None, Some, List, [], length};
 ghost use Rattle.dali_frame.specs.declared.frames.Forward.{Forward};
 ghost use Rattle.dali_script.specs.Due.{accepts};
 ghost use Rattle.dali_script.specs.declared.orders.Due.TheVariants as due;
@@ -13,8 +13,11 @@ ghost use Rattle.dali_reserve.specs.Store.{IsReplay};
 ghost use Rattle.dali_commissioning.specs.declared.lines.Half.{Half};
 ghost use Rattle.dali_commissioning.specs.Lines.{put_text, Says, told_text, told_of, IsByte};
 ghost use Rattle.dali_commissioning.specs.Census.{AreHeard, entries_of, query_at};
-ghost use Rattle.dali_commissioning.specs.Unaddressed.{waking, comparing, ending, AreLawful};
+ghost use Rattle.dali_commissioning.specs.Unaddressed.{waking, withdrawing, comparing, ending, AreLawful};
 ghost use Rattle.dali_frame.specs.declared.frames.Answer.{Answer};
+ghost use Rattle.dali_controller.specs.Machine.{Machine};
+ghost use Rattle.dali_commissioning.specs.Steps.{Step, AreSteps, committed_by};
+ghost use Rattle.dali_commissioning.specs.Giving.{ReserveNothing, Gives};
 
 use dali_frame::laws::frames_are_spelled;
 
@@ -27,15 +30,25 @@ pub fn questions_are_lawful()
 {}
 
 /// The frames by which gear without short address are asked are three transactions that every controller may send,
-/// whatever was heard: none of them gives an address, draws a number or withdraws a gear.
+/// whatever was heard, and so is a fourth one, by which those with one random address are withdrawn: none of them gives
+/// an address or draws a number.
 #[tactic(auto, using(crate::proofs::Lawfully::ended))]
 pub fn asking_for_the_unaddressed_is_lawful()
     ensures woken { (b : Block) (reserved : List Assignment) (heard : List Answer)
         → AreLawful b reserved [] waking heard }
+    ensures withdrawn { (b : Block) (reserved : List Assignment) (r : ℕ) (heard : List Answer)
+        → AreLawful b reserved [] (withdrawing r) heard }
     ensures compared { (b : Block) (reserved : List Assignment) (heard : List Answer)
         → AreLawful b reserved [] comparing heard }
     ensures ended { (b : Block) (reserved : List Assignment) (heard : List Answer)
         → AreLawful b reserved [] ending heard }
+{}
+
+/// A machine without reservations gives no address as long as it is told of none that was kept: whatever else it is
+/// told, it orders no PROGRAM SHORT ADDRESS.
+pub fn who_reserves_nothing_gives_nothing()
+    ensures { (m n : Machine) (steps : List Step) → m.kept.reserved ≡ [] → m.last ≡ None → AreSteps m steps n
+        → ReserveNothing (committed_by steps) → Gives steps → ⊥ }
 {}
 
 /// The records of a controller are records of every larger block: whatever it committed with the smaller one, it might

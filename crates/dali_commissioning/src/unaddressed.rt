@@ -1,16 +1,16 @@
-//! Gear without short address: whether there is any.
+//! Gear without short address: whether there is any, and any other than one.
 
 ghost use Rattle.std.specs.Prelude.{◌≡◌, ◌||◌, List, Some, Err, IfOk};
 ghost use Rattle.dali_frame.specs.declared.frames.Answer.{Answer};
 ghost use Rattle.dali_script.specs.declared.orders.Input.{Input};
 ghost use Rattle.dali_commissioning.specs.Drivers.{talk_of};
-ghost use Rattle.dali_commissioning.specs.Unaddressed.{put_so, is_yes, joined_yes, ArePut, found_by, asking};
-ghost use Rattle.dali_commissioning.specs.Unaddressed.{AreLeftOver, AreLostSo};
+ghost use Rattle.dali_commissioning.specs.Unaddressed.{put_so, is_yes, joined_yes, ArePut, found_by};
+ghost use Rattle.dali_commissioning.specs.Unaddressed.{asking, asking_beside, AreLeftOver, AreLostSo};
 
 use crate::driver::{DriverFault, DriverLink};
 use crate::fault::CommissionFault;
 use crate::lines::Half;
-use dali_frame::{Answer, Forward, Priority};
+use dali_frame::{Answer, Forward, Priority, Random24};
 use dali_script::Input;
 use dali_special::{Command, Target};
 use std::io::{Read, Write};
@@ -69,6 +69,49 @@ fn asking() -> [Putting; 10]
     ]
 }
 
+/// The same, where gear with this random address are withdrawn first: they do not answer then.
+fn asking_beside(random: Random24) -> [Putting; 14]
+    ensures { result ≡ asking_beside random }
+{
+    let (first, later) = (Priority::FIRST, Priority::LATER);
+    [
+        put_so(first, Command::Terminate, Half::Whole, false),
+        put_so(
+            later,
+            Command::Initialise(Target::Unaddressed),
+            Half::First,
+            false,
+        ),
+        put_so(
+            later,
+            Command::Initialise(Target::Unaddressed),
+            Half::Second,
+            false,
+        ),
+        put_so(
+            first,
+            Command::SearchHigh(random.high()),
+            Half::Whole,
+            false,
+        ),
+        put_so(
+            later,
+            Command::SearchMiddle(random.middle()),
+            Half::Whole,
+            false,
+        ),
+        put_so(later, Command::SearchLow(random.low()), Half::Whole, false),
+        put_so(later, Command::Withdraw, Half::Whole, false),
+        put_so(first, Command::SearchHigh(0xFF), Half::Whole, false),
+        put_so(later, Command::SearchLow(0xFF), Half::Whole, false),
+        put_so(later, Command::SearchMiddle(0xFF), Half::Whole, false),
+        put_so(later, Command::Compare, Half::Whole, true),
+        put_so(later, Command::Compare, Half::Whole, true),
+        put_so(later, Command::Compare, Half::Whole, true),
+        put_so(first, Command::Terminate, Half::Whole, false),
+    ]
+}
+
 /// Whether an answer to a frame says that somebody is there.
 fn is_yes(asks: bool, heard: Answer) -> bool
     ensures { result ≡ is_yes asks heard }
@@ -109,24 +152,50 @@ fn put_all<R: Read, W: Write>(
     }
 }
 
-/// Whether gear are there that have no short address: they are initialised, asked three times, and disabled again.
-/// Where one of these frames is lost all begins again, eight times in a row at most. No gear draws a random address, is
-/// given a short one, or is withdrawn.
-pub fn has_unaddressed<R: Read, W: Write>(
+/// Puts frames until each was heard, eight times in a row at most. Whether one of them was heard to find somebody.
+fn put_to_the_end<R: Read, W: Write>(
     driver: &mut DriverLink<R, W>,
+    puttings: &[Putting],
 ) -> Result<bool, CommissionFault>
-    ensures answered { IfOk result (λ found. AreLeftOver found
+    ensures answered { IfOk result (λ found. AreLeftOver puttings.now found
         (talk_of R.remaining W.contents driver.old) (talk_of R.remaining W.contents driver.new)) }
-    ensures lost { result ≡ Err CommissionFault.QuestionLost → AreLostSo
+    ensures lost { result ≡ Err CommissionFault.QuestionLost → AreLostSo puttings.now
         (talk_of R.remaining W.contents driver.old) (talk_of R.remaining W.contents driver.new) }
 {
-    let puttings = asking();
     for _ in 0..LOST {
-        match put_all(driver, &puttings) {
+        match put_all(driver, puttings) {
             Ok(Some(found)) => return Ok(found),
             Ok(None) => {}
             Err(fault) => return Err(CommissionFault::Driver(fault)),
         }
     }
     Err(CommissionFault::QuestionLost)
+}
+
+/// Whether gear are there that have no short address: they are initialised, asked three times, and disabled again.
+/// Where one of these frames is lost all begins again, eight times in a row at most. No gear draws a random address, is
+/// given a short one, or is withdrawn.
+pub fn has_unaddressed<R: Read, W: Write>(
+    driver: &mut DriverLink<R, W>,
+) -> Result<bool, CommissionFault>
+    ensures answered { IfOk result (λ found. AreLeftOver asking found
+        (talk_of R.remaining W.contents driver.old) (talk_of R.remaining W.contents driver.new)) }
+    ensures lost { result ≡ Err CommissionFault.QuestionLost → AreLostSo asking
+        (talk_of R.remaining W.contents driver.old) (talk_of R.remaining W.contents driver.new) }
+{
+    put_to_the_end(driver, &asking())
+}
+
+/// Whether gear without short address are there that have another random address than this one: they are asked as by
+/// `has_unaddressed`, once those with this one are withdrawn.
+pub(crate) fn has_others<R: Read, W: Write>(
+    driver: &mut DriverLink<R, W>,
+    random: Random24,
+) -> Result<bool, CommissionFault>
+    ensures answered { IfOk result (λ found. AreLeftOver (asking_beside random) found
+        (talk_of R.remaining W.contents driver.old) (talk_of R.remaining W.contents driver.new)) }
+    ensures lost { result ≡ Err CommissionFault.QuestionLost → AreLostSo (asking_beside random)
+        (talk_of R.remaining W.contents driver.old) (talk_of R.remaining W.contents driver.new) }
+{
+    put_to_the_end(driver, &asking_beside(random))
 }
