@@ -21,6 +21,7 @@ WORDS = {
         "dali_commission-check.txt": ["check", "--help"],
         "dali_commission-identify.txt": ["identify", "--help"],
         "dali_commission-table.txt": ["table", "--help"],
+        "dali_commission-replace.txt": ["replace", "--help"],
         "dali_commission-version.txt": ["--version"],
     },
 }

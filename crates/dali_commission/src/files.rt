@@ -1,11 +1,14 @@
 //! Records in files, each a SQLite database.
 
-use dali_commission_program::{Borrower, Failure, StoreFault, Stores};
-use dali_reserve::KeepError;
-use dali_script::Block;
+use crate::places::{folder_of, place};
+use dali_commission_program::{Actor, Borrower, Failure, Holder, StoreFault, Stores};
+use dali_reserve::{Keep, KeepError};
+use dali_script::{Block, Kept};
 use dali_sqlite::{CopyError, SqliteKeep, open_copy};
 use sqlite::{Alter, Connection, Error, ErrorCode, File, FileStore};
-use std::io::ErrorKind;
+use std::alloc::Global;
+use std::fs::TryLockError;
+use std::io::{ErrorKind, Write};
 use std::{fs, io};
 
 /// How many bytes a file of records may have: some 3 million records.
@@ -185,18 +188,144 @@ fn failure(fault: StoreFault) -> Failure {
     Failure::Store(fault)
 }
 
-/// Closes a database, and leaves its file alone: what is in the log is copied into it, and the log is removed while the
-/// file is still locked. Whether all was copied.
-fn closed(rt: &HostRuntime, name: &str, conn: Connection<FileStore<File>>) -> bool {
+/// What the records in a database are, and the database.
+fn noted<S: Alter + Drop>(conn: Connection<S>) -> Result<(Connection<S>, Kept), Failure> {
+    let mut store = match SqliteKeep::over(conn, Block::ALL) {
+        Ok(store) => store,
+        Err(error) => return Err(failure(StoreFault::Store(error))),
+    };
+    match store.read() {
+        Ok(kept) => Ok((store.into_connection(), kept)),
+        Err(error) => Err(failure(StoreFault::Store(error))),
+    }
+}
+
+/// Closes a database, and leaves its file alone, which stays locked as long as the files are there: what is in the log
+/// is copied into it, and the log is removed. None where not all was copied.
+fn shut(
+    rt: &HostRuntime,
+    name: &str,
+    conn: Connection<FileStore<File>>,
+) -> Option<sqlite::Files<File>> {
     match conn.close_files() {
         Ok(files) => {
             if let Ok(log) = log_of(rt, name) {
                 let _ = fs::remove_file(rt, &log);
             }
-            drop(files);
-            true
+            Some(files)
         }
-        Err(_) => false,
+        Err(_) => None,
+    }
+}
+
+/// The same, and lets go of the file. Whether all was copied.
+fn closed(rt: &HostRuntime, name: &str, conn: Connection<FileStore<File>>) -> bool {
+    shut(rt, name, conn).is_some()
+}
+
+/// Files of records that are open, each with its name, in the order of these.
+type Open<'a> = Vec<(&'a str, Connection<FileStore<File>>)>;
+
+fn open_one<'a>(
+    rt: &HostRuntime,
+    name: &'a str,
+    open: &mut Open<'a>,
+    all: &mut Vec<Kept>,
+) -> Result<(), Failure> {
+    let (conn, kept) = noted(opened(rt, name)?)?;
+    if open.push((name, conn)).is_err() || all.push(kept).is_err() {
+        return Err(failure(StoreFault::Store(KeepError::NoMemory)));
+    }
+    Ok(())
+}
+
+/// Opens files of records, and notes what they have.
+fn open_all<'a, H: Holder>(
+    rt: &HostRuntime,
+    names: &'a [String],
+    holder: &H,
+    open: &mut Open<'a>,
+    all: &mut Vec<Kept>,
+) -> Result<(), Failure> {
+    for name in names {
+        if let Err(failure) = open_one(rt, name.as_str(), open, all) {
+            return Err(holder.refused(name, failure));
+        }
+    }
+    Ok(())
+}
+
+/// Closes a file of records, and adds it to those that are closed.
+fn shut_one(
+    rt: &HostRuntime,
+    name: &str,
+    conn: Connection<FileStore<File>>,
+    files: &mut Vec<sqlite::Files<File>>,
+) -> Result<(), Failure> {
+    match shut(rt, name, conn) {
+        Some(file) => match files.push(file) {
+            Ok(()) => Ok(()),
+            Err(_) => Err(failure(StoreFault::Store(KeepError::NoMemory))),
+        },
+        None => Err(failure(StoreFault::Store(KeepError::StoreFailed))),
+    }
+}
+
+/// Closes files of records, which stay locked as long as what is answered is there.
+fn shut_all<H: Holder>(
+    rt: &HostRuntime,
+    holder: &H,
+    open: Open<'_>,
+) -> Result<Vec<sqlite::Files<File>>, Failure> {
+    let mut files = Vec::new(rt.alloc());
+    let mut done = Ok(());
+    for (name, conn) in open {
+        if let Err(failure) = shut_one(rt, name, conn, &mut files) {
+            done = Err(holder.refused(name, failure));
+        }
+    }
+    match done {
+        Ok(()) => Ok(files),
+        Err(failure) => Err(failure),
+    }
+}
+
+/// What was done in a folder is on its disk then.
+fn settled(rt: &HostRuntime, name: &str) -> io::Result<()> {
+    fs::File::open(rt, folder_of(name))?.sync_all()
+}
+
+fn written(rt: &HostRuntime, name: &str, text: &str) -> io::Result<()> {
+    let mut file = fs::File::create(rt, name)?;
+    file.write_all(text.as_bytes())?;
+    file.sync_all()
+}
+
+fn removed(rt: &HostRuntime, name: &str) -> io::Result<()> {
+    match fs::remove_file(rt, name) {
+        Err(error) if error.kind() != ErrorKind::NotFound => Err(error),
+        _ => settled(rt, name),
+    }
+}
+
+fn renamed(rt: &HostRuntime, from: &str, to: &str) -> io::Result<()> {
+    fs::rename(rt, from, to)?;
+    settled(rt, to)
+}
+
+/// What came of a call of the system.
+fn answered(done: io::Result<()>) -> Result<(), Failure> {
+    match done {
+        Ok(()) => Ok(()),
+        Err(error) => Err(failure(system_fault(error.kind()))),
+    }
+}
+
+/// A name that is made of another one.
+fn made(alloc: Global, name: &str, end: &str) -> Result<String, Failure> {
+    match format!(in alloc; "{name}{end}") {
+        Ok(name) => Ok(name),
+        Err(_) => Err(failure(StoreFault::Store(KeepError::NoMemory))),
     }
 }
 
@@ -224,5 +353,63 @@ impl Stores for Files<'_> {
     fn lend_copy<B: Borrower>(&self, name: &str, borrower: &B) -> Result<(), Failure> {
         let mut store = copied(self.rt, name).map_err(failure)?;
         borrower.take(&mut store)
+    }
+
+    fn place_of(&self, alloc: Global, name: &str) -> Result<String, Failure> {
+        match place(self.rt, alloc, name) {
+            Ok(place) => Ok(place),
+            Err(_) => Err(failure(StoreFault::Store(KeepError::NoMemory))),
+        }
+    }
+
+    fn hold<H: Holder>(&self, alloc: Global, names: &[String], holder: &H) -> Result<(), Failure> {
+        let mut open = Vec::new(alloc);
+        let mut all = Vec::new(alloc);
+        let done = match open_all(self.rt, names, holder, &mut open, &mut all) {
+            Ok(()) => holder.take(&all),
+            Err(failure) => Err(failure),
+        };
+        let shut = shut_all(self.rt, holder, open);
+        done?;
+        let _files = shut?;
+        holder.then()
+    }
+
+    fn alone<A: Actor>(&self, name: &str, actor: &A) -> Result<(), Failure> {
+        let file = match fs::File::open(self.rt, name) {
+            Ok(file) => file,
+            Err(error) => return Err(failure(system_fault(error.kind()))),
+        };
+        if let Err(TryLockError::WouldBlock) = file.try_lock() {
+            return Err(failure(StoreFault::Locked));
+        }
+        actor.act()
+    }
+
+    fn text(&self, _alloc: Global, name: &str) -> Result<Option<String>, Failure> {
+        match fs::read_to_string(self.rt, name) {
+            Ok(text) => Ok(Some(text)),
+            Err(error) if error.kind() == ErrorKind::NotFound => Ok(None),
+            Err(error) if error.kind() == ErrorKind::InvalidData => Err(failure(
+                StoreFault::Foreign,
+            )),
+            Err(error) => Err(failure(system_fault(error.kind()))),
+        }
+    }
+
+    fn write(&self, alloc: Global, name: &str, text: &str) -> Result<(), Failure> {
+        let part = made(alloc, name, ".part")?;
+        answered(written(self.rt, &part, text))?;
+        answered(renamed(self.rt, &part, name))
+    }
+
+    fn rename(&self, alloc: Global, from: &str, to: &str) -> Result<(), Failure> {
+        // A log that somebody left there would be taken for that of the file.
+        answered(removed(self.rt, &made(alloc, to, "-wal")?))?;
+        answered(renamed(self.rt, from, to))
+    }
+
+    fn remove(&self, _alloc: Global, name: &str) -> Result<(), Failure> {
+        answered(removed(self.rt, name))
     }
 }

@@ -21,6 +21,8 @@ use Rattle.dali_commission_program.specs.declared.failure.Failure.TheVariants.{G
 use Rattle.dali_commission_program.specs.declared.failure.Failure.TheVariants.{Spent}
 use Rattle.dali_commission_program.specs.declared.failure.Failure.TheVariants.{NobodyAnswered}
 use Rattle.dali_commission_program.specs.declared.failure.Failure.TheVariants.{NobodyThere}
+use Rattle.dali_commission_program.specs.declared.failure.Failure.TheVariants.{NotReplaced}
+use Rattle.dali_commission_program.specs.declared.failure.Failure.TheVariants.{Unfinished}
 use Rattle.dali_commission_program.specs.declared.stores.StoreFault.TheVariants as store
 
 -- THE EXIT STATUSES of the program
@@ -37,6 +39,8 @@ status_of Conflict = 8
 status_of Spent = 9
 status_of NobodyAnswered = 10
 status_of (NobodyThere a) = 10
+status_of (NotReplaced a refusal) = 11
+status_of Unfinished = 12
 
 -- what the end of the last machine is to the program: where no gear was heard it is none
 abbrev pub ended_as : Ended → Bool → Result (Unit {0}) Failure

@@ -1,2 +1,4 @@
 pub mod Failures
+pub mod Replacing
+pub mod Swap
 pub mod Tables

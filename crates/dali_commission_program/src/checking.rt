@@ -74,7 +74,7 @@ where
         report,
     };
     match &bounds.records {
-        Some(name) => lend_copy(stores, name, &checking),
+        Some(name) => lend_copy(system.alloc(), stores, name, &checking),
         None => checking.check(&mut MemoryKeep::new(Block::ALL)),
     }
 }

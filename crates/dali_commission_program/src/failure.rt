@@ -3,6 +3,7 @@
 ghost use Rattle.std.specs.Prelude.{◌≡◌};
 ghost use Rattle.dali_commission_program.specs.Failures.{ended_as, checked, failure_of};
 
+use crate::refusal::ReplaceRefusal;
 use crate::stores::StoreFault;
 use dali_commissioning::{CommissionFault, DriverFault, Ended, Place, are_as_recorded};
 use dali_console::{ConsoleFault, Failed};
@@ -38,6 +39,10 @@ pub enum Failure {
     NobodyAnswered,
     /// Status 10: nobody answers to this short address.
     NobodyThere(Short),
+    /// Status 11: a luminaire is not replaced, for what is so of this short address or of the site.
+    NotReplaced(Short, ReplaceRefusal),
+    /// Status 12: the files of a site are being replaced.
+    Unfinished,
 }
 
 /// What is said of it on standard error.
@@ -63,6 +68,13 @@ impl fmt::Display for Failure {
             Failure::NobodyThere(short) => {
                 let number = short.number();
                 return write!(f, "nobody answers to short address {number}");
+            }
+            Failure::NotReplaced(short, refusal) => {
+                let (number, what) = (short.number(), refusal.what());
+                return write!(f, "not replaced, {what}: short address {number}: {refusal}");
+            }
+            Failure::Unfinished => {
+                "a replacement is not finished: call ./dali_commission replace again, with the same words"
             }
             Failure::NobodyAnswered => {
                 "nobody answered: is the interface connected, is the bus powered?"
@@ -92,6 +104,8 @@ impl Failure {
             Failure::Conflict => "conflict",
             Failure::Spent => "too-many-steps",
             Failure::NobodyAnswered | Failure::NobodyThere(_) => "nobody-answered",
+            Failure::NotReplaced(..) => "not-replaced",
+            Failure::Unfinished => "unfinished",
         }
     }
 }
@@ -112,6 +126,8 @@ impl Failed for Failure {
             Failure::Conflict => 8,
             Failure::Spent => 9,
             Failure::NobodyAnswered | Failure::NobodyThere(_) => 10,
+            Failure::NotReplaced(..) => 11,
+            Failure::Unfinished => 12,
         }
     }
 }

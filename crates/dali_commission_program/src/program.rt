@@ -8,7 +8,8 @@ use crate::checking::checks;
 use crate::failure::Failure;
 use crate::identifying::identify;
 use crate::json::write_report;
-use crate::records::{kept, lend};
+use crate::records::{kept, lend, lend_copy};
+use crate::replacing::replaces;
 use crate::report::Report;
 use crate::running::Running;
 use crate::stores::{Borrower, Stores};
@@ -79,7 +80,13 @@ where
                 is_terminal,
                 report,
             };
-            lend(stores, &setup.records, &setup.block, &running)
+            lend(
+                system.alloc(),
+                stores,
+                &setup.records,
+                &setup.block,
+                &running,
+            )
         }
         Task::Check(bounds) => checks(system, stores, bounds, report),
         Task::Identify(short) => identify(system, *short),
@@ -88,8 +95,9 @@ where
                 system,
                 form: *form,
             };
-            crate::records::lend_copy(stores, name, &writing)
+            lend_copy(system.alloc(), stores, name, &writing)
         }
+        Task::Replace(wanted) => replaces(system, stores, is_terminal, wanted),
     }
 }
 
@@ -102,7 +110,8 @@ fn records_of(task: &Task) -> Option<&str> {
             None => None,
         },
         Task::Table(name, _) => Some(name),
-        Task::Identify(_) => None,
+        // Which of several files a refusal is about, `replaces` has said.
+        Task::Identify(_) | Task::Replace(_) => None,
     }
 }
 
@@ -111,16 +120,17 @@ fn wants_json(task: &Task) -> bool {
     match task {
         Task::Run(setup) => setup.as_json,
         Task::Check(bounds) => bounds.as_json,
-        Task::Identify(_) | Task::Table(..) => false,
+        Task::Identify(_) | Task::Table(..) | Task::Replace(_) => false,
     }
 }
 
-/// Says on standard error why the program ended, where `clap` has not said it. What is said changes nothing, also where
-/// it cannot be said.
+/// Says on standard error why the program ended, where `clap` has not said it, nor where the file was found that cannot
+/// be had. What is said changes nothing, also where it cannot be said.
 fn say_why<S: Eprint>(system: &S, failure: &Failure, records: Option<&str>) {
     let _ = match (failure, records) {
         (Failure::Console(ConsoleFault::BadCommandLine), _) => Ok(()),
         (Failure::Store(fault), Some(name)) => eprintln!(system; "error: {name}: {fault}"),
+        (Failure::Store(_), None) => Ok(()),
         _ => eprintln!(system; "{failure}"),
     };
 }

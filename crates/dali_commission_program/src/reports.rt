@@ -93,6 +93,15 @@ fn say_places<S: Eprint>(system: &S, places: &[Place]) {
     }
 }
 
+/// Where the gear of a table are not there, or others answer.
+pub fn say_not_there<S: Eprint>(system: &S, places: &[Place]) {
+    for (number, place) in places.iter().enumerate() {
+        if is_wrong(*place) {
+            say_place(system, number, *place);
+        }
+    }
+}
+
 /// Which gear answer that no record names, and what can be done. What stands under each short address.
 pub fn say_addressed<S: Eprint>(
     system: &S,

@@ -2,7 +2,8 @@
 
 use crate::failure::Failure;
 use dali_reserve::{Keep, KeepError};
-use dali_script::Block;
+use dali_script::{Block, Kept};
+use std::alloc::Global;
 use thiserror::Error;
 
 /// Why records cannot be had.
@@ -46,6 +47,24 @@ pub trait Borrower {
     fn take<K: Keep>(&self, store: &mut K) -> Result<(), Failure>;
 }
 
+/// Who does something while the records of several names are held.
+pub trait Holder {
+    /// The records of this name cannot be had, for this reason: it is said, and answered what the program ends with.
+    fn refused(&self, name: &str, failure: Failure) -> Failure;
+
+    /// Does what is to be done with the records, in the order of their names, and with their files open.
+    fn take(&self, all: &[Kept]) -> Result<(), Failure>;
+
+    /// Does what is to be done then, where that ended well, with each file closed and nothing beside it.
+    fn then(&self) -> Result<(), Failure>;
+}
+
+/// Who does something alone.
+pub trait Actor {
+    /// Does it.
+    fn act(&self) -> Result<(), Failure>;
+}
+
 /// Places where records are kept.
 ///
 /// Records are lent and not handed out, so that nothing else has to know what they are kept in.
@@ -61,4 +80,28 @@ pub trait Stores {
     /// Lends a copy of the records of this name, as to a controller with all addresses; one with no records where they
     /// are not there. They are only read: nothing that the borrower does to the copy changes them.
     fn lend_copy<B: Borrower>(&self, name: &str, borrower: &B) -> Result<(), Failure>;
+
+    /// The name under which what has this name lies, whatever links lead there, also where nothing lies there.
+    fn place_of(&self, alloc: Global, name: &str) -> Result<String, Failure>;
+
+    /// Reads the records of these names, each of another file, and keeps all others from opening them, until the holder
+    /// is done. The caller has seen by `lend_copy` that they are records.
+    fn hold<H: Holder>(&self, alloc: Global, names: &[String], holder: &H) -> Result<(), Failure>;
+
+    /// Keeps all others from acting by what has this name, until the actor is done.
+    fn alone<A: Actor>(&self, name: &str, actor: &A) -> Result<(), Failure>;
+
+    /// The text of this name. None where there is none.
+    fn text(&self, alloc: Global, name: &str) -> Result<Option<String>, Failure>;
+
+    /// Writes a text under this name. A stop leaves none or all of it; once it is written no stop takes it away, nor
+    /// what was done in its folder before.
+    fn write(&self, alloc: Global, name: &str, text: &str) -> Result<(), Failure>;
+
+    /// Gives what has one name another one in the same folder, where nothing else is left then. A stop leaves it under
+    /// one of the two; once it has the other one, no stop takes that away.
+    fn rename(&self, alloc: Global, from: &str, to: &str) -> Result<(), Failure>;
+
+    /// Removes what has this name, where it is there. No stop brings it back.
+    fn remove(&self, alloc: Global, name: &str) -> Result<(), Failure>;
 }

@@ -34,6 +34,8 @@ pub enum Task {
     Identify(Short),
     /// The table of the records of this name is to be written.
     Table(String, TableForm),
+    /// A new luminaire is to have the short address of one that is gone.
+    Replace(Replacement),
 }
 
 /// How gear are to be given short addresses.
@@ -62,4 +64,19 @@ pub struct Bounds {
     pub others: Vec<Block>,
     /// Whether what was found is written as an object of JSON, too.
     pub as_json: bool,
+}
+
+/// Which luminaire is replaced, and where the records of its site are.
+#[derive(Drop)]
+pub struct Replacement {
+    /// Its short address.
+    pub short: Short,
+    /// The names of all records of the site, one at least.
+    pub records: Vec<String>,
+    /// The short addresses of other luminaires that are known to be gone.
+    pub missing: Vec<Short>,
+    /// The block of the records, where they are of one name.
+    pub block: Block,
+    /// Whether nothing is said of how far it is.
+    pub is_quiet: bool,
 }

@@ -1,6 +1,7 @@
 //! The command line, and what it asks for.
 
-use crate::tasks::{Bounds, Setup, Start, TableForm, Task};
+use crate::swap::MOST_FILES;
+use crate::tasks::{Bounds, Replacement, Setup, Start, TableForm, Task};
 use dali_frame::Short;
 use dali_script::Block;
 use dali_words::{
@@ -21,6 +22,7 @@ Examples:
   ./dali_commission check --records site.db --driver 'adapters/daliserver localhost 55825'
   ./dali_commission identify 5 --driver 'adapters/daliserver localhost 55825'
   ./dali_commission table --records site.db --csv
+  ./dali_commission replace 5 --records site.db --driver 'adapters/daliserver localhost 55825'
 
 docs/INSTALLER.md of the repository says how to use it, docs/FORMAT.md has each line and the exit statuses.";
 
@@ -37,6 +39,15 @@ const CHECK: &str = "\
 Asks each short address three times for the random address of its gear, and says beside the records: who answers, who is
 missing, which gear are strangers, and where several have one address. Then it asks whether gear without short address
 are there. It gives no address and writes no record.";
+
+const REPLACE: &str = "\
+Gives a new luminaire the short address of one that is gone, in all files of records of the site.
+
+The new luminaire is on and has no short address, the old one is disconnected, and all others are on. Each file is named
+by --records. A new file is made beside each; when all are complete they take the places of the old ones, which are kept
+as FILE.before-1, FILE.before-2 and so on. It refuses and changes nothing where somebody still answers to the address,
+where another luminaire of a table does not answer, or where not exactly one new luminaire is found. It may be stopped
+at any moment, also by a power cut: the same line goes on where it was.";
 
 const DRIVER: Word = Word {
     name: "driver",
@@ -56,6 +67,13 @@ const JSON: Word = Word {
     name: "json",
     value: "",
     help: "Write what it came to as an object of JSON, too, on standard output",
+    kind: WordKind::Flag,
+};
+
+const QUIET: Word = Word {
+    name: "quiet",
+    value: "",
+    help: "Say nothing of how far it is",
     kind: WordKind::Flag,
 };
 
@@ -92,12 +110,7 @@ const RUN_WORDS: &[Word] = &[
         help: "How many passes over the bus in a row must have found nothing",
         kind: WordKind::Default(Value::Count, "3"),
     },
-    Word {
-        name: "quiet",
-        value: "",
-        help: "Say nothing of how far it is",
-        kind: WordKind::Flag,
-    },
+    QUIET,
     JSON,
     Word {
         name: "block",
@@ -147,6 +160,36 @@ const TABLE_WORDS: &[Word] = &[
     },
 ];
 
+const REPLACE_WORDS: &[Word] = &[
+    Word {
+        name: "records",
+        value: "FILE",
+        help: "A file of the records; each file of the site is named, by an option of its own",
+        kind: WordKind::NeededAgain,
+    },
+    Word {
+        name: "missing",
+        value: "ADDRESS",
+        help: "The short address of another luminaire that is known to be gone; may be given again",
+        kind: WordKind::Again,
+    },
+    DRIVER,
+    DRIVER_TIMEOUT,
+    QUIET,
+    Word {
+        name: "address",
+        value: "ADDRESS",
+        help: "The short address of the luminaire that is replaced, 0 to 63",
+        kind: WordKind::Place(Value::Address),
+    },
+    Word {
+        name: "block",
+        value: "BLOCK",
+        help: "The block of the records, where one file is named; 0-63 if nothing is said",
+        kind: WordKind::LastPlace(Value::Text),
+    },
+];
+
 const SUBCOMMANDS: &[Subcommand] = &[
     Subcommand {
         name: "run",
@@ -175,6 +218,13 @@ const SUBCOMMANDS: &[Subcommand] = &[
         long_about: None,
         after_help: None,
         words: TABLE_WORDS,
+    },
+    Subcommand {
+        name: "replace",
+        about: "Gives a new luminaire the short address of one that is gone",
+        long_about: Some(REPLACE),
+        after_help: None,
+        words: REPLACE_WORDS,
     },
 ];
 
@@ -280,12 +330,73 @@ fn bounds(alloc: Global, line: &CommandLine) -> Result<Bounds, LineFault> {
     })
 }
 
-/// The short address that is asked for by `identify`.
+/// The short address that is asked for by `identify` or `replace`.
 fn short(alloc: Global, line: &CommandLine) -> Result<Short, LineFault> {
     match Short::of(line.number("address").unwrap_or(64)) {
         Some(short) => Ok(short),
         None => wrong_value(alloc, "not a short address"),
     }
+}
+
+/// The names of the records, of which there may be as many as short addresses.
+fn names(alloc: Global, line: &CommandLine) -> Result<Vec<String>, LineFault> {
+    let mut names = Vec::new(alloc);
+    for (word, value) in line.values.iter() {
+        if word.as_str() == "records" && names.push(String::from_str(alloc, value)?).is_err() {
+            return Err(LineFault::Memory);
+        }
+    }
+    if names.len() > MOST_FILES {
+        return conflict(alloc, "a site has at most 64 files of records");
+    }
+    Ok(names)
+}
+
+fn short_of(word: &str) -> Option<Short> {
+    Short::of(word.parse().ok()?)
+}
+
+/// A luminaire that is known to be gone.
+fn gone(alloc: Global, word: &str) -> Result<Short, LineFault> {
+    match short_of(word) {
+        Some(short) => Ok(short),
+        None => Err(LineFault::Value(format!(in alloc;
+            "invalid value '{word}': not a short address, 0 to 63"
+        )?)),
+    }
+}
+
+/// The short addresses of luminaires that are known to be gone.
+fn missing(alloc: Global, line: &CommandLine) -> Result<Vec<Short>, LineFault> {
+    let mut missing = Vec::new(alloc);
+    for (word, value) in line.values.iter() {
+        if word.as_str() == "missing" && missing.push(gone(alloc, value)?).is_err() {
+            return Err(LineFault::Memory);
+        }
+    }
+    Ok(missing)
+}
+
+/// The block of the only file of records.
+fn only_block(alloc: Global, line: &CommandLine, files: usize) -> Result<Block, LineFault> {
+    match line.value("block") {
+        None => Ok(Block::ALL),
+        Some(word) if files == 1 => block(alloc, word),
+        Some(_) => conflict(alloc, "a block is that of one file, and several are named"),
+    }
+}
+
+/// What is asked for by `replace`.
+fn replacement(alloc: Global, line: &CommandLine) -> Result<Replacement, LineFault> {
+    let records = names(alloc, line)?;
+    let block = only_block(alloc, line, records.len())?;
+    Ok(Replacement {
+        short: short(alloc, line)?,
+        records,
+        missing: missing(alloc, line)?,
+        block,
+        is_quiet: line.has("quiet"),
+    })
 }
 
 fn form(line: &CommandLine) -> TableForm {
@@ -311,6 +422,7 @@ pub(crate) fn task_of(alloc: Global, line: &CommandLine) -> Result<Task, LineFau
         "check" => Ok(Task::Check(bounds(alloc, line)?)),
         "identify" => Ok(Task::Identify(short(alloc, line)?)),
         "table" => Ok(Task::Table(text(alloc, line, "records")?, form(line))),
+        "replace" => Ok(Task::Replace(replacement(alloc, line)?)),
         _ => no_task(alloc),
     }
 }

@@ -41,8 +41,12 @@ pub enum WordKind {
     Default(Value, &'static str),
     /// An option with a value that may be given again.
     Again,
+    /// The same, and it has to be there once.
+    NeededAgain,
     /// A word at its place, which has to be there.
     Place(Value),
+    /// A word at the last place, which may be left out.
+    LastPlace(Value),
     /// One word or more at their place.
     Places,
 }
@@ -133,7 +137,12 @@ fn arg<'a>(alloc: Global, word: &Word) -> Result<Arg<'a>, AllocError>
         WordKind::Needed(value) => Ok(option(alloc, word, value).required(true)),
         WordKind::Default(value, is) => Ok(option(alloc, word, value).default_value(is)),
         WordKind::Again => Ok(option(alloc, word, Value::Text).action(ArgAction::Append)),
+        WordKind::NeededAgain => {
+            let arg = option(alloc, word, Value::Text).required(true);
+            Ok(arg.action(ArgAction::Append))
+        }
         WordKind::Place(value) => Ok(typed(place(alloc, word), value)),
+        WordKind::LastPlace(value) => Ok(typed(place(alloc, word).required(false), value)),
         WordKind::Places => Ok(place(alloc, word).num_args(1..).action(ArgAction::Append)),
     }
 }

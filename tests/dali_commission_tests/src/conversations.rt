@@ -1,10 +1,12 @@
 //! The loop over lines in memory, with each fault of reader, writer and store.
 
 use super::broken::Broken;
+use super::bus::{Bus, Put, Told};
 use dali_commissioning::{
-    CommissionFault, DriverFault, DriverLink, Ended, Unwatched, commission, told_of,
+    CommissionFault, DriverFault, DriverLink, Ended, Newcomers, Unwatched, commission,
+    look_for_newcomers, told_of,
 };
-use dali_frame::Answer;
+use dali_frame::{Answer, Short};
 use dali_reserve::{Keep, KeepError, MemoryKeep};
 use dali_script::{Block, End, Input, Kept};
 use std::io::Write;
@@ -148,4 +150,50 @@ fn a_driver_that_fails_ends_the_run_by_name_and_line(rt: HostRuntime) {
 fn a_driver_that_takes_no_line_ends_the_run(rt: HostRuntime) {
     let ended = Err(CommissionFault::Driver(DriverFault::Write));
     ends_as(&rt, none_kept(), b"silence\n", Full, ended, 0);
+}
+
+/// Who is found on a bus by a store of one address, which keeps nothing of it.
+fn found_on<R: Abort + AllocGlobal>(
+    rt: &R,
+    bus: &Bus,
+    short: Short,
+) -> Result<Newcomers, CommissionFault> {
+    let keep = MemoryKeep::new(Block {
+        first: short,
+        last: short,
+    });
+    let mut driver = DriverLink::new(rt.alloc(), Told(bus), Put(bus));
+    look_for_newcomers(keep, &mut driver, &mut Unwatched)
+}
+
+#[test]
+fn one_newcomer_is_told_from_none_and_from_two_and_given_nothing(rt: HostRuntime) {
+    let Some(five) = Short::of(5) else {
+        panic!(rt; "no short address");
+    };
+    for count in 0..4usize {
+        let bus = Bus::of(rt.alloc(), count);
+        let found = found_on(&rt, &bus, five);
+        match (count, found) {
+            (0, Ok(Newcomers::Nobody)) | (2.., Ok(Newcomers::Several)) => {}
+            (1, Ok(Newcomers::One(random))) => assert!(rt; bus.gear(0) == Some((random, None))),
+            _ => panic!(rt; "found otherwise"),
+        }
+        for number in 0..count {
+            assert!(rt; matches!(bus.gear(number), Some((_, None))));
+        }
+        // One is given 5. It is no newcomer any more, and a survey that has no other address to give looks for nobody.
+        let mut keep = MemoryKeep::new(Block {
+            first: five,
+            last: five,
+        });
+        let mut driver = DriverLink::new(rt.alloc(), Told(&bus), Put(&bus));
+        assert!(rt; commission(&mut keep, &mut driver, &mut Unwatched, Input::Survey, 1).is_ok());
+        let wanted = if count < 2 {
+            Newcomers::Nobody
+        } else {
+            Newcomers::Unclear(Ended::Done(End::BlockFull))
+        };
+        assert!(rt; found_on(&rt, &bus, five) == Ok(wanted));
+    }
 }

@@ -4,8 +4,16 @@
 #[cfg(test)]
 mod broken;
 #[cfg(test)]
+mod bus;
+#[cfg(test)]
+mod cabinet;
+#[cfg(test)]
 mod conversations;
 #[cfg(test)]
 mod programs;
+#[cfg(test)]
+mod replacements;
+#[cfg(test)]
+mod room;
 #[cfg(test)]
 mod shelf;

@@ -1,9 +1,10 @@
 //! Records in memory under a name, for the program.
 
-use dali_commission_program::{Borrower, Failure, StoreFault, Stores};
+use dali_commission_program::{Actor, Borrower, Failure, Holder, StoreFault, Stores};
 use dali_frame::{Random24, Short};
 use dali_reserve::{Keep, KeepError, MemoryKeep};
 use dali_script::{Block, Record};
+use std::alloc::Global;
 use std::cell::RefCell;
 
 /// The records `site.db`, which hold these when they are opened; or why they cannot be opened. How many gear were
@@ -42,6 +43,8 @@ impl<'a> Shelf<'a> {
         }
     }
 }
+
+const NONE: Failure = Failure::Store(StoreFault::CannotOpen);
 
 fn record(kind: u8, address: u8, random: u32) -> Option<Record> {
     Record::of_code(kind, Short::of(address)?, Random24::of(random)?)
@@ -95,5 +98,35 @@ impl Stores for Shelf<'_> {
 
     fn lend_copy<B: Borrower>(&self, name: &str, borrower: &B) -> Result<(), Failure> {
         self.lend(name, Block::ALL, borrower)
+    }
+
+    fn place_of(&self, alloc: Global, name: &str) -> Result<String, Failure> {
+        String::from_str(alloc, name).map_err(|_| NONE)
+    }
+
+    // Nothing is replaced here.
+
+    fn hold<H: Holder>(&self, _: Global, _: &[String], _: &H) -> Result<(), Failure> {
+        Err(NONE)
+    }
+
+    fn alone<A: Actor>(&self, _: &str, _: &A) -> Result<(), Failure> {
+        Err(NONE)
+    }
+
+    fn text(&self, _: Global, _: &str) -> Result<Option<String>, Failure> {
+        Err(NONE)
+    }
+
+    fn write(&self, _: Global, _: &str, _: &str) -> Result<(), Failure> {
+        Err(NONE)
+    }
+
+    fn rename(&self, _: Global, _: &str, _: &str) -> Result<(), Failure> {
+        Err(NONE)
+    }
+
+    fn remove(&self, _: Global, _: &str) -> Result<(), Failure> {
+        Err(NONE)
     }
 }

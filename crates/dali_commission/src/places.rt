@@ -1,0 +1,56 @@
+//! Where a file lies.
+
+use std::alloc::{AllocError, Global};
+use std::fs;
+
+/// How many links are followed.
+const LINKS: u8 = 8;
+
+/// The folder of a file, and the name that it has there.
+fn parts(name: &str) -> (&str, &str) {
+    match name.rsplit_once("/") {
+        Some(("", file)) => ("/", file),
+        Some(both) => both,
+        None => (".", name),
+    }
+}
+
+/// The folder of a file.
+pub(crate) fn folder_of(name: &str) -> &str {
+    parts(name).0
+}
+
+/// The name of a file in a folder.
+fn joined(alloc: Global, folder: &str, file: &str) -> Result<String, AllocError> {
+    if folder.ends_with("/") {
+        format!(in alloc; "{folder}{file}")
+    } else {
+        format!(in alloc; "{folder}/{file}")
+    }
+}
+
+/// Where a link leads.
+fn led(alloc: Global, name: &str, to: &str) -> Result<String, AllocError> {
+    if to.starts_with("/") {
+        String::from_str(alloc, to)
+    } else {
+        joined(alloc, folder_of(name), to)
+    }
+}
+
+/// The name under which a file lies, from the root on, whatever links lead there; it need not be there. Where its
+/// folder is not there, it is the name itself.
+pub(crate) fn place(rt: &HostRuntime, alloc: Global, name: &str) -> Result<String, AllocError> {
+    let mut at = String::from_str(alloc, name)?;
+    for _ in 0..LINKS {
+        match fs::read_link(rt, at.as_str()) {
+            Ok(to) => at = led(alloc, at.as_str(), to.as_str())?,
+            Err(_) => break,
+        }
+    }
+    let (folder, file) = parts(at.as_str());
+    match fs::canonicalize(rt, folder) {
+        Ok(folder) => joined(alloc, folder.as_str(), file),
+        Err(_) => Ok(at),
+    }
+}

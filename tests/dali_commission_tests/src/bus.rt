@@ -1,0 +1,127 @@
+//! Gear behind the lines of a driver, in memory.
+
+use dali_frame::{Answer, Forward, Random24, Short};
+use dali_gear::{Reach, Row};
+use dali_special::Command;
+use std::alloc::Global;
+use std::cell::RefCell;
+use std::io;
+use std::io::{BufRead, ErrorKind, Read, Write};
+
+/// What the gear are, the next number that one draws, and what is still to be read of their answer.
+#[derive(Drop)]
+struct Wires {
+    row: Row,
+    next: u32,
+    answer: Vec<u8>,
+    read: usize,
+}
+
+impl Wires {
+    fn draw(&mut self) -> Random24 {
+        self.next = self.next.wrapping_add(0x1357) % 0xFFFFFF;
+        Random24::of(self.next).unwrap_or(Random24::MASK)
+    }
+
+    /// All gear take a frame.
+    fn take(&mut self, frame: Forward) -> io::Result<()> {
+        let draws = [self.draw(), self.draw(), self.draw(), self.draw()];
+        let heard = self
+            .row
+            .take(&Command::read(frame), Reach::Everyone, &draws);
+        self.answer.clear();
+        self.read = 0;
+        match heard.answer {
+            Answer::Silence => write!(self.answer, "silence\n"),
+            Answer::Damaged => write!(self.answer, "damaged\n"),
+            Answer::Byte(byte) => write!(self.answer, "byte {byte:02X}\n"),
+        }
+    }
+}
+
+/// At most four gear from the factory, which take each frame that is put.
+#[derive(Drop)]
+pub struct Bus(RefCell<Wires>);
+
+impl Bus {
+    pub fn of(alloc: Global, count: usize) -> Bus {
+        Bus(RefCell::new(Wires {
+            row: Row::new(count),
+            next: 0x400000,
+            answer: Vec::new(alloc),
+            read: 0,
+        }))
+    }
+
+    /// A gear gets its power, or loses it.
+    pub fn switch(&self, number: usize, is_on: bool) {
+        if let Ok(mut wires) = self.0.try_borrow_mut() {
+            if is_on {
+                wires.row.power_on(number);
+            } else {
+                wires.row.power_off(number);
+            }
+        }
+    }
+
+    /// The random and the short address of a gear.
+    pub fn gear(&self, number: usize) -> Option<(Random24, Option<Short>)> {
+        let wires = self.0.try_borrow().ok()?;
+        let gear = wires.row.gear(number);
+        Some((gear.random(), gear.short()))
+    }
+}
+
+fn busy<E: Drop>(_error: E) -> io::Error {
+    io::Error::from(ErrorKind::Other)
+}
+
+/// The end to which lines are written.
+#[derive(Drop)]
+pub struct Put<'a>(pub &'a Bus);
+
+impl Write for Put<'_> {
+    fn write(&mut self, line: &[u8]) -> io::Result<usize> {
+        let frame = match line {
+            [b'p', b'u', b't', b' ', _, b' ', a, b, c, d, ..] => {
+                Forward::read_hex(&[*a, *b, *c, *d]).map_err(busy)?
+            }
+            _ => return Err(io::Error::from(ErrorKind::InvalidData)),
+        };
+        self.0.0.try_borrow_mut().map_err(busy)?.take(frame)?;
+        Ok(line.len())
+    }
+
+    fn flush(&mut self) -> io::Result<()> {
+        Ok(())
+    }
+}
+
+/// The end from which answers are read.
+#[derive(Drop)]
+pub struct Told<'a>(pub &'a Bus);
+
+impl Read for Told<'_> {
+    fn read(&mut self, buffer: &mut [u8]) -> io::Result<usize> {
+        let mut wires = self.0.0.try_borrow_mut().map_err(busy)?;
+        let mut count = 0;
+        for place in buffer.iter_mut() {
+            if let Some(byte) = wires.answer.get(wires.read) {
+                *place = *byte;
+                wires.read += 1;
+                count += 1;
+            }
+        }
+        Ok(count)
+    }
+}
+
+impl BufRead for Told<'_> {
+    // The program reads byte by byte.
+
+    fn fill_buf(&mut self) -> io::Result<&[u8]> {
+        Err(io::Error::from(ErrorKind::Unsupported))
+    }
+
+    fn consume(&mut self, _amount: usize) {}
+}

@@ -1,0 +1,681 @@
+//! `dali_commission replace`, by its command line: what it refuses, and how it goes on from each moment of a swap.
+
+use super::bus::Bus;
+use super::cabinet::Cabinet;
+use super::room::Room;
+use dali_commission_program::run_and_say;
+use dali_console::Failed;
+use dali_desk::Desk;
+use dali_frame::Short;
+use std::process::Abort;
+
+/// The records of a site of two luminaires, 5 and 7; what another one has them as; and what new files have.
+const SITE: [(u8, u8, u32); 4] = [
+    (1, 5, 0x123456),
+    (1, 7, 0xABCDEF),
+    (2, 5, 0x123456),
+    (2, 7, 0xABCDEF),
+];
+
+const OTHER: [(u8, u8, u32); 2] = [(2, 5, 0x123456), (2, 7, 0xABCDEF)];
+
+const NEW: [(u8, u8, u32); 3] = [(1, 5, 0x222222), (2, 7, 0xABCDEF), (2, 5, 0x222222)];
+
+const OTHER_NEW: [(u8, u8, u32); 2] = [(2, 7, 0xABCDEF), (2, 5, 0x222222)];
+
+const ONE: &[u8] = b"dali_commission replace 5 --records site.db";
+
+const TWO: &[u8] = b"dali_commission replace 5 --records site.db --records two.db";
+
+/// The program with this command line, these files and these answers of the driver ends with this status and says this.
+fn ends<R: Abort + AllocGlobal>(
+    rt: &R,
+    words: &[u8],
+    cabinet: &Cabinet,
+    answers: &str,
+    wanted: u8,
+    said: &str,
+) {
+    let desk = Desk::new(rt.alloc(), words, answers);
+    let status = match run_and_say(&desk, cabinet, false) {
+        Ok(()) => 0,
+        Err(failure) => failure.status(),
+    };
+    assert!(rt; status == wanted);
+    assert!(rt; desk.has_said(said));
+}
+
+/// So many lines of silence, behind these answers.
+fn silence<R: Abort + AllocGlobal>(rt: &R, first: &str, silent: u32) -> String {
+    let mut text = String::new(rt.alloc());
+    let mut is_made = text.push_str(first).is_ok();
+    for _ in 0..silent {
+        is_made = is_made && text.push_str("silence\n").is_ok();
+    }
+    assert!(rt; is_made);
+    text
+}
+
+/// The site with one file, and with two.
+fn one<R: Abort + AllocGlobal>(rt: &R) -> Cabinet {
+    let cabinet = Cabinet::new(rt.alloc());
+    assert!(rt; cabinet.has_put("site.db", &SITE));
+    cabinet
+}
+
+fn two<R: Abort + AllocGlobal>(rt: &R) -> Cabinet {
+    let cabinet = one(rt);
+    assert!(rt; cabinet.has_put("two.db", &OTHER));
+    cabinet
+}
+
+#[test]
+fn words_that_do_not_go_together_are_refused(rt: HostRuntime) {
+    let cabinet = two(&rt);
+    for (words, said) in [
+        (b"dali_commission replace 5".as_slice(), "--records <FILE>"),
+        (
+            b"dali_commission replace --records site.db".as_slice(),
+            "<ADDRESS>",
+        ),
+        (
+            b"dali_commission replace 64 --records site.db".as_slice(),
+            "'64'",
+        ),
+        (
+            b"dali_commission replace 5 --records site.db --missing 64".as_slice(),
+            "'64'",
+        ),
+        (
+            b"dali_commission replace 5 --records site.db 0-64".as_slice(),
+            "'0-64'",
+        ),
+        (
+            b"dali_commission replace 5 --records site.db --records two.db 0-31".as_slice(),
+            "a block is that of one file",
+        ),
+        (
+            b"dali_commission replace 5 --records site.db --driver x".as_slice(),
+            "launcher",
+        ),
+    ] {
+        ends(&rt, words, &cabinet, "", 2, said);
+    }
+}
+
+/// What the files tell, before anything is put on the bus.
+#[test]
+fn files_that_do_not_fit_are_refused(rt: HostRuntime) {
+    let nothing = "not replaced, nothing was changed: ";
+    for (words, said) in [
+        (
+            b"dali_commission replace 6 --records site.db".as_slice(),
+            "short address 6: no table has",
+        ),
+        (
+            b"dali_commission replace 5 --records site.db --records site.db".as_slice(),
+            "two of the files are one",
+        ),
+        (
+            b"dali_commission replace 5 --records site.db --records site.db.new".as_slice(),
+            "two of the files are one",
+        ),
+        (
+            b"dali_commission replace 5 --records site.db --missing 9".as_slice(),
+            "short address 9: it is said to be missing",
+        ),
+        (
+            b"dali_commission replace 5 --records site.db --missing 5".as_slice(),
+            "short address 5: it is said to be missing",
+        ),
+        (
+            b"dali_commission replace 5 --records site.db 6-9".as_slice(),
+            "short address 5: whose block",
+        ),
+        (
+            b"dali_commission replace 5 --records two.db --records three.db".as_slice(),
+            "short address 5: whose block",
+        ),
+        (
+            b"dali_commission replace 5 --records site.db --records four.db".as_slice(),
+            "short address 5: whose block",
+        ),
+        (
+            b"dali_commission replace 5 --records site.db --records five.db".as_slice(),
+            "short address 7: the tables disagree",
+        ),
+    ] {
+        let cabinet = two(&rt);
+        assert!(rt; cabinet.has_put("three.db", &OTHER));
+        assert!(rt; cabinet.has_put("four.db", &SITE));
+        assert!(rt; cabinet.has_put("five.db", &[(2, 7, 0xABCDEE)]));
+        let count = cabinet.count();
+        ends(&rt, words, &cabinet, "", 11, nothing);
+        ends(&rt, words, &cabinet, "", 11, said);
+        assert!(rt; cabinet.count() == count);
+    }
+    let cabinet = one(&rt);
+    let words = b"dali_commission replace 5 --records site.db 5-6";
+    ends(
+        &rt,
+        words,
+        &cabinet,
+        "",
+        5,
+        "short address 7 is reserved, and lies outside",
+    );
+    let words = b"dali_commission replace 5 --records site.db --records gone.db";
+    ends(
+        &rt,
+        words,
+        &cabinet,
+        "",
+        5,
+        "error: gone.db: there is no such file of records\n",
+    );
+    assert!(rt; cabinet.has_put("site.db.new", &[(1, 7, 0x222222)]));
+    ends(
+        &rt,
+        ONE,
+        &cabinet,
+        "",
+        11,
+        "a new file lies there that gives another short address",
+    );
+}
+
+/// Address 5 is asked three times, then 7, then whether one alone has none.
+#[test]
+fn a_bus_on_which_not_one_luminaire_alone_is_new_is_refused(rt: HostRuntime) {
+    let seven = "byte AB\nbyte CD\nbyte EF\n";
+    let mut there = silence(&rt, "", 9);
+    for _ in 0..3u8 {
+        assert!(rt; there.push_str(seven).is_ok());
+    }
+    let mut other = silence(&rt, "", 9);
+    for _ in 0..3u8 {
+        assert!(rt; other.push_str("byte AB\nbyte CD\nbyte EE\n").is_ok());
+    }
+    for (answers, status, said) in [
+        (
+            "byte 12\nbyte 34\nbyte 56\nsilence\nsilence\nsilence\nsilence\nsilence\nsilence\n",
+            11,
+            "somebody answers to it",
+        ),
+        // Once is no silence.
+        (
+            "silence\nsilence\nsilence\nsilence\nsilence\nsilence\nsilence\nsilence\nbyte 56\n",
+            11,
+            "somebody answers to it",
+        ),
+        ("lapsed\n", 4, "end of input"),
+        (silence(&rt, "", 18).as_str(), 10, "nobody answered"),
+        (silence(&rt, "", 9).as_str(), 4, "end of input"),
+        (
+            other.as_str(),
+            11,
+            "7 ABCDEF another gear answers: ABCDEE\n",
+        ),
+        (
+            silence(&rt, there.as_str(), 3000).as_str(),
+            11,
+            "no luminaire without short address was found",
+        ),
+    ] {
+        let cabinet = one(&rt);
+        ends(&rt, ONE, &cabinet, answers, status, said);
+        assert!(rt; cabinet.is("site.db", &SITE));
+        assert!(rt; cabinet.count() == 1);
+    }
+    // Where 7 is known to be gone, nobody else is asked for.
+    let words = b"dali_commission replace 5 --records site.db --missing 7";
+    let silent = silence(&rt, "", 3000);
+    ends(
+        &rt,
+        words,
+        &one(&rt),
+        silent.as_str(),
+        11,
+        "no luminaire without short address was found",
+    );
+}
+
+const JOURNAL: &str = "\
+dali_commission: a replacement is not finished; call ./dali_commission replace again
+5 1
+site.db
+two.db
+";
+
+/// A site with two files at a moment of a swap: two journals are written, each file is moved in two steps, and the
+/// journals are removed.
+fn at<R: Abort + AllocGlobal>(rt: &R, moment: u32) -> Cabinet {
+    let cabinet = Cabinet::new(rt.alloc());
+    let files: [(
+        u32,
+        &str,
+        &str,
+        &str,
+        &str,
+        &[(u8, u8, u32)],
+        &[(u8, u8, u32)],
+    ); 2] = [
+        (
+            0,
+            "site.db",
+            "site.db.new",
+            "site.db.before-1",
+            "site.db.replacing",
+            &SITE,
+            &NEW,
+        ),
+        (
+            1,
+            "two.db",
+            "two.db.new",
+            "two.db.before-1",
+            "two.db.replacing",
+            &OTHER,
+            &OTHER_NEW,
+        ),
+    ];
+    for (number, name, new_name, kept, journal, old, new) in files {
+        if number < moment && moment <= 6 + number {
+            assert!(rt; cabinet.has_written(journal, JOURNAL));
+        }
+        let place = 2 + 2 * number;
+        if moment <= place {
+            assert!(rt; cabinet.has_put(name, old));
+        } else {
+            assert!(rt; cabinet.has_put(kept, old));
+        }
+        if moment < place + 2 {
+            assert!(rt; cabinet.has_put(new_name, new));
+        } else {
+            assert!(rt; cabinet.has_put(name, new));
+        }
+    }
+    cabinet
+}
+
+fn is_old(cabinet: &Cabinet) -> bool {
+    cabinet.count() == 4 && cabinet.is("site.db", &SITE) && cabinet.is("two.db", &OTHER)
+}
+
+fn is_new(cabinet: &Cabinet) -> bool {
+    cabinet.count() == 4
+        && cabinet.is("site.db", &NEW)
+        && cabinet.is("two.db", &OTHER_NEW)
+        && cabinet.is("site.db.before-1", &SITE)
+        && cabinet.is("two.db.before-1", &OTHER)
+}
+
+/// Before each journal is written nothing is changed, and the call begins as always: the driver that it asks has ended.
+/// From then on it is finished, without a driver.
+#[test]
+fn a_swap_that_was_stopped_goes_on_or_is_taken_back(rt: HostRuntime) {
+    for moment in 0..2u32 {
+        let cabinet = at(&rt, moment);
+        ends(&rt, TWO, &cabinet, "", 4, "end of input");
+        assert!(rt; is_old(&cabinet));
+    }
+    for moment in 2..8u32 {
+        for words in [
+            TWO,
+            ONE,
+            b"dali_commission replace 5 --records two.db".as_slice(),
+        ] {
+            let cabinet = at(&rt, moment);
+            let is_seen = moment < 7 || words != ONE;
+            let (status, said) = if is_seen {
+                (
+                    0,
+                    "short address 5: the replacement that was not finished is done now\n",
+                )
+            } else {
+                (4, "end of input")
+            };
+            ends(&rt, words, &cabinet, "", status, said);
+            assert!(rt; is_seen != cabinet.is("two.db.replacing", &[]));
+        }
+    }
+    assert!(rt; is_new(&at(&rt, 8)));
+}
+
+/// What is said at an end with this status.
+fn said(status: u8) -> &'static str {
+    match status {
+        0 => "short address 5: the replacement that was not finished is done now\n",
+        12 => "a replacement is not finished: call ./dali_commission replace again",
+        _ => "end of input",
+    }
+}
+
+/// A file that cannot be written, renamed or removed stops it, at any moment; the next call goes on from there.
+#[test]
+fn a_swap_goes_on_after_a_step_that_fails(rt: HostRuntime) {
+    for moment in 1..8u32 {
+        for left in 0..8u32 {
+            let cabinet = at(&rt, moment);
+            cabinet.limit(Some(left));
+            let (more, is_forward) = if moment < 2 {
+                (moment, false)
+            } else {
+                (8 - moment, true)
+            };
+            let status = if left < more {
+                12
+            } else if is_forward {
+                0
+            } else {
+                4
+            };
+            ends(&rt, TWO, &cabinet, "", status, said(status));
+            cabinet.limit(None);
+            let status = if is_forward && left < more { 0 } else { 4 };
+            ends(&rt, TWO, &cabinet, "", status, said(status));
+            assert!(rt;
+                if is_forward {
+                    is_new(&cabinet)
+                } else {
+                    is_old(&cabinet)
+                }
+            );
+        }
+    }
+}
+
+#[test]
+fn other_tasks_wait_for_the_end_of_a_swap(rt: HostRuntime) {
+    let said = "a replacement is not finished: call ./dali_commission replace again";
+    for words in [
+        b"dali_commission run --records site.db 0-63".as_slice(),
+        b"dali_commission check --records site.db".as_slice(),
+        b"dali_commission table --records site.db".as_slice(),
+    ] {
+        for moment in 1..7u32 {
+            ends(&rt, words, &at(&rt, moment), "", 12, said);
+        }
+    }
+    // What lies there at no moment of a swap is left as it is.
+    let cabinet = at(&rt, 4);
+    assert!(rt; cabinet.has_put("two.db.new.new", &SITE));
+    assert!(rt; cabinet.has_put("site.db.new", &NEW));
+    ends(
+        &rt,
+        TWO,
+        &cabinet,
+        "",
+        12,
+        "what lies beside the files is not what a replacement leaves",
+    );
+    let cabinet = one(&rt);
+    assert!(rt; cabinet.has_written("site.db.replacing", "something else\n"));
+    ends(
+        &rt,
+        ONE,
+        &cabinet,
+        "",
+        5,
+        "error: site.db: it is no file of records, and is left as it is\n",
+    );
+}
+
+/// The program over a bus ends with this status, and says this.
+fn ends_over<R: Abort + AllocGlobal>(
+    rt: &R,
+    words: &[u8],
+    cabinet: &Cabinet,
+    bus: &Bus,
+    wanted: u8,
+    said: &str,
+) {
+    let room = Room::new(rt.alloc(), words, bus);
+    let status = match run_and_say(&room, cabinet, false) {
+        Ok(()) => 0,
+        Err(failure) => failure.status(),
+    };
+    assert!(rt; status == wanted);
+    assert!(rt; room.has_said(said));
+}
+
+const FIRST: &[u8] = b"dali_commission run --records site.db --others 1-63 0-0";
+
+const SECOND: &[u8] = b"dali_commission run --records two.db --others 0-0 1-63";
+
+const BOTH: &[u8] = b"dali_commission replace 0 --records two.db --records site.db";
+
+/// The number of the gear among the first two with a short address.
+fn with<R: Abort>(rt: &R, bus: &Bus, wanted: u8) -> usize {
+    let mut found = 3;
+    for number in 0..2usize {
+        if let Some((_, Some(short))) = bus.gear(number) {
+            found = if short.number() == wanted {
+                number
+            } else {
+                found
+            };
+        }
+    }
+    assert!(rt; found < 2);
+    found
+}
+
+/// Two gear with addresses 0 and 1, each given by another controller; the first one is gone, and a new one is there.
+fn exchanged<R: Abort + AllocGlobal>(rt: &R) -> (Cabinet, Bus) {
+    let (cabinet, bus) = (Cabinet::new(rt.alloc()), Bus::of(rt.alloc(), 4));
+    bus.switch(2, false);
+    bus.switch(3, false);
+    ends_over(rt, FIRST, &cabinet, &bus, 6, "ended: block-full\n");
+    ends_over(rt, SECOND, &cabinet, &bus, 0, "2 are in the table");
+    bus.switch(with(rt, &bus, 0), false);
+    bus.switch(2, true);
+    (cabinet, bus)
+}
+
+fn has_first(bus: &Bus) -> bool {
+    match bus.gear(2) {
+        Some((_, short)) => short == Some(Short::FIRST),
+        None => false,
+    }
+}
+
+#[test]
+fn a_luminaire_is_replaced_in_one_file_or_two(rt: HostRuntime) {
+    let (cabinet, bus) = exchanged(&rt);
+    let words = b"dali_commission replace 0 --records two.db 0-63";
+    ends_over(
+        &rt,
+        words,
+        &cabinet,
+        &bus,
+        0,
+        "the new luminaire has the address; 2 gear are in each table\n",
+    );
+    assert!(rt; has_first(&bus));
+    assert!(rt; cabinet.count() == 3);
+    ends_over(
+        &rt,
+        b"dali_commission check --records two.db",
+        &cabinet,
+        &bus,
+        0,
+        "0 of them not there; 0 strangers",
+    );
+    let (cabinet, bus) = exchanged(&rt);
+    ends_over(
+        &rt,
+        BOTH,
+        &cabinet,
+        &bus,
+        0,
+        "two.db: the old file is kept as two.db.before-1\nsite.db: the old",
+    );
+    assert!(rt; has_first(&bus));
+    assert!(rt; cabinet.count() == 4);
+    for words in [
+        b"dali_commission check --records two.db".as_slice(),
+        b"dali_commission check --records site.db".as_slice(),
+    ] {
+        ends_over(
+            &rt,
+            words,
+            &cabinet,
+            &bus,
+            0,
+            "2 in the table, 0 of them not there; 0 strangers",
+        );
+    }
+}
+
+/// Wherever the exchange of the files is stopped, the same line goes on, also where the new luminaire has the address.
+#[test]
+fn a_replacement_goes_on_after_each_step_that_fails(rt: HostRuntime) {
+    for left in 0..8u32 {
+        let (cabinet, bus) = exchanged(&rt);
+        cabinet.limit(Some(left));
+        ends_over(
+            &rt,
+            BOTH,
+            &cabinet,
+            &bus,
+            12,
+            "error: the files cannot be exchanged: it cannot be opened\n",
+        );
+        cabinet.limit(None);
+        let said = if left < 2 {
+            "an earlier call is gone on with\n"
+        } else {
+            "short address 0: the replacement that was not finished is done now\n"
+        };
+        ends_over(&rt, BOTH, &cabinet, &bus, 0, said);
+        assert!(rt; has_first(&bus));
+        assert!(rt; cabinet.count() == 4);
+        ends_over(
+            &rt,
+            b"dali_commission check --records site.db",
+            &cabinet,
+            &bus,
+            0,
+            "2 in the table, 0 of them",
+        );
+    }
+}
+
+#[test]
+fn not_exactly_one_new_luminaire_is_refused(rt: HostRuntime) {
+    let (cabinet, bus) = exchanged(&rt);
+    bus.switch(3, true);
+    ends_over(
+        &rt,
+        BOTH,
+        &cabinet,
+        &bus,
+        11,
+        "several luminaires without short address are there",
+    );
+    bus.switch(2, false);
+    bus.switch(3, false);
+    ends_over(
+        &rt,
+        BOTH,
+        &cabinet,
+        &bus,
+        11,
+        "no luminaire without short address was found\n",
+    );
+    bus.switch(2, true);
+    bus.switch(with(&rt, &bus, 0), true);
+    ends_over(
+        &rt,
+        BOTH,
+        &cabinet,
+        &bus,
+        11,
+        "short address 0: somebody answers to it",
+    );
+    assert!(rt; cabinet.count() == 2);
+}
+
+const ALONE: &[u8] = b"dali_commission run --records site.db 0-63";
+
+/// What the old files have reserved stays reserved, so each luminaire of a site may be replaced, one after the other.
+#[test]
+fn luminaires_are_replaced_one_after_the_other(rt: HostRuntime) {
+    let (cabinet, bus) = exchanged(&rt);
+    ends_over(
+        &rt,
+        BOTH,
+        &cabinet,
+        &bus,
+        0,
+        "the new luminaire has the address",
+    );
+    bus.switch(with(&rt, &bus, 1), false);
+    bus.switch(3, true);
+    let words = b"dali_commission replace 1 --records site.db --records two.db";
+    ends_over(
+        &rt,
+        words,
+        &cabinet,
+        &bus,
+        0,
+        "site.db: the old file is kept as site.db.before-2\n",
+    );
+    assert!(rt; cabinet.count() == 6);
+    for (words, status) in [
+        (b"dali_commission check --records two.db".as_slice(), 0),
+        (
+            b"dali_commission check --records two.db.before-2".as_slice(),
+            1,
+        ),
+    ] {
+        ends_over(&rt, words, &cabinet, &bus, status, "2 in the table");
+    }
+}
+
+/// A call that was stopped after the new file had all is gone on with, and nothing is put on the bus again.
+#[test]
+fn a_new_file_that_has_all_is_gone_on_with(rt: HostRuntime) {
+    let (cabinet, bus) = (Cabinet::new(rt.alloc()), Bus::of(rt.alloc(), 3));
+    bus.switch(2, false);
+    ends_over(&rt, ALONE, &cabinet, &bus, 0, "2 are in the table");
+    bus.switch(with(&rt, &bus, 0), false);
+    bus.switch(2, true);
+    let words = b"dali_commission replace 0 --records site.db";
+    cabinet.limit(Some(0));
+    ends_over(
+        &rt,
+        words,
+        &cabinet,
+        &bus,
+        12,
+        "the files cannot be exchanged",
+    );
+    ends_over(
+        &rt,
+        b"dali_commission replace 1 --records site.db",
+        &cabinet,
+        &bus,
+        11,
+        "finish that replacement first",
+    );
+    cabinet.limit(None);
+    ends(
+        &rt,
+        words,
+        &cabinet,
+        "",
+        0,
+        "an earlier call is gone on with\n0 ",
+    );
+    assert!(rt; has_first(&bus));
+    ends_over(
+        &rt,
+        b"dali_commission check --records site.db",
+        &cabinet,
+        &bus,
+        0,
+        "2 addresses reserved",
+    );
+}
