@@ -36,7 +36,7 @@ ENUMS = {
     "PlanError": ("crates/dali_events/src/plan.rt",),
     "Record": ("crates/dali_script/src/records.rt",),
     "Refusal": ("crates/dali_standing/src/refusal.rt",),
-    "ReplaceRefusal": ("crates/dali_commission_program/src/refusal.rt",),
+    "ReplaceRefusal": ("crates/dali_replacement/src/refusal.rt",),
     "ReplayFault": ("crates/dali_grammar/src/fault.rt",),
     "Report": ("crates/dali_standing/src/report.rt",),
     "SiteLine": ("crates/dali_grammar/src/site_line.rt",),

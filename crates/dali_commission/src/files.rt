@@ -409,6 +409,12 @@ impl Stores for Files<'_> {
         answered(renamed(self.rt, from, to))
     }
 
+    fn liken(&self, name: &str, to: &str) {
+        if let Ok(about) = fs::metadata(self.rt, to) {
+            let _ = fs::set_permissions(self.rt, name, about.permissions());
+        }
+    }
+
     fn remove(&self, _alloc: Global, name: &str) -> Result<(), Failure> {
         answered(removed(self.rt, name))
     }

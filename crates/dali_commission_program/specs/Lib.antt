@@ -1,4 +1,2 @@
 pub mod Failures
-pub mod Replacing
-pub mod Swap
 pub mod Tables

@@ -3,11 +3,11 @@
 ghost use Rattle.std.specs.Prelude.{◌≡◌};
 ghost use Rattle.dali_commission_program.specs.Failures.{ended_as, checked, failure_of};
 
-use crate::refusal::ReplaceRefusal;
 use crate::stores::StoreFault;
 use dali_commissioning::{CommissionFault, DriverFault, Ended, Place, are_as_recorded};
 use dali_console::{ConsoleFault, Failed};
 use dali_frame::Short;
+use dali_replacement::ReplaceRefusal;
 use dali_reserve::KeepError;
 use dali_script::{End, Fault};
 use std::fmt;

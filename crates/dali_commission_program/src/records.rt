@@ -1,12 +1,17 @@
 //! The records of a name, as the tasks borrow them.
 
 use crate::failure::Failure;
-use crate::journal::journal_of;
+use crate::settling::beside;
 use crate::stores::{Borrower, StoreFault, Stores};
 use dali_commissioning::outside;
-use dali_reserve::Keep;
+use dali_console::ConsoleFault;
+use dali_replacement::{fill, fill_reserved, journal_of};
+use dali_reserve::{Keep, KeepError};
 use dali_script::{Block, Kept};
 use std::alloc::Global;
+use std::cell::RefCell;
+
+const REFUSED: Failure = Failure::Console(ConsoleFault::Refused);
 
 /// Who sees that records are of a block.
 #[derive(Drop)]
@@ -23,10 +28,16 @@ impl Borrower for Fitting {
     }
 }
 
+/// Whether a journal of a swap has this name.
+fn is_unfinished<F: Stores>(alloc: Global, stores: &F, journal: &str) -> Result<bool, Failure> {
+    Ok(stores.text(alloc, journal)?.is_some())
+}
+
 /// Who borrows records only while no journal of a swap lies beside them. It is looked for once they are open, too: it
 /// may have been written while they were opened.
 #[derive(Drop)]
 struct Undisturbed<'a, F, B> {
+    alloc: Global,
     stores: &'a F,
     journal: &'a str,
     borrower: &'a B,
@@ -34,7 +45,7 @@ struct Undisturbed<'a, F, B> {
 
 impl<F: Stores, B: Borrower> Borrower for Undisturbed<'_, F, B> {
     fn take<K: Keep>(&self, store: &mut K) -> Result<(), Failure> {
-        if self.stores.has(self.journal) {
+        if is_unfinished(self.alloc, self.stores, self.journal)? {
             Err(Failure::Unfinished)
         } else {
             self.borrower.take(store)
@@ -42,19 +53,26 @@ impl<F: Stores, B: Borrower> Borrower for Undisturbed<'_, F, B> {
     }
 }
 
+/// Where the journal of a swap of the records of this name lies, if there is one.
+fn journal_at<F: Stores>(alloc: Global, stores: &F, name: &str) -> Result<String, Failure> {
+    beside(journal_of(alloc, &stores.place_of(alloc, name)?))
+}
+
 /// Lends a copy of the records of a name where no journal lies beside them.
 fn lend_seen<F: Stores, B: Borrower>(
+    alloc: Global,
     stores: &F,
     journal: &str,
     name: &str,
     borrower: &B,
 ) -> Result<(), Failure> {
-    if stores.has(journal) {
+    if is_unfinished(alloc, stores, journal)? {
         return Err(Failure::Unfinished);
     }
     stores.lend_copy(
         name,
         &Undisturbed {
+            alloc,
             stores,
             journal,
             borrower,
@@ -71,12 +89,13 @@ pub(crate) fn lend<F: Stores, B: Borrower>(
     block: &Block,
     borrower: &B,
 ) -> Result<(), Failure> {
-    let journal = journal_of(alloc, &stores.place_of(alloc, name)?)?;
-    lend_seen(stores, &journal, name, &Fitting { block: *block })?;
+    let journal = journal_at(alloc, stores, name)?;
+    lend_seen(alloc, stores, &journal, name, &Fitting { block: *block })?;
     stores.lend(
         name,
         *block,
         &Undisturbed {
+            alloc,
             stores,
             journal: &journal,
             borrower,
@@ -91,9 +110,9 @@ pub(crate) fn lend_copy<F: Stores, B: Borrower>(
     name: &str,
     borrower: &B,
 ) -> Result<(), Failure> {
-    let journal = journal_of(alloc, &stores.place_of(alloc, name)?)?;
-    if stores.has(name) || stores.has(&journal) {
-        lend_seen(stores, &journal, name, borrower)
+    let journal = journal_at(alloc, stores, name)?;
+    if stores.has(name) || is_unfinished(alloc, stores, &journal)? {
+        lend_seen(alloc, stores, &journal, name, borrower)
     } else {
         Err(Failure::Store(StoreFault::Missing))
     }
@@ -104,9 +123,46 @@ pub(crate) fn see<F: Stores>(alloc: Global, stores: &F, name: &str) -> Result<()
     lend_copy(alloc, stores, name, &Fitting { block: Block::ALL })
 }
 
-pub(crate) fn kept<K: Keep>(store: &mut K) -> Result<Kept, Failure> {
-    match store.read() {
-        Ok(kept) => Ok(kept),
+fn answered<T>(done: Result<T, KeepError>) -> Result<T, Failure> {
+    match done {
+        Ok(value) => Ok(value),
         Err(error) => Err(Failure::Store(StoreFault::Store(error))),
+    }
+}
+
+pub(crate) fn kept<K: Keep>(store: &mut K) -> Result<Kept, Failure> {
+    answered(store.read())
+}
+
+/// Who fills records with all gear of a table, and with what their old ones have reserved for these.
+#[derive(Drop)]
+pub(crate) struct Filling<'a> {
+    pub from: &'a Kept,
+    pub old: &'a Kept,
+}
+
+impl Borrower for Filling<'_> {
+    fn take<K: Keep>(&self, store: &mut K) -> Result<(), Failure> {
+        answered(fill(store, self.from))?;
+        answered(fill_reserved(store, self.old))
+    }
+}
+
+/// Who keeps what records have.
+#[derive(Drop)]
+pub(crate) struct Copying<'a> {
+    pub into: &'a RefCell<Vec<Kept>>,
+}
+
+impl Borrower for Copying<'_> {
+    fn take<K: Keep>(&self, store: &mut K) -> Result<(), Failure> {
+        let kept = kept(store)?;
+        match self.into.try_borrow_mut() {
+            Ok(mut into) => match into.push(kept) {
+                Ok(()) => Ok(()),
+                Err(_) => Err(REFUSED),
+            },
+            Err(_) => Err(REFUSED),
+        }
     }
 }

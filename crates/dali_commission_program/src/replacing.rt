@@ -1,28 +1,24 @@
 //! `replace`: a new luminaire gets the short address of one that is gone.
 
-use crate::carried::{Copying, Filling, carried, fill};
 use crate::failure::{Failure, ended_as, failure_of};
-use crate::journal::{Swap, kept_of, new_of};
 use crate::progress::{Manner, Progress};
-use crate::records::{kept, lend, lend_copy, see};
-use crate::refusal::ReplaceRefusal;
+use crate::records::{Copying, Filling, kept, lend, lend_copy, see};
 use crate::reports::{say_left_alone, say_line, say_not_there, say_why_ended};
-use crate::settling::{Settling, found, free_number, say_refused};
+use crate::settling::{Settling, beside, found, free_number, say_refused};
 use crate::stores::{Borrower, Holder, StoreFault, Stores};
-use crate::swap::MOST_FILES;
-use crate::tables::{
-    Giver, are_there, given, giver_from, has_pair, is_anywhere, is_complete, may_give,
-};
 use crate::tasks::Replacement;
 use arrayvec::ArrayVec;
 use dali_commissioning::{
-    CommissionFault, DriverLink, Ended, Newcomers, Place, Reply, Unwatched, ask, commission,
-    look_for_newcomers, outside, places,
+    CommissionFault, DriverLink, Ended, PassEnd, Place, Reply, ask, outside, places,
 };
 use dali_console::ConsoleFault;
 use dali_frame::{Random24, Short};
-use dali_reserve::{Keep, MemoryKeep};
-use dali_script::{Block, End, Input as Told, Kept};
+use dali_replacement::{
+    Come, Giver, MOST_FILES, OthersThere, Permit, ReplaceFault, ReplaceRefusal, Swap, Vacant,
+    gathered, giver_from, is_complete, kept_of, new_of,
+};
+use dali_reserve::Keep;
+use dali_script::{Block, End, Kept};
 use std::alloc::Global;
 use std::cell::RefCell;
 use std::io;
@@ -30,17 +26,20 @@ use std::io::{Eprint, Read, Write};
 
 const REFUSED: Failure = Failure::Console(ConsoleFault::Refused);
 
-/// How many passes in a row are to have found nothing more.
-const IDLE_PASSES: u8 = 3;
-
 fn refuse<T>(short: Short, refusal: ReplaceRefusal) -> Result<T, Failure> {
     Err(Failure::NotReplaced(short, refusal))
 }
 
-fn block_of(short: Short) -> Block {
-    Block {
-        first: short,
-        last: short,
+/// Whether a table has this short address.
+fn is_anywhere(tables: &[Kept], short: Short) -> bool {
+    tables.iter().any(|kept| kept.enrolled_at(short).is_some())
+}
+
+/// Why a luminaire is not replaced, at this line of the driver.
+fn not_replaced(short: Short, fault: ReplaceFault, line: u64) -> Failure {
+    match fault {
+        ReplaceFault::Refused(refusal) => Failure::NotReplaced(short, refusal),
+        ReplaceFault::Commission(fault) => failure_of(fault, line),
     }
 }
 
@@ -68,49 +67,44 @@ fn standing<R: Read, W: Write>(
 struct Giving<'a, S, R, W> {
     system: &'a S,
     driver: &'a RefCell<DriverLink<R, W>>,
+    permit: &'a Permit,
     table: &'a Kept,
     manner: Manner,
 }
 
-impl<S: Eprint, R: Read, W: Write> Borrower for Giving<'_, S, R, W> {
-    fn take<K: Keep>(&self, store: &mut K) -> Result<(), Failure> {
-        let system = self.system;
-        fill(store, self.table)?;
-        let Ok(mut driver) = self.driver.try_borrow_mut() else {
-            return Err(REFUSED);
-        };
-        let mut progress = Progress::new(system, self.manner, 1);
-        let came = commission(
-            store,
-            &mut *driver,
-            &mut progress,
-            Told::Survey,
-            IDLE_PASSES,
-        );
-        progress.end();
-        let pass = match came {
-            Ok(pass) => pass,
-            Err(fault) => return Err(failure_of(fault, driver.lines())),
-        };
-        say_left_alone(system, &pass);
-        say_why_ended(system, &pass, &kept(store)?, progress.aim());
+impl<S: Eprint, R: Read, W: Write> Giving<'_, S, R, W> {
+    /// Says how the surveys ended. Whether the new gear has the address, the records say: who was heard besides has
+    /// none to get here.
+    fn say_ended(
+        &self,
+        pass: &PassEnd,
+        kept: &Kept,
+        progress: &Progress<'_, S>,
+    ) -> Result<(), Failure> {
+        say_left_alone(self.system, pass);
+        say_why_ended(self.system, pass, kept, progress.aim());
         match pass.ended {
-            // The records say whether the new gear has the address. Who was heard besides has none to get here.
             Ended::Done(End::BlockFull) => Ok(()),
             ended => ended_as(ended, true),
         }
     }
 }
 
-/// How far an earlier call has come.
-#[derive(Clone, Copy, PartialEq, Eq)]
-enum Come {
-    /// The short address is not reserved in the giver's new file.
-    Nowhere,
-    /// It is reserved there.
-    Reserved,
-    /// The new gear has it, and the new file is being filled with what the old one has reserved.
-    Given,
+impl<S: Eprint, R: Read, W: Write> Borrower for Giving<'_, S, R, W> {
+    fn take<K: Keep>(&self, store: &mut K) -> Result<(), Failure> {
+        let Ok(mut driver) = self.driver.try_borrow_mut() else {
+            return Err(REFUSED);
+        };
+        let mut progress = Progress::new(self.system, self.manner, 1);
+        let came = self
+            .permit
+            .give(store, &mut *driver, &mut progress, self.table);
+        progress.end();
+        match came {
+            Ok(pass) => self.say_ended(&pass, &kept(store)?, &progress),
+            Err(fault) => Err(failure_of(fault, driver.lines())),
+        }
+    }
 }
 
 /// What is decided before the bus is asked.
@@ -132,8 +126,18 @@ struct Replacing<'a, S, F> {
     /// Where the files lie.
     names: &'a [String],
     is_terminal: bool,
-    /// The new gear, and how many are in each table.
-    came: RefCell<Option<(Random24, usize)>>,
+    /// What is done once the files are closed.
+    due: RefCell<Option<DueSwap>>,
+}
+
+/// A swap of files that may begin.
+#[derive(Drop)]
+struct DueSwap {
+    swap: Swap,
+    /// The random address of the new gear.
+    random: Random24,
+    /// How many gear are in each new table.
+    count: usize,
 }
 
 impl<S: Input + Print + Eprint + AllocGlobal, F: Stores> Replacing<'_, S, F> {
@@ -185,25 +189,15 @@ impl<S: Input + Print + Eprint + AllocGlobal, F: Stores> Replacing<'_, S, F> {
         }
     }
 
-    /// How far the new file of a name has come, beside what the old one has. What it reserves the old one has reserved,
-    /// but for the short address that the giver gives.
+    /// How far the new file of a name has come, beside what the old one has.
     fn come(&self, name: &str, old: &Kept, is_giver: bool) -> Result<Come, Failure> {
-        let new = new_of(self.alloc(), name)?;
+        let new = beside(new_of(self.alloc(), name))?;
         if !self.stores.has(&new) {
             return Ok(Come::Nowhere);
         }
-        let kept = self.read(&new)?;
-        let gives = kept.reserved_at(self.wanted.short).is_some();
-        let others = kept.reserved().len().saturating_sub(usize::from(gives));
-        let are_old = kept.reserved().iter().all(|pair| {
-            pair.address() == self.wanted.short.number() || has_pair(old.reserved(), *pair)
-        });
-        match (gives, others) {
-            (false, 0) => Ok(Come::Nowhere),
-            (true, 0) if is_giver => Ok(Come::Reserved),
-            (true, _) if is_giver && are_old => Ok(Come::Given),
-            (false, _) if !is_giver && are_old => Ok(Come::Nowhere),
-            _ => refuse(self.wanted.short, ReplaceRefusal::OtherNew),
+        match Come::of(&self.read(&new)?, old, self.wanted.short, is_giver) {
+            Some(come) => Ok(come),
+            None => refuse(self.wanted.short, ReplaceRefusal::OtherNew),
         }
     }
 
@@ -229,7 +223,7 @@ impl<S: Input + Print + Eprint + AllocGlobal, F: Stores> Replacing<'_, S, F> {
                 return refuse(*gone, ReplaceRefusal::NotMissing);
             }
         }
-        let table = match carried(all, short) {
+        let table = match gathered(all, short) {
             Ok(table) => table,
             Err(short) => return refuse(short, ReplaceRefusal::Disagree),
         };
@@ -238,62 +232,54 @@ impl<S: Input + Print + Eprint + AllocGlobal, F: Stores> Replacing<'_, S, F> {
         Ok(Plan { table, giver, come })
     }
 
-    /// Nobody has the short address, all other gear are there, and one alone has none.
-    fn asks<R: Read, W: Write>(
+    /// All other gear are there, but those that are known to be gone.
+    fn others_there<R: Read, W: Write>(
+        &self,
+        driver: &mut DriverLink<R, W>,
+        vacant: Vacant,
+        table: &Kept,
+    ) -> Result<OthersThere, Failure> {
+        let all = match standing(driver, table) {
+            Ok(all) => all,
+            Err(fault) => return Err(failure_of(fault, driver.lines())),
+        };
+        match vacant.beside(&self.wanted.missing, &all) {
+            Ok(seen) => Ok(seen),
+            Err(_) if !driver.has_heard() => Err(Failure::NobodyAnswered),
+            Err(refusal) => {
+                say_not_there(self.system, &all);
+                refuse(self.wanted.short, refusal)
+            }
+        }
+    }
+
+    /// Nobody has the short address, all other gear are there, one alone has none; or an earlier call has seen that.
+    fn permit<R: Read, W: Write>(
         &self,
         driver: &mut DriverLink<R, W>,
         plan: &Plan,
-    ) -> Result<(), Failure> {
+    ) -> Result<Permit, Failure> {
         let (system, short) = (self.system, self.wanted.short);
         if self.manner() != Manner::Quiet {
             let _ = eprintln!(system; "asking the luminaires of the tables");
         }
-        let heard = match ask(driver, short) {
-            Ok(heard) => heard,
-            Err(fault) => return Err(failure_of(fault, driver.lines())),
+        let vacant = match Vacant::ask(driver, short, plan.come) {
+            Ok(vacant) => vacant,
+            Err(fault) => return Err(not_replaced(short, fault, driver.lines())),
         };
-        if !may_give(heard, plan.come != Come::Nowhere) {
-            return refuse(short, ReplaceRefusal::Answered);
-        }
-        let all = match standing(driver, &plan.table) {
-            Ok(all) => all,
-            Err(fault) => return Err(failure_of(fault, driver.lines())),
-        };
-        let are_all_there = all.len() == 64 && are_there(0, &self.wanted.missing, &all);
-        if are_all_there {
-            return self.is_one_new(driver, plan);
-        }
-        if !driver.has_heard() {
-            return Err(Failure::NobodyAnswered);
-        }
-        say_not_there(system, &all);
-        refuse(self.wanted.short, ReplaceRefusal::NotThere)
-    }
-
-    /// Exactly one gear has no short address; or an earlier call has seen that.
-    fn is_one_new<R: Read, W: Write>(
-        &self,
-        driver: &mut DriverLink<R, W>,
-        plan: &Plan,
-    ) -> Result<(), Failure> {
+        let seen = self.others_there(driver, vacant, &plan.table)?;
         if plan.come != Come::Nowhere {
-            let _ = eprintln!(self.system; "an earlier call is gone on with");
-            return Ok(());
+            let _ = eprintln!(system; "an earlier call is gone on with");
         }
-        let mut store = MemoryKeep::new(block_of(self.wanted.short));
-        fill(&mut store, &plan.table)?;
-        match look_for_newcomers(store, driver, &mut Unwatched) {
-            Ok(Newcomers::One(_)) => Ok(()),
-            Ok(Newcomers::Nobody) => refuse(self.wanted.short, ReplaceRefusal::NobodyNew),
-            Ok(Newcomers::Several) => refuse(self.wanted.short, ReplaceRefusal::SeveralNew),
-            Ok(Newcomers::Unclear(_)) => refuse(self.wanted.short, ReplaceRefusal::UnclearNew),
-            Err(fault) => Err(failure_of(fault, driver.lines())),
+        match seen.look(driver, &plan.table) {
+            Ok(permit) => Ok(permit),
+            Err(fault) => Err(not_replaced(short, fault, driver.lines())),
         }
     }
 
     /// Lends the new file of a name.
     fn renew<B: Borrower>(&self, name: &str, block: Block, borrower: &B) -> Result<Kept, Failure> {
-        let new = new_of(self.alloc(), name)?;
+        let new = beside(new_of(self.alloc(), name))?;
         if let Err(failure) = lend(self.alloc(), self.stores, &new, &block, borrower) {
             return Err(say_refused(self.system, &new, failure));
         }
@@ -312,19 +298,38 @@ impl<S: Input + Print + Eprint + AllocGlobal, F: Stores> Replacing<'_, S, F> {
         Ok(news)
     }
 
-    /// Whether the new tables may take the places of the old ones.
-    fn completes(&self, all: &[Kept], news: &[Kept]) -> Result<(), Failure> {
-        let short = self.wanted.short;
-        let Some(random) = given(news, short) else {
+    /// The names of the files.
+    fn copied_names(&self) -> Result<Vec<String>, Failure> {
+        let mut names = Vec::new(self.alloc());
+        for name in self.names {
+            if add_copy(self.alloc(), &mut names, name).is_err() {
+                return Err(REFUSED);
+            }
+        }
+        Ok(names)
+    }
+
+    /// The swap that is due, where the new tables may take the places of the old ones.
+    fn due_swap(&self, all: &[Kept], news: &[Kept]) -> Result<DueSwap, Failure> {
+        let (short, number) = (
+            self.wanted.short,
+            free_number(self.alloc(), self.stores, self.names)?,
+        );
+        let names = self.copied_names()?;
+        let [new, ..] = news else {
             return refuse(short, ReplaceRefusal::NotGiven);
         };
-        if !is_complete(all, news, short) {
-            return refuse(self.wanted.short, ReplaceRefusal::Incomplete);
+        let Some(random) = new.enrolled_at(short) else {
+            return refuse(short, ReplaceRefusal::NotGiven);
+        };
+        if !is_complete(short, random, all, news) {
+            return refuse(short, ReplaceRefusal::Incomplete);
         }
-        if let (Ok(mut came), [new, ..]) = (self.came.try_borrow_mut(), news) {
-            *came = Some((random, new.enrolled().len()));
-        }
-        Ok(())
+        Ok(DueSwap {
+            swap: Swap::of(short, random, all, news, number, names),
+            random,
+            count: new.enrolled().len(),
+        })
     }
 
     /// Gives the short address in the new file of the giver, where an earlier call has not done it. What that has then.
@@ -338,19 +343,20 @@ impl<S: Input + Print + Eprint + AllocGlobal, F: Stores> Replacing<'_, S, F> {
         };
         if plan.come == Come::Given {
             let _ = eprintln!(self.system; "an earlier call is gone on with");
-            return self.read(&new_of(self.alloc(), name)?);
+            return self.read(&beside(new_of(self.alloc(), name))?);
         }
-        match driver.try_borrow_mut() {
-            Ok(mut driver) => self.asks(&mut *driver, plan)?,
+        let permit = match driver.try_borrow_mut() {
+            Ok(mut driver) => self.permit(&mut *driver, plan)?,
             Err(_) => return Err(REFUSED),
-        }
+        };
         let giving = Giving {
             system: self.system,
             driver,
+            permit: &permit,
             table: &plan.table,
             manner: self.manner(),
         };
-        self.renew(name, block_of(self.wanted.short), &giving)
+        self.renew(name, permit.block(), &giving)
     }
 
     /// Gives the short address, and makes the new tables complete.
@@ -362,36 +368,35 @@ impl<S: Input + Print + Eprint + AllocGlobal, F: Stores> Replacing<'_, S, F> {
         let plan = self.plan(all)?;
         let first = self.first(driver, &plan)?;
         let news = self.news(all, &first)?;
-        self.completes(all, &news)
-    }
-
-    /// The exchange of the files.
-    fn swap(&self) -> Result<Swap, Failure> {
-        let number = free_number(self.alloc(), self.stores, self.names)?;
-        let mut names = Vec::new(self.alloc());
-        for name in self.names {
-            if add_copy(self.alloc(), &mut names, name).is_err() {
-                return Err(REFUSED);
+        let swap = self.due_swap(all, &news)?;
+        match self.due.try_borrow_mut() {
+            Ok(mut due) => {
+                *due = Some(swap);
+                Ok(())
             }
+            Err(_) => Err(REFUSED),
         }
-        Ok(Swap {
-            short: self.wanted.short,
-            number,
-            names,
-        })
     }
 
-    /// Says which gear has the short address.
-    fn say_given(&self) {
-        let Ok(came) = self.came.try_borrow() else {
-            return;
+    /// Exchanges the files, and says which gear has the short address.
+    fn exchange(&self, due: &DueSwap) -> Result<(), Failure> {
+        let system = self.system;
+        let settling = Settling {
+            system,
+            stores: self.stores,
+            swap: &due.swap,
+            is_done: RefCell::new(false),
         };
-        if let Some((random, count)) = *came {
-            let number = self.wanted.short.number();
-            let _ = eprintln!(self.system;
-                "{number} {random} the new luminaire has the address; {count} gear are in each table"
-            );
+        settling.begin()?;
+        if !settling.settle()? {
+            return Err(Failure::Unfinished);
         }
+        let (number, random, count) = (self.wanted.short.number(), due.random, due.count);
+        let _ = eprintln!(system;
+            "{number} {random} the new luminaire has the address; {count} gear are in each table"
+        );
+        let _ = say_kept(system, &due.swap);
+        Ok(())
     }
 }
 
@@ -427,27 +432,20 @@ impl<S: Input + Print + Eprint + AllocGlobal, F: Stores> Holder for Replacing<'_
     }
 
     fn then(&self) -> Result<(), Failure> {
-        let swap = self.swap()?;
-        let settling = Settling {
-            system: self.system,
-            stores: self.stores,
-            swap: &swap,
-            is_done: RefCell::new(false),
-        };
-        settling.begin()?;
-        if !settling.settle()? {
-            return Err(Failure::Unfinished);
+        match self.due.try_borrow() {
+            Ok(due) => match &*due {
+                Some(due) => self.exchange(due),
+                None => Err(REFUSED),
+            },
+            Err(_) => Err(REFUSED),
         }
-        self.say_given();
-        let _ = say_kept(self.system, &swap);
-        Ok(())
     }
 }
 
 /// Says where the old files are kept.
 fn say_kept<S: Eprint + AllocGlobal>(system: &S, swap: &Swap) -> Result<(), Failure> {
-    for name in swap.names.iter() {
-        let kept = kept_of(system.alloc(), name, swap.number)?;
+    for name in swap.names() {
+        let kept = beside(kept_of(system.alloc(), name, swap.number()))?;
         let _ = eprintln!(system; "{name}: the old file is kept as {kept}");
     }
     Ok(())
@@ -467,7 +465,7 @@ fn finishes<S: Eprint + AllocGlobal, F: Stores>(
         is_done: RefCell::new(false),
     };
     let is_done = settling.settle()?;
-    let number = swap.short.number();
+    let number = swap.short().number();
     if is_done {
         let _ = eprintln!(system;
             "short address {number}: the replacement that was not finished is done now"
@@ -492,7 +490,7 @@ fn is_finished<S: Eprint + AllocGlobal, F: Stores>(
     for name in names {
         match found(system.alloc(), stores, name) {
             Ok(Some(swap)) => is_finished |= finishes(system, stores, &swap)?
-                && swap.short == short,
+                && swap.short() == short,
             Ok(None) => {}
             Err(failure) => return Err(say_refused(system, name, failure)),
         }
@@ -524,7 +522,7 @@ fn places_of<S: Eprint + AllocGlobal, F: Stores>(
 /// Whether no file is another one, and none lies where another one's new file is to lie.
 fn are_apart(alloc: Global, names: &[String]) -> Result<bool, Failure> {
     for (number, name) in names.iter().enumerate() {
-        let new = new_of(alloc, name)?;
+        let new = beside(new_of(alloc, name))?;
         let are_same = names.iter().enumerate().any(|(at, other)| {
             (at != number && other.as_str() == name.as_str()) || other.as_str() == new.as_str()
         });
@@ -565,7 +563,7 @@ where
         wanted,
         names: &names,
         is_terminal,
-        came: RefCell::new(None),
+        due: RefCell::new(None),
     };
     stores.hold(system.alloc(), &names, &replacing)
 }

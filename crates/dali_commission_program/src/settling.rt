@@ -1,20 +1,29 @@
-//! A swap of files is brought to an end: step by step by `crate::swap`, which says what is due at which moment.
+//! A swap of files is brought to an end: step by step by `dali_replacement`, which says what is due at which moment.
 
 use crate::failure::Failure;
-use crate::journal::{Swap, journal_of, kept_of, new_of};
 use crate::stores::{Actor, StoreFault, Stores};
-use crate::swap::{Lies, MOST_FILES, Step, moment_of, step_after};
 use arrayvec::ArrayVec;
 use dali_console::ConsoleFault;
-use std::alloc::Global;
+use dali_replacement::{
+    Lies, MOST_FILES, Step, Swap, journal_of, kept_of, moment_of, new_of, step_after,
+};
+use std::alloc::{AllocError, Global};
 use std::cell::RefCell;
 use std::io::Eprint;
 
 const REFUSED: Failure = Failure::Console(ConsoleFault::Refused);
 
+/// The name of what lies beside a file.
+pub(crate) fn beside(name: Result<String, AllocError>) -> Result<String, Failure> {
+    match name {
+        Ok(name) => Ok(name),
+        Err(_) => Err(REFUSED),
+    }
+}
+
 /// The name of the file with this number.
 fn name_at(swap: &Swap, number: u32) -> Result<&str, Failure> {
-    match swap.names.get(number as usize) {
+    match swap.names().get(number as usize) {
         Some(name) => Ok(name.as_str()),
         None => Err(Failure::Unfinished),
     }
@@ -47,17 +56,19 @@ impl<S: Eprint + AllocGlobal, F: Stores> Settling<'_, S, F> {
     fn lies(&self, name: &str) -> Result<Lies, Failure> {
         let alloc = self.alloc();
         Ok(Lies {
-            journal: self.stores.has(&journal_of(alloc, name)?),
-            new: self.stores.has(&new_of(alloc, name)?),
+            journal: self.stores.has(&beside(journal_of(alloc, name))?),
+            new: self.stores.has(&beside(new_of(alloc, name))?),
             at: self.stores.has(name),
-            kept: self.stores.has(&kept_of(alloc, name, self.swap.number)?),
+            kept: self
+                .stores
+                .has(&beside(kept_of(alloc, name, self.swap.number()))?),
         })
     }
 
     /// The same of all files.
     fn all(&self) -> Result<ArrayVec<Lies, MOST_FILES>, Failure> {
         let mut all = ArrayVec::new();
-        for name in self.swap.names.iter() {
+        for name in self.swap.names() {
             if all.try_push(self.lies(name)?).is_err() {
                 return Err(Failure::Unfinished);
             }
@@ -71,7 +82,8 @@ impl<S: Eprint + AllocGlobal, F: Stores> Settling<'_, S, F> {
         let Ok(text) = self.swap.text(alloc) else {
             return Err(REFUSED);
         };
-        self.stores.write(alloc, &journal_of(alloc, name)?, &text)
+        self.stores
+            .write(alloc, &beside(journal_of(alloc, name))?, &text)
     }
 
     /// Does a step.
@@ -81,14 +93,23 @@ impl<S: Eprint + AllocGlobal, F: Stores> Settling<'_, S, F> {
             Step::Announce(number) => self.announce(name_at(self.swap, number)?),
             Step::SetAside(number) => {
                 let name = name_at(self.swap, number)?;
-                stores.rename(alloc, name, &kept_of(alloc, name, self.swap.number)?)
+                stores.rename(
+                    alloc,
+                    name,
+                    &beside(kept_of(alloc, name, self.swap.number()))?,
+                )
             }
             Step::Place(number) => {
                 let name = name_at(self.swap, number)?;
-                stores.rename(alloc, &new_of(alloc, name)?, name)
+                let new = beside(new_of(alloc, name))?;
+                stores.liken(&new, &beside(kept_of(alloc, name, self.swap.number()))?);
+                stores.rename(alloc, &new, name)
             }
             Step::Forget(number) => {
-                stores.remove(alloc, &journal_of(alloc, name_at(self.swap, number)?)?)
+                stores.remove(
+                    alloc,
+                    &beside(journal_of(alloc, name_at(self.swap, number)?))?,
+                )
             }
         }
     }
@@ -151,8 +172,8 @@ impl<S: Eprint + AllocGlobal, F: Stores> Settling<'_, S, F> {
 
     /// The first journal that lies there.
     fn first_journal(&self) -> Result<Option<String>, Failure> {
-        for name in self.swap.names.iter() {
-            let journal = journal_of(self.alloc(), name)?;
+        for name in self.swap.names() {
+            let journal = beside(journal_of(self.alloc(), name))?;
             if self.stores.has(&journal) {
                 return Ok(Some(journal));
             }
@@ -196,7 +217,7 @@ pub(crate) fn found<F: Stores>(
     stores: &F,
     name: &str,
 ) -> Result<Option<Swap>, Failure> {
-    let Some(text) = stores.text(alloc, &journal_of(alloc, name)?)? else {
+    let Some(text) = stores.text(alloc, &beside(journal_of(alloc, name))?)? else {
         return Ok(None);
     };
     match Swap::read(alloc, &text) {
@@ -216,7 +237,7 @@ fn is_free<F: Stores>(
     number: u32,
 ) -> Result<bool, Failure> {
     for name in names {
-        if stores.has(&kept_of(alloc, name, number)?) {
+        if stores.has(&beside(kept_of(alloc, name, number))?) {
             return Ok(false);
         }
     }

@@ -69,7 +69,7 @@ pub trait Actor {
 ///
 /// Records are lent and not handed out, so that nothing else has to know what they are kept in.
 pub trait Stores {
-    /// Whether there are records of this name.
+    /// Whether something has this name, or that cannot be told.
     fn has(&self, name: &str) -> bool;
 
     /// Opens the records of this name for a controller with this block, lends them, and closes them. They are made
@@ -101,6 +101,10 @@ pub trait Stores {
     /// Gives what has one name another one in the same folder, where nothing else is left then. A stop leaves it under
     /// one of the two; once it has the other one, no stop takes that away.
     fn rename(&self, alloc: Global, from: &str, to: &str) -> Result<(), Failure>;
+
+    /// Lets those read and write what has one name who may read and write what has another one, as far as the system
+    /// allows that.
+    fn liken(&self, name: &str, to: &str);
 
     /// Removes what has this name, where it is there. No stop brings it back.
     fn remove(&self, alloc: Global, name: &str) -> Result<(), Failure>;

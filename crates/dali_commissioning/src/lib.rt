@@ -27,5 +27,5 @@ pub use lines::{Half, told_of};
 pub use newcomers::{Newcomers, look_for_newcomers};
 pub use runs::commission;
 pub use unaddressed::has_unaddressed;
-pub use verdict::{Place, are_as_recorded, places, random_at};
+pub use verdict::{Place, are_as_recorded, is_as_recorded, places, random_at};
 pub use watch::{Unwatched, Watch};

@@ -145,8 +145,9 @@ pub fn places(kept: &Kept, others: &[Block], replies: &[Reply]) -> ArrayVec<Plac
     places
 }
 
-/// Whether what stands under a short address is as the records have it.
-fn is_as_recorded(place: Place) -> bool
+/// Whether what stands under a short address is as the records have it: the gear that is enrolled is there, or none is
+/// enrolled and nobody answers.
+pub fn is_as_recorded(place: Place) -> bool
     ensures { result ≡ is_as_recorded place }
 {
     match place {

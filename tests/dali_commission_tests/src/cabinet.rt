@@ -245,6 +245,8 @@ impl Stores for Cabinet {
         }
     }
 
+    fn liken(&self, _name: &str, _to: &str) {}
+
     fn remove(&self, _alloc: Global, name: &str) -> Result<(), Failure> {
         self.spend()?;
         self.take(name);

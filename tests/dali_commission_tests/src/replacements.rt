@@ -3,7 +3,7 @@
 use super::bus::Bus;
 use super::cabinet::Cabinet;
 use super::room::Room;
-use dali_commission_program::run_and_say;
+use dali_commission_program::{Stores, run_and_say};
 use dali_console::Failed;
 use dali_desk::Desk;
 use dali_frame::Short;
@@ -45,15 +45,25 @@ fn ends<R: Abort + AllocGlobal>(
     assert!(rt; desk.has_said(said));
 }
 
-/// So many lines of silence, behind these answers.
-fn silence<R: Abort + AllocGlobal>(rt: &R, first: &str, silent: u32) -> String {
+/// A line so often, behind these answers.
+fn repeated<R: Abort + AllocGlobal>(rt: &R, first: &str, line: &str, count: u32) -> String {
     let mut text = String::new(rt.alloc());
     let mut is_made = text.push_str(first).is_ok();
-    for _ in 0..silent {
-        is_made = is_made && text.push_str("silence\n").is_ok();
+    for _ in 0..count {
+        is_made = is_made && text.push_str(line).is_ok();
     }
     assert!(rt; is_made);
     text
+}
+
+/// So many lines of silence, behind these answers.
+fn silence<R: Abort + AllocGlobal>(rt: &R, first: &str, silent: u32) -> String {
+    repeated(rt, first, "silence\n", silent)
+}
+
+/// What luminaire 7 answers when it is asked for its random address three times, behind these answers.
+fn then_seven<R: Abort + AllocGlobal>(rt: &R, first: &str) -> String {
+    repeated(rt, first, "byte AB\nbyte CD\nbyte EF\n", 3)
 }
 
 /// The site with one file, and with two.
@@ -173,6 +183,15 @@ fn files_that_do_not_fit_are_refused(rt: HostRuntime) {
         5,
         "error: gone.db: there is no such file of records\n",
     );
+    let words = b"dali_commission replace 5 --records a\nb.db";
+    ends(
+        &rt,
+        words,
+        &cabinet,
+        "",
+        5,
+        "error: a\nb.db: it cannot be opened\n",
+    );
     assert!(rt; cabinet.has_put("site.db.new", &[(1, 7, 0x222222)]));
     ends(
         &rt,
@@ -187,11 +206,7 @@ fn files_that_do_not_fit_are_refused(rt: HostRuntime) {
 /// Address 5 is asked three times, then 7, then whether one alone has none.
 #[test]
 fn a_bus_on_which_not_one_luminaire_alone_is_new_is_refused(rt: HostRuntime) {
-    let seven = "byte AB\nbyte CD\nbyte EF\n";
-    let mut there = silence(&rt, "", 9);
-    for _ in 0..3u8 {
-        assert!(rt; there.push_str(seven).is_ok());
-    }
+    let there = then_seven(&rt, silence(&rt, "", 9).as_str());
     let mut other = silence(&rt, "", 9);
     for _ in 0..3u8 {
         assert!(rt; other.push_str("byte AB\nbyte CD\nbyte EE\n").is_ok());
@@ -221,6 +236,11 @@ fn a_bus_on_which_not_one_luminaire_alone_is_new_is_refused(rt: HostRuntime) {
             11,
             "no luminaire without short address was found",
         ),
+        (
+            repeated(&rt, there.as_str(), "lapsed\n", 100).as_str(),
+            11,
+            "it is not clear whether one luminaire alone has no short address: call again",
+        ),
     ] {
         let cabinet = one(&rt);
         ends(&rt, ONE, &cabinet, answers, status, said);
@@ -238,6 +258,35 @@ fn a_bus_on_which_not_one_luminaire_alone_is_new_is_refused(rt: HostRuntime) {
         11,
         "no luminaire without short address was found",
     );
+}
+
+/// What an earlier call left is gone on with; and where the new files do not come to have all, no file is moved.
+#[test]
+fn new_files_that_are_not_complete_are_refused(rt: HostRuntime) {
+    let cabinet = one(&rt);
+    assert!(rt; cabinet.has_put("site.db.new", &[(1, 5, 0x222222)]));
+    let seven = then_seven(&rt, "");
+    ends(
+        &rt,
+        ONE,
+        &cabinet,
+        silence(&rt, seven.as_str(), 3000).as_str(),
+        11,
+        "not replaced, no file of records was changed: short address 5: the new luminaire has not got it",
+    );
+    let cabinet = one(&rt);
+    let lacks = [(1, 5, 0x222222), (1, 7, 0xABCDEF), (2, 5, 0x222222)];
+    assert!(rt; cabinet.has_put("site.db.new", &lacks));
+    ends(
+        &rt,
+        ONE,
+        &cabinet,
+        "",
+        11,
+        "not replaced, no file of records was changed: short address 5: a new table would lack something",
+    );
+    assert!(rt; cabinet.is("site.db", &SITE));
+    assert!(rt; cabinet.count() == 2);
 }
 
 const JOURNAL: &str = "\
@@ -347,7 +396,8 @@ fn said(status: u8) -> &'static str {
     match status {
         0 => "short address 5: the replacement that was not finished is done now\n",
         12 => "a replacement is not finished: call ./dali_commission replace again",
-        _ => "end of input",
+        4 => "end of input",
+        _ => "an end that is not expected here",
     }
 }
 
@@ -584,7 +634,19 @@ fn not_exactly_one_new_luminaire_is_refused(rt: HostRuntime) {
         11,
         "no luminaire without short address was found\n",
     );
+    // An earlier call has begun to give the address to a gear that is gone since.
     bus.switch(2, true);
+    assert!(rt; cabinet.has_put("site.db.new", &[(1, 0, 0x111111)]));
+    ends_over(
+        &rt,
+        BOTH,
+        &cabinet,
+        &bus,
+        11,
+        "short address 0: the new luminaire has not got it: call again\n",
+    );
+    let _ = cabinet.remove(rt.alloc(), "two.db.new");
+    let _ = cabinet.remove(rt.alloc(), "site.db.new");
     bus.switch(with(&rt, &bus, 0), true);
     ends_over(
         &rt,

@@ -115,7 +115,7 @@ impl Stores for Shelf<'_> {
     }
 
     fn text(&self, _: Global, _: &str) -> Result<Option<String>, Failure> {
-        Err(NONE)
+        Ok(None)
     }
 
     fn write(&self, _: Global, _: &str, _: &str) -> Result<(), Failure> {
@@ -125,6 +125,8 @@ impl Stores for Shelf<'_> {
     fn rename(&self, _: Global, _: &str, _: &str) -> Result<(), Failure> {
         Err(NONE)
     }
+
+    fn liken(&self, _: &str, _: &str) {}
 
     fn remove(&self, _: Global, _: &str) -> Result<(), Failure> {
         Err(NONE)

@@ -1,5 +1,0 @@
-use Rattle.std.proofs.Common.{length}
-use Rattle.dali_commission_program.proofs.tables.+are_there.Given as goal
-
-abbrev pub decreases-are_there : goal.decreases-are_there
-decreases-are_there l = length l.places.now

@@ -1,0 +1,3 @@
+pub mod Permit
+pub mod Swap
+pub mod Tables

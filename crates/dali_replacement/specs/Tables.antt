@@ -1,0 +1,57 @@
+use Rattle.std.specs.Prelude.{◌≢◌, ℕ, ◌+◌, ◌<◌, ◌==◌, Bool, true, false, List, [], ◌∷◌}
+use Rattle.std.specs.List.{list_any}
+use Rattle.dali_script.specs.Records.{Kept, Assignment, Has, HasRandom}
+use Rattle.dali_replacement.specs.declared.tables.Giver.{Giver}
+use Rattle.dali_replacement.specs.declared.tables.Giver.TheVariants.{Nobody, One, Several}
+
+-- WHO GIVES a short address: the one whose records reserve it, by their number
+abbrev pub reserves : ℕ → Kept → Bool
+reserves a k = list_any (λ p. p.0 == a) k.reserved
+
+abbrev pub joined : Bool → ℕ → Giver → Giver
+joined false i others = others
+joined true i Nobody = One i
+joined true i (One j) = Several
+joined true i Several = Several
+
+abbrev pub giver_from : ℕ → ℕ → List Kept → Giver
+giver_from i a [] = Nobody
+giver_from i a (k ∷ more) = joined (reserves a k) i (giver_from (i + 1) a more)
+
+-- a table has all pairs of a list but those of one address; so has each of several tables, of
+-- another table and of several
+abbrev pub HasAllBut : ℕ → List Assignment → Kept → Type 0
+HasAllBut a xs k = (p : Assignment) → Has xs p → p.0 ≢ a → Has k.enrolled p
+
+unfoldable pub HaveAllBut : ℕ → List Kept → Kept → Type 0
+HaveAllBut a ks other = (k : Kept) → Has ks k → HasAllBut a other.enrolled k
+
+abbrev pub HaveAllOf : ℕ → List Kept → List Kept → Type 0
+HaveAllOf a ks others = (other : Kept) → Has others other → HaveAllBut a ks other
+
+-- the addresses are short addresses
+abbrev pub AreShort : List Assignment → Type 0
+AreShort [] = Unit {0}
+AreShort (p ∷ more) = (p.0 < 64) × AreShort more
+
+-- a table has what another one has; and what several have but under one address
+abbrev pub Keeps : Kept → Kept → Type 0
+Keeps old new = (p : Assignment) → Has old.enrolled p → Has new.enrolled p
+
+abbrev pub IsGathered : ℕ → List Kept → Kept → Type 0
+IsGathered a ks all = (k : Kept) → Has ks k → HasAllBut a k.enrolled all
+
+-- each has a gear, or none
+abbrev pub AreGiven : ℕ → ℕ → List Kept → Type 0
+AreGiven a r ks = (k : Kept) → Has ks k → Has k.enrolled (a, r)
+
+abbrev pub AreNew : ℕ → List Kept → Type 0
+AreNew r ks = (k : Kept) → Has ks k → HasRandom k.enrolled r → ⊥
+
+-- THE NEW TABLES ARE COMPLETE: each has the same new gear under the address, and all that an old or
+-- another new one has under others; and no old table has the new gear.
+pub record IsComplete (a r : ℕ) (old news : List Kept) : Type 0 where
+  pub given : AreGiven a r news
+  pub all : HaveAllOf a news old
+  pub same : HaveAllOf a news news
+  pub new : AreNew r old

@@ -1,0 +1,18 @@
+//! A luminaire is replaced: what must have been seen before a new one is given the short address of one that is gone,
+//! when new files of records may take the places of old ones, and how.
+#![tactic(auto)]
+
+mod filling;
+pub mod laws;
+mod permit;
+mod refusal;
+mod swap;
+mod swapping;
+mod tables;
+
+pub use filling::{fill, fill_reserved, gathered};
+pub use permit::{Come, OthersThere, Permit, Vacant};
+pub use refusal::{ReplaceFault, ReplaceRefusal};
+pub use swap::{Lies, MOST_FILES, Step, lies_at, moment_of, step_after};
+pub use swapping::{Swap, journal_of, kept_of, new_of};
+pub use tables::{Giver, giver_from, is_complete};

@@ -1,0 +1,68 @@
+//! Why a luminaire is not replaced.
+
+use dali_commissioning::CommissionFault;
+use thiserror::Error;
+
+/// Why a luminaire is not replaced.
+#[derive(Clone, Copy, Debug, PartialEq, Eq, Error)]
+pub enum ReplaceRefusal {
+    /// A file is named twice, or one of them is to lie where another one lies.
+    #[error("two of the files are one, or lie where the other's new file is to lie")]
+    SameFile,
+    /// No table has the short address.
+    #[error("no table has this short address")]
+    NotInTables,
+    /// Two tables disagree about the gear with this short address.
+    #[error("the tables disagree about this short address")]
+    Disagree,
+    /// It cannot be told in whose block the short address lies.
+    #[error("whose block has this short address cannot be told: not one of the files alone has reserved it")]
+    NoGiver,
+    /// It is said to be missing, and no table has it, or it is the one that is replaced.
+    #[error("it is said to be missing, and no table has it, or it is to be replaced")]
+    NotMissing,
+    /// A new file lies there that reserves another short address.
+    #[error("a new file lies there that gives another short address: finish that replacement first")]
+    OtherNew,
+    /// Somebody answers to the short address.
+    #[error("somebody answers to it: the old luminaire is still there")]
+    Answered,
+    /// Another gear of a table does not answer, or another one answers there.
+    #[error("a luminaire of the tables is not there as recorded; one that is known to be gone is named by --missing")]
+    NotThere,
+    /// No gear without short address was found.
+    #[error("no luminaire without short address was found")]
+    NobodyNew,
+    /// Several were found.
+    #[error("several luminaires without short address are there: connect one alone")]
+    SeveralNew,
+    /// It is not clear how many there are.
+    #[error("it is not clear whether one luminaire alone has no short address: call again")]
+    UnclearNew,
+    /// The new gear did not get the short address.
+    #[error("the new luminaire has not got it: call again")]
+    NotGiven,
+    /// The new tables lack something.
+    #[error("a new table would lack something that an old one has")]
+    Incomplete,
+}
+
+impl ReplaceRefusal {
+    /// What was not changed. Once the address may have been given, only the files of the records are as they were.
+    pub fn what(self) -> &'static str {
+        if matches!(self, ReplaceRefusal::NotGiven | ReplaceRefusal::Incomplete) {
+            "no file of records was changed"
+        } else {
+            "nothing was changed"
+        }
+    }
+}
+
+/// Why a luminaire is not replaced, or not all was asked.
+#[derive(Clone, Copy, Debug, PartialEq, Eq)]
+pub enum ReplaceFault {
+    /// It is not replaced.
+    Refused(ReplaceRefusal),
+    /// A question or a survey came to no end.
+    Commission(CommissionFault),
+}
