@@ -6,5 +6,6 @@ pub mod Commissioned
 pub mod Premises
 pub mod OpeningAlone
 pub mod LapseForgotten
+pub mod ToldAsDamaged
 pub mod GiftReleased
 pub mod UsedGear

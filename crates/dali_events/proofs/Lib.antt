@@ -1,4 +1,5 @@
 pub mod Plans
 pub mod Invariant
 pub mod Search
+mod Telling
 pub mod Histories

@@ -11,3 +11,4 @@ pub mod Searching
 pub mod Calling
 pub mod Wanted
 pub mod Troubles
+pub mod Telling

@@ -3,12 +3,13 @@
 //! Each law quantifies over every plan and every list of events that is a run, whatever frames were sent, destroyed or
 //! answered, and whenever gear lost power and controllers restarted.
 
-ghost use Rattle.std.specs.Prelude.{ℕ, List, ◌++◌, ◌∷◌, [], ◌≡◌, Some, None, replicate};
+ghost use Rattle.std.specs.Prelude.{ℕ, List, ◌++◌, ◌∷◌, [], ◌≡◌, Some, None, true, false, replicate};
 ghost use Rattle.dali_frame.specs.declared.frames.Forward.{Forward};
 ghost use Rattle.dali_frame.specs.declared.frames.Answer.{Answer};
 ghost use Rattle.dali_frame.specs.declared.numbers.SearchAddress.{SearchAddress};
 ghost use Rattle.dali_frame.specs.Random.{value_of, number_of};
-ghost use Rattle.dali_frame.specs.declared.frames.Answer.TheVariants.{Byte};
+ghost use Rattle.dali_frame.specs.declared.frames.Answer.TheVariants.{Byte, Damaged};
+ghost use Rattle.dali_special.specs.declared.command.Command.{Command};
 ghost use Rattle.dali_special.specs.declared.command.Command.TheVariants.{Randomise, RandomByte};
 ghost use Rattle.dali_special.specs.declared.command.Part.{Part};
 ghost use Rattle.dali_special.specs.declared.command.Part.TheVariants.{High, Middle, Low};
@@ -18,24 +19,31 @@ ghost use Rattle.dali_script.specs.declared.stage.Stage.TheVariants.{Unnamed};
 ghost use Rattle.dali_script.specs.Records.{Has};
 ghost use Rattle.dali_script.specs.Scripts.{IsFirst};
 ghost use Rattle.dali_script.specs.Stages.{stage_of};
-ghost use Rattle.dali_events.specs.declared.event.Event.TheVariants.{Sent};
+ghost use Rattle.dali_script.specs.declared.orders.Input.TheVariants as input;
+ghost use Rattle.dali_script.specs.declared.orders.Order.{Order};
+ghost use Rattle.dali_events.specs.declared.event.Event.TheVariants.{Sent, Acted, Destroyed};
+ghost use Rattle.dali_gear.specs.declared.gear_set.GearSet.{GearSet};
+ghost use Rattle.dali_gear.specs.declared.row.Reach.{Reach};
 ghost use Rattle.dali_gear.specs.declared.row.Reach.TheVariants.{Everyone};
 ghost use Rattle.dali_gear.specs.Gear.{fresh};
 ghost use Rattle.dali_gear.specs.Row.{heard_of, answers_of};
 ghost use Rattle.dali_events.specs.declared.event.Event.{Event};
 ghost use Rattle.dali_events.specs.World.{World, gear_at, start};
-ghost use Rattle.dali_events.specs.Happens.{happens, trace_running, entry};
-ghost use Rattle.dali_events.specs.Allowed.{Allowed, Hears};
+ghost use Rattle.dali_events.specs.Happens.{happens, trace_running, entry, taken_by, after_quiet, keeps_bus};
+ghost use Rattle.dali_events.specs.Allowed.{Allowed, Hears, IsDestroyed};
 ghost use Rattle.dali_events.specs.Plan.{Plan};
 ghost use Rattle.dali_events.specs.declared.used.Used.{Used};
 ghost use Rattle.dali_events.specs.Runs.{after, IsRun, AreDrawn, LeavesUsed};
-ghost use Rattle.dali_events.specs.Promise.{KeepsPromise, IsSafe, IsSafeHistory, Names, HoldsShort};
+ghost use Rattle.dali_events.specs.Promise.{KeepsPromise, KeepsPromiseNow, KeepsAddresses, IsSafe, IsSafeHistory};
+ghost use Rattle.dali_events.specs.Promise.{Names, HoldsShort};
 ghost use Rattle.dali_events.specs.Laws.{GiftsAreReserved, GiftsAreOwned, KeepsReserved, TablesAgree, FindingsAgree};
 ghost use Rattle.dali_events.specs.Laws.{KeepsRecords};
 ghost use Rattle.dali_events.specs.Events.{frame_in};
 ghost use Rattle.dali_events.specs.Searching.{EachPowered, EachActive, number_at, sent_event, up_to_compare};
 ghost use Rattle.dali_events.specs.Searching.{SearchesAll, NobodyAnswers, HasShort};
 ghost use Rattle.dali_events.specs.Calling.{Calls, AreCalled};
+ghost use Rattle.dali_events.specs.Telling.{is_question, Happening, as_damaged, happened, after_happened, all_told};
+ghost use Rattle.dali_events.specs.Telling.{IsHistory};
 
 /// The plain hearing of a row of gear is one that may be heard.
 pub fn plain_hearing_is_heard()
@@ -160,6 +168,39 @@ pub fn random_addresses_are_told()
 pub fn silence_is_nobody()
     ensures { (w : World) (a : ℕ) (part : Part) → answers_of Everyone (RandomByte a part) 0 w.gear ≡ []
         → EachPowered w (λ g. g.short ≡ Some a → ⊥) }
+{}
+
+/// QUESTIONS LEAVE GEAR AS THEY WERE. COMPARE, VERIFY SHORT ADDRESS, QUERY SHORT ADDRESS and QUERY RANDOM ADDRESS
+/// change nothing where no gear with power has a half pair, whichever gear they reach. So what a question that was
+/// destroyed leaves of gear, of draws and of gifts is what one leaves that was sent.
+pub fn questions_leave_gear()
+    ensures { (w : World) (reach : Reach) (c : Command) → is_question c ≡ true → EachPowered w (λ g. g.half ≡ None)
+        → taken_by w reach c ≡ w }
+{}
+
+/// DESTROYED QUESTIONS MAY BE TOLD AS DAMAGED. Take every history in which some questions were destroyed, their senders
+/// were told that the answers were damaged, and went on so: each keeps the bus while a frame may follow. Then what the
+/// senders were told is a run (`run`), and what there is differs from the world of that run by half pairs alone: where
+/// half pairs are forgotten the two are equal (`world`). As that is so at each moment, no gear executes INITIALISE or
+/// RANDOMISE by a half pair that is left. So the promise holds of what there is, at each moment (`promise`) and from
+/// each one on (`ever_after`).
+///
+/// A sender that gives its transaction up, after whatever frame, leaves all as it is where it was told that the frame
+/// was destroyed (`given_up`).
+pub fn destroyed_questions_may_be_told_as_damaged()
+    ensures run { (p : Plan) (capacity : ℕ) (xs : List Happening) → IsHistory p capacity xs
+        → IsRun p capacity (all_told xs) }
+    ensures world { (p : Plan) (capacity : ℕ) (xs : List Happening) → IsHistory p capacity xs
+        → after_quiet (after_happened p capacity xs) ≡ after_quiet (after p capacity (all_told xs)) }
+    ensures promise { (p : Plan) (capacity : ℕ) (xs : List Happening) → IsHistory p capacity xs
+        → KeepsPromiseNow (after_happened p capacity xs) }
+    ensures ever_after { (p : Plan) (capacity : ℕ) (earlier later : List Happening)
+        → IsHistory p capacity (earlier ++ later)
+        → KeepsAddresses (after_happened p capacity earlier) (after_happened p capacity (earlier ++ later)) }
+    ensures given_up { (w : World) (c : ℕ) (f : Forward) (set : GearSet) (o : Order) → IsDestroyed w c f set
+        → keeps_bus o ≡ false
+        → happens (happened w (as_damaged c f set)) (Acted c (input.Heard Damaged) o)
+        ≡ happens (happens w (Destroyed c f set)) (Acted c input.Destroyed o) }
 {}
 
 /// RECORDS ARE KEPT. At each moment of every run the records of a controller are those of its block, with each address

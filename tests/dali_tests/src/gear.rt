@@ -72,10 +72,10 @@ fn one_gear_is_addressed(rt: HostRuntime) -> Result<(), Fail> {
 }
 
 /// INITIALISE of the gear without short address.
-const INITIALISE: Command = Command::Initialise(Target::Unaddressed);
+pub const INITIALISE: Command = Command::Initialise(Target::Unaddressed);
 
 /// A command comes to a row of gear that may draw these numbers: what is heard, and how many were drawn.
-fn hear<R: Abort>(
+pub fn hear<R: Abort>(
     rt: &R,
     row: &mut Row,
     command: &Command,

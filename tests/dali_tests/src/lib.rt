@@ -42,6 +42,8 @@ mod survey;
 #[cfg(test)]
 mod table;
 #[cfg(test)]
+mod told;
+#[cfg(test)]
 mod transaction;
 #[cfg(test)]
 mod values;
