@@ -13,7 +13,7 @@ use dali_script::{End, Fault};
 use std::fmt;
 
 /// Why the program ends without having done what was asked for.
-#[derive(Clone, Copy, PartialEq, Eq)]
+#[derive(Clone, Copy)]
 pub enum Failure {
     /// Status 1: gear answer to short addresses that no record names, so nothing was begun.
     AddressedBefore,

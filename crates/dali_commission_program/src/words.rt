@@ -1,8 +1,8 @@
 //! The command line, and what it asks for.
 
-use crate::swap::MOST_FILES;
 use crate::tasks::{Bounds, Replacement, Setup, Start, TableForm, Task};
 use dali_frame::Short;
+use dali_replacement::MOST_FILES;
 use dali_script::Block;
 use dali_words::{
     CommandLine, LineFault, Program, Subcommand, Value, Word, WordKind, conflict, no_task,

@@ -25,7 +25,7 @@ use std::io::{Read, Write};
 const IDLE_PASSES: u8 = 3;
 
 /// How far an earlier call has come.
-#[derive(Clone, Copy, Debug, PartialEq, Eq)]
+#[derive(Clone, Copy, PartialEq, Eq)]
 pub enum Come {
     /// The short address is not reserved in the giver's new records.
     Nowhere,

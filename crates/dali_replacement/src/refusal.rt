@@ -4,7 +4,7 @@ use dali_commissioning::CommissionFault;
 use thiserror::Error;
 
 /// Why a luminaire is not replaced.
-#[derive(Clone, Copy, Debug, PartialEq, Eq, Error)]
+#[derive(Clone, Copy, Debug, Error)]
 pub enum ReplaceRefusal {
     /// A file is named twice, or one of them is to lie where another one lies.
     #[error("two of the files are one, or lie where the other's new file is to lie")]
@@ -59,7 +59,7 @@ impl ReplaceRefusal {
 }
 
 /// Why a luminaire is not replaced, or not all was asked.
-#[derive(Clone, Copy, Debug, PartialEq, Eq)]
+#[derive(Clone, Copy)]
 pub enum ReplaceFault {
     /// It is not replaced.
     Refused(ReplaceRefusal),

@@ -5,7 +5,7 @@ ghost use Rattle.std.specs.Prelude.{◌≡◌, ℕ, ◌+◌, ◌*◌, ◌<◌, �
 ghost use Rattle.dali_replacement.specs.Swap.{lies_at, step_after, AreAt};
 
 /// What lies at the place of a file of records, and beside it.
-#[derive(Clone, Copy, Debug, Default, PartialEq, Eq)]
+#[derive(Clone, Copy, Default, PartialEq)]
 pub struct Lies {
     /// The journal of a swap.
     pub journal: bool,
@@ -18,7 +18,7 @@ pub struct Lies {
 }
 
 /// A step of a swap, of the file with this number.
-#[derive(Clone, Copy, Debug, PartialEq, Eq)]
+#[derive(Clone, Copy)]
 pub enum Step {
     /// Its journal is written.
     Announce(u32),

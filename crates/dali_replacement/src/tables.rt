@@ -9,7 +9,7 @@ use dali_frame::{Random24, Short};
 use dali_script::{Kept, Pair};
 
 /// Who gives a short address: the records that reserve it, by their number.
-#[derive(Clone, Copy, Debug, PartialEq, Eq)]
+#[derive(Clone, Copy)]
 pub enum Giver {
     /// None of them.
     Nobody,
