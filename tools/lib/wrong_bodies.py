@@ -121,16 +121,23 @@ def plant(crate: proving.Crate, place: pathlib.Path, edit: Edit, number: int) ->
     right = lines.index((crate.folder / edit.file).read_text().splitlines()[head])
     at = item(lines, right)[0]
     (place / edit.file).write_text("\n".join([*lines[:at], *block, "", *lines[at:], ""]))
-    words = pathlib.PurePath(edit.file).with_suffix("").parts[1:]
-    folder = [*([] if words in [("lib",), ("main",)] else words), *([kind[2]] if kind else [])]
-    proof = crate.folder.joinpath("proofs", *folder, name)
-    if proof.is_dir():
-        own = ".".join(["proofs", *folder])
+    for proof in proofs(crate.folder, edit.file, kind, name):
+        own = ".".join(proof.parent.relative_to(crate.folder).parts)
         for file in (it for it in proof.rglob("*") if it.is_file()):
-            to = place.joinpath("proofs", *folder, new, file.relative_to(proof))
+            to = place / proof.parent.relative_to(crate.folder) / new / file.relative_to(proof)
             to.parent.mkdir(parents=True, exist_ok=True)
             to.write_text(file.read_text().replace(f"{own}.{name}.", f"{own}.{new}."))
     return next(iter(edit.functions)).removesuffix(name) + new
+
+
+def proofs(folder: pathlib.Path, file: str, kind: re.Match | None, name: str) -> list[pathlib.Path]:
+    """The folder with the proof of a function of a file, where it has one: of a method it stands beside those of its type, whose module may be
+    another one than the file's."""
+    if kind:
+        return sorted(folder.glob(f"proofs/**/{kind[2]}/{name}"))
+    words = pathlib.PurePath(file).with_suffix("").parts[1:]
+    found = folder.joinpath("proofs", *([] if words in [("lib",), ("main",)] else words), name)
+    return [found] if found.is_dir() else []
 
 
 def item(lines: list[str], at: int) -> tuple[int, int, int]:
