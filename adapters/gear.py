@@ -324,7 +324,7 @@ class Bus:
         answers = [byte for it in takers if (byte := it.take(frame, self.draw)) is not None and not self.is_mute(it, frame)]
         self.keep()
         if is_destroyed:
-            return lines.DESTROYED
+            return lines.DAMAGED if awaits and self.chosen.one_code else lines.DESTROYED
         return self.heard(answers) if awaits else lines.SILENCE
 
     def is_mute(self, gear: Gear, frame: bytes) -> bool:
@@ -365,6 +365,7 @@ def add_words(options: argparse.ArgumentParser) -> None:
     options.add_argument("--lose", **chance, help="the chance of each frame that what gear answer is lost, from 0 to 1")
     options.add_argument("--damage", **chance, help="that something damaged is heard where an answer is awaited")
     options.add_argument("--destroy", **chance, help="that it is destroyed; each gear takes it all the same, or not at all")
+    options.add_argument("--one-code", action="store_true", help="tell `damaged` of a question that was destroyed")
     options.add_argument("--lapse", **chance, help="that it is not sent")
     options.add_argument("--mute", type=count, metavar="N", help="gear N, counted from 0, never answers QUERY SHORT ADDRESS")
     options.add_argument("--alike", action="store_true", help="let gear of FILE have one random address, as after equal draws")
