@@ -367,6 +367,10 @@ impl<S: Input + Print + Eprint + AllocGlobal, F: Stores> Replacing<'_, S, F> {
     ) -> Result<(), Failure> {
         let plan = self.plan(all)?;
         let first = self.first(driver, &plan)?;
+        // What the giver's new file has reserved besides says to a later call that the address is given there.
+        if first.enrolled_at(self.wanted.short).is_none() {
+            return refuse(self.wanted.short, ReplaceRefusal::NotGiven);
+        }
         let news = self.news(all, &first)?;
         let swap = self.due_swap(all, &news)?;
         match self.due.try_borrow_mut() {
