@@ -1,4 +1,5 @@
 pub mod Plans
+pub mod Interrupted
 pub mod Invariant
 pub mod Search
 mod Telling

@@ -33,7 +33,7 @@ use Rattle.dali_events.specs.declared.event.Event.TheVariants as event
 use Rattle.dali_events.specs.Plan.{Plan}
 use Rattle.dali_events.specs.World.{World, Controller, nobody, controller_at, controllers_changed, start}
 use Rattle.dali_events.specs.Happens.{happens, trace_running, entry, goes_on, taken_by, sent_by, told_sent, told_destroyed, gives_up, keeps_bus, bus_acted}
-use Rattle.dali_events.specs.Happens.{controller_acted, controller_informed, gear_powered, after_quiet}
+use Rattle.dali_events.specs.Happens.{controller_acted, controller_informed, gear_powered, gear_interrupted, after_quiet}
 use Rattle.dali_events.specs.Allowed.{Allowed, Hears, IsUp, IsDestroyed, MaySend, MayOrder}
 use Rattle.dali_events.specs.Runs.{after, after_all, AllAllowed, IsRun, LeavesUsed}
 use Rattle.dali_events.specs.Promise.{HoldsShort, KeepsPromiseNow, KeepsAddresses}
@@ -273,6 +273,12 @@ powered_alike b true g x same = go g.powered same where
   go true same = (x, refl, λ w on. same w refl)
   go false same = (None, refl, λ w on. refl)
 
+-- a frame of another device, in all gear
+interrupted_alike : (b : Bool) (gs hs : List Gear) → Alike b gs hs → Alike true (map gear_interrupted gs) (map gear_interrupted hs)
+interrupted_alike b _ _ no_gear = no_gear
+interrupted_alike b _ _ (more g x gs hs same rest) =
+    more (gear_interrupted g) (if g.powered then None else x) _ _ (λ w on. rw on refl) (interrupted_alike b gs hs rest)
+
 expired_alike : (b : Bool) → Befalls b gear_expired
 expired_alike b g x same = (x, refl, same)
 
@@ -394,6 +400,7 @@ allowed_same w hs (event.Collided c f d g) near here = record {
 }
 allowed_same w hs event.Lapsed near here = tt
 allowed_same w hs event.Quiet near here = tt
+allowed_same w hs (event.Foreign f) near here = here
 allowed_same w hs (event.Power g on) near here = tt
 allowed_same w hs (event.Expired g) near here = tt
 allowed_same w hs (event.Down c) near here = up_same w hs c here
@@ -427,6 +434,7 @@ event_led w hs (event.Destroyed c f set) here near =
 event_led w hs (event.Collided c f d g) here near = (hs, refl, free_alike w.gear hs (loosely _ w.gear hs near))
 event_led w hs event.Lapsed here near = (hs, refl, free_alike w.gear hs (loosely _ w.gear hs near))
 event_led w hs event.Quiet here near = (map gear_quieted hs, refl, wholly _ _ _ (quieted_alike _ w.gear hs near))
+event_led w hs (event.Foreign f) here near = (map gear_interrupted hs, refl, wholly _ _ _ (interrupted_alike _ w.gear hs near))
 event_led w hs (event.Power g on) here near =
     (set hs g (gear_powered on (get_or hs g fresh)), refl, changed_alike _ (gear_powered on) (powered_alike _ on) w.gear hs g near)
 event_led w hs (event.Expired g) here near =

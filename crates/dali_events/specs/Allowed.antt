@@ -24,6 +24,7 @@ use Rattle.dali_script.specs.declared.orders.Order.{Order}
 use Rattle.dali_script.specs.declared.orders.Order.TheVariants.{Put, Commit, Done, Halt}
 use Rattle.dali_events.specs.declared.event.Event.{Event}
 use Rattle.dali_events.specs.declared.event.Event.TheVariants as event
+use Rattle.dali_events.specs.Foreign.{is_foreign}
 use Rattle.dali_events.specs.World.{Controller, World, controller_at}
 use Rattle.dali_events.specs.Happens.{controller_informed}
 
@@ -150,6 +151,7 @@ Allowed w (event.Destroyed c f set) = IsDestroyed w c f set
 Allowed w (event.Collided c f d g) = IsCollided w c f d g
 Allowed w event.Lapsed = Unit {0}
 Allowed w event.Quiet = Unit {0}
+Allowed w (event.Foreign f) = is_foreign f ≡ true
 Allowed w (event.Power g on) = Unit {0}
 Allowed w (event.Expired g) = Unit {0}
 Allowed w (event.Down c) = IsUp w c

@@ -37,10 +37,11 @@ abbrev pub RunsOn : World → ℕ → List Event → Type 0
 RunsOn w c [] = Runs w c
 RunsOn w c (e ∷ es) = Runs w c × RunsOn (happens w e) c es
 
--- no power of gear g comes or goes, its initialisation doesn't run out, and the bus isn't quiet
--- between the two INITIALISE
+-- no power of gear g comes or goes, its initialisation doesn't run out, and between the two
+-- INITIALISE the bus isn't quiet, and no frame of another device comes
 abbrev pub Keeps : ℕ → World → Event → Type 0
 Keeps g w event.Quiet = stage_of w.trace ≡ InitialisedOnce → ⊥
+Keeps g w (event.Foreign f) = stage_of w.trace ≡ InitialisedOnce → ⊥
 Keeps g w (event.Power h on) = h ≡ g → ⊥
 Keeps g w (event.Expired h) = h ≡ g → ⊥
 Keeps g w _ = Unit {0}
@@ -96,6 +97,7 @@ Orders P c (event.Destroyed d f set) = Unit {0}
 Orders P c (event.Collided d f e g) = Unit {0}
 Orders P c event.Lapsed = Unit {0}
 Orders P c event.Quiet = Unit {0}
+Orders P c (event.Foreign f) = Unit {0}
 Orders P c (event.Power g on) = Unit {0}
 Orders P c (event.Expired g) = Unit {0}
 Orders P c (event.Up d kept) = Unit {0}

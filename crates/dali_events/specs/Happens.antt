@@ -229,6 +229,16 @@ after_expired w g = record w { gear = gear_changed w.gear g gear_expired }
 abbrev pub after_quiet : World → World
 after_quiet w = record w { gear = map gear_quieted w.gear }
 
+-- ---------------------------------------------------------------- a frame of another device
+
+-- Gear that have power take it: half a pair is over, and nothing else changes. It is told to
+-- nobody, and the owner keeps the bus.
+abbrev pub gear_interrupted : Gear → Gear
+gear_interrupted g = record g { half = if g.powered then None else g.half }
+
+abbrev pub after_foreign : World → World
+after_foreign w = record w { gear = map gear_interrupted w.gear }
+
 -- ------------------------------------------------------------ a controller goes down, and comes up
 
 -- what it does not keep is gone; kept and outstanding records stay remembered
@@ -274,6 +284,7 @@ happens w (event.Destroyed c f set) = after_destroyed w c f set
 happens w (event.Collided c f d g) = after_collided w c f d g
 happens w event.Lapsed = after_lapsed w
 happens w event.Quiet = after_quiet w
+happens w (event.Foreign f) = after_foreign w
 happens w (event.Power g on) = after_power w g on
 happens w (event.Expired g) = after_expired w g
 happens w (event.Down c) = after_down w c

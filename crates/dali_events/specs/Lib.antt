@@ -1,6 +1,7 @@
 pub mod Used
 pub mod Plan
 pub mod Events
+pub mod Foreign
 pub mod World
 pub mod Happens
 pub mod Allowed

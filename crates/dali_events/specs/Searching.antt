@@ -11,6 +11,7 @@ use Rattle.dali_script.specs.declared.trace.Entry.{Entry}
 use Rattle.dali_script.specs.declared.stage.Stage.{Stage}
 use Rattle.dali_script.specs.declared.stage.Stage.TheVariants.{NumberSent, Hunted, Found, Unnamed}
 use Rattle.dali_script.specs.declared.stage.Stage.TheVariants.{Programmed, Confirmed}
+use Rattle.dali_script.specs.declared.stage.Stage.TheVariants.{InitialisedOnce, RandomisedOnce}
 use Rattle.dali_script.specs.Scripts.{Open, steps, IsFront}
 use Rattle.dali_script.specs.Findings.{search_of}
 use Rattle.dali_script.specs.Stages.{stage_of}
@@ -46,6 +47,7 @@ number_at _ = None
 
 -- Since an opening nothing befell the gear that makes them forget it: no power came or went, no
 -- initialisation expired, the bus was not quiet for long, and no TERMINATE was sent or destroyed.
+-- Frames of other devices make them forget nothing but half a pair.
 abbrev pub IsCalm : Event → Type 0
 IsCalm event.Quiet = ⊥
 IsCalm (event.Power g on) = ⊥
@@ -58,10 +60,25 @@ IsCalm (event.Collided c f d g) = Unit {0}
 IsCalm event.Lapsed = Unit {0}
 IsCalm (event.Down c) = Unit {0}
 IsCalm (event.Up c kept) = Unit {0}
+IsCalm (event.Foreign f) = Unit {0}
 
 abbrev pub AreCalm : List Event → Type 0
 AreCalm [] = Unit {0}
 AreCalm (e ∷ es) = IsCalm e × AreCalm es
+
+-- and none comes between the two INITIALISE or the two RANDOMISE
+abbrev pub IsHalfway : Stage → Type 0
+IsHalfway InitialisedOnce = Unit {0}
+IsHalfway RandomisedOnce = Unit {0}
+IsHalfway _ = ⊥
+
+abbrev pub BreaksNoPair : World → Event → Type 0
+BreaksNoPair w (event.Foreign f) = IsHalfway (stage_of w.trace) → ⊥
+BreaksNoPair w _ = Unit {0}
+
+abbrev pub BreakNoPair : World → List Event → Type 0
+BreakNoPair w [] = Unit {0}
+BreakNoPair w (e ∷ es) = BreaksNoPair w e × BreakNoPair (happens w e) es
 
 -- and nobody was passed over: WITHDRAW was not sent where gear were not asked for their short
 -- address
@@ -110,6 +127,7 @@ pub record SearchesAll (p : Plan) (capacity : ℕ) (front : List Event) (c : ℕ
   -- the opening
   pub terminate : command_of first.frame ≡ Terminate
   pub calm_opening : AreCalm opening
+  pub unbroken : BreakNoPair (after p capacity (front ++ sent_event c first ∷ [])) opening
   pub complete : CompletesOpening (after p capacity (up_to_opening front c first opening))
       c last.frame
   -- and from then on

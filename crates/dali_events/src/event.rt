@@ -23,6 +23,8 @@ pub enum Event {
     Lapsed,
     /// The bus was quiet for so long that half pairs are forgotten.
     Quiet,
+    /// A frame of another device came: direct arc power, or one that is no addressing command. Gear with power took it.
+    Foreign(Forward),
     /// A gear's power came (true) or went.
     Power(u32, bool),
     /// The 15 minutes of a gear's initialisation ended.
@@ -66,6 +68,7 @@ impl Event {
             | Event::Collided(..)
             | Event::Lapsed
             | Event::Quiet
+            | Event::Foreign(_)
             | Event::Power(..)
             | Event::Expired(_)
             | Event::Down(_)
@@ -91,6 +94,7 @@ impl Event {
             | Event::Collided(..)
             | Event::Lapsed
             | Event::Quiet
+            | Event::Foreign(_)
             | Event::Power(..)
             | Event::Expired(_)
             | Event::Down(_)

@@ -29,7 +29,9 @@ ghost use Rattle.dali_gear.specs.Gear.{fresh};
 ghost use Rattle.dali_gear.specs.Row.{heard_of, answers_of};
 ghost use Rattle.dali_events.specs.declared.event.Event.{Event};
 ghost use Rattle.dali_events.specs.World.{World, gear_at, start};
-ghost use Rattle.dali_events.specs.Happens.{happens, trace_running, entry, taken_by, after_quiet, keeps_bus};
+ghost use Rattle.dali_events.specs.Happens.{happens, trace_running, entry, taken_by, after_quiet, after_foreign};
+ghost use Rattle.dali_events.specs.Happens.{keeps_bus};
+ghost use Rattle.dali_events.specs.Foreign.{is_foreign};
 ghost use Rattle.dali_events.specs.Allowed.{Allowed, Hears, IsDestroyed};
 ghost use Rattle.dali_events.specs.Plan.{Plan};
 ghost use Rattle.dali_events.specs.declared.used.Used.{Used};
@@ -176,6 +178,12 @@ pub fn silence_is_nobody()
 pub fn questions_leave_gear()
     ensures { (w : World) (reach : Reach) (c : Command) → is_question c ≡ true → EachPowered w (λ g. g.half ≡ None)
         → taken_by w reach c ≡ w }
+{}
+
+/// FRAMES OF OTHER DEVICES END HALF PAIRS, in gear with power, and do nothing else: what all gear do that take such a
+/// frame is what its event says.
+pub fn foreign_frames_end_half_pairs()
+    ensures { (w : World) (f : Forward) → is_foreign f ≡ true → taken_by w Everyone (command_of f) ≡ after_foreign w }
 {}
 
 /// DESTROYED QUESTIONS MAY BE TOLD AS DAMAGED. Take every history in which some questions were destroyed, their senders

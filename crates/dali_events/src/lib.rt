@@ -5,6 +5,7 @@
 #![tactic(auto)]
 
 mod event;
+mod foreign;
 pub mod laws;
 mod plan;
 mod trouble;
@@ -12,6 +13,7 @@ mod used;
 
 pub use dali_gear::GearSet;
 pub use event::{Event, Sending};
+pub use foreign::is_foreign;
 pub use plan::{CONTROLLER_LIMIT, DRAW_LIMIT, GEAR_LIMIT, Plan, PlanError};
 pub use trouble::Trouble;
 pub use used::Used;

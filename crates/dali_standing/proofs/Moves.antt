@@ -20,8 +20,10 @@ use Rattle.dali_script.specs.declared.orders.Order.{Order}
 use Rattle.dali_controller.specs.Machine.{Machine, at_first}
 use Rattle.dali_controller.specs.Orders.{machine_after}
 use Rattle.dali_events.specs.declared.event.Event.TheVariants as event
+use Rattle.dali_events.specs.Foreign.{is_foreign}
 use Rattle.dali_events.specs.World.{World, Controller, nobody, controllers_changed, gear_changed, controller_begun, start}
 use Rattle.dali_events.specs.Happens.{happens, controller_informed, controller_acted, told_sent, told_destroyed, told_lapsed, owner_told, gear_powered}
+use Rattle.dali_events.specs.Happens.{gear_interrupted}
 use Rattle.dali_events.specs.Happens.{gone_down, come_up}
 use Rattle.dali_events.specs.Allowed.{Hears, IsUp, IsDue, IsArc, MaySend, MayOrder, HasOutstanding}
 use Rattle.dali_standing.specs.FittedGear.{changed_at}
@@ -194,6 +196,10 @@ moves_lapsed s = record {
 
 pub moves_quiet : (s : Seated) → IsMove s event.Quiet (with_gear s (changed_at (map gear_quieted s.fitted.gear) s.fitted))
 moves_quiet s = record { allowed = λ drawn. tt; world = λ drawn. refl; machines = λ drawn. refl }
+
+pub moves_foreign : (s : Seated) (f : Forward) → is_foreign f ≡ true
+    → IsMove s (event.Foreign f) (with_gear s (changed_at (map gear_interrupted s.fitted.gear) s.fitted))
+moves_foreign s f is = record { allowed = λ drawn. is; world = λ drawn. refl; machines = λ drawn. refl }
 
 pub moves_power : (s : Seated) (g : ℕ) (on : Bool)
     → IsMove s (event.Power g on) (with_gear s (changed_at (gear_changed s.fitted.gear g (gear_powered on)) s.fitted))

@@ -5,6 +5,7 @@ use Rattle.dali_standing.specs.declared.refusal.Refusal.TheVariants.{ControllerD
 use Rattle.dali_standing.specs.declared.refusal.Refusal.TheVariants.{NotDue, NotArc, StoreDisagrees}
 use Rattle.dali_standing.specs.declared.refusal.Refusal.TheVariants.{DrawsSpent, QueueFull, LogFull}
 use Rattle.dali_standing.specs.declared.refusal.Refusal.TheVariants.{NoMemory, AddressInUse}
+use Rattle.dali_standing.specs.declared.refusal.Refusal.TheVariants.{NotForeign}
 
 -- the refusals' numbers
 abbrev pub refusal_number : Refusal → ℕ
@@ -20,6 +21,7 @@ refusal_number QueueFull = 7
 refusal_number LogFull = 8
 refusal_number NoMemory = 9
 refusal_number AddressInUse = 10
+refusal_number NotForeign = 11
 
 -- and their names
 abbrev pub name_of : Refusal → List ℕ
@@ -35,3 +37,4 @@ name_of QueueFull = codes "QueueFull"
 name_of LogFull = codes "LogFull"
 name_of NoMemory = codes "NoMemory"
 name_of AddressInUse = codes "AddressInUse"
+name_of NotForeign = codes "NotForeign"

@@ -132,6 +132,7 @@ machines_after w ms (event.Destroyed c f set) = ms
 machines_after w ms (event.Collided c f d g) = ms
 machines_after w ms event.Lapsed = ms
 machines_after w ms event.Quiet = ms
+machines_after w ms (event.Foreign f) = ms
 machines_after w ms (event.Power g on) = ms
 machines_after w ms (event.Expired g) = ms
 

@@ -1,4 +1,4 @@
-ghost use Rattle.std.specs.Prelude.{◌≡◌, ◌↔◌, ◌<◌, ◌≤◌, ◌++◌, [], length, map, IfOk};
+ghost use Rattle.std.specs.Prelude.{◌≡◌, ◌↔◌, ◌<◌, ◌≤◌, ◌++◌, [], length, map, true, IfOk};
 ghost use Rattle.std.specs.Prelude.{IfErr, IsTrue};
 ghost use Rattle.std.specs.Vec.{vec_capacity};
 ghost use Rattle.dali_special.specs.Command.{command_of};
@@ -7,7 +7,8 @@ ghost use Rattle.dali_gear.specs.Row.{draws_needed, answers_of, heard_of, stored
 ghost use Rattle.dali_events.specs.Used.{earlier_gift};
 ghost use Rattle.dali_events.specs.Plan.{Plan};
 ghost use Rattle.dali_events.specs.World.{gear_changed};
-ghost use Rattle.dali_events.specs.Happens.{gear_powered};
+ghost use Rattle.dali_events.specs.Foreign.{is_foreign};
+ghost use Rattle.dali_events.specs.Happens.{gear_powered, gear_interrupted};
 ghost use Rattle.dali_standing.specs.FittedGear.{gift_of};
 ghost use Rattle.dali_standing.specs.declared.refusal.Refusal.TheVariants as refusal;
 
@@ -109,6 +110,16 @@ impl FittedGear {
         ensures { self.new ≡ changed_at (map gear_quieted self.old.gear) self.old }
     {
         self.gear.quiet();
+    }
+
+    /// A frame of another device comes to all gear with power.
+    #[tactic(auto, using(dali_events::proofs::Interrupted::row, dali_events::proofs::Interrupted::draws))]
+    pub(crate) fn interrupt(&mut self, frame: Forward)
+        requires { is_foreign frame ≡ true }
+        ensures { self.new ≡ changed_at (map gear_interrupted self.old.gear) self.old }
+    {
+        let command = Command::read(frame);
+        self.gear.take(&command, Reach::Everyone, &[]);
     }
 
     /// All gear, in order of their number.

@@ -35,6 +35,8 @@ pub enum Refusal {
     NoMemory,
     /// 10: the controller would reserve a short address that used gear have.
     AddressInUse,
+    /// 11: no other device may send the frame: it is an addressing command, or RESET or SET SHORT ADDRESS.
+    NotForeign,
 }
 
 impl Refusal {
@@ -53,6 +55,7 @@ impl Refusal {
             Refusal::LogFull => 8,
             Refusal::NoMemory => 9,
             Refusal::AddressInUse => 10,
+            Refusal::NotForeign => 11,
         }
     }
 
@@ -73,6 +76,7 @@ impl Refusal {
             Refusal::LogFull => "LogFull",
             Refusal::NoMemory => "NoMemory",
             Refusal::AddressInUse => "AddressInUse",
+            Refusal::NotForeign => "NotForeign",
         }
     }
 }

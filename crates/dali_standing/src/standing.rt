@@ -9,6 +9,7 @@ ghost use Rattle.dali_script.specs.Due.{frame_put, record_ordered};
 ghost use Rattle.dali_script.specs.Table.{table_of};
 ghost use Rattle.std.specs.List.{list_any};
 ghost use Rattle.dali_events.specs.declared.event.Event.TheVariants as event;
+ghost use Rattle.dali_events.specs.Foreign.{is_foreign};
 ghost use Rattle.dali_events.specs.World.{start};
 ghost use Rattle.dali_events.specs.Happens.{is_arc, keeps_bus, gives_up, put_after, told_sent};
 ghost use Rattle.dali_events.specs.Happens.{told_destroyed};
@@ -320,6 +321,14 @@ impl Standing {
         ensures { Moves self.old event.Quiet self.new }
     {
         self.fitted.quiet();
+    }
+
+    /// A frame of another device comes, and gear with power take it. The owner keeps the bus.
+    pub fn foreign(&mut self, frame: Forward)
+        requires { is_foreign frame ≡ true }
+        ensures { Moves self.old (event.Foreign frame) self.new }
+    {
+        self.fitted.interrupt(frame);
     }
 
     /// A gear's power comes or goes.

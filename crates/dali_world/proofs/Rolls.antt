@@ -434,6 +434,7 @@ IsKnownOf s (event.Destroyed d f set) = Unit {0}
 IsKnownOf s (event.Collided d f e g) = Unit {0}
 IsKnownOf s event.Lapsed = Unit {0}
 IsKnownOf s event.Quiet = Unit {0}
+IsKnownOf s (event.Foreign f) = Unit {0}
 IsKnownOf s (event.Power g on) = Unit {0}
 IsKnownOf s (event.Expired g) = Unit {0}
 IsKnownOf s (event.Down d) = Unit {0}
@@ -530,6 +531,7 @@ module _ (s : SiteState) (run : IsRun s.plan s.queue s.log) (was : Remember s (w
   remembers_more event.Lapsed here known = λ c m there. lapsed_kept (site_logged s event.Lapsed) w.controllers c w.bus.owner m
       (grown s event.Lapsed (controller_at w c) c m tt (was c m there))
   remembers_more event.Quiet here known = λ c m there. grown s event.Quiet (controller_at w c) c m tt (was c m there)
+  remembers_more (event.Foreign f) here known = λ c m there. grown s (event.Foreign f) (controller_at w c) c m tt (was c m there)
   remembers_more (event.Power g on) here known = λ c m there. grown s (event.Power g on) (controller_at w c) c m tt (was c m there)
   remembers_more (event.Expired g) here known = λ c m there. grown s (event.Expired g) (controller_at w c) c m tt (was c m there)
   remembers_more (event.Down d) here known = down d

@@ -9,7 +9,7 @@ use Rattle.dali_events.specs.declared.event.Event.{Event}
 use Rattle.dali_events.specs.declared.event.Event.TheVariants as event
 use Rattle.dali_events.specs.Plan.{Plan}
 use Rattle.dali_events.specs.World.{World}
-use Rattle.dali_events.specs.Happens.{happens}
+use Rattle.dali_events.specs.Happens.{happens, gear_interrupted}
 use Rattle.dali_events.specs.Allowed.{Allowed}
 use Rattle.dali_events.specs.Runs.{after, IsRun, LeavesUsed}
 use Rattle.dali_script.proofs.Members.{mapped_from}
@@ -23,6 +23,7 @@ pub gear_count : (w : World) (e : Event) → length (happens w e).gear ≡ lengt
 gear_count w (event.Sent c f h) = row_length Everyone (command_of f) 0 w.gear w.left
 gear_count w (event.Destroyed c f set) = row_length (Only set) (command_of f) 0 w.gear w.left
 gear_count w event.Quiet = length-map w.gear gear_quieted
+gear_count w (event.Foreign f) = length-map w.gear gear_interrupted
 gear_count w (event.Power g on) = length-set w.gear g _
 gear_count w (event.Expired g) = length-set w.gear g _
 gear_count w _ = refl

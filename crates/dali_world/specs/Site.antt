@@ -28,6 +28,7 @@ use Rattle.dali_controller.specs.Machine.{Machine}
 use Rattle.dali_events.specs.declared.event.Event.{Event}
 use Rattle.dali_events.specs.declared.event.Event.TheVariants as event
 use Rattle.dali_events.specs.Events.{is_step_of}
+use Rattle.dali_events.specs.Foreign.{is_foreign}
 use Rattle.dali_events.specs.Plan.{Plan}
 use Rattle.dali_events.specs.World.{World, Controller, controller_at, start}
 use Rattle.dali_events.specs.Happens.{happens, trace_running}
@@ -214,6 +215,12 @@ IsUpRefused s c copy refusal.ControllerUp = IsUp (world s) c
 IsUpRefused s c copy refusal.StoreDisagrees = IsDown (world s) c × Disagrees s c copy
 IsUpRefused s c copy refusal.LogFull = IsDown (world s) c × DoesAgree s c copy × IsFull s
 IsUpRefused s c copy _ = ⊥
+
+-- no other device may send the frame
+abbrev pub IsForeignRefused : SiteState → Forward → Refusal → Type 0
+IsForeignRefused s f refusal.LogFull = IsFull s
+IsForeignRefused s f refusal.NotForeign = HasRoom s × (is_foreign f ≡ false)
+IsForeignRefused s f _ = ⊥
 
 abbrev pub IsGearRefused : SiteState → ℕ → Refusal → Type 0
 IsGearRefused s g refusal.UnknownGear = s.plan.gear ≤ g

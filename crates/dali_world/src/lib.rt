@@ -10,7 +10,7 @@ mod site;
 
 pub use dali_events::{
     CONTROLLER_LIMIT, DRAW_LIMIT, Event, GEAR_LIMIT, GearSet, Plan, PlanError, Sending, Trouble,
-    Used, laws,
+    Used, is_foreign, laws,
 };
 pub use dali_standing::{Refusal, Report};
 pub use receipt::Receipt;

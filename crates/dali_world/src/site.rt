@@ -22,7 +22,7 @@ ghost use Rattle.dali_standing.specs.declared.refusal.Refusal.TheVariants as ref
 
 use crate::receipt::Receipt;
 use dali_arbiter::Request;
-use dali_events::{Event, Plan, Trouble};
+use dali_events::{Event, Plan, Trouble, is_foreign};
 use dali_frame::{Forward, Short};
 use dali_gear::{Gear, GearSet};
 use dali_script::{Due, Input, Kept, Record, Table};
@@ -69,6 +69,7 @@ impl SiteState {
     ghost use Rattle.dali_standing.specs.Seats.{due_of, MayReserveUsed, Waits};
     ghost use Rattle.dali_world.specs.Site.{SiteState, world, opened_site, site_logged, machine_at, share_of, IsSound};
     ghost use Rattle.dali_world.specs.Site.{Acts, IsArcRefused, IsDownRefused, IsUpRefused, IsGearRefused, IsBarred};
+    ghost use Rattle.dali_world.specs.Site.{IsForeignRefused};
     ghost use Rattle.dali_world.specs.Site.{IsFull, IsCrowded, HasRoom, Pumps, IsPumpRefused, next_request, Logs};
     ghost use Rattle.dali_world.specs.Site.{LogsRequest, IsUpWith, IsSpent, IsSendable, Becomes, WasOrdered};
     ghost use Rattle.dali_world.specs.Site.{RollWasCalled};
@@ -236,6 +237,27 @@ impl SiteState {
         }
         self.standing.quiet();
         append(&mut self.log, &Event::Quiet);
+        Ok(())
+    }
+
+    /// A frame of another device comes, as of a sensor or a push button: direct arc power, or what is no addressing
+    /// command. Gear with power take it. Nobody is told, and the owner keeps the bus.
+    ///
+    /// Refusals, in this order: 8 LogFull; 11 NotForeign: the frame is an addressing command, or RESET or SET SHORT
+    /// ADDRESS, which change addresses.
+    pub fn foreign(&mut self, frame: Forward) -> Result<(), Refusal>
+        ensures came { OnOk result (Logs self.old (event.Foreign frame) self.new) }
+        ensures refused { IfErr result (λ e. IsForeignRefused self.old frame e) }
+        ensures unchanged { OnErr result (self.new ≡ self.old) }
+    {
+        if self.is_full() {
+            return Err(Refusal::LogFull);
+        }
+        if !is_foreign(frame) {
+            return Err(Refusal::NotForeign);
+        }
+        self.standing.foreign(frame);
+        append(&mut self.log, &Event::Foreign(frame));
         Ok(())
     }
 

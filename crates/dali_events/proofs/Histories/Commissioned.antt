@@ -98,6 +98,7 @@ searches = record {
   };
   terminate = refl;
   calm_opening = (λ e. cc, (λ e. cc, (λ e. cc, tt)));
+  unbroken = (tt, (tt, (tt, tt)));
   complete = record { owner = refl; opening = (refl, tt, (refl, tt, (refl, tt, (refl, tt, refl)))); last = refl };
   calm_since = (tt, (tt, (λ e. cc, (λ e. cc, (λ e. cc, (λ e. cc, (λ e. cc, (λ e. cc, (λ e. cc, (λ e. cc, (λ e. cc, (λ e. cc, tt))))))))))));
   nobody_passed = (

@@ -15,7 +15,7 @@ use Rattle.dali_events.specs.declared.event.Event.TheVariants as event
 use Rattle.dali_events.specs.Used.{used_randoms, earlier_draw, with_used}
 use Rattle.dali_events.specs.Plan.{Plan, IsPlan, numbers_of}
 use Rattle.dali_events.specs.World.{World, gear_at, start}
-use Rattle.dali_events.specs.Happens.{happens, gear_powered}
+use Rattle.dali_events.specs.Happens.{happens, gear_powered, gear_interrupted}
 use Rattle.dali_events.specs.Runs.{after, after_all, IsRun, AreDrawn}
 use Rattle.dali_script.proofs.Lists.{has_map}
 use Rattle.dali_script.proofs.Members.{has_left, has_right, has_either, once_front, Each, each_changed, each_map}
@@ -69,6 +69,7 @@ pub draws_step : (p : Plan) (w : World) (e : Event) → Draws (numbers_of p) w.g
 draws_step p w (event.Sent c f h) d = draws_taken (numbers_of p) Everyone (command_of f) w.gear w.drawn w.left d
 draws_step p w (event.Destroyed c f set) d = draws_taken (numbers_of p) (Only set) (command_of f) w.gear w.drawn w.left d
 draws_step p w event.Quiet d = record { each = each_map fresh (HasDrawn w.drawn) gear_quieted w.gear (λ k g h. h) d.each; numbers = d.numbers }
+draws_step p w (event.Foreign f) d = record { each = each_map fresh (HasDrawn w.drawn) gear_interrupted w.gear (λ k g h. h) d.each; numbers = d.numbers }
 draws_step p w (event.Power g on) d =
     record {
       each = each_changed fresh (HasDrawn w.drawn) (gear_powered on) w.gear g (λ there h. drawn_powered on w.drawn g (gear_at w g) h) d.each;

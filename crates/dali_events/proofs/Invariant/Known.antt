@@ -226,25 +226,25 @@ knows_inactive (stage.Confirmed r a) g off = λ active. absurd (cc)
 knows_inactive _ g off = tt
 
 -- a stage says nothing of half pairs here
-pub knows_quieted : (s : Stage) (g : Gear) → Knows s g → Knows s (gear_quieted g)
-knows_quieted stage.Terminated g k = k
-knows_quieted stage.InitialisedOnce g k = k
-knows_quieted stage.Initialised g k = k
-knows_quieted (stage.WokenHigh high) g k = k
-knows_quieted (stage.WokenLow high low) g k = k
-knows_quieted (stage.WokenMiddle high middle) g k = k
-knows_quieted stage.DrawFree g k = k
-knows_quieted stage.RandomisedOnce g k = k
-knows_quieted (stage.HighSent high) g k = k
-knows_quieted (stage.MiddleSent high middle) g k = k
-knows_quieted (stage.NumberSent r) g k = k
-knows_quieted (stage.LowSent high low) g k = k
-knows_quieted (stage.Hunted r last left) g k = k
-knows_quieted (stage.Found r a) g k = k
-knows_quieted (stage.Unnamed r) g k = k
-knows_quieted (stage.Programmed r a) g k = k
-knows_quieted (stage.Confirmed r a) g k = k
-knows_quieted _ g k = tt
+pub knows_halved : (s : Stage) (g : Gear) (half : Option Command) → Knows s g → Knows s (record g { half = half })
+knows_halved stage.Terminated g half k = k
+knows_halved stage.InitialisedOnce g half k = k
+knows_halved stage.Initialised g half k = k
+knows_halved (stage.WokenHigh high) g half k = k
+knows_halved (stage.WokenLow high low) g half k = k
+knows_halved (stage.WokenMiddle high middle) g half k = k
+knows_halved stage.DrawFree g half k = k
+knows_halved stage.RandomisedOnce g half k = k
+knows_halved (stage.HighSent high) g half k = k
+knows_halved (stage.MiddleSent high middle) g half k = k
+knows_halved (stage.NumberSent r) g half k = k
+knows_halved (stage.LowSent high low) g half k = k
+knows_halved (stage.Hunted r last left) g half k = k
+knows_halved (stage.Found r a) g half k = k
+knows_halved (stage.Unnamed r) g half k = k
+knows_halved (stage.Programmed r a) g half k = k
+knows_halved (stage.Confirmed r a) g half k = k
+knows_halved _ g half k = tt
 
 -- ONE GEAR AND ONE FRAME. What a gear stores, and what it keeps.
 pub short_from : (c : Command) (g : Gear) (a : ℕ) → short_after c g ≡ Some a → (g.short ≡ Some a) ⊎ (stored_short c g ≡ Some a)

@@ -19,7 +19,7 @@ use Rattle.dali_events.specs.declared.event.Event.{Event}
 use Rattle.dali_events.specs.declared.event.Event.TheVariants as event
 use Rattle.dali_events.specs.Plan.{Plan, IsPlan, numbers_of}
 use Rattle.dali_events.specs.World.{World, gear_at, controller_at, nobody, start, gear_changed}
-use Rattle.dali_events.specs.Happens.{happens, trace_running, entry, goes_on, gear_powered}
+use Rattle.dali_events.specs.Happens.{happens, trace_running, entry, goes_on, gear_powered, gear_interrupted}
 use Rattle.dali_events.specs.Allowed.{Allowed, IsUp, MaySend}
 use Rattle.dali_events.specs.Runs.{after, after_all, AllAllowed, IsRun, LeavesUsed}
 use Rattle.dali_events.specs.Promise.{KeepsPromiseNow, KeepsAddresses, KeepsPromiseFrom, KeepsPromise, Names, IsSafe, KeepsGifts, IsSafeFrom, IsSafeHistory}
@@ -83,6 +83,9 @@ change_of p w (event.Destroyed c f set) here k = frame_change p.used w c f (Only
 change_of p w event.Quiet here k =
     no_change (IsOwned p.used w.controllers) w.gear _ w.drawn w.gifts (length-map w.gear gear_quieted)
     (each_map fresh (SameAddresses w.gear) gear_quieted w.gear (λ i x h. h) (λ i h. (refl, refl)))
+change_of p w (event.Foreign f) here k =
+    no_change (IsOwned p.used w.controllers) w.gear _ w.drawn w.gifts (length-map w.gear gear_interrupted)
+    (each_map fresh (SameAddresses w.gear) gear_interrupted w.gear (λ i x h. h) (λ i h. (refl, refl)))
 change_of p w (event.Power g on) here k = one_change p.used w (gear_powered on) g (powered_same on)
 change_of p w (event.Expired g) here k = one_change p.used w gear_expired g (λ x. (refl, refl))
 change_of p w _ here k = same_gear p.used w
@@ -131,6 +134,8 @@ tells_step p w (event.Offered c f) here k = k.tells
 tells_step p w (event.Sent c f h) here k = tells_sent p w c f h here k
 tells_step p w event.Quiet here k =
     tells_stay (IsOwned p.used w.controllers) w.gear _ w.drawn w.gifts _ _ (change_of p w event.Quiet here k) (asked_of w.trace) k.tells
+tells_step p w (event.Foreign f) here k =
+    tells_stay (IsOwned p.used w.controllers) w.gear _ w.drawn w.gifts _ _ (change_of p w (event.Foreign f) here k) (asked_of w.trace) k.tells
 tells_step p w (event.Power g on) here k =
     tells_stay (IsOwned p.used w.controllers) w.gear _ w.drawn w.gifts _ _ (change_of p w (event.Power g on) here k) (asked_of w.trace) k.tells
 tells_step p w (event.Expired g) here k =

@@ -26,14 +26,14 @@ use Rattle.dali_events.specs.declared.event.Event.TheVariants as event
 use Rattle.dali_events.specs.Used.{with_used}
 use Rattle.dali_events.specs.Plan.{Plan, AreUsed}
 use Rattle.dali_events.specs.World.{World, gear_at, controller_at, start}
-use Rattle.dali_events.specs.Happens.{happens, trace_running, entry, goes_on, gear_powered}
+use Rattle.dali_events.specs.Happens.{happens, trace_running, entry, goes_on, gear_powered, gear_interrupted}
 use Rattle.dali_events.specs.Allowed.{Allowed, MaySend, Hears}
 use Rattle.dali_events.specs.Runs.{after, after_all, AllAllowed}
 use Rattle.dali_script.proofs.Members.{Each, each_changed, each_map}
 use Rattle.dali_events.proofs.Invariant.Takes.{Moved, stays, goes, moves_at, row_length}
 use Rattle.dali_events.proofs.Invariant.Starting.{IsUsedOrFresh, row_at, start_count}
 use Rattle.dali_events.proofs.Invariant.Answers.{answers_have, heard_byte}
-use Rattle.dali_events.proofs.Invariant.Known.{Knows, Agrees, IsShort, knows_step, knows_inactive, knows_quieted, short_taken}
+use Rattle.dali_events.proofs.Invariant.Known.{Knows, Agrees, IsShort, knows_step, knows_inactive, knows_halved, short_taken}
 
 -- A SENDER'S FRAME FOLLOWS the trace that it goes on with
 owner_runs : (o : Option ℕ) (c : ℕ) (t : List Entry) → o ≡ Some c → (if owns o c then t else []) ≡ t
@@ -149,8 +149,13 @@ known_step w (event.Collided c f d g) here known = record { knows = knows_free w
 known_step w event.Lapsed here known = record { knows = knows_free w.gear; short = known.short }
 known_step w event.Quiet here known = record {
   knows = each_map fresh (λ k g. g.powered ≡ true → Knows (stage_of w.trace) g) gear_quieted w.gear
-      (λ k g h on. knows_quieted (stage_of w.trace) g (h on)) known.knows;
+      (λ k g h on. knows_halved (stage_of w.trace) g None (h on)) known.knows;
   short = each_map fresh (λ k g. IsShort g) gear_quieted w.gear (λ k g h. h) known.short;
+}
+known_step w (event.Foreign f) here known = record {
+  knows = each_map fresh (λ k g. g.powered ≡ true → Knows (stage_of w.trace) g) gear_interrupted w.gear
+      (λ k g h on. knows_halved (stage_of w.trace) g (if g.powered then None else g.half) (h on)) known.knows;
+  short = each_map fresh (λ k g. IsShort g) gear_interrupted w.gear (λ k g h. h) known.short;
 }
 known_step w (event.Power g on) here known = record {
   knows = each_changed fresh (λ k g. g.powered ≡ true → Knows (stage_of w.trace) g) (gear_powered on) w.gear g

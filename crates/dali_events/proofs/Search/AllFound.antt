@@ -30,14 +30,14 @@ use Rattle.dali_events.specs.declared.event.Event.{Event}
 use Rattle.dali_events.specs.declared.event.Event.TheVariants as event
 use Rattle.dali_events.specs.Plan.{Plan, IsPlan, numbers_of}
 use Rattle.dali_events.specs.World.{World, gear_at, controller_at, start}
-use Rattle.dali_events.specs.Happens.{happens, trace_running, entry, goes_on}
+use Rattle.dali_events.specs.Happens.{happens, trace_running, entry, goes_on, gear_interrupted}
 use Rattle.dali_events.specs.Allowed.{Allowed, MaySend}
 use Rattle.dali_events.specs.Runs.{after, after_all, AllAllowed}
 use Rattle.dali_events.specs.Searching.{EachPowered, IsCalm, AreCalm, CompletesOpening, HIGHEST, sent_event, up_to_compare, SearchesAll, NobodyAnswers}
-use Rattle.dali_events.specs.Searching.{number_at}
+use Rattle.dali_events.specs.Searching.{number_at, IsHalfway, BreaksNoPair, BreakNoPair}
 use Rattle.dali_events.specs.Searching.{HasShort, PassesOver, PassesNobody, PassNobody}
 use Rattle.dali_events.proofs.Invariant.Growing.{after_both, allowed_front, allowed_rest}
-use Rattle.dali_script.proofs.Members.{Each, has_right}
+use Rattle.dali_script.proofs.Members.{Each, each_map, has_right}
 use Rattle.dali_events.proofs.Invariant.Takes.{Moved, stays, goes, moves_at, row_length}
 use Rattle.dali_events.proofs.Invariant.Drawn.{Draws, draws_step, draws_all, draws_after, are_drawn}
 use Rattle.dali_events.proofs.Invariant.Answers.{answers_have}
@@ -78,21 +78,37 @@ opens_sent w c f h here opens =
           (get_or (row_after Everyone (command_of f) 0 w.gear w.left) i fresh) (follows_of w c f here.may) (opens i there)
           (moves_at Everyone (command_of f) w.gear w.left i there)
 
-opens_event : (w : World) (e : Event) → Allowed w e → IsCalm e → OpensAll (stage_of w.trace) w.gear → OpensAll (stage_of (happens w e).trace) (happens w e).gear
-opens_event w (event.Acted c i o) here calm opens = opens_unless _ w.trace w.gear opens
-opens_event w (event.Offered c f) here calm opens = opens
-opens_event w (event.Sent c f h) here calm opens = opens_sent w c f h here (opens_if (owns w.bus.owner c) w.trace w.gear opens)
-opens_event w (event.Destroyed c f set) here calm opens = opens_free [] _ stage_none
-opens_event w (event.Collided c f d g) here calm opens = opens_free [] w.gear stage_none
-opens_event w event.Lapsed here calm opens = opens_free [] w.gear stage_none
-opens_event w (event.Down c) here calm opens = opens_unless _ w.trace w.gear opens
-opens_event w (event.Up c kept) here calm opens = opens
-opens_event w _ here calm opens = absurd calm
+-- a frame of another device that breaks no pair
+opens_interrupted : (s : Stage) (g : Gear) → (IsHalfway s → ⊥) → g.powered ≡ true → Opens s g → Opens s (gear_interrupted g)
+opens_interrupted stage.InitialisedOnce g unbroken on opens = absurd (unbroken tt)
+opens_interrupted stage.RandomisedOnce g unbroken on opens = absurd (unbroken tt)
+opens_interrupted stage.Terminated g unbroken on opens = rw on refl
+opens_interrupted stage.Initialised g unbroken on opens = (rw on refl, opens.1)
+opens_interrupted (stage.WokenHigh high) g unbroken on opens = (rw on refl, opens.1)
+opens_interrupted (stage.WokenMiddle high middle) g unbroken on opens = (rw on refl, opens.1)
+opens_interrupted stage.DrawFree g unbroken on opens = (rw on refl, opens.1)
+opens_interrupted _ g unbroken on opens = tt
 
-opens_all : (w : World) (es : List Event) → AllAllowed w es → AreCalm es → OpensAll (stage_of w.trace) w.gear
+opens_event : (w : World) (e : Event) → Allowed w e → IsCalm e → BreaksNoPair w e → OpensAll (stage_of w.trace) w.gear
+    → OpensAll (stage_of (happens w e).trace) (happens w e).gear
+opens_event w (event.Acted c i o) here calm unbroken opens = opens_unless _ w.trace w.gear opens
+opens_event w (event.Offered c f) here calm unbroken opens = opens
+opens_event w (event.Sent c f h) here calm unbroken opens = opens_sent w c f h here (opens_if (owns w.bus.owner c) w.trace w.gear opens)
+opens_event w (event.Destroyed c f set) here calm unbroken opens = opens_free [] _ stage_none
+opens_event w (event.Collided c f d g) here calm unbroken opens = opens_free [] w.gear stage_none
+opens_event w event.Lapsed here calm unbroken opens = opens_free [] w.gear stage_none
+opens_event w (event.Down c) here calm unbroken opens = opens_unless _ w.trace w.gear opens
+opens_event w (event.Up c kept) here calm unbroken opens = opens
+opens_event w (event.Foreign f) here calm unbroken opens =
+    each_map fresh (λ k g. g.powered ≡ true → g.short ≡ None → Opens (stage_of w.trace) g) gear_interrupted w.gear
+    (λ k g one on none. opens_interrupted (stage_of w.trace) g unbroken on (one on none)) opens
+opens_event w _ here calm unbroken opens = absurd calm
+
+opens_all : (w : World) (es : List Event) → AllAllowed w es → AreCalm es → BreakNoPair w es → OpensAll (stage_of w.trace) w.gear
     → OpensAll (stage_of (after_all w es).trace) (after_all w es).gear
-opens_all w [] all calm opens = opens
-opens_all w (e ∷ es) all calm opens = opens_all (happens w e) es all.1 calm.1 (opens_event w e all.0 calm.0 opens)
+opens_all w [] all calm unbroken opens = opens
+opens_all w (e ∷ es) all calm unbroken opens =
+    opens_all (happens w e) es all.1 calm.1 unbroken.1 (opens_event w e all.0 calm.0 unbroken.0 opens)
 
 -- TERMINATE begins it
 opens_first : (w : World) (c : ℕ) (f : Forward) (h : Answer) → Allowed w (event.Sent c f h) → command_of f ≡ Terminate
@@ -192,6 +208,8 @@ ready_event p plan w (event.Destroyed c f set) here calm kept known draws ready 
     ready_taken w c f (Only set) here.may known calm kept (below_of p plan w (event.Destroyed c f set)
     (drawn_of (Only set) (command_of f) 0 w.gear w.left) draws refl) ready
 ready_event p plan w event.Quiet here calm kept known draws ready = absurd calm
+ready_event p plan w (event.Foreign f) here calm kept known draws ready =
+    each_map fresh (λ k g. g.powered ≡ true → Ready g) gear_interrupted w.gear (λ k g one. one) ready
 ready_event p plan w (event.Power g on) here calm kept known draws ready = absurd calm
 ready_event p plan w (event.Expired g) here calm kept known draws ready = absurd calm
 ready_event p plan w _ here calm kept known draws ready = ready
@@ -265,7 +283,8 @@ compare_leaves w c f h is has i in_row =
 module _ (p : Plan) (plan : IsPlan p) (w : World) (known : IsKnown w) (draws : Draws (numbers_of p) w.gear w.drawn w.left) (c : ℕ) (first last compare : Entry)
     (opening middle : List Event)
     (all : AllAllowed w (sent_event c first ∷ (opening ++ sent_event c last ∷ (middle ++ sent_event c compare ∷ [])))) where
-  pub found_from : command_of first.frame ≡ Terminate → AreCalm opening → CompletesOpening (after_all (happens w (sent_event c first)) opening) c last.frame
+  pub found_from : command_of first.frame ≡ Terminate → AreCalm opening → BreakNoPair (happens w (sent_event c first)) opening
+      → CompletesOpening (after_all (happens w (sent_event c first)) opening) c last.frame
       → AreCalm middle → PassNobody (happens (after_all (happens w (sent_event c first)) opening) (sent_event c last)) middle
       → command_of compare.frame ≡ Compare
       → (r : SearchAddress)
@@ -273,7 +292,7 @@ module _ (p : Plan) (plan : IsPlan p) (w : World) (known : IsKnown w) (draws : D
       → value_of (search_of (trace_running (after_all (happens (after_all (happens w (sent_event c first)) opening) (sent_event c last)) middle) c)) ≡ HIGHEST
       → NobodyAnswers (after_all (happens (after_all (happens w (sent_event c first)) opening) (sent_event c last)) middle)
       → EachPowered (after_all (happens (after_all (happens w (sent_event c first)) opening) (sent_event c last)) middle) HasShort
-  found_from is calm complete calm_since kept compares searched highest nobody =
+  found_from is calm unbroken complete calm_since kept compares searched highest nobody =
       let w1 : World = happens w (sent_event c first) in
       let opening_allowed : AllAllowed (happens w (sent_event c first)) opening = allowed_front (happens w (sent_event c first)) opening _ all.1 in
       let rest = allowed_rest (happens w (sent_event c first)) opening (sent_event c last ∷ (middle ++ sent_event c compare ∷ [])) all.1 in
@@ -281,7 +300,7 @@ module _ (p : Plan) (plan : IsPlan p) (w : World) (known : IsKnown w) (draws : D
       let draws1 = draws_step p w (sent_event c first) draws in
       let known4 : IsKnown (after_all (happens w (sent_event c first)) opening) = known_all (happens w (sent_event c first)) opening opening_allowed known1 in
       let draws4 = draws_all p (happens w (sent_event c first)) opening draws1 in
-      let opens4 = opens_all (happens w (sent_event c first)) opening opening_allowed calm (opens_first w c first.frame first.heard all.0 is) in
+      let opens4 = opens_all (happens w (sent_event c first)) opening opening_allowed calm unbroken (opens_first w c first.frame first.heard all.0 is) in
       let ready5 = ready_opened p plan (after_all (happens w (sent_event c first)) opening) c last.frame last.heard rest.0 draws4 complete opens4 in
       let known5 = known_step (after_all (happens w (sent_event c first)) opening) (sent_event c last) rest.0 known4 in
       let draws5 = draws_step p (after_all (happens w (sent_event c first)) opening) (sent_event c last) draws4 in
@@ -312,7 +331,8 @@ all_found p capacity front c first opening last middle compare s nobody =
     (found_from p s.run.plan (after p capacity front) (known_after p capacity s.run.plan.used front (allowed_front (start p capacity) front _ s.run.allowed))
     (draws_after p capacity front) c first last compare opening middle
     (allowed_rest (start p capacity) front (sent_event c first ∷ (opening ++ sent_event c last ∷ (middle ++ sent_event c compare ∷ []))) s.run.allowed)
-    s.terminate s.calm_opening (subst (λ v. CompletesOpening v c last.frame) half s.complete) s.calm_since
+    s.terminate s.calm_opening (subst (λ v. BreakNoPair v opening) (after_both (start p capacity) front (sent_event c first ∷ [])) s.unbroken)
+    (subst (λ v. CompletesOpening v c last.frame) half s.complete) s.calm_since
     (subst (λ v. PassNobody v middle) (world_of (start p capacity) front opening [] (sent_event c first) (sent_event c last)) s.nobody_passed) s.compare_sent
     (subst (λ v. (r : SearchAddress) × (number_at (stage_of (trace_running v c)) ≡ Some r)) there s.searched)
     (subst (λ v. value_of (search_of (trace_running v c)) ≡ HIGHEST) there s.highest) (subst NobodyAnswers there nobody))

@@ -28,7 +28,7 @@ use Rattle.dali_events.specs.declared.event.Event.{Event}
 use Rattle.dali_events.specs.declared.event.Event.TheVariants as event
 use Rattle.dali_events.specs.Plan.{Plan}
 use Rattle.dali_events.specs.World.{World, gear_at, controller_at, start}
-use Rattle.dali_events.specs.Happens.{happens, trace_running, entry, goes_on, gives_up, gear_powered}
+use Rattle.dali_events.specs.Happens.{happens, trace_running, entry, goes_on, gives_up, gear_powered, gear_interrupted}
 use Rattle.dali_events.specs.Allowed.{Allowed, MaySend}
 use Rattle.dali_events.specs.Runs.{after, after_all, AllAllowed, IsRun, IsDrawer, AreDrawn}
 use Rattle.dali_events.specs.Searching.{sent_event}
@@ -157,10 +157,10 @@ waked_step b xs (stage.Hunted r last left) c h x n on woken k none =
     waked_hunted r last left c h x n asks.0 asks.1 (k (asked_short c x n asks.1 none))
 waked_step b xs _ _ h x n on woken k none = absurd (let no = on.leads_on in let other = woken in cc)
 
--- quiet takes half a pair alone
-waked_quieted : (s : Stage) (x : Gear) → (s ≡ stage.InitialisedOnce → ⊥) → Waked s x → Waked s (gear_quieted x)
-waked_quieted stage.InitialisedOnce x not_between k = absurd (not_between refl)
-waked_quieted _ x not_between k = k
+-- quiet takes half a pair alone, and so does a frame of another device
+waked_halved : (s : Stage) (x : Gear) (half : Option Command) → (s ≡ stage.InitialisedOnce → ⊥) → Waked s x → Waked s (record x { half = half })
+waked_halved stage.InitialisedOnce x half not_between k = absurd (not_between refl)
+waked_halved _ x half not_between k = k
 
 -- ---------------------------------------------------------------- in the row
 
@@ -236,7 +236,15 @@ is_step w event.Lapsed c g here runs keeps is next = absurd (next.begun refl)
 is_step w event.Quiet c g here runs keeps is next = record {
   woken = is.woken;
   at = each_map fresh (There (stage_of w.trace) g) gear_quieted w.gear
-      (λ k x one same. ((one same).0, λ none. waked_quieted (stage_of w.trace) x keeps ((one same).1 none))) is.at;
+      (λ k x one same. ((one same).0, λ none. waked_halved (stage_of w.trace) x None keeps ((one same).1 none))) is.at;
+}
+is_step w (event.Foreign f) c g here runs keeps is next = record {
+  woken = is.woken;
+  at = each_map fresh (There (stage_of w.trace) g) gear_interrupted w.gear
+      (λ k x one same. (
+        (one same).0,
+        λ none. waked_halved (stage_of w.trace) x (if x.powered then None else x.half) keeps ((one same).1 none),
+      )) is.at;
 }
 is_step w (event.Power h on) c g here runs keeps is next = record {
   woken = is.woken;

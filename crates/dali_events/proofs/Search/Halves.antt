@@ -24,7 +24,7 @@ use Rattle.dali_events.specs.declared.event.Event.{Event}
 use Rattle.dali_events.specs.declared.event.Event.TheVariants as event
 use Rattle.dali_events.specs.Plan.{Plan}
 use Rattle.dali_events.specs.World.{World, gear_at, controller_at, start}
-use Rattle.dali_events.specs.Happens.{happens, trace_running, entry, goes_on, gear_powered}
+use Rattle.dali_events.specs.Happens.{happens, trace_running, entry, goes_on, gear_powered, gear_interrupted}
 use Rattle.dali_events.specs.Allowed.{Allowed, MaySend}
 use Rattle.dali_events.specs.Runs.{after, after_all, AllAllowed, IsRun}
 use Rattle.dali_events.specs.Events.{frame_in}
@@ -100,6 +100,7 @@ alone_step w (event.Destroyed c f set) here h = alone_none _
 alone_step w (event.Collided c f d g) here h = alone_none w.gear
 alone_step w event.Lapsed here h = alone_none w.gear
 alone_step w event.Quiet here h = λ x e. each_map fresh Whole gear_quieted w.gear (λ k g one on. refl) (h x e)
+alone_step w (event.Foreign f) here h = λ x e. each_map fresh Whole gear_interrupted w.gear (λ k g one on. rw on refl) (h x e)
 alone_step w (event.Power g on) here h = λ x e. each_changed fresh Whole (gear_powered on) w.gear g (λ there one. alone_powered on g (gear_at w g) one) (h x e)
 alone_step w (event.Expired g) here h = λ x e. each_changed fresh Whole gear_expired w.gear g (λ there one. one) (h x e)
 alone_step w (event.Up c kept) here h = h
