@@ -4,6 +4,7 @@ use Rattle.dali_grammar.specs.declared.site_line.SiteLine.{SiteLine}
 use Rattle.dali_grammar.specs.declared.site_line.SiteLine.TheVariants.{Go, Store, Fail, Pump, Lapse}
 use Rattle.dali_grammar.specs.declared.site_line.SiteLine.TheVariants.{Arc, Down, Up, Run, Power}
 use Rattle.dali_grammar.specs.declared.site_line.SiteLine.TheVariants.{Expire, Quiet, Show, Survey}
+use Rattle.dali_grammar.specs.declared.site_line.SiteLine.TheVariants.{Foreign}
 use Rattle.dali_grammar.specs.Lines.{none_of, one_of, two_of}
 use Rattle.dali_grammar.specs.GearLine.{gear_line}
 use Rattle.dali_grammar.specs.Numbers.{number_in}
@@ -27,6 +28,7 @@ site_line name words =
     else if bytes_eq name (codes "lapse") then none_of Lapse words
     else if bytes_eq name (codes "arc")
     then option_map (λ x. Arc x.0 x.1) (two_of number_in frame_of words)
+    else if bytes_eq name (codes "foreign") then option_map (λ f. Foreign f) (one_of frame_of words)
     else if bytes_eq name (codes "run") then option_map (λ n. Run n) (one_of number_in words)
     else
     gear_line (λ on g. Power g on) (λ g. Expire g) Quiet Show name words

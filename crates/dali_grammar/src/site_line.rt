@@ -6,7 +6,7 @@ ghost use Rattle.dali_grammar.specs.Lines.{words_of, parts_after};
 ghost use Rattle.dali_grammar.specs.SiteLine.{controller_line, site_line, site_line_of};
 
 use crate::lines::cut;
-use crate::words::{Wanted, Wrong, ended, number, number_and_frame, trouble};
+use crate::words::{Wanted, Wrong, ended, frame, number, number_and_frame, trouble};
 use dali_events::Trouble;
 use dali_frame::Forward;
 
@@ -27,6 +27,8 @@ pub enum SiteLine {
     Lapse,
     /// `arc c HHHH`: c asks to send a frame of direct arc power.
     Arc(u32, Forward),
+    /// `foreign HHHH`: a frame of another device comes.
+    Foreign(Forward),
     /// `down c`: controller c goes down.
     Down(u32),
     /// `up c`: c comes up with the records of its store.
@@ -76,6 +78,8 @@ fn site_line(name: &[u8], rest: Option<&[u8]>) -> Result<SiteLine, Wrong>
     } else if name == b"arc".as_slice() {
         let (c, frame) = number_and_frame(rest)?;
         Ok(SiteLine::Arc(c, frame))
+    } else if name == b"foreign".as_slice() {
+        Ok(SiteLine::Foreign(frame(rest, 2)?))
     } else if name == b"run".as_slice() {
         Ok(SiteLine::Run(number(rest)?))
     } else if name == b"off".as_slice() {

@@ -379,7 +379,7 @@ left_refused b xs due refusal.StoreDisagrees i more takes = left_taken b xs due 
 left_refused b xs due refusal.DrawsSpent i more takes = left_taken b xs due i more takes
 left_refused b xs due refusal.LogFull i more takes = left_taken b xs due i more takes
 left_refused b xs due refusal.NoMemory i more takes = left_taken b xs due i more takes
-left_refused b xs due refusal.AddressInUse i more takes = left_taken b xs due i more takes
+left_refused b xs due _ i more takes = left_taken b xs due i more takes
 
 pub no_steps_on : GoOn []
 no_steps_on = All-nil (λ (s : Step). GoesOn s.order)
@@ -417,6 +417,7 @@ end_refused bus to refusal.DrawsSpent i refused full = (no_steps_on, i, refused,
 end_refused bus to refusal.LogFull i refused full = (no_steps_on, i, refused, tt)
 end_refused bus to refusal.NoMemory i refused full = (no_steps_on, i, refused, tt)
 end_refused bus to refusal.AddressInUse i refused full = (no_steps_on, i, refused, tt)
+end_refused bus to refusal.NotForeign i refused full = (no_steps_on, i, refused, tt)
 
 learned_one : (was is : Pass) (due : Option Record) (i : Input) (o : Order) → LearnsOf was is (first_of (told_at due i))
     → Learns was is (told_of due (step_of i o ∷ []))
@@ -457,7 +458,7 @@ taken_refused bus before p q refusal.StoreDisagrees i refused same = same
 taken_refused bus before p q refusal.DrawsSpent i refused same = same
 taken_refused bus before p q refusal.LogFull i refused same = same
 taken_refused bus before p q refusal.NoMemory i refused same = same
-taken_refused bus before p q refusal.AddressInUse i refused same = same
+taken_refused bus before p q _ i refused same = same
 
 -- one turn is counted as one; no turn ends a run for want of turns
 abbrev pub IsOther : Option Outcome → Type 0
@@ -526,7 +527,7 @@ refused_other refusal.StoreDisagrees i = λ is. absurd (cc)
 refused_other refusal.DrawsSpent i = λ is. absurd (cc)
 refused_other refusal.LogFull i = λ is. absurd (cc)
 refused_other refusal.NoMemory i = λ is. absurd (cc)
-refused_other refusal.AddressInUse i = λ is. absurd (cc)
+refused_other _ i = λ is. absurd (cc)
 
 pub tells_other : (bus : Facts) (before after : Option Order) (p q : PortShare) (i : Input) (was is : Pass) (kept : Option Record) (end : Option Outcome)
     → Tells bus before after p q i was is kept end → IsOther end

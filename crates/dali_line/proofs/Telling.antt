@@ -46,6 +46,7 @@ step_tells w (event.Down c) each = each_changed nobody Told gone_down w.controll
 step_tells w (event.Up c kept) each = each_changed nobody Told (come_up kept) w.controllers c (λ there h. tt) each
 step_tells w (event.Offered c f) each = each
 step_tells w event.Quiet each = each
+step_tells w (event.Foreign f) each = each
 step_tells w (event.Power g on) each = each
 step_tells w (event.Expired g) each = each
 

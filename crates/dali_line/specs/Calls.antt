@@ -15,7 +15,7 @@ use Rattle.dali_standing.specs.declared.report.Report.{Report}
 use Rattle.dali_world.specs.Site.{SiteState, Receipt, world, Acts, Logs, LogsRequest, IsFull, Pumps}
 use Rattle.dali_world.specs.Site.{IsUpWith}
 use Rattle.dali_world.specs.Site.{IsArcRefused, IsPumpRefused, IsGearRefused, IsDownRefused}
-use Rattle.dali_world.specs.Site.{IsUpRefused}
+use Rattle.dali_world.specs.Site.{IsUpRefused, IsForeignRefused}
 use Rattle.dali_line.specs.Shares.{PortShare, raised_share}
 use Rattle.dali_line.specs.Found.{FromPort, FromDriver, events_in}
 use Rattle.dali_line.specs.declared.up_refusal.UpRefusal.{UpRefusal}
@@ -43,6 +43,11 @@ Lapses s result new =
 unfoldable pub FallsQuiet : SiteState → Result (Unit {0}) Refusal → SiteState → Type 0
 FallsQuiet s result new =
     OnOk result (Logs s event.Quiet new) × IfErr result (λ e. (e ≡ refusal.LogFull) × IsFull s)
+    × OnErr result (new ≡ s)
+
+unfoldable pub ComesForeign : SiteState → Forward → Result (Unit {0}) Refusal → SiteState → Type 0
+ComesForeign s f result new =
+    OnOk result (Logs s (event.Foreign f) new) × IfErr result (IsForeignRefused s f)
     × OnErr result (new ≡ s)
 
 unfoldable pub Powers : SiteState → ℕ → Bool → Result (Unit {0}) Refusal → SiteState → Type 0

@@ -51,6 +51,7 @@ IsFinal refusal.DrawsSpent i = Unit {0}
 IsFinal refusal.LogFull i = Unit {0}
 IsFinal refusal.NoMemory i = Unit {0}
 IsFinal refusal.AddressInUse i = Unit {0}
+IsFinal refusal.NotForeign i = Unit {0}
 
 -- the end of a run at an order, and where its controller was refused to act on this, if it is one
 abbrev pub end_of : Order → Option Outcome
@@ -78,6 +79,7 @@ end_when_refused refusal.DrawsSpent i = Some (outcome.Refused refusal.DrawsSpent
 end_when_refused refusal.LogFull i = Some (outcome.Refused refusal.LogFull)
 end_when_refused refusal.NoMemory i = Some (outcome.Refused refusal.NoMemory)
 end_when_refused refusal.AddressInUse i = Some (outcome.Refused refusal.AddressInUse)
+end_when_refused refusal.NotForeign i = Some (outcome.Refused refusal.NotForeign)
 
 -- the ends of a run that stop its line
 abbrev pub stops : Outcome → Bool

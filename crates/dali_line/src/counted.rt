@@ -38,6 +38,7 @@ impl<P0: Ledger, P1: Ledger, P2: Ledger, P3: Ledger, D: Ledger> CountedSite<P0, 
     ghost use Rattle.dali_line.specs.declared.up_refusal.UpRefusal.TheVariants.{CommitOpen};
     ghost use Rattle.dali_line.specs.declared.commits.CommitState.TheVariants as commit;
     ghost use Rattle.dali_line.specs.Calls.{Offers, PumpsOnce, Lapses, FallsQuiet, Powers, Expires, GoesDown, ComesUp};
+    ghost use Rattle.dali_line.specs.Calls.{ComesForeign};
 
     /// A site with the tally of its log, of which nobody has begun a commit.
     pub(crate) fn new(
@@ -269,6 +270,25 @@ impl<P0: Ledger, P1: Ledger, P2: Ledger, P3: Ledger, D: Ledger> CountedSite<P0, 
     {
         self.audit_driver(driver);
         self.site.quiet()?;
+        self.tally.raise_driver(driver);
+        Ok(())
+    }
+
+    /// A frame of another device comes.
+    #[tactic(auto, unfolding(crate::specs::Calls::ComesForeign))]
+    pub(crate) fn foreign(
+        &mut self,
+        driver: &mut Driver<P0, P1, P2, P3, D>,
+        frame: Forward,
+    ) -> Result<(), Refusal>
+        ensures found { IsFoundByDriver driver.old self.old.site }
+        ensures answer { ComesForeign self.old.site frame result self.new.site }
+        ensures accepted { OnOk result (driver.new ≡ driver.old + 1) }
+        ensures refused { OnErr result (driver.new ≡ driver.old) }
+        ensures commits { self.new.commits ≡ self.old.commits }
+    {
+        self.audit_driver(driver);
+        self.site.foreign(frame)?;
         self.tally.raise_driver(driver);
         Ok(())
     }

@@ -9,6 +9,7 @@ ghost use Rattle.dali_line.specs.Shares.{raised_share, port_share};
 ghost use Rattle.dali_line.specs.Found.{FromPort, FromDriver, EndsWait, EndsWaitForRoom, IsReady, IsGivenBack};
 ghost use Rattle.dali_line.specs.Found.{events_in};
 ghost use Rattle.dali_line.specs.Calls.{Offers, PumpsOnce, Lapses, FallsQuiet, Powers, Expires, GoesDown, ComesUp};
+ghost use Rattle.dali_line.specs.Calls.{ComesForeign};
 
 use crate::count::{others, steps};
 use crate::counted::CountedSite;
@@ -290,6 +291,23 @@ impl<P0: Ledger, P1: Ledger, P2: Ledger, P3: Ledger, D: Ledger> Line<P0, P1, P2,
         ensures refused { OnErr result (driver.new ≡ driver.old) }
     {
         self.locked.lock(rt).counted.quiet(driver)
+    }
+
+    /// A frame of another device comes, as of a sensor or a push button. Gear with power take it, and the owner keeps
+    /// the bus.
+    ///
+    /// Refusals, in this order: 8 LogFull, 11 NotForeign.
+    pub fn foreign<R: Wait>(
+        &self,
+        rt: &R,
+        driver: &mut Driver<P0, P1, P2, P3, D>,
+        frame: Forward,
+    ) -> Result<(), Refusal>
+        ensures answer { FromDriver driver.old (λ s. (new : SiteState) × ComesForeign s frame result new) }
+        ensures accepted { OnOk result (driver.new ≡ driver.old + 1) }
+        ensures refused { OnErr result (driver.new ≡ driver.old) }
+    {
+        self.locked.lock(rt).counted.foreign(driver, frame)
     }
 
     /// The power of gear `number`, 0 to 127, comes (true) or goes.

@@ -212,7 +212,8 @@ fn end_refused(refusal: Refusal, input: Input) -> Option<Outcome>
             | Refusal::DrawsSpent
             | Refusal::LogFull
             | Refusal::NoMemory
-            | Refusal::AddressInUse,
+            | Refusal::AddressInUse
+            | Refusal::NotForeign,
             _,
         ) => Some(Outcome::Refused(refusal)),
     }

@@ -30,6 +30,7 @@ frames_on (look.Ended e) = 0
 frames_on look.Halted = 0
 frames_on look.Lapsed = 0
 frames_on look.Quiet = 0
+frames_on look.Foreign = 0
 frames_on look.PowerOff = 0
 frames_on look.PowerOn = 0
 frames_on look.Expired = 0

@@ -40,6 +40,7 @@ incident_of (event.Acted c i o) = None
 incident_of (event.Offered c f) = None
 incident_of (event.Sent c f h) = None
 incident_of event.Quiet = None
+incident_of (event.Foreign f) = None
 incident_of (event.Power g true) = None
 incident_of (event.Up c b) = None
 
@@ -65,6 +66,7 @@ disturbance_by (line.Run n) = None
 disturbance_by (line.Power g b) = None
 disturbance_by (line.Expire g) = None
 disturbance_by line.Quiet = None
+disturbance_by (line.Foreign f) = None
 disturbance_by line.Show = None
 
 abbrev pub disturbance_of : List ℕ → Option Incident

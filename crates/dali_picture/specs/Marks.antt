@@ -59,6 +59,7 @@ mark_of (event.Destroyed c f s) = record { lane = Bus; look = look.Destroyed }
 mark_of (event.Collided c f d g) = record { lane = Bus; look = look.Collided }
 mark_of event.Lapsed = record { lane = Bus; look = look.Lapsed }
 mark_of event.Quiet = record { lane = Bus; look = look.Quiet }
+mark_of (event.Foreign f) = record { lane = Bus; look = look.Foreign }
 mark_of (event.Power g true) = record { lane = Gear g; look = look.PowerOn }
 mark_of (event.Power g false) = record { lane = Gear g; look = look.PowerOff }
 mark_of (event.Expired g) = record { lane = Gear g; look = look.Expired }

@@ -1,4 +1,4 @@
-use Rattle.std.specs.Prelude.{◌≤◌, ◌<◌, ℕ, List, length, drop, map}
+use Rattle.std.specs.Prelude.{◌≡◌, ◌≤◌, ◌<◌, ℕ, true, List, length, drop, map}
 use Rattle.dali_frame.specs.declared.frames.Answer.{Answer}
 use Rattle.dali_frame.specs.declared.frames.Answer.TheVariants.{Silence}
 use Rattle.dali_special.specs.declared.command.Command.{Command}
@@ -10,7 +10,8 @@ use Rattle.dali_gear.specs.Row.{row_after, draws_needed, answers_of, heard_of}
 use Rattle.dali_events.specs.declared.event.Event.{Event}
 use Rattle.dali_events.specs.declared.event.Event.TheVariants as event
 use Rattle.dali_events.specs.World.{gear_changed}
-use Rattle.dali_events.specs.Happens.{gear_powered}
+use Rattle.dali_events.specs.Foreign.{is_foreign}
+use Rattle.dali_events.specs.Happens.{gear_powered, gear_interrupted}
 
 -- the gear of a run, and the numbers that are left to be drawn
 pub record Moment : Type 0 where
@@ -28,6 +29,7 @@ MayBefall (event.Destroyed c f set) m = MayTake (Only set) (command_of f) m
 MayBefall (event.Power g on) m = g < length m.gear
 MayBefall (event.Expired g) m = g < length m.gear
 MayBefall event.Quiet m = Unit {0}
+MayBefall (event.Foreign f) m = is_foreign f ≡ true
 MayBefall (event.Collided c f d g) m = Unit {0}
 MayBefall (event.Acted c i o) m = Unit {0}
 MayBefall (event.Offered c f) m = Unit {0}
@@ -54,6 +56,7 @@ befallen (event.Power g on) m =
     (record m { gear = gear_changed m.gear g (gear_powered on) }, Silence)
 befallen (event.Expired g) m = (record m { gear = gear_changed m.gear g gear_expired }, Silence)
 befallen event.Quiet m = (record m { gear = map gear_quieted m.gear }, Silence)
+befallen (event.Foreign f) m = (record m { gear = map gear_interrupted m.gear }, Silence)
 befallen (event.Collided c f d g) m = (m, Silence)
 befallen (event.Acted c i o) m = (m, Silence)
 befallen (event.Offered c f) m = (m, Silence)

@@ -24,6 +24,7 @@ stance_by (event.Destroyed c f s) = None
 stance_by (event.Collided c f d g) = None
 stance_by event.Lapsed = None
 stance_by event.Quiet = None
+stance_by (event.Foreign f) = None
 stance_by (event.Power g b) = None
 stance_by (event.Expired g) = None
 

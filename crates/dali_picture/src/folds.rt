@@ -157,6 +157,7 @@ pub fn frames_on(look: Look) -> u64
         | Look::Halted
         | Look::Lapsed
         | Look::Quiet
+        | Look::Foreign
         | Look::PowerOff
         | Look::PowerOn
         | Look::Expired

@@ -73,6 +73,7 @@ fn incident_of(event: Event) -> Option<Incident>
         | Event::Offered(..)
         | Event::Sent(..)
         | Event::Quiet
+        | Event::Foreign(_)
         | Event::Power(_, true)
         | Event::Up(..) => None,
     }
@@ -92,6 +93,7 @@ fn disturbance_of(line: &[u8]) -> Option<Incident>
         | SiteLine::Fail(_)
         | SiteLine::Lapse
         | SiteLine::Arc(..)
+        | SiteLine::Foreign(_)
         | SiteLine::Down(_)
         | SiteLine::Up(_)
         | SiteLine::Run(_)

@@ -68,6 +68,8 @@ pub enum Look {
     /// The bus lapsed, or was quiet.
     Lapsed,
     Quiet,
+    /// A frame of another device came.
+    Foreign,
     /// A gear lost its power, has it again, or its initialisation ran out.
     PowerOff,
     PowerOn,
@@ -148,6 +150,7 @@ pub fn mark_of(event: Event) -> Mark
         Event::Collided(..) => (Lane::Bus, Look::Collided),
         Event::Lapsed => (Lane::Bus, Look::Lapsed),
         Event::Quiet => (Lane::Bus, Look::Quiet),
+        Event::Foreign(_) => (Lane::Bus, Look::Foreign),
         Event::Power(g, true) => (Lane::Gear(g), Look::PowerOn),
         Event::Power(g, false) => (Lane::Gear(g), Look::PowerOff),
         Event::Expired(g) => (Lane::Gear(g), Look::Expired),

@@ -1,17 +1,18 @@
 //! The gear of a run, event by event: what they take, draw and answer.
 
-ghost use Rattle.std.specs.Prelude.{◌≡◌, ◌<◌, ◌≤◌, true, length, replicate, All};
+ghost use Rattle.std.specs.Prelude.{◌≡◌, ◌<◌, ◌≤◌, true, length, map, replicate, All};
 ghost use Rattle.dali_frame.specs.Random.{MASK24};
 ghost use Rattle.dali_special.specs.Command.{command_of};
 ghost use Rattle.dali_events.specs.World.{gear_changed};
-ghost use Rattle.dali_events.specs.Happens.{gear_powered};
+ghost use Rattle.dali_events.specs.Foreign.{is_foreign};
+ghost use Rattle.dali_events.specs.Happens.{gear_powered, gear_interrupted};
 ghost use Rattle.dali_events.specs.Used.{with_used};
 ghost use Rattle.dali_gear.specs.Gear.{gear_expired, fresh};
 
 use dali_frame::{Answer, Forward, Random24};
 use dali_gear::{Reach, Row};
 use dali_special::Command;
-use dali_world::{Event, Used};
+use dali_world::{Event, Used, is_foreign};
 use std::marker::Model;
 
 /// Whether gear draw all of these.
@@ -60,6 +61,16 @@ fn expire(gear: &mut Row, number: u32)
     let number = number as usize;
     if number < gear.len() {
         gear.expire(number);
+    }
+}
+
+/// A frame of another device comes, where it may.
+#[tactic(auto, using(dali_events::proofs::Interrupted::row, dali_events::proofs::Interrupted::draws))]
+fn interrupt(gear: &mut Row, frame: Forward)
+    ensures { is_foreign frame ≡ true → gear.new ≡ map gear_interrupted gear.old }
+{
+    if is_foreign(frame) {
+        gear.take(&Command::read(frame), Reach::Everyone, &[]);
     }
 }
 
@@ -136,6 +147,7 @@ impl<'a> RunGear<'a> {
             Event::Power(number, on) => power(&mut self.gear, number, on),
             Event::Expired(number) => expire(&mut self.gear, number),
             Event::Quiet => self.gear.quiet(),
+            Event::Foreign(frame) => interrupt(&mut self.gear, frame),
             Event::Acted(..)
             | Event::Offered(..)
             | Event::Collided(..)

@@ -78,6 +78,7 @@ fn shape_of(look: Look) -> (&'static str, &'static str, &'static str)
         Look::Collided => ("struck", "c", ""),
         Look::Lapsed => ("gap", "h", ""),
         Look::Quiet | Look::Expired => ("gap", "x", ""),
+        Look::Foreign => ("ask", "x", ""),
         Look::PowerOff | Look::Down => ("fall", "h", ""),
         Look::PowerOn | Look::Up => ("rise", "e", ""),
     }

@@ -44,6 +44,7 @@ pub fn stance_by(event: Event) -> Option<(u8, Stance)>
         | Event::Collided(..)
         | Event::Lapsed
         | Event::Quiet
+        | Event::Foreign(_)
         | Event::Power(..)
         | Event::Expired(_) => None,
     }

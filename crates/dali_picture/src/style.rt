@@ -101,7 +101,8 @@ A frame after which a byte was heard has a dark edge (a light one on a dark page
 was heard a red one, broken: several gear that answer COMPARE at once are heard so.</p>
 <p>A cross is a frame that was destroyed, or two that collided. A red box around a frame: the script let nobody hear
 its answer (<code>pump lost</code>); the box is broken where no gear had answered. A pink one: the script let a damaged
-answer be heard (<code>pump noise</code>). Two bars in the lane of the bus are a lapse (red) or quiet.</p>
+answer be heard (<code>pump noise</code>). Two bars in the lane of the bus are a lapse (red) or quiet, and a hollow mark
+there is a frame of another device.</p>
 <p>A box in the lane of the bus is a transaction, in the colour of what it is for; one with a number is so many probes
 in a row. Where every event is shown, the box stands below its frames, with the number of the controller that owns the
 bus.</p>

@@ -174,6 +174,12 @@ fn push_numbered(
     write!(text, "{before}{number}{after}")
 }
 
+/// A frame of another device.
+fn push_foreign(text: &mut String, frame: Forward) -> Result<(), AllocError> {
+    text.push_str("another device sent ")?;
+    push_frame(text, frame)
+}
+
 /// The whole event.
 pub fn push_event(text: &mut String, event: Event) -> Result<(), AllocError> {
     match event {
@@ -184,6 +190,7 @@ pub fn push_event(text: &mut String, event: Event) -> Result<(), AllocError> {
         Event::Collided(c, frame, d, other) => push_collided(text, c, frame, d, other),
         Event::Lapsed => text.push_str("the bus lapsed"),
         Event::Quiet => text.push_str("the bus was quiet: half pairs are forgotten"),
+        Event::Foreign(frame) => push_foreign(text, frame),
         Event::Power(g, on) => push_power(text, g, on),
         Event::Expired(g) => push_numbered(text, "the initialisation of gear ", g, " ran out"),
         Event::Down(c) => push_numbered(text, "controller ", u32::from(c), " went down"),

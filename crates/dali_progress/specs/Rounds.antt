@@ -94,6 +94,7 @@ IsOfRound surveys s c (event.Destroyed d f set) = ⊥
 IsOfRound surveys s c (event.Collided d f o g) = ⊥
 IsOfRound surveys s c event.Lapsed = ⊥
 IsOfRound surveys s c event.Quiet = ⊥
+IsOfRound surveys s c (event.Foreign f) = ⊥
 IsOfRound surveys s c (event.Power g on) = ⊥
 IsOfRound surveys s c (event.Expired g) = ⊥
 IsOfRound surveys s c (event.Down d) = ⊥

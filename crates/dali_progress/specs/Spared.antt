@@ -38,6 +38,7 @@ IsOfCall s (event.Destroyed c f set) = Unit {0}
 IsOfCall s (event.Collided c f d g) = Unit {0}
 IsOfCall s event.Lapsed = Unit {0}
 IsOfCall s event.Quiet = Unit {0}
+IsOfCall s (event.Foreign f) = Unit {0}
 IsOfCall s (event.Power g on) = Unit {0}
 IsOfCall s (event.Expired g) = Unit {0}
 IsOfCall s (event.Down c) = Unit {0}

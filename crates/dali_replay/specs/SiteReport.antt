@@ -3,6 +3,7 @@ use Rattle.dali_events.specs.declared.event.Event.TheVariants as event
 use Rattle.dali_events.specs.World.{World, gear_at, controller_at}
 use Rattle.dali_standing.specs.declared.refusal.Refusal.{Refusal}
 use Rattle.dali_world.specs.Site.{SiteState, world, IsArcRefused, IsDownRefused, IsGearRefused}
+use Rattle.dali_world.specs.Site.{IsForeignRefused}
 use Rattle.dali_replay.specs.Calls.{Befalls, Requests, BefallsGear, Lapses, IsLogFull}
 use Rattle.dali_grammar.specs.declared.site_line.SiteLine.{SiteLine}
 use Rattle.dali_grammar.specs.declared.site_line.SiteLine.TheVariants as line
@@ -49,6 +50,9 @@ Says n line.Lapse text m =
 Says n (line.Arc c f) text m =
     Answers (λ r. Calls (Requests n.site (event.Offered c f)) (IsArcRefused n.site c f) n r m)
     (offered_of c f) text
+Says n (line.Foreign f) text m =
+    Answers (λ r. Calls (Befalls n.site (event.Foreign f)) (IsForeignRefused n.site f) n r m)
+    ok_of text
 Says n (line.Down c) text m =
     Answers (λ r. Calls (Befalls n.site (event.Down c)) (IsDownRefused n.site c) n r m) ok_of text
 Says n (line.Up c) text m = Answers (λ r. ComesUp n c r m) ok_of text

@@ -7,6 +7,7 @@ ghost use Rattle.dali_script.specs.Due.{record_ordered};
 ghost use Rattle.dali_events.specs.declared.event.Event.TheVariants as event;
 ghost use Rattle.dali_standing.specs.Seats.{due_of};
 ghost use Rattle.dali_world.specs.Site.{IsArcRefused, IsDownRefused, IsGearRefused, IsActRefused, IsBarred};
+ghost use Rattle.dali_world.specs.Site.{IsForeignRefused};
 ghost use Rattle.dali_replay.specs.Installation.{installation_of, empty_store, store_settled, store_at, controller};
 ghost use Rattle.dali_replay.specs.Installation.{IsUpAt, store_committed, with_store, IsMade, IsGiven, HasNone};
 ghost use Rattle.dali_replay.specs.Installation.{HasStepped, Goes, IsPending, Stores, Fails, Surveys};
@@ -229,6 +230,16 @@ impl Installation {
     {
         let c = self.check_known(c)?;
         self.site.arc(c, frame)
+    }
+
+    /// `foreign HHHH`: a frame of another device comes.
+    ///
+    /// Refusals, in this order: 8 LogFull, 11 NotForeign.
+    pub fn foreign(&mut self, frame: Forward) -> Result<(), Refusal>
+        ensures { Calls (Befalls self.old.site (event.Foreign frame)) (IsForeignRefused self.old.site frame)
+            self.old result self.new }
+    {
+        self.site.foreign(frame)
     }
 
     /// `down c`: the controller goes down. Its store stays.

@@ -63,6 +63,7 @@ const SITE: &[LineForm] = &[
     LineForm("pump", "[lost|noise|collision|destroyed L]"),
     LineForm("lapse", ""),
     LineForm("arc", "c HHHH"),
+    LineForm("foreign", "HHHH"),
     LineForm("down", "c"),
     LineForm("up", "c"),
     LineForm("run", "n"),

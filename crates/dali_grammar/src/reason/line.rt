@@ -19,7 +19,7 @@ fn byte_mistake(line: &[u8]) -> Option<Found> {
             b'\t' => return Some((Mistake::Tab, word)),
             b'#' => return Some((Mistake::LateComment, word)),
             b'!'..=b'~' => {}
-            _ => return Some((Mistake::Foreign, word)),
+            _ => return Some((Mistake::Unprintable, word)),
         }
     }
     None

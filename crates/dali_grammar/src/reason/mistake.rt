@@ -9,7 +9,7 @@ pub enum Mistake {
     ByteOrderMark,
     CarriageReturn,
     Tab,
-    Foreign,
+    Unprintable,
     LateComment,
     FirstSpace,
     LastSpace,
@@ -72,7 +72,7 @@ impl Mistake {
                 "a carriage return: the file comes from Windows, and lines end with a line feed alone"
             }
             Mistake::Tab => "a tab: words are separated by one space",
-            Mistake::Foreign => "a byte that no line has: words are printable ASCII characters",
+            Mistake::Unprintable => "a byte that no line has: words are printable ASCII characters",
             Mistake::LateComment => "a comment has a line of its own, which begins with `#`",
             Mistake::FirstSpace => "a space at the beginning of the line",
             Mistake::LastSpace => "a space at the end of the line",

@@ -301,6 +301,7 @@ lived_moved s c v e plan here of heeds l = go e here of heeds where
       λ m there. lost_at U z v (controllers_changed w.controllers d (told_destroyed f)) c e g m (lost_at U z v w.controllers c d f m (l.lives m there))
   go event.Lapsed here of heeds = λ m there. lapsed_at U z v w.controllers c w.bus.owner m (l.lives m there)
   go event.Quiet here of heeds = l.lives
+  go (event.Foreign f) here of heeds = l.lives
   go (event.Power g on) here of heeds = l.lives
   go (event.Expired g) here of heeds = l.lives
   go (event.Down d) here of heeds = down_lived U z v w (machines s) c d l.lives
