@@ -317,6 +317,8 @@ class Bus:
         like any other.
         """
         time.sleep(self.chosen.slow)
+        if self.chosen.foreign > 0 and self.happens(self.chosen.foreign):
+            self.take_foreign()
         if self.happens(self.chosen.lapse):
             return lines.LAPSED
         is_destroyed = self.happens(self.chosen.destroy)
@@ -326,6 +328,13 @@ class Bus:
         if is_destroyed:
             return lines.DAMAGED if awaits and self.chosen.one_code else lines.DESTROYED
         return self.heard(answers) if awaits else lines.SILENCE
+
+    def take_foreign(self) -> None:
+        """Another device sends direct arc power, as a sensor does, and all gear take it."""
+        frame = bytes((2 * self.chance.randrange(128), self.chance.randrange(256)))
+        for it in self.gear:
+            it.take(frame, self.draw)
+        self.keep()
 
     def is_mute(self, gear: Gear, frame: bytes) -> bool:
         """Whether this gear tells no short address under its random address."""
@@ -367,6 +376,7 @@ def add_words(options: argparse.ArgumentParser) -> None:
     options.add_argument("--destroy", **chance, help="that it is destroyed; each gear takes it all the same, or not at all")
     options.add_argument("--one-code", action="store_true", help="tell `damaged` of a question that was destroyed")
     options.add_argument("--lapse", **chance, help="that it is not sent")
+    options.add_argument("--foreign", **chance, help="that another device sends direct arc power before it")
     options.add_argument("--mute", type=count, metavar="N", help="gear N, counted from 0, never answers QUERY SHORT ADDRESS")
     options.add_argument("--alike", action="store_true", help="let gear of FILE have one random address, as after equal draws")
     options.add_argument("--slow", type=measure(60), default=0, metavar="SECONDS", help="how long each frame takes")

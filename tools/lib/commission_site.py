@@ -81,8 +81,9 @@ class Ran(typing.NamedTuple):
 class Place:
     """A folder for one test, with a file of gear. It is left where a check of it is wrong."""
 
-    def __init__(self, checks: Checks, title: str, program: str) -> None:
+    def __init__(self, checks: Checks, title: str, program: str, troubles: collections.abc.Sequence[str] = ()) -> None:
         self.checks, self.title, self.program, self.is_right = checks, title, program, True
+        self.troubles = list(troubles)
         self.folder = pathlib.Path(tempfile.mkdtemp(prefix="commission-sites."))
         self.gear_file, self.records = self.folder / "gear.json", self.folder / "records.db"
         self.left = []

@@ -17,6 +17,7 @@ SPENT = "6 DrawsSpent"
 FULL = "7 QueueFull"
 LOG = "8 LogFull"
 IN_USE = "10 AddressInUse"
+NOT_FOREIGN = "11 NotForeign"
 
 
 def form(right: str, *refusals: str) -> re.Pattern[str]:
@@ -44,6 +45,7 @@ SITE = {
     "pump collision": form(rf"idle|\d: destroyed {FRAME}(?:, \d: destroyed {FRAME})?", LOG),
     "lapse": form(r"lapse (?:\d|-)", LOG),
     "arc": form(rf"(?P<c>\d): put 2 (?P<f>{FRAME})", UNKNOWN, DOWN, "4 NotArc", FULL, LOG),
+    "foreign": form("ok", LOG, NOT_FOREIGN),
     "down": form("ok", UNKNOWN, DOWN, LOG),
     "up": form("ok", UNKNOWN, "2 ControllerUp", LOG),
     "off": form("ok", "1 UnknownGear", LOG),

@@ -9,7 +9,7 @@ FRAMES = "A100 A500 A5FF A501 A700 A900 AB00 B100 B1FF B3FF B5FE B701 B7FF B700 
 RANDOMS = "000000 000001 123456 7FFFFF 800000 FFFFFD FFFFFE FFFFFF abcdef".split()
 BLOCKS = "0-0 0-3 3-0 4-7 0-63 62-63 63-63 0-64 60-255 0-256 1-".split()
 LISTS = "- 0 1 0,1 0,0 1,2,3 127 128 0, ,0 0,,1".split()
-NAMES = "bench site draws used frame go survey store fail pump lapse arc down up run off on expire quiet show".split()
+NAMES = "bench site draws used frame go survey store fail pump lapse arc foreign down up run off on expire quiet show".split()
 WORDS = [*NUMBERS, *FRAMES, *RANDOMS, *BLOCKS, *LISTS, *NAMES, *site_script.FRAME_TROUBLES, "", "12345", "#"]
 BYTES = b" \n\t\r\0#-,0F:\x7f\x80\xff"
 EVENTS = 65_536
@@ -48,6 +48,8 @@ def site_line(draw: random.Random, gear: int, controllers: int) -> str:
         return f"run {draw.choice((0, 1, 2, 3, 5, 10, 30, 60, 100, 120, 1000))}"
     if kind < 0.8:
         return f"arc {controller} {frame(draw)}"
+    if kind < 0.83:
+        return f"foreign {frame(draw)}"
     if kind < 0.85:
         return "lapse"
     if kind < 0.95:

@@ -26,6 +26,7 @@ ROUND_TROUBLES = {
     "expire": "the initialisation of a gear ends",
     "quiet": "the bus is quiet for long",
     "arc": "a controller asks to send a frame of direct arc power",
+    "foreign": "another device sends a frame that is no addressing command",
     "show": "the gear and the tables are shown",
 }
 # What may happen before a controller acts. Where no commit is due, the line is refused, and changes nothing.
@@ -137,6 +138,8 @@ class Rounds:
         if self.happens("arc"):
             frame = f"{2 * self.pick(128):02X}{self.pick(256):02X}"
             lines.append(f"arc {self.pick(len(self.site.blocks))} {frame}")
+        if self.happens("foreign"):
+            lines.append(f"foreign {self.pick(128) * 2:02X}{self.pick(256):02X}")
         if self.happens("show"):
             lines.append("show")
         return lines

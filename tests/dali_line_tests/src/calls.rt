@@ -119,6 +119,7 @@ enum Step {
     Arc,
     /// What befalls gear and bus.
     Quiet,
+    Foreign,
     Power,
     Expire,
 }
@@ -160,8 +161,9 @@ const COLLISION: [Step; 8] = [
 ];
 
 /// How each story ends.
-const STOP: [Step; 5] = [
+const STOP: [Step; 6] = [
     Step::Quiet,
+    Step::Foreign,
     Step::Power,
     Step::Expire,
     Step::Stops,
@@ -207,6 +209,7 @@ fn line_does<B: FullBus, R: Abort + Wait>(
         }
         Step::Arc => does(rt, bus.arc(rt, other, arc), site.arc(1, arc)),
         Step::Quiet => does(rt, bus.quiet(rt, driver), site.quiet()),
+        Step::Foreign => does(rt, bus.foreign(rt, driver, arc), site.foreign(arc)),
         Step::Power => does(rt, bus.power(rt, driver, 0, false), site.power(0, false)),
         Step::Expire => does(rt, bus.expire(rt, driver, 0), site.expire(0)),
         Step::Until(..)
@@ -251,6 +254,7 @@ fn both_do<B: FullBus, R: Abort + Wait>(
         | Step::UpWithOthers
         | Step::Arc
         | Step::Quiet
+        | Step::Foreign
         | Step::Power
         | Step::Expire => line_does(rt, bus, other, driver, site, records, step),
     }

@@ -14,6 +14,13 @@ pub trait FullBus: Bus {
 
     fn quiet<R: Wait>(&self, rt: &R, driver: &mut Self::Driver) -> Result<(), Refusal>;
 
+    fn foreign<R: Wait>(
+        &self,
+        rt: &R,
+        driver: &mut Self::Driver,
+        frame: Forward,
+    ) -> Result<(), Refusal>;
+
     fn power<R: Wait>(
         &self,
         rt: &R,
@@ -48,6 +55,15 @@ impl<P0: Ledger, P1: Ledger, P2: Ledger, P3: Ledger, D: Ledger> FullBus
 
     fn quiet<R: Wait>(&self, rt: &R, driver: &mut Self::Driver) -> Result<(), Refusal> {
         self.quiet(rt, driver)
+    }
+
+    fn foreign<R: Wait>(
+        &self,
+        rt: &R,
+        driver: &mut Self::Driver,
+        frame: Forward,
+    ) -> Result<(), Refusal> {
+        self.foreign(rt, driver, frame)
     }
 
     fn power<R: Wait>(

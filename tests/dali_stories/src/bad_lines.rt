@@ -26,7 +26,7 @@ fn a_script_needs_its_first_two_lines(rt: HostRuntime) -> Result<(), Fail> {
 /// What stands before a bad line, its reports, and lines that are bad behind it.
 type Bad<'a> = (&'a str, &'a str, &'a [&'a str]);
 
-const BAD: [Bad<'static>; 14] = [
+const BAD: [Bad<'static>; 15] = [
     // The first line says what is set up.
     (
         "",
@@ -307,6 +307,28 @@ const BAD: [Bad<'static>; 14] = [
             "pump destroyed 0\t",
             "pump destroyed 0\r",
             "pump destroyed 0;1",
+        ],
+    ),
+    // A frame of another device is no controller's.
+    (
+        "site 2 0-3 4-7\ndraws\nquiet\n",
+        "ok\n",
+        &[
+            "foreign",
+            "foreign ",
+            "foreign 0",
+            "foreign 0 FE80",
+            "foreign FE8",
+            "foreign FE800",
+            "foreign FE8G",
+            "foreign FE80 ",
+            "foreign  FE80",
+            "foreign FE80 FE80",
+            "foreign FE80\r",
+            "foreign\tFE80",
+            " foreign FE80",
+            "foreigns FE80",
+            "Foreign FE80",
         ],
     ),
     // Arc power has a controller and a frame.

@@ -210,6 +210,7 @@ expire 0
 off 1
 on 1
 quiet
+foreign FE80
 down 0
 up 0
 ";
@@ -231,8 +232,9 @@ event 8: the initialisation of gear 0 ran out
 event 9: gear 1 lost its power
 event 10: gear 1 has its power again
 event 11: the bus was quiet: half pairs are forgotten
-event 12: controller 0 went down
-event 13: controller 0 came up
+event 12: another device sent FE80 direct arc power
+event 13: controller 0 went down
+event 14: controller 0 came up
 ",
     )
 }
@@ -426,7 +428,7 @@ const WRONG: [Wanted<'static>; 2] = [
             "<li class=\"lapsed\">1 lapse of the bus: <a href=\"#e5\">first at event 5</a></li>",
             "<li class=\"power\">1 power cut of a gear: <a href=\"#e9\">first at event 9</a></li>",
             "<li class=\"expired\">1 initialisation ran out: <a href=\"#e8\">first at event 8</a></li>",
-            "<li class=\"down\">1 controller went down: <a href=\"#e12\">first at event 12</a></li>",
+            "<li class=\"down\">1 controller went down: <a href=\"#e13\">first at event 13</a></li>",
             "<li class=\"destroyed\"><a href=\"#e7\">event 7</a>, line 10: frame destroyed &#8211; destroyed, of",
             "<p>Frames: 3, <a href=\"#legend\">at least</a> 15 ms on the bus.",
         ],

@@ -324,7 +324,7 @@ feed alone",
                 "start 0",
                 6,
                 "`start` is no line of a site: those are `go`, `survey`, `store`, `fail`, `pump`, `lapse`, \
-`arc`, `down`, `up`, `run`, `off`, `on`, `expire`, `quiet` and `show`",
+`arc`, `foreign`, `down`, `up`, `run`, `off`, `on`, `expire`, `quiet` and `show`",
             ),
             ("go", 6, "a word is missing; the form is `go c`"),
             (

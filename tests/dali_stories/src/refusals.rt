@@ -5,7 +5,7 @@ use super::story::{all_parts_play, all_play};
 use std::test::Fail;
 
 /// Stories with their names.
-const STORIES: [(&str, &str); 8] = [
+const STORIES: [(&str, &str); 9] = [
     (
         "a controller that is not there is unknown",
         "site 1 0-3 4-7
@@ -144,6 +144,43 @@ const STORIES: [(&str, &str); 8] = [
          arc 0 FE80 > 0: put 2 FE80
          arc 0 0000 > 0: put 2 0000
          arc 0 AAAA > 0: put 2 AAAA",
+    ),
+    (
+        // Addressing commands; RESET and SET SHORT ADDRESS to one gear, all, a group, and those without address. Arc
+        // power with these bytes is another frame, and so is what no gear is meant by.
+        "a frame of another device is no addressing command",
+        "site 1 0-3
+         draws
+         foreign A100 > refused 11 NotForeign
+         foreign A5FF > refused 11 NotForeign
+         foreign A501 > refused 11 NotForeign
+         foreign A700 > refused 11 NotForeign
+         foreign A900 > refused 11 NotForeign
+         foreign AB00 > refused 11 NotForeign
+         foreign B112 > refused 11 NotForeign
+         foreign B334 > refused 11 NotForeign
+         foreign B556 > refused 11 NotForeign
+         foreign B701 > refused 11 NotForeign
+         foreign B901 > refused 11 NotForeign
+         foreign BB00 > refused 11 NotForeign
+         foreign 01C2 > refused 11 NotForeign
+         foreign 7FC4 > refused 11 NotForeign
+         foreign 0120 > refused 11 NotForeign
+         foreign FF20 > refused 11 NotForeign
+         foreign FD20 > refused 11 NotForeign
+         foreign 8120 > refused 11 NotForeign
+         foreign 0180 > refused 11 NotForeign
+         foreign FF80 > refused 11 NotForeign
+         foreign FD80 > refused 11 NotForeign
+         foreign 9F80 > refused 11 NotForeign
+         foreign FE20 > ok
+         foreign 0000 > ok
+         foreign 0105 > ok
+         foreign A101 > ok
+         foreign A3FF > ok
+         foreign A120 > ok
+         foreign C180 > ok
+         foreign FB80 > ok",
     ),
 ];
 
@@ -316,6 +353,8 @@ const IN_PARTS: [(&str, &[(&str, u32)]); 13] = [
             ("quiet > ok", 65_535),
             (
                 "quiet > refused 8 LogFull
+                 foreign FE80 > refused 8 LogFull
+                 foreign A100 > refused 8 LogFull
                  go 0 > refused 8 LogFull
                  arc 0 FE80 > refused 8 LogFull
                  lapse > refused 8 LogFull

@@ -4,7 +4,7 @@ use super::story::all_play;
 use std::test::Fail;
 
 /// Stories with their names.
-const STORIES: [(&str, &str); 15] = [
+const STORIES: [(&str, &str); 16] = [
     (
         // The second survey asks three gear for their numbers, and hears nobody without address.
         "a survey gives addresses as a start does, and a second one commits nothing",
@@ -200,6 +200,22 @@ const STORIES: [(&str, &str); 15] = [
          survey 0 > 0: put 3 01C2
          run 194 > ran 194
          quiet > ok
+         go 0 > 0: put 1 A5FF
+         pump > 0: sent A5FF silence
+         run 1000 > 0: commit reserve 0 123456
+         > 0: commit enrol 0 123456
+         > 0: done all-found
+         > ran 135
+         show > gear 0 on disabled 123456 FFFFFE 0
+         > table 0: 0=123456",
+    ),
+    (
+        "a frame of another device between the two INITIALISE is one roll call alone, too",
+        "site 1 0-3
+         draws 123456
+         survey 0 > 0: put 3 01C2
+         run 194 > ran 194
+         foreign 0105 > ok
          go 0 > 0: put 1 A5FF
          pump > 0: sent A5FF silence
          run 1000 > 0: commit reserve 0 123456

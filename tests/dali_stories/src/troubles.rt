@@ -6,7 +6,7 @@ use std::process::Abort;
 use std::test::Fail;
 
 /// Stories with their names.
-const STORIES: [(&str, &str); 18] = [
+const STORIES: [(&str, &str); 20] = [
     (
         "an answer lost before program begins a new search",
         "site 1 0-3
@@ -252,6 +252,38 @@ const STORIES: [(&str, &str); 18] = [
          > ran 5
          show > gear 0 on disabled FFFFFF FFFFFE -
          > table 0:",
+    ),
+    (
+        // As with a quiet bus; nobody hears of it.
+        "a frame of another device breaks the pair of an opening",
+        "site 1 0-3
+         draws 123456
+         run 4 > ran 4
+         foreign FE80 > ok
+         go 0 > 0: put 1 A700
+         pump > 0: sent A700 silence
+         run 1000 > 0: done all-found
+         > ran 5
+         show > gear 0 on disabled FFFFFF FFFFFE -
+         > table 0:",
+    ),
+    (
+        // Before the frame is put, before it is sent, and before its answer is acted on.
+        "frames of other devices between two frames of a transaction change nothing",
+        "site 1 0-3
+         draws 123456
+         run 113 > 0: commit reserve 0 123456
+         > ran 112
+         foreign FE80 > ok
+         go 0 > 0: put 1 BB00
+         foreign 0105 > ok
+         pump > 0: sent BB00 byte FF
+         foreign A3FF > ok
+         run 1000 > 0: commit enrol 0 123456
+         > 0: done all-found
+         > ran 8
+         show > gear 0 on disabled 123456 FFFFFE 0
+         > table 0: 0=123456",
     ),
     (
         // One gear, no number. The second RANDOMISE is refused wherever the gear would take it.

@@ -276,6 +276,8 @@ enum Step {
     /// The initialisation of gear 0 ends.
     Expires(Result<(), Refusal>),
     Quiet(Result<(), Refusal>),
+    /// Another device sends the frame of these bytes.
+    Comes(u16, Result<(), Refusal>),
     /// Controller 0 goes down, and comes up with this record or none.
     Down(Result<(), Refusal>),
     Up(Option<InNumbers>, Result<(), Refusal>),
@@ -305,6 +307,7 @@ fn calls<R: Abort>(rt: &R, site: &mut SiteState, step: &Step) {
         Step::Powers(on, wanted) => does(rt, site.power(0, on), wanted),
         Step::Expires(wanted) => does(rt, site.expire(0), wanted),
         Step::Quiet(wanted) => does(rt, site.quiet(), wanted),
+        Step::Comes(bytes, wanted) => does(rt, site.foreign(forward(bytes)), wanted),
         Step::Down(wanted) => does(rt, site.down(0), wanted),
         _ => assert!(rt; false),
     }
@@ -411,10 +414,12 @@ const SMALL_QUEUE: [Step; 8] = [
 ];
 
 /// A site with room for one event, which has come. A full log changes no reader.
-const SMALL_LOG: [Step; 14] = [
+const SMALL_LOG: [Step; 16] = [
     Step::Quiet(Ok(())),
     Step::Logged(1, Event::Quiet),
     Step::Quiet(FULL_LOG),
+    Step::Comes(0xFE80, FULL_LOG),
+    Step::Comes(0xA100, FULL_LOG),
     Step::Offers(0xFE80, FULL_LOG),
     Step::Powers(false, FULL_LOG),
     Step::Expires(FULL_LOG),
@@ -426,6 +431,16 @@ const SMALL_LOG: [Step; 14] = [
     Step::Reads((None, true, Some(Input::Start), Due::Start)),
     Step::Keeps(None, None),
     Step::Crowded(false),
+];
+
+/// A site with room for one event, which is a frame of another device. The owner of the bus, if any, is as it was.
+const SMALL_FOREIGN: [Step; 6] = [
+    Step::Comes(0xA100, Err(Refusal::NotForeign)),
+    Step::Comes(0x0180, Err(Refusal::NotForeign)),
+    Step::Comes(0xFE80, Ok(())),
+    Step::Logged(1, Event::Foreign(ARC)),
+    Step::Comes(0x0180, FULL_LOG),
+    Step::Reads((None, true, Some(Input::Start), Due::Start)),
 ];
 
 /// A site with room for one event and one request, both of which have come.
@@ -445,6 +460,7 @@ fn a_full_queue_and_a_full_log_refuse(rt: HostRuntime) -> Result<(), Fail> {
     tells(&rt, &[(0, 1), (2, 3)], 16, 1, &SMALL_QUEUE)?;
     for steps in [
         SMALL_LOG.as_slice(),
+        SMALL_FOREIGN.as_slice(),
         SMALL_BOTH.as_slice(),
         SMALL_DOWN.as_slice(),
     ] {
