@@ -2,10 +2,11 @@
 
 An edit is a file with the lines 'file: src/NAME.rt', and 'old: TEXT' and 'new: TEXT' for each place; TEXT stands once in the file. The function
 in which the lines stand is planted once more, with the edit and under a name of its own, beside the right one, with its contract and its
-proof; so all edits of a crate are tried by one check of these functions, with what they call, over the libraries that are proved. The prover
-judges each function by the contracts of the others, and goes on after one that it refuses. What cannot be planted so (an edit of a type, of
-several functions, of a trait's impl) is tried alone and in its place. So is what came out otherwise than wanted: of a wrong body that is
-proved the whole crate is checked, since another function may be refused.
+proof; so all edits of a crate are tried by one check of these functions over the libraries that are proved. The prover judges each function
+by the contracts of the others, and goes on after one that it refuses. So the bodies of all other functions are left out, since a check would
+prove what a function calls too, which costs most of it: then a right function is proved, or said to call what is not proved. What cannot be
+planted so (an edit of a type, of several functions, of a trait's impl) is tried alone and in its place. So is what came out otherwise than
+wanted: of a wrong body that is proved the whole crate is checked, since another function may be refused.
 """
 
 import concurrent.futures
@@ -22,7 +23,9 @@ from lib import proving
 
 # What a try comes to.
 REFUSED, PROVED, BAD, UNSURE = "refused", "proved", "BAD EDIT", "NOT TRIED"
-HEAD = re.compile(r"\s*(?:pub(?:\(\w+\))? )?(?:const )?(?:unsafe )?fn (\w+)")
+HEAD = re.compile(r"\s*(?:pub(?:\(\w+\))? )?(const )?(?:unsafe )?fn (\w+)")
+# What is said of a function that is right, and calls one which is not proved.
+CALLS = "no proof: it calls "
 IMPL = re.compile(r"impl(?:<[^{]*?>)? (?:(\w+)(?:<.*?>)? for )?&?(\w+)")
 
 
@@ -84,7 +87,7 @@ def function(lines: list[str], at: int, module: tuple[str, ...]) -> str | None:
     depth, name = indent(lines[at]) + bool(HEAD.match(lines[at])), None
     for line in reversed(lines[: at + 1]):
         if name is None and (head := HEAD.match(line)) and indent(line) < depth:
-            name, depth = head[1], indent(line)
+            name, depth = head[2], indent(line)
         elif name and (kind := IMPL.match(line)) and indent(line) < depth:
             return f"{kind[2]}{kind[1] or ''}::{name}"
     return name and "::".join([*module, name])
@@ -114,7 +117,7 @@ def plant(crate: proving.Crate, place: pathlib.Path, edit: Edit, number: int) ->
     block, kind = text.splitlines()[first : last + 1], owner(text.splitlines(), head)
     if kind and kind[1] or any("#[cycle" in it for it in block):
         return None
-    name = HEAD.match(text.splitlines()[head])[1]
+    name = HEAD.match(text.splitlines()[head])[2]
     new = f"{name}_planted_{number}"
     block[head - first] = re.sub(rf"\bfn {name}\b", f"fn {new}", block[head - first], count=1)
     lines = (place / edit.file).read_text().splitlines()
@@ -128,6 +131,34 @@ def plant(crate: proving.Crate, place: pathlib.Path, edit: Edit, number: int) ->
             to.parent.mkdir(parents=True, exist_ok=True)
             to.write_text(file.read_text().replace(f"{own}.{name}.", f"{own}.{new}."))
     return next(iter(edit.functions)).removesuffix(name) + new
+
+
+def leave_out_bodies(place: pathlib.Path, kept: set[str]) -> None:
+    """Leaves out the bodies of the functions of a copy of a crate, with their proofs, but of those with these names and of constants."""
+    for file in (place / "src").rglob("*.rt"):
+        lines = file.read_text().splitlines()
+        for head in (at for at in range(len(lines) - 1, -1, -1) if (found := HEAD.match(lines[at])) and not found[1]):
+            name, depth = HEAD.match(lines[head])[2], " " * indent(lines[head])
+            if name in kept or (begin := body(lines, head)) is None:
+                continue
+            first, last = item(lines, head)[0], lines.index(depth + "}", begin)
+            before = re.sub(rf"^{depth}#\[tactic\(.*?\)\]\n", "", "".join(f"{it}\n" for it in lines[first:head]), flags=re.S | re.M)
+            for proof in proofs(place, str(file.relative_to(place)), owner(lines, head), name):
+                shutil.rmtree(proof)
+            stub = [f"{depth}#[tactic(none)]", *lines[head : begin + 1], f"{depth}    unreachable!()"]
+            lines[first:last] = [*before.splitlines(), *stub]
+        file.write_text("".join(f"{it}\n" for it in lines))
+
+
+def body(lines: list[str], head: int) -> int | None:
+    """The line on which the body of a function begins, or nothing where it has none or an empty one."""
+    depth = " " * indent(lines[head])
+    for at, line in enumerate(lines[head:], head):
+        if line == depth + "{" or line.endswith("{") and (at == head or line.startswith(depth + ")")):
+            return at
+        if line == depth + "{}" or line.endswith((";", "{}")):
+            return None
+    return None
 
 
 def proofs(folder: pathlib.Path, file: str, kind: re.Match | None, name: str) -> list[pathlib.Path]:
@@ -170,6 +201,7 @@ def check_planted(crate: proving.Crate, edits: list[Edit]) -> tuple[str, dict[tu
         place = pathlib.Path(folder)
         lay_out(crate, place)
         paths = {edit[:2]: path for number, edit in enumerate(edits) if (path := plant(crate, place, edit, number))}
+        leave_out_bodies(place, {path.rpartition("::")[2] for path in paths.values()})
         return checked(crate, place, paths.values())[1] if paths else "", paths
 
 
@@ -185,14 +217,14 @@ def checked(crate: proving.Crate, place: pathlib.Path, paths: Iterable[str]) -> 
 def refused(said: str, functions: set[str]) -> str | None:
     """Why one of these functions is refused, or nothing. That it calls one which is refused says nothing of it."""
     for name, why in re.findall(r"^fn (\S+): (no.*)$", said, re.M):
-        if any(name.endswith(f"::{it}") for it in functions) and not why.endswith("which is not proved"):
+        if any(name.endswith(f"::{it}") for it in functions) and not why.startswith(CALLS):
             return f"{name}: {why}"
     return None
 
 
 def proved(said: str, functions: set[str]) -> bool:
-    """Whether each of these functions is proved."""
-    names = re.findall(r"^fn (\S+): proved(?:, may wait)?$", said, re.M)
+    """Whether each of these functions is proved, or but calls one that is not."""
+    names = re.findall(rf"^fn (\S+): (?:proved(?:, may wait)?$|{CALLS})", said, re.M)
     return all(any(name == it or name.endswith(f"::{it}") for name in names) for it in functions)
 
 
@@ -236,6 +268,15 @@ def accepted(crate: proving.Crate, edits: list[Edit]) -> Iterator[Came]:
     for edit in edits:
         is_so = edit[:2] in paths and proved(said, {paths[edit[:2]]})
         yield edit, *((PROVED, "") if is_so else alone(crate, edit, PROVED))
+
+
+def unharmed(crate: proving.Crate, edits: list[Edit]) -> Iterator[Came]:
+    """What the prover says of the right functions, each planted once as the wrong bodies are: that shows what else an edit is refused for."""
+    right = {frozenset(edit.functions): edit._replace(pairs=[(old, old) for old, _ in edit.pairs]) for edit in edits}
+    said, paths = check_planted(crate, list(right.values()))
+    for edit in right.values():
+        path = {paths[edit[:2]]}
+        yield edit, PROVED if proved(said, path) else REFUSED, refused(said, path) or ""
 
 
 def alone(crate: proving.Crate, edit: Edit, wanted: str) -> tuple[str, str]:
