@@ -1,0 +1,53 @@
+"""The words of the launcher that are about a driver: --driver and --driver-timeout, as tools/drive says."""
+
+import re
+import shlex
+import shutil
+
+from lib import ROOT, joining
+
+OPTIONS = ("--driver", "--driver-timeout")
+# How many seconds a driver may be given for an answer.
+MOST = 86400
+
+
+class BadWord(Exception):
+    """What is wrong with the command line."""
+
+
+def parted(words: list[str]) -> tuple[list[str], dict[str, list[str]]]:
+    """The words of the program, and for each option of this one what was given to it."""
+    rest, given, left = [], {it: [] for it in OPTIONS}, iter(words)
+    for word in left:
+        name, sign, value = word.partition("=")
+        if name in given:
+            given[name].append(value if sign else next(left, ""))
+        else:
+            rest.append(word)
+    return rest, given
+
+
+def command_of(given: list[str]) -> list[str]:
+    """The words of a driver's command, the first of them as it can be started from here."""
+    if len(given) != 1:
+        raise BadWord(f"one --driver COMMAND is wanted, and not {len(given)}")
+    try:
+        words = shlex.split(given[0])
+    except ValueError as why:
+        raise BadWord(f"--driver {given[0]}: {why}") from why
+    if not words or not words[0]:
+        raise BadWord("--driver has no COMMAND")
+    if "/" in words[0] and not shutil.which(words[0]):
+        words[0] = str(ROOT / words[0])
+    return words
+
+
+def seconds_of(given: list[str]) -> float:
+    """How many seconds a driver has for an answer."""
+    if not given:
+        return joining.ANSWERS
+    if len(given) != 1:
+        raise BadWord(f"one --driver-timeout SECONDS is wanted, and not {len(given)}")
+    if not re.fullmatch(r"[0-9]{1,9}(\.[0-9]{1,9})?", given[0]) or not 0 < float(given[0]) <= MOST:
+        raise BadWord(f"--driver-timeout {given[0]}: this is no number of seconds above 0, and at most {MOST}")
+    return float(given[0])
