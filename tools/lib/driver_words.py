@@ -1,10 +1,12 @@
-"""The words of the launcher that are about a driver: --driver and --driver-timeout, as tools/drive says."""
+"""The words of the launcher that are about a driver: --driver and --driver-timeout, as tools/drive says; and the program itself."""
 
+import os
 import re
 import shlex
 import shutil
+import signal
 
-from lib import ROOT, joining
+from lib import ROOT, joining, proving
 
 OPTIONS = ("--driver", "--driver-timeout")
 # How many seconds a driver may be given for an answer.
@@ -51,3 +53,22 @@ def seconds_of(given: list[str]) -> float:
     if not re.fullmatch(r"[0-9]{1,9}(\.[0-9]{1,9})?", given[0]) or not 0 < float(given[0]) <= MOST:
         raise BadWord(f"--driver-timeout {given[0]}: this is no number of seconds above 0, and at most {MOST}")
     return float(given[0])
+
+
+def program_of(path: str | None) -> tuple[str, int]:
+    """The program dali_commission: this one, or the proved one, which is built where it is missing; and a status, 0 if it is there."""
+    if path:
+        return os.path.abspath(path), 0
+    before = {it: signal.getsignal(it) for it in joining.PASSED}
+    status = proving.build("dali_commission", ["dali_commission"])
+    for number, how in before.items():
+        signal.signal(number, how)
+    return str(proving.workspace()["dali_commission"].made), status
+
+
+def can_start(title: str, driver: list[str]) -> bool:
+    """Whether a driver is a program that can be run. Where it is none, that is said."""
+    if shutil.which(driver[0]):
+        return True
+    proving.say(f"{title}: the driver '{driver[0]}' cannot be started: it is no program that can be run")
+    return False

@@ -1,14 +1,16 @@
 """Joins a program and its driver: starts both, passes lines and signals on, and ends the driver. tools/drive says how."""
 
 import contextlib
+import json
 import math
 import os
 import signal
 import subprocess
+import sys
 import time
 import types
 
-from lib import relay
+from lib import ROOT, relay
 
 # The signals that are passed on to the program.
 PASSED = (signal.SIGTERM, signal.SIGHUP, signal.SIGINT)
@@ -20,6 +22,8 @@ SAME = 0.3
 ANSWERS = 10
 # The exit statuses that are not the program's.
 UNWRITTEN, AT_FAULT, NOT_STARTED = 3, 4, 127
+# A process that joins: behind it stand the folder of this package, and what `join` takes as JSON.
+ALONE = "import json, sys; sys.path[0] = sys.argv[1]; from lib import joining; sys.exit(joining.join(*json.loads(sys.argv[2])))"
 
 
 def say(text: str) -> None:
@@ -124,6 +128,11 @@ def say_end(title: str, driver: subprocess.Popen[bytes], fault: relay.Fault | No
         say(f"{title}: the driver closed its standard input or output {fault}")
     elif fault:
         say(f"{title}: {fault}")
+
+
+def alone(program: list[str], driver: list[str], seconds: float, is_gentle: bool) -> list[str]:
+    """The words of a process of its own that joins these two."""
+    return [sys.executable, "-S", "-c", ALONE, str(ROOT / "tools"), json.dumps([program, driver, seconds, is_gentle])]
 
 
 def join(program: list[str], driver: list[str], seconds: float = ANSWERS, is_gentle: bool = False) -> int:

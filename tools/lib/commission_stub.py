@@ -1,0 +1,110 @@
+#!/usr/bin/env python3
+"""Stands for the program `dali_commission` in checks that have no kit: it takes its words and says what it says.
+
+The file of the records is JSON, a random address for each short one. The file that BUS names has the random addresses of the gear that
+are there. A frame is put for each gear; while a file `hold` lies beside that one, it waits at the second.
+"""
+
+import contextlib
+import fcntl
+import json
+import os
+import pathlib
+import sys
+import time
+
+
+def option(name: str, words: list[str]) -> list[str]:
+    return [words[at + 1] for at, it in enumerate(words) if it == name]
+
+
+def put(frame: str, number: int = 2) -> None:
+    """Puts a frame, and waits for what the driver tells."""
+    print(f"put 3 {frame} ask", flush=True)
+    if not sys.stdin.readline():
+        sys.exit(4)
+    while number >= 2 and pathlib.Path(os.environ["BUS"]).with_name("hold").exists():
+        time.sleep(0.02)
+
+
+def say(text: str) -> None:
+    """Says something. Where nobody hears it, nothing else changes."""
+    with contextlib.suppress(OSError):
+        os.write(2, f"{text}\n".encode())
+
+
+def listed(records: dict[str, str]) -> list[dict[str, object]]:
+    return [{"address": int(it), "random": records[it], "given": True} for it in sorted(records, key=int)]
+
+
+def ended(end: str, status: int, records: dict[str, str], **more: object) -> None:
+    found = {"end": end, "status": status, "frames": 9, "enrolled": 0, "table": listed(records), "left_alone": [], "missing": []}
+    print(json.dumps({**found, "strangers": [], "unaddressed": None, **more}), flush=True)
+    sys.exit(status)
+
+
+def run(file: pathlib.Path, records: dict[str, str], gear: list[str]) -> None:
+    for number, random in enumerate(gear, 1):
+        put("A900", number)
+        if random not in records.values():
+            records[str(next(it for it in range(64) if str(it) not in records))] = random
+            new = file.with_name(f"{file.name}.written")
+            new.write_text(json.dumps(records))
+            new.replace(file)
+        say(f"{number} gear found, {9 * number} frames, {64 - number} addresses left")
+    ended("all-found", 0, records)
+
+
+def check(records: dict[str, str], gear: list[str]) -> None:
+    put("0BC2")
+    missing = [int(it) for it in records if records[it] not in gear]
+    for it in missing:
+        say(f"{it} {records[str(it)]} missing")
+    strangers = [it for it in gear if it not in records.values()]
+    odd = [{"address": 63 - at, "is": "stranger", "random": it} for at, it in enumerate(strangers)]
+    is_well = not missing and not odd
+    ended("as-recorded" if is_well else "not-as-recorded", int(not is_well), records, missing=missing, strangers=odd, unaddressed=False)
+
+
+def replace(file: pathlib.Path, records: dict[str, str], gear: list[str], address: str) -> None:
+    put("A900")
+    new = [it for it in gear if it not in records.values()]
+    if records[address] in gear or len(new) != 1:
+        say(f"not replaced, nothing was changed: short address {address}: somebody answers to it")
+        ended("not-replaced", 11, {})
+    records[address] = new[0]
+    file.write_text(json.dumps(records))
+    ended("replaced", 0, records)
+
+
+def main(task: str, *words: str) -> None:
+    gear = json.loads(pathlib.Path(os.environ["BUS"]).read_text())
+    file = pathlib.Path(*option("--records", words)[:1])
+    records = json.loads(file.read_text()) if file.is_file() else {}
+    if task == "table":
+        rows = ",\n".join(json.dumps({"address": it["address"], "random": it["random"]}) for it in listed(records))
+        print(f"[\n{rows}\n]")
+        return
+    with open(f"{os.environ['BUS']}.lock", "a") as lock:
+        try:
+            fcntl.flock(lock, fcntl.LOCK_EX | fcntl.LOCK_NB)
+        except BlockingIOError:
+            say(f"error: {file}: another program has the file open")
+            sys.exit(5)
+        if task == "run":
+            run(file, records, gear)
+        elif task == "check":
+            check(records, gear)
+        elif task == "identify":
+            for _ in range(5):
+                put("0A00")
+                time.sleep(0.02)
+            say("shown")
+        elif task == "replace":
+            replace(file, records, gear, next(it for it in words if it.isdigit()))
+        else:
+            sys.exit(2)
+
+
+if __name__ == "__main__":
+    main(*sys.argv[1:])

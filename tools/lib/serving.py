@@ -1,0 +1,172 @@
+"""Serves a page on the loopback, to whom its address was told: tools/page says how."""
+
+import base64
+import hashlib
+import hmac
+import http.server
+import json
+import re
+import secrets
+import socket
+import threading
+import typing
+
+from lib import ROOT, commanding, places
+
+LOOPBACK = "127.0.0.1"
+PAGE = ROOT / "tools/lib/page.html"
+# How many bytes the target of a request may have, and its body; how many requests are answered at once, in how many seconds each.
+LONGEST, BODY, LANES, PATIENCE = 512, 8192, 32, 5
+# Who may ask: a browser says where a request comes from.
+OWN = ("same-origin", "none")
+
+
+class Refused(Exception):
+    """Why a request is refused: its status and a text."""
+
+    def __init__(self, status: int, text: str) -> None:
+        super().__init__(text)
+        self.status = status
+
+
+def hashed(text: str, tag: str) -> str:
+    """What a policy says of the only element of this kind."""
+    found = re.search(rf"<{tag}>(.*?)</{tag}>", text, re.S)
+    return "'sha256-" + base64.b64encode(hashlib.sha256(found[1].encode()).digest()).decode() + "'"
+
+
+class Server(http.server.ThreadingHTTPServer):
+    """The server of one page."""
+
+    daemon_threads, request_queue_size = True, 64
+
+    def __init__(self, bus: commanding.Bus, port: int) -> None:
+        self.bus, self.token, self.lanes = bus, secrets.token_urlsafe(24), threading.BoundedSemaphore(LANES)
+        self.page = PAGE.read_text(encoding="utf-8")
+        self.policy = f"default-src 'none'; script-src {hashed(self.page, 'script')}; style-src {hashed(self.page, 'style')}; "
+        self.policy += "connect-src 'self'; img-src data:; base-uri 'none'; form-action 'none'; frame-ancestors 'none'"
+        super().__init__((LOOPBACK, port), Handler)
+        self.hosts = [f"{it}:{self.server_address[1]}" for it in (LOOPBACK, "localhost")]
+
+    def address(self) -> str:
+        return f"http://{self.hosts[0]}/{self.token}/"
+
+    def process_request(self, request: socket.socket, client_address: typing.Any) -> None:
+        """Answers a request in a thread of its own, where not too many are being answered."""
+        if self.lanes.acquire(timeout=PATIENCE):
+            super().process_request(request, client_address)
+        else:
+            self.shutdown_request(request)
+
+    def process_request_thread(self, request: socket.socket, client_address: typing.Any) -> None:
+        try:
+            super().process_request_thread(request, client_address)
+        finally:
+            self.lanes.release()
+
+    def handle_error(self, request: socket.socket, client_address: typing.Any) -> None:
+        """A client that goes away in the midst of its request is no fault."""
+
+
+class Handler(http.server.BaseHTTPRequestHandler):
+    """One request."""
+
+    timeout, server_version, sys_version = PATIENCE, "page", ""
+
+    def log_message(self, *_: typing.Any) -> None:
+        """Nothing is said of requests."""
+
+    def do_GET(self) -> None:
+        self.answer({"": self.show, "state": self.tell_state, "table.csv": self.tell_csv})
+
+    def do_POST(self) -> None:
+        self.answer({"do": self.do, "stop": self.stop, "name": self.name})
+
+    def answer(self, known: dict[str, typing.Callable[[], None]]) -> None:
+        try:
+            call = known.get(self.asked())
+            if not call:
+                raise Refused(404, "nothing stands here")
+            call()
+        except Refused as why:
+            self.write(why.status, "text/plain", f"{why}\n")
+        except commanding.Bad as why:
+            self.write(400, "text/plain", f"{why}\n")
+        except commanding.Busy as why:
+            self.write(409, "text/plain", f"{why}\n")
+        except (places.Unreadable, OSError) as why:
+            self.write(500, "text/plain", f"{why}\n")
+
+    def asked(self) -> str:
+        """What is asked for, where somebody asks who may."""
+        if len(self.path) > LONGEST:
+            raise Refused(414, "the address is too long")
+        said = {it: self.headers.get_all(it, []) for it in ("Host", "Origin", "Sec-Fetch-Site")}
+        is_own = len(said["Host"]) == 1 and said["Host"][0] in self.server.hosts
+        is_own &= all(it == f"http://{said['Host'][0]}" for it in said["Origin"]) if is_own else False
+        is_own &= all(it in OWN for it in said["Sec-Fetch-Site"])
+        _, _, rest = self.path.partition("/")
+        token, slash, what = rest.partition("/")
+        if not is_own or not slash or not hmac.compare_digest(token.encode(), self.server.token.encode()):
+            raise Refused(403, "refused: the page has the address that was printed when it was started")
+        return what
+
+    def body(self) -> dict[str, typing.Any]:
+        """The object that a request brings."""
+        lengths = self.headers.get_all("Content-Length", [])
+        if len(lengths) != 1 or not re.fullmatch(r"[0-9]{1,6}", lengths[0]) or "Transfer-Encoding" in self.headers:
+            raise Refused(411, "one length is wanted")
+        if int(lengths[0]) > BODY:
+            raise Refused(413, "too much")
+        if self.headers.get_content_type() != "application/json":
+            raise Refused(415, "JSON is wanted")
+        try:
+            value = json.loads(self.rfile.read(int(lengths[0])))
+        except (ValueError, RecursionError) as why:
+            raise Refused(400, "this is no JSON") from why
+        if not isinstance(value, dict):
+            raise Refused(400, "an object is wanted")
+        return value
+
+    def write(self, status: int, kind: str, text: str, *more: tuple[str, str]) -> None:
+        raw = text.encode()
+        self.send_response(status)
+        fixed = {
+            "Content-Type": f"{kind}; charset=utf-8", "Content-Length": str(len(raw)), "Cache-Control": "no-store",
+            "Content-Security-Policy": self.server.policy, "Referrer-Policy": "no-referrer", "X-Content-Type-Options": "nosniff",
+            "Cross-Origin-Resource-Policy": "same-origin", "Cross-Origin-Opener-Policy": "same-origin",
+        }
+        for name, value in [*fixed.items(), *more]:
+            self.send_header(name, value)
+        self.end_headers()
+        self.wfile.write(raw)
+
+    # What may be asked for.
+
+    def show(self) -> None:
+        self.server.bus.read_table()
+        self.write(200, "text/html", self.server.page)
+
+    def tell_state(self) -> None:
+        self.write(200, "application/json", json.dumps(self.server.bus.state()))
+
+    def tell_csv(self) -> None:
+        self.write(200, "text/csv", self.server.bus.csv(), ("Content-Disposition", 'attachment; filename="luminaires.csv"'))
+
+    def do(self) -> None:
+        asked = self.body()
+        self.server.bus.begin(asked.get("command"), asked.get("address"), asked.get("missing", []))
+        self.tell_state()
+
+    def stop(self) -> None:
+        self.body()
+        self.server.bus.stop()
+        self.tell_state()
+
+    def name(self) -> None:
+        asked = self.body()
+        random, place = asked.get("random"), asked.get("place")
+        if not isinstance(random, str) or not places.RANDOM.fullmatch(random) or not isinstance(place, str):
+            raise commanding.Bad("a random address and a place are wanted")
+        places.note(self.server.bus.names, random, place)
+        self.tell_state()
