@@ -1,9 +1,11 @@
 //! `identify`: a gear goes bright and dark.
 
 use crate::failure::{Failure, failure_of};
+use crate::report::Report;
 use crate::reports::say_line;
 use dali_commissioning::{CommissionFault, DriverLink, Reply, ask, light, light_at_last};
 use dali_frame::Short;
+use std::cell::RefCell;
 use std::io::{Eprint, Read, Write};
 use std::time::{Clock, Duration};
 use std::{io, thread};
@@ -74,9 +76,13 @@ fn shows<S: Clock, R: Read, W: Write>(
 pub(crate) fn identify<S: Input + Print + Eprint + AllocGlobal + Clock>(
     system: &S,
     short: Short,
+    report: &RefCell<Report>,
 ) -> Result<(), Failure> {
     let mut driver = DriverLink::new(system.alloc(), system.reader(), io::writer(system));
     let shown = shows(system, &mut driver, short);
     say_line(system, &shown, driver.line());
+    if let Ok(mut report) = report.try_borrow_mut() {
+        report.frames = driver.lines();
+    }
     shown
 }

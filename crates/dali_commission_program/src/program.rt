@@ -9,7 +9,7 @@ use crate::failure::Failure;
 use crate::identifying::identify;
 use crate::json::write_report;
 use crate::records::{kept, lend, lend_copy};
-use crate::replacing::replaces;
+use crate::replacing::{note_first, replaces};
 use crate::report::Report;
 use crate::running::Running;
 use crate::stores::{Borrower, Stores};
@@ -89,7 +89,7 @@ where
             )
         }
         Task::Check(bounds) => checks(system, stores, bounds, report),
-        Task::Identify(short) => identify(system, *short),
+        Task::Identify(short, _) => identify(system, *short, report),
         Task::Table(name, form) => {
             let writing = Writing {
                 system,
@@ -97,7 +97,11 @@ where
             };
             lend_copy(system.alloc(), stores, name, &writing)
         }
-        Task::Replace(wanted) => replaces(system, stores, is_terminal, wanted),
+        Task::Replace(wanted) => {
+            replaces(system, stores, is_terminal, wanted, report)?;
+            note_first(system.alloc(), stores, wanted, report);
+            Ok(())
+        }
     }
 }
 
@@ -111,7 +115,7 @@ fn records_of(task: &Task) -> Option<&str> {
         },
         Task::Table(name, _) => Some(name),
         // Which of several files a refusal is about, `replaces` has said.
-        Task::Identify(_) | Task::Replace(_) => None,
+        Task::Identify(..) | Task::Replace(_) => None,
     }
 }
 
@@ -120,7 +124,9 @@ fn wants_json(task: &Task) -> bool {
     match task {
         Task::Run(setup) => setup.as_json,
         Task::Check(bounds) => bounds.as_json,
-        Task::Identify(_) | Task::Table(..) | Task::Replace(_) => false,
+        Task::Identify(_, as_json) => *as_json,
+        Task::Replace(wanted) => wanted.as_json,
+        Task::Table(..) => false,
     }
 }
 
@@ -135,16 +141,21 @@ fn say_why<S: Eprint>(system: &S, failure: &Failure, records: Option<&str>) {
     };
 }
 
-/// What the end of a task is called: of one whose machines have ended, of one that only asked, or why it ended before.
-fn end_name(ended: &Result<(), Failure>, has_ended: bool) -> &'static str {
+/// What the end of a task is called that has done what was asked for.
+fn done_name(task: &Task) -> &'static str {
+    match task {
+        Task::Run(_) => "all-found",
+        Task::Check(_) => "as-recorded",
+        Task::Identify(..) => "shown",
+        Task::Table(..) => "written",
+        Task::Replace(_) => "replaced",
+    }
+}
+
+/// What the end of a task is called: done, or why it ended before.
+fn end_name(task: &Task, ended: &Result<(), Failure>) -> &'static str {
     match ended {
-        Ok(()) => {
-            if has_ended {
-                "all-found"
-            } else {
-                "as-recorded"
-            }
-        }
+        Ok(()) => done_name(task),
         Err(failure) => failure.name(),
     }
 }
@@ -168,7 +179,7 @@ fn is_told<S: Print + AllocGlobal>(
     }
     match report.try_borrow() {
         Ok(report) => {
-            let end = end_name(ended, report.pass.is_some());
+            let end = end_name(task, ended);
             write_report(
                 system.alloc(),
                 &mut io::writer(system),

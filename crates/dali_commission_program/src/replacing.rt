@@ -3,6 +3,7 @@
 use crate::failure::{Failure, ended_as, failure_of};
 use crate::progress::{Manner, Progress};
 use crate::records::{Copying, Filling, kept, lend, lend_copy, see};
+use crate::report::Report;
 use crate::reports::{say_left_alone, say_line, say_not_there, say_why_ended};
 use crate::settling::{Settling, beside, found, free_number, say_refused};
 use crate::stores::{Borrower, Holder, StoreFault, Stores};
@@ -128,6 +129,7 @@ struct Replacing<'a, S, F> {
     is_terminal: bool,
     /// What is done once the files are closed.
     due: RefCell<Option<DueSwap>>,
+    report: &'a RefCell<Report>,
 }
 
 /// A swap of files that may begin.
@@ -248,6 +250,9 @@ impl<S: Input + Print + Eprint + AllocGlobal, F: Stores> Replacing<'_, S, F> {
             Err(_) if !driver.has_heard() => Err(Failure::NobodyAnswered),
             Err(refusal) => {
                 say_not_there(self.system, &all);
+                if let Ok(mut report) = self.report.try_borrow_mut() {
+                    report.places = all;
+                }
                 refuse(self.wanted.short, refusal)
             }
         }
@@ -431,6 +436,9 @@ impl<S: Input + Print + Eprint + AllocGlobal, F: Stores> Holder for Replacing<'_
         let gave = self.gives(&driver, all);
         if let Ok(driver) = driver.try_borrow() {
             say_line(system, &gave, driver.line());
+            if let Ok(mut report) = self.report.try_borrow_mut() {
+                report.frames = driver.lines();
+            }
         }
         gave
     }
@@ -537,6 +545,32 @@ fn are_apart(alloc: Global, names: &[String]) -> Result<bool, Failure> {
     Ok(true)
 }
 
+/// Who notes the table of the records.
+#[derive(Drop)]
+struct Noting<'a>(&'a RefCell<Report>);
+
+impl Borrower for Noting<'_> {
+    fn take<K: Keep>(&self, store: &mut K) -> Result<(), Failure> {
+        let kept = kept(store)?;
+        if let Ok(mut report) = self.0.try_borrow_mut() {
+            report.note_table(&kept);
+        }
+        Ok(())
+    }
+}
+
+/// Notes the table of the first file, when a luminaire is replaced. Where that cannot be read any more, none is noted.
+pub(crate) fn note_first<F: Stores>(
+    alloc: Global,
+    stores: &F,
+    wanted: &Replacement,
+    report: &RefCell<Report>,
+) {
+    if let [name, ..] = wanted.records.as_slice() {
+        let _ = lend_copy(alloc, stores, name, &Noting(report));
+    }
+}
+
 /// Gives a new luminaire the short address of one that is gone, in all records of the site; or finishes what an earlier
 /// call has begun.
 pub(crate) fn replaces<S, F>(
@@ -544,6 +578,7 @@ pub(crate) fn replaces<S, F>(
     stores: &F,
     is_terminal: bool,
     wanted: &Replacement,
+    report: &RefCell<Report>,
 ) -> Result<(), Failure>
 where
     S: Input + Print + Eprint + AllocGlobal,
@@ -568,6 +603,7 @@ where
         names: &names,
         is_terminal,
         due: RefCell::new(None),
+        report,
     };
     stores.hold(system.alloc(), &names, &replacing)
 }

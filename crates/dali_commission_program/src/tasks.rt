@@ -30,8 +30,8 @@ pub enum Task {
     Run(Setup),
     /// What is heard of each short address is to be said beside the records.
     Check(Bounds),
-    /// The gear with a short address is to show itself.
-    Identify(Short),
+    /// The gear with a short address is to show itself; and whether what it came to is written as an object of JSON.
+    Identify(Short, bool),
     /// The table of the records of this name is to be written.
     Table(String, TableForm),
     /// A new luminaire is to have the short address of one that is gone.
@@ -79,4 +79,6 @@ pub struct Replacement {
     pub block: Block,
     /// Whether nothing is said of how far it is.
     pub is_quiet: bool,
+    /// Whether what it came to is written as an object of JSON, too.
+    pub as_json: bool,
 }

@@ -136,6 +136,7 @@ const CHECK_WORDS: &[Word] = &[
 const IDENTIFY_WORDS: &[Word] = &[
     DRIVER,
     DRIVER_TIMEOUT,
+    JSON,
     Word {
         name: "address",
         value: "ADDRESS",
@@ -176,6 +177,7 @@ const REPLACE_WORDS: &[Word] = &[
     DRIVER,
     DRIVER_TIMEOUT,
     QUIET,
+    JSON,
     Word {
         name: "address",
         value: "ADDRESS",
@@ -396,6 +398,7 @@ fn replacement(alloc: Global, line: &CommandLine) -> Result<Replacement, LineFau
         missing: missing(alloc, line)?,
         block,
         is_quiet: line.has("quiet"),
+        as_json: line.has("json"),
     })
 }
 
@@ -420,7 +423,7 @@ pub(crate) fn task_of(alloc: Global, line: &CommandLine) -> Result<Task, LineFau
     match line.subcommand.as_str() {
         "run" => Ok(Task::Run(setup(alloc, line)?)),
         "check" => Ok(Task::Check(bounds(alloc, line)?)),
-        "identify" => Ok(Task::Identify(short(alloc, line)?)),
+        "identify" => Ok(Task::Identify(short(alloc, line)?, line.has("json"))),
         "table" => Ok(Task::Table(text(alloc, line, "records")?, form(line))),
         "replace" => Ok(Task::Replace(replacement(alloc, line)?)),
         _ => no_task(alloc),

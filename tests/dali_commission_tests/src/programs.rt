@@ -477,6 +477,30 @@ fn a_gear_shows_itself(rt: HostRuntime) {
 }
 
 #[test]
+fn what_a_gear_showed_is_an_object_of_json(rt: HostRuntime) {
+    let words = b"dali_commission identify 5 --json";
+    let whole = answers(&rt, "byte 12\n", 19);
+    for (heard, text) in [
+        (
+            whole.as_str(),
+            "{\"end\":\"shown\",\"status\":0,\"frames\":20,\"enrolled\":0,\"table\":[],",
+        ),
+        (
+            answers(&rt, "", 9).as_str(),
+            "{\"end\":\"nobody-answered\",\"status\":10,\"frames\":9,\"enrolled\":0,\"table\":[],",
+        ),
+        (
+            "byte 12\nbyte\n",
+            "{\"end\":\"driver\",\"status\":4,\"frames\":2,\"enrolled\":0,\"table\":[],",
+        ),
+    ] {
+        let desk = Desk::new(rt.alloc(), words, heard);
+        let _ = run_and_say(&desk, &Shelf::of(&[]), false);
+        assert!(rt; desk.has_written(text));
+    }
+}
+
+#[test]
 fn a_machine_says_why_it_gave_up_or_found_a_conflict(rt: HostRuntime) {
     let lost = answers(
         &rt,

@@ -393,6 +393,41 @@ fn a_swap_that_was_stopped_goes_on_or_is_taken_back(rt: HostRuntime) {
     assert!(rt; is_new(&at(&rt, 8)));
 }
 
+#[test]
+fn what_a_replacement_came_to_is_an_object_of_json(rt: HostRuntime) {
+    let words = b"dali_commission replace 5 --records site.db --records two.db --json";
+    let finished = Desk::new(rt.alloc(), words, "");
+    assert!(rt; run_and_say(&finished, &at(&rt, 4), false).is_ok());
+    assert!(rt;
+        finished.has_written(
+            "{\"end\":\"replaced\",\"status\":0,\"frames\":0,\"enrolled\":0,\"table\":[\
+        {\"address\":5,\"random\":\"222222\",\"given\":true},{\"address\":7,\"random\":\"ABCDEF\",\"given\":false}],\
+        \"left_alone\":[],\"missing\":[],\"strangers\":[],\"unaddressed\":null}\n"
+        )
+    );
+    let other = repeated(
+        &rt,
+        silence(&rt, "", 9).as_str(),
+        "byte AB\nbyte CD\nbyte EE\n",
+        3,
+    );
+    for (heard, text) in [
+        (
+            other.as_str(),
+            "\"frames\":18,\"enrolled\":0,\"table\":[],\"left_alone\":[],\"missing\":[],\
+        \"strangers\":[{\"address\":7,\"is\":\"another\",\"random\":\"ABCDEE\"}],\"unaddressed\":null}\n",
+        ),
+        (
+            silence(&rt, "byte 12\n", 8).as_str(),
+            "{\"end\":\"not-replaced\",\"status\":11,\"frames\":9,\"enrolled\":0,\"table\":[],",
+        ),
+    ] {
+        let refused = Desk::new(rt.alloc(), words, heard);
+        assert!(rt; run_and_say(&refused, &two(&rt), false).is_err());
+        assert!(rt; refused.has_written(text));
+    }
+}
+
 /// What is said at an end with this status.
 fn said(status: u8) -> &'static str {
     match status {
