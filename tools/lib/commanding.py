@@ -21,7 +21,7 @@ LINES, LONGEST, MUCH = 200, 400, 1 << 20
 PATIENCE = 8
 PROGRESS = re.compile(r"(\d+) gear found, (\d+) frames, (\d+) addresses left")
 # What an end is, and what can be done: by command and status, or by status alone.
-DONE, NOT_SO, NO_RECORDS, NOBODY, UNFINISHED, STOPPED = 0, 1, 5, 10, 12, 128
+DONE, NOT_SO, NOBODY, STOPPED = 0, 1, 10, 128
 ENDS: dict[int | tuple[str, int], str] = {
     ("run", 0): "All gear that answered have addresses. Count the luminaires: where the table has fewer, look at those that are dark, and run once more.",
     ("check", 0): "All gear are as in the table, and nobody else answers.",
@@ -219,20 +219,16 @@ class Bus:
         """Waits for the end of a command, and takes what it found."""
         command.follow()
         with self.lock:
+            self.idle.set()
+            self.read_table()
             try:
-                self.learn(command, old)
-            finally:
-                self.idle.set()
-                self.read_table()
+                self.learn(command, command.report, old)
+            except (KeyError, TypeError, OSError, places.Unreadable) as why:
+                command.hear(f"what it came to is not known: {why}")
 
-    def learn(self, command: Command, old: str | None) -> None:
-        report = command.report
-        if not report or command.name == "identify":
-            return
-        if report.get("table"):
-            self.table = [{"address": it["address"], "random": it["random"]} for it in report["table"]]
+    def learn(self, command: Command, report: dict[str, typing.Any], old: str | None) -> None:
         pairs = {it["address"]: it["random"] for it in self.table}
-        if command.name == "run":
+        if command.name == "run" and report:
             self.left_alone, self.strangers = report["left_alone"], odd_of(report)
         if command.name == "check" and command.status in (DONE, NOT_SO, NOBODY):
             self.strangers, self.left_alone, self.checked = odd_of(report), [], time.time()
