@@ -65,6 +65,8 @@ class Site(typing.NamedTuple):
     block: str
     driver: list[str]
     seconds: float
+    # The driver as the command line names it.
+    title: str
 
 
 def address_of(value: object) -> int:
@@ -274,7 +276,7 @@ class Bus:
                 trouble = str(why)
             unfinished = None if not self.idle.is_set() else unfinished_address(self.site.records[0])
             return {
-                "records": self.site.records, "block": self.site.block, "driver": " ".join(self.site.driver), "trouble": trouble,
+                "records": self.site.records, "block": self.site.block, "driver": self.site.title, "trouble": trouble,
                 "busy": not self.idle.is_set(), "command": self.command.state() if self.command else None, "places": them,
                 "spare": spare, "unaddressed": self.unaddressed, "checked": self.checked, "unfinished": unfinished,
             }
