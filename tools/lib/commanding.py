@@ -19,7 +19,9 @@ ADDRESSES = range(64)
 LINES, LONGEST, MUCH = 200, 400, 1 << 20
 # How many seconds a command has to end once it was stopped, before it is asked again.
 PATIENCE = 8
+# How far a run is; and what a program says that was stopped by the end of its input.
 PROGRESS = re.compile(r"(\d+) gear found, (\d+) frames, (\d+) addresses left")
+INPUT_ENDED = re.compile(r"error: line \d+ of the driver: end of input")
 # What an end is, and what can be done: by command and status, or by status alone.
 DONE, NOT_SO, NOBODY, STOPPED = 0, 1, 10, 128
 ENDS: dict[int | tuple[str, int], str] = {
@@ -147,7 +149,7 @@ class Command:
     def hear(self, line: str) -> None:
         if progress := PROGRESS.fullmatch(line):
             self.found, self.frames, self.left = map(int, progress.groups())
-        elif line:
+        elif line and not (self.is_stopped and INPUT_ENDED.fullmatch(line)):
             self.said = [*self.said[1 - LINES :], line]
 
     def stop(self) -> None:
