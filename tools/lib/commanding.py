@@ -25,7 +25,8 @@ INPUT_ENDED = re.compile(r"error: line \d+ of the driver: end of input")
 # What an end is, and what can be done: by command and status, or by status alone.
 DONE, NOT_SO, NOBODY, STOPPED = 0, 1, 10, 128
 ENDS: dict[int | tuple[str, int], str] = {
-    ("run", 0): "All gear that answered have addresses. Count the luminaires: where the table has fewer, look at those that are dark, and run once more.",
+    ("run", 0): "All gear that answered have addresses. Count the luminaires: where the table has fewer, look at those that are dark, and "
+    "run once more.",
     ("check", 0): "All gear are as in the table, and nobody else answers.",
     ("identify", 0): "It blinked, and is bright again.",
     ("replace", 0): "The new luminaire has the address.",
@@ -34,9 +35,12 @@ ENDS: dict[int | tuple[str, int], str] = {
     2: "The command line is refused: what was said last tells why. Start the page with other words.",
     3: "The program was refused memory, or its output was.",
     4: "The driver ended, was too slow, or wrote what is no answer. See to the driver, and run again.",
-    5: "The file of the records cannot be had: what was said last tells why. Where another program has it open, a run goes on elsewhere: wait until that has ended.",
-    6: "Gear are left, and each address of the block is taken. Start the page with a larger block; where it is 0-63, replace luminaires that are gone.",
-    7: "It gave up: frames were lost, or gear do not tell what they are asked. Check the bus, the driver, and the gear that are named; then run again.",
+    5: "The file of the records cannot be had: what was said last tells why. Where another program has it open, a run goes on elsewhere: "
+    "wait until that has ended.",
+    6: "Gear are left, and each address of the block is taken. Start the page with a larger block; where it is 0-63, replace luminaires "
+    "that are gone.",
+    7: "It gave up: frames were lost, or gear do not tell what they are asked. Check the bus, the driver, and the gear that are named; "
+    "then run again.",
     8: "A gear contradicts the table. Find out whether the file is an old copy, or another tool gave that address.",
     9: "It took more steps than it may.",
     10: "No answer was heard. Is the interface connected, is the bus powered, are the luminaires on?",
