@@ -1,0 +1,6 @@
+mod Values
+mod Spans
+mod Sound
+mod ReadBack
+mod Joint
+mod Sending

@@ -1,0 +1,4 @@
+pub mod Reception
+pub mod Levels
+pub mod Grid
+pub mod Windows

@@ -1,0 +1,51 @@
+use Rattle.std.specs.Prelude.{ℕ, ◌+◌, ◌-◌, ◌^◌, min, Bool, true, false, ◌&&◌, nat_lt, nat_le}
+use Rattle.std.specs.Prelude.{Option, Some, None, if◌then◌else◌}
+use Rattle.dali_frame.specs.declared.frames.Answer.{Answer}
+use Rattle.dali_frame.specs.declared.frames.Answer.TheVariants.{Silence, Byte, Damaged}
+use Rattle.dali_wire.specs.declared.receiver.Reading.{Reading}
+use Rattle.dali_wire.specs.declared.receiver.Reading.TheVariants.{Idle, First, Between, Middle}
+use Rattle.dali_wire.specs.declared.receiver.Reading.TheVariants.{Spoilt}
+use Rattle.dali_wire.specs.declared.receiver.Frame.{Frame}
+use Rattle.dali_wire.specs.declared.receiver.Frame.TheVariants.{Backward}
+use Rattle.dali_wire.specs.declared.receiver.Told.{Told}
+use Rattle.dali_wire.specs.declared.window.Window.{Window}
+use Rattle.dali_wire.specs.Reception.{told_of, receiver_at_first}
+
+-- A BACKWARD FRAME BEGINS 2,400 to 12,400 µs after the last edge of the forward frame, from memory
+-- (IEC 62386-101:2014, receiver frame sequence timing). What else is heard, or too early or too
+-- late, is damaged.
+abbrev pub answer_in : Frame → ℕ → Answer
+answer_in (Backward byte) begun =
+    if nat_le 2400 begun && nat_le begun 12400 then Byte byte else Damaged
+answer_in _ begun = Damaged
+
+-- what was heard, with one frame more; the second one damages the first
+abbrev pub heard_after : Answer → Option Told → ℕ → Answer
+heard_after heard None now = heard
+heard_after Silence (Some told) now = answer_in told.frame (now - told.since - told.lasted)
+heard_after (Byte byte) (Some told) now = Damaged
+heard_after Damaged (Some told) now = Damaged
+
+-- how long the forward frame is over
+abbrev pub passed : Window → ℕ → ℕ
+passed w since = min (w.elapsed + since) (2 ^ 32 - 1)
+
+abbrev pub heard_with : Window → ℕ → Answer
+heard_with w since = heard_after w.heard (told_of w.receiver since) (passed w since)
+
+abbrev pub is_idle : Reading → Bool
+is_idle Idle = true
+is_idle First = false
+is_idle (Between bits) = false
+is_idle (Middle bits) = false
+is_idle Spoilt = false
+
+-- WHAT IS TOLD once no backward frame may begin any more and the bus is at rest. A bus that does
+-- not come to rest within 50 ms was damaged.
+abbrev pub answer_at : Window → ℕ → Option Answer
+answer_at w now =
+    if is_idle w.receiver.reading && nat_lt 12400 now then Some w.heard
+    else (if nat_lt 50000 now then Some Damaged else None)
+
+abbrev pub window_at_first : Window
+window_at_first = record { receiver = receiver_at_first; elapsed = 0; heard = Silence }

@@ -1,0 +1,54 @@
+//! What the receiver tells of a bus at the resolution of half bits, each of one length that its times take: frames are
+//! read back, what is told was on the bus, and where several answers drive it together a byte is told only where each
+//! of them sent that byte. And noise is not told.
+//!
+//! These are laws over the definitions that the contracts of this crate cite. Programs don't call them.
+
+ghost use Rattle.std.specs.Prelude.{◌≡◌, ℕ, ◌*◌, ◌<◌, ◌≤◌, ◌⊎◌, Bool, true, false, None, List, ◌++◌, length};
+ghost use Rattle.std.specs.List.{AllByRecursion};
+ghost use Rattle.dali_frame.specs.declared.frames.Forward.{Forward as Sent};
+ghost use Rattle.dali_wire.specs.declared.receiver.Reading.TheVariants.{Idle, First};
+ghost use Rattle.dali_wire.specs.declared.receiver.Frame.{Frame};
+ghost use Rattle.dali_wire.specs.declared.receiver.Frame.TheVariants.{Forward, Backward, Damaged};
+ghost use Rattle.dali_wire.specs.Reception.{ended, reading_at, reading_after};
+ghost use Rattle.dali_wire.specs.Levels.{levels_of, forward_bits, backward_bits, highs};
+ghost use Rattle.dali_wire.specs.Grid.{Tells, IsHeard, begun_at, Within, bus_of, first_low};
+
+/// Every frame is read back from its levels, once the bus was high for a stop condition.
+pub fn frames_are_read_back()
+    ensures backward { (t since rest byte : ℕ) → 334 ≤ t → t ≤ 500 → 2400 ≤ rest * t → byte < 256
+        → Tells t Idle false since (levels_of (backward_bits byte) ++ highs rest) (Backward byte) }
+    ensures forward { (t since rest : ℕ) (f : Sent) → 334 ≤ t → t ≤ 500 → 2400 ≤ rest * t
+        → f.address_byte < 256 → f.opcode_byte < 256
+        → Tells t Idle false since (levels_of (forward_bits f) ++ highs rest) (Forward f) }
+{}
+
+/// A frame that is not damaged is told of these levels alone: highs, a start bit, the bits of the frame, each with a
+/// change in its middle, and then highs alone.
+pub fn what_is_told_was_on_the_bus()
+    ensures { (t since : ℕ) (bus : List Bool) (frame : Frame) → 334 ≤ t → t ≤ 500
+        → Tells t Idle false since bus frame → (frame ≡ Damaged) ⊎ IsHeard bus frame }
+{}
+
+/// Where any number of answers drive the bus together, each begun before the stop condition is over, a byte is told
+/// only where each of them sent that byte; they then began together.
+///
+/// The law of one answer takes no more than that the bus is low wherever that answer is, whatever else is on the bus.
+pub fn joint_answers_are_one_byte()
+    ensures all { (t since n byte : ℕ) (answers : List (ℕ × ℕ)) → 334 ≤ t → t ≤ 500
+        → Tells t Idle false since (bus_of n answers) (Backward byte)
+        → AllByRecursion (λ a. (a.0 < n) × (a.1 < 256)) answers
+        → AllByRecursion (λ a. (a.0 ≡ first_low (bus_of n answers)) × (a.1 ≡ byte)) answers }
+    ensures one { (t since : ℕ) (bus : List Bool) (byte : ℕ) → 334 ≤ t → t ≤ 500 → Tells t Idle false since bus (Backward byte)
+        → (begin sent : ℕ) → sent < 256 → begin < length bus
+        → Within (begun_at begin (levels_of (backward_bits sent))) bus
+        → (sent ≡ byte) × (begin ≡ first_low bus) }
+{}
+
+/// A low that is shorter than a half bit, on a bus at rest, is not told, and the bus is at rest again.
+pub fn noise_is_not_told()
+    ensures begun { (since : ℕ) → reading_after Idle false true since ≡ First }
+    ensures over { (since : ℕ) → since < 334 → reading_after First true false since ≡ Idle }
+    ensures silent { (since : ℕ) (low : Bool) → (ended Idle low since ≡ None) × (ended First true since ≡ None) }
+    ensures rests { (since : ℕ) (low : Bool) → reading_at Idle low since ≡ Idle }
+{}

@@ -1,0 +1,94 @@
+ghost use Rattle.std.specs.Prelude.{◌≡◌, ℕ, ◌<◌, IsSome};
+ghost use Rattle.dali_wire.specs.Reception.{told_of, reading_at, reading_after};
+ghost use Rattle.dali_wire.specs.Windows.{answer_in, heard_with, heard_after, passed, answer_at, window_at_first};
+
+use crate::receiver::{Frame, Reading, Receiver, Told};
+use dali_frame::Answer;
+
+/// The time of a backward frame: it begins so many µs after the last edge of the forward frame, as a receiver takes it.
+const LEAST_BEGIN: u32 = 2400;
+
+const MOST_BEGIN: u32 = 12400;
+
+/// The time in µs after which the bus is given up, since it has not come to rest.
+const GIVEN_UP: u32 = 50000;
+
+/// What is heard after a forward frame. It begins with the last edge of that frame, as its sender knows it.
+#[derive(Clone, Copy, Debug, PartialEq, Eq)]
+pub struct Window {
+    /// Reads the edges that come after the forward frame.
+    pub receiver: Receiver,
+    /// How many µs passed from the last edge of the forward frame to the last edge, at most `u32::MAX`.
+    pub elapsed: u32,
+    /// What was heard so far.
+    pub heard: Answer,
+}
+
+fn answer(frame: Frame, begun: u32) -> Answer
+    ensures { result ≡ answer_in frame begun }
+{
+    match frame {
+        Frame::Backward(byte) if LEAST_BEGIN <= begun && begun <= MOST_BEGIN => Answer::Byte(byte),
+        _ => Answer::Damaged,
+    }
+}
+
+fn with(heard: Answer, told: Option<Told>, now: u32) -> Answer
+    ensures { result ≡ heard_after heard told now }
+{
+    match (told, heard) {
+        (None, _) => heard,
+        (Some(told), Answer::Silence) => answer(
+            told.frame,
+            now.saturating_sub(told.since).saturating_sub(told.lasted),
+        ),
+        (Some(_), _) => Answer::Damaged,
+    }
+}
+
+impl Window {
+    /// A window at the last edge of a forward frame.
+    pub fn new() -> Window
+        ensures { result ≡ window_at_first }
+    {
+        Window {
+            receiver: Receiver::new(),
+            elapsed: 0,
+            heard: Answer::Silence,
+        }
+    }
+
+    /// An edge, after which the bus is low or high, so many µs after the last one.
+    pub fn edge(&mut self, is_low: bool, since: u32)
+        ensures reading { self.new.receiver.reading
+            ≡ reading_after self.old.receiver.reading self.old.receiver.is_low is_low since }
+        ensures level { self.new.receiver.is_low ≡ is_low }
+        ensures elapsed { self.new.elapsed ≡ passed self.old since }
+        ensures heard { self.new.heard ≡ heard_with self.old since }
+    {
+        let now = self.elapsed.saturating_add(since);
+        let told = self.receiver.edge(is_low, since);
+        self.heard = with(self.heard, told, now);
+        self.elapsed = now;
+    }
+
+    /// Time passes: so many µs have passed since the last edge. Tells what was heard once the window is over.
+    pub fn time(&mut self, since: u32) -> Option<Answer>
+        ensures reading { self.new.receiver.reading
+            ≡ reading_at self.old.receiver.reading self.old.receiver.is_low since }
+        ensures level { self.new.receiver.is_low ≡ self.old.receiver.is_low }
+        ensures elapsed { self.new.elapsed ≡ self.old.elapsed }
+        ensures heard { self.new.heard ≡ heard_with self.old since }
+        ensures told { result ≡ answer_at self.new (passed self.old since) }
+        ensures ends { 50000 < passed self.old since → IsSome result }
+    {
+        let now = self.elapsed.saturating_add(since);
+        let told = self.receiver.time(since);
+        self.heard = with(self.heard, told, now);
+        match self.receiver.reading {
+            Reading::Idle if now > MOST_BEGIN => Some(self.heard),
+            _ if now > GIVEN_UP => Some(Answer::Damaged),
+            _ => None,
+        }
+    }
+}
