@@ -144,9 +144,8 @@ impl Reading {
             (Reading::First, Span::Short) => Reading::Idle,
             (Reading::First, Span::Half) => Reading::Middle(1),
             (Reading::Middle(bits), Span::Half) => Reading::Between(bits),
-            (Reading::Middle(bits), Span::Whole) | (Reading::Between(bits), Span::Half) => with_bit(
-                bits, is_low,
-            ),
+            (Reading::Middle(bits), Span::Whole) => with_bit(bits, is_low),
+            (Reading::Between(bits), Span::Half) => with_bit(bits, is_low),
             _ => Reading::Spoilt,
         }
     }
