@@ -1,15 +1,16 @@
-use Rattle.std.proofs.Common.{◌≡◌, ℕ, zero, suc, ◌+◌, ◌*◌, ◌<◌, ◌≤◌, Bool, true, false, List, [], ◌∷◌, ◌++◌, Option, Some, None, ◌⊎◌, inl, inr, refl, sym, ap, subst, ◌∙◌, arith, nat_lt, nat_le}
+use Rattle.std.proofs.Common.{◌≡◌, ℕ, zero, suc, ◌+◌, ◌*◌, ◌<◌, ◌≤◌, Bool, true, false, List, [], ◌∷◌}
+use Rattle.std.proofs.Common.{Some, None, ◌⊎◌, inl, inr, refl, sym, ap, subst, arith, nat_lt, nat_le}
 use Rattle.std.specs.Prelude.{if◌then◌else◌}
+use Rattle.std.specs.List.{AllByRecursion}
 use Rattle.dali_wire.specs.declared.receiver.Span.{Span}
-use Rattle.dali_wire.specs.declared.receiver.Span.TheVariants.{Half, Whole}
 use Rattle.dali_wire.specs.declared.receiver.Reading.{Reading}
 use Rattle.dali_wire.specs.declared.receiver.Reading.TheVariants.{Idle, First, Between, Middle, Spoilt}
 use Rattle.dali_wire.specs.declared.receiver.Frame.{Frame}
 use Rattle.dali_wire.specs.declared.receiver.Frame.TheVariants.{Damaged}
 use Rattle.dali_wire.specs.Reception.{span_of, with_bit, read_edge, frame_of, frame_read, ended, reading_at}
-use Rattle.dali_wire.specs.Levels.{levels_of, highs}
-use Rattle.dali_wire.specs.Grid.{Tells, value_of, IsWritten, IsHeard}
-use Rattle.dali_wire.proofs.Spans.{half_is, whole_is, soon, lately, IsLong, long_between, long_middle, long_first}
+use Rattle.dali_wire.specs.Levels.{highs}
+use Rattle.dali_wire.specs.Grid.{Tells, IsWritten, IsHeard, IsPassedOver}
+use Rattle.dali_wire.proofs.Spans.{half_is, whole_is, short_is, soon, IsLong, long_between, long_middle, long_first}
 
 -- WHAT IS TOLD WAS ON THE BUS: a frame that is not damaged is told of the levels of its bits and of a stop condition.
 
@@ -162,11 +163,13 @@ module _ (t : ℕ) (lo : 334 ≤ t) (hi : t ≤ 500) where
   from_middle v l (true ∷ true ∷ levels) f h = inl (low_low v l levels f h)
   from_middle v l (false ∷ false ∷ levels) f h = high_high v l levels f h
   from_middle v l (true ∷ false ∷ levels) f h = go (nat_le 0x1000000 v) (from_middle (2 * v + 1) false levels f) (risen v l levels f h) where
-    go : (b : Bool) → (Tells t (Middle (2 * v + 1)) false t levels f → (f ≡ Damaged) ⊎ IsWritten (2 * v + 1) levels f) → Tells t (if b then Spoilt else Middle (2 * v + 1)) false t levels f → (f ≡ Damaged) ⊎ IsWritten v (true ∷ false ∷ levels) f
+    go : (b : Bool) → (Tells t (Middle (2 * v + 1)) false t levels f → (f ≡ Damaged) ⊎ IsWritten (2 * v + 1) levels f)
+        → Tells t (if b then Spoilt else Middle (2 * v + 1)) false t levels f → (f ≡ Damaged) ⊎ IsWritten v (true ∷ false ∷ levels) f
     go true more next = inl (spoilt_tells t false t levels f next)
     go false more next = with_one v levels f (more next)
   from_middle v l (false ∷ true ∷ levels) f h = go (nat_le 0x1000000 v) (from_middle (2 * v) true levels f) (fallen v l levels f h) where
-    go : (b : Bool) → (Tells t (Middle (2 * v)) true t levels f → (f ≡ Damaged) ⊎ IsWritten (2 * v) levels f) → Tells t (if b then Spoilt else Middle (2 * v)) true t levels f → (f ≡ Damaged) ⊎ IsWritten v (false ∷ true ∷ levels) f
+    go : (b : Bool) → (Tells t (Middle (2 * v)) true t levels f → (f ≡ Damaged) ⊎ IsWritten (2 * v) levels f)
+        → Tells t (if b then Spoilt else Middle (2 * v)) true t levels f → (f ≡ Damaged) ⊎ IsWritten v (false ∷ true ∷ levels) f
     go true more next = inl (spoilt_tells t true t levels f next)
     go false more next = with_zero v levels f (more next)
 
@@ -182,6 +185,10 @@ module _ (t : ℕ) (lo : 334 ≤ t) (hi : t ≤ 500) where
 idle_stays : (b : Bool) → (if b then Idle else Idle) ≡ Idle
 idle_stays true = refl
 idle_stays false = refl
+
+idle_quiet : (b : Bool) → (if b then None else frame_read Idle) ≡ None
+idle_quiet true = refl
+idle_quiet false = refl
 
 idle_tells : (b : Bool) (f : Frame) → (if b then None else None) ≡ Some f → ⊥
 idle_tells true f e = cc
@@ -207,3 +214,15 @@ from_idle t lo hi s (false ∷ levels) f h = further levels f (from_idle t lo hi
 from_idle t lo hi s (true ∷ levels) f h =
     let first = subst (λ (r : Reading). Tells t (read_edge r true (span_of s)) true t levels f) (idle_stays (nat_lt s 2400)) h.1 in
     begun levels f (from_first t lo hi levels f first)
+
+-- noise is passed over
+pub passed_over : (noise : List (ℕ × ℕ)) → AllByRecursion (λ n. n.1 < 334) noise → IsPassedOver Idle noise
+passed_over [] h = refl
+passed_over (n ∷ noise) h =
+    let rests : reading_at Idle false n.0 ≡ Idle = idle_stays (nat_lt n.0 2400) in
+    let more : IsPassedOver (read_edge First false (span_of n.1)) noise =
+    subst (λ (k : Span). IsPassedOver (read_edge First false k) noise) (sym (short_is n.1 h.0)) (passed_over noise h.1) in (
+      idle_quiet (nat_lt n.0 2400),
+      refl,
+      subst (λ (r : Reading). IsPassedOver (read_edge (read_edge r true (span_of n.0)) false (span_of n.1)) noise) (sym rests) more,
+    )

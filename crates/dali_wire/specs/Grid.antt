@@ -1,6 +1,7 @@
-use Rattle.std.specs.Prelude.{◌≡◌, ℕ, zero, suc, ◌+◌, ◌*◌, ◌≤◌, Bool, true, false, Option, Some}
+use Rattle.std.specs.Prelude.{◌≡◌, ℕ, suc, ◌+◌, ◌*◌, ◌≤◌, Bool, true, false, Option, Some}
 use Rattle.std.specs.Prelude.{None, List, [], ◌∷◌, ◌++◌}
 use Rattle.dali_wire.specs.declared.receiver.Reading.{Reading}
+use Rattle.dali_wire.specs.declared.receiver.Reading.TheVariants.{Idle}
 use Rattle.dali_wire.specs.declared.receiver.Frame.{Frame}
 use Rattle.dali_wire.specs.Reception.{ended, reading_after, frame_of}
 use Rattle.dali_wire.specs.Levels.{levels_of, backward_bits, highs}
@@ -34,6 +35,17 @@ Tells t reading was since [] frame = ended reading was since ≡ Some frame
 Tells t reading was since (low ∷ levels) frame =
     (told_before reading was low since ≡ None)
     × Tells t (reading_in reading was low since) low (since_edge t was low since) levels frame
+
+-- NOISE on a bus at rest: highs, and after each a low. Nothing is told, and the bus is at rest
+-- again
+abbrev pub IsPassedOver : Reading → List (ℕ × ℕ) → Type 0
+IsPassedOver reading [] = reading ≡ Idle
+IsPassedOver reading (noise ∷ more) =
+    (ended reading false noise.0 ≡ None)
+    × (ended (reading_after reading false true noise.0) true noise.1 ≡ None)
+    × IsPassedOver
+    (reading_after (reading_after reading false true noise.0) true false noise.1)
+    more
 
 -- ONE ANSWER AMONG OTHERS: it begins at a half bit of its own, and the bus is low wherever it is
 abbrev pub begun_at : ℕ → List Bool → List Bool

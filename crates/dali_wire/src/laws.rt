@@ -10,9 +10,9 @@ ghost use Rattle.dali_frame.specs.declared.frames.Forward.{Forward as Sent};
 ghost use Rattle.dali_wire.specs.declared.receiver.Reading.TheVariants.{Idle, First};
 ghost use Rattle.dali_wire.specs.declared.receiver.Frame.{Frame};
 ghost use Rattle.dali_wire.specs.declared.receiver.Frame.TheVariants.{Forward, Backward, Damaged};
-ghost use Rattle.dali_wire.specs.Reception.{ended, reading_at, reading_after};
+ghost use Rattle.dali_wire.specs.Reception.{ended, reading_at};
 ghost use Rattle.dali_wire.specs.Levels.{levels_of, forward_bits, backward_bits, highs};
-ghost use Rattle.dali_wire.specs.Grid.{Tells, IsHeard, begun_at, Within, bus_of, first_low};
+ghost use Rattle.dali_wire.specs.Grid.{Tells, IsHeard, IsPassedOver, begun_at, Within, bus_of, first_low};
 
 /// Every frame is read back from its levels, once the bus was high for a stop condition.
 pub fn frames_are_read_back()
@@ -39,16 +39,16 @@ pub fn joint_answers_are_one_byte()
         → Tells t Idle false since (bus_of n answers) (Backward byte)
         → AllByRecursion (λ a. (a.0 < n) × (a.1 < 256)) answers
         → AllByRecursion (λ a. (a.0 ≡ first_low (bus_of n answers)) × (a.1 ≡ byte)) answers }
-    ensures one { (t since : ℕ) (bus : List Bool) (byte : ℕ) → 334 ≤ t → t ≤ 500 → Tells t Idle false since bus (Backward byte)
-        → (begin sent : ℕ) → sent < 256 → begin < length bus
+    ensures one { (t since : ℕ) (bus : List Bool) (byte : ℕ) → 334 ≤ t → t ≤ 500
+        → Tells t Idle false since bus (Backward byte) → (begin sent : ℕ) → sent < 256 → begin < length bus
         → Within (begun_at begin (levels_of (backward_bits sent))) bus
         → (sent ≡ byte) × (begin ≡ first_low bus) }
 {}
 
-/// A low that is shorter than a half bit, on a bus at rest, is not told, and the bus is at rest again.
+/// Lows that are shorter than a half bit, on a bus at rest, are not told, however many come and whenever, and the bus
+/// is at rest again.
 pub fn noise_is_not_told()
-    ensures begun { (since : ℕ) → reading_after Idle false true since ≡ First }
-    ensures over { (since : ℕ) → since < 334 → reading_after First true false since ≡ Idle }
-    ensures silent { (since : ℕ) (low : Bool) → (ended Idle low since ≡ None) × (ended First true since ≡ None) }
+    ensures edges { (noise : List (ℕ × ℕ)) → AllByRecursion (λ n. n.1 < 334) noise → IsPassedOver Idle noise }
+    ensures time { (since : ℕ) (low : Bool) → (ended Idle low since ≡ None) × (ended First true since ≡ None) }
     ensures rests { (since : ℕ) (low : Bool) → reading_at Idle low since ≡ Idle }
 {}

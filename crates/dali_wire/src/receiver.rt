@@ -1,4 +1,4 @@
-ghost use Rattle.std.specs.Prelude.{◌≡◌, ℕ};
+ghost use Rattle.std.specs.Prelude.{◌≡◌};
 ghost use Rattle.dali_wire.specs.Reception.{span_of, span_before, with_bit, read_edge, frame_of, frame_read, ended};
 ghost use Rattle.dali_wire.specs.Reception.{reading_at, reading_after, lasted_after, told_of, receiver_at_first};
 

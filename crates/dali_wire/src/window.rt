@@ -1,5 +1,5 @@
-ghost use Rattle.std.specs.Prelude.{◌≡◌, ℕ, ◌<◌, IsSome};
-ghost use Rattle.dali_wire.specs.Reception.{told_of, reading_at, reading_after};
+ghost use Rattle.std.specs.Prelude.{◌≡◌, ◌<◌, IsSome};
+ghost use Rattle.dali_wire.specs.Reception.{reading_at, reading_after};
 ghost use Rattle.dali_wire.specs.Windows.{answer_in, heard_with, heard_after, passed, answer_at, window_at_first};
 
 use crate::receiver::{Frame, Reading, Receiver, Told};

@@ -7,7 +7,6 @@ use dali_wire::{Sender, Window};
 use rand_core::{Rng, SeedableRng};
 use rand_pcg::Pcg32;
 use std::env;
-use std::io::Print;
 use std::process::ExitCode;
 
 /// A gear that answers: its levels, how long each is, and when the next one begins.
