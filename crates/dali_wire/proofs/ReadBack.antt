@@ -16,18 +16,37 @@ use Rattle.dali_wire.proofs.Values.{value_grows, value_back, start_first, is_abo
 
 -- EVERY FRAME IS READ BACK from its levels.
 
-quiet : (r : Reading) (s : ℕ) → s < 2400 → ended r false s ≡ None
+pub quiet : (r : Reading) (s : ℕ) → s < 2400 → ended r false s ≡ None
 quiet r s h = subst (λ (b : Bool). (if b then None else frame_read r) ≡ None) (sym (soon s h)) refl
 
-idle_quiet : (s : ℕ) → ended Idle false s ≡ None
+pub idle_quiet : (s : ℕ) → ended Idle false s ≡ None
 idle_quiet s = go (nat_lt s 2400) where
   go : (b : Bool) → (if b then None else frame_read Idle) ≡ None
   go true = refl
   go false = refl
 
-idle_is : (b : Bool) → Idle ≡ (if b then Idle else Idle)
+pub idle_is : (b : Bool) → Idle ≡ (if b then Idle else Idle)
 idle_is true = refl
 idle_is false = refl
+
+-- which frame the bits of a byte are, and those of a forward frame
+pub byte_told : (byte : ℕ) → byte < 256 → (value_of 1 (bits_of 8 byte) < 0x2000000) × (frame_of (value_of 1 (bits_of 8 byte)) ≡ Backward byte)
+byte_told byte small =
+    let value : value_of 1 (bits_of 8 byte) ≡ 1 * 256 + byte = value_back 8 1 byte small in
+    let frame : frame_of (1 * 256 + byte) ≡ Backward byte = grind (arith, nat_tests) in
+    (omega (arith, value), rw value frame)
+
+pub frame_told : (f : Sent) → f.address_byte < 256 → f.opcode_byte < 256
+    → (value_of 1 (bits_of 16 (256 * f.address_byte + f.opcode_byte)) < 0x2000000)
+    × (frame_of (value_of 1 (bits_of 16 (256 * f.address_byte + f.opcode_byte))) ≡ Forward f)
+frame_told f small smaller =
+    let w : ℕ = 256 * f.address_byte + f.opcode_byte in
+    let value : value_of 1 (bits_of 16 w) ≡ 1 * 65536 + w = value_back 16 1 w (omega arith) in
+    let high : (1 * 65536 + w) / 256 % 256 ≡ f.address_byte = omega arith in
+    let low : (1 * 65536 + w) % 256 ≡ f.opcode_byte = omega arith in
+    let least : nat_le 0x10000 (1 * 65536 + w) ≡ true = is_below 0x10000 (1 * 65536 + w) (omega arith) in
+    let frame : frame_of (1 * 65536 + w) ≡ Forward f = grind (arith, nat_tests) in
+    (omega (arith, value), rw value frame)
 
 -- a stop condition
 rests : (t : ℕ) (r : Reading) (f : Frame) → frame_read r ≡ Some f → (m s : ℕ) → 2400 ≤ s + m * t → Tells t r false s (highs m) f
@@ -103,13 +122,10 @@ module _ (t : ℕ) (lo : 334 ≤ t) (hi : t ≤ 500) where
       → Tells t Idle false s (levels_of (backward_bits byte) ++ highs m) (Backward byte)
   backward_back byte s m small h =
       let bits : backward_bits byte ≡ true ∷ bits_of 8 byte = start_first 8 byte in
-      let value : value_of 1 (bits_of 8 byte) ≡ 1 * 256 + byte = value_back 8 1 byte small in
-      let fits : value_of 1 (bits_of 8 byte) < 0x2000000 = omega (arith, value) in
-      let frame : frame_of (1 * 256 + byte) ≡ Backward byte = grind (arith, nat_tests) in
-      let told : frame_of (value_of 1 (bits_of 8 byte)) ≡ Backward byte = rw value frame in
+      let told = byte_told byte small in
       subst (λ (ls : List Bool). Tells t Idle false s (levels_of ls ++ highs m) (Backward byte)) (sym bits)
-      (subst (λ (f : Frame). Tells t Idle false s (levels_of (true ∷ bits_of 8 byte) ++ highs m) f) told
-      (from_start (bits_of 8 byte) s m fits h))
+      (subst (λ (f : Frame). Tells t Idle false s (levels_of (true ∷ bits_of 8 byte) ++ highs m) f) told.1
+      (from_start (bits_of 8 byte) s m told.0 h))
 
   pub forward_back : (f : Sent) (s m : ℕ) → f.address_byte < 256 → f.opcode_byte < 256 → 2400 ≤ m * t
       → Tells t Idle false s (levels_of (forward_bits f) ++ highs m) (Forward f)
@@ -117,13 +133,7 @@ module _ (t : ℕ) (lo : 334 ≤ t) (hi : t ≤ 500) where
       let w : ℕ = 256 * f.address_byte + f.opcode_byte in
       let same : 0x10000 + 256 * f.address_byte + f.opcode_byte ≡ 0x10000 + w = omega arith in
       let bits : forward_bits f ≡ true ∷ bits_of 16 w = rw same (start_first 16 w) in
-      let value : value_of 1 (bits_of 16 w) ≡ 1 * 65536 + w = value_back 16 1 w (omega arith) in
-      let fits : value_of 1 (bits_of 16 w) < 0x2000000 = omega (arith, value) in
-      let high : (1 * 65536 + w) / 256 % 256 ≡ f.address_byte = omega arith in
-      let low : (1 * 65536 + w) % 256 ≡ f.opcode_byte = omega arith in
-      let least : nat_le 0x10000 (1 * 65536 + w) ≡ true = is_below 0x10000 (1 * 65536 + w) (omega arith) in
-      let frame : frame_of (1 * 65536 + w) ≡ Forward f = grind (arith, nat_tests) in
-      let told : frame_of (value_of 1 (bits_of 16 w)) ≡ Forward f = rw value frame in
+      let told = frame_told f small smaller in
       subst (λ (ls : List Bool). Tells t Idle false s (levels_of ls ++ highs m) (Forward f)) (sym bits)
-      (subst (λ (g : Frame). Tells t Idle false s (levels_of (true ∷ bits_of 16 w) ++ highs m) g) told
-      (from_start (bits_of 16 w) s m fits h))
+      (subst (λ (g : Frame). Tells t Idle false s (levels_of (true ∷ bits_of 16 w) ++ highs m) g) told.1
+      (from_start (bits_of 16 w) s m told.0 h))

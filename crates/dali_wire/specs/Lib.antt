@@ -1,4 +1,5 @@
 pub mod Reception
 pub mod Levels
 pub mod Grid
+pub mod Times
 pub mod Windows

@@ -1,4 +1,5 @@
-use Rattle.std.specs.Prelude.{ℕ, ◌+◌, ◌-◌, ◌^◌, min, Bool, true, false, ◌&&◌, nat_lt, nat_le}
+use Rattle.std.specs.Prelude.{◌≡◌, ◌≤◌, ℕ, ◌+◌, ◌-◌, ◌^◌, min, Bool, true, false}
+use Rattle.std.specs.Prelude.{◌&&◌, nat_lt, nat_le}
 use Rattle.std.specs.Prelude.{Option, Some, None, if◌then◌else◌}
 use Rattle.dali_frame.specs.declared.frames.Answer.{Answer}
 use Rattle.dali_frame.specs.declared.frames.Answer.TheVariants.{Silence, Byte, Damaged}
@@ -25,6 +26,14 @@ heard_after heard None now = heard
 heard_after Silence (Some told) now = answer_in told.frame (now - told.since - told.lasted)
 heard_after (Byte byte) (Some told) now = Damaged
 heard_after Damaged (Some told) now = Damaged
+
+-- a backward frame of this byte that began in its time
+abbrev pub IsInTime : Option Told → ℕ → ℕ → Type 0
+IsInTime None now byte = ⊥
+IsInTime (Some told) now byte =
+    (told.frame ≡ Backward byte)
+    × (2400 ≤ now - told.since - told.lasted)
+    × (now - told.since - told.lasted ≤ 12400)
 
 -- how long the forward frame is over
 abbrev pub passed : Window → ℕ → ℕ

@@ -4,15 +4,21 @@
 //!
 //! These are laws over the definitions that the contracts of this crate cite. Programs don't call them.
 
-ghost use Rattle.std.specs.Prelude.{◌≡◌, ℕ, ◌*◌, ◌<◌, ◌≤◌, ◌⊎◌, Bool, true, false, None, List, ◌++◌, length};
+ghost use Rattle.std.specs.Prelude.{◌≡◌, ℕ, ◌+◌, ◌*◌, ◌<◌, ◌≤◌, ◌⊎◌, Bool, true, false, Option, None};
+ghost use Rattle.std.specs.Prelude.{List, ◌∷◌, ◌++◌, length};
 ghost use Rattle.std.specs.List.{AllByRecursion};
+ghost use Rattle.dali_frame.specs.declared.frames.Answer.{Answer};
+ghost use Rattle.dali_frame.specs.declared.frames.Answer.TheVariants.{Silence, Byte};
 ghost use Rattle.dali_frame.specs.declared.frames.Forward.{Forward as Sent};
 ghost use Rattle.dali_wire.specs.declared.receiver.Reading.TheVariants.{Idle, First};
 ghost use Rattle.dali_wire.specs.declared.receiver.Frame.{Frame};
 ghost use Rattle.dali_wire.specs.declared.receiver.Frame.TheVariants.{Forward, Backward, Damaged};
+ghost use Rattle.dali_wire.specs.declared.receiver.Told.{Told};
 ghost use Rattle.dali_wire.specs.Reception.{ended, reading_at};
-ghost use Rattle.dali_wire.specs.Levels.{levels_of, forward_bits, backward_bits, highs};
+ghost use Rattle.dali_wire.specs.Levels.{bits_of, levels_of, forward_bits, backward_bits, highs};
 ghost use Rattle.dali_wire.specs.Grid.{Tells, IsHeard, IsPassedOver, begun_at, Within, bus_of, first_low};
+ghost use Rattle.dali_wire.specs.Times.{IsHalf, AreTimes, HasRead};
+ghost use Rattle.dali_wire.specs.Windows.{heard_after, IsInTime};
 
 /// Every frame is read back from its levels, once the bus was high for a stop condition.
 pub fn frames_are_read_back()
@@ -21,6 +27,14 @@ pub fn frames_are_read_back()
     ensures forward { (t since rest : ℕ) (f : Sent) → 334 ≤ t → t ≤ 500 → 2400 ≤ rest * t
         → f.address_byte < 256 → f.opcode_byte < 256
         → Tells t Idle false since (levels_of (forward_bits f) ++ highs rest) (Forward f) }
+
+    // The same where each time between two edges is within the tolerance on its own.
+    ensures backward_each { (since first byte : ℕ) (times : List ℕ) → byte < 256
+        → IsHalf first → AreTimes false (bits_of 8 byte) times
+        → HasRead Idle false (since ∷ first ∷ times) (Backward byte) }
+    ensures forward_each { (since first : ℕ) (times : List ℕ) (f : Sent) → f.address_byte < 256 → f.opcode_byte < 256
+        → IsHalf first → AreTimes false (bits_of 16 (256 * f.address_byte + f.opcode_byte)) times
+        → HasRead Idle false (since ∷ first ∷ times) (Forward f) }
 {}
 
 /// A frame that is not damaged is told of these levels alone: highs, a start bit, the bits of the frame, each with a
@@ -43,6 +57,12 @@ pub fn joint_answers_are_one_byte()
         → Tells t Idle false since bus (Backward byte) → (begin sent : ℕ) → sent < 256 → begin < length bus
         → Within (begun_at begin (levels_of (backward_bits sent))) bus
         → (sent ≡ byte) × (begin ≡ first_low bus) }
+{}
+
+/// A window hears a byte only of one backward frame that began in its time, after which it heard nothing.
+pub fn a_byte_is_heard_of_one_frame()
+    ensures { (heard : Answer) (told : Option Told) (now byte : ℕ) → heard_after heard told now ≡ Byte byte
+        → ((heard ≡ Byte byte) × (told ≡ None)) ⊎ ((heard ≡ Silence) × IsInTime told now byte) }
 {}
 
 /// Lows that are shorter than a half bit, on a bus at rest, are not told, however many come and whenever, and the bus
