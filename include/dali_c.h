@@ -23,6 +23,9 @@ extern "C" {
 
 /* The version of the library, whose struct and calls these are. */
 #define DALI_VERSION "0.2.0"
+/* The version of the structs and calls: it counts up with each change of one of them. Compare it with dali_c_version()
+ * once, before the first call. */
+#define DALI_C_VERSION 103
 
 /* How many short addresses there are, and the most records of a kind. */
 #define DALI_ADDRESSES 64
@@ -37,7 +40,7 @@ enum dali_status {
     DALI_OK = 0,
     /* The machine waits for something else (dali_machine_due), or for nothing. */
     DALI_NOT_DUE = 1,
-    /* The struct is no machine's: its bytes are none that a call left there. */
+    /* The struct is no machine's: its bytes are none that a call of this version left there. */
     DALI_NO_MACHINE = 2,
     /* An argument is out of its range, or the addition is no record. */
     DALI_BAD_ARGUMENT = 3,
@@ -50,7 +53,9 @@ enum dali_status {
     /* A record of the same kind has the random address, and none the short address. */
     DALI_RANDOM_TAKEN = 7,
     /* What is released is not reserved so. */
-    DALI_NOT_RESERVED = 8
+    DALI_NOT_RESERVED = 8,
+    /* The struct is no machine of this version: another build of the library left it there, or nobody. */
+    DALI_OTHER_VERSION = 9
 };
 
 /* What a machine is told. */
@@ -93,6 +98,16 @@ enum dali_order_kind {
     DALI_DONE = 3,
     /* The machine has stopped, for a reason of enum dali_fault. */
     DALI_HALT = 4
+};
+
+/* Which frame of a send-twice command a frame is. */
+enum dali_half {
+    /* It is sent once. */
+    DALI_WHOLE = 0,
+    /* The first of two equal frames. */
+    DALI_FIRST_HALF = 1,
+    /* The second, which ends at most 100 ms after the first one began. */
+    DALI_SECOND_HALF = 2
 };
 
 /* Why a commissioning is over. */
@@ -177,6 +192,10 @@ struct dali_order {
     uint8_t priority;
     uint8_t address_byte;
     uint8_t opcode_byte;
+    /* DALI_PUT: 1 where a backward frame is awaited, else 0. */
+    uint8_t asks;
+    /* DALI_PUT: of enum dali_half. */
+    uint8_t half;
     /* DALI_COMMIT: the record. */
     struct dali_record record;
     /* DALI_DONE and DALI_HALT: of enum dali_end, or of enum dali_fault. */
@@ -224,7 +243,7 @@ struct dali_tally {
 /* A machine between two calls. Make one with dali_machine_new; its fields are the library's alone, and only so many
  * bytes to you. */
 struct dali_machine {
-    uint8_t id;
+    uint8_t version;
     uint8_t opened;
     uint8_t tries;
     uint8_t silent;
@@ -253,6 +272,9 @@ struct dali_table {
     struct dali_pair gear[DALI_ADDRESSES];
 };
 
+/* DALI_C_VERSION of the library. */
+uint8_t dali_c_version(void);
+
 /* The records of a controller that has kept none, for a block of short addresses, from `first` to `last`. A block whose
  * first is above its last is empty.
  *
@@ -267,19 +289,19 @@ uint8_t dali_records_new(struct dali_records *records, uint8_t first, uint8_t la
  * that was written. */
 uint8_t dali_records_add(struct dali_records *records, const struct dali_record *addition);
 
-/* A machine that has not started, for the controller with this number, with these records.
+/* A machine that has not started, with these records.
  *
  * DALI_NO_RECORDS: `records` is no controller's records. */
-uint8_t dali_machine_new(struct dali_machine *machine, uint8_t id, const struct dali_records *records);
+uint8_t dali_machine_new(struct dali_machine *machine, const struct dali_records *records);
 
 /* Tells a machine what happened, and gives its next order. `input` is of enum dali_input; `byte` is read with
  * DALI_HEARD_BYTE alone.
  *
- * DALI_NO_MACHINE: `machine` is no machine's. DALI_BAD_ARGUMENT: `input` is none of enum dali_input. DALI_NOT_DUE: the
- * machine waits for something else. */
+ * DALI_OTHER_VERSION, DALI_NO_MACHINE: `machine` is no machine's. DALI_BAD_ARGUMENT: `input` is none of enum
+ * dali_input. DALI_NOT_DUE: the machine waits for something else. */
 uint8_t dali_machine_step(struct dali_machine *machine, uint8_t input, uint8_t byte, struct dali_order *order);
 
-/* Whether `machine` is a machine's. It reads the whole struct once. DALI_NO_MACHINE: it is none.
+/* Whether `machine` is a machine's. It reads the whole struct once. DALI_OTHER_VERSION, DALI_NO_MACHINE: it is none.
  *
  * dali_machine_step is dali_machine_check, and then dali_machine_go. */
 uint8_t dali_machine_check(const struct dali_machine *machine);
@@ -294,14 +316,14 @@ uint8_t dali_machine_go(struct dali_machine *machine, uint8_t input, uint8_t byt
  * DALI_NO_MACHINE: that is no order. */
 uint8_t dali_machine_due(const struct dali_machine *machine, uint8_t *due);
 
-/* What a machine ordered last. DALI_NO_MACHINE: `machine` is no machine's. */
+/* What a machine ordered last. DALI_OTHER_VERSION, DALI_NO_MACHINE: `machine` is no machine's. */
 uint8_t dali_machine_last(const struct dali_machine *machine, struct dali_order *order);
 
 /* The records of a machine: those that it began with, and each that it was told of as committed.
- * DALI_NO_MACHINE: `machine` is no machine's. */
+ * DALI_OTHER_VERSION, DALI_NO_MACHINE: `machine` is no machine's. */
 uint8_t dali_machine_records(const struct dali_machine *machine, struct dali_records *records);
 
-/* The enrolment table of a machine. DALI_NO_MACHINE: `machine` is no machine's. */
+/* The enrolment table of a machine. DALI_OTHER_VERSION, DALI_NO_MACHINE: `machine` is no machine's. */
 uint8_t dali_machine_table(const struct dali_machine *machine, struct dali_table *table);
 
 #ifdef __cplusplus

@@ -17,7 +17,6 @@
 #include <unistd.h>
 
 #define MOST_STEPS 1000000UL
-#define CONTROLLER_ID 0
 #define MILLION 1000000
 
 enum exit_status {
@@ -221,7 +220,7 @@ static int commission(const struct words *words, struct bus *bus, struct store *
     uint32_t frames = bus->frames;
     int status = EXIT_MACHINE;
 
-    if (dali_machine_new(&machine, CONTROLLER_ID, records) != DALI_OK)
+    if (dali_machine_new(&machine, records) != DALI_OK)
         return status;
     stop_on_bus_at(words->kill_after);
     stop_in_store_at(words->kill_in_store);

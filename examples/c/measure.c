@@ -44,7 +44,7 @@ static void course_begin(struct course *course, uint64_t seed)
 {
     bus_new(&course->bus, seed, BUS_MOST_GEAR);
     dali_records_new(&course->records, 0, DALI_ADDRESSES - 1);
-    dali_machine_new(&course->machine, 0, &course->records);
+    dali_machine_new(&course->machine, &course->records);
     course->told = (struct told){DALI_START, 0};
     course->enrolled = 0;
 }
@@ -106,7 +106,7 @@ static void call_records_add(struct course *course)
 
 static void call_machine_new(struct course *course)
 {
-    dali_machine_new(&course->machine, 0, &course->records);
+    dali_machine_new(&course->machine, &course->records);
 }
 
 static void call_records_new(struct course *course)

@@ -57,8 +57,8 @@ static void check_layouts(void)
 {
     CHECK_LAYOUT(dali_record, 5);
     CHECK_LAYOUT(dali_records, 516);
-    CHECK_LAYOUT(dali_order, 10);
-    CHECK_LAYOUT(dali_machine, 638);
+    CHECK_LAYOUT(dali_order, 12);
+    CHECK_LAYOUT(dali_machine, 640);
     CHECK_LAYOUT(dali_table, 257);
 }
 
@@ -99,7 +99,7 @@ static void check_new(const struct dali_records *records, uint8_t status)
     struct dali_machine machine;
 
     memset(&machine, UNTOUCHED, sizeof machine);
-    check(dali_machine_new(&machine, 0, records) == status, "the status of dali_machine_new");
+    check(dali_machine_new(&machine, records) == status, "the status of dali_machine_new");
     check_written(&machine, sizeof machine, status, "what dali_machine_new writes");
 }
 
@@ -117,7 +117,7 @@ static void check_step(struct dali_machine *machine, uint8_t input, uint8_t byte
     check_written(&order, sizeof order, status, "the order of a step");
     if (status != DALI_OK)
         check(memcmp(machine, &before, sizeof before) == 0, "a step refuses and changes");
-    if (status == DALI_NO_MACHINE)
+    if (status == DALI_NO_MACHINE || status == DALI_OTHER_VERSION)
         return;
     check(dali_machine_go(&other, input, byte, &other_order) == status, "the status of dali_machine_go");
     check(memcmp(&other, machine, sizeof other) == 0, "the machine after dali_machine_go");
@@ -154,6 +154,7 @@ static void reach_statuses(void)
     struct dali_records records;
     struct dali_machine machine;
 
+    check(dali_c_version() == DALI_C_VERSION, "the version of the library");
     check_records_new(0, 63, DALI_OK);
     check_records_new(63, 0, DALI_OK);
     check_records_new(64, 0, DALI_BAD_ARGUMENT);
@@ -186,10 +187,13 @@ static void reach_statuses(void)
     check_new(&records, DALI_OK);
 
     memset(&machine, 0xFF, sizeof machine);
+    check_reads(&machine, DALI_OTHER_VERSION);
+    check_step(&machine, DALI_START, 0, DALI_OTHER_VERSION);
+    machine.version = DALI_C_VERSION;
     check_reads(&machine, DALI_NO_MACHINE);
     check_step(&machine, DALI_START, 0, DALI_NO_MACHINE);
     check_step(&machine, DALI_SURVEY + 1, 0, DALI_NO_MACHINE);
-    dali_machine_new(&machine, 0, &records);
+    dali_machine_new(&machine, &records);
     check_reads(&machine, DALI_OK);
     check_step(&machine, DALI_SURVEY + 1, 0, DALI_BAD_ARGUMENT);
     check_step(&machine, DALI_HEARD_SILENCE, 0, DALI_NOT_DUE);
@@ -200,12 +204,15 @@ static void reach_statuses(void)
     check_step(&machine, DALI_COMMITTED, 0, DALI_NOT_DUE);
     check_step(&machine, DALI_SURVEY, 0, DALI_NOT_DUE);
     check_step(&machine, DALI_LAPSED, 0, DALI_OK);
-    dali_machine_new(&machine, 0, &records);
+    dali_machine_new(&machine, &records);
     check_step(&machine, DALI_SURVEY, 0, DALI_OK);
     check_reads(&machine, DALI_OK);
     check_step(&machine, DALI_START, 0, DALI_NOT_DUE);
     check_step(&machine, DALI_HEARD_DAMAGED, 0, DALI_OK);
     check_reads(&machine, DALI_OK);
+    machine.version--;
+    check_reads(&machine, DALI_OTHER_VERSION);
+    check_step(&machine, DALI_HEARD_SILENCE, 0, DALI_OTHER_VERSION);
 }
 
 /* Whether the header has such a code. None of these switches has a default, so that the compiler
@@ -243,10 +250,37 @@ static int is_record_kind(enum dali_record_kind kind)
     return 0;
 }
 
+/* Whether a backward frame is awaited: after COMPARE, VERIFY SHORT ADDRESS, QUERY SHORT ADDRESS, and QUERY RANDOM
+ * ADDRESS (H), (M) and (L). */
+static int is_question(const struct dali_order *order)
+{
+    switch (order->address_byte) {
+    case 0xA9:
+    case 0xB9:
+    case 0xBB:
+        return 1;
+    default:
+        return order->address_byte < 0x80 && order->address_byte % 2 == 1 && order->opcode_byte >= 0xC2
+               && order->opcode_byte <= 0xC4;
+    }
+}
+
+/* Which half of a pair a frame is, by the order before it and by what was told of that. */
+static int half_after(const struct dali_order *before, const struct told *told, const struct dali_order *order)
+{
+    int heard = told->input >= DALI_HEARD_SILENCE && told->input <= DALI_HEARD_DAMAGED;
+    int again = before->address_byte == order->address_byte && before->opcode_byte == order->opcode_byte;
+
+    /* INITIALISE and RANDOMISE. */
+    if (order->kind != DALI_PUT || (order->address_byte != 0xA5 && order->address_byte != 0xA7))
+        return DALI_WHOLE;
+    return heard && again && before->half == DALI_FIRST_HALF ? DALI_SECOND_HALF : DALI_FIRST_HALF;
+}
+
 /* The codes of an order that a step gives, and nothing in what its kind does not name. */
 static int is_order(const struct dali_order *order)
 {
-    struct dali_order plain = {order->kind, 0, 0, 0, {0, {0, {0, 0, 0}}}, 0};
+    struct dali_order plain = {order->kind, 0, 0, 0, 0, 0, {0, {0, {0, 0, 0}}}, 0};
     int is_one = 0;
 
     switch ((enum dali_order_kind)order->kind) {
@@ -254,7 +288,10 @@ static int is_order(const struct dali_order *order)
         plain.priority = order->priority;
         plain.address_byte = order->address_byte;
         plain.opcode_byte = order->opcode_byte;
-        is_one = order->priority == DALI_FIRST_PRIORITY || order->priority == DALI_LATER_PRIORITY;
+        plain.asks = (uint8_t)is_question(order);
+        plain.half = order->half;
+        is_one = (order->priority == DALI_FIRST_PRIORITY || order->priority == DALI_LATER_PRIORITY)
+                 && order->half <= DALI_SECOND_HALF;
         break;
     case DALI_COMMIT:
         plain.record = order->record;
@@ -321,10 +358,11 @@ static void try_machine(const struct dali_machine *given, uint8_t input, uint8_t
     struct dali_records records;
     struct dali_table table;
     uint8_t due = UNTOUCHED;
+    uint8_t refusal = machine.version == DALI_C_VERSION ? DALI_NO_MACHINE : DALI_OTHER_VERSION;
 
     if (dali_machine_check(&machine) != DALI_OK) {
-        check_reads(&machine, DALI_NO_MACHINE);
-        check_step(&machine, input, byte, DALI_NO_MACHINE);
+        check_reads(&machine, refusal);
+        check_step(&machine, input, byte, refusal);
         return;
     }
     check_reads(&machine, DALI_OK);
@@ -367,7 +405,7 @@ static void try_records(const struct dali_records *given, const struct dali_reco
 
     check(status != DALI_NOT_DUE && status != DALI_NO_MACHINE && status <= DALI_NOT_RESERVED,
           "the status of an addition");
-    check((dali_machine_new(&machine, 0, given) == DALI_OK) == (status != DALI_NO_RECORDS),
+    check((dali_machine_new(&machine, given) == DALI_OK) == (status != DALI_NO_RECORDS),
           "what are records");
     if (status != DALI_OK) {
         check(memcmp(&records, given, sizeof records) == 0, "a refused addition changes");
@@ -395,7 +433,8 @@ static void collect(struct dali_machine *machines, uint64_t seed)
 {
     struct dali_records records;
     struct dali_machine machine;
-    struct dali_order order;
+    struct dali_order order = {DALI_NOTHING_ORDERED, 0, 0, 0, 0, 0, {0, {0, {0, 0, 0}}}, 0};
+    struct dali_order before;
     struct bus bus;
     struct told told = {DALI_START, 0};
     int every = 40;
@@ -404,16 +443,18 @@ static void collect(struct dali_machine *machines, uint64_t seed)
     bus_new(&bus, seed, 30);
     bus.troubles = (struct troubles){3000, 3000, 3000, 3000, 3000, 300};
     dali_records_new(&records, 4, 40);
-    dali_machine_new(&machine, 7, &records);
+    dali_machine_new(&machine, &records);
     while (steps < MACHINES * every) {
         if (steps % every == 0)
             machines[steps / every] = machine;
         steps++;
+        before = order;
         if (dali_machine_step(&machine, told.input, told.byte, &order) != DALI_OK) {
             check(0, "a step of a commissioning");
             return;
         }
         check(is_order(&order), "the codes of an order");
+        check(order.half == half_after(&before, &told, &order), "which half of a pair a frame is");
         switch ((enum dali_order_kind)order.kind) {
         case DALI_PUT:
             told = bus_send(&bus, order.address_byte, order.opcode_byte);
@@ -425,7 +466,7 @@ static void collect(struct dali_machine *machines, uint64_t seed)
         case DALI_HALT:
         case DALI_NOTHING_ORDERED:
             dali_machine_records(&machine, &records);
-            dali_machine_new(&machine, 7, &records);
+            dali_machine_new(&machine, &records);
             told.input = DALI_SURVEY;
             break;
         }

@@ -151,9 +151,9 @@ def library(module: pathlib.Path, folder: pathlib.Path, level: str, marks: colle
 
 
 def declared() -> tuple[list[str], list[str]]:
-    """The structs of the header, and its calls."""
+    """The structs of the header, and its calls that work on one."""
     text = re.sub(r"/\*.*?\*/", "", (INCLUDE / "dali_c.h").read_text(), flags=re.S)
-    calls = re.findall(r"^\w+ (dali_\w+)\(", text, re.M)
+    calls = re.findall(r"^\w+ (dali_\w+)\((?!void\))", text, re.M)
     return re.findall(r"^struct (\w+) \{", text, re.M), calls
 
 

@@ -1,4 +1,4 @@
-use Rattle.std.specs.Prelude.{◌≡◌, ℕ, ◌↔◌, Some, IfSome}
+use Rattle.std.specs.Prelude.{◌≡◌, ℕ, ◌==◌, ◌↔◌, Some, IfSome, if◌then◌else◌}
 use Rattle.dali_script.specs.declared.records.Record.{Record}
 use Rattle.dali_script.specs.declared.orders.Input.{Input}
 use Rattle.dali_script.specs.declared.orders.Order.{Order}
@@ -7,8 +7,8 @@ use Rattle.dali_script.specs.Records.{IsAddressTaken, IsRandomTaken, IsNotReserv
 use Rattle.dali_script.specs.Due.{record_ordered}
 use Rattle.dali_controller.specs.Machine.{Machine}
 use Rattle.dali_controller.specs.Orders.{IsGiven, machine_after}
-use Rattle.dali_c.specs.Orders.{order_of, HasNoMore}
-use Rattle.dali_c.specs.Machines.{Holds}
+use Rattle.dali_c.specs.Orders.{order_of, HasNoMore, IsSentSo}
+use Rattle.dali_c.specs.Machines.{VERSION, Holds}
 use Rattle.dali_c.specs.declared.machine.PlainMachine.{PlainMachine}
 use Rattle.dali_c.specs.declared.orders.PlainOrder.{PlainOrder}
 
@@ -40,6 +40,13 @@ RANDOM_TAKEN = 7
 abbrev pub NOT_RESERVED : ℕ
 NOT_RESERVED = 8
 
+abbrev pub OTHER_VERSION : ℕ
+OTHER_VERSION = 9
+
+-- what is answered of a struct that holds no machine
+abbrev pub refusal : PlainMachine → ℕ
+refusal p = if p.state.version == VERSION then NO_MACHINE else OTHER_VERSION
+
 -- what is answered where a record is to be added to records
 pub record AnswersAdd (k : Kept) (x : Record) (status : ℕ) : Type 0 where
   pub ok : (status ≡ OK) ↔ (Fits k.block x × MayAdd k x)
@@ -55,6 +62,7 @@ pub record Steps (m : Machine) (i : Input) (after : PlainMachine) (order : Plain
   pub ordered : Order
   pub spelled : order_of order ≡ Some (Some ordered)
   pub more : HasNoMore order (Some ordered)
+  pub sent : IsSentSo order (machine_after m i ordered).trace (Some ordered)
   pub given : IsGiven m i ordered
   pub state : Holds after (machine_after m i ordered)
   pub fits : IfSome (record_ordered (Some ordered)) (Fits m.kept.block)

@@ -6,6 +6,8 @@ use Rattle.dali_script.specs.declared.orders.Input.{Input}
 use Rattle.dali_script.specs.declared.orders.Input.TheVariants as input
 use Rattle.dali_script.specs.declared.orders.Due.{Due}
 use Rattle.dali_script.specs.declared.orders.Due.TheVariants as due
+use Rattle.dali_sending.specs.declared.sending.Half.{Half}
+use Rattle.dali_sending.specs.declared.sending.Half.TheVariants.{Whole, First, Second}
 
 -- THE CODES, as the header has them.
 
@@ -39,6 +41,12 @@ due_code due.Start = 0
 due_code due.Bus = 1
 due_code due.Store = 2
 due_code due.Nothing = 3
+
+-- enum dali_half
+abbrev pub half_code : Half → ℕ
+half_code Whole = 0
+half_code First = 1
+half_code Second = 2
 
 abbrev pub bool_of : ℕ → Option Bool
 bool_of c =

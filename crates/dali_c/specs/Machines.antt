@@ -1,4 +1,4 @@
-use Rattle.std.specs.Prelude.{◌≡◌, Some, length}
+use Rattle.std.specs.Prelude.{◌≡◌, ℕ, Some, length}
 use Rattle.dali_search.specs.Least.{Search, lowest}
 use Rattle.dali_search.specs.Narrowing.{IsSearch}
 use Rattle.dali_controller.specs.declared.leg.Leg.{Leg}
@@ -21,6 +21,10 @@ use Rattle.dali_c.specs.Entries.{IsPlainTrace}
 use Rattle.dali_c.specs.Records.{kept_of, AreRecords}
 use Rattle.dali_c.specs.declared.state.PlainState.{PlainState}
 use Rattle.dali_c.specs.declared.machine.PlainMachine.{PlainMachine}
+
+-- DALI_C_VERSION
+abbrev pub VERSION : ℕ
+VERSION = 103
 
 -- its three numbers are those of this search, and so of no other
 pub record IsPlainSearch (p : PlainState) (s : Search) : Type 0 where
@@ -48,9 +52,11 @@ pub record FillsLeg (p : PlainState) (l : Leg) : Type 0 where
   pub search : IsPlainSearch p (search_on l)
   pub ascent : IsPlainAscent p.ascent (ascent_on l)
 
--- each field of struct dali_machine but its records stands for a part of this
+-- each field of struct dali_machine but its records stands for a part of this; in C a machine has
+-- no number
 pub record Spells (p : PlainState) (s : State) : Type 0 where
-  pub id : s.id ≡ p.id
+  pub version : p.version ≡ VERSION
+  pub id : s.id ≡ 0
   pub tries : s.tries ≡ p.tries
   pub silent : s.silent ≡ p.silent
   pub purpose : purpose_of p.purpose p.detail ≡ Some s.purpose

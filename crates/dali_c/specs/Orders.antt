@@ -1,12 +1,16 @@
-use Rattle.std.specs.Prelude.{◌≡◌, ℕ, ◌==◌, ◌&&◌, nat_le, Option, Some, None, option_map}
+use Rattle.std.specs.Prelude.{◌≡◌, ℕ, ◌==◌, ◌&&◌, nat_le, List, Option, Some, None, option_map}
 use Rattle.std.specs.Prelude.{if◌then◌else◌}
+use Rattle.dali_special.specs.Command.{command_of}
 use Rattle.dali_script.specs.declared.records.Record.{Record}
 use Rattle.dali_script.specs.declared.orders.Order.{Order}
 use Rattle.dali_script.specs.declared.orders.Order.TheVariants.{Put, Commit, Done, Halt}
 use Rattle.dali_script.specs.declared.finding.Finding.{Finding}
 use Rattle.dali_script.specs.declared.finding.Finding.TheVariants.{Queried, Resolved}
 use Rattle.dali_script.specs.Records.{Assignment}
+use Rattle.dali_script.specs.declared.trace.Entry.{Entry}
 use Rattle.dali_script.specs.Names.{record_by, end_by, fault_by}
+use Rattle.dali_sending.specs.Sending.{is_question, half_in}
+use Rattle.dali_c.specs.Codes.{bool_of, half_code}
 use Rattle.dali_c.specs.Pairs.{read_pair}
 use Rattle.dali_c.specs.declared.orders.PlainRecord.{PlainRecord}
 use Rattle.dali_c.specs.declared.orders.PlainOrder.{PlainOrder}
@@ -42,7 +46,8 @@ order_of o = if o.kind == 0 then Some None else option_map (λ x. Some x) (given
 
 -- WHAT THE KIND OF AN ORDER DOES NOT NAME is 0.
 abbrev pub HasNoFrame : PlainOrder → Type 0
-HasNoFrame x = (x.priority ≡ 0) × (x.address_byte ≡ 0) × (x.opcode_byte ≡ 0)
+HasNoFrame x =
+    (x.priority ≡ 0) × (x.address_byte ≡ 0) × (x.opcode_byte ≡ 0) × (x.asks ≡ 0) × (x.half ≡ 0)
 
 abbrev pub HasNoRecord : PlainOrder → Type 0
 HasNoRecord x = (x.record.kind ≡ 0) × (x.record.pair ≡ (0, 0))
@@ -53,6 +58,16 @@ HasNoMore x (Some (Put p f)) = HasNoRecord x × (x.reason ≡ 0)
 HasNoMore x (Some (Commit r)) = HasNoFrame x × (x.reason ≡ 0)
 HasNoMore x (Some (Done e)) = HasNoFrame x × HasNoRecord x
 HasNoMore x (Some (Halt w)) = HasNoFrame x × HasNoRecord x
+
+-- HOW A FRAME IS SENT that is put after these frames of its transaction: whether a backward frame
+-- is awaited, and which frame of a pair it is.
+abbrev pub IsSentSo : PlainOrder → List Entry → Option Order → Type 0
+IsSentSo x before (Some (Put p f)) =
+    (bool_of x.asks ≡ Some (is_question (command_of f))) × (x.half ≡ half_code (half_in before f))
+IsSentSo x before (Some (Commit r)) = Unit {0}
+IsSentSo x before (Some (Done e)) = Unit {0}
+IsSentSo x before (Some (Halt w)) = Unit {0}
+IsSentSo x before None = Unit {0}
 
 -- struct dali_finding: kind 0 is none, 1 by QUERY SHORT ADDRESS, 2 by QUERY RANDOM ADDRESS
 abbrev pub finding_by : ℕ → Assignment → Option (Option Finding)

@@ -12,21 +12,29 @@ ghost use Rattle.dali_controller.specs.Orders.{IsGiven, machine_after};
 ghost use Rattle.dali_controller.specs.States.{machine_with};
 ghost use Rattle.dali_controller.specs.Whole.{IsWhole};
 ghost use Rattle.dali_c.specs.Codes.{input_of, due_code};
-ghost use Rattle.dali_c.specs.Orders.{record_of, order_of, HasNoMore};
+ghost use Rattle.dali_c.specs.Orders.{record_of, order_of, HasNoMore, IsSentSo};
 ghost use Rattle.dali_c.specs.Records.{kept_of, AreRecords};
-ghost use Rattle.dali_c.specs.Machines.{IsRead, Holds};
-ghost use Rattle.dali_c.specs.Calls.{AnswersAdd, Steps, OK, NOT_DUE, NO_MACHINE, BAD_ARGUMENT, NO_RECORDS};
+ghost use Rattle.dali_c.specs.Machines.{VERSION, IsRead, Holds};
+ghost use Rattle.dali_c.specs.Calls.{AnswersAdd, Steps, refusal, OK, NOT_DUE, NO_MACHINE, BAD_ARGUMENT, NO_RECORDS};
 ghost use Rattle.dali_c.specs.Calls.{DOES_NOT_FIT, ADDRESS_TAKEN, RANDOM_TAKEN, NOT_RESERVED};
 
 use crate::codes::{due_code, input_of};
 use crate::machine::PlainMachine;
 use crate::orders::{PlainOrder, PlainRecord};
 use crate::records::PlainRecords;
-use crate::state::PlainState;
+use crate::state::{PlainState, VERSION};
 use crate::status;
 use dali_controller::State;
 use dali_frame::Short;
 use dali_script::{AddError, Block, Due, Input, Order, Pairs, Record, Records};
+
+/// The version of the structs and calls.
+#[unsafe(no_mangle)]
+pub extern "C" fn dali_c_version() -> u8
+    ensures { result ≡ VERSION }
+{
+    VERSION
+}
 
 /// The records of a controller that has kept none, for a block of short addresses.
 #[unsafe(no_mangle)]
@@ -86,18 +94,18 @@ fn addition_status(kept: &Records<'_>, added: &Record) -> u8
     }
 }
 
-/// A machine that has not started, for the controller with this number, with these records.
+/// A machine that has not started, with these records.
 #[unsafe(no_mangle)]
-pub extern "C" fn dali_machine_new(machine: &mut PlainMachine, id: u8, records: &PlainRecords) -> u8
+pub extern "C" fn dali_machine_new(machine: &mut PlainMachine, records: &PlainRecords) -> u8
     ensures status { (result ≡ OK) ↔ AreRecords records.now }
     ensures refused { (result ≡ OK) ⊎ (result ≡ NO_RECORDS) }
-    ensures machine { result ≡ OK → Holds machine.new (at_first id (kept_of records.now)) }
+    ensures machine { result ≡ OK → Holds machine.new (at_first 0 (kept_of records.now)) }
     ensures untouched { (result ≡ OK → ⊥) → machine.new ≡ machine.old }
 {
     let Some(_) = records.read() else {
         return status::NO_RECORDS;
     };
-    machine.state = PlainState::of(&State::new(id));
+    machine.state = PlainState::of(&State::new(0));
     machine.records = *records;
     status::OK
 }
@@ -106,13 +114,13 @@ pub extern "C" fn dali_machine_new(machine: &mut PlainMachine, id: u8, records: 
 #[unsafe(no_mangle)]
 pub extern "C" fn dali_machine_check(machine: &PlainMachine) -> u8
     ensures machine { result ≡ OK → (m : Machine) × Holds machine.now m }
-    ensures no_machine { ((m : Machine) → Holds machine.now m → ⊥) → result ≡ NO_MACHINE }
+    ensures no_machine { ((m : Machine) → Holds machine.now m → ⊥) → result ≡ refusal machine.now }
     ensures held { (m : Machine) → Holds machine.now m → result ≡ OK }
-    ensures named { (result ≡ OK) ⊎ (result ≡ NO_MACHINE) }
+    ensures named { (result ≡ OK) ⊎ (result ≡ refusal machine.now) }
 {
     match machine.read() {
         Some(_) => status::OK,
-        None => status::NO_MACHINE,
+        None => machine.refusal(),
     }
 }
 
@@ -129,14 +137,14 @@ pub extern "C" fn dali_machine_step(
     ensures not_due { (m : Machine) → (i : Input) → Holds machine.old m → input_of input byte ≡ Some i
         → accepts (due_after m.last) i ≡ false → result ≡ NOT_DUE }
     ensures bad { (m : Machine) → Holds machine.old m → input_of input byte ≡ None → result ≡ BAD_ARGUMENT }
-    ensures no_machine { ((m : Machine) → Holds machine.old m → ⊥) → result ≡ NO_MACHINE }
-    ensures held { (result ≡ NO_MACHINE → ⊥) → (m : Machine) × Holds machine.old m }
-    ensures named { (result ≡ OK) ⊎ (result ≡ NOT_DUE) ⊎ (result ≡ NO_MACHINE) ⊎ (result ≡ BAD_ARGUMENT) }
+    ensures no_machine { ((m : Machine) → Holds machine.old m → ⊥) → result ≡ refusal machine.old }
+    ensures held { (result ≡ refusal machine.old → ⊥) → (m : Machine) × Holds machine.old m }
+    ensures named { (result ≡ OK) ⊎ (result ≡ NOT_DUE) ⊎ (result ≡ refusal machine.old) ⊎ (result ≡ BAD_ARGUMENT) }
     ensures untouched { (result ≡ OK → ⊥) → (machine.new ≡ machine.old) × (order.new ≡ order.old) }
 {
     match machine.read() {
         Some(state) => go_on(machine, state, input, byte, order),
-        None => status::NO_MACHINE,
+        None => machine.refusal(),
     }
 }
 
@@ -187,9 +195,9 @@ fn go_on(
     };
     let mut running = state;
     match step(&mut running, &mut machine.records, told) {
-        Some(ordered) => {
+        Some(_) => {
             machine.state = PlainState::of(&running);
-            *order = PlainOrder::of(Some(ordered));
+            *order = machine.state.last;
             status::OK
         }
         None => status::NOT_DUE,
@@ -239,16 +247,17 @@ pub extern "C" fn dali_machine_due(machine: &PlainMachine, due: &mut u8) -> u8
 #[unsafe(no_mangle)]
 pub extern "C" fn dali_machine_last(machine: &PlainMachine, order: &mut PlainOrder) -> u8
     ensures last { (m : Machine) → Holds machine.now m
-        → (result ≡ OK) × (order_of order.new ≡ Some m.last) × HasNoMore order.new m.last }
-    ensures no_machine { ((m : Machine) → Holds machine.now m → ⊥) → result ≡ NO_MACHINE }
+        → (result ≡ OK) × (order_of order.new ≡ Some m.last) × HasNoMore order.new m.last
+        × IsSentSo order.new m.trace m.last }
+    ensures no_machine { ((m : Machine) → Holds machine.now m → ⊥) → result ≡ refusal machine.now }
     ensures held { result ≡ OK → (m : Machine) × Holds machine.now m }
-    ensures named { (result ≡ OK) ⊎ (result ≡ NO_MACHINE) }
+    ensures named { (result ≡ OK) ⊎ (result ≡ refusal machine.now) }
     ensures untouched { (result ≡ OK → ⊥) → order.new ≡ order.old }
 {
     let Some(read) = machine.read() else {
-        return status::NO_MACHINE;
+        return machine.refusal();
     };
-    *order = PlainOrder::of(read.last);
+    *order = PlainOrder::of(read.last, read.trace.entries());
     status::OK
 }
 
@@ -257,13 +266,13 @@ pub extern "C" fn dali_machine_last(machine: &PlainMachine, order: &mut PlainOrd
 pub extern "C" fn dali_machine_records(machine: &PlainMachine, records: &mut PlainRecords) -> u8
     ensures records { (m : Machine) → Holds machine.now m
         → (result ≡ OK) × AreRecords records.new × (kept_of records.new ≡ m.kept) }
-    ensures no_machine { ((m : Machine) → Holds machine.now m → ⊥) → result ≡ NO_MACHINE }
+    ensures no_machine { ((m : Machine) → Holds machine.now m → ⊥) → result ≡ refusal machine.now }
     ensures held { result ≡ OK → (m : Machine) × Holds machine.now m }
-    ensures named { (result ≡ OK) ⊎ (result ≡ NO_MACHINE) }
+    ensures named { (result ≡ OK) ⊎ (result ≡ refusal machine.now) }
     ensures untouched { (result ≡ OK → ⊥) → records.new ≡ records.old }
 {
     let Some(_) = machine.read() else {
-        return status::NO_MACHINE;
+        return machine.refusal();
     };
     *records = machine.records;
     status::OK
@@ -274,13 +283,13 @@ pub extern "C" fn dali_machine_records(machine: &PlainMachine, records: &mut Pla
 pub extern "C" fn dali_machine_table(machine: &PlainMachine, table: &mut Pairs) -> u8
     ensures table { (m : Machine) → Holds machine.now m
         → (result ≡ OK) × (pairs_in table.new ≡ m.kept.enrolled) }
-    ensures no_machine { ((m : Machine) → Holds machine.now m → ⊥) → result ≡ NO_MACHINE }
+    ensures no_machine { ((m : Machine) → Holds machine.now m → ⊥) → result ≡ refusal machine.now }
     ensures held { result ≡ OK → (m : Machine) × Holds machine.now m }
-    ensures named { (result ≡ OK) ⊎ (result ≡ NO_MACHINE) }
+    ensures named { (result ≡ OK) ⊎ (result ≡ refusal machine.now) }
     ensures untouched { (result ≡ OK → ⊥) → table.new ≡ table.old }
 {
     let Some(_) = machine.read() else {
-        return status::NO_MACHINE;
+        return machine.refusal();
     };
     *table = machine.records.enrolled;
     status::OK

@@ -1,10 +1,11 @@
 //! The codes of what a machine is told and of what it answers with.
 
 ghost use Rattle.std.specs.Prelude.{◌≡◌, Some};
-ghost use Rattle.dali_c.specs.Codes.{answer_of, input_of, bool_of, due_code};
+ghost use Rattle.dali_c.specs.Codes.{answer_of, input_of, bool_of, due_code, half_code};
 
 use dali_frame::Answer;
 use dali_script::{Due, Input};
+use dali_sending::Half;
 
 /// What was heard.
 pub(crate) fn answer_of(code: u8, byte: u8) -> Option<Answer>
@@ -56,6 +57,17 @@ pub(crate) fn due_code(due: Due) -> u8
     }
 }
 
+/// Which frame of a pair a frame is.
+pub(crate) fn half_code(half: Half) -> u8
+    ensures { result ≡ half_code half }
+{
+    match half {
+        Half::Whole => 0,
+        Half::First => 1,
+        Half::Second => 2,
+    }
+}
+
 /// 0 is no, 1 is yes.
 pub(crate) fn bool_of(code: u8) -> Option<bool>
     ensures { result ≡ bool_of code }
@@ -65,4 +77,11 @@ pub(crate) fn bool_of(code: u8) -> Option<bool>
         1 => Some(true),
         _ => None,
     }
+}
+
+/// The code of no or yes.
+pub(crate) fn bool_code(is_so: bool) -> u8
+    ensures { bool_of result ≡ Some is_so }
+{
+    u8::from(is_so)
 }

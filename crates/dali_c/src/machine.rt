@@ -1,11 +1,13 @@
 //! A machine as plain bytes.
 
-ghost use Rattle.std.specs.Prelude.{MatchOption};
+ghost use Rattle.std.specs.Prelude.{◌≡◌, MatchOption};
 ghost use Rattle.dali_controller.specs.Machine.{Machine};
 ghost use Rattle.dali_c.specs.Machines.{IsRead, Holds};
+ghost use Rattle.dali_c.specs.Calls.{refusal};
 
 use crate::records::PlainRecords;
-use crate::state::PlainState;
+use crate::state::{PlainState, VERSION};
+use crate::status;
 use dali_controller::State;
 
 /// A machine between two inputs: its state, and the records that it goes by.
@@ -29,6 +31,17 @@ impl PlainMachine {
             Some(state)
         } else {
             None
+        }
+    }
+
+    /// Why it is refused where it is none.
+    pub(crate) fn refusal(&self) -> u8
+        ensures { result ≡ refusal self.now }
+    {
+        if self.state.version == VERSION {
+            status::NO_MACHINE
+        } else {
+            status::OTHER_VERSION
         }
     }
 }

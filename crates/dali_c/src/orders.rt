@@ -1,11 +1,14 @@
 //! Records, orders and findings as plain bytes.
 
 ghost use Rattle.std.specs.Prelude.{◌≡◌, Some, None};
-ghost use Rattle.dali_c.specs.Orders.{record_of, order_of, finding_of, HasNoMore};
+ghost use Rattle.dali_c.specs.Orders.{record_of, order_of, finding_of, HasNoMore, IsSentSo};
 
+use crate::codes::{bool_code, half_code};
 use crate::pairs::read_pair;
 use dali_frame::{Forward, Priority};
-use dali_script::{End, Fault, Finding, Order, Pair, Record};
+use dali_script::{End, Entry, Fault, Finding, Order, Pair, Record};
+use dali_sending::{half_in, is_question};
+use dali_special::Command;
 
 /// A record: the code of its kind (`Record::code`), and its pair.
 #[repr(C)]
@@ -33,7 +36,8 @@ impl PlainRecord {
     }
 }
 
-/// An order: kind 0 is none yet, 1 a put, 2 a commit, 3 done, 4 halt.
+/// An order: kind 0 is none yet, 1 a put, 2 a commit, 3 done, 4 halt. How a frame is sent is written and not read: the
+/// frame, and those before it, say so.
 #[repr(C)]
 #[derive(Clone, Copy)]
 pub struct PlainOrder {
@@ -41,6 +45,8 @@ pub struct PlainOrder {
     pub priority: u8,
     pub address_byte: u8,
     pub opcode_byte: u8,
+    pub asks: u8,
+    pub half: u8,
     pub record: PlainRecord,
     pub reason: u8,
 }
@@ -56,6 +62,8 @@ impl PlainOrder {
             priority: 0,
             address_byte: 0,
             opcode_byte: 0,
+            asks: 0,
+            half: 0,
             record: PlainRecord {
                 kind: 0,
                 pair: Pair::default(),
@@ -64,25 +72,30 @@ impl PlainOrder {
         }
     }
 
-    pub(crate) fn of(last: Option<Order>) -> PlainOrder
+    /// `before` are the frames of its transaction that were sent before.
+    pub(crate) fn of(last: Option<Order>, before: &[Entry]) -> PlainOrder
         ensures spelled { order_of result ≡ Some last }
         ensures more { HasNoMore result last }
+        ensures sent { IsSentSo result before.now last }
     {
         match last {
             None => PlainOrder::empty(0),
-            Some(order) => PlainOrder::ordered(order),
+            Some(order) => PlainOrder::ordered(order, before),
         }
     }
 
-    fn ordered(order: Order) -> PlainOrder
+    fn ordered(order: Order, before: &[Entry]) -> PlainOrder
         ensures spelled { order_of result ≡ Some (Some order) }
         ensures more { HasNoMore result (Some order) }
+        ensures sent { IsSentSo result before.now (Some order) }
     {
         match order {
             Order::Put(priority, frame) => PlainOrder {
                 priority: priority.number(),
                 address_byte: frame.address_byte,
                 opcode_byte: frame.opcode_byte,
+                asks: bool_code(is_question(Command::read(frame))),
+                half: half_code(half_in(before, frame)),
                 ..PlainOrder::empty(1)
             },
             Order::Commit(added) => PlainOrder {

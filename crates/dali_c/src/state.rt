@@ -5,9 +5,10 @@ ghost use Rattle.dali_search.specs.Least.{Search};
 ghost use Rattle.dali_controller.specs.declared.leg.Leg.{Leg};
 ghost use Rattle.dali_controller.specs.declared.state.State.{State};
 ghost use Rattle.dali_c.specs.Machines.{IsPlainSearch, IsPlainLeg, FillsLeg, Spells};
+ghost use Rattle.dali_c.specs.Orders.{HasNoMore, IsSentSo};
 
 use crate::ascents::PlainAscent;
-use crate::codes::bool_of;
+use crate::codes::{bool_code, bool_of};
 use crate::entries::{FRAMES, PlainEntry, read_trace, write_entries};
 use crate::orders::{PlainFinding, PlainOrder};
 use crate::pairs::PlainRandom;
@@ -17,13 +18,16 @@ use crate::tallies::PlainTally;
 use dali_controller::{Leg, State, Way};
 use dali_search::Search;
 
+/// The version of the structs and calls, `DALI_C_VERSION` of the header. It counts up with each change of one of them.
+pub(crate) const VERSION: u8 = 103;
+
 /// A machine without its records. Its fields are those of [`State`], with the leg in parts: `opened` and `way` say
 /// which it is; `from`, `asked`, a search as three numbers and an ascent are what legs have. The set `heard` is the
-/// bytes of its number, the least first.
+/// bytes of its number, the least first. In C a machine has no number.
 #[repr(C)]
 #[derive(Clone, Copy)]
 pub struct PlainState {
-    pub id: u8,
+    pub version: u8,
     pub opened: u8,
     pub tries: u8,
     pub silent: u8,
@@ -47,15 +51,18 @@ pub struct PlainState {
 
 impl PlainState {
     pub(crate) fn of(state: &State) -> PlainState
+        requires { state.now.id ≡ 0 }
         ensures spells { Spells result state.now }
         ensures more { FillsLeg result state.now.leg }
+        ensures ordered { HasNoMore result.last state.now.last }
+        ensures sent { IsSentSo result.last state.now.trace state.now.last }
     {
         let (purpose, detail) = purpose_code(state.purpose);
         let entries = state.trace.entries();
         let search = state.leg.search();
         PlainState {
-            id: state.id,
-            opened: u8::from(state.leg.is_searching()),
+            version: VERSION,
+            opened: bool_code(state.leg.is_searching()),
             tries: state.tries,
             silent: state.silent,
             from: state.leg.from(),
@@ -67,7 +74,7 @@ impl PlainState {
             probe: PlainRandom::of(search.probe()),
             ascent: PlainAscent::of(&state.leg.ascent()),
             finding: PlainFinding::of(state.finding),
-            last: PlainOrder::of(state.last),
+            last: PlainOrder::of(state.last, entries),
             way: way_code(state.leg.way()),
             asked: state.leg.silences(),
             heard: shorts_bytes(state.heard),
@@ -82,6 +89,9 @@ impl PlainState {
         ensures spelled { IfSome result (Spells self.now) }
         ensures none { IfNone result ((s : State) → Spells self.now s → ⊥) }
     {
+        if self.version != VERSION {
+            return None;
+        }
         let purpose = purpose_of(self.purpose, self.detail)?;
         let finding = self.finding.read()?;
         let last = self.last.read()?;
@@ -89,7 +99,7 @@ impl PlainState {
         let tally = self.tally.read()?;
         let trace = read_trace(&self.entries, self.entry_count)?;
         Some(State {
-            id: self.id,
+            id: 0,
             trace,
             finding,
             last,

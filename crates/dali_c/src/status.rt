@@ -18,3 +18,5 @@ pub(crate) const ADDRESS_TAKEN: u8 = 6;
 pub(crate) const RANDOM_TAKEN: u8 = 7;
 /// What is released is not reserved.
 pub(crate) const NOT_RESERVED: u8 = 8;
+/// The struct is one of another version of the library.
+pub(crate) const OTHER_VERSION: u8 = 9;

@@ -5,38 +5,16 @@ use Rattle.std.specs.Io.KnownBytes.{Consumes}
 use Rattle.dali_frame.specs.declared.frames.Forward.{Forward}
 use Rattle.dali_frame.specs.declared.frames.Answer.TheVariants.{Silence, Byte, Damaged}
 use Rattle.dali_frame.specs.Hex.{forward_text, forward_of, byte_text, byte_of}
-use Rattle.dali_special.specs.declared.command.Command.{Command}
-use Rattle.dali_special.specs.declared.command.Command.TheVariants.{Compare, Verify, QueryShort}
-use Rattle.dali_special.specs.declared.command.Command.TheVariants.{RandomByte, Terminate}
-use Rattle.dali_special.specs.declared.command.Command.TheVariants.{Initialise, Randomise, Withdraw}
-use Rattle.dali_special.specs.declared.command.Command.TheVariants.{SearchHigh, SearchMiddle}
-use Rattle.dali_special.specs.declared.command.Command.TheVariants.{SearchLow, Program, Arc, Other}
 use Rattle.dali_special.specs.Command.{command_of}
 use Rattle.dali_script.specs.declared.orders.Input.{Input}
 use Rattle.dali_script.specs.declared.orders.Input.TheVariants.{Start, Survey, Heard}
 use Rattle.dali_script.specs.declared.orders.Input.TheVariants.{Destroyed, Lapsed, Committed}
 use Rattle.dali_script.specs.declared.orders.Input.TheVariants.{CommitFailed}
-use Rattle.dali_commissioning.specs.declared.lines.Half.{Half}
-use Rattle.dali_commissioning.specs.declared.lines.Half.TheVariants.{Whole, First, Second}
+use Rattle.dali_sending.specs.Sending.{is_question}
+use Rattle.dali_sending.specs.declared.sending.Half.{Half}
+use Rattle.dali_sending.specs.declared.sending.Half.TheVariants.{Whole, First, Second}
 
 -- THE LINES between the program and its driver, each with a line feed at its end.
-
--- whether a backward frame is awaited after a frame
-abbrev pub is_question : Command → Bool
-is_question Compare = true
-is_question (Verify a) = true
-is_question QueryShort = true
-is_question (RandomByte a part) = true
-is_question Terminate = false
-is_question (Initialise target) = false
-is_question Randomise = false
-is_question Withdraw = false
-is_question (SearchHigh byte) = false
-is_question (SearchMiddle byte) = false
-is_question (SearchLow byte) = false
-is_question (Program a) = false
-is_question (Arc f) = false
-is_question (Other f) = false
 
 abbrev pub asked_text : Bool → List ℕ
 asked_text true = codes " ask"

@@ -1,7 +1,6 @@
 use Rattle.std.specs.Prelude.{◌≡◌, ℕ, List, [], ◌∷◌, ◌++◌, Bool, true, false, Option, Some, None}
-use Rattle.std.specs.Prelude.{◌==◌, ◌&&◌, ◌||◌, if◌then◌else◌}
+use Rattle.std.specs.Prelude.{◌||◌}
 use Rattle.dali_frame.specs.declared.frames.Forward.{Forward}
-use Rattle.dali_special.specs.Command.{command_of, is_send_twice}
 use Rattle.dali_script.specs.declared.records.Record.{Record}
 use Rattle.dali_script.specs.declared.orders.Input.{Input}
 use Rattle.dali_script.specs.declared.orders.Input.TheVariants.{Start, Survey, Heard}
@@ -12,8 +11,7 @@ use Rattle.dali_script.specs.declared.orders.Order.TheVariants.{Put, Commit, Don
 use Rattle.dali_script.specs.Due.{due_after, accepts, record_ordered}
 use Rattle.dali_controller.specs.Machine.{Machine}
 use Rattle.dali_controller.specs.Orders.{IsAnswered, machine_after}
-use Rattle.dali_commissioning.specs.declared.lines.Half.{Half}
-use Rattle.dali_commissioning.specs.declared.lines.Half.TheVariants.{Whole, First, Second}
+use Rattle.dali_sending.specs.Sending.{half_of, opens}
 use Rattle.dali_commissioning.specs.Lines.{put_text, told_of}
 
 -- THE STEPS of a machine: what it was told, and what it ordered then. The last step stands first.
@@ -49,23 +47,7 @@ last_order (s ∷ before) = Some s.order
 
 -- ---------------------------------------------------------------- pairs
 
--- whether this frame is the one that waits for its second one
-abbrev pub is_open : Option Forward → Forward → Bool
-is_open (Some g) f = (g.address_byte == f.address_byte) && (g.opcode_byte == f.opcode_byte)
-is_open None f = false
-
--- which frame of a pair a frame is, where this first one of a pair was heard right before it
-abbrev pub half_of : Option Forward → Forward → Half
-half_of waiting f =
-    if is_send_twice (command_of f)
-    then if is_open waiting f then Second else First
-    else Whole
-
--- the first frame of a pair that waits behind a frame, once it is heard
-abbrev pub opens : Half → Forward → Option Forward
-opens First f = Some f
-opens _ f = None
-
+-- the first frame of a pair that waits behind the frame of an order, once it is heard
 abbrev pub opened_by : Option Forward → Option Order → Option Forward
 opened_by waiting (Some (Put p f)) = opens (half_of waiting f) f
 opened_by waiting (Some (Commit x)) = None

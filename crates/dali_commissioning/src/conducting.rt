@@ -8,7 +8,8 @@ ghost use Rattle.dali_script.specs.Records.{Fits};
 ghost use Rattle.dali_script.specs.Due.{due_after, accepts, record_ordered};
 ghost use Rattle.dali_script.specs.declared.orders.Due.TheVariants as due;
 ghost use Rattle.dali_script.specs.declared.orders.Order.TheVariants.{Put};
-ghost use Rattle.dali_commissioning.specs.Steps.{IsStep, half_of, is_open, opens, if_heard, opened_by};
+ghost use Rattle.dali_sending.specs.Sending.{opens};
+ghost use Rattle.dali_commissioning.specs.Steps.{IsStep, if_heard, opened_by};
 ghost use Rattle.dali_commissioning.specs.Drivers.{writer_of, talk_of};
 ghost use Rattle.dali_commissioning.specs.Steps.{order_line, record_told, is_kept};
 ghost use Rattle.dali_commissioning.specs.Conducted.{Hears, Commits, MayCommit, Stays, IsAt, IsLeft, HasTaken};
@@ -16,13 +17,12 @@ ghost use Rattle.dali_commissioning.specs.Conducted.{order_of};
 
 use crate::driver::{DriverFault, DriverLink};
 use crate::fault::CommissionFault;
-use crate::lines::Half;
 use crate::watch::Watch;
 use dali_controller::{Machine, Shorts, Tally};
 use dali_frame::{Forward, Priority};
 use dali_reserve::{Keep, KeepError};
 use dali_script::{End, Fault, Finding, Input, Order, Record};
-use dali_special::Command;
+use dali_sending::{Half, half_of, opens};
 use std::io::{Read, Write};
 
 /// How a machine ended that was conducted.
@@ -48,47 +48,18 @@ pub struct PassEnd {
     pub tally: Tally,
 }
 
-/// Which frame of a pair a frame is, where this first one of a pair was heard right before it.
-fn half_of(waiting: Option<Forward>, frame: Forward) -> Half
-    ensures { result ≡ half_of waiting frame }
-{
-    if !Command::read(frame).is_send_twice() {
-        return Half::Whole;
-    }
-    if is_open(waiting, frame) {
-        Half::Second
-    } else {
-        Half::First
-    }
-}
-
-fn is_open(waiting: Option<Forward>, frame: Forward) -> bool
-    ensures { result ≡ is_open waiting frame }
-{
-    match waiting {
-        Some(first) => {
-            first.address_byte == frame.address_byte && first.opcode_byte == frame.opcode_byte
-        }
-        None => false,
-    }
-}
-
 /// The first frame of a pair that waits behind a frame, by what was told of it.
 fn waits_behind(half: Half, frame: Forward, told: Input) -> Option<Forward>
     ensures { result ≡ if_heard told (opens half frame) }
 {
-    match (half, told) {
-        (Half::First, Input::Heard(_)) => Some(frame),
-        (
-            Half::First,
-            Input::Start
-            | Input::Survey
-            | Input::Destroyed
-            | Input::Lapsed
-            | Input::Committed
-            | Input::CommitFailed,
-        )
-        | (Half::Whole | Half::Second, _) => None,
+    match told {
+        Input::Heard(_) => opens(half, frame),
+        Input::Start
+        | Input::Survey
+        | Input::Destroyed
+        | Input::Lapsed
+        | Input::Committed
+        | Input::CommitFailed => None,
     }
 }
 

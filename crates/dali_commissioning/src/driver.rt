@@ -4,10 +4,11 @@
 ghost use Rattle.std.specs.Prelude.{◌≡◌, ◌≢◌};
 ghost use Rattle.dali_commissioning.specs.Drivers.{is_answer};
 
-use crate::lines::{Half, push_put, told_of};
+use crate::lines::{push_put, told_of};
 use arrayvec::ArrayVec;
 use dali_frame::{Answer, Forward, Priority};
 use dali_script::Input;
+use dali_sending::Half;
 use std::alloc::{AllocError, Global};
 use std::error::Error;
 use std::fmt;

@@ -5,45 +5,13 @@ ghost use Rattle.std.specs.Prelude.{◌≡◌, ◌++◌, true, OnOk, IfSome, str
 ghost use Rattle.dali_script.specs.Due.{accepts};
 ghost use Rattle.dali_script.specs.declared.orders.Due.TheVariants as due;
 ghost use Rattle.dali_frame.specs.Hex.{byte_of};
-ghost use Rattle.dali_commissioning.specs.Lines.{is_question, asked_text, half_text, put_text, told_byte, told_of};
+ghost use Rattle.dali_commissioning.specs.Lines.{asked_text, half_text, put_text, told_byte, told_of};
 
 use dali_frame::{Answer, Forward, Priority};
 use dali_script::Input;
+use dali_sending::{Half, is_question};
 use dali_special::Command;
 use std::alloc::AllocError;
-
-/// Which frame of a pair a frame is. INITIALISE and RANDOMISE are executed only where they are sent twice within
-/// 100 ms.
-#[derive(Clone, Copy)]
-pub enum Half {
-    /// A frame that is sent once.
-    Whole,
-    /// The first of two equal frames.
-    First,
-    /// The second, which is to end at most 100 ms after the first.
-    Second,
-}
-
-/// Whether a backward frame is awaited after a frame of this command.
-pub(crate) fn is_question(command: Command) -> bool
-    ensures { result ≡ is_question command }
-{
-    match command {
-        Command::Compare | Command::Verify(_) | Command::QueryShort | Command::RandomByte(..) => {
-            true
-        }
-        Command::Terminate
-        | Command::Initialise(_)
-        | Command::Randomise
-        | Command::Withdraw
-        | Command::SearchHigh(_)
-        | Command::SearchMiddle(_)
-        | Command::SearchLow(_)
-        | Command::Program(_)
-        | Command::Arc(_)
-        | Command::Other(_) => false,
-    }
-}
 
 fn asked_name(asks: bool) -> &'static str
     ensures { result.now ≡ asked_text asks }

@@ -120,7 +120,7 @@ static int ready_table(struct course *it, struct arguments *arguments)
 static int ready_machine_new(struct course *it, struct arguments *arguments)
 {
     dali_machine_records(&it->machine, &it->records);
-    *arguments = (struct arguments){{AT(it->other_machine), 0, AT(it->records)}};
+    *arguments = (struct arguments){{AT(it->other_machine), AT(it->records)}};
     return 1;
 }
 
@@ -365,7 +365,7 @@ static int is_commissioned(void)
 /* A machine with these records takes steps until it has ended. */
 static void run(uint8_t start)
 {
-    must(dali_machine_new(&course.machine, 0, &course.records) == DALI_OK, "no machine");
+    must(dali_machine_new(&course.machine, &course.records) == DALI_OK, "no machine");
     course.told = (struct told){start, 0};
     do {
         uint32_t counts[2];

@@ -1,4 +1,4 @@
-use Rattle.std.proofs.Common.{sym}
+use Rattle.std.proofs.Common.{ap, sym}
 use Rattle.dali_c.specs.Records.{kept_of}
 use Rattle.dali_c.proofs.calls.dali_machine_new.Goals as goal
 
@@ -10,3 +10,6 @@ returns-clause-machine c ok =
       held = record { spells = c.of-machine.ensures.spells; records = c.in-Some.ensures.0; whole = c.new.ensures.whole k };
       is = sym (c.new.ensures.first k);
     }
+
+pub of-machine-requires : goal.of-machine-requires
+of-machine-requires c = ap (λ m. m.id) (c.new.ensures.first (kept_of c.args.records.now))

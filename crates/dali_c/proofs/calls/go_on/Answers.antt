@@ -1,6 +1,7 @@
 use Rattle.std.proofs.Common.{◌≡◌, Some, refl, sym, subst, ◌∙◌}
 use Rattle.dali_controller.specs.Machine.{Machine}
 use Rattle.dali_controller.specs.States.{machine_with}
+use Rattle.dali_c.specs.Orders.{order_of, HasNoMore, IsSentSo}
 use Rattle.dali_c.specs.Calls.{Steps}
 use Rattle.dali_c.specs.Records.{kept_of}
 use Rattle.dali_c.specs.declared.machine.PlainMachine.{PlainMachine}
@@ -10,11 +11,14 @@ pub returns-in-Some-step-clause-done : goal.returns-in-Some-step-clause-done
 returns-in-Some-step-clause-done c m i holds is due =
     let k = kept_of c.args.machine.now.records in
     let after : PlainMachine = record { state = c.of-machine.result; records = c.step.new.records } in
+    let last = c.of-machine.result.last in
+    let after_is = c.in-Some-step.ensures.state in
     let told : c.in-Some.told ≡ i = (let same : Some c.in-Some.told ≡ Some i = sym c.in-Some.is ∙ c.input_of.ensures ∙ is in cc) in
-    let steps : Steps (machine_with c.args.state k) c.in-Some.told after c.of.result = record {
-      ordered = c.in-Some-step.ordered;
-      spelled = c.of.ensures.spelled;
-      more = c.of.ensures.more;
+    let steps : Steps (machine_with c.args.state k) c.in-Some.told after last = record {
+      ordered = c.in-Some-step.field-0;
+      spelled = subst (λ n. order_of last ≡ Some n.last) after_is c.of-machine.ensures.spells.last;
+      more = subst (λ n. HasNoMore last n.last) after_is c.of-machine.ensures.ordered;
+      sent = subst (λ n. IsSentSo last n.trace n.last) after_is c.of-machine.ensures.sent;
       given = c.in-Some-step.ensures.given;
       state = record {
         state = c.step.new.state;
@@ -24,6 +28,6 @@ returns-in-Some-step-clause-done c m i holds is due =
       fits = c.in-Some-step.ensures.fits;
     } in (
       refl,
-      subst (λ j. Steps m j after c.of.result) told
-          (subst (λ (n : Machine). Steps n c.in-Some.told after c.of.result) (sym (c.requires.once m holds)) steps),
+      subst (λ j. Steps m j after last) told
+          (subst (λ (n : Machine). Steps n c.in-Some.told after last) (sym (c.requires.once m holds)) steps),
     )
