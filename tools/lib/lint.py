@@ -256,18 +256,21 @@ def edits(root: pathlib.Path) -> Iterator[str]:
 
 
 def version(root: pathlib.Path) -> Iterator[str]:
-    """The version is the same in the code, in the header for C, in the help that is there before a build, and on top of the changelog."""
-    places = {
+    """The version is the same in the code, in the header for C, in the help that is there before a build, and on top of the changelog; that of
+    the structs for C is the same in the code and in the header."""
+    program = {
         "crates/dali_words/src/program.rt": r'VERSION: &str = "(.*)"',
         "include/dali_c.h": r'#define DALI_VERSION "(.*)"',
         "CHANGELOG.md": r"(?m)^## (\d.*)",
         **{f"tools/lib/help/{it}-version.txt": rf"{it} (.*)" for it in ("dali_sim", "dali_commission")},
     }
-    found = {name: re.search(it, (root / name).read_text()) for name, it in places.items() if (root / name).exists()}
-    wanted = next((it[1] for it in found.values() if it), None)
-    for name, it in found.items():
-        if not it or it[1] != wanted:
-            yield f"{name}: {it and it[1]} is not the version {wanted}"
+    structs = {"crates/dali_c/src/state.rt": r"VERSION: u8 = (\d+);", "include/dali_c.h": r"#define DALI_C_VERSION (\d+)\n"}
+    for places in (program, structs):
+        found = {name: re.search(it, (root / name).read_text()) for name, it in places.items() if (root / name).exists()}
+        wanted = next((it[1] for it in found.values() if it), None)
+        for name, it in found.items():
+            if not it or it[1] != wanted:
+                yield f"{name}: {it and it[1]} is not the version {wanted}"
 
 
 def readmes(root: pathlib.Path) -> Iterator[str]:

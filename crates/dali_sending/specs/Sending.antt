@@ -46,7 +46,7 @@ abbrev pub opens : Half → Forward → Option Forward
 opens First f = Some f
 opens _ f = None
 
--- the first frame of a pair that waits behind these frames of a transaction, all of which were heard
+-- the first frame of a pair that waits behind these frames of a transaction, which were all heard
 abbrev pub waiting_in : Option Forward → List Entry → Option Forward
 waiting_in waiting [] = waiting
 waiting_in waiting (e ∷ t) = waiting_in (opens (half_of waiting e.frame) e.frame) t

@@ -1,0 +1,152 @@
+/* The records of one controller in two pages of flash. */
+#include "pages.h"
+
+/* The first byte of a slot: that of a head, or the kind of a record. */
+#define HEAD 0xDA
+#define BLANK 0xFF
+#define CHECKED 5
+
+/* CRC-16 with the polynomial 1021, begun at FFFF. */
+static uint16_t check_of(const uint8_t *slot)
+{
+    uint16_t check = 0xFFFF;
+
+    for (int at = 0; at < CHECKED; at++) {
+        check ^= (uint16_t)(slot[at] << 8);
+        for (int bit = 0; bit < 8; bit++)
+            check = (uint16_t)(check & 0x8000 ? check << 1 ^ 0x1021 : check << 1);
+    }
+    return check;
+}
+
+static int write_slot(int page, int slot, const uint8_t *bytes)
+{
+    uint16_t check = check_of(bytes);
+    uint8_t whole[SLOT_BYTES] = {bytes[0], bytes[1], bytes[2], bytes[3], bytes[4], (uint8_t)(check >> 8), (uint8_t)check, 0};
+
+    return flash_write(page, slot, whole);
+}
+
+static const uint8_t *slot_at(int page, int slot)
+{
+    return flash_page(page) + slot * SLOT_BYTES;
+}
+
+static int is_whole(const uint8_t *slot)
+{
+    return slot[7] == 0 && check_of(slot) == (slot[5] << 8 | slot[6]);
+}
+
+static int is_blank(const uint8_t *slot)
+{
+    for (int at = 0; at < SLOT_BYTES; at++) {
+        if (slot[at] != BLANK)
+            return 0;
+    }
+    return 1;
+}
+
+static int is_blank_from(int page, int slot)
+{
+    while (slot < PAGE_SLOTS && is_blank(slot_at(page, slot)))
+        slot++;
+    return slot == PAGE_SLOTS;
+}
+
+static int has_head(int page)
+{
+    const uint8_t *head = slot_at(page, 0);
+
+    return is_whole(head) && head[0] == HEAD && head[1] == DALI_C_VERSION;
+}
+
+static uint16_t age_of(int page)
+{
+    const uint8_t *head = slot_at(page, 0);
+
+    return (uint16_t)(head[2] << 8 | head[3]);
+}
+
+static int write_record(int page, int slot, uint8_t kind, const struct dali_pair *pair)
+{
+    uint8_t bytes[CHECKED] = {kind, pair->short_address, pair->random_address.high, pair->random_address.middle,
+                              pair->random_address.low};
+
+    return write_slot(page, slot, bytes);
+}
+
+/* Writes what stands into the other page, which is the store once its head is there. */
+static int write_anew(struct pages *pages, const struct dali_records *standing)
+{
+    int page = 1 - pages->page;
+    uint16_t age = (uint16_t)(pages->age + 1);
+    uint8_t head[CHECKED] = {HEAD, DALI_C_VERSION, (uint8_t)(age >> 8), (uint8_t)age, 0};
+    int slot = 1;
+
+    if (!flash_erase(page))
+        return 0;
+    for (int at = 0; at < standing->reserved.count; at++) {
+        if (!write_record(page, slot++, DALI_RESERVE, &standing->reserved.pairs[at]))
+            return 0;
+    }
+    for (int at = 0; at < standing->enrolled.count; at++) {
+        if (!write_record(page, slot++, DALI_ENROL, &standing->enrolled.pairs[at]))
+            return 0;
+    }
+    if (!write_slot(page, 0, head))
+        return 0;
+    pages->page = page;
+    pages->age = age;
+    pages->slot = slot;
+    return 1;
+}
+
+/* Finds the page that is the store. Without one there was none yet, where no record was ever written. */
+static enum pages_status find(struct pages *pages)
+{
+    int newer = (int16_t)(uint16_t)(age_of(1) - age_of(0)) > 0;
+
+    pages->page = has_head(1) && (newer || !has_head(0)) ? 1 : 0;
+    pages->age = 0;
+    pages->slot = 1;
+    if (has_head(pages->page))
+        pages->age = age_of(pages->page);
+    else if (!is_blank_from(0, 1) || !is_blank_from(1, 1))
+        return PAGES_DAMAGED;
+    else
+        pages->slot = PAGE_SLOTS;
+    return PAGES_OPEN;
+}
+
+static enum pages_status read_all(struct pages *pages, struct dali_records *records)
+{
+    const uint8_t *slot = slot_at(pages->page, pages->slot);
+
+    while (pages->slot < PAGE_SLOTS && is_whole(slot)) {
+        struct dali_record record = {slot[0], {slot[1], {slot[2], slot[3], slot[4]}}};
+
+        if (dali_records_add(records, &record) != DALI_OK)
+            return PAGES_REFUSED;
+        slot = slot_at(pages->page, ++pages->slot);
+    }
+    /* The last one may be cut off, and nothing stands behind it. */
+    return pages->slot == PAGE_SLOTS || is_blank_from(pages->page, pages->slot + 1) ? PAGES_OPEN : PAGES_DAMAGED;
+}
+
+enum pages_status pages_open(struct pages *pages, struct dali_records *records)
+{
+    enum pages_status status = find(pages);
+
+    if (status == PAGES_OPEN)
+        status = read_all(pages, records);
+    if (status == PAGES_OPEN && !write_anew(pages, records))
+        status = PAGES_FAILED;
+    return status;
+}
+
+int pages_keep(struct pages *pages, const struct dali_records *standing, const struct dali_record *record)
+{
+    if (pages->slot == PAGE_SLOTS && !write_anew(pages, standing))
+        return 0;
+    return write_record(pages->page, pages->slot++, record->kind, &record->pair);
+}

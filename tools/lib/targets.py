@@ -1,0 +1,216 @@
+"""How the library for C is built for other processors than that of the kit, and how a program in C is linked with it and run.
+
+The kit builds the library for Linux on x86-64. What it hands to its clang is LLVM's form of the proved library, and that is
+compiled here for each other processor, by the same clang.
+"""
+
+import collections.abc
+import pathlib
+import re
+import shlex
+import shutil
+import subprocess
+import time
+import typing
+
+from lib import ROOT, proving
+
+BARE = ROOT / "tools/lib/bare"
+EXAMPLE = ROOT / "examples" / "c"
+FIRMWARE = ROOT / "examples" / "firmware"
+INCLUDE = ROOT / "include"
+PLACE = ROOT / "out" / "firmware"
+MOST_SECONDS = 600
+# A simulated board, whose processor takes 128 ns for each instruction, which tools/lib/bare/program.c knows.
+BOARD = ["qemu-system-arm", "-icount", "shift=7,sleep=off", "-nographic", "-monitor", "none", "-serial", "none"]
+BOARD += ["-chardev", "stdio,id=said", "-semihosting-config", "enable=on,target=native,chardev=said"]
+BOUND = re.compile(r"\bframe-bytes=(\d+) stack-bytes=(\d+)(?!\+)\b")
+
+
+class Failed(Exception):
+    """What cannot be built, linked or run, and why."""
+
+
+class Target(typing.NamedTuple):
+    """A processor: LLVM's name of it, words of the compiler, what a program begins with and how it is linked, the command
+    that runs it, and Debian's package of that."""
+
+    triple: str
+    words: list[str]
+    start: list[pathlib.Path]
+    link: list[str | pathlib.Path]
+    run: list[str]
+    package: str = ""
+
+
+ARM = [BARE / "support.c", BARE / "memory.c"], ["-T", BARE / "program.ld", "-e", "reset"]
+LINUX = [BARE / "linux.c", BARE / "memory.c"], ["-e", "begin"]
+SYSTEM = "qemu-system-arm"
+# The first is the kit's own.
+TARGETS = {
+    "x86_64-linux": Target("x86_64-unknown-linux-gnu", [], *LINUX, []),
+    "aarch64-linux": Target("aarch64-unknown-linux-gnu", [], *LINUX, ["qemu-aarch64"], "qemu-user"),
+    "thumbv6m": Target("thumbv6m-none-eabi", [], *ARM, [*BOARD, "-M", "mps2-an385", "-kernel"], SYSTEM),
+    "thumbv7em": Target("thumbv7em-none-eabi", [], *ARM, [*BOARD, "-M", "mps2-an386", "-kernel"], SYSTEM),
+    "riscv32": Target("riscv32-unknown-elf", ["-march=rv32imac", "-mabi=ilp32"], *LINUX, ["qemu-riscv32"], "qemu-user"),
+}
+KIT = TARGETS["x86_64-linux"]
+
+
+def missing(targets: collections.abc.Iterable[Target]) -> list[str]:
+    """What is not there and is needed, with Debian's name of it."""
+    wanted = {it.run[0]: it.package for it in targets if it.run}
+    found = [f"{name}: install Debian's package {package}" for name, package in wanted.items() if not shutil.which(name)]
+    return found + ([] if shutil.which("rt") else ["rt: README.md says how the Rattle kit is set up"])
+
+
+def run(words: collections.abc.Sequence[str | pathlib.Path], **how: typing.Any) -> str:
+    """What a command writes to its standard output."""
+    how = {"stdin": subprocess.DEVNULL, "stdout": subprocess.PIPE, "stderr": subprocess.PIPE, "text": True, **how}
+    done = subprocess.run([str(it) for it in words], **how)
+    if done.returncode != 0:
+        wrote = (done.stdout + (done.stderr or ""))[-4000:]
+        raise Failed(f"{shlex.join(map(str, words))}\nended with status {done.returncode}:\n{wrote}")
+    return done.stdout
+
+
+def clang() -> str:
+    return f"{proving.kit_folder()}/toolchain/bin/clang"
+
+
+def kit_tool(name: str, *words: str | pathlib.Path) -> str:
+    """A tool of LLVM, which the kit's clang is by another name."""
+    return run([name, *words], executable=clang())
+
+
+# The library as LLVM reads it.
+
+
+def built_module(title: str) -> tuple[pathlib.Path, str]:
+    """The library as the kit hands it to its clang, and the kit's own bound of the stack; proved and made where it is
+    missing or older than its sources. Beside it stands the library that the kit builds, `built.a`."""
+    crate, kit = proving.workspace()["dali_c"], proving.kit()
+    module, kept = PLACE / "module.bc", PLACE / "kept"
+    if not (kept.is_file() and kept.read_text().startswith(f"{kit}\n") and is_newest(crate, kept)):
+        if proving.build(title, [it.name for it in crate.below]) != 0:
+            raise Failed("the crates below dali_c are not proved")
+        shutil.rmtree(PLACE, ignore_errors=True)
+        PLACE.mkdir(parents=True)
+        begun = time.time()
+        bound = make_module(title, crate)
+        if crate.is_edited(begun):
+            raise Failed("dali_c was edited while it was proved: run this again")
+        kept.write_text(f"{kit}\n{bound}")
+    return module, kept.read_text().partition("\n")[2]
+
+
+def is_newest(crate: proving.Crate, kept: pathlib.Path) -> bool:
+    """Whether no source of the library or of the crates below it is newer."""
+    sources = [file for it in [*crate.below, crate] for file in it.sources()]
+    return all(file.stat().st_mtime <= kept.stat().st_mtime for file in sources)
+
+
+def make_module(title: str, crate: proving.Crate) -> str:
+    """Proves the library, and has both back ends build it. The bound of the stack that the kit tells."""
+    rattle, words = [f"{proving.kit_folder()}/bin/rattle"], [*proving.read_words(crate), "--crate-type", "staticlib"]
+    proving.say(f"{title}: proving dali_c")
+    jobs = proving.proof_words(crate, min(proving.processors(), 4))
+    run([*rattle, "check", *words, *jobs, "-o", PLACE / "checked"], cwd=crate.folder)
+    words += ["--crate-checked", PLACE / "checked", "--toolchain", toolchain()]
+    run([*rattle, "build", *words, "-o", PLACE / "built.a"], cwd=crate.folder)
+    built = [*rattle, "build", *words, "-o", PLACE / "other.a", "--backend", "rattle"]
+    told = BOUND.search(run(built, cwd=crate.folder, stderr=subprocess.STDOUT))
+    return f"at most {int(told[2]):,}, with frames of at most {int(told[1]):,}" if told else ""
+
+
+def toolchain() -> pathlib.Path:
+    """A folder as the kit's own, whose clang keeps the module that it is handed."""
+    kit, folder = proving.kit_folder() / "toolchain", PLACE / "toolchain"
+    shutil.rmtree(folder, ignore_errors=True)
+    (folder / "bin").mkdir(parents=True)
+    (folder / "lib").symlink_to(kit / "lib")
+    for file in (kit / "bin").iterdir():
+        (folder / "bin" / file.name).symlink_to(file)
+    wrapper = folder / "bin" / "clang"
+    wrapper.unlink()
+    keep = f'for word; do case "$word" in *.bc) cp "$word" {shlex.quote(str(PLACE / "module.bc"))} ;; esac; done'
+    wrapper.write_text(f'#!/bin/sh\n{keep}\nexec {shlex.quote(clang())} "$@"\n')
+    wrapper.chmod(0o755)
+    return folder
+
+
+def as_text(words: collections.abc.Sequence[str | pathlib.Path], made: pathlib.Path) -> str:
+    """What clang writes as LLVM's text."""
+    run([clang(), *words, "-S", "-emit-llvm", "-o", made])
+    return made.read_text()
+
+
+def retargeted(target: Target, module: pathlib.Path, folder: pathlib.Path, marks: collections.abc.Sequence[str]) -> str:
+    """LLVM's text of the library for another processor, each of its functions with these marks."""
+    empty = folder / "empty.c"
+    empty.write_text("")
+    lines = as_text([f"--target={target.triple}", *target.words, empty], folder / "empty.ll")
+    layout, triple = (re.search(rf"^target {it} = .*$", lines, re.M)[0] for it in ("datalayout", "triple"))
+    text = as_text(["-x", "ir", module, "-O0", "-Xclang", "-disable-llvm-passes"], folder / "read.ll")
+    text = re.sub(r"^target datalayout = .*$", layout, text, flags=re.M)
+    text = re.sub(r"^target triple = .*$", triple, text, flags=re.M)
+    text = re.sub(r' "(?:target-cpu|target-features|probe-stack|stack-probe-size)"="[^"]*"', "", text)
+    if "p:32:32" in layout:
+        text = re.sub(r"\bptrtoaddr (?=ptr\b)", "ptrtoint ", text)
+    if "noinline" in marks:
+        text = re.sub(r"^(attributes #.*) inlinehint\b", r"\1", text, flags=re.M)
+    of_functions = "|".join(set(re.findall(r"^define .*\) #(\d+)", text, re.M)))
+    marked = rf"^(attributes #(?:{of_functions}) = \{{)(?!.*alwaysinline)"
+    return re.sub(marked, rf"\1 {' '.join(marks)}", text, flags=re.M)
+
+
+def compiled(
+    target: Target, words: collections.abc.Sequence[str | pathlib.Path], source: pathlib.Path, made: pathlib.Path
+) -> pathlib.Path:
+    common = [clang(), f"--target={target.triple}", *target.words, "-ffunction-sections", "-fdata-sections"]
+    run([*common, "-fstack-size-section", *words, "-c", source, "-o", made])
+    return made
+
+
+def library(
+    target: Target, module: pathlib.Path, folder: pathlib.Path, level: str = "-Os", marks: collections.abc.Sequence[str] = ()
+) -> pathlib.Path:
+    """The library as an object for another processor."""
+    source = folder / "library.ll"
+    source.write_text(retargeted(target, module, folder, marks))
+    return compiled(target, [level, "-x", "ir"], source, folder / "library.o")
+
+
+def archive(target: Target, folder: pathlib.Path) -> pathlib.Path:
+    """The library for a processor as an archive, the kit's own for that of the kit. The same sources give the same bytes."""
+    module, _ = built_module("targets")
+    if target is KIT:
+        return PLACE / "built.a"
+    made = folder / "libdali_c.a"
+    kit_tool("llvm-ar", "rcsD", made, library(target, module, folder))
+    return made
+
+
+def program(
+    target: Target,
+    folder: pathlib.Path,
+    sources: collections.abc.Sequence[pathlib.Path],
+    linked: pathlib.Path,
+    more: collections.abc.Sequence[str] = (),
+) -> pathlib.Path:
+    """A program in C with the library, without a C library."""
+    words = ["-Os", "-std=c11", "-ffreestanding", "-fno-builtin", "-Wall", "-Wextra", "-Werror", *more]
+    words += [word for it in (folder, BARE, INCLUDE, EXAMPLE, FIRMWARE) for word in ("-I", it)]
+    objects = [compiled(target, words, it, folder / f"{it.stem}.o") for it in [*sources, *target.start]]
+    made = folder / "program.elf"
+    kit_tool("ld.lld", *target.link, "--gc-sections", *objects, linked, "-o", made)
+    return made
+
+
+def said(target: Target, made: pathlib.Path) -> list[list[str]]:
+    """The lines that a program writes, as words."""
+    try:
+        wrote = run([*target.run, made], timeout=MOST_SECONDS)
+    except subprocess.TimeoutExpired:
+        raise Failed(f"the program has not ended after {MOST_SECONDS} seconds") from None
+    return [line.split() for line in wrote.splitlines()]
