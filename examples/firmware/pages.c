@@ -104,7 +104,9 @@ static int write_anew(struct pages *pages, const struct dali_records *standing)
 /* Finds the page that is the store. Without one there was none yet, where no record was ever written. */
 static enum pages_status find(struct pages *pages)
 {
-    int newer = (int16_t)(uint16_t)(age_of(1) - age_of(0)) > 0;
+    /* Ages go round. */
+    uint16_t ahead = (uint16_t)(age_of(1) - age_of(0));
+    int newer = ahead > 0 && ahead < 0x8000;
 
     pages->page = has_head(1) && (newer || !has_head(0)) ? 1 : 0;
     pages->age = 0;
