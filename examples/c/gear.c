@@ -15,7 +15,6 @@ void bus_new(struct bus *bus, uint64_t seed, uint32_t gear_count)
 {
     memset(bus, 0, sizeof *bus);
     bus->chance = seed;
-    bus->drawn = (uint32_t)chance_next(&bus->chance) & GEAR_MASK24;
     bus->gear_count = gear_count;
     for (uint32_t at = 0; at < BUS_MOST_GEAR; at++) {
         bus->gear[at].random_address = GEAR_MASK24;
@@ -24,15 +23,24 @@ void bus_new(struct bus *bus, uint64_t seed, uint32_t gear_count)
     }
 }
 
-/* The next random address. Two gear with one random address cannot be told apart, which is the
- * standard's own hazard. So that it does not come here, the numbers are those of a congruential
- * generator of full period, which gives each number of 24 bits once before it gives one again. */
+static int is_drawn(const struct bus *bus, uint32_t number)
+{
+    for (uint32_t at = 0; at < bus->gear_count; at++) {
+        if (bus->gear[at].random_address == number)
+            return 1;
+    }
+    return 0;
+}
+
+/* The next random address, whatever was drawn before. Two gear with one random address cannot be told apart, which is the
+ * standard's own hazard; so that it does not come here, a number that some gear has is drawn again. */
 static uint32_t drawn_next(struct bus *bus)
 {
-    do {
-        bus->drawn = (bus->drawn * UINT32_C(1140671485) + UINT32_C(12820163)) & GEAR_MASK24;
-    } while (bus->drawn == GEAR_MASK24);
-    return bus->drawn;
+    uint32_t number = GEAR_MASK24;
+
+    while (number == GEAR_MASK24 || is_drawn(bus, number))
+        number = (uint32_t)(chance_next(&bus->chance) >> 40);
+    return number;
 }
 
 /* A short address as a data byte. */

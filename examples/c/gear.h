@@ -44,8 +44,6 @@ struct troubles {
 /* It holds no pointer, so it can live in a mapped file and outlive a controller that is killed. */
 struct bus {
     uint64_t chance;
-    /* The last random address that was drawn. */
-    uint32_t drawn;
     uint32_t frames;
     struct troubles troubles;
     uint32_t gear_count;

@@ -454,6 +454,9 @@ static void collect(struct dali_machine *machines, uint64_t seed)
             return;
         }
         check(is_order(&order), "the codes of an order");
+        check(before.kind != DALI_COMMIT || order.kind == DALI_COMMIT
+                  || (order.kind == DALI_PUT && order.priority == DALI_FIRST_PRIORITY),
+              "what follows a commit");
         check(order.half == half_after(&before, &told, &order), "which half of a pair a frame is");
         switch ((enum dali_order_kind)order.kind) {
         case DALI_PUT:
