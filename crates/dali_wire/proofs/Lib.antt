@@ -6,3 +6,4 @@ mod EachTime
 mod OneFrame
 mod Joint
 mod Sending
+mod Worked
