@@ -1,8 +1,9 @@
 /* The records of one controller in two pages of flash. */
 #include "pages.h"
 
-/* The first byte of a slot: that of a head, or the kind of a record. */
+/* The first byte of a slot: that of a head, or the kind of a record; and the second one of a head. */
 #define HEAD 0xDA
+#define FORMAT 1
 #define BLANK 0xFF
 #define CHECKED 5
 
@@ -57,7 +58,7 @@ static int has_head(int page)
 {
     const uint8_t *head = slot_at(page, 0);
 
-    return is_whole(head) && head[0] == HEAD && head[1] == DALI_C_VERSION;
+    return is_whole(head) && head[0] == HEAD && head[1] == FORMAT;
 }
 
 static uint16_t age_of(int page)
@@ -80,7 +81,7 @@ static int write_anew(struct pages *pages, const struct dali_records *standing)
 {
     int page = 1 - pages->page;
     uint16_t age = (uint16_t)(pages->age + 1);
-    uint8_t head[CHECKED] = {HEAD, DALI_C_VERSION, (uint8_t)(age >> 8), (uint8_t)age, 0};
+    uint8_t head[CHECKED] = {HEAD, FORMAT, (uint8_t)(age >> 8), (uint8_t)age, 0};
     int slot = 1;
 
     if (!flash_erase(page))
