@@ -7,7 +7,9 @@
  * - Priority. An order of priority 3 begins a transaction: ask for the bus, and send when it is
  *   free for the settling time of that priority. One of priority 1 is the next frame of the running
  *   transaction: send it before another device can take the bus, and nothing else before it.
- * - Send-twice commands. The machine orders both frames, each by itself; send each once.
+ * - Questions. Where order->asks is 0 no gear answers: listen for nothing, and go on.
+ * - Send-twice commands. The machine orders both frames, each by itself; send each once, the second
+ *   (order->half is DALI_SECOND_HALF) within 100 ms, and wait 100 ms after that of RANDOMISE.
  * - What is told. DALI_HEARD_SILENCE, DALI_HEARD_BYTE and DALI_HEARD_DAMAGED say that the forward
  *   frame was sent whole. Where you are not sure of that, tell DALI_DESTROYED. Tell DALI_LAPSED
  *   where the bus was lost before the frame was sent, also where another device came between the
