@@ -7,7 +7,8 @@
  * - Priority. An order of priority 3 begins a transaction: ask for the bus, and send when it is
  *   free for the settling time of that priority. One of priority 1 is the next frame of the running
  *   transaction: send it before another device can take the bus, and nothing else before it.
- * - Questions. Where order->asks is 0 no gear answers: listen for nothing, and go on.
+ * - Questions. Gear answer only where order->asks is 1. Where anything is heard after another frame,
+ *   tell DALI_DESTROYED.
  * - Send-twice commands. The machine orders both frames, each by itself; send each once, the second
  *   (order->half is DALI_SECOND_HALF) within 100 ms, and wait 100 ms after that of RANDOMISE.
  * - What is told. DALI_HEARD_SILENCE, DALI_HEARD_BYTE and DALI_HEARD_DAMAGED say that the forward
