@@ -98,7 +98,7 @@ fn span_before(was_low: bool, is_low: bool, since: u32) -> Span
 {
     match (was_low, is_low) {
         (true, false) | (false, true) => span_for(since),
-        _ => Span::Wrong,
+        (true, true) | (false, false) => Span::Wrong,
     }
 }
 
@@ -146,7 +146,10 @@ impl Reading {
             (Reading::Middle(bits), Span::Half) => Reading::Between(bits),
             (Reading::Middle(bits), Span::Whole) => with_bit(bits, is_low),
             (Reading::Between(bits), Span::Half) => with_bit(bits, is_low),
-            _ => Reading::Spoilt,
+            (Reading::First, Span::Whole | Span::Wrong)
+            | (Reading::Middle(_), Span::Short | Span::Wrong)
+            | (Reading::Between(_), Span::Short | Span::Whole | Span::Wrong)
+            | (Reading::Spoilt, _) => Reading::Spoilt,
         }
     }
 
@@ -209,7 +212,9 @@ impl Receiver {
         let told = self.time(since);
         self.lasted = match self.reading {
             Reading::Idle => 0,
-            _ => self.lasted.saturating_add(since),
+            Reading::First | Reading::Between(_) | Reading::Middle(_) | Reading::Spoilt => {
+                self.lasted.saturating_add(since)
+            }
         };
         self.reading = self
             .reading

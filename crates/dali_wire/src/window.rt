@@ -29,7 +29,8 @@ fn answer(frame: Frame, begun: u32) -> Answer
 {
     match frame {
         Frame::Backward(byte) if LEAST_BEGIN <= begun && begun <= MOST_BEGIN => Answer::Byte(byte),
-        _ => Answer::Damaged,
+        Frame::Backward(_) | Frame::Forward(_) | Frame::Device(_) | Frame::Damaged =>
+            Answer::Damaged,
     }
 }
 
@@ -88,7 +89,11 @@ impl Window {
         match self.receiver.reading {
             Reading::Idle if now > MOST_BEGIN => Some(self.heard),
             _ if now > GIVEN_UP => Some(Answer::Damaged),
-            _ => None,
+            Reading::Idle
+            | Reading::First
+            | Reading::Between(_)
+            | Reading::Middle(_)
+            | Reading::Spoilt => None,
         }
     }
 }
