@@ -1,6 +1,6 @@
 use Rattle.std.specs.Prelude.{◌≡◌, ℕ, ◌==◌, ◌&&◌, nat_le, List, Option, Some, None, option_map}
 use Rattle.std.specs.Prelude.{if◌then◌else◌}
-use Rattle.dali_special.specs.Command.{command_of}
+use Rattle.dali_special.specs.Command.{command_of, is_question}
 use Rattle.dali_script.specs.declared.records.Record.{Record}
 use Rattle.dali_script.specs.declared.orders.Order.{Order}
 use Rattle.dali_script.specs.declared.orders.Order.TheVariants.{Put, Commit, Done, Halt}
@@ -9,7 +9,7 @@ use Rattle.dali_script.specs.declared.finding.Finding.TheVariants.{Queried, Reso
 use Rattle.dali_script.specs.Records.{Assignment}
 use Rattle.dali_script.specs.declared.trace.Entry.{Entry}
 use Rattle.dali_script.specs.Names.{record_by, end_by, fault_by}
-use Rattle.dali_sending.specs.Sending.{is_question, half_in}
+use Rattle.dali_sending.specs.Sending.{half_in}
 use Rattle.dali_c.specs.Codes.{bool_of, half_code}
 use Rattle.dali_c.specs.Pairs.{read_pair}
 use Rattle.dali_c.specs.declared.orders.PlainRecord.{PlainRecord}

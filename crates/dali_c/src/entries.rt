@@ -6,7 +6,6 @@ ghost use Rattle.dali_script.specs.Scripts.{IsTransaction};
 ghost use Rattle.dali_c.specs.Entries.{entry_of, AreEntries, IsPlainTrace};
 
 use crate::codes::{answer_code, answer_of};
-use arrayvec::ArrayVec;
 use dali_frame::Forward;
 use dali_script::{Entry, Trace};
 
@@ -66,23 +65,6 @@ impl PlainEntry {
     }
 }
 
-/// The entries of a list. None where one is none.
-fn read_entries(plain: &[PlainEntry]) -> Option<ArrayVec<Entry, FRAMES>>
-    requires { length plain.now ≤ 8 }
-    ensures { MatchOption result
-        ((entries : List Entry) → AreEntries plain.now entries → ⊥)
-        (λ entries. AreEntries plain.now entries.items) }
-{
-    let mut entries: ArrayVec<Entry, FRAMES> = ArrayVec::new();
-    for entry in plain {
-        let Some(read) = entry.read() else {
-            return None;
-        };
-        entries.push(read);
-    }
-    Some(entries)
-}
-
 /// A list in the first places of as many as there may be.
 pub(crate) fn write_entries(entries: &[Entry]) -> [PlainEntry; FRAMES]
     requires { length entries.now ≤ 8 }
@@ -102,8 +84,14 @@ fn read_frames(plain: &[PlainEntry]) -> Option<Trace>
     ensures none { IfNone result
         ((t : List Entry) → AreEntries plain.now t → IsTransaction t → ⊥) }
 {
-    let entries = read_entries(plain)?;
-    Trace::of(&entries)
+    let mut trace = Trace::new();
+    for entry in plain {
+        let Entry { frame, heard } = entry.read()?;
+        if !trace.add(frame, heard) {
+            return None;
+        }
+    }
+    Some(trace)
 }
 
 /// The running transaction of the first frames of these.

@@ -7,7 +7,7 @@ use crate::codes::{bool_code, half_code};
 use crate::pairs::read_pair;
 use dali_frame::{Forward, Priority};
 use dali_script::{End, Entry, Fault, Finding, Order, Pair, Record};
-use dali_sending::{half_in, is_question};
+use dali_sending::half_in;
 use dali_special::Command;
 
 /// A record: the code of its kind (`Record::code`), and its pair.
@@ -94,7 +94,7 @@ impl PlainOrder {
                 priority: priority.number(),
                 address_byte: frame.address_byte,
                 opcode_byte: frame.opcode_byte,
-                asks: bool_code(is_question(Command::read(frame))),
+                asks: bool_code(Command::read(frame).is_question()),
                 half: half_code(half_in(before, frame)),
                 ..PlainOrder::empty(1)
             },

@@ -7,12 +7,11 @@ use Rattle.dali_frame.specs.declared.frames.Forward.{Forward}
 use Rattle.dali_frame.specs.declared.frames.Answer.TheVariants.{Silence, Byte, Damaged}
 use Rattle.dali_frame.specs.Hex.{forward_text, forward_of, joined, byte_of}
 use Rattle.dali_frame.specs.declared.hex.HexError.{HexError}
-use Rattle.dali_special.specs.Command.{command_of}
+use Rattle.dali_special.specs.Command.{command_of, is_question}
 use Rattle.dali_script.specs.Due.{accepts}
 use Rattle.dali_script.specs.declared.orders.Due.TheVariants as due
 use Rattle.dali_script.specs.declared.orders.Input.{Input}
 use Rattle.dali_script.specs.declared.orders.Input.TheVariants.{Start, Survey, Heard, Destroyed, Lapsed, Committed, CommitFailed}
-use Rattle.dali_sending.specs.Sending.{is_question}
 use Rattle.dali_sending.specs.declared.sending.Half.{Half}
 use Rattle.dali_sending.specs.declared.sending.Half.TheVariants.{Whole, First, Second}
 use Rattle.dali_commissioning.specs.Lines.{asked_text, half_text, put_text, Says, told_text, told_of, IsByte}

@@ -5,12 +5,11 @@ use Rattle.std.specs.Io.KnownBytes.{Consumes}
 use Rattle.dali_frame.specs.declared.frames.Forward.{Forward}
 use Rattle.dali_frame.specs.declared.frames.Answer.TheVariants.{Silence, Byte, Damaged}
 use Rattle.dali_frame.specs.Hex.{forward_text, forward_of, byte_text, byte_of}
-use Rattle.dali_special.specs.Command.{command_of}
+use Rattle.dali_special.specs.Command.{command_of, is_question}
 use Rattle.dali_script.specs.declared.orders.Input.{Input}
 use Rattle.dali_script.specs.declared.orders.Input.TheVariants.{Start, Survey, Heard}
 use Rattle.dali_script.specs.declared.orders.Input.TheVariants.{Destroyed, Lapsed, Committed}
 use Rattle.dali_script.specs.declared.orders.Input.TheVariants.{CommitFailed}
-use Rattle.dali_sending.specs.Sending.{is_question}
 use Rattle.dali_sending.specs.declared.sending.Half.{Half}
 use Rattle.dali_sending.specs.declared.sending.Half.TheVariants.{Whole, First, Second}
 

@@ -9,7 +9,7 @@ ghost use Rattle.dali_commissioning.specs.Lines.{asked_text, half_text, put_text
 
 use dali_frame::{Answer, Forward, Priority};
 use dali_script::Input;
-use dali_sending::{Half, is_question};
+use dali_sending::Half;
 use dali_special::Command;
 use std::alloc::AllocError;
 
@@ -40,7 +40,7 @@ pub fn push_put(
 {
     let level = priority.number();
     write!(text, "put {level} {frame}")?;
-    text.push_str(asked_name(is_question(Command::read(frame))))?;
+    text.push_str(asked_name(Command::read(frame).is_question()))?;
     text.push_str(half_name(half))?;
     text.push_str("\n")
 }

@@ -7,7 +7,7 @@ use Rattle.dali_frame.specs.declared.frames.Answer.TheVariants.{Damaged}
 use Rattle.dali_special.specs.declared.command.Part.TheVariants.{High, Middle, Low}
 use Rattle.dali_special.specs.declared.command.Command.{Command}
 use Rattle.dali_special.specs.declared.command.Command.TheVariants.{Initialise, Randomise, Compare, Verify, QueryShort, RandomByte, Program}
-use Rattle.dali_special.specs.Command.{command_of, is_send_twice}
+use Rattle.dali_special.specs.Command.{command_of, is_question, is_send_twice}
 use Rattle.dali_gear.specs.declared.gear_set.GearSet.{GearSet}
 use Rattle.dali_gear.specs.declared.row.Reach.{Reach}
 use Rattle.dali_gear.specs.declared.row.Reach.TheVariants.{Everyone, Only}
@@ -38,7 +38,7 @@ use Rattle.dali_events.specs.Allowed.{Allowed, Hears, IsUp, IsDestroyed, MaySend
 use Rattle.dali_events.specs.Runs.{after, after_all, AllAllowed, IsRun, LeavesUsed}
 use Rattle.dali_events.specs.Promise.{HoldsShort, KeepsPromiseNow, KeepsAddresses}
 use Rattle.dali_events.specs.Searching.{EachPowered}
-use Rattle.dali_events.specs.Telling.{is_question, Happening, rightly, as_damaged, as_told, happened, MayHappen, happened_all, AllMayHappen, after_happened}
+use Rattle.dali_events.specs.Telling.{Happening, rightly, as_damaged, as_told, happened, MayHappen, happened_all, AllMayHappen, after_happened}
 use Rattle.dali_events.specs.Telling.{all_told, IsHistory}
 use Rattle.dali_events.proofs.Invariant.Growing.{leaves_front}
 use Rattle.dali_events.proofs.Invariant.Safe.{keeps_promise}

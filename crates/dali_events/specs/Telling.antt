@@ -2,10 +2,7 @@ use Rattle.std.specs.Prelude.{◌≡◌, ℕ, Bool, true, false, List, [], ◌�
 use Rattle.std.specs.List.{AllByRecursion}
 use Rattle.dali_frame.specs.declared.frames.Forward.{Forward}
 use Rattle.dali_frame.specs.declared.frames.Answer.TheVariants.{Damaged}
-use Rattle.dali_special.specs.declared.command.Command.{Command}
-use Rattle.dali_special.specs.declared.command.Command.TheVariants.{Compare, Verify, QueryShort}
-use Rattle.dali_special.specs.declared.command.Command.TheVariants.{RandomByte}
-use Rattle.dali_special.specs.Command.{command_of}
+use Rattle.dali_special.specs.Command.{command_of, is_question}
 use Rattle.dali_gear.specs.declared.gear_set.GearSet.{GearSet}
 use Rattle.dali_gear.specs.declared.row.Reach.TheVariants.{Only}
 use Rattle.dali_events.specs.declared.event.Event.{Event}
@@ -18,14 +15,6 @@ use Rattle.dali_events.specs.Runs.{LeavesUsed}
 
 -- WHAT A SENDER IS TOLD of a question that was destroyed, by an interface that has one code for
 -- that and for a damaged answer.
-
--- a question: gear may answer it, and it changes nothing in them, but that half a pair is over
-abbrev pub is_question : Command → Bool
-is_question Compare = true
-is_question (Verify a) = true
-is_question QueryShort = true
-is_question (RandomByte a part) = true
-is_question _ = false
 
 -- WHAT HAPPENED, and what its sender was told: rightly what it was; or a question of controller c
 -- was destroyed, the gear of the set took it, and c was told that the answer was damaged.

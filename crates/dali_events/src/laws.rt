@@ -13,7 +13,7 @@ ghost use Rattle.dali_special.specs.declared.command.Command.{Command};
 ghost use Rattle.dali_special.specs.declared.command.Command.TheVariants.{Randomise, RandomByte};
 ghost use Rattle.dali_special.specs.declared.command.Part.{Part};
 ghost use Rattle.dali_special.specs.declared.command.Part.TheVariants.{High, Middle, Low};
-ghost use Rattle.dali_special.specs.Command.{command_of};
+ghost use Rattle.dali_special.specs.Command.{command_of, is_question};
 ghost use Rattle.dali_script.specs.declared.trace.Entry.{Entry};
 ghost use Rattle.dali_script.specs.declared.stage.Stage.TheVariants.{Unnamed};
 ghost use Rattle.dali_script.specs.Records.{Has};
@@ -44,7 +44,7 @@ ghost use Rattle.dali_events.specs.Events.{frame_in};
 ghost use Rattle.dali_events.specs.Searching.{EachPowered, EachActive, number_at, sent_event, up_to_compare};
 ghost use Rattle.dali_events.specs.Searching.{SearchesAll, NobodyAnswers, HasShort};
 ghost use Rattle.dali_events.specs.Calling.{Calls, AreCalled};
-ghost use Rattle.dali_events.specs.Telling.{is_question, Happening, as_damaged, happened, after_happened, all_told};
+ghost use Rattle.dali_events.specs.Telling.{Happening, as_damaged, happened, after_happened, all_told};
 ghost use Rattle.dali_events.specs.Telling.{IsHistory};
 
 /// The plain hearing of a row of gear is one that may be heard.

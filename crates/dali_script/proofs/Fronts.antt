@@ -6,10 +6,9 @@ use Rattle.std.specs.List.{remove}
 use Rattle.std.proofs.Math.Seq.{paste}
 use Rattle.std.proofs.lemmas.List.{take_more, get_or-replicate, drop-take, length-drop}
 use Rattle.std.proofs.lemmas.List.Edits.{take-paste}
-use Rattle.dali_frame.specs.Random.{MASK24, low_of}
+use Rattle.dali_frame.specs.Random.{MASK24}
 use Rattle.dali_script.specs.declared.block.Block.{Block}
 use Rattle.dali_script.specs.Records.{Assignment, Has, HasAddress, HasRandom, InBlock, Marks, IsFresh, AreEnrolled}
-use Rattle.dali_script.specs.Pairs.{Seen}
 use Rattle.dali_script.proofs.Lists.{has_map, next_there, next_fresh, map_none, map_more, all_more}
 
 -- THE PAIR AT A PLACE
@@ -99,28 +98,12 @@ marks_more xs i p marks inside is small m = subst (λ ys. Marks ys (set marks p.
     go (inl k) = get_or-set_other marks p.0 a true false not_it ∙ (m.marked a below).1 k
     go (inr same) = absurd (not_it (sym same))
 
-pub seen_none : Seen [] (replicate 256 false)
-seen_none = record { all = refl; marked = λ r has. absurd has }
-
-pub seen_more : (xs : List Assignment) (i : ℕ) (p : Assignment) (n : ℕ) (seen : List Bool) → i < length xs → p ≡ get_or xs i p → n ≡ low_of p.1
-    → Seen (take i xs) seen → Seen (take (i + 1) xs) (set seen n true)
-seen_more xs i p n seen inside is last m = subst (λ ys. Seen ys (set seen n true)) (sym (take_next xs i p inside is)) (record {
-  all = length-set seen n true ∙ m.all;
-  marked = λ r has. marked r (cases_eq (low_of r) n) (key_cases (λ q. q.1) before p r has);
-}) where
-  before : List Assignment
-  before = take i xs
-
-  small : low_of p.1 < 256
-  small = omega arith
-
-  there : n < length seen
-  there = rw (m.all, last) small
-
-  marked : (r : ℕ) → (low_of r ≡ n) ⊎ (low_of r ≢ n) → HasRandom before r ⊎ (p.1 ≡ r) → get_or (set seen n true) (low_of r) false ≡ true
-  marked r (inl same) has = ap (λ b. get_or (set seen n true) b false) same ∙ get_or-set_same seen n true false there
-  marked r (inr not_it) (inl k) = get_or-set_other seen n (low_of r) true false not_it ∙ m.marked r k
-  marked r (inr not_it) (inr same) = absurd (not_it (sym (last ∙ ap low_of same)))
+-- where a pair's short address is not marked
+pub unmarked : (xs : List Assignment) (p : Assignment) (marks : List Bool) → Marks xs marks → p.0 < 64 → (HasAddress xs p.0 → ⊥) → get_or marks p.0 false ≡ false
+unmarked xs p marks m small none = go (get_or marks p.0 false) refl where
+  go : (b : Bool) → get_or marks p.0 false ≡ b → get_or marks p.0 false ≡ false
+  go true is = absurd (none ((m.marked p.0 small).0 is))
+  go false is = is
 
 -- WHAT A TEST OF A NUMBER SAYS
 pub short_found : (o : Option ℕ) (xs : List Assignment) (a r : ℕ) → IsSome o ↔ (a < 64) → IfSome o (λ s. s ≡ a) → a < 64 → Has xs (a, r)

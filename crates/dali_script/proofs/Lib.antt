@@ -1,5 +1,6 @@
 pub mod Lists
 pub mod Members
+pub mod Befores
 pub mod Giving
 pub mod Transactions
 pub mod Firsts

@@ -1,20 +1,25 @@
-use Rattle.std.proofs.Common.{◌≡◌, ℕ, ◌+◌, ◌<◌, ◌≤◌, true, Option, Some, None, List, [], ◌∷◌, ◌++◌, refl, sym, subst, arith, length, length-append, append-nil}
+use Rattle.std.proofs.Common.{◌≡◌, ℕ, ◌+◌, ◌<◌, ◌≤◌, ◌∙◌, Bool, true, false, Option, Some, None, List, [], ◌∷◌, ◌++◌, refl, sym, subst, arith, length, length-append, append-nil}
 use Rattle.std.proofs.Common.{get_or, take, inl}
-use Rattle.std.specs.Prelude.{zero, suc, IfSome}
-use Rattle.std.specs.Prelude.{nat_lt}
+use Rattle.std.specs.Prelude.{zero, suc, IfSome, nat_lt, is_some, ◌==◌, ◌&&◌, ◌-◌, if◌then◌else◌}
 use mathlib.Core.List.{append_assoc}
 use Rattle.std.proofs.lemmas.Bool.Decides.{nat_tests}
 use Rattle.dali_frame.specs.declared.frames.Forward.{Forward}
 use Rattle.dali_frame.specs.declared.numbers.SearchAddress.{SearchAddress}
 use Rattle.dali_frame.specs.Random.{value_of, MASK24}
+use Rattle.dali_frame.specs.declared.frames.Answer.{Answer}
+use Rattle.dali_frame.specs.declared.frames.Answer.TheVariants.{Silence}
 use Rattle.dali_special.specs.declared.command.Command.{Command}
+use Rattle.dali_special.specs.declared.command.Command.TheVariants.{Arc, Compare, Initialise, Program, QueryShort, RandomByte, Randomise, SearchHigh, SearchLow, SearchMiddle, Terminate, Withdraw}
+use Rattle.dali_special.specs.declared.command.Part.TheVariants.{High, Middle, Low}
+use Rattle.dali_special.specs.declared.command.Target.TheVariants.{Unaddressed}
 use Rattle.dali_special.specs.Command.{command_of}
 use Rattle.dali_script.specs.declared.block.Block.{Block}
 use Rattle.dali_script.specs.declared.trace.Entry.{Entry}
 use Rattle.dali_script.specs.declared.stage.Stage.{Stage}
+use Rattle.dali_script.specs.declared.stage.Stage.TheVariants.{Confirmed, DrawFree, Found, Free, HighAsked, HighSent, Hunted, Initialised, InitialisedOnce, LowSent, MiddleAsked, MiddleSent, NumberSent, Programmed, RandomisedOnce, Spelled, Terminated, Unnamed, WokenHigh, WokenLow, WokenMiddle}
 use Rattle.dali_script.specs.Records.{Assignment}
 use Rattle.dali_script.specs.Scripts.{MayGive, IsLawful, AreSent, IsTransaction}
-use Rattle.dali_script.specs.Stages.{given, is_drawn_if, may_come, stage_of, Follows}
+use Rattle.dali_script.specs.Stages.{leads, given, hunted, bytes_heard, number_heard, is_drawn_if, may_come, stage_of, Follows}
 use Rattle.dali_script.proofs.Giving.{first_of_both, second_of_both}
 use Rattle.dali_script.proofs.Transactions.{follows_lawful, lawful_follows, room}
 
@@ -44,6 +49,65 @@ may_for (Some g) e = record { drawn = below (value_of g.0) MASK24 e; within = (o
 
 pub comes_from : (s : Stage) (c : Command) → may_come s c ≡ true → Follows (block_for (given s c)) (reserved_for (given s c)) s c
 comes_from s c e = record { leads_on = first_of_both _ _ e; may = may_for (given s c) (second_of_both _ _ e) }
+
+-- where a command leads on does not hang on what is heard after it
+pub leads_heard : (s : Stage) (c : Command) (h : Answer) → is_some (leads s c h) ≡ is_some (leads s c Silence)
+leads_heard (Hunted r last left) c h = go (left == 0) c where
+  go : (b : Bool) (c : Command) → is_some (if b then None else hunted r (left - 1) c h) ≡ is_some (if b then None else hunted r (left - 1) c Silence)
+  go true c = refl
+  go false (SearchHigh high) = refl
+  go false (SearchMiddle middle) = refl
+  go false (SearchLow low) = refl
+  go false Compare = refl
+  go false _ = refl
+leads_heard (HighAsked b high) (RandomByte a Middle) h = go (a == b) where
+  go : (t : Bool) → is_some (if t then Some (MiddleAsked b (bytes_heard high h)) else None)
+      ≡ is_some (if t then Some (MiddleAsked b (bytes_heard high Silence)) else None)
+  go true = refl
+  go false = refl
+leads_heard (MiddleAsked b bytes) (RandomByte a Low) h = go (a == b) where
+  go : (t : Bool) → is_some (if t then Some (Spelled b (number_heard bytes h)) else None)
+      ≡ is_some (if t then Some (Spelled b (number_heard bytes Silence)) else None)
+  go true = refl
+  go false = refl
+leads_heard Free Terminate h = refl
+leads_heard Free (SearchHigh high) h = refl
+leads_heard Free (RandomByte a High) h = refl
+leads_heard Free (Arc f) h = refl
+leads_heard Terminated (Initialise Unaddressed) h = refl
+leads_heard InitialisedOnce (Initialise Unaddressed) h = refl
+leads_heard Initialised Randomise h = refl
+leads_heard Initialised (SearchHigh high) h = refl
+leads_heard (WokenHigh high) (SearchLow low) h = refl
+leads_heard (WokenHigh high) (SearchMiddle middle) h = refl
+leads_heard (WokenLow high low) (SearchMiddle middle) h = refl
+leads_heard (WokenMiddle high middle) Compare h = refl
+leads_heard DrawFree Randomise h = refl
+leads_heard RandomisedOnce Randomise h = refl
+leads_heard (HighSent high) (SearchMiddle middle) h = refl
+leads_heard (HighSent high) (SearchLow low) h = refl
+leads_heard (LowSent high low) (SearchMiddle middle) h = refl
+leads_heard (MiddleSent high middle) (SearchLow low) h = refl
+leads_heard (NumberSent r) Compare h = refl
+leads_heard (NumberSent r) QueryShort h = refl
+leads_heard (NumberSent r) Withdraw h = refl
+leads_heard (Found r b) Withdraw h = refl
+leads_heard (Unnamed r) (Program (Some a)) h = refl
+leads_heard (Programmed r a) QueryShort h = refl
+leads_heard (Confirmed r a) Withdraw h = refl
+leads_heard _ _ h = refl
+
+pub comes_if : (s : Stage) (c : Command) (h : Answer) → is_drawn_if (given s c) ≡ true → may_come s c ≡ is_some (leads s c h)
+comes_if s c h drawn = rw drawn (both (is_some (leads s c Silence)) ∙ sym (leads_heard s c h)) where
+  both : (b : Bool) → (b && true) ≡ b
+  both true = refl
+  both false = refl
+
+pub comes_not : (s : Stage) (c : Command) → is_drawn_if (given s c) ≡ false → may_come s c ≡ false
+comes_not s c drawn = rw drawn (both (is_some (leads s c Silence))) where
+  both : (b : Bool) → (b && false) ≡ false
+  both true = refl
+  both false = refl
 
 pub lawful_comes : (t : List Entry) (f : Forward) → IsLawful t f → may_come (stage_of t) (command_of f) ≡ true
 lawful_comes t f lawful = comes_by lawful.0 lawful.1 (stage_of t) (command_of f) (follows_lawful lawful.0 lawful.1 t f lawful.2)

@@ -1,6 +1,6 @@
-use Rattle.std.specs.Prelude.{◌≡◌, ℕ, ◌<◌, Bool, true, false, List, take, length, slice_index_or}
+use Rattle.std.specs.Prelude.{◌≡◌, ℕ, ◌+◌, ◌<◌, ◌≤◌, ◌%◌, List, take, length, slice_index_or}
 use Rattle.dali_frame.specs.Random.{low_of}
-use Rattle.dali_script.specs.Records.{Assignment, HasAddress, HasRandom}
+use Rattle.dali_script.specs.Records.{Assignment, HasAddress}
 use Rattle.dali_script.specs.declared.pairs.Pairs.{Pairs}
 
 -- the pairs that there are: as many of the first as are counted
@@ -11,7 +11,26 @@ pairs_in p = take p.count p.pairs
 abbrev pub AreShort : List Assignment → Type 0
 AreShort xs = (a : ℕ) → HasAddress xs a → a < 64
 
--- for each byte, whether a random address may end with it: each last byte that there is is marked
-pub record Seen (xs : List Assignment) (seen : List Bool) : Type 0 where
-  pub all : length seen ≡ 256
-  pub marked : (r : ℕ) → HasRandom xs r → slice_index_or seen (low_of r) false ≡ true
+-- the last six bits of a random address
+abbrev pub last_bits : ℕ → ℕ
+last_bits r = low_of r % 64
+
+abbrev pub random_at : List Assignment → ℕ → ℕ
+random_at xs i = (slice_index_or xs i (0, 0)).1
+
+-- One more than the place of the last of the first n pairs whose random address has these last bits,
+-- or 0 where none has them.
+pub record IsLast (xs : List Assignment) (n bits at : ℕ) : Type 0 where
+  pub inside : at ≤ n
+  pub there : (i : ℕ) → at ≡ i + 1 → last_bits (random_at xs i) ≡ bits
+  pub none_after : (i : ℕ) → at ≤ i → i < n → last_bits (random_at xs i) ≡ bits → ⊥
+
+-- that of each pair, among those before it, with its own last bits
+pub record AreBefore (xs : List Assignment) (n : ℕ) (befores : List ℕ) : Type 0 where
+  pub all : length befores ≡ 64
+  pub before : (i : ℕ) → i < n → IsLast xs i (last_bits (random_at xs i)) (slice_index_or befores i 0)
+
+-- and that of all, for each last bits that there may be
+pub record AreLast (xs : List Assignment) (n : ℕ) (lasts : List ℕ) : Type 0 where
+  pub all : length lasts ≡ 64
+  pub last : (bits : ℕ) → bits < 64 → IsLast xs n bits (slice_index_or lasts bits 0)

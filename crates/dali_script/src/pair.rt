@@ -65,6 +65,8 @@ impl Default for Pair {
 
 impl Pair {
     ghost use Rattle.std.specs.Prelude.{◌<◌};
+    ghost use Rattle.dali_frame.specs.Random.{MASK24};
+    ghost use Rattle.dali_script.specs.Pairs.{last_bits};
 
     /// The pair of a short address and a random address.
     pub fn of(address: Short, random: Random24) -> Pair
@@ -81,18 +83,57 @@ impl Pair {
 
     /// The short address, 0 to 63 where a controller keeps the pair.
     #[inline(always)]
-    pub fn address(self) -> u8
-        ensures { result ≡ self.0 }
+    pub fn address(&self) -> u8
+        ensures { result ≡ self.now.0 }
     {
         self.address
     }
 
     /// The random address.
     #[inline(always)]
-    pub fn random(self) -> Random24
-        ensures { result ≡ self.1 }
+    pub fn random(&self) -> Random24
+        ensures { result ≡ self.now.1 }
     {
         Random24::from_bytes(self.high, self.middle, self.low)
+    }
+
+    /// Whether the random address is one that gear draw: below `FFFFFF`.
+    #[inline(always)]
+    pub(crate) fn is_drawn(&self) -> bool
+        ensures { IsTrue result ↔ (self.now.1 < MASK24) }
+    {
+        self.low < 0xFF || self.middle < 0xFF || self.high < 0xFF
+    }
+
+    /// The last six bits of the random address.
+    #[inline(always)]
+    pub(crate) fn last_bits(&self) -> u8
+        ensures bits { result ≡ last_bits self.now.1 }
+        ensures small { result < 64 }
+    {
+        self.low % 64
+    }
+
+    /// Some pair with this random address.
+    #[inline(always)]
+    pub(crate) fn sharing(random: Random24) -> Pair
+        ensures { result.1 ≡ random }
+    {
+        Pair {
+            address: 0,
+            high: random.high(),
+            middle: random.middle(),
+            low: random.low(),
+        }
+    }
+
+    /// Whether both have the same random address. The middle bytes, which differ most often where the last bits are
+    /// the same, are looked at first.
+    #[inline(always)]
+    pub(crate) fn shares_random(&self, other: &Pair) -> bool
+        ensures { IsTrue result ↔ (self.now.1 ≡ other.now.1) }
+    {
+        self.middle == other.middle && self.low == other.low && self.high == other.high
     }
 
     /// Whether both have the same short address and the same random address.

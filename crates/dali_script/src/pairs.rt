@@ -134,8 +134,9 @@ pub(crate) fn at_random(pairs: &[Pair], random: Random24) -> Option<Short>
         (HasRandom pairs.now random → ⊥)
         (λ address. Has pairs.now (address, random)) }
 {
+    let wanted = Pair::sharing(random);
     for pair in pairs {
-        if pair.random() == random {
+        if pair.shares_random(&wanted) {
             return Short::of(pair.address());
         }
     }

@@ -1,4 +1,4 @@
-ghost use Rattle.std.specs.Prelude.{◌≡◌};
+ghost use Rattle.std.specs.Prelude.{◌≡◌, ◌↔◌, true, IsSome, IfSome};
 ghost use Rattle.dali_script.specs.Commands.{is_initialise, is_query};
 ghost use Rattle.dali_script.specs.Stages.{hunted, byte_heard, bytes_heard, number_heard};
 ghost use Rattle.dali_script.specs.declared.stage.Stage.TheVariants.{Free};
@@ -76,7 +76,7 @@ pub enum Stage {
 
 impl Stage {
     ghost use Rattle.dali_script.specs.Stages.{leads, next_stage, doubted, queried, verified, follows, given};
-    ghost use Rattle.dali_script.specs.Stages.{may_follow, finding_at, may_come};
+    ghost use Rattle.dali_script.specs.Stages.{may_follow, finding_at, may_come, is_drawn_if};
 
     /// How many frames of a hunt may follow its first three: eight in all.
     const ASKING: u8 = 5;
@@ -198,17 +198,26 @@ impl Stage {
         }
     }
 
-    /// Whether a command may come next, for some sender.
-    pub(crate) fn leads_on(self, command: Command) -> bool
-        ensures { result ≡ may_come self command }
+    /// How far it is once a command was sent and this was heard. None where it may not come next, for any sender.
+    pub(crate) fn led_by(self, command: Command, heard: Answer) -> Option<Stage>
+        ensures comes { IsSome result ↔ (may_come self command ≡ true) }
+        ensures stage { IfSome result (λ s. s ≡ next_stage self command heard) }
     {
-        let given = self.given(&command);
-        match self.next(command, Answer::Silence) {
-            Some(_) => match given {
-                Some((number, _)) => number.value() < Random24::MASK,
-                None => true,
-            },
-            None => false,
+        if self.is_given_drawn(&command) {
+            self.next(command, heard)
+        } else {
+            None
+        }
+    }
+
+    /// Whether what is given, if anything, is given to a number that gear draw.
+    #[inline(always)]
+    fn is_given_drawn(&self, command: &Command) -> bool
+        ensures { result ≡ is_drawn_if (given self.now command.now) }
+    {
+        match self.given(command) {
+            Some((number, _)) => number.value() < Random24::MASK,
+            None => true,
         }
     }
 

@@ -1,4 +1,4 @@
-ghost use Rattle.std.specs.Prelude.{◌≡◌, ◌<◌, ◌≤◌, ◌↔◌, List, [], ◌∷◌, ◌++◌, false, not, IsTrue, length};
+ghost use Rattle.std.specs.Prelude.{◌≡◌, ◌<◌, ◌≤◌, ◌↔◌, List, [], ◌∷◌, ◌++◌, true, false, not, IsTrue, length};
 ghost use Rattle.std.specs.Prelude.{option_map, IsSome, IfSome};
 ghost use Rattle.dali_frame.specs.declared.frames.Forward.{Forward};
 ghost use Rattle.dali_special.specs.Command.{command_of};
@@ -97,10 +97,9 @@ impl Trace {
     {
         let mut trace = Trace::new();
         for entry in entries {
-            if !trace.allows_some(entry.frame) {
+            if !trace.add(entry.frame, entry.heard) {
                 return None;
             }
-            trace.push(entry.frame, entry.heard);
         }
         // What is a trace was sent.
         let _ = trace.entries();
@@ -114,13 +113,6 @@ impl Trace {
         ensures short { length self.now ≤ 8 }
     {
         &self.entries
-    }
-
-    /// Whether a frame may follow, for some sender.
-    fn allows_some(&self, frame: Forward) -> bool
-        ensures { IsTrue result ↔ IsLawful self.now frame }
-    {
-        self.stage.leads_on(Command::read(frame))
     }
 
     /// Whether a frame may follow, for a sender with these records.
@@ -149,6 +141,23 @@ impl Trace {
     {
         self.entries.push(Entry { frame, heard });
         self.stage.advance(Command::read(frame), heard);
+    }
+
+    /// Adds a frame that was sent, and what was heard after it, where some records allow it here. Else nothing changes.
+    #[inline(always)]
+    pub fn add(&mut self, frame: Forward, heard: Answer) -> bool
+        ensures lawful { IsTrue result ↔ IsLawful self.old frame }
+        ensures added { result ≡ true → self.new ≡ self.old ++ (record { frame = frame; heard = heard }) ∷ [] }
+        ensures unchanged { result ≡ false → self.new ≡ self.old }
+    {
+        match self.stage.led_by(Command::read(frame), heard) {
+            Some(stage) => {
+                self.entries.push(Entry { frame, heard });
+                self.stage = stage;
+                true
+            }
+            None => false,
+        }
     }
 
     /// How far the transaction is once one more frame was sent, and this was heard after it. The frame must be one that

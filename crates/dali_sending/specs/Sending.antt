@@ -1,33 +1,10 @@
 use Rattle.std.specs.Prelude.{List, [], ◌∷◌, Bool, true, false, Option, Some, None}
 use Rattle.std.specs.Prelude.{◌==◌, ◌&&◌, if◌then◌else◌}
 use Rattle.dali_frame.specs.declared.frames.Forward.{Forward}
-use Rattle.dali_special.specs.declared.command.Command.{Command}
-use Rattle.dali_special.specs.declared.command.Command.TheVariants.{Compare, Verify, QueryShort}
-use Rattle.dali_special.specs.declared.command.Command.TheVariants.{RandomByte, Terminate}
-use Rattle.dali_special.specs.declared.command.Command.TheVariants.{Initialise, Randomise, Withdraw}
-use Rattle.dali_special.specs.declared.command.Command.TheVariants.{SearchHigh, SearchMiddle}
-use Rattle.dali_special.specs.declared.command.Command.TheVariants.{SearchLow, Program, Arc, Other}
 use Rattle.dali_special.specs.Command.{command_of, is_send_twice}
 use Rattle.dali_script.specs.declared.trace.Entry.{Entry}
 use Rattle.dali_sending.specs.declared.sending.Half.{Half}
 use Rattle.dali_sending.specs.declared.sending.Half.TheVariants.{Whole, First, Second}
-
--- whether a backward frame is awaited after a frame
-abbrev pub is_question : Command → Bool
-is_question Compare = true
-is_question (Verify a) = true
-is_question QueryShort = true
-is_question (RandomByte a part) = true
-is_question Terminate = false
-is_question (Initialise target) = false
-is_question Randomise = false
-is_question Withdraw = false
-is_question (SearchHigh byte) = false
-is_question (SearchMiddle byte) = false
-is_question (SearchLow byte) = false
-is_question (Program a) = false
-is_question (Arc f) = false
-is_question (Other f) = false
 
 -- whether this frame is the one that waits for its second one
 abbrev pub is_open : Option Forward → Forward → Bool

@@ -5,4 +5,4 @@
 
 mod sending;
 
-pub use sending::{Half, half_in, half_of, is_question, opens};
+pub use sending::{Half, half_in, half_of, opens};

@@ -1,5 +1,5 @@
 ghost use Rattle.std.specs.Prelude.{◌≡◌};
-ghost use Rattle.dali_sending.specs.Sending.{is_question, is_open, half_of, opens, half_in};
+ghost use Rattle.dali_sending.specs.Sending.{is_open, half_of, opens, half_in};
 
 use dali_frame::Forward;
 use dali_script::Entry;
@@ -15,27 +15,6 @@ pub enum Half {
     First,
     /// The second, which is to end at most 100 ms after the first.
     Second,
-}
-
-/// Whether a backward frame is awaited after a frame of this command.
-pub fn is_question(command: Command) -> bool
-    ensures { result ≡ is_question command }
-{
-    match command {
-        Command::Compare | Command::Verify(_) | Command::QueryShort | Command::RandomByte(..) => {
-            true
-        }
-        Command::Terminate
-        | Command::Initialise(_)
-        | Command::Randomise
-        | Command::Withdraw
-        | Command::SearchHigh(_)
-        | Command::SearchMiddle(_)
-        | Command::SearchLow(_)
-        | Command::Program(_)
-        | Command::Arc(_)
-        | Command::Other(_) => false,
-    }
 }
 
 /// Which frame of a pair a frame is, where this first one of a pair was heard right before it.

@@ -127,6 +127,23 @@ is_send_twice (Initialise target) = true
 is_send_twice Randomise = true
 is_send_twice _ = false
 
+-- gear may answer COMPARE and the queries with a backward frame, and no other command
+abbrev pub is_question : Command → Bool
+is_question Compare = true
+is_question (Verify a) = true
+is_question QueryShort = true
+is_question (RandomByte a part) = true
+is_question Terminate = false
+is_question (Initialise target) = false
+is_question Randomise = false
+is_question Withdraw = false
+is_question (SearchHigh byte) = false
+is_question (SearchMiddle byte) = false
+is_question (SearchLow byte) = false
+is_question (Program a) = false
+is_question (Arc f) = false
+is_question (Other f) = false
+
 -- a command that its frame is read as: its address is one, and the frame of an `Arc` or `Other` has
 -- no other command
 abbrev pub IsSpelled : Command → Type 0

@@ -137,7 +137,8 @@ fn program_byte(short: Option<Short>) -> u8
 }
 
 impl Command {
-    ghost use Rattle.dali_special.specs.Command.{command_of, special_of, frame_of, is_send_twice, IsSpelled};
+    ghost use Rattle.dali_special.specs.Command.{command_of, special_of, frame_of, is_send_twice, is_question};
+    ghost use Rattle.dali_special.specs.Command.{IsSpelled};
 
     /// The command of a frame.
     #[tactic(auto, using(crate::proofs::Table::written_read))]
@@ -239,5 +240,25 @@ impl Command {
         ensures { result ≡ is_send_twice self }
     {
         matches!(self, Command::Initialise(_) | Command::Randomise)
+    }
+
+    /// Whether gear may answer the command, so that a backward frame is awaited after it.
+    pub fn is_question(self) -> bool
+        ensures { result ≡ is_question self }
+    {
+        match self {
+            Command::Compare | Command::Verify(_) | Command::QueryShort | Command::RandomByte(..) =>
+                true,
+            Command::Terminate
+            | Command::Initialise(_)
+            | Command::Randomise
+            | Command::Withdraw
+            | Command::SearchHigh(_)
+            | Command::SearchMiddle(_)
+            | Command::SearchLow(_)
+            | Command::Program(_)
+            | Command::Arc(_)
+            | Command::Other(_) => false,
+        }
     }
 }
