@@ -55,6 +55,12 @@ TARGETS = {
     "riscv32": Target("riscv32-unknown-elf", ["-march=rv32imac", "-mabi=ilp32"], *LINUX, ["qemu-riscv32"], "qemu-user"),
 }
 KIT = TARGETS["x86_64-linux"]
+# What instructions are counted on: two of these, and a processor between them.
+MEASURED = {
+    "thumbv6m": TARGETS["thumbv6m"],
+    "thumbv7m": Target("thumbv7m-none-eabi", [], *ARM, [*BOARD, "-M", "mps2-an385", "-kernel"], SYSTEM),
+    "thumbv7em": TARGETS["thumbv7em"],
+}
 
 
 def missing(targets: collections.abc.Iterable[Target]) -> list[str]:

@@ -1,7 +1,9 @@
-use Rattle.std.proofs.Common.{◌≡◌, ℕ, ◌<◌, Option, Some, None, List, [], ◌∷◌, refl, sym, ◌∙◌, arith, subst, length, map, get_or, slice_index_or}
+use Rattle.std.proofs.Common.{◌≡◌, ℕ, ◌<◌, Option, Some, None, List, [], ◌∷◌, refl, sym, ap, ◌∙◌, arith, subst, length, map, take, get_or, slice_index_or}
 use Rattle.std.specs.Prelude.{zero, suc, IsSome, IfNone}
 use Rattle.std.proofs.lemmas.List.{same_lists, length-map, get_or-map}
 use Rattle.dali_script.specs.declared.trace.Entry.{Entry}
+use Rattle.dali_script.specs.Scripts.{IsLawful, IsTransaction}
+use Rattle.dali_script.proofs.Senders.{sent_at}
 use Rattle.dali_c.specs.Entries.{entry_of, AreEntries}
 use Rattle.dali_c.specs.declared.entries.PlainEntry.{PlainEntry}
 
@@ -25,6 +27,30 @@ somes_once (x ∷ xs) (y ∷ ys) same =
 
 pub entries_once : (plain : List PlainEntry) (a b : List Entry) → AreEntries plain a → AreEntries plain b → a ≡ b
 entries_once plain a b one other = somes_once a b (sym one ∙ other)
+
+-- The first of them are the first, and each is the one of its place.
+pub entries_front : (plain : List PlainEntry) (entries : List Entry) (i : ℕ) → AreEntries plain entries → AreEntries (take i plain) (take i entries)
+entries_front plain entries zero are = refl
+entries_front [] [] (suc i) are = refl
+entries_front [] (e ∷ es) (suc i) are = absurd (cc)
+entries_front (p ∷ ps) [] (suc i) are = absurd (cc)
+entries_front (p ∷ ps) (e ∷ es) (suc i) are = let rest : AreEntries (take i ps) (take i es) = entries_front ps es i (cc) in cc
+
+pub entry_there : (plain : List PlainEntry) (entries : List Entry) (i : ℕ) (d : PlainEntry) (e : Entry) → i < length plain → entry_of (get_or plain i d) ≡ Some e
+    → AreEntries plain entries → (i < length entries) × (get_or entries i e ≡ e)
+entry_there [] entries i d e inside is are = absurd (omega arith)
+entry_there (p ∷ ps) [] i d e inside is are = absurd (cc)
+entry_there (p ∷ ps) (x ∷ xs) zero d e inside is are = (omega arith, cc)
+entry_there (p ∷ ps) (x ∷ xs) (suc i) d e inside is are =
+    let rest = entry_there ps xs i d e (omega arith) is (cc) in (omega (arith, rest.0), rest.1)
+
+-- An entry that may not follow those before it is in no transaction.
+pub unlawful_entry : (plain : List PlainEntry) (before entries : List Entry) (i : ℕ) (d : PlainEntry) (e : Entry) → i < length plain → entry_of (get_or plain i d) ≡ Some e
+    → AreEntries (take i plain) before → (IsLawful before e.frame → ⊥) → AreEntries plain entries → IsTransaction entries → ⊥
+unlawful_entry plain before entries i d e inside is first unlawful are sent =
+    let there = entry_there plain entries i d e inside is are in
+    let front : take i entries ≡ before = entries_once (take i plain) (take i entries) before (entries_front plain entries i are) first in
+    unlawful (subst (λ f. IsLawful before f) (ap (λ x. x.frame) there.1) (subst (λ t. IsLawful t (get_or entries i e).frame) front (sent_at entries i e sent there.0)))
 
 -- what there is not, by what would follow if there were
 pub if_none : {A : Type 0} {Q : Type 0} (o : Option A) → ((IsSome o → ⊥) → Q) → IfNone o Q

@@ -105,7 +105,7 @@ pub extern "C" fn dali_machine_new(machine: &mut PlainMachine, records: &PlainRe
     let Some(_) = records.read() else {
         return status::NO_RECORDS;
     };
-    machine.state = PlainState::of(&State::new(0));
+    machine.state.set(&State::new(0));
     machine.records = *records;
     status::OK
 }
@@ -143,7 +143,7 @@ pub extern "C" fn dali_machine_step(
     ensures untouched { (result ≡ OK → ⊥) → (machine.new ≡ machine.old) × (order.new ≡ order.old) }
 {
     match machine.read() {
-        Some(state) => go_on(machine, state, input, byte, order),
+        Some(mut state) => go_on(machine, &mut state, input, byte, order),
         None => machine.refusal(),
     }
 }
@@ -167,7 +167,7 @@ pub extern "C" fn dali_machine_go(
     ensures untouched { (result ≡ OK → ⊥) → (machine.new ≡ machine.old) × (order.new ≡ order.old) }
 {
     match machine.state.read() {
-        Some(state) => go_on(machine, state, input, byte, order),
+        Some(mut state) => go_on(machine, &mut state, input, byte, order),
         None => unreachable!(),
     }
 }
@@ -175,12 +175,12 @@ pub extern "C" fn dali_machine_go(
 /// A machine in this state is told what happened, and gives its next order.
 fn go_on(
     machine: &mut PlainMachine,
-    state: State,
+    state: &mut State,
     input: u8,
     byte: u8,
     order: &mut PlainOrder,
 ) -> u8
-    requires { IsRead machine.old state }
+    requires { IsRead machine.old state.old }
 
     ensures done { (m : Machine) → (i : Input) → Holds machine.old m → input_of input byte ≡ Some i
         → accepts (due_after m.last) i ≡ true → (result ≡ OK) × Steps m i machine.new order.new }
@@ -193,10 +193,9 @@ fn go_on(
     let Some(told) = input_of(input, byte) else {
         return status::BAD_ARGUMENT;
     };
-    let mut running = state;
-    match step(&mut running, &mut machine.records, told) {
+    match step(state, &mut machine.records, told) {
         Some(_) => {
-            machine.state = PlainState::of(&running);
+            machine.state.set(state);
             *order = machine.state.last;
             status::OK
         }

@@ -91,6 +91,8 @@ fn read_frames(plain: &[PlainEntry]) -> Option<Trace>
             return None;
         }
     }
+    // What is a trace was sent.
+    let _ = trace.entries();
     Some(trace)
 }
 

@@ -50,38 +50,37 @@ pub struct PlainState {
 }
 
 impl PlainState {
-    pub(crate) fn of(state: &State) -> PlainState
+    /// Writes a state down, whatever was there.
+    pub(crate) fn set(&mut self, state: &State)
         requires { state.now.id ≡ 0 }
-        ensures spells { Spells result state.now }
-        ensures more { FillsLeg result state.now.leg }
-        ensures ordered { HasNoMore result.last state.now.last }
-        ensures sent { IsSentSo result.last state.now.trace state.now.last }
+        ensures spells { Spells self.new state.now }
+        ensures more { FillsLeg self.new state.now.leg }
+        ensures ordered { HasNoMore self.new.last state.now.last }
+        ensures sent { IsSentSo self.new.last state.now.trace state.now.last }
     {
         let (purpose, detail) = purpose_code(state.purpose);
         let entries = state.trace.entries();
         let search = state.leg.search();
-        PlainState {
-            version: VERSION,
-            opened: bool_code(state.leg.is_searching()),
-            tries: state.tries,
-            silent: state.silent,
-            from: state.leg.from(),
-            purpose,
-            detail,
-            answers: search.answers(),
-            number: PlainRandom::of_search(state.number),
-            least: PlainRandom::of(search.least()),
-            probe: PlainRandom::of(search.probe()),
-            ascent: PlainAscent::of(&state.leg.ascent()),
-            finding: PlainFinding::of(state.finding),
-            last: PlainOrder::of(state.last, entries),
-            way: way_code(state.leg.way()),
-            asked: state.leg.silences(),
-            heard: shorts_bytes(state.heard),
-            tally: PlainTally::of(&state.tally),
-            entry_count: entries.len() as u8,
-            entries: write_entries(entries),
-        }
+        self.version = VERSION;
+        self.opened = bool_code(state.leg.is_searching());
+        self.tries = state.tries;
+        self.silent = state.silent;
+        self.from = state.leg.from();
+        self.purpose = purpose;
+        self.detail = detail;
+        self.answers = search.answers();
+        self.number = PlainRandom::of_search(state.number);
+        self.least = PlainRandom::of(search.least());
+        self.probe = PlainRandom::of(search.probe());
+        self.ascent = PlainAscent::of(&state.leg.ascent());
+        self.finding = PlainFinding::of(state.finding);
+        self.last = PlainOrder::of(state.last, entries);
+        self.way = way_code(state.leg.way());
+        self.asked = state.leg.silences();
+        self.heard = shorts_bytes(state.heard);
+        self.tally = PlainTally::of(&state.tally);
+        self.entry_count = entries.len() as u8;
+        self.entries = write_entries(entries);
     }
 
     /// None where its bytes spell no state.

@@ -1,4 +1,4 @@
-use Rattle.std.proofs.Common.{◌≡◌, ℕ, ◌+◌, ◌<◌, ◌≤◌, ◌⊎◌, inl, inr, Bool, true, false, List, [], ◌∷◌, refl, sym, ap, subst, ◌∙◌, arith, length, map, get_or, ◌≢◌}
+use Rattle.std.proofs.Common.{◌≡◌, ℕ, ◌+◌, ◌<◌, ◌≤◌, ◌⊎◌, inl, inr, Bool, true, false, List, [], ◌∷◌, refl, sym, ap, subst, ◌∙◌, arith, length, get_or, ◌≢◌}
 use Rattle.std.proofs.Common.{replicate, take, set, length-set, get_or-set_same, get_or-set_other}
 use Rattle.std.specs.Prelude.{zero, suc, nat_lt}
 use Rattle.std.proofs.lemmas.Bool.{cases_eq}

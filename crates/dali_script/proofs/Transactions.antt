@@ -22,7 +22,7 @@ use Rattle.dali_script.specs.declared.trace.Entry.{Entry}
 use Rattle.dali_script.specs.declared.stage.Stage.{Stage}
 use Rattle.dali_script.specs.declared.stage.Stage.TheVariants.{Free, Terminated, InitialisedOnce, Initialised, RandomisedOnce, Opened, HighSent, MiddleSent}
 use Rattle.dali_script.specs.declared.stage.Stage.TheVariants.{LowSent, Hunted}
-use Rattle.dali_script.specs.declared.stage.Stage.TheVariants.{WokenHigh, WokenLow, WokenMiddle, DrawFree, DrawBarred, PassedOver}
+use Rattle.dali_script.specs.declared.stage.Stage.TheVariants.{WokenHigh, WokenLow, WokenMiddle, DrawFree}
 use Rattle.dali_script.specs.declared.stage.Stage.TheVariants.{NumberSent, Probed, Found, Unnamed, Unanswered, Inconclusive, Programmed, Confirmed}
 use Rattle.dali_script.specs.declared.stage.Stage.TheVariants.{HighAsked, MiddleAsked, Spelled, Over}
 use Rattle.dali_script.specs.Records.{Assignment, HasAddress}

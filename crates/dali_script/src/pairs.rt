@@ -113,13 +113,15 @@ impl Pairs {
 
 /// The random address of the pair with a short address.
 pub(crate) fn at_address(pairs: &[Pair], address: Short) -> Option<Random24>
+    requires { length pairs.now ≤ 64 }
     ensures found { MatchOption result
         (HasAddress pairs.now address → ⊥)
         (λ random. Has pairs.now (address, random)) }
     ensures short { address < 64 }
 {
     let wanted = address.number();
-    for pair in pairs {
+    for place in 0..pairs.len() as u8 {
+        let pair = &pairs[usize::from(place)];
         if pair.address() == wanted {
             return Some(pair.random());
         }
@@ -129,13 +131,15 @@ pub(crate) fn at_address(pairs: &[Pair], address: Short) -> Option<Random24>
 
 /// The short address of the pair with a random address.
 pub(crate) fn at_random(pairs: &[Pair], random: Random24) -> Option<Short>
-    requires { AreShort pairs.now }
+    requires short { AreShort pairs.now }
+    requires room { length pairs.now ≤ 64 }
     ensures { MatchOption result
         (HasRandom pairs.now random → ⊥)
         (λ address. Has pairs.now (address, random)) }
 {
     let wanted = Pair::sharing(random);
-    for pair in pairs {
+    for place in 0..pairs.len() as u8 {
+        let pair = &pairs[usize::from(place)];
         if pair.shares_random(&wanted) {
             return Short::of(pair.address());
         }
@@ -145,6 +149,7 @@ pub(crate) fn at_random(pairs: &[Pair], random: Random24) -> Option<Short>
 
 /// Whether a pair has the short address.
 pub(crate) fn has_address(pairs: &[Pair], address: Short) -> bool
+    requires { length pairs.now ≤ 64 }
     ensures value { IsTrue result ↔ HasAddress pairs.now address }
     ensures short { address < 64 }
 {
@@ -153,7 +158,8 @@ pub(crate) fn has_address(pairs: &[Pair], address: Short) -> bool
 
 /// Whether a pair has the random address.
 pub(crate) fn has_random(pairs: &[Pair], random: Random24) -> bool
-    requires { AreShort pairs.now }
+    requires short { AreShort pairs.now }
+    requires room { length pairs.now ≤ 64 }
     ensures { IsTrue result ↔ HasRandom pairs.now random }
 {
     at_random(pairs, random).is_some()
@@ -161,41 +167,59 @@ pub(crate) fn has_random(pairs: &[Pair], random: Random24) -> bool
 
 /// For each of the 64 short addresses, whether a pair has it.
 pub(crate) fn marks(pairs: &[Pair]) -> [bool; ROOM]
-    requires { AreShort pairs.now }
+    requires short { AreShort pairs.now }
+    requires room { length pairs.now ≤ 64 }
     ensures { Marks pairs.now result }
 {
     let mut marks = [false; ROOM];
-    for pair in pairs {
-        marks[usize::from(pair.address())] = true;
+    for place in 0..pairs.len() as u8 {
+        marks[usize::from(pairs[usize::from(place)].address())] = true;
     }
     marks
 }
 
 /// For each of the 64 short addresses, whether a pair may have it for a random address that none of the others has.
 ///
-/// It goes over both lists side by side, once. Where it marks nothing that is sure; it may mark more, where the others
-/// stand in another order.
+/// It goes over both lists once, and looks at the one of the others that has the same short address. Where it marks
+/// nothing that is sure; it may mark more, where another address has the number there.
 pub(crate) fn maybe_unmatched(pairs: &[Pair], others: &[Pair]) -> [bool; ROOM]
-    requires { AreShort pairs.now }
+    requires short { AreShort pairs.now }
+    requires room { length pairs.now ≤ 64 }
+    requires others_short { AreShort others.now }
+    requires others_room { length others.now ≤ 64 }
     ensures { MayBeUnmatched pairs.now others.now result }
 {
+    let places = places(others);
     let mut marks = [false; ROOM];
-    let mut next = 0;
-    for pair in pairs {
-        if has_random_at(others, next, pair.random()) {
-            next += 1;
-        } else {
-            marks[usize::from(pair.address())] = true;
+    for place in 0..pairs.len() as u8 {
+        let pair = &pairs[usize::from(place)];
+        let address = usize::from(pair.address());
+        if !shares_random_at(others, places[address], pair) {
+            marks[address] = true;
         }
     }
     marks
 }
 
-/// Whether the pair at a place, if one is there, has this random address.
-fn has_random_at(pairs: &[Pair], place: usize, random: Random24) -> bool
-    ensures { result ≡ true → (place < length pairs.now) × HasRandom pairs.now random }
+/// For each of the 64 short addresses, the place of the last pair that has it; 64 where none has.
+fn places(pairs: &[Pair]) -> [u8; ROOM]
+    requires short { AreShort pairs.now }
+    requires room { length pairs.now ≤ 64 }
 {
-    place < pairs.len() && pairs[place].random() == random
+    let mut places = [ROOM as u8; ROOM];
+    for place in 0..pairs.len() as u8 {
+        places[usize::from(pairs[usize::from(place)].address())] = place;
+    }
+    places
+}
+
+/// Whether the pair at a place, if one is there, has the random address of this one.
+#[inline(always)]
+fn shares_random_at(pairs: &[Pair], place: u8, wanted: &Pair) -> bool
+    ensures { result ≡ true → HasRandom pairs.now wanted.now.1 }
+{
+    let place = usize::from(place);
+    place < pairs.len() && pairs[place].shares_random(wanted)
 }
 
 /// Where a pair stands.
@@ -250,7 +274,8 @@ pub(crate) fn are_both(pairs: &[Pair], front: &[Pair], rest: &[Pair]) -> bool
 
 /// Why a pair may not be added to these; None where it may.
 pub(crate) fn taken(pairs: &[Pair], address: Short, random: Random24) -> Option<AddError>
-    requires { AreShort pairs.now }
+    requires short { AreShort pairs.now }
+    requires room { length pairs.now ≤ 64 }
     ensures fresh { (result ≡ None) ↔ IsFresh pairs.now (address, random) }
     ensures address_taken { (result ≡ Some AddError.AddressTaken) ↔ HasAddress pairs.now address }
     ensures random_taken { (result ≡ Some AddError.RandomTaken)

@@ -24,8 +24,13 @@
 /* The calls that do not drive a commissioning are made at each moment of so many. */
 #define BESIDE 13
 
-/* Where a thing stands in a word decides how fast it is copied, so all stand at the beginning of one. */
+/* Where a thing stands in a word decides how fast it is copied, so all stand at the beginning of one, or none does. */
 #define ALIGNED __attribute__((aligned(8)))
+#ifdef OFF_A_WORD
+#define PLACED
+#else
+#define PLACED ALIGNED
+#endif
 
 /* One commissioning, and what the calls beside work upon. */
 struct course {
@@ -33,13 +38,14 @@ struct course {
     struct told told;
     unsigned enrolled;
     unsigned moment;
-    struct dali_machine machine ALIGNED;
-    struct dali_order order ALIGNED;
-    struct dali_machine other_machine ALIGNED;
-    struct dali_order other_order ALIGNED;
-    struct dali_records records ALIGNED;
-    struct dali_record addition ALIGNED;
-    struct dali_table table ALIGNED;
+    uint8_t off_a_word;
+    struct dali_machine machine PLACED;
+    struct dali_order order PLACED;
+    struct dali_machine other_machine PLACED;
+    struct dali_order other_order PLACED;
+    struct dali_records records PLACED;
+    struct dali_record addition PLACED;
+    struct dali_table table PLACED;
     uint8_t due;
 };
 
@@ -158,6 +164,11 @@ static struct call calls[] = {
 };
 
 #define CALLS (sizeof calls / sizeof *calls)
+/* How often each trouble comes, per million frames, and when a machine that does not end is left. */
+#ifndef TROUBLED
+#define TROUBLED 0
+#endif
+#define MOST_MOMENTS 20000
 _Static_assert(CALLS <= sizeof stacks / sizeof *stacks, "each call has a stack");
 
 /* The structs of the header, which tools/measure/firmware lists. */
@@ -362,9 +373,12 @@ static int is_commissioned(void)
     return held == course.bus.gear_count && course.enrolled == held && course.order.kind == DALI_DONE;
 }
 
-/* A machine with these records takes steps until it has ended. */
+/* A machine with these records takes steps until it has ended. Where there are troubles, it may end otherwise than with all
+ * gear commissioned, or not at all. */
 static void run(uint8_t start)
 {
+    unsigned last = course.moment + MOST_MOMENTS;
+
     must(dali_machine_new(&course.machine, &course.records) == DALI_OK, "no machine");
     course.told = (struct told){start, 0};
     do {
@@ -378,9 +392,9 @@ static void run(uint8_t start)
             note(later[0], counts[0]);
             note(later[1], counts[1]);
         }
-    } while (follow());
+    } while (follow() && course.moment < last);
     measure_beside();
-    must(is_commissioned(), "the gear are not commissioned");
+    must(TROUBLED > 0 || is_commissioned(), "the gear are not commissioned");
 }
 
 /* A machine comes up without records. */
@@ -403,6 +417,7 @@ static void commission(uint64_t seed)
 {
     memset(&course, 0, sizeof course);
     bus_new(&course.bus, seed, BUS_MOST_GEAR);
+    course.bus.troubles = (struct troubles){TROUBLED, TROUBLED, TROUBLED, TROUBLED, TROUBLED, TROUBLED};
     run_new(DALI_START);
     run_again(DALI_START);
     run_again(DALI_SURVEY);

@@ -1,23 +1,26 @@
-use Rattle.std.proofs.Common.{◌<◌}
+use Rattle.std.proofs.Common.{◌<◌, length, arith}
 use Rattle.dali_script.proofs.Lists.{marking_none, marking_more, marking_all}
 use Rattle.dali_script.proofs.Fronts.{address_at}
 use Rattle.dali_script.proofs.pairs.marks.Goals as goal
 
-small : (c : goal.After-from) → c.pair-item.result.0 < 64
-small c = c.requires c.pair-item.result.0 (address_at c.args.pairs.now c.loop-pair.pair-index c.pair-item.result c.loop-pair-test.true c.pair-item.is)
-
 pub bounds-marks-from : goal.bounds-marks-from
-bounds-marks-from c = rw (c.from.ensures, c.address.ensures) (small c)
+bounds-marks-from c =
+    let p = c.index-pairs-from.result in
+    let inside : c.loop-place.place < length c.args.pairs.now = omega (arith, c.loop-place-test.true) in
+    rw (c.from-in-loop-place.ensures, c.address.ensures)
+    (c.requires.short p.0 (address_at c.args.pairs.now c.loop-place.place p inside (rw c.from.ensures at c.index-pairs-from.is)))
 
-pub loop-pair-init : goal.loop-pair-init
-loop-pair-init c = marking_none c.args.pairs.now
+pub loop-place-init : goal.loop-place-init
+loop-place-init c = marking_none c.args.pairs.now
 
-pub loop-pair-preserved : goal.loop-pair-preserved
-loop-pair-preserved c =
-    rw (c.from.ensures, c.address.ensures)
-    (marking_more c.args.pairs.now c.loop-pair.pair-index c.pair-item.result c.loop-pair.marks c.loop-pair-test.true c.pair-item.is
-    (small c) c.loop-pair.invariant)
+pub loop-place-preserved : goal.loop-place-preserved
+loop-place-preserved c =
+    let p = c.index-pairs-from.result in
+    let inside : c.loop-place.place < length c.args.pairs.now = omega (arith, c.loop-place-test.true) in
+    let is = rw c.from.ensures at c.index-pairs-from.is in
+    rw (c.from-in-loop-place.ensures, c.address.ensures)
+    (marking_more c.args.pairs.now c.loop-place.place p c.loop-place.marks inside is
+    (c.requires.short p.0 (address_at c.args.pairs.now c.loop-place.place p inside is)) c.loop-place.invariant)
 
 pub returns : goal.returns
-returns c =
-    (marking_all c.args.pairs.now c.loop-pair.pair-index c.loop-pair.marks c.loop-pair-test.false c.loop-pair.invariant)
+returns c = marking_all c.args.pairs.now c.loop-place.place c.loop-place.marks (omega (arith, c.loop-place-test.false)) c.loop-place.invariant

@@ -1,26 +1,35 @@
-use Rattle.std.proofs.Common.{subst}
-use Rattle.dali_script.specs.Records.{HasRandom}
+use Rattle.std.proofs.Common.{◌<◌, length, arith}
 use Rattle.dali_script.proofs.Fronts.{address_at}
 use Rattle.dali_script.proofs.Matching.{matching_one, matching_marked}
 use Rattle.dali_script.proofs.pairs.maybe_unmatched.Goals as goal
-use Rattle.dali_script.proofs.pairs.maybe_unmatched.Goals.{then-has_random_at, else-has_random_at}
+use Rattle.dali_script.proofs.pairs.maybe_unmatched.Goals.{then-not-shares_random_at, else-not-shares_random_at}
 
-pub bounds-marks-from : goal.bounds-marks-from
-bounds-marks-from c =
-    let p = c.pair-item.result in
-    rw (c.from.ensures, c.address.ensures) (c.requires p.0 (address_at c.args.pairs.now c.loop-pair.pair-index p c.loop-pair-test.true c.pair-item.is))
+pub bounds-places-address : goal.bounds-places-address
+bounds-places-address c =
+    let p = c.index-pairs-from.result in
+    let inside : c.loop-place.place < length c.args.pairs.now = omega (arith, c.loop-place-test.true) in
+    rw (c.from-address.ensures, c.address.ensures)
+    (c.requires.short p.0 (address_at c.args.pairs.now c.loop-place.place p inside (rw c.from.ensures at c.index-pairs-from.is)))
 
-pub loop-pair-preserved : goal.loop-pair-preserved
-loop-pair-preserved c =
+pub bounds-marks-address : goal.bounds-marks-address
+bounds-marks-address c =
+    let p = c.index-pairs-from.result in
+    let inside : c.loop-place.place < length c.args.pairs.now = omega (arith, c.loop-place-test.true) in
+    rw (c.from-address.ensures, c.address.ensures)
+    (c.requires.short p.0 (address_at c.args.pairs.now c.loop-place.place p inside (rw c.from.ensures at c.index-pairs-from.is)))
+
+pub loop-place-preserved : goal.loop-place-preserved
+loop-place-preserved c =
     let xs = c.args.pairs.now in
     let ys = c.args.others.now in
-    let i = c.loop-pair.pair-index in
-    let p = c.pair-item.result in
-    elim c.if-has_random_at.branch [
-      | then-has_random_at w ↦
-          rw w.marks-is (matching_one xs ys i p c.loop-pair.marks c.loop-pair-test.true c.pair-item.is
-          (subst (λ n. HasRandom ys n) c.random.ensures (c.has_random_at.ensures w.if-has_random_at.true).1) c.loop-pair.invariant)
-      | else-has_random_at w ↦
-          rw (w.marks-is, w.from.ensures, w.address.ensures) (matching_marked xs ys i p c.loop-pair.marks c.loop-pair-test.true c.pair-item.is
-          (c.requires p.0 (address_at xs i p c.loop-pair-test.true c.pair-item.is)) c.loop-pair.invariant)
+    let i = c.loop-place.place in
+    let p = c.index-pairs-from.result in
+    let inside : i < length xs = omega (arith, c.loop-place-test.true) in
+    let is = rw c.from.ensures at c.index-pairs-from.is in
+    elim c.if-not-shares_random_at.branch [
+      | then-not-shares_random_at w ↦
+          rw (w.marks-is, c.from-address.ensures, c.address.ensures) (matching_marked xs ys i p c.loop-place.marks inside is
+          (c.requires.short p.0 (address_at xs i p inside is)) c.loop-place.invariant)
+      | else-not-shares_random_at w ↦
+          rw w.marks-is (matching_one xs ys i p c.loop-place.marks inside is (c.shares_random_at.ensures w.if-not-shares_random_at.false) c.loop-place.invariant)
     ]
