@@ -1,5 +1,5 @@
 use Rattle.std.proofs.Common.{◌≡◌, ◌⊎◌, inl, inr, ℕ, ◌<◌, ◌≤◌, Bool, true, false, refl, sym, ap, subst, ◌∙◌, arith, Option, Some, None}
-use Rattle.std.specs.Prelude.{◌==◌, ◌&&◌, nat_lt, if◌then◌else◌}
+use Rattle.std.specs.Prelude.{◌==◌, ◌&&◌, is_some, nat_lt, if◌then◌else◌}
 use Rattle.std.proofs.lemmas.Bool.{ne_eqb}
 use Rattle.std.proofs.lemmas.Bool.Decides.{nat_tests}
 use Rattle.dali_frame.specs.declared.frames.Answer.{Answer}
@@ -27,7 +27,7 @@ use Rattle.dali_controller.specs.declared.purpose.Purpose.{Purpose}
 use Rattle.dali_controller.specs.declared.purpose.Purpose.TheVariants.{Opening, Probing, Visiting, Resolving, Closing, Asking, Hunting, Calling, Drawing}
 use Rattle.dali_controller.specs.declared.way.Way.{Way}
 use Rattle.dali_controller.specs.declared.way.Way.TheVariants.{Fresh, Surveying}
-use Rattle.dali_controller.specs.Course.{Course, closing_of, after_step, address_for, is_yes, hunted, closing, resolving, searching_first, opening_anew}
+use Rattle.dali_controller.specs.Course.{Course, least_open, closing_of, after_step, address_for, is_yes, hunted, closing, resolving, searching_first, opening_anew}
 use Rattle.dali_controller.specs.Course.{opening_at_last, drawing, calling, hunting_first, hunting_above, ask_or_call, next_asked, visiting, asking_again}
 use Rattle.dali_controller.specs.Course.{byte_to_send, bytes_to_send}
 use Rattle.dali_controller.specs.declared.leg.Leg.{Leg}
@@ -519,6 +519,13 @@ moment_state t o new m = m.next.state ∙ ap (λ c. machine_ordered_on t c o) m.
 pub undrawn_full : (t : Machine) (c : Course) (o : Order) (new : Machine) → has_open t ≡ false → Begun t (full t c) o new → Begun t (undrawn t c) o new
 undrawn_full t c o new is begun =
     subst (λ b. Begun t (if b then (if nat_lt c.tally.draws 3 then drawing c else closing c GaveUp) else full t c) o new) (sym is) begun
+
+-- gear do not draw where no address is open
+pub none_drawn : (t : Machine) → None ≡ least_open t.kept t.heard → may_draw t ≡ false
+none_drawn t none = subst (λ o. (nat_lt t.course.tally.draws 3 && is_some o) ≡ false) none (go (nat_lt t.course.tally.draws 3)) where
+  go : (b : Bool) → (b && false) ≡ false
+  go true = refl
+  go false = refl
 
 pub ungiven_full : (t : Machine) (o : Order) (new : Machine) → may_draw t ≡ false → Begun t (full t t.course) o new → Begun t (ungiven t Surveying) o new
 ungiven_full t o new is begun = subst (λ b. Begun t (if b then opening_anew t.course else full t t.course) o new) (sym is) begun

@@ -181,7 +181,7 @@ impl State {
     }
 
     /// No address can be given.
-    fn full(&mut self, kept: &Records<'_>) -> Order
+    pub(crate) fn full(&mut self, kept: &Records<'_>) -> Order
         requires hunting { self.old.leg ≡ leg.Hunting (ascent_on self.old.leg) }
 
         ensures { Begun (machine_with self.old kept.now)

@@ -98,21 +98,27 @@ impl State {
             || is_passed_by (machine_with self.now kept.now) (stage_of self.now.trace)) self.now.tries }
     {
         // Of a transaction that was not lost before, it need not be known.
-        if self.tries == 0 || self.is_complete(kept) || self.is_ended() || self.is_passed_by(kept) {
+        if self.tries == 0 || self.is_ended() || self.is_over(kept) {
             0
         } else {
             self.tries
         }
     }
 
-    /// Whether the running transaction is a visit that ends before PROGRAM SHORT ADDRESS: what is reserved for the gear
-    /// that it found is another's.
-    fn is_passed_by(&self, kept: &Records<'_>) -> bool
-        ensures { result ≡ is_passed_by (machine_with self.now kept.now) (stage_of self.now.trace) }
+    /// Whether the running transaction is complete, or is a visit that ends before PROGRAM SHORT ADDRESS: what is
+    /// reserved for the gear that it found is another's.
+    fn is_over(&self, kept: &Records<'_>) -> bool
+        ensures { result ≡ (is_complete kept.now (closing_of self.now.purpose) (stage_of self.now.trace)
+            || is_passed_by (machine_with self.now kept.now) (stage_of self.now.trace)) }
     {
         match self.trace.stage() {
-            Stage::Unnamed(number) => self.withholds(kept, number.value()),
-            _ => false,
+            Stage::Unnamed(number) if self.purpose.end().is_none() => {
+                match kept.reserved_for(number.value()) {
+                    Some(address) => self.is_withheld(kept, address, number.value()),
+                    None => true,
+                }
+            }
+            _ => self.is_complete(kept),
         }
     }
 

@@ -82,18 +82,8 @@ impl State {
         }
     }
 
-    /// Whether what is reserved for a random address, if anything is, is another gear's, by what a survey heard.
-    pub(crate) fn withholds(&self, kept: &Records<'_>, random: Random24) -> bool
-        ensures { result ≡ withholds (machine_with self.now kept.now) random (address_for kept.now.reserved random) }
-    {
-        match kept.reserved_for(random) {
-            Some(address) => self.is_withheld(kept, address, random),
-            None => false,
-        }
-    }
-
     /// Whether this address, which is reserved for a random address, is another gear's.
-    fn is_withheld(&self, kept: &Records<'_>, address: Short, random: Random24) -> bool
+    pub(crate) fn is_withheld(&self, kept: &Records<'_>, address: Short, random: Random24) -> bool
         ensures { result ≡ is_withheld (machine_with self.now kept.now) address random }
     {
         match self.leg {
@@ -112,7 +102,7 @@ impl State {
     {
         match self.first_free(kept) {
             Some(short) => self.commit(kept, Record::Reserve(short, number.value())),
-            None => self.leave(kept, number),
+            None => self.leave_over(kept, number),
         }
     }
 
@@ -137,6 +127,21 @@ impl State {
         match self.leg.way() {
             Way::Fresh => self.close(kept, End::BlockFull),
             Way::Surveying => self.ungiven(kept),
+        }
+    }
+
+    /// The same, where no address is left.
+    fn leave_over(&mut self, kept: &Records<'_>, number: SearchAddress) -> Order
+        requires heard { IsHeard (machine_with self.old kept.now) (stage.Unnamed number) }
+        requires opened { is_searching self.old.leg ≡ true }
+        requires ungiven { IsUngiven (way_on self.old.leg) (machine_with self.old kept.now) number }
+        requires none { IsFirstFree (way_on self.old.leg) kept.now self.old.heard None }
+
+        ensures { IsMoment (machine_with self.old kept.now) result (machine_with self.new kept.now) }
+    {
+        match self.leg.way() {
+            Way::Fresh => self.close(kept, End::BlockFull),
+            Way::Surveying => self.full(kept),
         }
     }
 

@@ -14,11 +14,11 @@ commit-requires-clause-may c =
     (reservable (machine_with c.args.self.now c.args.kept.now) c.args.number c.in-Some.short c.value.result c.requires.heard c.requires.free c.in-Some.ensures
     c.value.ensures).may
 
-pub leave-requires-clause-opened : goal.leave-requires-clause-opened
-leave-requires-clause-opened c = free_searching (machine_with c.args.self.now c.args.kept.now) c.args.number c.requires.heard c.requires.free
+pub leave_over-requires-clause-opened : goal.leave_over-requires-clause-opened
+leave_over-requires-clause-opened c = free_searching (machine_with c.args.self.now c.args.kept.now) c.args.number c.requires.heard c.requires.free
 
-pub leave-requires-clause-ungiven : goal.leave-requires-clause-ungiven
-leave-requires-clause-ungiven c =
+pub leave_over-requires-clause-ungiven : goal.leave_over-requires-clause-ungiven
+leave_over-requires-clause-ungiven c =
     unfree_left (way_on c.args.self.now.leg) (machine_with c.args.self.now c.args.kept.now)
     c.args.number c.requires.kept.reserved c.requires.free c.in-None.ensures
 
