@@ -1,14 +1,17 @@
-"""The words of the launcher that are about a driver: --driver and --driver-timeout, as tools/drive says; and the program itself."""
+"""The words of the launcher that are about a driver: --driver, --driver-timeout and --trace, as tools/drive says; and the program."""
 
 import os
 import re
 import shlex
 import shutil
 import signal
+import typing
 
 from lib import ROOT, joining, proving
 
 OPTIONS = ("--driver", "--driver-timeout")
+# What tools/drive alone takes besides.
+TRACE = "--trace"
 # How many seconds a driver may be given for an answer.
 MOST = 86400
 
@@ -17,9 +20,9 @@ class BadWord(Exception):
     """What is wrong with the command line."""
 
 
-def parted(words: list[str]) -> tuple[list[str], dict[str, list[str]]]:
-    """The words of the program, and for each option of this one what was given to it."""
-    rest, given, left = [], {it: [] for it in OPTIONS}, iter(words)
+def parted(words: list[str], *more: str) -> tuple[list[str], dict[str, list[str]]]:
+    """The words of the program, and for each option of the launcher, these ones too, what was given to it."""
+    rest, given, left = [], {it: [] for it in (*OPTIONS, *more)}, iter(words)
     for word in left:
         name, sign, value = word.partition("=")
         if name in given:
@@ -53,6 +56,18 @@ def seconds_of(given: list[str]) -> float:
     if not re.fullmatch(r"[0-9]{1,9}(\.[0-9]{1,9})?", given[0]) or not 0 < float(given[0]) <= MOST:
         raise BadWord(f"--driver-timeout {given[0]}: this is no number of seconds above 0, and at most {MOST}")
     return float(given[0])
+
+
+def trace_of(given: list[str]) -> typing.BinaryIO | None:
+    """The file that the bus is drawn to, made anew, or None where none is wanted."""
+    if not given:
+        return None
+    if len(given) != 1 or not given[0]:
+        raise BadWord(f"one --trace FILE is wanted, and not {len(given)}" if given[0] else "--trace has no FILE")
+    try:
+        return open(given[0], "wb", buffering=0)
+    except OSError as why:
+        raise BadWord(f"--trace {given[0]}: {why.strerror}") from why
 
 
 def program_of(path: str | None) -> tuple[str, int]:

@@ -9,8 +9,9 @@ import subprocess
 import sys
 import time
 import types
+import typing
 
-from lib import ROOT, relay
+from lib import ROOT, dump, relay
 
 # The signals that are passed on to the program.
 PASSED = (signal.SIGTERM, signal.SIGHUP, signal.SIGINT)
@@ -135,8 +136,10 @@ def alone(program: list[str], driver: list[str], seconds: float, is_gentle: bool
     return [sys.executable, "-S", "-c", ALONE, str(ROOT / "tools"), json.dumps([program, driver, seconds, is_gentle])]
 
 
-def join(program: list[str], driver: list[str], seconds: float = ANSWERS, is_gentle: bool = False) -> int:
-    """Runs a program and a driver, each a list of words, and returns the exit status."""
+def join(
+    program: list[str], driver: list[str], seconds: float = ANSWERS, is_gentle: bool = False, trace: typing.BinaryIO | None = None
+) -> int:
+    """Runs a program and a driver, each a list of words, draws their frames to a file, and returns the exit status."""
     title, signals = os.path.basename(program[0]), Signals(is_gentle)
     drives = started(title, "driver", driver)
     if not drives:
@@ -146,10 +149,15 @@ def join(program: list[str], driver: list[str], seconds: float = ANSWERS, is_gen
         say_end(title, drives, None, end(title, drives))
         return NOT_STARTED
     signals.begin(runs)
-    between = relay.Relay(runs, drives, seconds, signals)
+    draws = dump.Trace(trace) if trace else None
+    between = relay.Relay(runs, drives, seconds, signals, draws)
     between.run()
     is_by_itself = end(title, drives)
     between.look_for_rest()
+    if draws:
+        draws.end()
+        if draws.fault:
+            say(f"{title}: the trace cannot be written: {draws.fault}")
     say_end(title, drives, between.fault, is_by_itself)
     return status_of(title, runs, between, signals)
 

@@ -45,7 +45,7 @@ fn part_name(part: Part) -> &'static str {
 }
 
 /// A frame: its four digits, and the name of its command.
-fn push_frame(text: &mut String, frame: Forward) -> Result<(), AllocError> {
+pub fn push_frame(text: &mut String, frame: Forward) -> Result<(), AllocError> {
     let name = command_name(Command::read(frame));
     write!(text, "{frame} {name}")
 }

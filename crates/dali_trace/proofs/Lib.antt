@@ -1,0 +1,4 @@
+mod LevelLemmas
+mod TraceLemmas
+mod NoteLemmas
+mod StreamLemmas
