@@ -1,4 +1,8 @@
+ghost use Rattle.std.specs.Prelude.{◌≡◌};
+ghost use Rattle.dali_capture.specs.Items.{length_of, heard_of};
+
 use dali_frame::Forward;
+use dali_wire::Frame;
 
 /// What was heard between two times at which the bus was at rest.
 #[derive(Clone, Copy, Debug, PartialEq, Eq)]
@@ -22,4 +26,30 @@ pub struct Item {
     pub until: u64,
     /// What it was.
     pub what: Heard,
+}
+
+impl Heard {
+    /// What a receiver told.
+    pub(crate) fn of(frame: Frame) -> Heard
+        ensures { result ≡ heard_of frame }
+    {
+        match frame {
+            Frame::Forward(frame) => Heard::Forward(frame),
+            Frame::Backward(byte) => Heard::Backward(byte),
+            Frame::Device(_) => Heard::Device,
+            Frame::Damaged => Heard::Damaged,
+        }
+    }
+
+    /// How long it takes at 1,200 bit/s, in µs, without its stop condition; of what is damaged, as long as a backward
+    /// frame.
+    pub(crate) fn length(self) -> u64
+        ensures { result ≡ length_of self }
+    {
+        match self {
+            Heard::Forward(_) => 14167,
+            Heard::Backward(_) | Heard::Damaged => 7500,
+            Heard::Device => 20833,
+        }
+    }
 }
