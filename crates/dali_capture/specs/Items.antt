@@ -1,6 +1,8 @@
-use Rattle.std.specs.Prelude.{ℕ}
+use Rattle.std.specs.Prelude.{ℕ, List, ◌++◌, codes, decimal}
+use Rattle.dali_frame.specs.Hex.{forward_text, byte_text}
 use Rattle.dali_wire.specs.declared.receiver.Frame.{Frame}
 use Rattle.dali_wire.specs.declared.receiver.Frame.TheVariants as frame
+use Rattle.dali_capture.specs.declared.item.Item.{Item}
 use Rattle.dali_capture.specs.declared.item.Heard.{Heard}
 use Rattle.dali_capture.specs.declared.item.Heard.TheVariants.{Forward, Backward, Device, Damaged}
 
@@ -18,3 +20,13 @@ length_of (Forward f) = 14167
 length_of (Backward byte) = 7500
 length_of Device = 20833
 length_of Damaged = 7500
+
+-- THE LINE OF A LOG that tells an item, without its line feed
+abbrev pub heard_text : Heard → List ℕ
+heard_text (Forward f) = codes " " ++ forward_text f
+heard_text (Backward byte) = codes " < " ++ byte_text byte
+heard_text Device = codes " device"
+heard_text Damaged = codes " < damaged"
+
+abbrev pub item_text : Item → List ℕ
+item_text item = decimal item.at ++ heard_text item.what

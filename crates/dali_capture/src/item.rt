@@ -1,8 +1,9 @@
-ghost use Rattle.std.specs.Prelude.{◌≡◌};
-ghost use Rattle.dali_capture.specs.Items.{length_of, heard_of};
+ghost use Rattle.std.specs.Prelude.{◌≡◌, Some};
+ghost use Rattle.dali_capture.specs.Items.{length_of, heard_of, item_text};
 
 use dali_frame::Forward;
 use dali_wire::Frame;
+use std::fmt;
 
 /// What was heard between two times at which the bus was at rest.
 #[derive(Clone, Copy, Debug, PartialEq, Eq)]
@@ -50,6 +51,22 @@ impl Heard {
             Heard::Forward(_) => 14167,
             Heard::Backward(_) | Heard::Damaged => 7500,
             Heard::Device => 20833,
+        }
+    }
+}
+
+/// The line of a log that tells the item, without a line feed.
+impl fmt::Display for Item {
+    ghost output = { λ item. Some (item_text item) };
+
+    #[tactic(auto, using(std::proofs::lemmas::Fmt::hex_byte))]
+    fn fmt<W: fmt::Write>(&self, f: &mut fmt::Formatter<W>) -> fmt::Result {
+        let at = self.at;
+        match self.what {
+            Heard::Forward(frame) => write!(f, "{at} {frame}"),
+            Heard::Backward(byte) => write!(f, "{at} < {byte:02X}"),
+            Heard::Device => write!(f, "{at} device"),
+            Heard::Damaged => write!(f, "{at} < damaged"),
         }
     }
 }
