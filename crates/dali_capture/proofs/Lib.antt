@@ -1,1 +1,4 @@
 mod Bytes
+mod Texts
+mod Logged
+mod Dumped

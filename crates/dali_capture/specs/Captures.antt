@@ -1,4 +1,5 @@
-use Rattle.std.specs.Prelude.{◌≡◌, ℕ, ◌+◌, ◌-◌, ◌<◌, ◌^◌, min, length, List, [], ◌∷◌, ◌++◌, Bool, ◌==◌, ◌&&◌, ◌||◌}
+use Rattle.std.specs.Prelude.{◌≡◌, ℕ, ◌+◌, ◌-◌, ◌<◌, ◌^◌, min, length, List, [], ◌∷◌, ◌++◌, Bool}
+use Rattle.std.specs.Prelude.{◌==◌, ◌&&◌, ◌||◌}
 use Rattle.std.specs.Prelude.{nat_le, Option, Result, Ok, Err, if◌then◌else◌, option_to_list}
 use Rattle.dali_capture.specs.declared.fault.Reason.{Reason}
 use Rattle.dali_capture.specs.declared.fault.Mistake.{Mistake}
@@ -76,8 +77,8 @@ abbrev pub capture_of : Option (List ℕ) → Bool → List ℕ → Result (List
 capture_of wanted inverted text =
     then_ok (read_bytes wanted inverted so_far_at_first text) (read_end wanted inverted)
 
--- WHY A CAPTURE IS NOT READ: its first mistake, or it is too long; of what the system refuses nothing
--- is known
+-- WHY A CAPTURE IS NOT READ: its first mistake, or it is too long; of what the system refuses
+-- nothing is known
 abbrev pub IsFaultOf : Result (List Item) Mistake → List ℕ → CaptureFault → Type 0
 IsFaultOf wanted text (Bad mistake) = wanted ≡ Err mistake
 IsFaultOf wanted text Memory = Unit {0}

@@ -19,15 +19,18 @@ use Rattle.dali_capture.specs.Ears.{is_same, ear_after_level, level_told, edge_t
 abbrev pub dump_at_first : Dump
 dump_at_first = record { section = at.Open; timescale = None; wire = None; now = 0; ear = None }
 
--- THE HEAD: sections that end with `$end`. `$timescale` has a number and a unit, in one word or two;
--- `$var` has a type, a size, an identifier, a name, and what follows; others are passed over.
+-- THE HEAD: sections that end with `$end`. `$timescale` has a number and a unit, in one word or
+-- two; `$var` has a type, a size, an identifier, a name, and what follows; others are passed over.
 abbrev pub after_skipped : List ℕ → Section
 after_skipped word = if bytes_eq word (codes "$end") then at.Open else at.Skipped
 
 abbrev pub scaled_by : Dump → ℕ → Option TimeUnit → Result Dump Reason
 scaled_by dump times None = Err reason.BadTimescale
 scaled_by dump times (Some unit) =
-    Ok (record dump { section = at.Skipped; timescale = Some (record { times = times; unit = unit }) })
+    Ok (record dump {
+      section = at.Skipped;
+      timescale = Some (record { times = times; unit = unit })
+    })
 
 abbrev pub scaled : Dump → ℕ → List ℕ → Result Dump Reason
 scaled dump times unit = scaled_by dump times (unit_in unit)
@@ -112,9 +115,9 @@ at_time dump word =
     then_ok (then_ok (number_of reason.BadWord word) (scaled_time dump.timescale))
     (λ now. if nat_lt now dump.now then Err reason.TimeBack else Ok (record dump { now = now }))
 
--- .. and changes: `0`, `1`, `x` or `z` before an identifier, or in two words a vector `b..`, a number
--- `r..` or a text `s..` and an identifier. The wire is low where it is 0; inverted, where it is 1.
--- What is neither 0 nor 1 says nothing of the wire: its level stays as it was.
+-- .. and changes: `0`, `1`, `x` or `z` before an identifier, or in two words a vector `b..`, a
+-- number `r..` or a text `s..` and an identifier. The wire is low where it is 0; inverted, where it
+-- is 1. What is neither 0 nor 1 says nothing of the wire: its level stays as it was.
 abbrev pub changed : Dump → Bool → List ℕ → Bool → Dump × Option Item
 changed dump inverted identifier high =
     if is_code dump.wire (code_of identifier)
@@ -148,7 +151,8 @@ open_word dump inverted [] = Err reason.BadWord
 open_word dump inverted (first ∷ rest) =
     if first == 35 then map_ok (λ next. (next, None)) (at_time dump rest)
     else if first == 36
-    then map_ok (λ section. (record dump { section = section }, None)) (section_of dump.wire (first ∷ rest))
+    then map_ok (λ section. (record dump { section = section }, None))
+    (section_of dump.wire (first ∷ rest))
     else if first == 98 || first == 66
     then Ok (record dump { section = at.Value (level_in rest) }, None)
     else if (first == 114 || first == 82) || (first == 115 || first == 83)
@@ -156,7 +160,8 @@ open_word dump inverted (first ∷ rest) =
     else scalar_word dump inverted first rest
 
 -- WORD BY WORD: what is read of a dump after one word more, and the item that had ended before it
-abbrev pub word_at : Section → Dump → Option (List ℕ) → Bool → List ℕ → Result (Dump × Option Item) Reason
+abbrev pub word_at : Section → Dump → Option (List ℕ) → Bool → List ℕ
+    → Result (Dump × Option Item) Reason
 word_at at.Open dump wanted inverted word = open_word dump inverted word
 word_at (at.Value level) dump wanted inverted word = Ok (value_word dump inverted level word)
 word_at at.Skipped dump wanted inverted word =
@@ -174,7 +179,8 @@ word_at at.Identifier dump wanted inverted word =
 word_at (at.Name code) dump wanted inverted word =
     map_ok (λ next. (next, None)) (head_word (at.Name code) dump wanted word)
 
-abbrev pub dump_word : Dump → Option (List ℕ) → Bool → List ℕ → Result (Dump × Option Item) Reason
+abbrev pub dump_word : Dump → Option (List ℕ) → Bool → List ℕ
+    → Result (Dump × Option Item) Reason
 dump_word dump wanted inverted word = word_at dump.section dump wanted inverted word
 
 -- THE END: the last item is told where the bus is at rest since, by the last time

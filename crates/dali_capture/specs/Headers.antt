@@ -19,7 +19,8 @@ ten_or_one one None = (1, one)
 ten_or_one one (Some ten) = hundred_or_ten ten (after_mark 48 ten)
 
 abbrev pub scale_in : List ℕ → Option (ℕ × List ℕ)
-scale_in word = option_and_then (λ one. Some (ten_or_one one (after_mark 48 one))) (after_mark 49 word)
+scale_in word =
+    option_and_then (λ one. Some (ten_or_one one (after_mark 48 one))) (after_mark 49 word)
 
 abbrev pub unit_in : List ℕ → Option Unit
 unit_in word =

@@ -8,3 +8,4 @@ pub mod Headers
 pub mod Dumps
 pub mod Sources
 pub mod Captures
+pub mod Spelled

@@ -14,7 +14,8 @@ is_digits (c ∷ cs) = all_ascii_digits (c ∷ cs)
 abbrev pub number_of : Reason → List ℕ → Result ℕ Reason
 number_of otherwise word =
     if is_digits word
-    then (if nat_lt (digits_value 10 word) (2 ^ 64) then Ok (digits_value 10 word) else Err TimeTooLarge)
+    then (if nat_lt (digits_value 10 word) (2 ^ 64) then Ok (digits_value 10 word)
+    else Err TimeTooLarge)
     else Err otherwise
 
 -- the byte that two hexadecimal digits write
@@ -27,8 +28,8 @@ abbrev pub after_mark : ℕ → List ℕ → Option (List ℕ)
 after_mark mark [] = None
 after_mark mark (first ∷ rest) = if first == mark then Some rest else None
 
--- THE CODE OF AN IDENTIFIER of at most seven bytes: the number of a byte 1 and of its bytes, so that
--- no two have one code.
+-- THE CODE OF AN IDENTIFIER of at most seven bytes: the number of a byte 1 and of its bytes, so
+-- that no two have one code.
 abbrev pub code_after : ℕ → List ℕ → Option ℕ
 code_after code [] = Some code
 code_after code (byte ∷ bytes) =

@@ -1,6 +1,6 @@
 //! Value change dumps (IEEE 1364-2005, 18): a head with the time scale and the variables, and then times and changes.
 
-ghost use Rattle.std.specs.Prelude.{◌≡◌, List, ℕ, Some, None, option_map};
+ghost use Rattle.std.specs.Prelude.{◌≡◌, Some, None, option_map};
 ghost use Rattle.dali_capture.specs.Dumps.{dump_at_first, sized, level_in, after_skipped, no_end, holds_changes};
 ghost use Rattle.dali_capture.specs.Dumps.{section_of, scaled, scale_word, named, head_word, at_time, changed};
 ghost use Rattle.dali_capture.specs.Dumps.{open_word, value_word, dump_word, dump_end};
@@ -9,7 +9,7 @@ use crate::ear::{Ear, hear};
 use crate::fault::Reason;
 use crate::header::{Timescale, scale_in, unit_in};
 use crate::item::Item;
-use crate::words::{after_mark, code_in, has_code, number_in};
+use crate::words::{code_in, has_code, number_in};
 
 /// Where in a dump the next word stands.
 #[derive(Clone, Copy)]

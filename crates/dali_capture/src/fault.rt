@@ -1,8 +1,6 @@
 //! Why a capture is not read.
 
-ghost use Rattle.std.specs.Prelude.{◌≡◌};
-
-use std::alloc::AllocError;
+use dali_console::Failed;
 use thiserror::Error;
 
 /// What is wrong in a line of a capture.
@@ -70,26 +68,15 @@ pub enum CaptureFault {
     TooLong,
 }
 
-impl CaptureFault {
+impl Failed for CaptureFault {
     ghost use Rattle.dali_capture.specs.Faults.{status_of};
 
-    /// The exit status of a program: 1 for a bad line, 3 for memory or input that is refused.
-    pub fn status(&self) -> u8
-        ensures { result ≡ status_of self.now }
-    {
+    ghost status_of = { status_of };
+
+    fn status(&self) -> u8 {
         match self {
             CaptureFault::Bad(_) => 1,
             CaptureFault::Memory | CaptureFault::Read | CaptureFault::TooLong => 3,
         }
-    }
-}
-
-impl From<AllocError> for CaptureFault {
-    ghost use Rattle.dali_capture.specs.declared.fault.CaptureFault.TheVariants.{Memory};
-
-    ghost from_gives = { λ _ e. e ≡ Memory };
-
-    fn from(_error: AllocError) -> CaptureFault {
-        CaptureFault::Memory
     }
 }

@@ -9,6 +9,7 @@ mod ear;
 mod fault;
 mod header;
 mod item;
+pub mod laws;
 mod log;
 mod reader;
 mod source;
