@@ -29,7 +29,7 @@ scaled_by dump times None = Err reason.BadTimescale
 scaled_by dump times (Some unit) =
     Ok (record dump {
       section = at.Skipped;
-      timescale = Some (record { times = times; unit = unit })
+      timescale = Some (record { times = times; unit = unit });
     })
 
 abbrev pub scaled : Dump → ℕ → List ℕ → Result Dump Reason
