@@ -2,3 +2,4 @@ mod Bytes
 mod Texts
 mod Logged
 mod Dumped
+mod ByLines

@@ -9,3 +9,4 @@ pub mod Dumps
 pub mod Sources
 pub mod Captures
 pub mod Spelled
+pub mod Lines
