@@ -7,6 +7,8 @@ use Rattle.dali_capture.specs.declared.header.Unit.{Unit as TimeUnit}
 use Rattle.dali_capture.specs.declared.item.Item.{Item}
 use Rattle.dali_capture.specs.declared.ear.Ear.{Ear}
 use Rattle.dali_capture.specs.declared.dump.Dump.{Dump}
+use Rattle.dali_capture.specs.declared.dump.Mark.{Mark}
+use Rattle.dali_capture.specs.declared.dump.Mark.TheVariants as mark
 use Rattle.dali_capture.specs.declared.dump.Section.{Section}
 use Rattle.dali_capture.specs.declared.dump.Section.TheVariants as at
 use Rattle.dali_capture.specs.Results.{then_ok, map_ok}
@@ -138,26 +140,38 @@ value_word dump inverted None identifier = (record dump { section = at.Open }, N
 value_word dump inverted (Some high) identifier =
     changed (record dump { section = at.Open }) inverted identifier high
 
-abbrev pub scalar_word : Dump → Bool → ℕ → List ℕ → Result (Dump × Option Item) Reason
-scalar_word dump inverted value [] = Err reason.BadWord
-scalar_word dump inverted value (c ∷ cs) =
-    if value == 48 then Ok (changed dump inverted (c ∷ cs) false)
-    else if value == 49 then Ok (changed dump inverted (c ∷ cs) true)
-    else if (value == 120 || value == 88) || (value == 122 || value == 90) then Ok (dump, None)
-    else Err reason.BadWord
+abbrev pub level_word : Dump → Bool → Option Bool → List ℕ → Result (Dump × Option Item) Reason
+level_word dump inverted level [] = Err reason.BadWord
+level_word dump inverted None (c ∷ cs) = Ok (dump, None)
+level_word dump inverted (Some high) (c ∷ cs) = Ok (changed dump inverted (c ∷ cs) high)
+
+-- which of these a word is, its first byte says
+abbrev pub mark_of : ℕ → Mark
+mark_of b =
+    if b == 35 then mark.Time
+    else if b == 36 then mark.Keyword
+    else if b == 98 || b == 66 then mark.Vector
+    else if (b == 114 || b == 82) || (b == 115 || b == 83) then mark.Number
+    else if b == 48 then mark.Level (Some false)
+    else if b == 49 then mark.Level (Some true)
+    else if (b == 120 || b == 88) || (b == 122 || b == 90) then mark.Level None
+    else mark.None
+
+abbrev pub marked_word : Dump → Bool → Mark → List ℕ → List ℕ
+    → Result (Dump × Option Item) Reason
+marked_word dump inverted mark.Time word rest = map_ok (λ next. (next, None)) (at_time dump rest)
+marked_word dump inverted mark.Keyword word rest =
+    map_ok (λ section. (record dump { section = section }, None)) (section_of dump.wire word)
+marked_word dump inverted mark.Vector word rest =
+    Ok (record dump { section = at.Value (level_in rest) }, None)
+marked_word dump inverted mark.Number word rest = Ok (record dump { section = at.Value None }, None)
+marked_word dump inverted (mark.Level level) word rest = level_word dump inverted level rest
+marked_word dump inverted mark.None word rest = Err reason.BadWord
 
 abbrev pub open_word : Dump → Bool → List ℕ → Result (Dump × Option Item) Reason
 open_word dump inverted [] = Err reason.BadWord
 open_word dump inverted (first ∷ rest) =
-    if first == 35 then map_ok (λ next. (next, None)) (at_time dump rest)
-    else if first == 36
-    then map_ok (λ section. (record dump { section = section }, None))
-    (section_of dump.wire (first ∷ rest))
-    else if first == 98 || first == 66
-    then Ok (record dump { section = at.Value (level_in rest) }, None)
-    else if (first == 114 || first == 82) || (first == 115 || first == 83)
-    then Ok (record dump { section = at.Value None }, None)
-    else scalar_word dump inverted first rest
+    marked_word dump inverted (mark_of first) (first ∷ rest) rest
 
 -- WORD BY WORD: what is read of a dump after one word more, and the item that had ended before it
 abbrev pub word_at : Section → Dump → Option (List ℕ) → Bool → List ℕ

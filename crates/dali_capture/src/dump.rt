@@ -3,7 +3,8 @@
 ghost use Rattle.std.specs.Prelude.{◌≡◌, Some, None, option_map};
 ghost use Rattle.dali_capture.specs.Dumps.{dump_at_first, sized, level_in, after_skipped, no_end, holds_changes};
 ghost use Rattle.dali_capture.specs.Dumps.{section_of, scaled, scale_word, named, head_word, at_time, changed};
-ghost use Rattle.dali_capture.specs.Dumps.{open_word, value_word, dump_word, dump_end};
+ghost use Rattle.dali_capture.specs.Dumps.{mark_of, level_word, marked_word, open_word, value_word, dump_word};
+ghost use Rattle.dali_capture.specs.Dumps.{dump_end};
 
 use crate::ear::{Ear, hear};
 use crate::fault::Reason;
@@ -32,6 +33,23 @@ pub enum Section {
     Name(u64),
     /// At the identifier of a variable that has this value from now on: high or low, or another one.
     Value(Option<bool>),
+}
+
+/// What a word between sections is.
+#[derive(Clone, Copy)]
+pub enum Mark {
+    /// A time.
+    Time,
+    /// The name of a section.
+    Keyword,
+    /// The value of a variable of bits, of which the next word is the identifier.
+    Vector,
+    /// A number or a text, of which the next word is the identifier.
+    Number,
+    /// High, low or another level, with the identifier behind it.
+    Level(Option<bool>),
+    /// None of these.
+    None,
 }
 
 /// A dump, read up to a word.
@@ -92,6 +110,22 @@ fn no_end(word: &[u8]) -> Result<(), Reason>
         Err(Reason::BadVariable)
     } else {
         Ok(())
+    }
+}
+
+/// What a word between sections is, by its first byte.
+fn mark_of(byte: u8) -> Mark
+    ensures { result ≡ mark_of byte }
+{
+    match byte {
+        b'#' => Mark::Time,
+        b'$' => Mark::Keyword,
+        b'b' | b'B' => Mark::Vector,
+        b'r' | b'R' | b's' | b'S' => Mark::Number,
+        b'0' => Mark::Level(Some(false)),
+        b'1' => Mark::Level(Some(true)),
+        b'x' | b'X' | b'z' | b'Z' => Mark::Level(None),
+        _ => Mark::None,
     }
 }
 
@@ -250,21 +284,51 @@ impl Dump {
         (Dump { ear, ..self }, told)
     }
 
-    /// A word between sections, which begins with this byte, and what follows it.
+    /// The level of a variable, in one word with its identifier.
+    fn level_word(
+        self,
+        is_inverted: bool,
+        level: Option<bool>,
+        identifier: &[u8],
+    ) -> Result<(Dump, Option<Item>), Reason>
+        ensures { result ≡ level_word self is_inverted level identifier.now }
+    {
+        if identifier.is_empty() {
+            return Err(Reason::BadWord);
+        }
+        match level {
+            Some(is_high) => Ok(self.changed(is_inverted, identifier, is_high)),
+            None => Ok((self, None)),
+        }
+    }
+
+    /// A word between sections, by the mark that it begins with, and what follows its first byte.
+    fn marked_word(
+        self,
+        is_inverted: bool,
+        mark: Mark,
+        word: &[u8],
+        rest: &[u8],
+    ) -> Result<(Dump, Option<Item>), Reason>
+        ensures { result ≡ marked_word self is_inverted mark word.now rest.now }
+    {
+        match mark {
+            Mark::Time => Ok((self.at_time(rest)?, None)),
+            Mark::Keyword => Ok((self.at(section_of(self.wire, word)?), None)),
+            Mark::Vector => Ok((self.at(Section::Value(level_in(rest))), None)),
+            Mark::Number => Ok((self.at(Section::Value(None)), None)),
+            Mark::Level(level) => self.level_word(is_inverted, level, rest),
+            Mark::None => Err(Reason::BadWord),
+        }
+    }
+
+    /// A word between sections.
     fn open_word(self, is_inverted: bool, word: &[u8]) -> Result<(Dump, Option<Item>), Reason>
         ensures { result ≡ open_word self is_inverted word.now }
     {
         match word {
             [] => Err(Reason::BadWord),
-            [b'#', ..] => Ok((self.at_time(&word[1..])?, None)),
-            [b'$', ..] => Ok((self.at(section_of(self.wire, word)?), None)),
-            [b'b' | b'B', ..] => Ok((self.at(Section::Value(level_in(&word[1..]))), None)),
-            [b'r' | b'R' | b's' | b'S', ..] => Ok((self.at(Section::Value(None)), None)),
-            [_] => Err(Reason::BadWord),
-            [b'0', ..] => Ok(self.changed(is_inverted, &word[1..], false)),
-            [b'1', ..] => Ok(self.changed(is_inverted, &word[1..], true)),
-            [b'x' | b'X' | b'z' | b'Z', ..] => Ok((self, None)),
-            _ => Err(Reason::BadWord),
+            [first, ..] => self.marked_word(is_inverted, mark_of(*first), word, &word[1..]),
         }
     }
 
