@@ -1,0 +1,4 @@
+pub mod Seen
+pub mod Bus
+pub mod Holders
+pub mod Findings

@@ -1,0 +1,9 @@
+//! Tests of the judge: captures of a controller at work, with and without a fault.
+#![tactic(auto)]
+
+#[cfg(test)]
+mod captures;
+#[cfg(test)]
+mod faults;
+#[cfg(test)]
+mod plain;
