@@ -127,6 +127,14 @@ is_other r (holder.Verified own) = not (own == r)
 is_other r holder.Nobody = false
 is_other r (holder.Programmed own) = false
 
+-- it was programmed at this search address
+abbrev pub was_given : ℕ → Holder → Bool
+was_given r (holder.Programmed own) = own == r
+was_given r (holder.Verified own) = own == r
+was_given r holder.Nobody = false
+was_given r holder.Somebody = false
+was_given r (holder.Answered own) = false
+
 abbrev pub given : ℕ → Holder → Holder
 given r h = if same_number (heard_of h) (Some r) then h else holder.Programmed r
 

@@ -2,3 +2,8 @@ pub mod Seen
 pub mod Bus
 pub mod Holders
 pub mod Findings
+pub mod Comparing
+pub mod Report
+pub mod Script
+pub mod Frames
+pub mod Bench

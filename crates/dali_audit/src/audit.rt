@@ -18,7 +18,8 @@ pub struct Audit {
     pub known: Known,
 }
 
-fn first_of(items: &[Item]) -> Option<Item>
+/// The first of these items.
+pub(crate) fn first_of(items: &[Item]) -> Option<Item>
     ensures { result ≡ first_of items.now }
 {
     match items {

@@ -23,7 +23,7 @@ pub const DRAW: u64 = 100_000;
 pub const INITIALISATION: u64 = 900_000_000;
 
 /// The bytes of the search address that were sent last; those of which the capture does not tell are `None`.
-#[derive(Clone, Copy, Debug, PartialEq, Eq)]
+#[derive(Clone, Copy)]
 pub struct Search {
     pub high: Option<u8>,
     pub middle: Option<u8>,
@@ -31,7 +31,7 @@ pub struct Search {
 }
 
 /// The first frame of a pair, which waits for its second.
-#[derive(Clone, Copy, Debug, PartialEq, Eq)]
+#[derive(Clone, Copy)]
 pub struct First {
     pub frame: Forward,
     pub at: u64,
@@ -40,7 +40,7 @@ pub struct First {
 }
 
 /// How much of a random address was heard under a short address, query by query.
-#[derive(Clone, Copy, Debug, PartialEq, Eq)]
+#[derive(Clone, Copy)]
 pub enum Spelled {
     Nothing,
     /// Its high byte.
@@ -50,7 +50,7 @@ pub enum Spelled {
 }
 
 /// What a capture tells of the bus up to an item.
-#[derive(Clone, Copy, Debug, PartialEq, Eq)]
+#[derive(Clone, Copy)]
 pub struct Bus {
     pub search: Search,
     pub half: Option<First>,

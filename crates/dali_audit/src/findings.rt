@@ -71,7 +71,7 @@ impl Kind {
 }
 
 /// A rule that was broken, and the time of the frame that broke it, in µs since the capture began.
-#[derive(Clone, Copy, Debug, PartialEq, Eq)]
+#[derive(Clone, Copy)]
 pub struct Finding {
     pub at: u64,
     pub kind: Kind,

@@ -1,7 +1,8 @@
 //! Who has which short address, as far as a capture shows.
 
 ghost use Rattle.std.specs.Prelude.{◌≡◌, map};
-ghost use Rattle.dali_audit.specs.Holders.{given, left_by, told, passed_on, answered, verified, redrawn, renewed};
+ghost use Rattle.dali_audit.specs.Holders.{given, was_given, left_by, told};
+ghost use Rattle.dali_audit.specs.Holders.{passed_on, answered, verified, redrawn, renewed};
 ghost use Rattle.dali_audit.specs.Holders.{swept, short_in};
 ghost use Rattle.dali_audit.specs.Holders.{program_change, short_change, byte_change, verify_change, forgets};
 ghost use Rattle.dali_audit.specs.Holders.{change_by};
@@ -31,7 +32,7 @@ pub enum Holder {
 }
 
 /// What an item changes of who has which short address.
-#[derive(Clone, Copy, Debug, PartialEq, Eq)]
+#[derive(Clone, Copy)]
 pub enum Change {
     Nothing,
     /// The short address was programmed at this search address.
@@ -213,6 +214,16 @@ impl Holder {
         }
     }
 
+    /// Whether it was programmed at this search address, and the gear there was heard under no other one since.
+    pub(crate) fn was_given(&self, random: Random24) -> bool
+        ensures { result ≡ was_given random self.now }
+    {
+        match self {
+            Holder::Programmed(own) | Holder::Verified(own) => *own == random,
+            Holder::Nobody | Holder::Somebody | Holder::Answered(_) => false,
+        }
+    }
+
     fn given(&self, random: Random24) -> Holder
         ensures { result ≡ given random self.now }
     {
@@ -362,6 +373,13 @@ impl Table {
         ensures { result ≡ holder_at self.now short }
     {
         self.holders[usize::from(short.number())]
+    }
+
+    /// Who has each short address, in order of their numbers.
+    pub fn holders(&self) -> &[Holder]
+        ensures { result.now ≡ self.now }
+    {
+        &self.holders
     }
 
     /// Whether a gear with this random address was heard under some short address.

@@ -9,7 +9,7 @@ use dali_sending::is_question;
 use dali_special::Command;
 
 /// What an item is.
-#[derive(Clone, Copy, Debug, PartialEq, Eq)]
+#[derive(Clone, Copy)]
 pub enum Seen {
     /// A forward frame, with what was heard after it.
     Sent(Forward, Answer),

@@ -2,8 +2,12 @@
 #![tactic(auto)]
 
 #[cfg(test)]
+mod bench;
+#[cfg(test)]
 mod captures;
 #[cfg(test)]
 mod faults;
+#[cfg(test)]
+mod own;
 #[cfg(test)]
 mod plain;
