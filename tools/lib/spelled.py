@@ -28,6 +28,7 @@ ENUMS = {
     "HexError": ("crates/dali_frame/src/hex.rt",),
     "InitialisationState": ("crates/dali_gear/src/state.rt",),
     "Input": (ORDERS, CODES),
+    "Kind": ("crates/dali_audit/src/findings.rt",),
     "KeepError": ("crates/dali_reserve/src/error.rt",),
     "NewError": ("crates/dali_ring/src/error.rt",),
     "OfferError": ("crates/dali_arbiter/src/error.rt",),
@@ -133,6 +134,7 @@ PLACES = (
     Place(FORMAT, section("Reports of the bus"), "Report", "{kebab}", "Collided"),
     Place(FORMAT, line("Of the rounds only"), "Order", "`{kebab}`", "Put"),
     Place(FORMAT, section("What `show` prints"), "InitialisationState", "`{kebab}`"),
+    Place(FORMAT, table("| Name | The frame | Source |"), "Kind", "| `{name}` |"),
     Place(FORMAT, section("Refusals"), "Refusal", "`refused {code} {name}`", "NoMemory"),
     Place(FORMAT, WHOLE, "Refusal", "{code} {name}"),
     # The forms of lines, by which bad ones are explained. `Power` is `off` and `on`.

@@ -1,0 +1,9 @@
+pub mod Seen
+pub mod Bus
+pub mod Holders
+pub mod Findings
+pub mod Comparing
+pub mod Report
+pub mod Script
+pub mod Frames
+pub mod Bench

@@ -1,0 +1,78 @@
+//! What is told of a capture.
+
+ghost use Rattle.std.specs.Prelude.{◌≡◌};
+ghost use Rattle.dali_audit.specs.Findings.{kind_name};
+
+/// A rule that was broken. The names never change.
+#[derive(Clone, Copy, Debug, PartialEq, Eq)]
+pub enum Kind {
+    /// What was on the bus is neither a frame nor an answer.
+    DamagedFrame,
+    /// The answer to a question is damaged, and it was no COMPARE.
+    DamagedAnswer,
+    /// A backward frame where nobody may answer.
+    UnaskedAnswer,
+    /// The first frame of a pair, after which another frame came.
+    HalfPair,
+    /// The second frame of a pair ended more than 100 ms after the first one began.
+    LatePair,
+    /// An addressing command less than 100 ms after RANDOMISE.
+    EarlyFrame,
+    /// A command for gear in an initialisation, more than 15 minutes after the last INITIALISE.
+    InitialisationOver,
+    /// PROGRAM SHORT ADDRESS, and the next addressing command does not ask for it.
+    NotQueried,
+    /// PROGRAM SHORT ADDRESS at a search address under which several gear were heard.
+    SeveralProgrammed,
+    /// PROGRAM SHORT ADDRESS of an address under which another gear was heard.
+    AddressTaken,
+    /// Two random addresses were heard under one short address.
+    TwoRandomAddresses,
+    /// One random address was heard under two short addresses.
+    TwoShortAddresses,
+}
+
+/// All of them, in the order in which they are told of one item.
+pub const KINDS: [Kind; 12] = [
+    Kind::DamagedFrame,
+    Kind::DamagedAnswer,
+    Kind::UnaskedAnswer,
+    Kind::HalfPair,
+    Kind::LatePair,
+    Kind::EarlyFrame,
+    Kind::InitialisationOver,
+    Kind::NotQueried,
+    Kind::SeveralProgrammed,
+    Kind::AddressTaken,
+    Kind::TwoRandomAddresses,
+    Kind::TwoShortAddresses,
+];
+
+impl Kind {
+    /// What it is called in reports.
+    pub fn name(self) -> &'static str
+        ensures { result.now ≡ kind_name self }
+    {
+        match self {
+            Kind::DamagedFrame => "damaged-frame",
+            Kind::DamagedAnswer => "damaged-answer",
+            Kind::UnaskedAnswer => "unasked-answer",
+            Kind::HalfPair => "half-pair",
+            Kind::LatePair => "late-pair",
+            Kind::EarlyFrame => "early-frame",
+            Kind::InitialisationOver => "initialisation-over",
+            Kind::NotQueried => "not-queried",
+            Kind::SeveralProgrammed => "several-programmed",
+            Kind::AddressTaken => "address-taken",
+            Kind::TwoRandomAddresses => "two-random-addresses",
+            Kind::TwoShortAddresses => "two-short-addresses",
+        }
+    }
+}
+
+/// A rule that was broken, and the time of the frame that broke it, in µs since the capture began.
+#[derive(Clone, Copy)]
+pub struct Finding {
+    pub at: u64,
+    pub kind: Kind,
+}

@@ -1,0 +1,98 @@
+//! A bench of a capture as a script, which `dali_sim replay` plays.
+#![tactic(auto, using(std::proofs::lemmas::List::append_assoc))]
+
+ghost use Rattle.std.specs.Prelude.{◌≡◌, ◌++◌, OnOk, string_bytes};
+ghost use Rattle.dali_audit.specs.Script.{step_text, steps_text, used_text, all_used_text, draws_text};
+
+use crate::bench::Bench;
+use crate::comparing::{Move, Step};
+use crate::places::{BenchError, Place};
+use dali_frame::Random24;
+use std::alloc::{AllocError, Global};
+
+/// How many bytes a script has at the most.
+pub const SCRIPT_LIMIT: usize = 1_048_576;
+
+fn push_step(text: &mut String, step: &Step) -> Result<(), AllocError>
+    ensures { OnOk result (string_bytes text.new ≡ string_bytes text.old ++ step_text step.now) }
+{
+    match step.what {
+        Move::On(gear) => write!(text, "on {gear}\n"),
+        Move::Off(gear) => write!(text, "off {gear}\n"),
+        Move::Expire(gear) => write!(text, "expire {gear}\n"),
+        Move::Quiet => text.push_str("quiet\n"),
+        Move::Frame(frame, _) => write!(text, "frame {frame}\n"),
+    }
+}
+
+/// A line for each step.
+fn push_steps(text: &mut String, steps: &[Step]) -> Result<(), AllocError>
+    ensures { OnOk result (string_bytes text.new ≡ string_bytes text.old ++ steps_text steps.now) }
+{
+    for step in steps {
+        push_step(text, step)?;
+    }
+    Ok(())
+}
+
+fn push_used(text: &mut String, number: usize, place: &Place) -> Result<(), AllocError>
+    ensures { OnOk result (string_bytes text.new ≡ string_bytes text.old ++ used_text number place.now) }
+{
+    let random = place.random;
+    match place.short {
+        Some(short) => {
+            let address = short.number();
+            write!(text, "used {number} {address} {random}\n")
+        }
+        None => Ok(()),
+    }
+}
+
+/// A line for each gear that had a short address.
+fn push_all_used(text: &mut String, places: &[Place]) -> Result<(), AllocError>
+    ensures { OnOk result (string_bytes text.new ≡ string_bytes text.old ++ all_used_text 0 places.now) }
+{
+    for (number, place) in places.iter().enumerate() {
+        push_used(text, number, place)?;
+    }
+    Ok(())
+}
+
+/// The numbers that gear draw, each behind a space.
+fn push_draws(text: &mut String, draws: &[Random24]) -> Result<(), AllocError>
+    ensures { OnOk result (string_bytes text.new ≡ string_bytes text.old ++ draws_text draws.now) }
+{
+    for draw in draws {
+        let draw = *draw;
+        write!(text, " {draw}")?;
+    }
+    Ok(())
+}
+
+fn push_bench(text: &mut String, bench: &Bench) -> Result<(), AllocError> {
+    let count = bench.places.len();
+    // A script has one gear at least. Where none is known, that one has no power.
+    if count == 0 {
+        text.push_str("bench 1\ndraws\noff 0\n")?;
+    } else {
+        write!(text, "bench {count}\ndraws")?;
+        push_draws(text, bench.draws.as_slice())?;
+        text.push_str("\n")?;
+        push_all_used(text, bench.places.as_slice())?;
+    }
+    push_steps(text, bench.steps.as_slice())
+}
+
+impl Bench {
+    /// The bench as a script, of at most 1,048,576 bytes.
+    pub fn script(&self, alloc: Global) -> Result<String, BenchError> {
+        let mut text = String::new(alloc);
+        if push_bench(&mut text, self).is_err() {
+            return Err(BenchError::NoMemory);
+        }
+        if text.len() > SCRIPT_LIMIT {
+            return Err(BenchError::TooLong);
+        }
+        Ok(text)
+    }
+}

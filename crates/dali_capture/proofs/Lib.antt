@@ -1,0 +1,5 @@
+mod Bytes
+mod Texts
+mod Logged
+mod Dumped
+mod ByLines

@@ -1,0 +1,12 @@
+pub mod Results
+pub mod Faults
+pub mod Items
+pub mod Words
+pub mod Ears
+pub mod Logs
+pub mod Headers
+pub mod Dumps
+pub mod Sources
+pub mod Captures
+pub mod Spelled
+pub mod Lines
