@@ -10,7 +10,7 @@ use Rattle.dali_wire.specs.declared.receiver.Frame.{Frame}
 use Rattle.dali_wire.specs.declared.receiver.Frame.TheVariants.{Backward}
 use Rattle.dali_wire.specs.declared.receiver.Told.{Told}
 use Rattle.dali_wire.specs.declared.window.Window.{Window}
-use Rattle.dali_wire.specs.Reception.{told_of, receiver_at_first}
+use Rattle.dali_wire.specs.Reception.{told_of, receiver_after, receiver_at, receiver_at_first}
 
 -- A BACKWARD FRAME BEGINS 2,400 to 12,400 µs after the last edge of the forward frame, from memory
 -- (IEC 62386-101:2014, receiver frame sequence timing). What else is heard, or too early or too
@@ -55,6 +55,17 @@ abbrev pub answer_at : Window → ℕ → Option Answer
 answer_at w now =
     if is_idle w.receiver.reading && nat_lt 12400 now then Some w.heard
     else (if nat_lt 50000 now then Some Damaged else None)
+
+-- THE WINDOW after an edge, and so many µs after one
+abbrev pub window_after : Window → Bool → ℕ → Window
+window_after w low since = record {
+  receiver = receiver_after w.receiver low since;
+  elapsed = passed w since;
+  heard = heard_with w since;
+}
+
+abbrev pub window_at : Window → ℕ → Window
+window_at w since = record w { receiver = receiver_at w.receiver since; heard = heard_with w since }
 
 abbrev pub window_at_first : Window
 window_at_first = record { receiver = receiver_at_first; elapsed = 0; heard = Silence }
