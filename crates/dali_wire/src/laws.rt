@@ -4,7 +4,7 @@
 //!
 //! These are laws over the definitions that the contracts of this crate cite. Programs don't call them.
 
-ghost use Rattle.std.specs.Prelude.{◌≡◌, ℕ, ◌+◌, ◌*◌, ◌<◌, ◌≤◌, ◌⊎◌, Bool, true, false, Option, None};
+ghost use Rattle.std.specs.Prelude.{◌≡◌, ℕ, ◌+◌, ◌*◌, ◌^◌, ◌<◌, ◌≤◌, ◌⊎◌, Bool, true, false, Option, None};
 ghost use Rattle.std.specs.Prelude.{List, ◌∷◌, ◌++◌, length};
 ghost use Rattle.std.specs.List.{AllByRecursion};
 ghost use Rattle.dali_frame.specs.declared.frames.Answer.{Answer};
@@ -18,7 +18,8 @@ ghost use Rattle.dali_wire.specs.Reception.{ended, reading_at};
 ghost use Rattle.dali_wire.specs.Levels.{bits_of, levels_of, forward_bits, backward_bits, highs};
 ghost use Rattle.dali_wire.specs.Grid.{Tells, IsHeard, IsPassedOver, begun_at, Within, bus_of, first_low};
 ghost use Rattle.dali_wire.specs.Times.{IsHalf, AreTimes, HasRead};
-ghost use Rattle.dali_wire.specs.Windows.{heard_after, IsInTime};
+ghost use Rattle.dali_wire.specs.declared.window.Window.{Window};
+ghost use Rattle.dali_wire.specs.Windows.{heard_after, window_after, window_at, IsInTime};
 
 /// Every frame is read back from its levels, once the bus was high for a stop condition.
 pub fn frames_are_read_back()
@@ -63,6 +64,15 @@ pub fn joint_answers_are_one_byte()
 pub fn a_byte_is_heard_of_one_frame()
     ensures { (heard : Answer) (told : Option Told) (now byte : ℕ) → heard_after heard told now ≡ Byte byte
         → ((heard ≡ Byte byte) × (told ≡ None)) ⊎ ((heard ≡ Silence) × IsInTime told now byte) }
+{}
+
+/// A window may be asked at any time, and as often as one likes: each later edge and time leaves the same window as if
+/// it had not been asked.
+pub fn asking_changes_nothing()
+    ensures edge { (w : Window) (before since : ℕ) (low : Bool) → before ≤ since → w.elapsed + since < 2 ^ 32
+        → window_after (window_at w before) low since ≡ window_after w low since }
+    ensures time { (w : Window) (before since : ℕ) → before ≤ since → w.elapsed + since < 2 ^ 32
+        → window_at (window_at w before) since ≡ window_at w since }
 {}
 
 /// Lows that are shorter than a half bit, on a bus at rest, are not told, however many come and whenever, and the bus
