@@ -8,10 +8,10 @@ use Rattle.dali_wire.specs.declared.receiver.Frame.{Frame}
 use Rattle.dali_wire.specs.declared.receiver.Told.{Told}
 use Rattle.dali_wire.specs.declared.window.Window.{Window}
 use Rattle.dali_wire.specs.Reception.{frame_read}
-use Rattle.dali_wire.specs.Windows.{answer_in, heard_after, window_after, window_at}
+use Rattle.dali_wire.specs.Windows.{heard_after, window_after, window_at}
 
 -- WHEN A FRAME BEGAN is the same, whenever it is told.
-begun : (elapsed since lasted : ℕ) → elapsed + since < 2 ^ 32 → min (elapsed + since) (2 ^ 32 - 1) - since - lasted ≡ elapsed - lasted
+pub begun : (elapsed since lasted : ℕ) → elapsed + since < 2 ^ 32 → min (elapsed + since) (2 ^ 32 - 1) - since - lasted ≡ elapsed - lasted
 begun elapsed since lasted small = omega arith
 
 abbrev told_at : ℕ → ℕ → Option Frame → Option Told

@@ -8,3 +8,4 @@ mod Asking
 mod Joint
 mod Sending
 mod Worked
+mod Heard

@@ -1,5 +1,5 @@
 use Rattle.std.specs.Prelude.{◌≡◌, ◌≤◌, ℕ, ◌+◌, ◌-◌, ◌^◌, min, Bool, true, false}
-use Rattle.std.specs.Prelude.{◌&&◌, nat_lt, nat_le}
+use Rattle.std.specs.Prelude.{◌&&◌, nat_lt, nat_le, List, [], ◌∷◌}
 use Rattle.std.specs.Prelude.{Option, Some, None, if◌then◌else◌}
 use Rattle.dali_frame.specs.declared.frames.Answer.{Answer}
 use Rattle.dali_frame.specs.declared.frames.Answer.TheVariants.{Silence, Byte, Damaged}
@@ -69,3 +69,13 @@ window_at w since = record w { receiver = receiver_at w.receiver since; heard = 
 
 abbrev pub window_at_first : Window
 window_at_first = record { receiver = receiver_at_first; elapsed = 0; heard = Silence }
+
+-- what is told so long after the last edge
+abbrev pub told_after : Window → ℕ → Option Answer
+told_after w since = answer_at (window_at w since) (passed w since)
+
+-- after edges by turns, the first one to this level, with these times before them
+abbrev pub window_through : Window → Bool → List ℕ → Window
+window_through w low [] = w
+window_through w true (time ∷ times) = window_through (window_after w true time) false times
+window_through w false (time ∷ times) = window_through (window_after w false time) true times
