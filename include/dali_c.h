@@ -25,12 +25,14 @@ extern "C" {
 #define DALI_VERSION "0.2.0"
 /* The version of the structs and calls: it counts up with each change of one of them. Compare it with dali_c_version()
  * once, before the first call. */
-#define DALI_C_VERSION 103
+#define DALI_C_VERSION 104
 
 /* How many short addresses there are, and the most records of a kind. */
 #define DALI_ADDRESSES 64
 /* The most frames of a running transaction. */
 #define DALI_FRAMES 8
+/* The half bits of a forward frame with its stop condition. */
+#define DALI_HALVES 40
 /* The priority of a transaction's first frame, and of its later ones: 1 is sent first, 5 last. */
 #define DALI_FIRST_PRIORITY 3
 #define DALI_LATER_PRIORITY 1
@@ -149,6 +151,20 @@ enum dali_record_kind {
     DALI_ENROL = 2,
     /* A reservation is given back. */
     DALI_RELEASE = 3
+};
+
+/* What a receiver of edges tells. */
+enum dali_frame_kind {
+    /* No frame has ended. */
+    DALI_NO_FRAME = 0,
+    /* 16 bits, a forward frame: its address byte and its opcode byte. */
+    DALI_FORWARD_FRAME = 1,
+    /* 8 bits, a backward frame: its byte. */
+    DALI_BACKWARD_FRAME = 2,
+    /* 24 bits, a forward frame for other devices: its three bytes. */
+    DALI_DEVICE_FRAME = 3,
+    /* Anything else: wrong bit times, a bit without a change in its middle, a wrong number of bits. */
+    DALI_DAMAGED_FRAME = 4
 };
 
 /* A random address of 24 bits, as its three bytes. */
@@ -272,6 +288,47 @@ struct dali_table {
     struct dali_pair gear[DALI_ADDRESSES];
 };
 
+/* The levels of a forward frame with its stop condition, half bit by half bit, each 416.7 microseconds long: 1 where
+ * the bus is low, 0 where it is high. */
+struct dali_levels {
+    uint8_t is_low[DALI_HALVES];
+};
+
+/* Reads the edges of the bus. Make one with dali_receiver_new; its fields are the library's alone, and only so many
+ * bytes to you. */
+struct dali_receiver {
+    uint8_t reading;
+    uint8_t is_low;
+    uint8_t bits[4];
+    uint8_t lasted[4];
+};
+
+/* What a receiver tells. Its kind is of enum dali_frame_kind. What the kind does not name is 0. */
+struct dali_told {
+    uint8_t kind;
+    /* In the order in which they were sent. */
+    uint8_t bytes[3];
+    /* How many microseconds the frame took from its first edge to its last one: four bytes, the least first. */
+    uint8_t lasted[4];
+};
+
+/* What is heard after a forward frame. Make one with dali_window_new; its fields are the library's alone, and only so
+ * many bytes to you. */
+struct dali_window {
+    struct dali_receiver receiver;
+    uint8_t elapsed[4];
+    uint8_t heard;
+    uint8_t byte;
+};
+
+/* What a window tells. Before it is over all is 0. */
+struct dali_heard {
+    uint8_t is_over;
+    /* What dali_machine_step is told: DALI_HEARD_SILENCE, DALI_HEARD_BYTE with its byte, or DALI_HEARD_DAMAGED. */
+    uint8_t input;
+    uint8_t byte;
+};
+
 /* DALI_C_VERSION of the library. */
 uint8_t dali_c_version(void);
 
@@ -325,6 +382,41 @@ uint8_t dali_machine_records(const struct dali_machine *machine, struct dali_rec
 
 /* The enrolment table of a machine. DALI_OTHER_VERSION, DALI_NO_MACHINE: `machine` is no machine's. */
 uint8_t dali_machine_table(const struct dali_machine *machine, struct dali_table *table);
+
+/* AT THE PINS, for a driver that sees the edges of the bus. A window tells what a machine is told; a receiver tells
+ * each frame, also those of others. `is_low` is the level after an edge: 1 where the bus is low, 0 where it is high.
+ * `micros` is how many microseconds have passed since the edge before, or until now since the last one. Hand each edge
+ * over before a time that is later. docs/VENDOR.md says what else is the driver's. */
+
+/* The levels of a forward frame. */
+uint8_t dali_levels_new(struct dali_levels *levels, uint8_t address_byte, uint8_t opcode_byte);
+
+/* A window, at the last edge of the own forward frame. */
+uint8_t dali_window_new(struct dali_window *window);
+
+/* An edge.
+ *
+ * DALI_BAD_ARGUMENT: `window` is none, or `is_low` is neither 0 nor 1. */
+uint8_t dali_window_edge(struct dali_window *window, uint8_t is_low, uint32_t micros);
+
+/* Time has passed since the last edge, or since the window is new. Tells what was heard once no backward frame may
+ * begin any more and the bus is at rest, or has not come to rest within 50 ms.
+ *
+ * DALI_BAD_ARGUMENT: `window` is none. */
+uint8_t dali_window_time(struct dali_window *window, uint32_t micros, struct dali_heard *heard);
+
+/* A receiver of a bus that has been high for the time of a stop condition. */
+uint8_t dali_receiver_new(struct dali_receiver *receiver);
+
+/* An edge. Tells the frame that had ended before it, where dali_receiver_time did not tell it.
+ *
+ * DALI_BAD_ARGUMENT: `receiver` is none, or `is_low` is neither 0 nor 1. */
+uint8_t dali_receiver_edge(struct dali_receiver *receiver, uint8_t is_low, uint32_t micros, struct dali_told *told);
+
+/* Time has passed since the last edge. Tells the frame that has ended by now, once.
+ *
+ * DALI_BAD_ARGUMENT: `receiver` is none. */
+uint8_t dali_receiver_time(struct dali_receiver *receiver, uint32_t micros, struct dali_told *told);
 
 #ifdef __cplusplus
 }

@@ -3,13 +3,14 @@
  *
  *     statuses [ROUNDS [SEED]]
  *
- * Each round tries a machine and records, some as they are, some with one byte changed, some with
- * all bytes at random. It says which of the first checks were wrong, and how many were right and
+ * Each round tries a machine, records, a window and a receiver, some as they are, some with one byte
+ * changed, some with all bytes at random; and it sends an answer and a frame by their levels. It says which of the first checks were wrong, and how many were right and
  * how many wrong; the status is 1 where one was wrong. */
 #include "chance.h"
 #include "controller.h"
 #include "dali_c.h"
 #include "gear.h"
+#include "levels.h"
 
 #include <stdio.h>
 #include <stdlib.h>
@@ -60,6 +61,11 @@ static void check_layouts(void)
     CHECK_LAYOUT(dali_order, 12);
     CHECK_LAYOUT(dali_machine, 640);
     CHECK_LAYOUT(dali_table, 257);
+    CHECK_LAYOUT(dali_levels, 40);
+    CHECK_LAYOUT(dali_receiver, 10);
+    CHECK_LAYOUT(dali_told, 8);
+    CHECK_LAYOUT(dali_window, 16);
+    CHECK_LAYOUT(dali_heard, 3);
 }
 
 static struct dali_record record_of(uint8_t kind, uint8_t short_address, uint32_t random_address)
@@ -387,6 +393,76 @@ static void try_machine(const struct dali_machine *given, uint8_t input, uint8_t
     }
 }
 
+/* Any bytes as a window, and the receiver in it: the calls take those that a call may have left there, with a level that
+ * is one, and no others. */
+static void try_window(const struct dali_window *given, uint8_t is_low, uint32_t micros)
+{
+    struct dali_window window = *given;
+    struct dali_receiver receiver = given->receiver;
+    struct dali_heard heard;
+    struct dali_told told;
+    int is_receiver = receiver.reading <= 4 && receiver.is_low <= 1;
+    int is_window = is_receiver && window.heard >= DALI_HEARD_SILENCE && window.heard <= DALI_HEARD_DAMAGED;
+    uint8_t status = is_window && is_low <= 1 ? DALI_OK : DALI_BAD_ARGUMENT;
+
+    check(dali_window_edge(&window, is_low, micros) == status, "the status of dali_window_edge");
+    check(memcmp(&window, given, status == DALI_OK ? 0 : sizeof window) == 0, "a refused edge changes a window");
+    check(status != DALI_OK || window.receiver.is_low == is_low, "the level of a window after an edge");
+    window = *given;
+    status = is_window ? DALI_OK : DALI_BAD_ARGUMENT;
+    memset(&heard, UNTOUCHED, sizeof heard);
+    check(dali_window_time(&window, micros, &heard) == status, "the status of dali_window_time");
+    check_written(&heard, sizeof heard, status, "what dali_window_time writes");
+    check(memcmp(&window, given, status == DALI_OK ? 0 : sizeof window) == 0, "a refused time changes a window");
+    check(status != DALI_OK || heard.is_over == (heard.input != 0), "what a window tells, and whether it is over");
+    check(status != DALI_OK || micros <= 50000 || heard.is_over == 1, "a window that does not end");
+    status = is_receiver && is_low <= 1 ? DALI_OK : DALI_BAD_ARGUMENT;
+    memset(&told, UNTOUCHED, sizeof told);
+    check(dali_receiver_edge(&receiver, is_low, micros, &told) == status, "the status of dali_receiver_edge");
+    check_written(&told, sizeof told, status, "what dali_receiver_edge writes");
+    receiver = given->receiver;
+    status = is_receiver ? DALI_OK : DALI_BAD_ARGUMENT;
+    memset(&told, UNTOUCHED, sizeof told);
+    check(dali_receiver_time(&receiver, micros, &told) == status, "the status of dali_receiver_time");
+    check_written(&told, sizeof told, status, "what dali_receiver_time writes");
+    check(memcmp(&receiver, &given->receiver, status == DALI_OK ? 0 : sizeof receiver) == 0,
+          "a refused time changes a receiver");
+}
+
+/* Bytes of a window that has heard anything, or one. */
+static struct dali_window some_window(uint64_t *chance)
+{
+    struct dali_window window;
+    uint8_t *bytes = (uint8_t *)&window;
+
+    for (size_t at = 0; at < sizeof window; at++)
+        bytes[at] = (uint8_t)chance_next(chance);
+    window.receiver.reading = (uint8_t)chance_below(chance, 6);
+    window.receiver.is_low = (uint8_t)(chance_below(chance, 33) / 16);
+    window.heard = (uint8_t)chance_below(chance, 5);
+    return window;
+}
+
+/* Each status of the calls at the pins, at what they make and at bytes that are none. */
+static void reach_pins(unsigned long rounds, uint64_t seed)
+{
+    struct dali_window window;
+    struct levels_seen seen;
+    const char *is_wrong = levels_try(seed, (uint32_t)rounds / 20, &seen);
+
+    memset(&window, UNTOUCHED, sizeof window);
+    check(dali_receiver_new(&window.receiver) == DALI_OK, "the status of dali_receiver_new");
+    try_window(&window, 1, 20000);
+    check(dali_window_new(&window) == DALI_OK, "the status of dali_window_new");
+    try_window(&window, 0, 12401);
+    try_window(&window, 2, 12401);
+    memset(&window, 0, sizeof window);
+    try_window(&window, 1, 12401);
+    check(!is_wrong, is_wrong ? is_wrong : "levels");
+    printf("silence %lu, a byte %lu and damaged %lu times, %lu frames; ", (unsigned long)seen.silences,
+           (unsigned long)seen.bytes, (unsigned long)seen.damaged, (unsigned long)seen.frames);
+}
+
 /* A list has so many pairs, and this one is the last. */
 static void check_last(const struct dali_pairs *list, int count, const struct dali_pair *pair)
 {
@@ -512,13 +588,16 @@ int main(int count, char **words)
 
     check_layouts();
     reach_statuses();
+    reach_pins(rounds, chance);
     collect(machines, chance);
     for (unsigned long round = 0; round < rounds; round++) {
         struct dali_machine machine = machines[chance_below(&chance, MACHINES)];
         struct dali_records records = machine.records;
         struct dali_record addition = some_record(&records, &chance);
+        struct dali_window window = some_window(&chance);
         uint8_t input = (uint8_t)chance_below(&chance, DALI_SURVEY + 3);
 
+        try_window(&window, (uint8_t)(chance_below(&chance, 33) / 16), (uint32_t)chance_next(&chance) >> round % 32);
         change(&machine, sizeof machine, &chance);
         change(&records, sizeof records, &chance);
         try_machine(&machine, input, (uint8_t)chance_next(&chance));

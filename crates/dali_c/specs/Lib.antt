@@ -8,4 +8,6 @@ pub mod Tallies
 pub mod Entries
 pub mod Records
 pub mod Machines
+pub mod Levels
+pub mod Receivers
 pub mod Calls

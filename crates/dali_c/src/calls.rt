@@ -1,6 +1,6 @@
 //! What C calls. Bytes that are none are refused, but by `dali_machine_go`: the one call with a condition.
 
-ghost use Rattle.std.specs.Prelude.{◌≡◌, ◌<◌, ◌↔◌, ◌⊎◌, true, false, [], Option, Some, None, IsSome, IfSome};
+ghost use Rattle.std.specs.Prelude.{◌≡◌, ◌<◌, ◌↔◌, ◌⊎◌, Bool, true, false, [], Option, Some, None, IsSome, IfSome};
 ghost use Rattle.dali_script.specs.declared.records.Record.{Record};
 ghost use Rattle.dali_script.specs.declared.orders.Input.{Input};
 ghost use Rattle.dali_script.specs.declared.orders.Order.{Order};
@@ -11,22 +11,32 @@ ghost use Rattle.dali_controller.specs.Machine.{Machine, at_first};
 ghost use Rattle.dali_controller.specs.Orders.{IsGiven, machine_after};
 ghost use Rattle.dali_controller.specs.States.{machine_with};
 ghost use Rattle.dali_controller.specs.Whole.{IsWhole};
-ghost use Rattle.dali_c.specs.Codes.{input_of, due_code};
+ghost use Rattle.dali_wire.specs.declared.receiver.Receiver.{Receiver};
+ghost use Rattle.dali_wire.specs.declared.window.Window.{Window};
+ghost use Rattle.dali_wire.specs.Levels.{sent_levels, forward_bits};
+ghost use Rattle.dali_wire.specs.Reception.{receiver_at_first, receiver_after, receiver_at, told_of};
+ghost use Rattle.dali_wire.specs.Windows.{window_at_first, window_after, window_at, answer_at, passed};
+ghost use Rattle.dali_c.specs.Codes.{input_of, bool_of, due_code};
 ghost use Rattle.dali_c.specs.Orders.{record_of, order_of, HasNoMore, IsSentSo};
 ghost use Rattle.dali_c.specs.Records.{kept_of, AreRecords};
 ghost use Rattle.dali_c.specs.Machines.{VERSION, IsRead, Holds};
+ghost use Rattle.dali_c.specs.Levels.{AreLevels};
+ghost use Rattle.dali_c.specs.Receivers.{receiver_of, window_of, IsTold, IsHeard};
 ghost use Rattle.dali_c.specs.Calls.{AnswersAdd, Steps, refusal, OK, NOT_DUE, NO_MACHINE, BAD_ARGUMENT, NO_RECORDS};
 ghost use Rattle.dali_c.specs.Calls.{DOES_NOT_FIT, ADDRESS_TAKEN, RANDOM_TAKEN, NOT_RESERVED};
 
-use crate::codes::{due_code, input_of};
+use crate::codes::{bool_of, due_code, input_of};
+use crate::levels::PlainLevels;
 use crate::machine::PlainMachine;
 use crate::orders::{PlainOrder, PlainRecord};
+use crate::receivers::{PlainHeard, PlainReceiver, PlainTold, PlainWindow};
 use crate::records::PlainRecords;
 use crate::state::{PlainState, VERSION};
 use crate::status;
 use dali_controller::State;
-use dali_frame::Short;
+use dali_frame::{Forward, Short};
 use dali_script::{AddError, Block, Due, Input, Order, Pairs, Record, Records};
+use dali_wire::{Receiver, Window};
 
 /// The version of the structs and calls.
 #[unsafe(no_mangle)]
@@ -291,5 +301,122 @@ pub extern "C" fn dali_machine_table(machine: &PlainMachine, table: &mut Pairs) 
         return machine.refusal();
     };
     *table = machine.records.enrolled;
+    status::OK
+}
+
+/// The levels of a forward frame, with its stop condition.
+#[unsafe(no_mangle)]
+pub extern "C" fn dali_levels_new(levels: &mut PlainLevels, address_byte: u8, opcode_byte: u8) -> u8
+    ensures { (result ≡ OK) × AreLevels levels.new.is_low
+        (sent_levels (forward_bits (record { address_byte = address_byte; opcode_byte = opcode_byte }))) }
+{
+    *levels = PlainLevels::of(Forward {
+        address_byte,
+        opcode_byte,
+    });
+    status::OK
+}
+
+/// A receiver of a bus that has been high for the time of a stop condition.
+#[unsafe(no_mangle)]
+pub extern "C" fn dali_receiver_new(receiver: &mut PlainReceiver) -> u8
+    ensures { (result ≡ OK) × (receiver_of receiver.new ≡ Some receiver_at_first) }
+{
+    *receiver = PlainReceiver::of(Receiver::new());
+    status::OK
+}
+
+/// An edge, after which the bus is low or high, so many µs after the last one: the frame that had ended before, where
+/// `dali_receiver_time` did not tell it.
+#[unsafe(no_mangle)]
+pub extern "C" fn dali_receiver_edge(
+    receiver: &mut PlainReceiver,
+    is_low: u8,
+    micros: u32,
+    told: &mut PlainTold,
+) -> u8
+    ensures done { (r : Receiver) → (low : Bool) → receiver_of receiver.old ≡ Some r → bool_of is_low ≡ Some low
+        → (result ≡ OK) × (receiver_of receiver.new ≡ Some (receiver_after r low micros))
+        × IsTold told.new (told_of r micros) }
+    ensures bad { (result ≡ BAD_ARGUMENT) ↔ ((receiver_of receiver.old ≡ None) ⊎ (bool_of is_low ≡ None)) }
+    ensures named { (result ≡ OK) ⊎ (result ≡ BAD_ARGUMENT) }
+    ensures untouched { (result ≡ OK → ⊥) → (receiver.new ≡ receiver.old) × (told.new ≡ told.old) }
+{
+    let (Some(mut running), Some(is_low)) = (receiver.read(), bool_of(is_low)) else {
+        return status::BAD_ARGUMENT;
+    };
+    *told = PlainTold::of(running.edge(is_low, micros));
+    *receiver = PlainReceiver::of(running);
+    status::OK
+}
+
+/// So many µs have passed since the last edge: the frame that has ended by now, once.
+#[unsafe(no_mangle)]
+pub extern "C" fn dali_receiver_time(
+    receiver: &mut PlainReceiver,
+    micros: u32,
+    told: &mut PlainTold,
+) -> u8
+    ensures done { (r : Receiver) → receiver_of receiver.old ≡ Some r
+        → (result ≡ OK) × (receiver_of receiver.new ≡ Some (receiver_at r micros))
+        × IsTold told.new (told_of r micros) }
+    ensures bad { (result ≡ BAD_ARGUMENT) ↔ (receiver_of receiver.old ≡ None) }
+    ensures named { (result ≡ OK) ⊎ (result ≡ BAD_ARGUMENT) }
+    ensures untouched { (result ≡ OK → ⊥) → (receiver.new ≡ receiver.old) × (told.new ≡ told.old) }
+{
+    let Some(mut running) = receiver.read() else {
+        return status::BAD_ARGUMENT;
+    };
+    *told = PlainTold::of(running.time(micros));
+    *receiver = PlainReceiver::of(running);
+    status::OK
+}
+
+/// A window, at the last edge of a forward frame.
+#[unsafe(no_mangle)]
+pub extern "C" fn dali_window_new(window: &mut PlainWindow) -> u8
+    ensures { (result ≡ OK) × (window_of window.new ≡ Some window_at_first) }
+{
+    *window = PlainWindow::of(Window::new());
+    status::OK
+}
+
+/// An edge, after which the bus is low or high, so many µs after the last one.
+#[unsafe(no_mangle)]
+pub extern "C" fn dali_window_edge(window: &mut PlainWindow, is_low: u8, micros: u32) -> u8
+    ensures done { (w : Window) → (low : Bool) → window_of window.old ≡ Some w → bool_of is_low ≡ Some low
+        → (result ≡ OK) × (window_of window.new ≡ Some (window_after w low micros)) }
+    ensures bad { (result ≡ BAD_ARGUMENT) ↔ ((window_of window.old ≡ None) ⊎ (bool_of is_low ≡ None)) }
+    ensures named { (result ≡ OK) ⊎ (result ≡ BAD_ARGUMENT) }
+    ensures untouched { (result ≡ OK → ⊥) → window.new ≡ window.old }
+{
+    let (Some(mut running), Some(is_low)) = (window.read(), bool_of(is_low)) else {
+        return status::BAD_ARGUMENT;
+    };
+    running.edge(is_low, micros);
+    *window = PlainWindow::of(running);
+    status::OK
+}
+
+/// So many µs have passed since the last edge: what a machine is told, once the window is over.
+#[unsafe(no_mangle)]
+pub extern "C" fn dali_window_time(
+    window: &mut PlainWindow,
+    micros: u32,
+    heard: &mut PlainHeard,
+) -> u8
+    ensures done { (w : Window) → window_of window.old ≡ Some w
+        → (result ≡ OK) × (window_of window.new ≡ Some (window_at w micros))
+        × IsHeard heard.new (answer_at (window_at w micros) (passed w micros)) }
+    ensures ends { (w : Window) → window_of window.old ≡ Some w → 50000 < passed w micros → heard.new.is_over ≡ 1 }
+    ensures bad { (result ≡ BAD_ARGUMENT) ↔ (window_of window.old ≡ None) }
+    ensures named { (result ≡ OK) ⊎ (result ≡ BAD_ARGUMENT) }
+    ensures untouched { (result ≡ OK → ⊥) → (window.new ≡ window.old) × (heard.new ≡ heard.old) }
+{
+    let Some(mut running) = window.read() else {
+        return status::BAD_ARGUMENT;
+    };
+    *heard = PlainHeard::of(running.time(micros));
+    *window = PlainWindow::of(running);
     status::OK
 }

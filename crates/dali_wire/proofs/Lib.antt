@@ -4,6 +4,8 @@ mod Sound
 mod ReadBack
 mod EachTime
 mod OneFrame
+mod Asking
 mod Joint
 mod Sending
 mod Worked
+mod Heard

@@ -1,6 +1,8 @@
-use Rattle.std.proofs.Common.{◌≡◌, ℕ, zero, suc, ◌-◌, ◌^◌, ◌<◌, Bool, true, false, [], ◌∷◌, ◌++◌, refl, sym, ap, ◌∙◌, arith, nat_le}
+use Rattle.std.proofs.Common.{◌≡◌, ℕ, zero, suc, ◌+◌, ◌-◌, ◌*◌, ◌^◌, ◌<◌, Bool, true, false, List, [], ◌∷◌, ◌++◌, length, refl, sym, ap, ◌∙◌, arith, nat_le}
 use Rattle.std.specs.Prelude.{if◌then◌else◌}
-use Rattle.dali_wire.specs.Levels.{bits_of, levels_of, second_half, highs, to_send}
+use Rattle.dali_wire.specs.Levels.{bits_of, levels_of, second_half, highs, sent_levels, to_send}
+use Rattle.std.proofs.lemmas.List.{length-append}
+use Rattle.dali_wire.proofs.Values.{length_bits}
 
 -- THE NEXT HALF BIT of a sender: the first half of a bit, and the second.
 pub first_half : (w left stop : ℕ) → 0 < left → to_send w left false stop ≡ nat_le (2 ^ (left - 1)) w ∷ to_send w left true stop
@@ -47,3 +49,17 @@ stop_goes_on w left zero second none more = absurd (omega arith)
 stop_goes_on w left (suc n) second none more =
     let before : suc n - 1 ≡ n = omega arith in
     bits_over w left (suc n) second none ∙ rw before (ap (λ ls. false ∷ ls) (sym (bits_over w left n second none)))
+
+-- how many half bits there are to send
+length_levels : (bits : List Bool) → length (levels_of bits) ≡ 2 * length bits
+length_levels [] = refl
+length_levels (true ∷ bits) = let more = length_levels bits in omega (arith, more)
+length_levels (false ∷ bits) = let more = length_levels bits in omega (arith, more)
+
+pub length_sent : (n number : ℕ) → length (sent_levels (bits_of n number)) ≡ 2 * n + 6
+length_sent n number =
+    let levels = levels_of (bits_of n number) in
+    let all : length (levels ++ highs 6) ≡ length levels + 6 = length-append levels (highs 6) in
+    let twice : length levels ≡ 2 * length (bits_of n number) = length_levels (bits_of n number) in
+    let bits : length (bits_of n number) ≡ n = length_bits n number in
+    omega (arith, all, twice, bits)

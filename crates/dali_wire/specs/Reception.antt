@@ -102,6 +102,17 @@ longer Spoilt lasted since = min (lasted + since) (2 ^ 32 - 1)
 abbrev pub lasted_after : Receiver → ℕ → ℕ
 lasted_after r since = longer (reading_at r.reading r.is_low since) r.lasted since
 
+-- THE RECEIVER after an edge, and so many µs after one
+abbrev pub receiver_after : Receiver → Bool → ℕ → Receiver
+receiver_after r low since = record {
+  reading = reading_after r.reading r.is_low low since;
+  is_low = low;
+  lasted = lasted_after r since;
+}
+
+abbrev pub receiver_at : Receiver → ℕ → Receiver
+receiver_at r since = record r { reading = reading_at r.reading r.is_low since }
+
 -- the bus has been high for the time of a stop condition
 abbrev pub receiver_at_first : Receiver
 receiver_at_first = record { reading = Idle; is_low = false; lasted = 0 }

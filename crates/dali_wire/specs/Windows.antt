@@ -1,5 +1,5 @@
 use Rattle.std.specs.Prelude.{◌≡◌, ◌≤◌, ℕ, ◌+◌, ◌-◌, ◌^◌, min, Bool, true, false}
-use Rattle.std.specs.Prelude.{◌&&◌, nat_lt, nat_le}
+use Rattle.std.specs.Prelude.{◌&&◌, nat_lt, nat_le, List, [], ◌∷◌}
 use Rattle.std.specs.Prelude.{Option, Some, None, if◌then◌else◌}
 use Rattle.dali_frame.specs.declared.frames.Answer.{Answer}
 use Rattle.dali_frame.specs.declared.frames.Answer.TheVariants.{Silence, Byte, Damaged}
@@ -10,7 +10,7 @@ use Rattle.dali_wire.specs.declared.receiver.Frame.{Frame}
 use Rattle.dali_wire.specs.declared.receiver.Frame.TheVariants.{Backward}
 use Rattle.dali_wire.specs.declared.receiver.Told.{Told}
 use Rattle.dali_wire.specs.declared.window.Window.{Window}
-use Rattle.dali_wire.specs.Reception.{told_of, receiver_at_first}
+use Rattle.dali_wire.specs.Reception.{told_of, receiver_after, receiver_at, receiver_at_first}
 
 -- A BACKWARD FRAME BEGINS 2,400 to 12,400 µs after the last edge of the forward frame, from memory
 -- (IEC 62386-101:2014, receiver frame sequence timing). What else is heard, or too early or too
@@ -56,5 +56,26 @@ answer_at w now =
     if is_idle w.receiver.reading && nat_lt 12400 now then Some w.heard
     else (if nat_lt 50000 now then Some Damaged else None)
 
+-- THE WINDOW after an edge, and so many µs after one
+abbrev pub window_after : Window → Bool → ℕ → Window
+window_after w low since = record {
+  receiver = receiver_after w.receiver low since;
+  elapsed = passed w since;
+  heard = heard_with w since;
+}
+
+abbrev pub window_at : Window → ℕ → Window
+window_at w since = record w { receiver = receiver_at w.receiver since; heard = heard_with w since }
+
 abbrev pub window_at_first : Window
 window_at_first = record { receiver = receiver_at_first; elapsed = 0; heard = Silence }
+
+-- what is told so long after the last edge
+abbrev pub told_after : Window → ℕ → Option Answer
+told_after w since = answer_at (window_at w since) (passed w since)
+
+-- after edges by turns, the first one to this level, with these times before them
+abbrev pub window_through : Window → Bool → List ℕ → Window
+window_through w low [] = w
+window_through w true (time ∷ times) = window_through (window_after w true time) false times
+window_through w false (time ∷ times) = window_through (window_after w false time) true times

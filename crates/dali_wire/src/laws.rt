@@ -1,10 +1,10 @@
 //! What the receiver tells of a bus at the resolution of half bits, each of one length that its times take: frames are
 //! read back, what is told was on the bus, and where several answers drive it together a byte is told only where each
-//! of them sent that byte. And noise is not told.
+//! of them sent that byte. Noise is not told, and an answer alone is.
 //!
 //! These are laws over the definitions that the contracts of this crate cite. Programs don't call them.
 
-ghost use Rattle.std.specs.Prelude.{◌≡◌, ℕ, ◌+◌, ◌*◌, ◌<◌, ◌≤◌, ◌⊎◌, Bool, true, false, Option, None};
+ghost use Rattle.std.specs.Prelude.{◌≡◌, ℕ, ◌+◌, ◌*◌, ◌^◌, ◌<◌, ◌≤◌, ◌⊎◌, Bool, true, false, Option, Some, None};
 ghost use Rattle.std.specs.Prelude.{List, ◌∷◌, ◌++◌, length};
 ghost use Rattle.std.specs.List.{AllByRecursion};
 ghost use Rattle.dali_frame.specs.declared.frames.Answer.{Answer};
@@ -18,7 +18,9 @@ ghost use Rattle.dali_wire.specs.Reception.{ended, reading_at};
 ghost use Rattle.dali_wire.specs.Levels.{bits_of, levels_of, forward_bits, backward_bits, highs};
 ghost use Rattle.dali_wire.specs.Grid.{Tells, IsHeard, IsPassedOver, begun_at, Within, bus_of, first_low};
 ghost use Rattle.dali_wire.specs.Times.{IsHalf, AreTimes, HasRead};
-ghost use Rattle.dali_wire.specs.Windows.{heard_after, IsInTime};
+ghost use Rattle.dali_wire.specs.declared.window.Window.{Window};
+ghost use Rattle.dali_wire.specs.Windows.{heard_after, window_after, window_at, window_through, window_at_first};
+ghost use Rattle.dali_wire.specs.Windows.{passed, told_after, IsInTime};
 
 /// Every frame is read back from its levels, once the bus was high for a stop condition.
 pub fn frames_are_read_back()
@@ -63,6 +65,24 @@ pub fn joint_answers_are_one_byte()
 pub fn a_byte_is_heard_of_one_frame()
     ensures { (heard : Answer) (told : Option Told) (now byte : ℕ) → heard_after heard told now ≡ Byte byte
         → ((heard ≡ Byte byte) × (told ≡ None)) ⊎ ((heard ≡ Silence) × IsInTime told now byte) }
+{}
+
+/// An answer alone that begins in its time is told as its byte, once the window is over, where each time between two
+/// edges is within the tolerance on its own.
+pub fn answers_are_heard()
+    ensures { (begin first rest byte : ℕ) (times : List ℕ) → byte < 256 → 2400 ≤ begin → begin ≤ 12400
+        → IsHalf first → AreTimes false (bits_of 8 byte) times → 2400 ≤ rest → rest < 2 ^ 31
+        → 12400 < passed (window_through window_at_first true (begin ∷ first ∷ times)) rest
+        → told_after (window_through window_at_first true (begin ∷ first ∷ times)) rest ≡ Some (Byte byte) }
+{}
+
+/// A window may be asked at any time, and as often as one likes: each later edge and time leaves the same window as if
+/// it had not been asked.
+pub fn asking_changes_nothing()
+    ensures edge { (w : Window) (before since : ℕ) (low : Bool) → before ≤ since → w.elapsed + since < 2 ^ 32
+        → window_after (window_at w before) low since ≡ window_after w low since }
+    ensures time { (w : Window) (before since : ℕ) → before ≤ since → w.elapsed + since < 2 ^ 32
+        → window_at (window_at w before) since ≡ window_at w since }
 {}
 
 /// Lows that are shorter than a half bit, on a bus at rest, are not told, however many come and whenever, and the bus

@@ -1,6 +1,6 @@
 ghost use Rattle.std.specs.Prelude.{◌≡◌};
 ghost use Rattle.dali_wire.specs.Reception.{span_of, span_before, with_bit, read_edge, frame_of, frame_read, ended};
-ghost use Rattle.dali_wire.specs.Reception.{reading_at, reading_after, lasted_after, told_of, receiver_at_first};
+ghost use Rattle.dali_wire.specs.Reception.{told_of, receiver_after, receiver_at, receiver_at_first};
 
 use dali_frame::Forward;
 
@@ -180,9 +180,7 @@ impl Receiver {
     /// Time passes: so many µs have passed since the last edge. Tells the frame that has ended by now, once.
     pub fn time(&mut self, since: u32) -> Option<Told>
         ensures told { result ≡ told_of self.old since }
-        ensures reading { self.new.reading ≡ reading_at self.old.reading self.old.is_low since }
-        ensures level { self.new.is_low ≡ self.old.is_low }
-        ensures lasted { self.new.lasted ≡ self.old.lasted }
+        ensures receiver { self.new ≡ receiver_at self.old since }
     {
         if self.is_low || since < LEAST_STOP {
             return None;
@@ -205,9 +203,7 @@ impl Receiver {
     /// Two edges to one level are taken as a fault: one between them was missed.
     pub fn edge(&mut self, is_low: bool, since: u32) -> Option<Told>
         ensures told { result ≡ told_of self.old since }
-        ensures reading { self.new.reading ≡ reading_after self.old.reading self.old.is_low is_low since }
-        ensures level { self.new.is_low ≡ is_low }
-        ensures lasted { self.new.lasted ≡ lasted_after self.old since }
+        ensures receiver { self.new ≡ receiver_after self.old is_low since }
     {
         let told = self.time(since);
         self.lasted = match self.reading {

@@ -1,4 +1,4 @@
-ghost use Rattle.std.specs.Prelude.{◌≡◌, [], ◌∷◌, MatchOption};
+ghost use Rattle.std.specs.Prelude.{◌≡◌, [], ◌∷◌, length, MatchOption};
 ghost use Rattle.dali_wire.specs.Levels.{sent_levels, forward_bits, backward_bits};
 
 use dali_frame::Forward;
@@ -35,7 +35,8 @@ impl Model for Sender {
 impl Sender {
     /// Sends a forward frame.
     pub fn forward(frame: Forward) -> Sender
-        ensures { result ≡ sent_levels (forward_bits frame) }
+        ensures levels { result ≡ sent_levels (forward_bits frame) }
+        ensures count { length result ≡ 40 }
     {
         Sender {
             number: 0x10000 + 256 * u32::from(frame.address_byte) + u32::from(frame.opcode_byte),

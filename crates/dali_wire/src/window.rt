@@ -1,6 +1,6 @@
 ghost use Rattle.std.specs.Prelude.{◌≡◌, ◌<◌, IsSome};
-ghost use Rattle.dali_wire.specs.Reception.{reading_at, reading_after};
-ghost use Rattle.dali_wire.specs.Windows.{answer_in, heard_with, heard_after, passed, answer_at, window_at_first};
+ghost use Rattle.dali_wire.specs.Windows.{answer_in, heard_after, passed, answer_at, window_after, window_at};
+ghost use Rattle.dali_wire.specs.Windows.{window_at_first};
 
 use crate::receiver::{Frame, Reading, Receiver, Told};
 use dali_frame::Answer;
@@ -61,11 +61,7 @@ impl Window {
 
     /// An edge, after which the bus is low or high, so many µs after the last one.
     pub fn edge(&mut self, is_low: bool, since: u32)
-        ensures reading { self.new.receiver.reading
-            ≡ reading_after self.old.receiver.reading self.old.receiver.is_low is_low since }
-        ensures level { self.new.receiver.is_low ≡ is_low }
-        ensures elapsed { self.new.elapsed ≡ passed self.old since }
-        ensures heard { self.new.heard ≡ heard_with self.old since }
+        ensures { self.new ≡ window_after self.old is_low since }
     {
         let now = self.elapsed.saturating_add(since);
         let told = self.receiver.edge(is_low, since);
@@ -75,11 +71,7 @@ impl Window {
 
     /// Time passes: so many µs have passed since the last edge. Tells what was heard once the window is over.
     pub fn time(&mut self, since: u32) -> Option<Answer>
-        ensures reading { self.new.receiver.reading
-            ≡ reading_at self.old.receiver.reading self.old.receiver.is_low since }
-        ensures level { self.new.receiver.is_low ≡ self.old.receiver.is_low }
-        ensures elapsed { self.new.elapsed ≡ self.old.elapsed }
-        ensures heard { self.new.heard ≡ heard_with self.old since }
+        ensures window { self.new ≡ window_at self.old since }
         ensures told { result ≡ answer_at self.new (passed self.old since) }
         ensures ends { 50000 < passed self.old since → IsSome result }
     {

@@ -38,6 +38,10 @@ struct course {
     struct told told;
     unsigned enrolled;
     unsigned moment;
+    /* A frame at the pins, its next edge, and the time before that. */
+    uint32_t number;
+    uint32_t is_low;
+    uint32_t micros;
     uint8_t off_a_word;
     struct dali_machine machine PLACED;
     struct dali_order order PLACED;
@@ -46,6 +50,11 @@ struct course {
     struct dali_records records PLACED;
     struct dali_record addition PLACED;
     struct dali_table table PLACED;
+    struct dali_levels levels PLACED;
+    struct dali_receiver receiver PLACED;
+    struct dali_told frame PLACED;
+    struct dali_window window PLACED;
+    struct dali_heard heard PLACED;
     uint8_t due;
 };
 
@@ -69,7 +78,7 @@ struct call {
     struct figure figures[BANDS];
 };
 
-static uint32_t stacks[16][STACK_WORDS] ALIGNED;
+static uint32_t stacks[20][STACK_WORDS] ALIGNED;
 static struct course course;
 /* Of the two calls that take a step, those that ordered a later frame of a transaction, for which the bus waits. */
 static struct figure later[2][BANDS];
@@ -148,6 +157,50 @@ static int ready_records_new(struct course *it, struct arguments *arguments)
     return 1;
 }
 
+/* The calls at the pins, which are measured by themselves. */
+
+static int ready_levels_new(struct course *it, struct arguments *arguments)
+{
+    *arguments = (struct arguments){{AT(it->levels), it->number >> 8 & 0xFF, it->number & 0xFF}};
+    return 1;
+}
+
+static int ready_window_new(struct course *it, struct arguments *arguments)
+{
+    *arguments = (struct arguments){{AT(it->window)}};
+    return 1;
+}
+
+static int ready_window_edge(struct course *it, struct arguments *arguments)
+{
+    *arguments = (struct arguments){{AT(it->window), it->is_low, it->micros}};
+    return 1;
+}
+
+static int ready_window_time(struct course *it, struct arguments *arguments)
+{
+    *arguments = (struct arguments){{AT(it->window), it->micros, AT(it->heard)}};
+    return 1;
+}
+
+static int ready_receiver_new(struct course *it, struct arguments *arguments)
+{
+    *arguments = (struct arguments){{AT(it->receiver)}};
+    return 1;
+}
+
+static int ready_receiver_edge(struct course *it, struct arguments *arguments)
+{
+    *arguments = (struct arguments){{AT(it->receiver), it->is_low, it->micros, AT(it->frame)}};
+    return 1;
+}
+
+static int ready_receiver_time(struct course *it, struct arguments *arguments)
+{
+    *arguments = (struct arguments){{AT(it->receiver), it->micros, AT(it->frame)}};
+    return 1;
+}
+
 #define CALL(name, ready) {#name, (void (*)(void))name, ready, {{0}}}
 
 static struct call calls[] = {
@@ -161,9 +214,20 @@ static struct call calls[] = {
     CALL(dali_machine_new, ready_machine_new),
     CALL(dali_records_add, ready_records_add),
     CALL(dali_records_new, ready_records_new),
+    CALL(dali_levels_new, ready_levels_new),
+    CALL(dali_window_new, ready_window_new),
+    CALL(dali_receiver_new, ready_receiver_new),
+    CALL(dali_window_time, ready_window_time),
+    CALL(dali_receiver_time, ready_receiver_time),
+    CALL(dali_window_edge, ready_window_edge),
+    CALL(dali_receiver_edge, ready_receiver_edge),
 };
 
 #define CALLS (sizeof calls / sizeof *calls)
+/* The first of those at the pins, of those that take a time, and of those that take an edge. */
+#define AT_PINS 10
+#define TAKE_TIME 13
+#define TAKE_EDGE 15
 /* How often each trouble comes, per million frames, and when a machine that does not end is left. */
 #ifndef TROUBLED
 #define TROUBLED 0
@@ -339,10 +403,49 @@ static uint32_t measure(struct call *call, uint32_t *stack)
     return count;
 }
 
+static void measure_from(unsigned first, unsigned end)
+{
+    for (unsigned at = first; at < end; at++)
+        measure(&calls[at], stacks[at]);
+}
+
 static void measure_beside(void)
 {
-    for (unsigned at = 2; at < CALLS; at++)
-        measure(&calls[at], stacks[at]);
+    measure_from(2, AT_PINS);
+}
+
+/* A frame at the pins, as a number of so many bits with its start bit: each edge, and the time before it. */
+static void hear(uint32_t bits, uint32_t number)
+{
+    uint32_t was_low = 0;
+
+    course.number = number;
+    course.micros = 3000;
+    for (uint32_t half = 0; half <= 2 * bits; half++) {
+        /* A bit 1 is low in its first half, a bit 0 in its second one. */
+        course.is_low = half < 2 * bits && (number >> (bits - 1 - half / 2) & 1) != half % 2;
+        if (course.is_low != was_low) {
+            measure_from(TAKE_TIME, CALLS);
+            course.micros = 0;
+        }
+        was_low = course.is_low;
+        course.micros += 417;
+    }
+}
+
+/* Two bytes, a forward frame and one for other devices in one window, then it is over. */
+static void measure_pins(void)
+{
+    for (uint32_t byte = 0; byte < 256; byte++) {
+        measure_from(AT_PINS, TAKE_TIME);
+        hear(9, 0x100 + byte);
+        if (byte % 2 == 0) {
+            hear(17, 0x10000 + 257 * byte);
+            hear(25, 0x1000000 + 65793 * byte);
+        }
+        course.micros = 20000;
+        measure_from(TAKE_TIME, TAKE_EDGE);
+    }
 }
 
 /* Does what the step ordered. 0 where the machine has ended. */
@@ -467,6 +570,7 @@ int main(void)
     check_counting();
     for (uint32_t *word = stacks[0]; word < stacks[CALLS]; word++)
         *word = PAINT;
+    measure_pins();
     for (unsigned run = 0; run < COMMISSIONINGS; run++)
         commission(SEED + run);
     for (unsigned at = 0; at < sizeof structs / sizeof *structs; at++) {

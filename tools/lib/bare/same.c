@@ -1,9 +1,10 @@
-/* Whole commissionings on a bus with troubles, each by several lives of a controller, on whichever processor. It writes a
- * number that is made of each order, each answer and the last struct of each life, so that two processors can be
- * compared, and how many frames, records and lives there were. */
+/* Whole commissionings on a bus with troubles, each by several lives of a controller, on whichever processor; and what is
+ * heard of levels. It writes a number that is made of each order, each answer, the last struct of each life and what was
+ * heard, so that two processors can be compared, and how many frames, records, lives and bytes there were. */
 #include "chance.h"
 #include "dali_c.h"
 #include "gear.h"
+#include "levels.h"
 #include "support.h"
 
 #include <string.h>
@@ -11,6 +12,7 @@
 /* More than a life takes that is not killed. */
 #define MOST_STEPS UINT32_C(40000)
 #define MOST_LIVES 6
+#define DRAWN_LEVELS 2000
 
 static struct bus bus;
 static struct dali_records kept;
@@ -117,6 +119,11 @@ void stop_on_bus(void)
 
 int main(void)
 {
+    struct levels_seen seen;
+    const char *is_wrong = levels_try(SEED, DRAWN_LEVELS, &seen);
+
+    must(!is_wrong, is_wrong);
+    mix(&seen.sum, sizeof seen.sum);
     must(dali_c_version() == DALI_C_VERSION, "another version");
     for (uint32_t run = 0; run < COMMISSIONINGS; run++)
         commission(SEED + run);
@@ -128,6 +135,8 @@ int main(void)
     say_number(commits);
     say("\nlives");
     say_number(lives);
+    say("\nbytes");
+    say_number(seen.bytes);
     say("\n");
     return 1;
 }
