@@ -22,7 +22,7 @@ use crate::codes::{due_code, input_of};
 use crate::machine::PlainMachine;
 use crate::orders::{PlainOrder, PlainRecord};
 use crate::records::PlainRecords;
-use crate::state::{PlainState, VERSION};
+use crate::state::VERSION;
 use crate::status;
 use dali_controller::State;
 use dali_frame::Short;
