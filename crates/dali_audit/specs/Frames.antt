@@ -2,8 +2,7 @@ use Rattle.std.specs.Prelude.{List, [], ◌∷◌, ◌++◌, Bool, Option, Some,
 use Rattle.std.specs.Prelude.{if◌then◌else◌, option_to_list}
 use Rattle.dali_frame.specs.declared.frames.Forward.{Forward}
 use Rattle.dali_frame.specs.declared.frames.Answer.{Answer}
-use Rattle.dali_special.specs.Command.{command_of}
-use Rattle.dali_sending.specs.Sending.{is_question}
+use Rattle.dali_special.specs.Command.{command_of, is_question}
 use Rattle.dali_capture.specs.declared.item.Item.{Item}
 use Rattle.dali_audit.specs.declared.seen.Seen.{Seen}
 use Rattle.dali_audit.specs.declared.seen.Seen.TheVariants as seen

@@ -5,8 +5,7 @@ use Rattle.dali_frame.specs.declared.frames.Answer.{Answer}
 use Rattle.dali_frame.specs.declared.frames.Answer.TheVariants as answer
 use Rattle.dali_special.specs.declared.command.Command.{Command}
 use Rattle.dali_special.specs.declared.command.Command.TheVariants.{Other}
-use Rattle.dali_special.specs.Command.{command_of}
-use Rattle.dali_sending.specs.Sending.{is_question}
+use Rattle.dali_special.specs.Command.{command_of, is_question}
 use Rattle.dali_capture.specs.declared.item.Heard.{Heard}
 use Rattle.dali_capture.specs.declared.item.Heard.TheVariants as heard
 use Rattle.dali_capture.specs.declared.item.Item.{Item}

@@ -8,7 +8,6 @@ use crate::comparing::{Move, Step};
 use crate::seen::{Seen, seen_of};
 use dali_capture::Item;
 use dali_frame::{Answer, Forward};
-use dali_sending::is_question;
 use dali_special::Command;
 
 fn is_frame_step(step: &Step) -> bool
@@ -24,7 +23,7 @@ fn is_frame_step(step: &Step) -> bool
 pub(crate) fn asked(frame: Forward, answer: Answer) -> Option<Answer>
     ensures { result ≡ asked frame answer }
 {
-    if is_question(Command::read(frame)) {
+    if Command::read(frame).is_question() {
         Some(answer)
     } else {
         None

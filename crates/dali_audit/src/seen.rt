@@ -5,7 +5,6 @@ ghost use Rattle.dali_audit.specs.Seen.{awaits, may_be_answered, in_window, is_r
 
 use dali_capture::{Heard, Item};
 use dali_frame::{Answer, Forward};
-use dali_sending::is_question;
 use dali_special::Command;
 
 /// What an item is.
@@ -35,7 +34,7 @@ fn awaits(frame: Forward) -> bool
 {
     match Command::read(frame) {
         Command::Other(_) => true,
-        command => is_question(command),
+        command => command.is_question(),
     }
 }
 

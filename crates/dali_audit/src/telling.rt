@@ -14,7 +14,6 @@ use crate::holders::{Change, Table, change_of};
 use crate::seen::Seen;
 use dali_capture::Item;
 use dali_frame::{Answer, Forward};
-use dali_sending::is_question;
 use dali_special::Command;
 use std::alloc::AllocError;
 
@@ -55,7 +54,7 @@ fn damaged_answer(item: &Item, seen: Seen) -> Option<u64>
     match seen {
         Seen::Sent(frame, Answer::Damaged) => match Command::read(frame) {
             Command::Compare => None,
-            command => at_where(is_question(command), item.at),
+            command => at_where(command.is_question(), item.at),
         },
         _ => None,
     }

@@ -36,8 +36,8 @@ entries_front [] (e ∷ es) (suc i) are = absurd (cc)
 entries_front (p ∷ ps) [] (suc i) are = absurd (cc)
 entries_front (p ∷ ps) (e ∷ es) (suc i) are = let rest : AreEntries (take i ps) (take i es) = entries_front ps es i (cc) in cc
 
-pub entry_there : (plain : List PlainEntry) (entries : List Entry) (i : ℕ) (d : PlainEntry) (e : Entry) → i < length plain → entry_of (get_or plain i d) ≡ Some e
-    → AreEntries plain entries → (i < length entries) × (get_or entries i e ≡ e)
+pub entry_there : (plain : List PlainEntry) (entries : List Entry) (i : ℕ) (d : PlainEntry) (e : Entry) → i < length plain
+    → entry_of (get_or plain i d) ≡ Some e → AreEntries plain entries → (i < length entries) × (get_or entries i e ≡ e)
 entry_there [] entries i d e inside is are = absurd (omega arith)
 entry_there (p ∷ ps) [] i d e inside is are = absurd (cc)
 entry_there (p ∷ ps) (x ∷ xs) zero d e inside is are = (omega arith, cc)
@@ -45,12 +45,14 @@ entry_there (p ∷ ps) (x ∷ xs) (suc i) d e inside is are =
     let rest = entry_there ps xs i d e (omega arith) is (cc) in (omega (arith, rest.0), rest.1)
 
 -- An entry that may not follow those before it is in no transaction.
-pub unlawful_entry : (plain : List PlainEntry) (before entries : List Entry) (i : ℕ) (d : PlainEntry) (e : Entry) → i < length plain → entry_of (get_or plain i d) ≡ Some e
-    → AreEntries (take i plain) before → (IsLawful before e.frame → ⊥) → AreEntries plain entries → IsTransaction entries → ⊥
+pub unlawful_entry : (plain : List PlainEntry) (before entries : List Entry) (i : ℕ) (d : PlainEntry) (e : Entry) → i < length plain
+    → entry_of (get_or plain i d) ≡ Some e → AreEntries (take i plain) before
+    → (IsLawful before e.frame → ⊥) → AreEntries plain entries → IsTransaction entries → ⊥
 unlawful_entry plain before entries i d e inside is first unlawful are sent =
     let there = entry_there plain entries i d e inside is are in
     let front : take i entries ≡ before = entries_once (take i plain) (take i entries) before (entries_front plain entries i are) first in
-    unlawful (subst (λ f. IsLawful before f) (ap (λ x. x.frame) there.1) (subst (λ t. IsLawful t (get_or entries i e).frame) front (sent_at entries i e sent there.0)))
+    let lawful = subst (λ t. IsLawful t (get_or entries i e).frame) front (sent_at entries i e sent there.0) in
+    unlawful (subst (λ f. IsLawful before f) (ap (λ x. x.frame) there.1) lawful)
 
 -- what there is not, by what would follow if there were
 pub if_none : {A : Type 0} {Q : Type 0} (o : Option A) → ((IsSome o → ⊥) → Q) → IfNone o Q

@@ -31,7 +31,7 @@ use crate::machine::PlainMachine;
 use crate::orders::{PlainOrder, PlainRecord};
 use crate::receivers::{PlainHeard, PlainReceiver, PlainTold, PlainWindow};
 use crate::records::PlainRecords;
-use crate::state::{PlainState, VERSION};
+use crate::state::VERSION;
 use crate::status;
 use dali_controller::State;
 use dali_frame::{Forward, Short};

@@ -1,6 +1,6 @@
 //! The frames of a running transaction as plain bytes.
 
-ghost use Rattle.std.specs.Prelude.{◌≡◌, ◌≤◌, List, Some, length, take, IfSome, IfNone, MatchOption};
+ghost use Rattle.std.specs.Prelude.{◌≡◌, ◌≤◌, List, Some, length, take, IfSome, IfNone};
 ghost use Rattle.dali_script.specs.declared.trace.Entry.{Entry};
 ghost use Rattle.dali_script.specs.Scripts.{IsTransaction};
 ghost use Rattle.dali_c.specs.Entries.{entry_of, AreEntries, IsPlainTrace};

@@ -27,7 +27,8 @@ use Rattle.dali_controller.specs.declared.purpose.Purpose.{Purpose}
 use Rattle.dali_controller.specs.declared.purpose.Purpose.TheVariants.{Opening, Probing, Visiting, Resolving, Closing, Asking, Hunting, Calling, Drawing}
 use Rattle.dali_controller.specs.declared.way.Way.{Way}
 use Rattle.dali_controller.specs.declared.way.Way.TheVariants.{Fresh, Surveying}
-use Rattle.dali_controller.specs.Course.{Course, least_open, closing_of, after_step, address_for, is_yes, hunted, closing, resolving, searching_first, opening_anew}
+use Rattle.dali_controller.specs.Course.{Course, least_open, closing_of, after_step, address_for, is_yes, hunted, closing, resolving}
+use Rattle.dali_controller.specs.Course.{searching_first, opening_anew}
 use Rattle.dali_controller.specs.Course.{opening_at_last, drawing, calling, hunting_first, hunting_above, ask_or_call, next_asked, visiting, asking_again}
 use Rattle.dali_controller.specs.Course.{byte_to_send, bytes_to_send}
 use Rattle.dali_controller.specs.declared.leg.Leg.{Leg}

@@ -1,4 +1,4 @@
-ghost use Rattle.std.specs.Prelude.{◌≡◌, ◌+◌, ◌<◌, ◌||◌, false, Some};
+ghost use Rattle.std.specs.Prelude.{◌≡◌, ◌+◌, ◌<◌, ◌||◌, Some};
 ghost use Rattle.dali_frame.specs.Priority.{FIRST, LATER};
 ghost use Rattle.dali_special.specs.Command.{frame_of};
 ghost use Rattle.dali_frame.specs.declared.numbers.SearchAddress.{SearchAddress};

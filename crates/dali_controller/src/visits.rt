@@ -23,8 +23,8 @@ impl State {
     ghost use Rattle.dali_controller.specs.Legs.{is_searching, way_on};
     ghost use Rattle.dali_controller.specs.Moments.{IsHeard, IsMoment, Begun, IsFirstFree, IsUngiven};
     ghost use Rattle.dali_controller.specs.Whole.{IsVisitedOn};
-    ghost use Rattle.dali_controller.specs.Course.{visiting, visit_or_opening, next_unfinished, address_for};
-    ghost use Rattle.dali_controller.specs.Machine.{is_withheld, withholds};
+    ghost use Rattle.dali_controller.specs.Course.{visiting, visit_or_opening, next_unfinished};
+    ghost use Rattle.dali_controller.specs.Machine.{is_withheld};
     ghost use Rattle.dali_script.specs.declared.records.Record.TheVariants.{Reserve};
 
     /// Before the opening was complete: a visit to the next unfinished reservation, or the opening.

@@ -99,7 +99,8 @@ marks_more xs i p marks inside is small m = subst (λ ys. Marks ys (set marks p.
     go (inr same) = absurd (not_it (sym same))
 
 -- where a pair's short address is not marked
-pub unmarked : (xs : List Assignment) (p : Assignment) (marks : List Bool) → Marks xs marks → p.0 < 64 → (HasAddress xs p.0 → ⊥) → get_or marks p.0 false ≡ false
+pub unmarked : (xs : List Assignment) (p : Assignment) (marks : List Bool) → Marks xs marks → p.0 < 64 → (HasAddress xs p.0 → ⊥)
+    → get_or marks p.0 false ≡ false
 unmarked xs p marks m small none = go (get_or marks p.0 false) refl where
   go : (b : Bool) → get_or marks p.0 false ≡ b → get_or marks p.0 false ≡ false
   go true is = absurd (none ((m.marked p.0 small).0 is))

@@ -1,4 +1,5 @@
-use Rattle.std.proofs.Common.{◌≡◌, ℕ, ◌+◌, ◌<◌, ◌≤◌, ◌∙◌, Bool, true, false, Option, Some, None, List, [], ◌∷◌, ◌++◌, refl, sym, subst, arith, length, length-append, append-nil}
+use Rattle.std.proofs.Common.{◌≡◌, ℕ, ◌+◌, ◌<◌, ◌≤◌, ◌∙◌, Bool, true, false, Option, Some, None, List, [], ◌∷◌, ◌++◌, refl, sym, subst, arith}
+use Rattle.std.proofs.Common.{length, length-append, append-nil}
 use Rattle.std.proofs.Common.{get_or, take, inl}
 use Rattle.std.specs.Prelude.{zero, suc, IfSome, nat_lt, is_some, ◌==◌, ◌&&◌, ◌-◌, if◌then◌else◌}
 use mathlib.Core.List.{append_assoc}
@@ -9,14 +10,17 @@ use Rattle.dali_frame.specs.Random.{value_of, MASK24}
 use Rattle.dali_frame.specs.declared.frames.Answer.{Answer}
 use Rattle.dali_frame.specs.declared.frames.Answer.TheVariants.{Silence}
 use Rattle.dali_special.specs.declared.command.Command.{Command}
-use Rattle.dali_special.specs.declared.command.Command.TheVariants.{Arc, Compare, Initialise, Program, QueryShort, RandomByte, Randomise, SearchHigh, SearchLow, SearchMiddle, Terminate, Withdraw}
+use Rattle.dali_special.specs.declared.command.Command.TheVariants.{Arc, Compare, Initialise, Program, QueryShort, RandomByte, Randomise}
+use Rattle.dali_special.specs.declared.command.Command.TheVariants.{SearchHigh, SearchLow, SearchMiddle, Terminate, Withdraw}
 use Rattle.dali_special.specs.declared.command.Part.TheVariants.{High, Middle, Low}
 use Rattle.dali_special.specs.declared.command.Target.TheVariants.{Unaddressed}
 use Rattle.dali_special.specs.Command.{command_of}
 use Rattle.dali_script.specs.declared.block.Block.{Block}
 use Rattle.dali_script.specs.declared.trace.Entry.{Entry}
 use Rattle.dali_script.specs.declared.stage.Stage.{Stage}
-use Rattle.dali_script.specs.declared.stage.Stage.TheVariants.{Confirmed, DrawFree, Found, Free, HighAsked, HighSent, Hunted, Initialised, InitialisedOnce, LowSent, MiddleAsked, MiddleSent, NumberSent, Programmed, RandomisedOnce, Spelled, Terminated, Unnamed, WokenHigh, WokenLow, WokenMiddle}
+use Rattle.dali_script.specs.declared.stage.Stage.TheVariants.{Confirmed, DrawFree, Found, Free, HighAsked, HighSent, Hunted, Initialised}
+use Rattle.dali_script.specs.declared.stage.Stage.TheVariants.{InitialisedOnce, LowSent, MiddleAsked, MiddleSent, NumberSent, Programmed}
+use Rattle.dali_script.specs.declared.stage.Stage.TheVariants.{RandomisedOnce, Spelled, Terminated, Unnamed, WokenHigh, WokenLow, WokenMiddle}
 use Rattle.dali_script.specs.Records.{Assignment}
 use Rattle.dali_script.specs.Scripts.{MayGive, IsLawful, AreSent, IsTransaction}
 use Rattle.dali_script.specs.Stages.{leads, given, hunted, bytes_heard, number_heard, is_drawn_if, may_come, stage_of, Follows}

@@ -18,8 +18,8 @@ last_bits r = low_of r % 64
 abbrev pub random_at : List Assignment → ℕ → ℕ
 random_at xs i = (slice_index_or xs i (0, 0)).1
 
--- One more than the place of the last of the first n pairs whose random address has these last bits,
--- or 0 where none has them.
+-- One more than the place of the last of the first n pairs whose random address has these last
+-- bits, or 0 where none has them.
 pub record IsLast (xs : List Assignment) (n bits at : ℕ) : Type 0 where
   pub inside : at ≤ n
   pub there : (i : ℕ) → at ≡ i + 1 → last_bits (random_at xs i) ≡ bits
@@ -28,7 +28,8 @@ pub record IsLast (xs : List Assignment) (n bits at : ℕ) : Type 0 where
 -- that of each pair, among those before it, with its own last bits
 pub record AreBefore (xs : List Assignment) (n : ℕ) (befores : List ℕ) : Type 0 where
   pub all : length befores ≡ 64
-  pub before : (i : ℕ) → i < n → IsLast xs i (last_bits (random_at xs i)) (slice_index_or befores i 0)
+  pub before :
+      (i : ℕ) → i < n → IsLast xs i (last_bits (random_at xs i)) (slice_index_or befores i 0)
 
 -- and that of all, for each last bits that there may be
 pub record AreLast (xs : List Assignment) (n : ℕ) (lasts : List ℕ) : Type 0 where

@@ -8,8 +8,10 @@ loop-at-init c = searched_first c.args.before.now c.args.wanted.now.1 c.args.las
 pub returns-then-shares_random : goal.returns-then-shares_random
 returns-then-shares_random c =
     let inside : c.from-place.result < length c.args.before.now = omega (arith, c.loop-at.invariant.inside) in
-    let here = random_here c.args.before.now c.from-place.result c.index-before-place.result inside c.index-before-place.is in
-    (λ e. searched_found c.args.before.now c.args.wanted.now.1 c.from-place.result inside (here ∙ c.shares_random.ensures.0 c.if-shares_random.true), λ has. refl)
+    let here = random_here c.args.before.now c.from-place.result c.index-before-place.result inside c.index-before-place.is in (
+      λ e. searched_found c.args.before.now c.args.wanted.now.1 c.from-place.result inside (here ∙ c.shares_random.ensures.0 c.if-shares_random.true),
+      λ has. refl,
+    )
 
 pub loop-at-preserved : goal.loop-at-preserved
 loop-at-preserved c =
@@ -23,4 +25,5 @@ loop-at-preserved c =
 pub returns : goal.returns
 returns c =
     let none : c.loop-at.at ≡ 0 = omega (arith, c.loop-at-test.false) in
-    (λ e. absurd (cc), λ has. absurd (searched_none c.args.before.now c.args.wanted.now.1 (subst (Searched c.args.before.now c.args.wanted.now.1) none c.loop-at.invariant) has))
+    let searched = subst (Searched c.args.before.now c.args.wanted.now.1) none c.loop-at.invariant in
+    (λ e. absurd (cc), λ has. absurd (searched_none c.args.before.now c.args.wanted.now.1 searched has))

@@ -31,5 +31,6 @@ loop-place-preserved c =
           rw (w.marks-is, c.from-address.ensures, c.address.ensures) (matching_marked xs ys i p c.loop-place.marks inside is
           (c.requires.short p.0 (address_at xs i p inside is)) c.loop-place.invariant)
       | else-not-shares_random_at w ↦
-          rw w.marks-is (matching_one xs ys i p c.loop-place.marks inside is (c.shares_random_at.ensures w.if-not-shares_random_at.false) c.loop-place.invariant)
+          rw w.marks-is (matching_one xs ys i p c.loop-place.marks inside is (c.shares_random_at.ensures w.if-not-shares_random_at.false)
+          c.loop-place.invariant)
     ]

@@ -16,7 +16,8 @@ pub invariant_of-self : goal.invariant_of-self
 invariant_of-self c =
     let comes = rw (c.self.invariant.stage, c.read.ensures.table) at (c.in-Some.ensures.comes.0 refl) in
     rw (c.push.ensures.items, c.in-Some.ensures.stage, c.read.ensures.table)
-    (trace_more c.self.inside.stage c.self.inside.entries.items c.args.frame c.args.heard (comes_lawful c.self.inside.entries.items c.args.frame comes) c.self.invariant)
+    (trace_more c.self.inside.stage c.self.inside.entries.items c.args.frame c.args.heard (comes_lawful c.self.inside.entries.items c.args.frame comes)
+    c.self.invariant)
 
 pub returns-in-Some-clause-lawful : goal.returns-in-Some-clause-lawful
 returns-in-Some-clause-lawful c =
