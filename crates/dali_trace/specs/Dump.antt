@@ -1,7 +1,7 @@
 use Rattle.std.specs.Prelude.{◌≡◌, ℕ, ◌+◌, ◌-◌, ◌*◌, ◌≤◌, min, List, [], ◌∷◌, ◌++◌, take, drop}
 use Rattle.std.specs.Prelude.{length, Bool, true, false, not, ◌==◌, ◌&&◌, nat_le, nat_lt}
 use Rattle.std.specs.Prelude.{if◌then◌else◌, codes, decimal, slice_index_or}
-use Rattle.std.specs.List.{flat_map, list_all}
+use Rattle.std.specs.List.{list_all}
 
 -- THE LINES OF THE WIRE `dali` in a value change dump: where a half bit of 417 µs has another level
 -- than the one before, its time and the new level, 0 where the bus is low. Times have 64 bits.

@@ -1,4 +1,4 @@
-use Rattle.std.specs.Prelude.{◌≡◌, ℕ, List, Bool, Option, Result, Ok, Err}
+use Rattle.std.specs.Prelude.{ℕ, List, Bool, Option, Result, Ok, Err}
 use Rattle.std.specs.Io.KnownBytes.{Appends}
 use Rattle.dali_grammar.specs.declared.reason.Explained.{Explained}
 use Rattle.dali_grammar.specs.Reason.{Gives}
@@ -9,12 +9,15 @@ use Rattle.dali_picture.specs.Pages.{DrawsNot}
 use Rattle.dali_trace.specs.Traces.{IsTraceOf}
 use Rattle.dali_trace.specs.Dump.{IsDumpOf}
 
--- a dump was written, of the bus of what these lines lead to
+-- a dump of the bus of a script that was played
+abbrev pub IsDumpOfRun : Played → List ℕ → Type 0
+IsDumpOfRun x dump = (bus : List Bool) × (head : List ℕ) × IsTraceOf x bus × IsDumpOf head bus dump
+
+-- such a dump was written, of what these lines lead to
 abbrev pub Dumps : Result (Setting × NumberedLines) End → Option (List ℕ) → Option (List ℕ)
     → Type 0
 Dumps s old new =
-    (x : Played) × (bus : List Bool) × (head : List ℕ) × (dump : List ℕ)
-    × IsPlayedBy s x × IsTraceOf x bus × IsDumpOf head bus dump × Appends old new dump
+    (x : Played) × (dump : List ℕ) × IsPlayedBy s x × IsDumpOfRun x dump × Appends old new dump
 
 -- WHAT A RUN OVER A READER SAYS: where no dump is written, that is as with a page.
 abbrev pub Traces : List ℕ → Option (List ℕ) → Option (List ℕ) → Result (Unit {0}) Explained

@@ -1,5 +1,5 @@
 use Rattle.std.specs.Prelude.{◌≡◌, ℕ, List, [], ◌∷◌, ◌++◌, map, min, replicate, Bool}
-use Rattle.dali_gear.specs.Gear.{Gear, fresh}
+use Rattle.dali_gear.specs.Gear.{fresh}
 use Rattle.dali_wire.specs.Levels.{highs}
 use Rattle.dali_events.specs.declared.event.Event.{Event}
 use Rattle.dali_events.specs.Events.{heard_in}

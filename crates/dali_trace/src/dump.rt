@@ -168,31 +168,36 @@ fn is_told(event: Event) -> bool {
 }
 
 /// What is told of an event that is no frame.
-fn push_note(alloc: Global, text: &mut String, event: &Event, at: usize) -> Result<(), AllocError>
+fn push_note(
+    text: &mut String,
+    value: &mut String,
+    event: &Event,
+    at: usize,
+) -> Result<(), AllocError>
     ensures { OnOk result (Notes (string_bytes text.old) (string_bytes text.new)) }
 {
-    let mut value = String::new(alloc);
-    push_event(&mut value, *event)?;
+    value.clear();
+    push_event(value, *event)?;
     push_time(text, at)?;
-    push_value(text, Variable::Event, &value)?;
+    push_value(text, Variable::Event, value)?;
     Ok(())
 }
 
 /// What is told where a frame begins.
 fn push_begin(
-    alloc: Global,
     text: &mut String,
+    value: &mut String,
     transaction: &str,
     frame: Forward,
     at: usize,
 ) -> Result<(), AllocError>
     ensures { OnOk result (Notes (string_bytes text.old) (string_bytes text.new)) }
 {
-    let mut value = String::new(alloc);
-    push_command(&mut value, frame)?;
+    value.clear();
+    push_command(value, frame)?;
     push_time(text, at)?;
     push_value(text, Variable::Transaction, transaction)?;
-    push_value(text, Variable::Frame, &value)?;
+    push_value(text, Variable::Frame, value)?;
     push_value(text, Variable::Heard, "-")?;
     push_value(text, Variable::Answering, "-")?;
     Ok(())
@@ -200,29 +205,29 @@ fn push_begin(
 
 /// What is told where a frame is over.
 fn push_over(
-    alloc: Global,
     text: &mut String,
+    value: &mut String,
     event: &Event,
     answering: &[Answering],
     at: usize,
 ) -> Result<(), AllocError>
     ensures { OnOk result (Notes (string_bytes text.old) (string_bytes text.new)) }
 {
-    let mut heard = String::new(alloc);
-    push_heard(&mut heard, *event, answering)?;
-    let mut answers = String::new(alloc);
-    push_answers(&mut answers, answering)?;
     push_time(text, at)?;
     push_value(text, Variable::Frame, "-")?;
-    push_value(text, Variable::Heard, &heard)?;
-    push_value(text, Variable::Answering, &answers)?;
+    value.clear();
+    push_heard(value, *event, answering)?;
+    push_value(text, Variable::Heard, value)?;
+    value.clear();
+    push_answers(value, answering)?;
+    push_value(text, Variable::Answering, value)?;
     Ok(())
 }
 
 /// What is told where an event begins, of whatever kind.
 fn push_first(
-    alloc: Global,
     text: &mut String,
+    value: &mut String,
     transaction: &str,
     event: &Event,
     at: usize,
@@ -230,16 +235,16 @@ fn push_first(
     ensures { OnOk result (Notes (string_bytes text.old) (string_bytes text.new)) }
 {
     match frame_of(*event) {
-        Some(frame) => push_begin(alloc, text, transaction, frame, at),
-        None if is_told(*event) => push_note(alloc, text, event, at),
+        Some(frame) => push_begin(text, value, transaction, frame, at),
+        None if is_told(*event) => push_note(text, value, event, at),
         None => Ok(()),
     }
 }
 
 /// What is told where the frame of an event is over.
 fn push_last(
-    alloc: Global,
     text: &mut String,
+    value: &mut String,
     event: &Event,
     answering: &[Answering],
     at: usize,
@@ -247,7 +252,7 @@ fn push_last(
     ensures { OnOk result (Notes (string_bytes text.old) (string_bytes text.new)) }
 {
     match frame_of(*event) {
-        Some(_) => push_over(alloc, text, event, answering, at),
+        Some(_) => push_over(text, value, event, answering, at),
         None => Ok(()),
     }
 }
@@ -255,8 +260,8 @@ fn push_last(
 /// An event, with the edges of the bus up to the end of its frame. The dump has come to a half bit before; it comes to
 /// the one that is answered.
 fn push_span(
-    alloc: Global,
     text: &mut String,
+    value: &mut String,
     trace: &Trace,
     transaction: &str,
     event: &Event,
@@ -275,16 +280,18 @@ fn push_span(
     let begun = span.begun.max(from);
     let over = span.over.max(begun);
     push_edges(text, bus, from, begun)?;
-    push_first(alloc, text, transaction, event, begun)?;
+    push_first(text, value, transaction, event, begun)?;
     push_edges(text, bus, begun, over)?;
-    push_last(alloc, text, event, answering, over)?;
+    push_last(text, value, event, answering, over)?;
     Ok(over)
 }
 
-/// All events of a log, with the edges of the bus. The half bit to which the dump has come.
+/// All events of a log, with the edges of the bus. The half bit to which the dump has come. The two texts are room for
+/// values.
 fn push_spans(
-    alloc: Global,
     text: &mut String,
+    value: &mut String,
+    transaction: &mut String,
     trace: &Trace,
     transactions: &[Transaction],
     log: &[Event],
@@ -304,9 +311,9 @@ fn push_spans(
             .len()
             .saturating_sub(left.len())
             .saturating_add(1);
-        let mut transaction = String::new(alloc);
-        push_transaction(&mut transaction, left, number, at)?;
-        from = push_span(alloc, text, trace, &transaction, event, span, from)?;
+        transaction.clear();
+        push_transaction(transaction, left, number, at)?;
+        from = push_span(text, value, trace, transaction, event, span, from)?;
     }
     Ok(from)
 }
@@ -333,8 +340,17 @@ pub fn dump_of(
     ensures { IfOk result (λ dump. (head : List ℕ) × IsDumpOf head trace.now.bus.items (string_bytes dump)) }
 {
     let mut text = String::new(alloc);
+    let mut value = String::new(alloc);
+    let mut transaction = String::new(alloc);
     text.push_str(HEADER)?;
-    let from = push_spans(alloc, &mut text, trace, transactions, log)?;
+    let from = push_spans(
+        &mut text,
+        &mut value,
+        &mut transaction,
+        trace,
+        transactions,
+        log,
+    )?;
     push_end(&mut text, trace, from)?;
     Ok(text)
 }

@@ -1,18 +1,27 @@
 //! A dump from the bytes of a script.
 
-ghost use Rattle.std.specs.Prelude.{◌≤◌, length, IfOk, IfErr, IfSome};
+ghost use Rattle.std.specs.Prelude.{◌≤◌, length, IfOk, IfErr, IfSome, string_bytes};
 ghost use Rattle.dali_grammar.specs.ReplayFault.{fault_of};
 ghost use Rattle.dali_grammar.specs.Setting.{setting_of};
 ghost use Rattle.dali_picture.specs.Pages.{DrawsNot};
-ghost use Rattle.dali_trace.specs.Streams.{Dumps, Traces};
+ghost use Rattle.dali_trace.specs.Streams.{IsDumpOfRun, Dumps, Traces};
 
 use crate::dump::dump_of;
 use crate::trace::Trace;
 use dali_picture::Picture;
 use dali_replay::{Explained, Stop, read_input};
-use std::alloc::Global;
+use std::alloc::{AllocError, Global};
 use std::io;
 use std::io::{Read, Write};
+
+/// The dump of a script that was played.
+fn text_of(alloc: Global, picture: &Picture) -> Result<String, AllocError>
+    ensures { IfOk result (λ text. IsDumpOfRun picture.now.played (string_bytes text)) }
+{
+    let trace = Trace::of(alloc, &picture.played)?;
+    let text = dump_of(alloc, &trace, &picture.transactions, &picture.played.log)?;
+    Ok(text)
+}
 
 /// Writes the dump of a script.
 fn dump<W: Write>(alloc: Global, input: &[u8], writer: &mut W) -> Result<(), Stop>
@@ -23,8 +32,7 @@ fn dump<W: Write>(alloc: Global, input: &[u8], writer: &mut W) -> Result<(), Sto
         (fault_of stop)) }
 {
     let picture = Picture::of(alloc, input)?;
-    let trace = Trace::of(alloc, &picture.played)?;
-    let text = dump_of(alloc, &trace, &picture.transactions, &picture.played.log)?;
+    let text = text_of(alloc, &picture)?;
     match writer.write_all(text.as_bytes()) {
         Ok(()) => Ok(()),
         Err(_) => Err(Stop::Write),

@@ -1,4 +1,4 @@
-use Rattle.std.proofs.Common.{arith, ap, sym, ◌∙◌}
+use Rattle.std.proofs.Common.{arith, ap, sym}
 use Rattle.dali_trace.specs.Pace.{pace_at_first}
 use Rattle.dali_trace.proofs.TraceLemmas.{event_drawn, all_drawn}
 use Rattle.dali_trace.proofs.trace.Trace.over.Goals as goal
