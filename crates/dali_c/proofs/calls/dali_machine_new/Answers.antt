@@ -7,9 +7,9 @@ returns-clause-machine c ok =
     let k = kept_of c.args.records.now in
     record {
       state = c.new.result;
-      held = record { spells = c.of-machine.ensures.spells; records = c.in-Some.ensures.0; whole = c.new.ensures.whole k };
+      held = record { spells = c.set.ensures.spells; records = c.in-Some.ensures.0; whole = c.new.ensures.whole k };
       is = sym (c.new.ensures.first k);
     }
 
-pub of-machine-requires : goal.of-machine-requires
-of-machine-requires c = ap (λ m. m.id) (c.new.ensures.first (kept_of c.args.records.now))
+pub set-requires : goal.set-requires
+set-requires c = ap (λ m. m.id) (c.new.ensures.first (kept_of c.args.records.now))

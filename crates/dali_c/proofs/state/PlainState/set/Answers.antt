@@ -1,6 +1,6 @@
 use Rattle.std.proofs.Common.{Some, refl, rules, ap, sym, ◌∙◌}
 use Rattle.dali_c.proofs.Machines.{has_leg}
-use Rattle.dali_c.proofs.state.PlainState.of.Goals as goal
+use Rattle.dali_c.proofs.state.PlainState.set.Goals as goal
 
 pub returns-clause-more : goal.returns-clause-more
 returns-clause-more c = search rules
@@ -14,13 +14,13 @@ returns-clause-spells c = record {
   purpose = c.purpose_code-purpose.ensures;
   number = search rules;
   leg = record {
-    opened = c.bool_code.ensures ∙ ap Some c.is_searching.ensures;
-    way = c.way_code.ensures ∙ ap Some c.way.ensures;
+    opened = c.bool_code-self.ensures ∙ ap Some c.is_searching.ensures;
+    way = c.way_code-self.ensures ∙ ap Some c.way.ensures;
     has = has_leg _ _ (returns-clause-more c);
   };
-  finding = c.of-4.ensures;
-  last = c.of-5.ensures.spelled;
-  heard = sym c.shorts_bytes.ensures;
-  tally = c.of-6.ensures;
+  finding = c.of-self-4.ensures;
+  last = c.of-self-5.ensures.spelled;
+  heard = sym c.shorts_bytes-self.ensures;
+  tally = c.of-self-6.ensures;
   trace = search rules;
 }
