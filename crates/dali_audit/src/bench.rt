@@ -42,8 +42,6 @@ struct Making {
     lost: [bool; 128],
     /// How many numbers were drawn.
     drawn: usize,
-    /// Whether a TERMINATE came, from which on the state of gear is known.
-    is_known: bool,
     at: u64,
 }
 
@@ -102,7 +100,6 @@ impl Making {
             on: [true; 128],
             lost: [false; 128],
             drawn: 0,
-            is_known: false,
             at: 0,
         }
     }
@@ -245,7 +242,6 @@ impl Making {
 
     /// After TERMINATE the state of all gear is known.
     fn wake(&mut self, number: usize) -> Result<(), BenchError> {
-        self.is_known = true;
         for gear in 0..self.gear() {
             if let Some(place) = self.place(gear) {
                 if place.from <= number && !self.is_lost(gear) {
@@ -278,6 +274,36 @@ impl Making {
         for gear in 0..self.gear() {
             if let Some(place) = self.place(gear) {
                 if search == Some(place.random) {
+                    self.lose(gear)?;
+                }
+            }
+        }
+        Ok(())
+    }
+
+    fn is_off(&self, gear: u8) -> bool {
+        let number = usize::from(gear);
+        number < GEAR_LIMIT && !self.on[number]
+    }
+
+    /// A gear whose state was not known may have got a short address, or lost it.
+    fn miss_address(&mut self) -> Result<(), BenchError> {
+        let search = self.reading.known.bus.search.number();
+        for gear in 0..self.gear() {
+            if let Some(place) = self.place(gear) {
+                if search == Some(place.random) && self.is_off(gear) {
+                    self.lose(gear)?;
+                }
+            }
+        }
+        Ok(())
+    }
+
+    /// A gear whose state was not known may have drawn, at the RANDOMISE of this number.
+    fn miss_draw(&mut self, draw: usize) -> Result<(), BenchError> {
+        for gear in 0..self.gear() {
+            if let Some(place) = self.place(gear) {
+                if place.draw <= draw && self.is_off(gear) && self.short(gear).is_none() {
                     self.lose(gear)?;
                 }
             }
@@ -320,9 +346,12 @@ impl Making {
         match Command::read(frame) {
             Command::Randomise => {
                 let next = self.reading.draw.saturating_add(1);
+                if self.reading.known.bus.completes(item, frame) {
+                    self.miss_draw(next)?;
+                }
                 self.draw(frame, next)
             }
-            Command::Program(_) if !self.is_known => self.lose_found(),
+            Command::Program(_) => self.miss_address(),
             _ => Ok(()),
         }
     }

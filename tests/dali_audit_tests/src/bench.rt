@@ -4,7 +4,7 @@
 use super::captures::{Capture, random, short};
 use dali_audit::{Bench, BenchError, Judgement, Outcome};
 use dali_capture::Heard;
-use dali_special::{Command, Part};
+use dali_special::{Command, Part, Target};
 use std::process::Abort;
 use std::test::Fail;
 
@@ -102,7 +102,7 @@ fn used_gear_and_gear_from_before_are_there(rt: HostRuntime) -> Result<(), Fail>
     capture.ask(Command::RandomByte(short(9)?, Part::Middle), 0x00)?;
     capture.ask(Command::RandomByte(short(9)?, Part::Low), 0x01)?;
     capture.tell(Command::Terminate)?;
-    capture.twice(Command::Initialise(dali_special::Target::Unaddressed))?;
+    capture.twice(Command::Initialise(Target::Unaddressed))?;
     capture.give(0x123456, 0)?;
     capture.ask(Command::RandomByte(short(9)?, Part::Low), 0x01)?;
     capture.open()?;
@@ -202,5 +202,22 @@ fn a_judgement_has_a_head_findings_and_gear(rt: HostRuntime) -> Result<(), Fail>
         {\"short\":1,\"random\":null,\"known\":\"unknown\"},";
     assert_eq!(rt; json.as_str().starts_with(head), true);
     assert_eq!(rt; json.as_str().ends_with("\"known\":\"unknown\"}]}\n"), true);
+    Ok(())
+}
+
+#[test]
+fn an_address_given_while_a_gear_is_not_known_is_missed(rt: HostRuntime) -> Result<(), Fail> {
+    let mut capture = Capture::new(rt.alloc());
+    capture.open()?;
+    capture.hear(14_000, 14_167, Heard::Damaged)?;
+    capture.give(0x123456, 0)?;
+    // The gear has an address now, so it is not asked.
+    capture.tell(Command::Terminate)?;
+    capture.twice(Command::Initialise(Target::Unaddressed))?;
+    capture.search(0xFFFFFE)?;
+    capture.tell(Command::Compare)?;
+    let bench = Bench::of(rt.alloc(), capture.items.as_slice())?;
+    agrees(&rt, &bench, &capture, 1);
+    assert_eq!(rt; bench.unknown, 1);
     Ok(())
 }
