@@ -7,7 +7,6 @@ use Rattle.dali_special.specs.declared.command.Command.{Command}
 use Rattle.dali_special.specs.declared.command.Command.TheVariants.{Compare, Program, Verify}
 use Rattle.dali_special.specs.declared.command.Command.TheVariants.{QueryShort, RandomByte}
 use Rattle.dali_special.specs.Command.{command_of, is_question}
-
 use Rattle.dali_capture.specs.declared.item.Item.{Item}
 use Rattle.dali_audit.specs.declared.seen.Seen.{Seen}
 use Rattle.dali_audit.specs.declared.seen.Seen.TheVariants as seen
