@@ -60,6 +60,12 @@ MEASURED = {
     "thumbv6m": TARGETS["thumbv6m"],
     "thumbv7m": Target("thumbv7m-none-eabi", [], *ARM, [*BOARD, "-M", "mps2-an385", "-kernel"], SYSTEM),
     "thumbv7em": TARGETS["thumbv7em"],
+    "riscv32": Target(
+        "riscv32-unknown-elf", ["-march=rv32imac", "-mabi=ilp32"], [BARE / "board.c", BARE / "memory.c"],
+        ["-T", BARE / "board.ld", "-e", "reset"],
+        ["qemu-system-riscv32", "-icount", "shift=0", "-display", "none", "-monitor", "none", "-serial", "stdio", "-M", "virt", "-bios",
+         "none", "-kernel"], "qemu-system-misc",
+    ),
 }
 
 

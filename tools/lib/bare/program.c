@@ -1,8 +1,9 @@
-/* Measures the calls of the library on a bare ARMv6-M processor, as qemu simulates it: whole commissionings of 64
+/* Measures the calls of the library on a bare processor, ARMv6-M or another, as qemu simulates it: whole commissionings of 64
  * simulated gear, and in them of each call how many instructions it takes and how much of the stack.
  *
  * qemu lets a fixed time pass for each instruction (-icount shift=7: 128 ns), and the counter of the processor counts
- * down once in 40 ns, so that the difference of two counts gives the number of instructions exactly. Each call runs on
+ * down once in 40 ns, so that the difference of two counts gives the number of instructions exactly. A RISC-V processor
+ * counts them itself (-icount shift=0). Each call runs on
  * a stack of its own, which is painted before the first call; how far it is changed is how much the calls took. */
 #include "dali_c.h"
 #include "gear.h"
@@ -256,6 +257,69 @@ static void must(int is_so, const char *what)
     }
 }
 
+#ifdef __riscv
+/* How many instructions are counted from before a call on this stack, with these arguments, to after it. What it answers. */
+__attribute__((naked)) static uint32_t counted(const struct arguments *arguments, void (*entry)(void), uint32_t *top,
+                                               uint32_t *counts)
+{
+    __asm__ volatile(".option arch, +zicsr\n"
+                     "addi sp, sp, -16\n"
+                     "sw ra, 0(sp)\n"
+                     "sw s0, 4(sp)\n"
+                     "sw s1, 8(sp)\n"
+                     "sw s2, 12(sp)\n"
+                     "mv s0, sp\n"
+                     "mv s1, a3\n"
+                     "mv t1, a1\n"
+                     "mv sp, a2\n"
+                     "mv t0, a0\n"
+                     "lw a0, 0(t0)\n"
+                     "lw a1, 4(t0)\n"
+                     "lw a2, 8(t0)\n"
+                     "lw a3, 12(t0)\n"
+                     "csrr s2, minstret\n"
+                     "jalr t1\n"
+                     "csrr t0, minstret\n"
+                     "sub t0, t0, s2\n"
+                     "sw t0, 0(s1)\n"
+                     "mv sp, s0\n"
+                     "lw ra, 0(sp)\n"
+                     "lw s0, 4(sp)\n"
+                     "lw s1, 8(sp)\n"
+                     "lw s2, 12(sp)\n"
+                     "addi sp, sp, 16\n"
+                     "ret\n");
+}
+
+/* Takes two instructions: this one, and the return. */
+__attribute__((naked)) static void two_instructions(void)
+{
+    __asm__ volatile("li a0, 0\n"
+                     "ret\n");
+}
+
+/* So many turns of three instructions but for the last one, which takes two, and the return. */
+__attribute__((naked)) static void turns(void)
+{
+    __asm__ volatile("1: addi a0, a0, -1\n"
+                     "beqz a0, 2f\n"
+                     "j 1b\n"
+                     "2: ret\n");
+}
+
+/* The number of instructions of a call, from its first one to its return. */
+static uint32_t instructions(const struct arguments *arguments, void (*entry)(void), uint32_t *top, uint32_t *status)
+{
+    uint32_t counts;
+
+    *status = counted(arguments, entry, top, &counts);
+    return counts - 2; /* beside the call: jalr, and a read of the counter */
+}
+
+static void start_counting(void)
+{
+}
+#else
 /* How many counts pass from before a call on this stack, with these arguments, to after it. What it answers. */
 __attribute__((naked)) static uint32_t counted(const struct arguments *arguments, void (*entry)(void), uint32_t *top,
                                                uint32_t *counts)
@@ -306,6 +370,13 @@ static uint32_t instructions(const struct arguments *arguments, void (*entry)(vo
     /* 40 ns a count, 128 ns an instruction, and two are beside the call: blx, and the load of the second count. */
     return ((counts & SYSTICK_MOST) * 5 + 8) / 16 - 2;
 }
+
+static void start_counting(void)
+{
+    SYSTICK_RELOAD = SYSTICK_MOST;
+    SYSTICK_CONTROL = SYSTICK_ON;
+}
+#endif
 
 static void check_counting(void)
 {
@@ -565,8 +636,7 @@ void stop_on_bus(void)
 
 int main(void)
 {
-    SYSTICK_RELOAD = SYSTICK_MOST;
-    SYSTICK_CONTROL = SYSTICK_ON;
+    start_counting();
     check_counting();
     for (uint32_t *word = stacks[0]; word < stacks[CALLS]; word++)
         *word = PAINT;
