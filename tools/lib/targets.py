@@ -66,6 +66,11 @@ MEASURED = {
         ["qemu-system-riscv32", "-icount", "shift=0", "-display", "none", "-monitor", "none", "-serial", "stdio", "-M", "virt", "-bios",
          "none", "-kernel"], "qemu-system-misc",
     ),
+    "aarch64": Target(
+        "aarch64-unknown-none-elf", [], [BARE / "board.c", BARE / "memory.c"], ["-T", BARE / "board64.ld", "-e", "reset"],
+        [SYSTEM.replace("arm", "aarch64"), "-icount", "shift=0", "-display", "none", "-monitor", "none", "-serial", "stdio", "-M", "virt", "-nic", "none",
+         "-cpu", "cortex-a57", "-semihosting", "-kernel"], SYSTEM,
+    ),
 }
 
 

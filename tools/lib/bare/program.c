@@ -319,6 +319,58 @@ static uint32_t instructions(const struct arguments *arguments, void (*entry)(vo
 static void start_counting(void)
 {
 }
+#elif defined(__aarch64__)
+/* The same, by the first counter of events. */
+__attribute__((naked)) static uint32_t counted(const struct arguments *arguments, void (*entry)(void), uint32_t *top,
+                                               uint32_t *counts)
+{
+    __asm__ volatile("stp x29, x30, [sp, #-48]!\n"
+                     "stp x19, x20, [sp, #16]\n"
+                     "str x21, [sp, #32]\n"
+                     "mov x19, sp\n"
+                     "mov x20, x3\n"
+                     "mov x9, x1\n"
+                     "mov sp, x2\n"
+                     "mov x10, x0\n"
+                     "ldp x0, x1, [x10]\n"
+                     "ldp x2, x3, [x10, #16]\n"
+                     "mrs x21, pmevcntr0_el0\n"
+                     "blr x9\n"
+                     "mrs x9, pmevcntr0_el0\n"
+                     "sub x9, x9, x21\n"
+                     "str w9, [x20]\n"
+                     "mov sp, x19\n"
+                     "ldp x19, x20, [sp, #16]\n"
+                     "ldr x21, [sp, #32]\n"
+                     "ldp x29, x30, [sp], #48\n"
+                     "ret\n");
+}
+
+__attribute__((naked)) static void two_instructions(void)
+{
+    __asm__ volatile("mov x0, #0\n"
+                     "ret\n");
+}
+
+__attribute__((naked)) static void turns(void)
+{
+    __asm__ volatile("1: sub x0, x0, #1\n"
+                     "cbz x0, 2f\n"
+                     "b 1b\n"
+                     "2: ret\n");
+}
+
+static uint32_t instructions(const struct arguments *arguments, void (*entry)(void), uint32_t *top, uint32_t *status)
+{
+    uint32_t counts;
+
+    *status = counted(arguments, entry, top, &counts);
+    return counts - 2;
+}
+
+static void start_counting(void)
+{
+}
 #else
 /* How many counts pass from before a call on this stack, with these arguments, to after it. What it answers. */
 __attribute__((naked)) static uint32_t counted(const struct arguments *arguments, void (*entry)(void), uint32_t *top,
