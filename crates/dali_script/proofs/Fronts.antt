@@ -1,11 +1,11 @@
 use Rattle.std.proofs.Common.{◌≡◌, ℕ, ◌+◌, ◌<◌, ◌≤◌, ◌⊎◌, inl, inr, Bool, true, false, Option, Some, None, List, [], ◌∷◌, ◌++◌, refl, sym, ap, subst, ◌∙◌}
 use Rattle.std.proofs.Common.{arith, length, map, get_or, ◌≢◌, replicate, take, drop, set, ◌-◌, length-set, take-take, get_or-set_same, get_or-set_other}
 use Rattle.std.specs.Prelude.{suc, ◌↔◌, IsSome, IfSome, MatchOption}
-use Rattle.std.proofs.lemmas.Bool.{cases_eq}
+use Rattle.std.proofs.lemmas.Bool.{cases_eq, cases_lt}
 use Rattle.std.specs.List.{remove}
 use Rattle.std.proofs.Math.Seq.{paste}
-use Rattle.std.proofs.lemmas.List.{take_more, get_or-replicate, drop-take, length-drop}
-use Rattle.std.proofs.lemmas.List.Edits.{take-paste}
+use Rattle.std.proofs.lemmas.List.{take_more, get_or-replicate, length-replicate, get_or_past, get_or-drop, drop-take, length-drop}
+use Rattle.std.proofs.lemmas.List.Edits.{take-paste, drop-paste, length-paste}
 use Rattle.dali_frame.specs.Random.{MASK24}
 use Rattle.dali_script.specs.declared.block.Block.{Block}
 use Rattle.dali_script.specs.Records.{Assignment, Has, HasAddress, HasRandom, InBlock, Marks, IsFresh, AreEnrolled}
@@ -112,6 +112,13 @@ pub short_found : (o : Option ℕ) (xs : List Assignment) (a r : ℕ) → IsSome
 short_found None xs a r range value small has = absurd (let some : false ≡ true = range.1 small in cc)
 short_found (Some s) xs a r range value small has = subst (λ n. Has xs (n, r)) (sym value) has
 
+-- one pair at each place
+pub alike : (n i : ℕ) (p d : Assignment) → p ≡ d → get_or (replicate n p) i d ≡ d
+alike n i p d is = subst (λ q. get_or (replicate n q) i d ≡ d) (sym is) (go (cases_lt i n)) where
+  go : (i < n) ⊎ (n ≤ i) → get_or (replicate n d) i d ≡ d
+  go (inl inside) = get_or-replicate n i d d inside
+  go (inr past) = get_or_past (replicate n d) i d (rw (length-replicate n d) past)
+
 -- A PAIR TAKEN OUT of the first n, by moving those after it down
 pub removed : (xs : List Assignment) (i n : ℕ) → i < n → n ≤ length xs → take (n - 1) (paste xs i (drop (i + 1) xs) (n - (i + 1))) ≡ remove (take n xs) i
 removed xs i n less few = go (n - (i + 1)) (omega arith) where
@@ -123,6 +130,45 @@ removed xs i n less few = go (n - (i + 1)) (omega arith) where
       rw (front) (take-paste xs i (drop (i + 1) xs) k (omega arith) rest)
       ∙ ap (λ ys. ys ++ take k (drop (i + 1) xs)) (sym (take-take i n xs (omega arith)))
       ∙ ap (λ ys. take i (take n xs) ++ ys) (sym (drop-take (i + 1) k xs) ∙ ap (λ m. drop (i + 1) (take m xs)) (sym is) ∙ ap (λ m. drop m (take n xs)) one)
+
+-- and what is left behind those that are there, the place that became free with them
+pub cleared : (xs : List Assignment) (i n : ℕ) (p : Assignment) → i < n → n ≤ length xs → ((j : ℕ) → n ≤ j → get_or xs j p ≡ p)
+    → (j : ℕ) → n - 1 ≤ j → get_or (set (paste xs i (drop (i + 1) xs) (n - (i + 1))) (n - 1) p) j p ≡ p
+cleared xs i n p less few all j past = go (cases_eq j (n - 1)) where
+  k : ℕ
+  k = n - (i + 1)
+
+  ys : List Assignment
+  ys = paste xs i (drop (i + 1) xs) k
+
+  rest : k ≤ length (drop (i + 1) xs)
+  rest = omega (arith, few, length-drop (i + 1) xs)
+
+  room : n - 1 < length ys
+  room = omega (arith, few, less, length-paste xs i (drop (i + 1) xs) k (omega (arith, less, few)) rest)
+
+  front : i + k ≡ n - 1
+  front = omega (arith, less)
+
+  same : drop (n - 1) ys ≡ drop (n - 1) xs
+  same = subst (λ m. drop m ys ≡ drop m xs) front (drop-paste xs i (drop (i + 1) xs) k (omega (arith, less, few)) rest)
+
+  at : (n - 1) + (j - (n - 1)) ≡ j
+  at = omega (arith, past)
+
+  later : (j ≡ n - 1 → ⊥) → n ≤ j
+  later other = omega (arith, past, other)
+
+  go : (j ≡ n - 1) ⊎ (j ≡ n - 1 → ⊥) → get_or (set ys (n - 1) p) j p ≡ p
+  go (inl e) = ap (λ m. get_or (set ys (n - 1) p) m p) e ∙ get_or-set_same ys (n - 1) p p room
+  go (inr other) =
+      get_or-set_other ys (n - 1) j p p other
+      ∙ ap (λ m. get_or ys m p) (sym at)
+      ∙ sym (get_or-drop (n - 1) ys (j - (n - 1)) p)
+      ∙ ap (λ zs. get_or zs (j - (n - 1)) p) same
+      ∙ get_or-drop (n - 1) xs (j - (n - 1)) p
+      ∙ ap (λ m. get_or xs m p) at
+      ∙ all j (later other)
 
 pub least_found : (o : Option ℕ) (P : Type 0) (Q : ℕ → Type 0) (n : ℕ) → IsSome o ↔ (n < 64) → IfSome o (λ s. s ≡ n) → n < 64 → Q n → MatchOption o P Q
 least_found None P Q n range value small is = absurd (let some : false ≡ true = range.1 small in cc)

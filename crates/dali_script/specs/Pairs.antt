@@ -7,6 +7,10 @@ use Rattle.dali_script.specs.declared.pairs.Pairs.{Pairs}
 abbrev pub pairs_in : Pairs → List Assignment
 pairs_in p = take p.count p.pairs
 
+-- nothing is left behind them: each further place has bytes 0 alone
+abbrev pub IsCleared : Pairs → Type 0
+IsCleared p = (i : ℕ) → p.count ≤ i → slice_index_or p.pairs i (0, 0) ≡ (0, 0)
+
 -- their short addresses are ones
 abbrev pub AreShort : List Assignment → Type 0
 AreShort xs = (a : ℕ) → HasAddress xs a → a < 64

@@ -3,7 +3,7 @@
 ghost use Rattle.std.specs.Prelude.{◌≡◌, ◌+◌, ◌<◌, ◌≤◌, ◌↔◌, [], ◌∷◌, ◌++◌, length, true, IsTrue};
 ghost use Rattle.std.specs.Prelude.{Some, None, IfSome, MatchOption, slice_index_or, remove};
 ghost use Rattle.dali_script.specs.Records.{Has, HasAddress, HasRandom, Marks, MayBeUnmatched, IsFresh};
-ghost use Rattle.dali_script.specs.Pairs.{pairs_in, AreShort};
+ghost use Rattle.dali_script.specs.Pairs.{pairs_in, AreShort, IsCleared};
 
 use crate::pair::Pair;
 use crate::records::AddError;
@@ -12,9 +12,10 @@ use dali_frame::{Random24, Short};
 /// How many short addresses there are, so the most pairs of a list.
 pub const ROOM: usize = 64;
 
-/// Room for a pair of each short address, in the layout of C. The first `count` are those that there are.
+/// Room for a pair of each short address, in the layout of C. The first `count` are those that there are. Each further
+/// place has bytes 0 alone in a list that these calls made, so the same pairs in the same order have the same bytes.
 ///
-/// Any bytes are such a struct; of one that somebody else wrote, the count may be above 64.
+/// Any bytes are such a struct; of one that other code wrote, the count may be above 64.
 #[repr(C)]
 #[derive(Clone, Copy)]
 pub struct Pairs {
@@ -27,6 +28,7 @@ impl Pairs {
     pub fn new() -> Pairs
         ensures none { pairs_in result ≡ [] }
         ensures count { result.count ≡ 0 }
+        ensures cleared { IsCleared result }
     {
         Pairs {
             count: 0,
@@ -62,6 +64,7 @@ impl Pairs {
         requires { self.old.count < 64 }
         ensures pairs { pairs_in self.new ≡ pairs_in self.old ++ last ∷ [] }
         ensures count { self.new.count ≡ self.old.count + 1 }
+        ensures cleared { IsCleared self.old → IsCleared self.new }
     {
         self.pairs[usize::from(self.count)] = last;
         self.count += 1;
@@ -73,10 +76,12 @@ impl Pairs {
         requires place { place < self.old.count }
         ensures pairs { pairs_in self.new ≡ remove (pairs_in self.old) place }
         ensures count { self.new.count + 1 ≡ self.old.count }
+        ensures cleared { IsCleared self.old → IsCleared self.new }
     {
         self.pairs
             .copy_within(place + 1..usize::from(self.count), place);
         self.count -= 1;
+        self.pairs[usize::from(self.count)] = Pair::default();
     }
 }
 
@@ -91,6 +96,7 @@ impl Pairs {
         requires short { added.0 < 64 }
         ensures pairs { pairs_in self.new ≡ pairs_in self.old ++ added ∷ [] }
         ensures room { self.new.count ≤ 64 }
+        ensures cleared { IsCleared self.old → IsCleared self.new }
     {
         // There are as many as are counted.
         let _ = self.as_slice();
@@ -104,6 +110,7 @@ impl Pairs {
         requires there { Has (pairs_in self.old) gone }
         ensures pairs { pairs_in self.new ≡ without_pair gone (pairs_in self.old) }
         ensures room { self.new.count ≤ 64 }
+        ensures cleared { IsCleared self.old → IsCleared self.new }
     {
         if let Some(place) = place_of(self.as_slice(), gone) {
             self.remove(place);
