@@ -243,16 +243,23 @@ def forms(root: pathlib.Path) -> Iterator[str]:
 
 def edits(root: pathlib.Path) -> Iterator[str]:
     """Each wrong body and each twin applies to the file that it names, where each of its old texts stands exactly once. Each twin has a wrong
-    body of its name."""
+    body of its name, and each wrong body that changes a shape has a twin or is named as one without."""
+    unpaired = set()
     for kept in ("must-fail", "attacks", "twins"):
         for file in files(root, f"crates/*/{kept}/*.edit"):
             crate = file.parent.parent
             try:
-                wrong_bodies.read(file, types.SimpleNamespace(folder=crate))
+                edit = wrong_bodies.read(file, types.SimpleNamespace(folder=crate))
             except (wrong_bodies.Unfit, OSError) as why:
                 yield f"{named(root, file)}: {why}"
+                continue
             if kept == "twins" and not any((crate / it / file.name).exists() for it in ("must-fail", "attacks")):
                 yield f"{named(root, file)}: no wrong body has its name"
+            if kept != "twins" and not edit.keeps_shape and not (crate / "twins" / file.name).exists():
+                unpaired.add(f"{crate.name}/{file.name}")
+    listed = set(wrong_bodies.without_twins(root))
+    yield from (f"crates/{it}: it changes a shape, and has no twin" for it in unpaired - listed)
+    yield from (f"tools/lib/without-twins.txt: {it} is no wrong body that changes a shape and has no twin" for it in listed - unpaired)
 
 
 def version(root: pathlib.Path) -> Iterator[str]:

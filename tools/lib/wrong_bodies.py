@@ -7,6 +7,10 @@ by the contracts of the others, and goes on after one that it refuses. So the bo
 prove what a function calls too, which costs most of it: then a right function is proved, or said to call what is not proved. What cannot be
 planted so (an edit of a type, of several functions, of a trait's impl) is tried alone and in its place. So is what came out otherwise than
 wanted: of a wrong body that is proved the whole crate is checked, since another function may be refused.
+
+The prover also refuses a right body that its tactics cannot prove. So a refusal shows little where a right body of the same shape would be
+refused too. Where an edit exchanges words in place, the line itself is that right body. An edit that changes the shape has a twin, or
+tools/lib/without-twins.txt names it as one whose refusal says less.
 """
 
 import concurrent.futures
@@ -19,13 +23,17 @@ import tempfile
 import typing
 from collections.abc import Callable, Iterable, Iterator
 
-from lib import proving
+from lib import ROOT, proving
 
 # What a try comes to.
-REFUSED, PROVED, BAD, UNSURE = "refused", "proved", "BAD EDIT", "NOT TRIED"
+REFUSED, PROVED, BAD, UNSURE = "refused", "proved", "BAD EDIT", "NO VERDICT"
 HEAD = re.compile(r"\s*(?:pub(?:\(\w+\))? )?(const )?(?:unsafe )?fn (\w+)")
 # What is said of a function that is right, and calls one which is not proved.
 CALLS = "no proof: it calls "
+WORD = re.compile(
+    r"""(?P<text>"(?:[^"\\]|\\.)*"|'(?:[^'\\]|\\.)')|(?P<number>\d\w*)|(?P<name>\w+)|(?P<test>[<>=!]=|&&|\|\||<(?!<)|>(?!>))"""
+    r"|(?P<sum>[+*/%^-](?!=|>))|\S"
+)
 IMPL = re.compile(r"impl(?:<[^{]*?>)? (?:(\w+)(?:<.*?>)? for )?&?(\w+)")
 
 
@@ -42,6 +50,11 @@ class Edit(typing.NamedTuple):
     file: str
     pairs: list[tuple[str, str]]
     functions: set[str]
+
+    @property
+    def keeps_shape(self) -> bool:
+        """Whether it only exchanges words in place: names, numbers, texts, and signs of a test or of a sum, each for one of its kind."""
+        return all(shape(old) == shape(new) for old, new in self.pairs)
 
     def applied(self, text: str) -> tuple[str, list[int]]:
         """The text of its file with the edit, and the lines that it changes."""
@@ -72,6 +85,17 @@ def read(file: pathlib.Path, crate: proving.Crate) -> Edit:
     edit = Edit(file.parent.name, file.name, words[0][1], list(zip(texts[::2], texts[1::2])), set())
     text, changed = edit.applied((crate.folder / edit.file).read_text())
     return edit._replace(functions=functions(edit.file, text.splitlines(), changed))
+
+
+def shape(line: str) -> list[str]:
+    """The kinds of the words of a line, and each sign that is none of these."""
+    return [it.lastgroup or it[0] for it in WORD.finditer(line)]
+
+
+def without_twins(root: pathlib.Path) -> list[str]:
+    """The edits that change a shape and have no twin, as they are named: CRATE/NAME."""
+    file = root / "tools/lib/without-twins.txt"
+    return file.read_text().split() if file.exists() else []
 
 
 def functions(file: str, lines: list[str], changed: list[int]) -> set[str]:
@@ -238,7 +262,7 @@ def judged(status: int, said: str) -> tuple[str, str]:
     if status == 1 and (errors := [it for it in lines if "error[" in it]):
         return BAD, f"it does not compile: {errors[0]}"
     if status == 3:
-        return REFUSED, "only by a limit of the prover, which says less of the contract"
+        return UNSURE, "the prover could not tell"
     return UNSURE, lines[-1]
 
 
@@ -320,10 +344,14 @@ def run(title: str, tries: list[tuple[proving.Crate, str]], trial: Trial, wanted
     """
     if status := proving.build(title, [below.name for crate, _ in tries for below in crate.direct]):
         return status
-    count = {True: 0, False: 0}
+    count, alone_refused = {True: 0, False: 0}, set(without_twins(ROOT))
+    named = []
 
     def tell(crate, folder, name, kind, why):
         count[kind == wanted] += 1
+        if kind == REFUSED == wanted and f"{crate.name}/{name}" in alone_refused:
+            named.append(name)
+            kind += " (another shape, and no twin)"
         print(f"{folder} {crate.name}/{name}: {kind}{': ' if why else ''}{why}", flush=True)
 
     def try_all(crate, edits):
@@ -339,5 +367,7 @@ def run(title: str, tries: list[tuple[proving.Crate, str]], trial: Trial, wanted
     with concurrent.futures.ThreadPoolExecutor(proving.processors()) as lanes:
         for it in [lanes.submit(try_all, crate, edits) for crate, edits in of_crates.items()]:
             it.result()
+    if named:
+        print(f"{len(named)} of them change a shape and have no twin: that these are refused says less of the contract")
     print(f"{count[True]} passed, {count[False]} failed")
     return 1 if count[False] else 0
