@@ -1,3 +1,4 @@
+mod Bytes
 mod Lists
 mod Machines
 mod Halves

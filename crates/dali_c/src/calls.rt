@@ -18,7 +18,7 @@ ghost use Rattle.dali_wire.specs.Reception.{receiver_at_first, receiver_after, r
 ghost use Rattle.dali_wire.specs.Windows.{window_at_first, window_after, window_at, answer_at, passed};
 ghost use Rattle.dali_c.specs.Codes.{input_of, bool_of, due_code};
 ghost use Rattle.dali_c.specs.Orders.{record_of, order_of, HasNoMore, IsSentSo};
-ghost use Rattle.dali_c.specs.Records.{kept_of, AreRecords};
+ghost use Rattle.dali_c.specs.Records.{kept_of, AreRecords, AreCleared};
 ghost use Rattle.dali_c.specs.Machines.{VERSION, IsRead, Holds};
 ghost use Rattle.dali_c.specs.Levels.{AreLevels};
 ghost use Rattle.dali_c.specs.Receivers.{receiver_of, window_of, IsTold, IsHeard};
@@ -54,6 +54,7 @@ pub extern "C" fn dali_records_new(records: &mut PlainRecords, first: u8, last: 
     ensures records { result ≡ OK → AreRecords records.new
         × (kept_of records.new
         ≡ record { block = record { first = first; last = last }; reserved = []; enrolled = [] }) }
+    ensures cleared { result ≡ OK → AreCleared records.new }
     ensures untouched { (result ≡ OK → ⊥) → records.new ≡ records.old }
 {
     let (Some(first), Some(last)) = (Short::of(first), Short::of(last)) else {
@@ -72,6 +73,7 @@ pub extern "C" fn dali_records_add(records: &mut PlainRecords, addition: &PlainR
         → AnswersAdd (kept_of records.old) x result }
     ensures added { (x : Record) → result ≡ OK → record_of addition.now ≡ Some x
         → AreRecords records.new × (kept_of records.new ≡ with_record (kept_of records.old) x) }
+    ensures cleared { AreCleared records.old → AreCleared records.new }
     ensures untouched { (result ≡ OK → ⊥) → records.new ≡ records.old }
 {
     let Some(kept) = records.read() else {
@@ -110,6 +112,7 @@ pub extern "C" fn dali_machine_new(machine: &mut PlainMachine, records: &PlainRe
     ensures status { (result ≡ OK) ↔ AreRecords records.now }
     ensures refused { (result ≡ OK) ⊎ (result ≡ NO_RECORDS) }
     ensures machine { result ≡ OK → Holds machine.new (at_first 0 (kept_of records.now)) }
+    ensures bytes { result ≡ OK → machine.new.records ≡ records.now }
     ensures untouched { (result ≡ OK → ⊥) → machine.new ≡ machine.old }
 {
     let Some(_) = records.read() else {
@@ -150,6 +153,7 @@ pub extern "C" fn dali_machine_step(
     ensures no_machine { ((m : Machine) → Holds machine.old m → ⊥) → result ≡ refusal machine.old }
     ensures held { (result ≡ refusal machine.old → ⊥) → (m : Machine) × Holds machine.old m }
     ensures named { (result ≡ OK) ⊎ (result ≡ NOT_DUE) ⊎ (result ≡ refusal machine.old) ⊎ (result ≡ BAD_ARGUMENT) }
+    ensures cleared { AreCleared machine.old.records → AreCleared machine.new.records }
     ensures untouched { (result ≡ OK → ⊥) → (machine.new ≡ machine.old) × (order.new ≡ order.old) }
 {
     match machine.read() {
@@ -174,6 +178,7 @@ pub extern "C" fn dali_machine_go(
         → accepts (due_after m.last) i ≡ false → result ≡ NOT_DUE }
     ensures bad { input_of input byte ≡ None → result ≡ BAD_ARGUMENT }
     ensures named { (result ≡ OK) ⊎ (result ≡ NOT_DUE) ⊎ (result ≡ BAD_ARGUMENT) }
+    ensures cleared { AreCleared machine.old.records → AreCleared machine.new.records }
     ensures untouched { (result ≡ OK → ⊥) → (machine.new ≡ machine.old) × (order.new ≡ order.old) }
 {
     match machine.state.read() {
@@ -198,6 +203,7 @@ fn go_on(
         → accepts (due_after m.last) i ≡ false → result ≡ NOT_DUE }
     ensures bad { input_of input byte ≡ None → result ≡ BAD_ARGUMENT }
     ensures named { (result ≡ OK) ⊎ (result ≡ NOT_DUE) ⊎ (result ≡ BAD_ARGUMENT) }
+    ensures cleared { AreCleared machine.old.records → AreCleared machine.new.records }
     ensures untouched { (result ≡ OK → ⊥) → (machine.new ≡ machine.old) × (order.new ≡ order.old) }
 {
     let Some(told) = input_of(input, byte) else {
@@ -226,6 +232,7 @@ fn step(state: &mut State, records: &mut PlainRecords, told: Input) -> Option<Or
         ≡ machine_after (machine_with state.old (kept_of records.old)) told order) }
     ensures whole { IfSome result (λ _. IsWhole (machine_with state.new (kept_of records.new))) }
     ensures fits { IfSome result (λ order. IfSome (record_ordered (Some order)) (Fits (kept_of records.old).block)) }
+    ensures cleared { AreCleared records.old → AreCleared records.new }
 {
     let added = state.kept_by(told);
     records.keep(added);
@@ -275,6 +282,7 @@ pub extern "C" fn dali_machine_last(machine: &PlainMachine, order: &mut PlainOrd
 pub extern "C" fn dali_machine_records(machine: &PlainMachine, records: &mut PlainRecords) -> u8
     ensures records { (m : Machine) → Holds machine.now m
         → (result ≡ OK) × AreRecords records.new × (kept_of records.new ≡ m.kept) }
+    ensures bytes { result ≡ OK → records.new ≡ machine.now.records }
     ensures no_machine { ((m : Machine) → Holds machine.now m → ⊥) → result ≡ refusal machine.now }
     ensures held { result ≡ OK → (m : Machine) × Holds machine.now m }
     ensures named { (result ≡ OK) ⊎ (result ≡ refusal machine.now) }

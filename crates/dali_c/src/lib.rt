@@ -9,6 +9,7 @@ mod ascents;
 mod calls;
 mod codes;
 mod entries;
+pub mod laws;
 mod levels;
 mod machine;
 mod orders;

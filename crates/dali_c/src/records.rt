@@ -3,7 +3,7 @@
 ghost use Rattle.std.specs.Prelude.{◌≡◌, ◌<◌, None, IfSome, MatchOption};
 ghost use Rattle.dali_script.specs.Records.{Fits, MayAdd, with_record, without_records};
 ghost use Rattle.dali_controller.specs.Steps.{with_some};
-ghost use Rattle.dali_c.specs.Records.{kept_of, AreRecords};
+ghost use Rattle.dali_c.specs.Records.{kept_of, AreRecords, AreCleared};
 
 use dali_frame::Short;
 use dali_script::{Block, Pair, Pairs, Record, Records};
@@ -23,6 +23,7 @@ impl PlainRecords {
     pub(crate) fn new(block: Block) -> PlainRecords
         ensures records { kept_of result ≡ without_records block }
         ensures kept { AreRecords result }
+        ensures cleared { AreCleared result }
     {
         PlainRecords {
             first: block.first.number(),
@@ -73,6 +74,7 @@ impl PlainRecords {
 
         ensures kept { AreRecords self.new }
         ensures added { kept_of self.new ≡ with_record (kept_of self.old) added }
+        ensures cleared { AreCleared self.old → AreCleared self.new }
     {
         match added {
             Record::Reserve(address, random) => self.reserved.insert(Pair::of(address, random)),
@@ -89,6 +91,7 @@ impl PlainRecords {
         ensures kept { AreRecords self.new }
         ensures added { kept_of self.new ≡ with_some (kept_of self.old) added }
         ensures none { added ≡ None → self.new ≡ self.old }
+        ensures cleared { AreCleared self.old → AreCleared self.new }
     {
         if let Some(added) = added {
             self.add(added);
