@@ -1,5 +1,6 @@
 """The words of the launcher that are about a driver: --driver, --driver-timeout and --trace, as tools/drive says; and the program."""
 
+import argparse
 import os
 import re
 import shlex
@@ -18,6 +19,14 @@ MOST = 86400
 
 class BadWord(Exception):
     """What is wrong with the command line."""
+
+
+class Options(argparse.ArgumentParser):
+    """The words of a command of the launcher, of which what is wrong is told as of all other words."""
+
+    def error(self, message: str) -> typing.NoReturn:
+        lacks = re.fullmatch(r"the following arguments are required: (.*)", message)
+        raise BadWord(f"{lacks[1]} must be given" if lacks else message.removeprefix("argument "))
 
 
 def parted(words: list[str], *more: str) -> tuple[list[str], dict[str, list[str]]]:

@@ -5,6 +5,7 @@ What is proved stays in out/ of each crate, so a build that is interrupted goes 
 stands in its out/build.log.
 """
 
+import contextlib
 import fcntl
 import io
 import os
@@ -17,6 +18,7 @@ import subprocess
 import sys
 import threading
 import time
+from collections.abc import Callable, Iterator
 
 from lib import ROOT
 
@@ -35,6 +37,10 @@ FASTER = {1: 1, 2: 1.4, 3: 1.7}
 # What a crate is taken to need that was never measured, and how many must be done before the time that is left is guessed.
 UNMEASURED, FEWEST = 100, 3
 REFUSED, MISSING, INTERRUPTED = 126, 127, 130
+# The signals that end a build.
+ENDS = (signal.SIGINT, signal.SIGTERM, signal.SIGHUP)
+# After how many seconds it is said again what goes on.
+SIGN = 10
 
 
 class Refused(Exception):
@@ -135,6 +141,28 @@ def say(text: str) -> None:
     print(text, file=sys.stderr, flush=True)
 
 
+@contextlib.contextmanager
+def signs_of_life(text: Callable[[], str]) -> Iterator[None]:
+    """Says this every ten seconds meanwhile, with how long it has been so."""
+    begun, ended = time.monotonic(), threading.Event()
+
+    def tell():
+        while not ended.wait(SIGN):
+            say(f"{text()}, {minutes(time.monotonic() - begun)} so far")
+
+    telling = threading.Thread(target=tell, daemon=True)
+    telling.start()
+    try:
+        yield
+    finally:
+        ended.set()
+        telling.join()
+
+
+def minutes(seconds: float) -> str:
+    return f"{int(seconds) // 60}:{int(seconds) % 60:02}"
+
+
 def room(name: str = "proving") -> pathlib.Path:
     """The folder in which crates are proved.
 
@@ -148,7 +176,7 @@ class Build:
 
     def __init__(self, title: str, crates: list[Crate], is_measured: bool = False) -> None:
         self.title, self.crates, self.left, self.is_measured = title, crates, list(crates), is_measured
-        self.running, self.ended, self.read, self.took = {}, {}, {}, {}
+        self.running, self.waiting, self.ended, self.read, self.took = {}, {}, {}, {}, {}
         self.processors, self.changed, self.first = processors(), threading.Condition(), time.monotonic()
 
     def behind(self, crate: Crate) -> int:
@@ -183,7 +211,8 @@ class Build:
             how = {"stdin": subprocess.DEVNULL, "stdout": log, "stderr": log, "start_new_session": True}
             ran = subprocess.Popen(self.words_of(crate, is_longest), cwd=place, **how)
         self.running[crate] = ran
-        threading.Thread(target=self.wait_for, args=(crate, ran), daemon=True).start()
+        self.waiting[crate] = threading.Thread(target=self.wait_for, args=(crate, ran), daemon=True)
+        self.waiting[crate].start()
 
     def words_of(self, crate: Crate, is_longest: bool) -> list[str]:
         """What proves a crate. All make way for the one with the longest chain behind it, which they wait for in the end."""
@@ -215,8 +244,7 @@ class Build:
                 raise Changed(it.name)
         keep(crate, self.read[crate])
         count = len(self.crates) - len(self.left) - len(self.running)
-        passed = int(time.monotonic() - self.first)
-        so_far = f"{count} of {len(self.crates)} crates proved after {passed // 60}:{passed % 60:02} ({crate.name})"
+        so_far = f"{count} of {len(self.crates)} crates proved after {minutes(time.monotonic() - self.first)} ({crate.name})"
         say(f"{self.title}: {so_far}{self.guess()}")
 
     def guess(self) -> str:
@@ -239,12 +267,15 @@ class Build:
         return max(*map(chain, crates), sum(it.seconds for it in crates) / self.processors)
 
     def stop(self) -> None:
-        for ran in self.running.values():
-            try:
+        """Ends what runs, and waits until each has ended: its own thread sees that."""
+        for crate, ran in self.running.items():
+            with contextlib.suppress(ProcessLookupError):
                 os.killpg(ran.pid, signal.SIGKILL)
-            except ProcessLookupError:
-                pass
-            ran.wait()
+            self.waiting[crate].join()
+
+    def now(self) -> str:
+        """What is proved at this moment."""
+        return f"{self.title}: proving {', '.join(it.name for it in list(self.running))}"
 
 
 def read_words(crate: Crate) -> list[str]:
@@ -358,10 +389,12 @@ def prove(title: str, programs: list[str], is_measured: bool) -> int:
     forget_others(found)
     crates = wanted(programs)
     run = Build(title, crates, is_measured)
-    begun = f"proving {len(crates)} crates on {run.processors} processors"
+    about = max(round(run.clock(crates) / 60), 1)
+    begun = f"proving {len(crates)} crates on {run.processors} processors, which takes {about} to {3 * about} minutes"
     say(f"{title}: {begun}; the prover's words go to crates/NAME/out/build.log")
     try:
-        run.run()
+        with signs_of_life(run.now):
+            run.run()
         if is_measured:
             note({crate.name: round(took) for crate, took in run.took.items()})
         return 0
@@ -382,13 +415,9 @@ def build(title: str, programs: list[str], is_measured: bool = False) -> int:
     """Proves and builds programs while no other build of this checkout runs, and returns an exit status. Where nothing is to be built, it
     waits for nobody."""
 
-    def interrupt(*_):
-        raise Interrupted
-
     if not wanted(programs):
         return 0
-    for it in (signal.SIGINT, signal.SIGTERM, signal.SIGHUP):
-        signal.signal(it, interrupt)
+    end_by_signals()
     try:
         with open(f"{room()}.lock", "w") as lock:
             wait_for_others(title, lock)
@@ -396,6 +425,21 @@ def build(title: str, programs: list[str], is_measured: bool = False) -> int:
     except Interrupted:
         say(f"{title}: interrupted; what is proved is kept, and the next run goes on there")
         return INTERRUPTED
+    except OSError as error:
+        say(f"{title}: nothing can be built in {ROOT}: {error.strerror}")
+        return MISSING
+
+
+def end_by_signals() -> None:
+    """From now on the first of these signals is an `Interrupted`, and those after it are nothing."""
+
+    def interrupt(*_):
+        for it in ENDS:
+            signal.signal(it, signal.SIG_IGN)
+        raise Interrupted
+
+    for it in ENDS:
+        signal.signal(it, interrupt)
 
 
 def wait_for_others(title: str, lock: io.TextIOWrapper) -> None:
