@@ -159,8 +159,6 @@ def join(
         if draws.fault:
             say(f"{title}: the trace cannot be written: {draws.fault}")
     say_end(title, drives, between.fault, is_by_itself)
-    if signals.came:
-        say(f"{title}: interrupted")
     return status_of(title, runs, between, signals)
 
 
