@@ -120,7 +120,7 @@ enum dali_end {
     DALI_ALL_FOUND = 1,
     /* The block has no free short address. */
     DALI_BLOCK_FULL = 2,
-    /* Eight transactions in a row were lost, or sixteen searches in a row led to no gear. */
+    /* Eight transactions in a row were lost; or sixteen searches of a start, or eighty of a survey, led to no gear. */
     DALI_GAVE_UP = 3
 };
 
