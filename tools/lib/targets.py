@@ -13,17 +13,18 @@ import subprocess
 import time
 import typing
 
-from lib import ROOT, proving
+from lib import ROOT, layouts, proving
 
 BARE = ROOT / "tools/lib/bare"
 EXAMPLE = ROOT / "examples" / "c"
 FIRMWARE = ROOT / "examples" / "firmware"
 INCLUDE = ROOT / "include"
 PLACE = ROOT / "out" / "firmware"
-MOST_SECONDS = 600
-# A simulated board, whose processor takes 128 ns for each instruction, which tools/lib/bare/program.c knows.
-BOARD = ["qemu-system-arm", "-icount", "shift=7,sleep=off", "-nographic", "-monitor", "none", "-serial", "none"]
+MOST_SECONDS = 1800
+BOARD = ["qemu-system-arm", "-nographic", "-monitor", "none", "-serial", "none"]
 BOARD += ["-chardev", "stdio,id=said", "-semihosting-config", "enable=on,target=native,chardev=said"]
+# A processor that takes 128 ns for each instruction, which tools/lib/bare/program.c knows.
+COUNTED = ["-icount", "shift=7,sleep=off"]
 BOUND = re.compile(r"\bframe-bytes=(\d+) stack-bytes=(\d+)(?!\+)\b")
 
 
@@ -46,20 +47,31 @@ class Target(typing.NamedTuple):
 ARM = [BARE / "support.c", BARE / "memory.c"], ["-T", BARE / "program.ld", "-e", "reset"]
 LINUX = [BARE / "linux.c", BARE / "memory.c"], ["-e", "begin"]
 SYSTEM = "qemu-system-arm"
+# No instruction of a unit for floating point; and, as no number of that kind is handed over, a mark (Tag_ABI_VFP_args) by which linkers
+# take the objects into programs that hand them over in registers of that unit, and into others.
+WITHOUT_UNIT = ("-mfpu=none",)
+EITHER_WAY = 'module asm ".eabi_attribute 28, 3"'
+
+
+def bare(triple: str, board: str, *more: str, words: tuple[str, ...] = ()) -> Target:
+    """A bare Arm processor, on a simulated board."""
+    return Target(triple, [*words], *ARM, [*BOARD, *more, "-M", board, "-kernel"], SYSTEM)
+
+
 # The first is the kit's own.
 TARGETS = {
     "x86_64-linux": Target("x86_64-unknown-linux-gnu", [], *LINUX, []),
     "aarch64-linux": Target("aarch64-unknown-linux-gnu", [], *LINUX, ["qemu-aarch64"], "qemu-user"),
-    "thumbv6m": Target("thumbv6m-none-eabi", [], *ARM, [*BOARD, "-M", "mps2-an385", "-kernel"], SYSTEM),
-    "thumbv7em": Target("thumbv7em-none-eabi", [], *ARM, [*BOARD, "-M", "mps2-an386", "-kernel"], SYSTEM),
+    "thumbv6m": bare("thumbv6m-none-eabi", "mps2-an385"),
+    "thumbv7em": bare("thumbv7em-none-eabi", "mps2-an386", words=WITHOUT_UNIT),
     "riscv32": Target("riscv32-unknown-elf", ["-march=rv32imac", "-mabi=ilp32"], *LINUX, ["qemu-riscv32"], "qemu-user"),
 }
 KIT = TARGETS["x86_64-linux"]
 # What instructions are counted on: two of these, and a processor between them.
 MEASURED = {
-    "thumbv6m": TARGETS["thumbv6m"],
-    "thumbv7m": Target("thumbv7m-none-eabi", [], *ARM, [*BOARD, "-M", "mps2-an385", "-kernel"], SYSTEM),
-    "thumbv7em": TARGETS["thumbv7em"],
+    "thumbv6m": bare("thumbv6m-none-eabi", "mps2-an385", *COUNTED),
+    "thumbv7m": bare("thumbv7m-none-eabi", "mps2-an385", *COUNTED),
+    "thumbv7em": bare("thumbv7em-none-eabi", "mps2-an386", *COUNTED, words=WITHOUT_UNIT),
     "riscv32": Target(
         "riscv32-unknown-elf", ["-march=rv32imac", "-mabi=ilp32"], [BARE / "board.c", BARE / "memory.c"],
         ["-T", BARE / "board.ld", "-e", "reset"],
@@ -133,16 +145,17 @@ def make_module(title: str, crate: proving.Crate) -> str:
     proving.say(f"{title}: proving dali_c")
     jobs = proving.proof_words(crate, min(proving.processors(), 4))
     run([*rattle, "check", *words, *jobs, "-o", PLACE / "checked"], cwd=crate.folder)
-    words += ["--crate-checked", PLACE / "checked", "--toolchain", toolchain()]
+    words += ["--crate-checked", PLACE / "checked", "--toolchain", toolchain(PLACE)]
     run([*rattle, "build", *words, "-o", PLACE / "built.a"], cwd=crate.folder)
     built = [*rattle, "build", *words, "-o", PLACE / "other.a", "--backend", "rattle"]
     told = BOUND.search(run(built, cwd=crate.folder, stderr=subprocess.STDOUT))
     return f"at most {int(told[2]):,}, with frames of at most {int(told[1]):,}" if told else ""
 
 
-def toolchain() -> pathlib.Path:
-    """A folder as the kit's own, whose clang keeps the module that it is handed."""
-    kit, folder = proving.kit_folder() / "toolchain", PLACE / "toolchain"
+def toolchain(place: pathlib.Path) -> pathlib.Path:
+    """A folder as the kit's own, whose clang keeps the module that it is handed. Of a program that is to have its addresses checked
+    that is all."""
+    kit, folder = proving.kit_folder() / "toolchain", place / "toolchain"
     shutil.rmtree(folder, ignore_errors=True)
     (folder / "bin").mkdir(parents=True)
     (folder / "lib").symlink_to(kit / "lib")
@@ -150,7 +163,8 @@ def toolchain() -> pathlib.Path:
         (folder / "bin" / file.name).symlink_to(file)
     wrapper = folder / "bin" / "clang"
     wrapper.unlink()
-    keep = f'for word; do case "$word" in *.bc) cp "$word" {shlex.quote(str(PLACE / "module.bc"))} ;; esac; done'
+    kept = shlex.quote(str(place / "module.bc"))
+    keep = f'for word; do case "$word" in *.bc) cp "$word" {kept} ;; -fsanitize=*) exit 1 ;; esac; done'
     wrapper.write_text(f'#!/bin/sh\n{keep}\nexec {shlex.quote(clang())} "$@"\n')
     wrapper.chmod(0o755)
     return folder
@@ -162,6 +176,19 @@ def as_text(words: collections.abc.Sequence[str | pathlib.Path], made: pathlib.P
     return made.read_text()
 
 
+def laid_out(text: str, line: str) -> str:
+    """LLVM's text with another layout of data, in which all lies in memory as it did."""
+    ours = re.search(r"^target datalayout = .*$", text, re.M)[0]
+    wide, narrow = (layouts.layout(it.split('"')[1]) for it in (ours, line))
+    if narrow.pointer < wide.pointer:
+        text = layouts.widened(text, wide)
+    try:
+        layouts.judge(text, wide, narrow)
+    except layouts.Refused as refused:
+        raise Failed(f"the library cannot be laid out for another processor: {refused}") from None
+    return text.replace(ours, line)
+
+
 def retargeted(target: Target, module: pathlib.Path, folder: pathlib.Path, marks: collections.abc.Sequence[str]) -> str:
     """LLVM's text of the library for another processor, each of its functions with these marks."""
     empty = folder / "empty.c"
@@ -169,11 +196,12 @@ def retargeted(target: Target, module: pathlib.Path, folder: pathlib.Path, marks
     lines = as_text([f"--target={target.triple}", *target.words, empty], folder / "empty.ll")
     layout, triple = (re.search(rf"^target {it} = .*$", lines, re.M)[0] for it in ("datalayout", "triple"))
     text = as_text(["-x", "ir", module, "-O0", "-Xclang", "-disable-llvm-passes"], folder / "read.ll")
-    text = re.sub(r"^target datalayout = .*$", layout, text, flags=re.M)
+    text = laid_out(text, layout)
+    triple += f"\n{EITHER_WAY}" * target.triple.startswith("thumb")
     text = re.sub(r"^target triple = .*$", triple, text, flags=re.M)
     text = re.sub(r' "(?:target-cpu|target-features|probe-stack|stack-probe-size)"="[^"]*"', "", text)
-    if "p:32:32" in layout:
-        text = re.sub(r"\bptrtoaddr (?=ptr\b)", "ptrtoint ", text)
+    # A C compiler takes it that the byte that is returned fills its register.
+    text = re.sub(r"^define noundef (?=i8 @)", "define noundef zeroext ", text, flags=re.M)
     if "noinline" in marks:
         text = re.sub(r"^(attributes #.*) inlinehint\b", r"\1", text, flags=re.M)
     of_functions = "|".join(set(re.findall(r"^define .*\) #(\d+)", text, re.M)))

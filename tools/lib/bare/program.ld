@@ -13,10 +13,10 @@ PROVIDE(__aeabi_memclr8 = __aeabi_memclr);
 
 SECTIONS
 {
-    . = 0x00000000;
+    . = DEFINED(code_begin) ? code_begin : 0x00000000;
     .text : { KEEP(*(.vectors)) *(.text .text.*) *(.rodata .rodata.*) *(.data.rel.ro .data.rel.ro.*) }
     .ARM.exidx : { *(.ARM.exidx*) }
-    . = 0x20000000;
+    . = DEFINED(data_begin) ? data_begin : 0x20000000;
     .data : { *(.data .data.*) }
     .bss (NOLOAD) : { *(.bss .bss.*) *(COMMON) }
 }

@@ -1,6 +1,9 @@
-/* Whole commissionings on a bus with troubles, each by several lives of a controller, on whichever processor; and what is
- * heard of levels. It writes a number that is made of each order, each answer, the last struct of each life and what was
- * heard, so that two processors can be compared, and how many frames, records, lives and bytes there were. */
+/* Every call of the library on whichever processor, so that two processors can be compared: additions to records, whole
+ * commissionings on a bus with troubles, each by several lives of controllers, and what is heard of levels.
+ *
+ * After each call each byte of every struct that a call may write goes into a sum, with the status of the call. The sum is
+ * written after each part, so that the first part that differs can be found; and at last how much there was, and what the
+ * machines did. */
 #include "chance.h"
 #include "dali_c.h"
 #include "gear.h"
@@ -12,22 +15,51 @@
 /* More than a life takes that is not killed. */
 #define MOST_STEPS UINT32_C(40000)
 #define MOST_LIVES 6
-#define DRAWN_LEVELS 2000
+#define MOST_CONTROLLERS 2
+/* Each of so many steps is followed by the calls that only read, and by some on structs with a changed byte. */
+#define READ_EACH 8
+#define ADDITIONS 200
+/* What a struct has before its records. */
+#define STATE_BYTES (sizeof(struct dali_machine) - sizeof(struct dali_records))
+
+/* Every struct that a call may write. All are bytes, so there is no gap. */
+static union {
+    struct {
+        struct dali_machine machine, beside;
+        struct dali_records kept[MOST_CONTROLLERS], read;
+        struct dali_table table;
+        struct dali_order order, other;
+        struct dali_receiver receiver;
+        struct dali_told told;
+        struct dali_window window;
+        struct dali_heard heard;
+        struct dali_levels levels;
+        uint8_t due;
+    } is;
+    uint32_t words[900];
+} all;
 
 static struct bus bus;
-static struct dali_records kept;
-static struct dali_machine machine;
-static struct dali_table table;
-static uint64_t hash = UINT64_C(0xCBF29CE484222325);
-static uint32_t frames, commits, lives;
+static uint64_t chance;
+static uint32_t sum = UINT32_C(0x811C9DC5);
+static uint32_t calls, frames, lives, commits[DALI_RELEASE + 1];
+/* Of each status, purpose of a transaction, end and fault whether it came: a bit each. */
+static uint32_t statuses, purposes, ends, faults;
 
-/* FNV-1a with 64 bits. */
-static void mix(const void *thing, size_t size)
+static void mix(uint32_t word)
 {
-    const uint8_t *bytes = thing;
+    sum = ((sum << 5 | sum >> 27) ^ word) * UINT32_C(0x9E3779B1);
+}
 
-    for (size_t at = 0; at < size; at++)
-        hash = (hash ^ bytes[at]) * UINT64_C(0x100000001B3);
+/* A call answered this status. */
+static uint8_t called(uint8_t status)
+{
+    calls++;
+    statuses |= UINT32_C(1) << status;
+    mix(status);
+    for (uint32_t at = 0; at < (sizeof all.is + 3) / 4; at++)
+        mix(all.words[at]);
+    return status;
 }
 
 static void must(int is_so, const char *what)
@@ -40,47 +72,178 @@ static void must(int is_so, const char *what)
     }
 }
 
-static void mix_machine(void)
+static int is_same(const void *one, const void *other, size_t size)
 {
-    uint8_t due;
+    return memcmp(one, other, size) == 0;
+}
 
-    must(dali_machine_check(&machine) == DALI_OK, "a machine is none");
-    must(dali_machine_due(&machine, &due) == DALI_OK, "nothing is due of a machine");
-    must(dali_machine_table(&machine, &table) == DALI_OK, "a machine has no table");
-    mix(&due, 1);
-    mix(&table, sizeof table);
-    mix(&machine, sizeof machine);
+static void tell(const char *what, uint32_t number)
+{
+    say(what);
+    say_number(number);
+    say("\n");
+}
+
+static uint8_t some_byte(void)
+{
+    return (uint8_t)chance_next(&chance);
+}
+
+static void change_byte(void *thing, uint32_t size)
+{
+    uint32_t at = chance_below(&chance, size), mask = chance_below(&chance, 2) ? 0xFF : 3;
+
+    ((uint8_t *)thing)[at] = some_byte() & (uint8_t)mask;
+}
+
+/* Records. */
+
+static struct dali_record record_of(uint8_t kind, uint8_t address, uint8_t number)
+{
+    struct dali_record record = {kind, {address, {0, number, 0}}};
+
+    return record;
+}
+
+static uint8_t add(struct dali_record record)
+{
+    return called(dali_records_add(&all.is.kept[0], &record));
+}
+
+/* A release takes a pair out of the midst of others. */
+static void release_one(void)
+{
+    const struct dali_pairs *left = &all.is.kept[0].reserved;
+
+    called(dali_records_new(&all.is.kept[0], 0, DALI_ADDRESSES - 1));
+    for (uint8_t at = 0; at < 4; at++)
+        must(add(record_of(DALI_RESERVE, at, at)) == DALI_OK, "a reservation is refused");
+    must(add(record_of(DALI_ENROL, 0, 0)) == DALI_OK, "an enrolment is refused");
+    must(add(record_of(DALI_RELEASE, 1, 1)) == DALI_OK, "a release is refused");
+    must(left->count == 3, "a release leaves another number of pairs");
+    for (uint8_t at = 0; at < 3; at++) {
+        uint8_t was = at == 0 ? 0 : at + 1;
+
+        must(left->pairs[at].short_address == was && left->pairs[at].random_address.middle == was,
+             "a release takes another pair");
+    }
+}
+
+/* A record, often one that fits. Few random addresses, so that some come again. */
+static struct dali_record some_record(uint32_t limit)
+{
+    const struct dali_pairs *reserved = &all.is.kept[0].reserved;
+    uint32_t kind = 1 + chance_below(&chance, 3), address = chance_below(&chance, limit), number = chance_below(&chance, 2 * limit);
+    struct dali_record record = record_of((uint8_t)kind, (uint8_t)address, (uint8_t)number);
+
+    if (record.kind == DALI_RELEASE && reserved->count > 0 && reserved->count <= DALI_ADDRESSES)
+        record.pair = reserved->pairs[chance_below(&chance, reserved->count)];
+    if (chance_below(&chance, 16) == 0)
+        change_byte(&record, sizeof record);
+    if (chance_below(&chance, 64) == 0)
+        memset(&record.pair.random_address, 0xFF, sizeof record.pair.random_address);
+    return record;
+}
+
+static void add_records(void)
+{
+    uint32_t limit = 2 + chance_below(&chance, 63), first = chance_below(&chance, 8);
+
+    called(dali_records_new(&all.is.kept[0], (uint8_t)first, (uint8_t)(limit + chance_below(&chance, 4))));
+    for (int times = 0; times < ADDITIONS; times++) {
+        add(some_record(limit));
+        if (times % READ_EACH != 0)
+            continue;
+        if (called(dali_machine_new(&all.is.machine, &all.is.kept[0])) == DALI_OK) {
+            must(called(dali_machine_records(&all.is.machine, &all.is.read)) == DALI_OK, "a new machine has no records");
+            must(is_same(&all.is.read, &all.is.kept[0], sizeof all.is.read), "a new machine has other records");
+        }
+        all.is.read = all.is.kept[0];
+        change_byte(&all.is.read, sizeof all.is.read);
+        called(dali_machine_new(&all.is.beside, &all.is.read));
+    }
+}
+
+/* A controller on a bus. */
+
+/* The calls on a struct beside the machine: the same, or with another byte. */
+static void read_beside(void)
+{
+    uint8_t status = called(dali_machine_check(&all.is.beside));
+
+    called(dali_machine_due(&all.is.beside, &all.is.due));
+    must(called(dali_machine_last(&all.is.beside, &all.is.other)) == status, "the last order is read otherwise");
+    must(called(dali_machine_records(&all.is.beside, &all.is.read)) == status, "records are read otherwise");
+    must(called(dali_machine_table(&all.is.beside, &all.is.table)) == status, "a table is read otherwise");
+}
+
+static void step_beside(void)
+{
+    uint8_t input = (uint8_t)chance_below(&chance, DALI_SURVEY + 3);
+
+    called(dali_machine_step(&all.is.beside, input, some_byte(), &all.is.other));
+}
+
+static void try_beside(void)
+{
+    all.is.beside = all.is.machine;
+    read_beside();
+    must(is_same(&all.is.other, &all.is.order, sizeof all.is.other), "the last order is another");
+    step_beside();
+    all.is.beside = all.is.machine;
+    change_byte(&all.is.beside, chance_below(&chance, 4) ? STATE_BYTES : sizeof all.is.beside);
+    read_beside();
+    step_beside();
+}
+
+/* A step by dali_machine_step, and by dali_machine_go beside it. */
+static void step(struct told told)
+{
+    all.is.beside = all.is.machine;
+    must(called(dali_machine_step(&all.is.machine, told.input, told.byte, &all.is.order)) == DALI_OK, "a step is refused");
+    must(called(dali_machine_go(&all.is.beside, told.input, told.byte, &all.is.other)) == DALI_OK, "a step is refused");
+    must(is_same(&all.is.beside, &all.is.machine, sizeof all.is.beside), "a step without a test is another");
+    must(is_same(&all.is.other, &all.is.order, sizeof all.is.other), "a step without a test orders something else");
+    purposes |= UINT32_C(1) << all.is.machine.purpose;
 }
 
 /* What the controller is told of an order. */
-static struct told follow(const struct dali_order *order)
+static struct told follow(struct dali_records *kept, uint32_t failing)
 {
+    const struct dali_order *order = &all.is.order;
+
     if (order->kind == DALI_PUT) {
         frames++;
         return bus_send(&bus, order->address_byte, order->opcode_byte);
     }
-    must(dali_records_add(&kept, &order->record) == DALI_OK, "a record is refused");
-    commits++;
+    if (failing > 0 && chance_below(&chance, failing) == 0)
+        return (struct told){DALI_COMMIT_FAILED, 0};
+    must(called(dali_records_add(kept, &order->record)) == DALI_OK, "a record is refused");
+    commits[order->record.kind]++;
     return (struct told){DALI_COMMITTED, 0};
 }
 
-/* One life of a controller, which is killed after so many steps. 1 where it has ended before. */
-static int live(uint8_t start, uint32_t steps)
+/* One life of a controller, which is killed after so many steps. 1 where it has ended before. Of so many records one is not
+ * kept, or none fails. */
+static int live(struct dali_records *kept, uint8_t start, uint32_t steps, uint32_t failing)
 {
     struct told told = {start, 0};
-    struct dali_order order = {0};
+    uint8_t kind = DALI_NOTHING_ORDERED;
 
-    must(dali_machine_new(&machine, &kept) == DALI_OK, "no machine");
+    must(called(dali_machine_new(&all.is.machine, kept)) == DALI_OK, "no machine");
     lives++;
-    while (steps-- > 0 && order.kind != DALI_DONE && order.kind != DALI_HALT) {
-        must(dali_machine_step(&machine, told.input, told.byte, &order) == DALI_OK, "a step is refused");
-        mix(&order, sizeof order);
-        if (order.kind == DALI_PUT || order.kind == DALI_COMMIT)
-            told = follow(&order);
-        mix(&told, sizeof told);
+    for (uint32_t count = 0; count < steps && kind != DALI_DONE && kind != DALI_HALT; count++) {
+        step(told);
+        kind = all.is.order.kind;
+        if (count % READ_EACH == 0)
+            try_beside();
+        if (kind == DALI_PUT || kind == DALI_COMMIT)
+            told = follow(kept, failing);
+        mix(told.input << 8 | told.byte);
     }
-    mix_machine();
-    return order.kind == DALI_DONE || order.kind == DALI_HALT;
+    ends |= kind == DALI_DONE ? UINT32_C(1) << all.is.order.reason : 0;
+    faults |= kind == DALI_HALT ? UINT32_C(1) << all.is.order.reason : 0;
+    return kind == DALI_DONE || kind == DALI_HALT;
 }
 
 static void check_gear(void)
@@ -95,21 +258,59 @@ static void check_gear(void)
     }
 }
 
-static void commission(uint64_t seed)
+/* Gear that were used before: each has drawn, and of three two have a short address. */
+static void use_gear(void)
 {
-    uint64_t chance = seed;
-    uint32_t most = chance_below(&chance, 20000);
+    uint32_t used = chance_below(&chance, bus.gear_count + 1);
 
-    bus_new(&bus, chance_next(&chance), 1 + chance_below(&chance, BUS_MOST_GEAR));
-    bus.troubles = (struct troubles){most / 2, most / 2, most, most, most / 2, most / 20};
-    must(dali_records_new(&kept, 0, (uint8_t)(31 + chance_below(&chance, 33))) == DALI_OK, "no records");
-    for (int life = 0; life < MOST_LIVES; life++) {
-        live(chance_below(&chance, 2) ? DALI_SURVEY : DALI_START, 1 + chance_below(&chance, 4000));
+    for (uint32_t at = 0; at < used; at++) {
+        bus.gear[at].random_address = (chance_below(&chance, 0xFFFF) << 8) + at;
+        if (at % 3 != 0)
+            bus.gear[at].short_byte = (uint8_t)(2 * (at * 5 % DALI_ADDRESSES) + 1);
+    }
+}
+
+/* A gear is exchanged for one with the same short address, or loses it, or gets another one by hand: what the records say is wrong
+ * from then on. */
+static void exchange_gear(void)
+{
+    struct gear *gear = &bus.gear[chance_below(&chance, bus.gear_count)];
+    uint32_t how = chance_below(&chance, 3);
+
+    if (how == 0)
+        gear->random_address = chance_below(&chance, GEAR_MASK24);
+    else if (how == 1)
+        gear->short_byte = GEAR_MASK;
+    else
+        gear->short_byte = (uint8_t)(2 * chance_below(&chance, DALI_ADDRESSES) + 1);
+}
+
+/* A site with one controller or two, each with a block and records of its own, which are cut off, and at last are not. */
+static void commission(uint32_t run)
+{
+    uint32_t controllers = 1 + run % MOST_CONTROLLERS, is_used = run % 3 == 1, most = chance_below(&chance, 20000);
+    uint32_t limit = run % 4 == 3 ? 30000 : 2 * most, size = DALI_ADDRESSES / controllers;
+
+    bus_new(&bus, chance_next(&chance), run % 5 == 0 ? BUS_MOST_GEAR : 1 + chance_below(&chance, BUS_MOST_GEAR));
+    if (is_used)
+        use_gear();
+    bus.troubles = (struct troubles){most / 2, most / 2, limit, limit, most / 2, most / 20};
+    for (uint32_t at = 0; at < controllers; at++)
+        must(called(dali_records_new(&all.is.kept[at], (uint8_t)(at * size),
+                                     (uint8_t)(at * size + size / 2 + chance_below(&chance, size / 2)))) == DALI_OK, "no records");
+    for (uint32_t life = 0; life < MOST_LIVES; life++) {
+        uint8_t start = is_used || chance_below(&chance, 2) ? DALI_SURVEY : DALI_START;
+
+        live(&all.is.kept[life % controllers], start, 1 + chance_below(&chance, life < 2 ? 400 : 4000), run % 7 == 6 ? 20 : 0);
         check_gear();
     }
-    bus.troubles = (struct troubles){0, 0, 0, 0, 0, 0};
-    must(live(DALI_SURVEY, MOST_STEPS), "a controller alone has not ended");
-    check_gear();
+    if (run % 6 == 5)
+        exchange_gear();
+    bus.troubles = (struct troubles){0, 0, run % 8 == 7 ? 500000 : 0, 0, 0, 0};
+    for (uint32_t at = 0; at < controllers; at++)
+        must(live(&all.is.kept[at], DALI_SURVEY, MOST_STEPS, 0) || run % 8 == 7, "a controller alone has not ended");
+    if (run % 6 != 5)
+        check_gear();
 }
 
 /* The simulated gear are those of the example, which can be killed; here nothing is. */
@@ -117,26 +318,74 @@ void stop_on_bus(void)
 {
 }
 
-int main(void)
+/* The calls at the pins, with any level and time, and of structs with any byte. */
+static void try_pins(void)
+{
+    called(dali_levels_new(&all.is.levels, some_byte(), some_byte()));
+    called(dali_receiver_new(&all.is.receiver));
+    called(dali_window_new(&all.is.window));
+    for (int times = 0; times < 60; times++) {
+        uint32_t micros = chance_below(&chance, 4) ? 417 * (1 + chance_below(&chance, 3)) : (uint32_t)chance_next(&chance);
+        uint8_t is_low = (uint8_t)chance_below(&chance, times % 16 == 15 ? 3 : 2);
+
+        called(dali_receiver_edge(&all.is.receiver, is_low, micros, &all.is.told));
+        called(dali_window_edge(&all.is.window, is_low, micros));
+        if (chance_below(&chance, 8) == 0) {
+            called(dali_receiver_time(&all.is.receiver, micros, &all.is.told));
+            called(dali_window_time(&all.is.window, micros, &all.is.heard));
+        }
+        if (chance_below(&chance, 20) == 0) {
+            change_byte(&all.is.receiver, sizeof all.is.receiver);
+            change_byte(&all.is.window, sizeof all.is.window);
+        }
+    }
+}
+
+static void try_levels(void)
 {
     struct levels_seen seen;
-    const char *is_wrong = levels_try(SEED, DRAWN_LEVELS, &seen);
+    const char *is_wrong = levels_try(SEED, LEVELS, &seen);
 
     must(!is_wrong, is_wrong);
-    mix(&seen.sum, sizeof seen.sum);
+    mix(seen.sum);
+    tell("levels", seen.bytes);
+    for (uint32_t times = 0; times < LEVELS; times++)
+        try_pins();
+    tell("pins", sum);
+}
+
+int main(void)
+{
+    chance = SEED;
     must(dali_c_version() == DALI_C_VERSION, "another version");
+    must(sizeof all.is <= sizeof all.words, "the structs are larger");
+    release_one();
     for (uint32_t run = 0; run < COMMISSIONINGS; run++)
-        commission(SEED + run);
-    say("hash");
-    say_number(hash);
-    say("\nframes");
-    say_number(frames);
-    say("\ncommits");
-    say_number(commits);
-    say("\nlives");
-    say_number(lives);
-    say("\nbytes");
-    say_number(seen.bytes);
-    say("\n");
+        add_records();
+    tell("records", sum);
+    try_levels();
+    for (uint32_t run = 0; run < COMMISSIONINGS; run++) {
+        commission(run);
+        tell("site", sum);
+    }
+    tell("calls", calls);
+    tell("frames", frames);
+    tell("lives", lives);
+    tell("reservations", commits[DALI_RESERVE]);
+    tell("enrolments", commits[DALI_ENROL]);
+    tell("releases", commits[DALI_RELEASE]);
+    tell("statuses", statuses);
+    tell("purposes", purposes);
+    tell("ends", ends);
+    tell("faults", faults);
+#ifdef REACHED
+    {
+        extern const uint8_t reached[REACHED];
+
+        for (uint32_t at = 0; at < REACHED; at++)
+            if (!reached[at])
+                tell("missed", at);
+    }
+#endif
     return 1;
 }

@@ -13,6 +13,10 @@ __attribute__((noreturn)) void reset(void)
 {
     int main(void);
 
+#ifdef __ARM_FP
+    /* The unit for floating point is off at first. */
+    *(volatile uint32_t *)0xE000ED88 |= UINT32_C(0xF) << 20;
+#endif
     end(main());
 }
 
