@@ -25,28 +25,36 @@ heard_same Silence (Some f) elapsed lasted before since one other = rw (begun el
 heard_same (Byte b) (Some f) elapsed lasted before since one other = refl
 heard_same Damaged (Some f) elapsed lasted before since one other = refl
 
-abbrev window : Reading → Bool → ℕ → ℕ → Answer → Window
-window reading low lasted elapsed heard = record { receiver = record { reading = reading; is_low = low; lasted = lasted }; elapsed = elapsed; heard = heard }
+abbrev window : Reading → Bool → ℕ → ℕ → Answer → Bool → Window
+window reading low lasted elapsed heard pulse = record {
+  receiver = record { reading = reading; is_low = low; lasted = lasted };
+  elapsed = elapsed;
+  heard = heard;
+  has_pulse = pulse;
+}
 
-asked_edge : (reading : Reading) (was : Bool) (lasted elapsed : ℕ) (heard : Answer) (before since : ℕ) (low : Bool) → before ≤ since → elapsed + since < 2 ^ 32
-    → window_after (window_at (window reading was lasted elapsed heard) before) low since ≡ window_after (window reading was lasted elapsed heard) low since
-asked_edge reading true lasted elapsed heard before since low order small = refl
-asked_edge reading false lasted elapsed heard before since low order small = go (nat_lt before 2400) refl where
+asked_edge : (reading : Reading) (was : Bool) (lasted elapsed : ℕ) (heard : Answer) (pulse : Bool) (before since : ℕ) (low : Bool) → before ≤ since
+    → elapsed + since < 2 ^ 32
+    → window_after (window_at (window reading was lasted elapsed heard pulse) before) low since
+    ≡ window_after (window reading was lasted elapsed heard pulse) low since
+asked_edge reading true lasted elapsed heard pulse before since low order small = refl
+asked_edge reading false lasted elapsed heard pulse before since low order small = go (nat_lt before 2400) refl where
   go : (b : Bool) → nat_lt before 2400 ≡ b
-      → window_after (window_at (window reading false lasted elapsed heard) before) low since
-      ≡ window_after (window reading false lasted elapsed heard) low since
+      → window_after (window_at (window reading false lasted elapsed heard pulse) before) low since
+      ≡ window_after (window reading false lasted elapsed heard pulse) low since
   go true test = rw test refl
   go false test =
       let later : nat_lt since 2400 ≡ false = grind (arith, nat_tests) in
       let same = heard_same heard (frame_read reading) elapsed lasted before since (omega arith) small in
       rw (test, later) (cc)
 
-asked_time : (reading : Reading) (was : Bool) (lasted elapsed : ℕ) (heard : Answer) (before since : ℕ) → before ≤ since → elapsed + since < 2 ^ 32
-    → window_at (window_at (window reading was lasted elapsed heard) before) since ≡ window_at (window reading was lasted elapsed heard) since
-asked_time reading true lasted elapsed heard before since order small = refl
-asked_time reading false lasted elapsed heard before since order small = go (nat_lt before 2400) refl where
+asked_time : (reading : Reading) (was : Bool) (lasted elapsed : ℕ) (heard : Answer) (pulse : Bool) (before since : ℕ) → before ≤ since
+    → elapsed + since < 2 ^ 32
+    → window_at (window_at (window reading was lasted elapsed heard pulse) before) since ≡ window_at (window reading was lasted elapsed heard pulse) since
+asked_time reading true lasted elapsed heard pulse before since order small = refl
+asked_time reading false lasted elapsed heard pulse before since order small = go (nat_lt before 2400) refl where
   go : (b : Bool) → nat_lt before 2400 ≡ b
-      → window_at (window_at (window reading false lasted elapsed heard) before) since ≡ window_at (window reading false lasted elapsed heard) since
+      → window_at (window_at (window reading false lasted elapsed heard pulse) before) since ≡ window_at (window reading false lasted elapsed heard pulse) since
   go true test = rw test refl
   go false test =
       let later : nat_lt since 2400 ≡ false = grind (arith, nat_tests) in
@@ -56,8 +64,8 @@ asked_time reading false lasted elapsed heard before since order small = go (nat
 -- A WINDOW MAY BE ASKED at any time: it goes on as if it had not been.
 pub edge_after_asking : (w : Window) (before since : ℕ) (low : Bool) → before ≤ since → w.elapsed + since < 2 ^ 32
     → window_after (window_at w before) low since ≡ window_after w low since
-edge_after_asking w = asked_edge w.receiver.reading w.receiver.is_low w.receiver.lasted w.elapsed w.heard
+edge_after_asking w = asked_edge w.receiver.reading w.receiver.is_low w.receiver.lasted w.elapsed w.heard w.has_pulse
 
 pub time_after_asking : (w : Window) (before since : ℕ) → before ≤ since → w.elapsed + since < 2 ^ 32
     → window_at (window_at w before) since ≡ window_at w since
-time_after_asking w = asked_time w.receiver.reading w.receiver.is_low w.receiver.lasted w.elapsed w.heard
+time_after_asking w = asked_time w.receiver.reading w.receiver.is_low w.receiver.lasted w.elapsed w.heard w.has_pulse

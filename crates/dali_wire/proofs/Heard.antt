@@ -14,15 +14,20 @@ use Rattle.dali_wire.specs.declared.window.Window.{Window}
 use Rattle.dali_wire.specs.Reception.{span_of, span_before, with_bit, read_edge, frame_read, longer}
 use Rattle.dali_wire.specs.Levels.{bits_of}
 use Rattle.dali_wire.specs.Times.{IsHalf, AreTimes, HasRead}
-use Rattle.dali_wire.specs.Windows.{is_idle, passed, window_after, window_through, window_at_first, told_after}
+use Rattle.dali_wire.specs.Windows.{is_idle, passed, window_after, window_at_first, told_after}
+use Rattle.dali_wire.specs.Edges.{window_after_all, by_turns}
 use Rattle.dali_wire.proofs.Spans.{soon, late}
 use Rattle.dali_wire.proofs.Values.{length_bits}
 use Rattle.dali_wire.proofs.EachTime.{backward_read}
 use Rattle.dali_wire.proofs.Asking.{begun}
 
 -- AN ANSWER ALONE IS HEARD. While its edges come nothing is told, and the window knows when it began.
+abbrev window_through : Window → Bool → List ℕ → Window
+window_through w low times = window_after_all w (by_turns low times)
+
 abbrev hearing : Reading → Bool → ℕ → ℕ → Window
-hearing r low lasted begin = record { receiver = record { reading = r; is_low = low; lasted = lasted }; elapsed = begin + lasted; heard = Silence }
+hearing r low lasted begin =
+    record { receiver = record { reading = r; is_low = low; lasted = lasted }; elapsed = begin + lasted; heard = Silence; has_pulse = false }
 
 bit_goes_on : (v : ℕ) (low : Bool) → is_idle (with_bit v low) ≡ false
 bit_goes_on v low = go (nat_le 0x1000000 v) where
@@ -52,7 +57,7 @@ edge_goes_on Spoilt low Wrong busy long = refl
 long_enough : (t : ℕ) → 334 ≤ t → span_of t ≡ Short → ⊥
 long_enough t least short = grind (arith, nat_tests)
 
-longer_is : (r : Reading) (lasted t : ℕ) → is_idle r ≡ false → lasted + t < 2 ^ 32 → longer r lasted t ≡ lasted + t
+pub longer_is : (r : Reading) (lasted t : ℕ) → is_idle r ≡ false → lasted + t < 2 ^ 32 → longer r lasted t ≡ lasted + t
 longer_is Idle lasted t busy small = absurd (cc)
 longer_is First lasted t busy small = omega arith
 longer_is (Between v) lasted t busy small = omega arith
@@ -60,13 +65,14 @@ longer_is (Middle v) lasted t busy small = omega arith
 longer_is Spoilt lasted t busy small = omega arith
 
 one_edge : (r : Reading) (was low : Bool) (lasted begin t : ℕ) → is_idle r ≡ false → t ≤ 1000 → begin + lasted + t < 2 ^ 32
+    → is_idle (read_edge r low (span_before was low t)) ≡ false
     → window_after (hearing r was lasted begin) low t ≡ hearing (read_edge r low (span_before was low t)) low (lasted + t) begin
-one_edge r true low lasted begin t busy few small =
+one_edge r true low lasted begin t busy few small goes =
     let now : min (begin + lasted + t) (2 ^ 32 - 1) ≡ begin + (lasted + t) = omega arith in
-    rw (longer_is r lasted t busy (omega arith), now) refl
-one_edge r false low lasted begin t busy few small =
+    rw (longer_is r lasted t busy (omega arith), now, goes) refl
+one_edge r false low lasted begin t busy few small goes =
     let now : min (begin + lasted + t) (2 ^ 32 - 1) ≡ begin + (lasted + t) = omega arith in
-    rw (soon t (omega arith), longer_is r lasted t busy (omega arith), now) refl
+    rw (soon t (omega arith), longer_is r lasted t busy (omega arith), now, goes) refl
 
 abbrev IsInFrame : ℕ → Type 0
 IsInFrame t = (334 ≤ t) × (t ≤ 1000)
@@ -91,7 +97,7 @@ through (t ∷ times) r lasted begin f busy all small = (
       let next = edge_goes_on r false (span_of t) busy (long_enough t all.0.0) in
       let rest = through times (read_edge r false (span_of t)) (lasted + t) begin f next all.1 (omega (arith, all.0.1)) in
       let ends = rest.1 h.1 in
-      let one = one_edge r true false lasted begin t busy all.0.1 (omega (arith, all.0.1)) in
+      let one = one_edge r true false lasted begin t busy all.0.1 (omega (arith, all.0.1)) next in
       record {
         reading = ends.reading;
         lasted = ends.lasted;
@@ -105,7 +111,7 @@ through (t ∷ times) r lasted begin f busy all small = (
       let early : nat_lt t 2400 ≡ true = soon t (omega (arith, all.0.1)) in
       let read : HasRead (read_edge r true (span_of t)) true times f = rw early at h.1 in
       let ends = rest.0 read in
-      let one = one_edge r false true lasted begin t busy all.0.1 (omega (arith, all.0.1)) in
+      let one = one_edge r false true lasted begin t busy all.0.1 (omega (arith, all.0.1)) next in
       record {
         reading = ends.reading;
         lasted = ends.lasted;

@@ -90,16 +90,19 @@ other_frames true d x n byte e = cc
 other_frames false true x n byte e = cc
 other_frames false false x n byte e = cc
 
-byte_is : (v byte : ℕ) → frame_of v ≡ Backward byte → (v < 512) × (v % 256 ≡ byte)
+pub byte_is : (v byte : ℕ) → frame_of v ≡ Backward byte → (v < 512) × (v % 256 ≡ byte) × (256 ≤ v)
 byte_is v byte h = go (nat_le 0x100 v && nat_lt v 0x200) refl h where
   small : (nat_le 0x100 v && nat_lt v 0x200) ≡ true → v < 512
   small test = grind (arith, nat_tests)
 
+  large : (nat_le 0x100 v && nat_lt v 0x200) ≡ true → 256 ≤ v
+  large test = grind (arith, nat_tests)
+
   go : (b : Bool) → (nat_le 0x100 v && nat_lt v 0x200) ≡ b → (if b then Backward (v % 256) else
       (if nat_le 0x10000 v && nat_lt v 0x20000 then Forward (record { address_byte = v / 256 % 256; opcode_byte = v % 256 })
       else (if nat_le 0x1000000 v && nat_lt v 0x2000000 then Device (v % 0x1000000) else Damaged))) ≡ Backward byte
-      → (v < 512) × (v % 256 ≡ byte)
-  go true test e = (small test, cc)
+      → (v < 512) × (v % 256 ≡ byte) × (256 ≤ v)
+  go true test e = (small test, cc, large test)
   go false test e = absurd (other_frames (nat_le 0x10000 v && nat_lt v 0x20000) (nat_le 0x1000000 v && nat_lt v 0x2000000)
       (record { address_byte = v / 256 % 256; opcode_byte = v % 256 }) (v % 0x1000000) byte e)
 

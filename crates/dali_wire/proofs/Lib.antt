@@ -9,3 +9,4 @@ mod Joint
 mod Sending
 mod Worked
 mod Heard
+mod Rests

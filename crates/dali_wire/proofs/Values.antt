@@ -1,5 +1,5 @@
 use Rattle.std.proofs.Common.{◌≡◌, ℕ, zero, suc, ◌+◌, ◌-◌, ◌*◌, ◌^◌, ◌<◌, ◌≤◌, Bool}
-use Rattle.std.proofs.Common.{true, false, List, [], ◌∷◌, length, refl, ap, arith, nat_le}
+use Rattle.std.proofs.Common.{true, false, List, [], ◌∷◌, length, refl, ap, ◌∙◌, arith, nat_le}
 use Rattle.std.specs.Prelude.{if◌then◌else◌}
 use Rattle.std.proofs.Math.Nat.{pow-succ'}
 use Rattle.std.proofs.lemmas.Bool.Decides.{nat_tests}
@@ -82,3 +82,24 @@ start_first n w =
     let least : 2 ^ n ≤ 2 ^ n + w = omega arith in
     let rest : (2 ^ n + w) - 2 ^ n ≡ w = omega arith in
     rw (is_below (2 ^ n) (2 ^ n + w) least, rest) refl
+
+-- bits write the number of which they are the bits
+pub bits_back : (v : ℕ) (bits : List Bool) → (w : ℕ) × (w < 2 ^ length bits) × (value_of v bits ≡ v * 2 ^ length bits + w) × (bits_of (length bits) w ≡ bits)
+unfolding bits_of
+bits_back v [] = (0, omega arith, omega arith, refl)
+bits_back v (true ∷ bits) =
+    let rest = bits_back (2 * v + 1) bits in
+    let n : ℕ = length bits in
+    let w : ℕ = rest.0 in
+    let twice : 2 ^ suc n ≡ 2 * 2 ^ n = pow-succ' 2 n in
+    let small : w < 2 ^ n = rest.1 in
+    let value : value_of (2 * v + 1) bits ≡ (2 * v + 1) * 2 ^ n + w = rest.2 in
+    (2 ^ n + w, rw twice (omega arith), rw twice (omega (arith, value)), start_first n w ∙ ap (λ bs. true ∷ bs) rest.3)
+bits_back v (false ∷ bits) =
+    let rest = bits_back (2 * v) bits in
+    let n : ℕ = length bits in
+    let w : ℕ = rest.0 in
+    let twice : 2 ^ suc n ≡ 2 * 2 ^ n = pow-succ' 2 n in
+    let small : w < 2 ^ n = rest.1 in
+    let value : value_of (2 * v) bits ≡ (2 * v) * 2 ^ n + w = rest.2 in
+    (w, rw twice (omega arith), rw twice (omega (arith, value)), rw (is_above (2 ^ n) w small) (ap (λ bs. false ∷ bs) rest.3))

@@ -3,3 +3,4 @@ pub mod Levels
 pub mod Grid
 pub mod Times
 pub mod Windows
+pub mod Edges

@@ -1,5 +1,5 @@
-use Rattle.std.specs.Prelude.{◌≡◌, ◌≤◌, ℕ, ◌+◌, ◌-◌, ◌^◌, min, Bool, true, false}
-use Rattle.std.specs.Prelude.{◌&&◌, nat_lt, nat_le, List, [], ◌∷◌}
+use Rattle.std.specs.Prelude.{ℕ, ◌+◌, ◌-◌, ◌^◌, min, Bool, true, false}
+use Rattle.std.specs.Prelude.{◌&&◌, ◌||◌, nat_lt, nat_le}
 use Rattle.std.specs.Prelude.{Option, Some, None, if◌then◌else◌}
 use Rattle.dali_frame.specs.declared.frames.Answer.{Answer}
 use Rattle.dali_frame.specs.declared.frames.Answer.TheVariants.{Silence, Byte, Damaged}
@@ -10,7 +10,8 @@ use Rattle.dali_wire.specs.declared.receiver.Frame.{Frame}
 use Rattle.dali_wire.specs.declared.receiver.Frame.TheVariants.{Backward}
 use Rattle.dali_wire.specs.declared.receiver.Told.{Told}
 use Rattle.dali_wire.specs.declared.window.Window.{Window}
-use Rattle.dali_wire.specs.Reception.{told_of, receiver_after, receiver_at, receiver_at_first}
+use Rattle.dali_wire.specs.Reception.{reading_after, told_of, receiver_after, receiver_at}
+use Rattle.dali_wire.specs.Reception.{receiver_at_first}
 
 -- A BACKWARD FRAME BEGINS 2,400 to 12,400 µs after the last edge of the forward frame, from memory
 -- (IEC 62386-101:2014, receiver frame sequence timing). What else is heard, or too early or too
@@ -26,14 +27,6 @@ heard_after heard None now = heard
 heard_after Silence (Some told) now = answer_in told.frame (now - told.since - told.lasted)
 heard_after (Byte byte) (Some told) now = Damaged
 heard_after Damaged (Some told) now = Damaged
-
--- a backward frame of this byte that began in its time
-abbrev pub IsInTime : Option Told → ℕ → ℕ → Type 0
-IsInTime None now byte = ⊥
-IsInTime (Some told) now byte =
-    (told.frame ≡ Backward byte)
-    × (2400 ≤ now - told.since - told.lasted)
-    × (now - told.since - told.lasted ≤ 12400)
 
 -- how long the forward frame is over
 abbrev pub passed : Window → ℕ → ℕ
@@ -56,26 +49,44 @@ answer_at w now =
     if is_idle w.receiver.reading && nat_lt 12400 now then Some w.heard
     else (if nat_lt 50000 now then Some Damaged else None)
 
+-- A LOW ON A BUS AT REST that the receiver passes over: it is at rest after the edge that ends it,
+-- or its first edge was missed.
+abbrev pub is_passed_over : Window → Bool → ℕ → Bool
+is_passed_over w low since =
+    is_idle (reading_after w.receiver.reading w.receiver.is_low low since)
+
+-- Where it is shorter than 100 µs it is a pulse, too short for a low that a control gear sent.
+abbrev pub is_pulse : Window → ℕ → Bool
+is_pulse w since = w.receiver.is_low && nat_lt since 100
+
+-- what was heard, with such a low or without: the first pulse changes nothing, all else damages it
+abbrev pub heard_beside : Bool → Bool → Bool → Answer → Answer
+heard_beside false pulse before heard = heard
+heard_beside true true false heard = heard
+heard_beside true true true heard = Damaged
+heard_beside true false before heard = Damaged
+
 -- THE WINDOW after an edge, and so many µs after one
 abbrev pub window_after : Window → Bool → ℕ → Window
 window_after w low since = record {
   receiver = receiver_after w.receiver low since;
   elapsed = passed w since;
-  heard = heard_with w since;
+  heard =
+      heard_beside (is_passed_over w low since) (is_pulse w since) w.has_pulse (heard_with w since);
+  has_pulse = w.has_pulse || is_passed_over w low since;
 }
 
 abbrev pub window_at : Window → ℕ → Window
 window_at w since = record w { receiver = receiver_at w.receiver since; heard = heard_with w since }
 
 abbrev pub window_at_first : Window
-window_at_first = record { receiver = receiver_at_first; elapsed = 0; heard = Silence }
+window_at_first = record {
+  receiver = receiver_at_first;
+  elapsed = 0;
+  heard = Silence;
+  has_pulse = false;
+}
 
 -- what is told so long after the last edge
 abbrev pub told_after : Window → ℕ → Option Answer
 told_after w since = answer_at (window_at w since) (passed w since)
-
--- after edges by turns, the first one to this level, with these times before them
-abbrev pub window_through : Window → Bool → List ℕ → Window
-window_through w low [] = w
-window_through w true (time ∷ times) = window_through (window_after w true time) false times
-window_through w false (time ∷ times) = window_through (window_after w false time) true times

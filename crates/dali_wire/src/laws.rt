@@ -4,23 +4,21 @@
 //!
 //! These are laws over the definitions that the contracts of this crate cite. Programs don't call them.
 
-ghost use Rattle.std.specs.Prelude.{◌≡◌, ℕ, ◌+◌, ◌*◌, ◌^◌, ◌<◌, ◌≤◌, ◌⊎◌, Bool, true, false, Option, Some, None};
+ghost use Rattle.std.specs.Prelude.{◌≡◌, ℕ, ◌+◌, ◌*◌, ◌^◌, ◌<◌, ◌≤◌, ◌⊎◌, Bool, true, false, Some, None};
 ghost use Rattle.std.specs.Prelude.{List, ◌∷◌, ◌++◌, length};
 ghost use Rattle.std.specs.List.{AllByRecursion};
-ghost use Rattle.dali_frame.specs.declared.frames.Answer.{Answer};
 ghost use Rattle.dali_frame.specs.declared.frames.Answer.TheVariants.{Silence, Byte};
 ghost use Rattle.dali_frame.specs.declared.frames.Forward.{Forward as Sent};
 ghost use Rattle.dali_wire.specs.declared.receiver.Reading.TheVariants.{Idle, First};
 ghost use Rattle.dali_wire.specs.declared.receiver.Frame.{Frame};
 ghost use Rattle.dali_wire.specs.declared.receiver.Frame.TheVariants.{Forward, Backward, Damaged};
-ghost use Rattle.dali_wire.specs.declared.receiver.Told.{Told};
 ghost use Rattle.dali_wire.specs.Reception.{ended, reading_at};
 ghost use Rattle.dali_wire.specs.Levels.{bits_of, levels_of, forward_bits, backward_bits, highs};
 ghost use Rattle.dali_wire.specs.Grid.{Tells, IsHeard, IsPassedOver, begun_at, Within, bus_of, first_low};
 ghost use Rattle.dali_wire.specs.Times.{IsHalf, AreTimes, HasRead};
 ghost use Rattle.dali_wire.specs.declared.window.Window.{Window};
-ghost use Rattle.dali_wire.specs.Windows.{heard_after, window_after, window_at, window_through, window_at_first};
-ghost use Rattle.dali_wire.specs.Windows.{passed, told_after, IsInTime};
+ghost use Rattle.dali_wire.specs.Windows.{window_after, window_at, window_at_first, passed, told_after};
+ghost use Rattle.dali_wire.specs.Edges.{window_after_all, by_turns, time_of, IsAtRest, IsOneAnswer};
 
 /// Every frame is read back from its levels, once the bus was high for a stop condition.
 pub fn frames_are_read_back()
@@ -61,10 +59,18 @@ pub fn joint_answers_are_one_byte()
         → (sent ≡ byte) × (begin ≡ first_low bus) }
 {}
 
-/// A window hears a byte only of one backward frame that began in its time, after which it heard nothing.
+/// Whatever edges a window was told, it tells silence only of a bus at rest, with at most one low shorter than 100 µs.
+/// So of two lows or more, or of one that is longer, it never tells silence.
+pub fn silence_is_a_bus_at_rest()
+    ensures { (edges : List (Bool × ℕ)) (rest : ℕ)
+        → told_after (window_after_all window_at_first edges) rest ≡ Some Silence → IsAtRest edges }
+{}
+
+/// Whatever edges a window was told, it tells a byte only of one backward frame of that byte, which began in its time,
+/// and besides of at most one low shorter than 100 µs.
 pub fn a_byte_is_heard_of_one_frame()
-    ensures { (heard : Answer) (told : Option Told) (now byte : ℕ) → heard_after heard told now ≡ Byte byte
-        → ((heard ≡ Byte byte) × (told ≡ None)) ⊎ ((heard ≡ Silence) × IsInTime told now byte) }
+    ensures { (edges : List (Bool × ℕ)) (rest byte : ℕ) → time_of edges + rest < 2 ^ 32
+        → told_after (window_after_all window_at_first edges) rest ≡ Some (Byte byte) → IsOneAnswer edges rest byte }
 {}
 
 /// An answer alone that begins in its time is told as its byte, once the window is over, where each time between two
@@ -72,8 +78,9 @@ pub fn a_byte_is_heard_of_one_frame()
 pub fn answers_are_heard()
     ensures { (begin first rest byte : ℕ) (times : List ℕ) → byte < 256 → 2400 ≤ begin → begin ≤ 12400
         → IsHalf first → AreTimes false (bits_of 8 byte) times → 2400 ≤ rest → rest < 2 ^ 31
-        → 12400 < passed (window_through window_at_first true (begin ∷ first ∷ times)) rest
-        → told_after (window_through window_at_first true (begin ∷ first ∷ times)) rest ≡ Some (Byte byte) }
+        → 12400 < passed (window_after_all window_at_first (by_turns true (begin ∷ first ∷ times))) rest
+        → told_after (window_after_all window_at_first (by_turns true (begin ∷ first ∷ times))) rest
+        ≡ Some (Byte byte) }
 {}
 
 /// A window may be asked at any time, and as often as one likes: each later edge and time leaves the same window as if

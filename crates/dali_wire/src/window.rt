@@ -1,6 +1,6 @@
 ghost use Rattle.std.specs.Prelude.{◌≡◌, ◌<◌, IsSome};
-ghost use Rattle.dali_wire.specs.Windows.{answer_in, heard_after, passed, answer_at, window_after, window_at};
-ghost use Rattle.dali_wire.specs.Windows.{window_at_first};
+ghost use Rattle.dali_wire.specs.Windows.{answer_in, heard_after, heard_beside, passed, answer_at, window_after};
+ghost use Rattle.dali_wire.specs.Windows.{window_at, window_at_first};
 
 use crate::receiver::{Frame, Reading, Receiver, Told};
 use dali_frame::Answer;
@@ -9,6 +9,10 @@ use dali_frame::Answer;
 const LEAST_BEGIN: u32 = 2400;
 
 const MOST_BEGIN: u32 = 12400;
+
+/// A low on a bus at rest that is shorter than this, in µs, is a pulse: less than a third of the least half bit that a
+/// receiver takes, so a low that a control gear sent, even one that reaches the pins much too short, is none.
+const PULSE: u32 = 100;
 
 /// The time in µs after which the bus is given up, since it has not come to rest.
 const GIVEN_UP: u32 = 50000;
@@ -22,6 +26,8 @@ pub struct Window {
     pub elapsed: u32,
     /// What was heard so far.
     pub heard: Answer,
+    /// Whether the receiver has passed over a low.
+    pub has_pulse: bool,
 }
 
 fn answer(frame: Frame, begun: u32) -> Answer
@@ -47,6 +53,17 @@ fn with(heard: Answer, told: Option<Told>, now: u32) -> Answer
     }
 }
 
+/// What was heard, after an edge by which the receiver passed over a low or did not: the first pulse changes nothing.
+fn beside(heard: Answer, is_passed_over: bool, is_pulse: bool, has_pulse: bool) -> Answer
+    ensures { result ≡ heard_beside is_passed_over is_pulse has_pulse heard }
+{
+    if !is_passed_over || is_pulse && !has_pulse {
+        heard
+    } else {
+        Answer::Damaged
+    }
+}
+
 impl Window {
     /// A window at the last edge of a forward frame.
     pub fn new() -> Window
@@ -56,16 +73,24 @@ impl Window {
             receiver: Receiver::new(),
             elapsed: 0,
             heard: Answer::Silence,
+            has_pulse: false,
         }
     }
 
-    /// An edge, after which the bus is low or high, so many µs after the last one.
+    /// An edge, after which the bus is low or high, so many µs after the last one; the first one after so many µs since
+    /// the last edge of the forward frame.
+    ///
+    /// A low that the receiver passes over damages what is heard, but for one pulse.
     pub fn edge(&mut self, is_low: bool, since: u32)
         ensures { self.new ≡ window_after self.old is_low since }
     {
         let now = self.elapsed.saturating_add(since);
+        let is_pulse = self.receiver.is_low && since < PULSE;
         let told = self.receiver.edge(is_low, since);
-        self.heard = with(self.heard, told, now);
+        let is_passed_over = matches!(self.receiver.reading, Reading::Idle);
+        let heard = with(self.heard, told, now);
+        self.heard = beside(heard, is_passed_over, is_pulse, self.has_pulse);
+        self.has_pulse = self.has_pulse || is_passed_over;
         self.elapsed = now;
     }
 
