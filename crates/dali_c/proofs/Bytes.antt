@@ -1,4 +1,4 @@
-use Rattle.std.proofs.Common.{◌≡◌, ℕ, ◌<◌, ◌≤◌, ◌⊎◌, inl, inr, sym, ap, subst, ◌∙◌, arith, length, get_or}
+use Rattle.std.proofs.Common.{◌≡◌, ℕ, ◌<◌, ◌≤◌, ◌⊎◌, inl, inr, sym, ap, subst, ◌∙◌, length, get_or}
 use Rattle.std.proofs.lemmas.Bool.{cases_lt}
 use Rattle.std.proofs.lemmas.List.{same_lists, length-take-le, get_or-take, get_or_default}
 use Rattle.dali_script.specs.declared.pairs.Pairs.{Pairs}
@@ -31,7 +31,7 @@ list_once p q few few' room room' blank blank' same = whole count pairs where
   pairs = same_lists p.pairs q.pairs (room ∙ sym room') (λ k d inside. at k d inside (cases_lt k p.count))
 
   whole : p.count ≡ q.count → p.pairs ≡ q.pairs → p ≡ q
-  whole e f = cc
+  whole e f = ap (λ n. record { count = n; pairs = p.pairs }) e ∙ ap (λ xs. record { count = q.count; pairs = xs }) f
 
 pub records_once : RecordsHaveTheirBytes
 records_once r s are are' room room' blank blank' same =
@@ -41,4 +41,7 @@ records_once r s are are' room room' blank blank' same =
     list_once r.reserved s.reserved are.reserved are'.reserved room.reserved room'.reserved blank.reserved blank'.reserved (ap (λ k. k.reserved) same) in
     let enrolled : r.enrolled ≡ s.enrolled =
     list_once r.enrolled s.enrolled are.enrolled are'.enrolled room.enrolled room'.enrolled blank.enrolled blank'.enrolled (ap (λ k. k.enrolled) same) in
-    cc
+    ap (λ n. record { first = n; last = r.last; reserved = r.reserved; enrolled = r.enrolled }) first
+    ∙ ap (λ n. record { first = s.first; last = n; reserved = r.reserved; enrolled = r.enrolled }) last
+    ∙ ap (λ p. record { first = s.first; last = s.last; reserved = p; enrolled = r.enrolled }) reserved
+    ∙ ap (λ p. record { first = s.first; last = s.last; reserved = s.reserved; enrolled = p }) enrolled
