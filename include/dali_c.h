@@ -25,7 +25,7 @@ extern "C" {
 #define DALI_VERSION "0.2.0"
 /* The version of the structs and calls: it counts up with each change of one of them. Compare it with dali_c_version()
  * once, before the first call. */
-#define DALI_C_VERSION 104
+#define DALI_C_VERSION 105
 
 /* How many short addresses there are, and the most records of a kind. */
 #define DALI_ADDRESSES 64
@@ -391,18 +391,21 @@ uint8_t dali_machine_table(const struct dali_machine *machine, struct dali_table
 /* The levels of a forward frame. */
 uint8_t dali_levels_new(struct dali_levels *levels, uint8_t address_byte, uint8_t opcode_byte);
 
-/* A window, at the last edge of the own forward frame. */
+/* A window, at the last edge of the own forward frame. Make one after each frame, also one with `asks` 0. */
 uint8_t dali_window_new(struct dali_window *window);
 
-/* An edge.
+/* An edge. `micros` of the first one are those since the last edge of the own forward frame. A low that is no bit of an
+ * answer damages what is heard, but for one that is shorter than 100 us.
  *
  * DALI_BAD_ARGUMENT: `window` is none, or `is_low` is neither 0 nor 1. */
 uint8_t dali_window_edge(struct dali_window *window, uint8_t is_low, uint32_t micros);
 
 /* Time has passed since the last edge, or since the window is new. Tells what was heard once no backward frame may
- * begin any more and the bus is at rest, or has not come to rest within 50 ms.
+ * begin any more and the bus is at rest, or has not come to rest within 50 ms. Silence is told only of a bus that was
+ * high all the time, but for at most one low that was shorter than 100 us.
  *
- * DALI_BAD_ARGUMENT: `window` is none. */
+ * DALI_BAD_ARGUMENT: `window` is none, and no later call tells what was heard. Tell the machine DALI_HEARD_DAMAGED
+ * after a question, else DALI_DESTROYED. */
 uint8_t dali_window_time(struct dali_window *window, uint32_t micros, struct dali_heard *heard);
 
 /* A receiver of a bus that has been high for the time of a stop condition. */

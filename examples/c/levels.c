@@ -158,19 +158,28 @@ static const char *try_answers(struct levels_seen *seen)
     return hears(answers, 2, DALI_HEARD_DAMAGED, seen) ? 0 : "two answers in turn are heard otherwise";
 }
 
+/* What is heard of so many lows of this length, each so long after the one before it began. */
+static uint8_t lows(uint32_t count, uint32_t low, uint32_t each, struct levels_seen *seen)
+{
+    struct levels levels = {0, {{0, 0}}};
+
+    for (uint32_t at = 0; at < count; at++)
+        pull(&levels, 4 * MILLI + at * each, 4 * MILLI + at * each + low);
+    return heard_of(&levels, 12401, 100, seen).input;
+}
+
+/* Noise, a byte FF whose lows are too short, and a bus that stays low. */
 static const char *try_noise(struct levels_seen *seen)
 {
-    struct levels noise = {0, {{0, 0}}}, stuck = {0, {{0, 0}}};
-    struct dali_heard heard;
-
-    for (uint32_t at = 0; at < 20; at++)
-        pull(&noise, MILLI + at * 600 * MICRO, MILLI + at * 600 * MICRO + 333 * MICRO);
-    heard = heard_of(&noise, 12401, 100, seen);
-    if (heard.input != DALI_HEARD_SILENCE)
-        return "noise is heard";
-    pull(&stuck, 5 * MILLI, 100 * MILLI);
-    heard = heard_of(&stuck, 12401, 100, seen);
-    return heard.input == DALI_HEARD_DAMAGED ? 0 : "a bus that stays low is not damaged";
+    if (lows(1, 99 * MICRO, 0, seen) != DALI_HEARD_SILENCE)
+        return "one pulse is heard";
+    if (lows(1, 100 * MICRO, 0, seen) != DALI_HEARD_DAMAGED || lows(2, 50 * MICRO, MILLI, seen) != DALI_HEARD_DAMAGED)
+        return "a longer low, or two pulses, are not damaged";
+    if (lows(20, 333 * MICRO, 600 * MICRO, seen) != DALI_HEARD_DAMAGED)
+        return "noise is not damaged";
+    if (lows(9, 330 * MICRO, 800 * MICRO, seen) != DALI_HEARD_DAMAGED)
+        return "a weak answer is not damaged";
+    return lows(1, 100 * MILLI, 0, seen) == DALI_HEARD_DAMAGED ? 0 : "a bus that stays low is not damaged";
 }
 
 /* What a receiver tells of a frame of so many bits. */

@@ -20,7 +20,8 @@ void pins_sent(struct pins *pins, uint32_t time);
 void pins_edge(struct pins *pins, uint32_t time, uint8_t is_low);
 
 /* The time now, after each edge that was captured before it. Call it 12,401 microseconds after pins_sent, and then each
- * 100. 1 once the window is over: what the machine is told is in `heard` then. */
+ * 100. 1 once the window is over: what the machine is told is in `heard` then. After a frame with `asks` 0 tell it
+ * DALI_DESTROYED where that is no silence. */
 int pins_time(struct pins *pins, uint32_t now, struct dali_heard *heard);
 
 #endif

@@ -402,7 +402,9 @@ static void try_window(const struct dali_window *given, uint8_t is_low, uint32_t
     struct dali_heard heard;
     struct dali_told told;
     int is_receiver = receiver.reading <= 4 && receiver.is_low <= 1;
-    int is_window = is_receiver && window.heard >= DALI_HEARD_SILENCE && window.heard <= DALI_HEARD_DAMAGED;
+    /* What it has heard, and 4 more where it has passed over a pulse. */
+    uint8_t code = window.heard >= 4 ? (uint8_t)(window.heard - 4) : window.heard;
+    int is_window = is_receiver && code >= DALI_HEARD_SILENCE && code <= DALI_HEARD_DAMAGED;
     uint8_t status = is_window && is_low <= 1 ? DALI_OK : DALI_BAD_ARGUMENT;
 
     check(dali_window_edge(&window, is_low, micros) == status, "the status of dali_window_edge");
@@ -439,7 +441,7 @@ static struct dali_window some_window(uint64_t *chance)
         bytes[at] = (uint8_t)chance_next(chance);
     window.receiver.reading = (uint8_t)chance_below(chance, 6);
     window.receiver.is_low = (uint8_t)(chance_below(chance, 33) / 16);
-    window.heard = (uint8_t)chance_below(chance, 5);
+    window.heard = (uint8_t)chance_below(chance, 9);
     return window;
 }
 

@@ -1,5 +1,5 @@
-use Rattle.std.specs.Prelude.{◌≡◌, ℕ, ◌/◌, ◌%◌, ◌==◌, Bool, List, [], ◌∷◌, Option, Some, None}
-use Rattle.std.specs.Prelude.{if◌then◌else◌}
+use Rattle.std.specs.Prelude.{◌≡◌, ℕ, ◌-◌, ◌/◌, ◌%◌, ◌==◌, nat_le, Bool, true, false, List, []}
+use Rattle.std.specs.Prelude.{◌∷◌, Option, Some, None, if◌then◌else◌}
 use Rattle.std.specs.Int.{w32, from_le_bytes}
 use Rattle.dali_frame.specs.declared.frames.Answer.{Answer}
 use Rattle.dali_script.specs.declared.orders.Input.TheVariants.{Heard}
@@ -39,14 +39,22 @@ receiver_with p _ _ = None
 abbrev pub receiver_of : PlainReceiver → Option Receiver
 receiver_of p = receiver_with p (reading_of p.reading (number_of p.bits)) (bool_of p.is_low)
 
--- and those of struct dali_window
-abbrev pub window_with : PlainWindow → Option Receiver → Option Answer → Option Window
-window_with p (Some receiver) (Some heard) =
-    Some (record { receiver = receiver; elapsed = number_of p.elapsed; heard = heard })
-window_with p _ _ = None
+-- and those of struct dali_window: what was heard has the code of an input, and 4 more where the
+-- window has passed over a pulse
+abbrev pub window_with : PlainWindow → Option Receiver → Option Answer → Bool → Option Window
+window_with p (Some receiver) (Some heard) pulse = Some (record {
+  receiver = receiver;
+  elapsed = number_of p.elapsed;
+  heard = heard;
+  has_pulse = pulse;
+})
+window_with p _ _ pulse = None
 
 abbrev pub window_of : PlainWindow → Option Window
-window_of p = window_with p (receiver_of p.receiver) (answer_of p.heard p.byte)
+window_of p =
+    if nat_le 4 p.heard
+    then window_with p (receiver_of p.receiver) (answer_of (p.heard - 4) p.byte) true
+    else window_with p (receiver_of p.receiver) (answer_of p.heard p.byte) false
 
 -- WHAT A RECEIVER TELLS: the kinds of enum dali_frame_kind, and the bytes in the order in which
 -- they are sent. A frame for other devices is a number of 24 bits.

@@ -1,6 +1,6 @@
 //! The codes of what a machine is told and of what it answers with.
 
-ghost use Rattle.std.specs.Prelude.{◌≡◌, Some};
+ghost use Rattle.std.specs.Prelude.{◌≡◌, ◌<◌, Some};
 ghost use Rattle.dali_script.specs.declared.orders.Input.TheVariants.{Heard};
 ghost use Rattle.dali_c.specs.Codes.{answer_of, input_of, bool_of, due_code, half_code};
 
@@ -23,6 +23,7 @@ pub(crate) fn answer_of(code: u8, byte: u8) -> Option<Answer>
 /// The code of what was heard, and the byte.
 pub(crate) fn answer_code(heard: Answer) -> (u8, u8)
     ensures spelled { answer_of result.0 result.1 ≡ Some heard }
+    ensures few { result.0 < 4 }
     ensures input { input_of result.0 result.1 ≡ Some (Heard heard) }
 {
     match heard {

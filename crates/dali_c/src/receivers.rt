@@ -86,6 +86,9 @@ impl PlainTold {
     }
 }
 
+/// How much the code of what a window heard is greater where it has passed over a pulse.
+const PULSE: u8 = 4;
+
 /// A [`Window`].
 #[repr(C)]
 #[derive(Clone, Copy)]
@@ -104,7 +107,11 @@ impl PlainWindow {
         PlainWindow {
             receiver: PlainReceiver::of(window.receiver),
             elapsed: window.elapsed.to_le_bytes(),
-            heard,
+            heard: if window.has_pulse {
+                heard + PULSE
+            } else {
+                heard
+            },
             byte,
         }
     }
@@ -114,11 +121,18 @@ impl PlainWindow {
         ensures { result ≡ window_of self }
     {
         let receiver = self.receiver.read()?;
-        let heard = answer_of(self.heard, self.byte)?;
+        let has_pulse = self.heard >= PULSE;
+        let code = if has_pulse {
+            self.heard - PULSE
+        } else {
+            self.heard
+        };
+        let heard = answer_of(code, self.byte)?;
         Some(Window {
             receiver,
             elapsed: u32::from_le_bytes(self.elapsed),
             heard,
+            has_pulse,
         })
     }
 }

@@ -1,5 +1,6 @@
-//! Draws answers that drive a bus together, off the grid of half bits, and counts what a window tells of them. The word
-//! that it is given says how often one, two and three answers are drawn.
+//! Draws answers that drive a bus together, off the grid of half bits, and counts what a window tells of them: answers
+//! as they are, with shorter lows and with longer ones. The word that it is given says how often one, two and three
+//! answers are drawn of each.
 #![tactic(auto)]
 
 use dali_frame::Answer;
@@ -9,14 +10,25 @@ use rand_pcg::Pcg32;
 use std::env;
 use std::process::ExitCode;
 
-/// A gear that answers: its levels, how long each is, and when the next one begins.
+/// A gear that answers: its levels, how long each is, and when the next one begins. Its lows end some µs too early or
+/// too late.
 #[derive(Drop)]
 struct Gear {
     sender: Sender,
     half: u32,
-    next: u32,
+    begin: u32,
+    coming: Option<bool>,
     is_low: bool,
+    early: u32,
+    late: u32,
     byte: u8,
+}
+
+/// How lows are drawn: at most so many µs shorter or longer.
+#[derive(Clone, Copy)]
+struct Lows {
+    shorter: u32,
+    longer: u32,
 }
 
 /// How often what was told.
@@ -24,6 +36,7 @@ struct Gear {
 struct Counts {
     bytes: u32,
     damaged: u32,
+    silent: u32,
     wrong: u32,
 }
 
@@ -34,7 +47,7 @@ fn draw(draws: &mut Pcg32, least: u32, count: u32) -> u32 {
 
 /// A gear that answers in its time. One in two sends this byte, one in two begins within 100 µs of this time and the
 /// others within 9 ms, and one in two has half bits of about 416.7 µs and the others any that a sender may have.
-fn draw_gear(draws: &mut Pcg32, byte: u8, begin: u32) -> Gear {
+fn draw_gear(draws: &mut Pcg32, lows: Lows, byte: u8, begin: u32) -> Gear {
     let other = draw(draws, 0, 256) as u8;
     let byte = if draw(draws, 0, 2) == 0 { other } else { byte };
     let after = if draw(draws, 0, 2) == 0 { 100 } else { 9_000 };
@@ -43,27 +56,34 @@ fn draw_gear(draws: &mut Pcg32, byte: u8, begin: u32) -> Gear {
     } else {
         draw(draws, 414, 6)
     };
+    let mut sender = Sender::backward(byte);
+    let coming = sender.half();
     Gear {
-        sender: Sender::backward(byte),
+        sender,
         half,
-        next: begin + draw(draws, 0, after),
+        begin: begin + draw(draws, 0, after),
+        coming,
         is_low: false,
+        early: draw(draws, 0, lows.shorter + 1),
+        late: draw(draws, 0, lows.longer + 1),
         byte,
     }
 }
 
-/// The time of the next change of a gear, far away where it has sent all.
-fn next(gear: &mut Gear) {
-    match gear.sender.half() {
-        Some(is_low) => {
-            gear.is_low = is_low;
-            gear.next += gear.half;
-        }
-        None => {
-            gear.is_low = false;
-            gear.next = u32::MAX;
-        }
+/// When the level that comes begins, far away where a gear has sent all.
+fn next(gear: &Gear) -> u32 {
+    match gear.coming {
+        Some(false) if gear.is_low => gear.begin + gear.late - gear.early,
+        Some(_) => gear.begin,
+        None => u32::MAX,
     }
+}
+
+/// The level that comes begins.
+fn change(gear: &mut Gear) {
+    gear.is_low = matches!(gear.coming, Some(true));
+    gear.coming = gear.sender.half();
+    gear.begin += gear.half;
 }
 
 /// What a window tells of a bus that is low where one of them is.
@@ -71,15 +91,15 @@ fn heard(gear: &mut [Gear]) -> Option<Answer> {
     let mut window = Window::new();
     let mut last = 0;
     for _ in 0..200u32 {
-        let Some(now) = gear.iter().map(|it| it.next).min() else {
+        let Some(now) = gear.iter().map(|it| next(it)).min() else {
             return None;
         };
         if now == u32::MAX {
             return window.time(60_000);
         }
         for one in gear.iter_mut() {
-            if one.next == now {
-                next(one);
+            if next(one) == now {
+                change(one);
             }
         }
         let is_low = gear.iter().any(|it| it.is_low);
@@ -91,29 +111,31 @@ fn heard(gear: &mut [Gear]) -> Option<Answer> {
     None
 }
 
-/// Counts what was told: a byte is right where each gear sent it.
+/// Counts what was told: a byte is right where each gear sent it, silence and nothing never.
 fn count(counts: &mut Counts, gear: &[Gear], told: Option<Answer>) {
     match told {
         Some(Answer::Byte(byte)) if gear.iter().all(|it| it.byte == byte) => counts.bytes += 1,
-        Some(Answer::Damaged) if gear.len() > 1 => counts.damaged += 1,
-        _ => counts.wrong += 1,
+        Some(Answer::Damaged) => counts.damaged += 1,
+        Some(Answer::Silence) | None => counts.silent += 1,
+        Some(Answer::Byte(_)) => counts.wrong += 1,
     }
 }
 
 /// Draws so many answers at a time, so often.
-fn counted(draws: &mut Pcg32, together: usize, times: u32) -> Counts {
+fn counted(draws: &mut Pcg32, lows: Lows, together: usize, times: u32) -> Counts {
     let mut counts = Counts {
         bytes: 0,
         damaged: 0,
+        silent: 0,
         wrong: 0,
     };
     for _ in 0..times {
         let byte = draw(draws, 0, 256) as u8;
         let begin = draw(draws, 2_400, 1_000);
         let mut all = [
-            draw_gear(draws, byte, begin),
-            draw_gear(draws, byte, begin),
-            draw_gear(draws, byte, begin),
+            draw_gear(draws, lows, byte, begin),
+            draw_gear(draws, lows, byte, begin),
+            draw_gear(draws, lows, byte, begin),
         ];
         let some = &mut all[..together];
         let told = heard(some);
@@ -135,18 +157,36 @@ fn main(rt: HostRuntime) -> ExitCode {
         return ExitCode::FAILURE;
     };
     let mut draws = Pcg32::seed_from_u64(1);
-    for together in [1, 2, 3] {
-        let counts = counted(&mut draws, together, times);
-        let Counts {
-            bytes,
-            damaged,
-            wrong,
-        } = counts;
-        if println!(&rt;
-            "{together} answers: {bytes} bytes, {damaged} damaged, {wrong} wrong"
-        ).is_err()
-        {
-            return ExitCode::FAILURE;
+    for lows in [
+        Lows {
+            shorter: 0,
+            longer: 0,
+        },
+        Lows {
+            shorter: 250,
+            longer: 0,
+        },
+        Lows {
+            shorter: 0,
+            longer: 100,
+        },
+    ] {
+        for together in [1, 2, 3] {
+            let Counts {
+                bytes,
+                damaged,
+                silent,
+                wrong,
+            } = counted(&mut draws, lows, together, times);
+            let Lows { shorter, longer } = lows;
+            if println!(&rt;
+                "{together} answers, lows up to {shorter} shorter and {longer} longer: {bytes} bytes, \
+                {damaged} damaged, {silent} silent, {wrong} wrong"
+            )
+            .is_err()
+            {
+                return ExitCode::FAILURE;
+            }
         }
     }
     ExitCode::SUCCESS
