@@ -1,9 +1,9 @@
 /* Every call of the library on whichever processor, so that two processors can be compared: additions to records, whole
  * commissionings on a bus with troubles, each by several lives of controllers, and what is heard of levels.
  *
- * After each call each byte of every struct that a call may write goes into a sum, with the status of the call. The sum is
- * written after each part, so that the first part that differs can be found; and at last how much there was, and what the
- * machines did. */
+ * After each call each byte of every struct that a call may write goes into a sum, with the status of the call. The sum
+ * is written after each part, so that the first part that differs can be found; and at last how much there was, and
+ * what the machines did. */
 #include "chance.h"
 #include "dali_c.h"
 #include "gear.h"
@@ -133,7 +133,8 @@ static void release_one(void)
 static struct dali_record some_record(uint32_t limit)
 {
     const struct dali_pairs *reserved = &all.is.kept[0].reserved;
-    uint32_t kind = 1 + chance_below(&chance, 3), address = chance_below(&chance, limit), number = chance_below(&chance, 2 * limit);
+    uint32_t kind = 1 + chance_below(&chance, 3), address = chance_below(&chance, limit);
+    uint32_t number = chance_below(&chance, 2 * limit);
     struct dali_record record = record_of((uint8_t)kind, (uint8_t)address, (uint8_t)number);
 
     if (record.kind == DALI_RELEASE && reserved->count > 0 && reserved->count <= DALI_ADDRESSES)
@@ -155,7 +156,7 @@ static void add_records(void)
         if (times % READ_EACH != 0)
             continue;
         if (called(dali_machine_new(&all.is.machine, &all.is.kept[0])) == DALI_OK) {
-            must(called(dali_machine_records(&all.is.machine, &all.is.read)) == DALI_OK, "a new machine has no records");
+            must(called(dali_machine_records(&all.is.machine, &all.is.read)) == DALI_OK, "no records of a machine");
             must(is_same(&all.is.read, &all.is.kept[0], sizeof all.is.read), "a new machine has other records");
         }
         all.is.read = all.is.kept[0];
@@ -199,9 +200,13 @@ static void try_beside(void)
 /* A step by dali_machine_step, and by dali_machine_go beside it. */
 static void step(struct told told)
 {
+    uint8_t status;
+
     all.is.beside = all.is.machine;
-    must(called(dali_machine_step(&all.is.machine, told.input, told.byte, &all.is.order)) == DALI_OK, "a step is refused");
-    must(called(dali_machine_go(&all.is.beside, told.input, told.byte, &all.is.other)) == DALI_OK, "a step is refused");
+    status = called(dali_machine_step(&all.is.machine, told.input, told.byte, &all.is.order));
+    must(status == DALI_OK, "a step is refused");
+    status = called(dali_machine_go(&all.is.beside, told.input, told.byte, &all.is.other));
+    must(status == DALI_OK, "a step without a test is refused");
     must(is_same(&all.is.beside, &all.is.machine, sizeof all.is.beside), "a step without a test is another");
     must(is_same(&all.is.other, &all.is.order, sizeof all.is.other), "a step without a test orders something else");
     purposes |= UINT32_C(1) << all.is.machine.purpose;
@@ -223,8 +228,8 @@ static struct told follow(struct dali_records *kept, uint32_t failing)
     return (struct told){DALI_COMMITTED, 0};
 }
 
-/* One life of a controller, which is killed after so many steps. 1 where it has ended before. Of so many records one is not
- * kept, or none fails. */
+/* One life of a controller, which is killed after so many steps. 1 where it has ended before. Of so many records one is
+ * not kept, or none fails. */
 static int live(struct dali_records *kept, uint8_t start, uint32_t steps, uint32_t failing)
 {
     struct told told = {start, 0};
@@ -246,6 +251,7 @@ static int live(struct dali_records *kept, uint8_t start, uint32_t steps, uint32
     return kind == DALI_DONE || kind == DALI_HALT;
 }
 
+/* So it is promised of gear that were new, and that nobody else gave an address. */
 static void check_gear(void)
 {
     uint8_t is_held[UINT8_MAX + 1] = {0};
@@ -270,8 +276,8 @@ static void use_gear(void)
     }
 }
 
-/* A gear is exchanged for one with the same short address, or loses it, or gets another one by hand: what the records say is wrong
- * from then on. */
+/* A gear is exchanged for one with the same short address, or loses it, or gets another one by hand: what the records
+ * say is wrong from then on. */
 static void exchange_gear(void)
 {
     struct gear *gear = &bus.gear[chance_below(&chance, bus.gear_count)];
@@ -285,7 +291,7 @@ static void exchange_gear(void)
         gear->short_byte = (uint8_t)(2 * chance_below(&chance, DALI_ADDRESSES) + 1);
 }
 
-/* A site with one controller or two, each with a block and records of its own, which are cut off, and at last are not. */
+/* A site with one controller or two, each with a block and records of its own, which are cut off, and then are not. */
 static void commission(uint32_t run)
 {
     uint32_t controllers = 1 + run % MOST_CONTROLLERS, is_used = run % 3 == 1, most = chance_below(&chance, 20000);
@@ -295,21 +301,25 @@ static void commission(uint32_t run)
     if (is_used)
         use_gear();
     bus.troubles = (struct troubles){most / 2, most / 2, limit, limit, most / 2, most / 20};
-    for (uint32_t at = 0; at < controllers; at++)
-        must(called(dali_records_new(&all.is.kept[at], (uint8_t)(at * size),
-                                     (uint8_t)(at * size + size / 2 + chance_below(&chance, size / 2)))) == DALI_OK, "no records");
+    for (uint32_t at = 0; at < controllers; at++) {
+        uint32_t last = at * size + size / 2 + chance_below(&chance, size / 2);
+
+        must(called(dali_records_new(&all.is.kept[at], (uint8_t)(at * size), (uint8_t)last)) == DALI_OK, "no records");
+    }
     for (uint32_t life = 0; life < MOST_LIVES; life++) {
         uint8_t start = is_used || chance_below(&chance, 2) ? DALI_SURVEY : DALI_START;
+        uint32_t steps = 1 + chance_below(&chance, life < 2 ? 400 : 4000);
 
-        live(&all.is.kept[life % controllers], start, 1 + chance_below(&chance, life < 2 ? 400 : 4000), run % 7 == 6 ? 20 : 0);
-        check_gear();
+        live(&all.is.kept[life % controllers], start, steps, run % 7 == 6 ? 20 : 0);
+        if (!is_used)
+            check_gear();
     }
     if (run % 6 == 5)
         exchange_gear();
     bus.troubles = (struct troubles){0, 0, run % 8 == 7 ? 500000 : 0, 0, 0, 0};
     for (uint32_t at = 0; at < controllers; at++)
         must(live(&all.is.kept[at], DALI_SURVEY, MOST_STEPS, 0) || run % 8 == 7, "a controller alone has not ended");
-    if (run % 6 != 5)
+    if (!is_used && run % 6 != 5)
         check_gear();
 }
 
@@ -325,7 +335,8 @@ static void try_pins(void)
     called(dali_receiver_new(&all.is.receiver));
     called(dali_window_new(&all.is.window));
     for (int times = 0; times < 60; times++) {
-        uint32_t micros = chance_below(&chance, 4) ? 417 * (1 + chance_below(&chance, 3)) : (uint32_t)chance_next(&chance);
+        uint32_t is_near = chance_below(&chance, 4);
+        uint32_t micros = is_near ? 417 * (1 + chance_below(&chance, 3)) : (uint32_t)chance_next(&chance);
         uint8_t is_low = (uint8_t)chance_below(&chance, times % 16 == 15 ? 3 : 2);
 
         called(dali_receiver_edge(&all.is.receiver, is_low, micros, &all.is.told));
