@@ -96,7 +96,7 @@ impl Making {
                 unknown: 0,
             },
             row,
-            reading: Reading::new(),
+            reading: Reading::new(alloc),
             on: [true; 128],
             lost: [false; 128],
             drawn: 0,
@@ -382,8 +382,7 @@ impl Making {
             Seen::Broken => self.spoil()?,
             Seen::Replied | Seen::Stray => {}
         }
-        self.reading.take(number, item, seen);
-        Ok(())
+        self.reading.take(number, item, seen)
     }
 }
 

@@ -56,9 +56,9 @@ fn is_mask(answer: Answer) -> bool {
 
 impl Reading {
     /// Before any item.
-    pub fn new() -> Reading {
+    pub fn new(alloc: Global) -> Reading {
         Reading {
-            known: Known::new(),
+            known: Known::new(alloc),
             draw: 0,
             from: 0,
             started: 0,
@@ -105,18 +105,18 @@ impl Reading {
                 Holder::Programmed(random) => Some(self.unaddressed(random)),
                 _ => None,
             },
-            _ => match Command::read(frame) {
-                Command::QueryShort if is_mask(answer) => match bus.search.number() {
+            _ if Command::read(frame) == Command::QueryShort && is_mask(answer) => {
+                match bus.search.number() {
                     Some(random) => Some(self.unaddressed(random)),
                     None => None,
-                },
-                _ => None,
-            },
+                }
+            }
+            _ => None,
         }
     }
 
     /// After an item of this number.
-    pub fn take(&mut self, number: usize, item: &Item, seen: Seen) {
+    pub fn take(&mut self, number: usize, item: &Item, seen: Seen) -> Result<(), BenchError> {
         if let Seen::Sent(frame, _) = seen {
             let is_second = self.known.bus.completes(item, frame);
             match Command::read(frame) {
@@ -127,10 +127,25 @@ impl Reading {
                     self.from = self.started;
                     self.redrawn = self.redrawn || self.known.bus.may_redraw;
                 }
-                _ => {}
+                Command::Randomise
+                | Command::Terminate
+                | Command::Compare
+                | Command::Withdraw
+                | Command::SearchHigh(_)
+                | Command::SearchMiddle(_)
+                | Command::SearchLow(_)
+                | Command::Program(_)
+                | Command::Verify(_)
+                | Command::QueryShort
+                | Command::RandomByte(..)
+                | Command::Arc(_)
+                | Command::Other(_) => {}
             }
         }
-        self.known.take(item, seen);
+        match self.known.take(item, seen) {
+            Ok(()) => Ok(()),
+            Err(_) => Err(BenchError::NoMemory),
+        }
     }
 }
 
@@ -169,13 +184,13 @@ pub(crate) fn seen_at(items: &[Item], number: usize, item: &Item) -> Seen {
 /// The gear that a capture reveals.
 pub fn places_of(alloc: Global, items: &[Item]) -> Result<Vec<Place>, BenchError> {
     let mut places = Vec::new(alloc);
-    let mut reading = Reading::new();
+    let mut reading = Reading::new(alloc);
     for (number, item) in items.iter().enumerate() {
         let seen = seen_at(items, number, item);
         if let Some(place) = reading.revealed(item, seen) {
             add(&mut places, place)?;
         }
-        reading.take(number, item, seen);
+        reading.take(number, item, seen)?;
     }
     Ok(places)
 }

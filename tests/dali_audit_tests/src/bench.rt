@@ -187,6 +187,7 @@ fn a_judgement_has_a_head_findings_and_gear(rt: HostRuntime) -> Result<(), Fail>
     capture.open()?;
     capture.give(0x123456, 0)?;
     capture.give(0x9ABCDE, 0)?;
+    capture.tell(Command::Terminate)?;
     let judgement = Judgement::of(rt.alloc(), capture.items.as_slice())?;
     assert_eq!(rt; judgement.is_clean(), false);
     let mut text = String::new(rt.alloc());
