@@ -332,8 +332,8 @@ impl Bus {
         }
     }
 
-    fn initialised(self, target: Target, is_again: bool, is_second: bool, item: &Item) -> Bus
-        ensures { result ≡ begun_by target is_again is_second item.now self }
+    fn initialised(&self, target: Target, is_again: bool, is_second: bool, item: &Item) -> Bus
+        ensures { result ≡ begun_by target is_again is_second item.now self.now }
     {
         Bus {
             begun: if is_second {
@@ -343,12 +343,12 @@ impl Bus {
             },
             is_closed: self.is_closed && !is_again,
             may_redraw: self.may_redraw || (is_second && names_addressed(target)),
-            ..self
+            ..*self
         }
     }
 
-    fn randomised(self, is_second: bool, item: &Item) -> Bus
-        ensures { result ≡ drawn_by is_second item.now self }
+    fn randomised(&self, is_second: bool, item: &Item) -> Bus
+        ensures { result ≡ drawn_by is_second item.now self.now }
     {
         let spelled = Spelled::Nothing;
         if is_second {
@@ -356,16 +356,16 @@ impl Bus {
                 drawn: Some(item.until),
                 crowded: None,
                 spelled,
-                ..self
+                ..*self
             }
         } else {
-            Bus { spelled, ..self }
+            Bus { spelled, ..*self }
         }
     }
 
     /// What an answer under the search address tells of how many gear are there.
-    fn crowd(self, answer: Answer) -> Option<Random24>
-        ensures { result ≡ crowd answer (number self.search) self.crowded }
+    fn crowd(&self, answer: Answer) -> Option<Random24>
+        ensures { result ≡ crowd answer (number self.now.search) self.now.crowded }
     {
         let search = self.search.number();
         match answer {
@@ -380,41 +380,41 @@ impl Bus {
         }
     }
 
-    fn heard(self, answer: Answer) -> Bus
-        ensures { result ≡ heard_by answer self }
+    fn heard(&self, answer: Answer) -> Bus
+        ensures { result ≡ heard_by answer self.now }
     {
         Bus {
             crowded: self.crowd(answer),
-            ..self
+            ..*self
         }
     }
 
-    fn searched(self, part: Part, byte: u8) -> Bus
-        ensures { result ≡ searches part byte self }
+    fn searched(&self, part: Part, byte: u8) -> Bus
+        ensures { result ≡ searches part byte self.now }
     {
         Bus {
             search: self.search.searched(part, byte),
-            ..self
+            ..*self
         }
     }
 
     /// What each command changes.
     fn sent(
-        self,
+        &self,
         command: Command,
         is_again: bool,
         is_second: bool,
         item: &Item,
         answer: Answer,
     ) -> Bus
-        ensures { result ≡ sent_by command is_again is_second item.now answer self }
+        ensures { result ≡ sent_by command is_again is_second item.now answer self.now }
     {
         match command {
             Command::Terminate => Bus {
                 begun: None,
                 is_closed: true,
                 may_redraw: false,
-                ..self
+                ..*self
             },
             Command::Initialise(target) => self.initialised(target, is_again, is_second, item),
             Command::Randomise => self.randomised(is_second, item),
@@ -426,13 +426,13 @@ impl Bus {
                 given: Some(item.at),
                 spelled: Spelled::Nothing,
                 may_redraw: true,
-                ..self
+                ..*self
             },
             Command::RandomByte(short, part) => Bus {
                 spelled: byte_heard(short, part, answer, &self.spelled),
-                ..self
+                ..*self
             },
-            Command::Withdraw | Command::Verify(_) | Command::Arc(_) | Command::Other(_) => self,
+            Command::Withdraw | Command::Verify(_) | Command::Arc(_) | Command::Other(_) => *self,
         }
     }
 
