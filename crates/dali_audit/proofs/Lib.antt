@@ -1,1 +1,1 @@
-mod Frames
+mod Growing

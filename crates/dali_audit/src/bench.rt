@@ -149,7 +149,7 @@ impl<'a> Making<'a> {
     }
 
     /// One step more, which the row takes.
-    #[tactic(auto, using(crate::proofs::Frames::frames_more))]
+    #[tactic(auto, using(crate::proofs::Growing::frames_more))]
     fn push(&mut self, at: u64, what: Move) -> Result<(), AllocError>
         ensures steps { OnOk result (self.new.steps.items
             ≡ self.old.steps.items ++ (record { at = at; what = what } ∷ [])) }
@@ -232,7 +232,7 @@ impl<'a> Making<'a> {
     }
 
     /// Whether a gear is meant.
-    fn is_meant(&self, number: usize, whom: Whom, gear: u8) -> bool
+    fn is_meant(&self, number: usize, whom: &Whom, gear: u8) -> bool
         requires { gear < 128 }
     {
         let Some(place) = self.place(gear) else {
@@ -248,7 +248,7 @@ impl<'a> Making<'a> {
             Whom::FoundResting => is_born && self.is_found(&place) && !self.on[index],
             Whom::Missed => is_born && !self.on[index] && self.short(gear).is_none(),
             Whom::Drawing => is_born && self.may_have_drawn(gear),
-            Whom::Under(short) => is_born && self.short(gear) == Some(short),
+            Whom::Under(short) => is_born && self.short(gear) == Some(*short),
             Whom::Born => is_born,
             Whom::Unheard => !self.heard[index],
         }
@@ -267,7 +267,7 @@ impl<'a> Making<'a> {
     }
 
     /// What becomes of some gear.
-    fn each(&mut self, now: Moment, whom: Whom, deed: Deed) -> Result<(), AllocError>
+    fn each(&mut self, now: Moment, whom: &Whom, deed: Deed) -> Result<(), AllocError>
         ensures { OnOk result (frames_of self.new.steps.items ≡ frames_of self.old.steps.items) }
     {
         for gear in 0..128u8 {
@@ -354,10 +354,10 @@ impl<'a> Making<'a> {
     {
         let now = Moment { at: 0, number: 0 };
         if self.places.iter().any(|place| is_early(place)) {
-            self.each(now, Whom::NotEarly, Deed::Rest)?;
+            self.each(now, &Whom::NotEarly, Deed::Rest)?;
             self.draw_early()?;
         }
-        self.each(now, Whom::Everyone, Deed::Rest)
+        self.each(now, &Whom::Everyone, Deed::Rest)
     }
 
     /// Time that passed before a frame.
@@ -369,7 +369,7 @@ impl<'a> Making<'a> {
             self.push(now.at, Move::Quiet)?;
         }
         if bus.is_over(item, frame) {
-            self.each(now, Whom::Everyone, Deed::Expire)?;
+            self.each(now, &Whom::Everyone, Deed::Expire)?;
         }
         Ok(())
     }
@@ -385,10 +385,10 @@ impl<'a> Making<'a> {
         if bus.is_closed && bus.half.is_none() {
             return Ok(());
         }
-        self.each(now, Whom::Found, Deed::Lose)?;
-        self.each(now, Whom::Drawing, Deed::Lose)?;
+        self.each(now, &Whom::Found, Deed::Lose)?;
+        self.each(now, &Whom::Drawing, Deed::Lose)?;
         self.heard = heard_later(self.places, &bus, item, after);
-        self.each(now, Whom::Unheard, Deed::Rest)
+        self.each(now, &Whom::Unheard, Deed::Rest)
     }
 
     /// RESET and SET SHORT ADDRESS.
@@ -396,8 +396,8 @@ impl<'a> Making<'a> {
         ensures { OnOk result (frames_of self.new.steps.items ≡ frames_of self.old.steps.items) }
     {
         match short {
-            Some(short) => self.each(now, Whom::Under(short), Deed::Lose),
-            None => self.each(now, Whom::Born, Deed::Lose),
+            Some(short) => self.each(now, &Whom::Under(short), Deed::Lose),
+            None => self.each(now, &Whom::Born, Deed::Lose),
         }
     }
 
@@ -406,7 +406,7 @@ impl<'a> Making<'a> {
         ensures { OnOk result (frames_of self.new.steps.items ≡ frames_of self.old.steps.items) }
     {
         if self.reading.known.bus.completes(item, frame) {
-            self.each(now, Whom::Missed, Deed::Lose)?;
+            self.each(now, &Whom::Missed, Deed::Lose)?;
         }
         self.draw(now.at, frame, Some(now.number))
     }
@@ -425,7 +425,7 @@ impl<'a> Making<'a> {
             Change::Forgotten(short) => self.forget(now, short)?,
             Change::Given(..) | Change::Erased(_) => {
                 // A gear whose state was not known may have got a short address, or lost it.
-                self.each(now, Whom::FoundResting, Deed::Lose)?;
+                self.each(now, &Whom::FoundResting, Deed::Lose)?;
             }
             Change::Nothing
             | Change::Told(..)
@@ -451,7 +451,7 @@ impl<'a> Making<'a> {
         ensures awake { terminates (command_of frame) ≡ true
             → OnOk result (IsAwake now.number self.new.places.now self.new.lost self.new.on) }
     {
-        self.each(now, Whom::Coming, Deed::On)?;
+        self.each(now, &Whom::Coming, Deed::On)?;
         self.pass(now, item, frame)?;
         self.unlearn(now, item, Seen::Sent(frame, answer), frame)?;
         self.push(now.at, Move::Frame(frame, asked(frame, answer)))?;
