@@ -1,9 +1,10 @@
 //! A capture as a bench: gear with the random addresses that it reveals, and its frames.
 
 ghost use Rattle.std.specs.Prelude.{◌≡◌, ◌<◌, ◌≤◌, ◌++◌, [], ◌∷◌, length, OnOk, IfOk, IfErr, slice_set};
-ghost use Rattle.std.specs.Prelude.{slice_index_or, slice_get, true, false, None, option_to_list};
+ghost use Rattle.std.specs.Prelude.{slice_index_or, slice_get, All, true, false, None, option_to_list};
 ghost use Rattle.std.specs.List.{list_any};
 ghost use Rattle.dali_audit.specs.declared.comparing.Move.TheVariants.{Frame};
+ghost use Rattle.dali_frame.specs.Random.{MASK24};
 ghost use Rattle.dali_audit.specs.Comparing.{compared};
 ghost use Rattle.dali_audit.specs.Frames.{frames_of, frames_in, step_of, asked};
 ghost use Rattle.dali_audit.specs.Bench.{gear_at_first, early, early_frames, is_early, IsBenchOf, power_steps};
@@ -21,7 +22,7 @@ use crate::later::heard_later;
 use crate::places::{BenchError, GEAR_LIMIT, Place, Reading, places_of};
 use crate::seen::{Seen, seen_of};
 use dali_capture::Item;
-use dali_frame::{Answer, Forward, Short};
+use dali_frame::{Answer, Forward, Random24, Short};
 use dali_gear::Row;
 use dali_special::{Command, Target};
 use std::alloc::{AllocError, Global};
@@ -121,6 +122,14 @@ fn is_early(place: &Place) -> bool
     place.draw.is_none() && place.short.is_none()
 }
 
+/// The row takes a move, where so many of the numbers were drawn. Answers how many then are.
+fn played(row: &mut Row, what: &Move, draws: &[Random24], drawn: usize) -> usize
+    requires { All (λ r. r < MASK24) draws.now }
+{
+    let left = &draws[drawn.min(draws.len())..];
+    drawn.saturating_add(play(row, what, left))
+}
+
 impl<'a> Making<'a> {
     fn new(alloc: Global, places: &'a [Place]) -> Making<'a>
         requires { length places.now ≤ 128 }
@@ -141,13 +150,6 @@ impl<'a> Making<'a> {
         }
     }
 
-    /// The numbers that are left to draw.
-    fn play(&mut self, what: &Move) {
-        let draws = self.draws.as_slice();
-        let left = &draws[self.drawn.min(draws.len())..];
-        self.drawn = self.drawn.saturating_add(play(&mut self.row, what, left));
-    }
-
     /// One step more, which the row takes.
     #[tactic(auto, using(crate::proofs::Growing::frames_more))]
     fn push(&mut self, at: u64, what: Move) -> Result<(), AllocError>
@@ -159,7 +161,7 @@ impl<'a> Making<'a> {
         ensures lost { self.new.lost ≡ self.old.lost }
         ensures places { self.new.places.now ≡ self.old.places.now }
     {
-        self.play(&what);
+        self.drawn = played(&mut self.row, &what, self.draws.as_slice(), self.drawn);
         self.steps.push(Step { at, what })?;
         Ok(())
     }
