@@ -487,7 +487,8 @@ impl Making {
         answer: Answer,
     ) -> Result<(), AllocError>
         ensures frames { OnOk result (frames_of self.new.steps.items
-            ≡ frames_of self.old.steps.items ++ (record { at = now.at; what = Frame frame (asked frame answer) } ∷ [])) }
+            ≡ frames_of self.old.steps.items
+            ++ (record { at = now.at; what = Frame frame (asked frame answer) } ∷ [])) }
         ensures awake { terminates (command_of frame) ≡ true
             → OnOk result (IsAwake now.number places.now self.new.lost self.new.on) }
     {
@@ -530,7 +531,8 @@ impl Making {
 
     /// All items of the capture.
     fn take_all(&mut self, places: &[Place], items: &[Item]) -> Result<(), AllocError>
-        ensures { OnOk result (frames_of self.new.steps.items ≡ frames_of self.old.steps.items ++ frames_in None items.now) }
+        ensures { OnOk result (frames_of self.new.steps.items
+            ≡ frames_of self.old.steps.items ++ frames_in None items.now) }
     {
         let mut before = None;
         let mut rest = items;

@@ -1,6 +1,6 @@
 //! The gear that a capture reveals: those that told their random address, or got a short address and confirmed it.
 
-ghost use Rattle.std.specs.Prelude.{◌≡◌, ◌<◌, OnOk, IfOk, IsTrue, length};
+ghost use Rattle.std.specs.Prelude.{◌≡◌, OnOk, IfOk};
 ghost use Rattle.dali_audit.specs.Places.{unaddressed, used, told_place, verified_place, is_mask, asks_at};
 ghost use Rattle.dali_audit.specs.Places.{masked_place, revealed, opened_after, reading_after, reading_at_first};
 ghost use Rattle.dali_audit.specs.Places.{is_same, is_there, placed_with, places_in};
