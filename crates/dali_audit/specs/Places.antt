@@ -148,11 +148,14 @@ reading_at_first = record {
 }
 
 -- each gear once, and one alone under a short address that it had before
-abbrev pub is_same : Place → Place → Bool
+unfoldable pub is_same : Place → Place → Bool
 is_same p q = (p.random == q.random) || same_place p.short q.short
 
+abbrev pub has_same : List Place → Place → Bool
+has_same ps p = list_any (λ q. is_same q p) ps
+
 abbrev pub is_there : List Place → Place → Bool
-is_there ps p = list_any (λ q. is_same q p) ps || (p.random == MASK24)
+is_there ps p = has_same ps p || (p.random == MASK24)
 
 abbrev pub placed_with : Option Place → List Place → List Place
 placed_with None ps = ps

@@ -3,7 +3,7 @@
 ghost use Rattle.std.specs.Prelude.{◌≡◌, OnOk, IfOk};
 ghost use Rattle.dali_audit.specs.Places.{unaddressed, used, told_place, verified_place, is_mask, asks_at};
 ghost use Rattle.dali_audit.specs.Places.{masked_place, revealed, opened_after, reading_after, reading_at_first};
-ghost use Rattle.dali_audit.specs.Places.{is_same, is_there, placed_with, places_in};
+ghost use Rattle.dali_audit.specs.Places.{is_same, has_same, is_there, placed_with, places_in};
 
 use crate::audit::first_of;
 use crate::holders::{Change, Holder, change_of};
@@ -228,17 +228,24 @@ impl Reading {
     }
 }
 
+#[tactic(auto, unfolding(crate::specs::Places::is_same))]
 fn is_same(one: &Place, other: &Place) -> bool
     ensures { result ≡ is_same one.now other.now }
 {
     one.random == other.random || (one.short.is_some() && one.short == other.short)
 }
 
+fn has_same(places: &[Place], place: &Place) -> bool
+    ensures { result ≡ has_same places.now place.now }
+{
+    places.iter().any(|other| is_same(other, place))
+}
+
 /// Whether a gear is there already, or has drawn no number.
 fn is_there(places: &[Place], place: &Place) -> bool
     ensures { result ≡ is_there places.now place.now }
 {
-    places.iter().any(|other| is_same(other, place)) || place.random == Random24::MASK
+    has_same(places, place) || place.random == Random24::MASK
 }
 
 /// One more gear, if it is not there yet.
