@@ -121,6 +121,13 @@ fn is_early(place: &Place) -> bool
     place.draw.is_none() && place.short.is_none()
 }
 
+/// Whether some gear drew their number before the capture.
+fn has_early(places: &[Place]) -> bool
+    ensures { result ≡ list_any is_early places.now }
+{
+    places.iter().any(|place| is_early(place))
+}
+
 /// The row takes a move, where so many of the numbers were drawn. Answers how many then are.
 fn played(row: &mut Row, what: &Move, draws: &[Random24], drawn: usize) -> usize
     requires { All (λ r. r < MASK24) draws.now }
@@ -362,16 +369,25 @@ impl Making {
         self.put(Command::Terminate)
     }
 
+    /// What was before the capture, where some gear drew their random address before it.
+    fn precede(&mut self, places: &[Place], now: Moment, has_early: bool) -> Result<(), AllocError>
+        ensures { OnOk result (frames_of self.new.steps.items
+            ≡ frames_of self.old.steps.items ++ early_frames has_early) }
+    {
+        if !has_early {
+            return Ok(());
+        }
+        self.each(places, now, &Whom::NotEarly, Deed::Rest)?;
+        self.draw_early(places)
+    }
+
     /// What was before the capture; then all gear wait for the first TERMINATE.
     fn begin(&mut self, places: &[Place]) -> Result<(), AllocError>
         ensures { OnOk result (frames_of self.new.steps.items
             ≡ frames_of self.old.steps.items ++ early_frames (list_any is_early places.now)) }
     {
         let now = Moment { at: 0, number: 0 };
-        if places.iter().any(|place| is_early(place)) {
-            self.each(places, now, &Whom::NotEarly, Deed::Rest)?;
-            self.draw_early(places)?;
-        }
+        self.precede(places, now, has_early(places))?;
         self.each(places, now, &Whom::Everyone, Deed::Rest)
     }
 
