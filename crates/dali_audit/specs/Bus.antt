@@ -4,6 +4,7 @@ use Rattle.dali_frame.specs.declared.frames.Forward.{Forward}
 use Rattle.dali_frame.specs.declared.frames.Answer.{Answer}
 use Rattle.dali_frame.specs.declared.frames.Answer.TheVariants as answer
 use Rattle.dali_frame.specs.Random.{number_of}
+use Rattle.dali_special.specs.declared.command.Target.{Target}
 use Rattle.dali_special.specs.declared.command.Target.TheVariants.{All, Addressed, Unaddressed}
 use Rattle.dali_special.specs.declared.command.Part.{Part}
 use Rattle.dali_special.specs.declared.command.Part.TheVariants.{High, Middle, Low}
@@ -16,24 +17,38 @@ use Rattle.dali_special.specs.declared.command.Command.TheVariants.{QueryShort, 
 use Rattle.dali_special.specs.declared.command.Command.TheVariants.{Arc, Other}
 use Rattle.dali_special.specs.Command.{command_of, is_send_twice}
 use Rattle.dali_capture.specs.declared.item.Item.{Item}
+use Rattle.dali_capture.specs.declared.item.Heard.{Heard}
+use Rattle.dali_capture.specs.declared.item.Heard.TheVariants as heard
 use Rattle.dali_audit.specs.declared.seen.Seen.{Seen}
 use Rattle.dali_audit.specs.declared.seen.Seen.TheVariants as seen
 use Rattle.dali_audit.specs.declared.bus.Search.{Search}
 use Rattle.dali_audit.specs.declared.bus.First.{First}
+use Rattle.dali_audit.specs.declared.bus.Begun.{Begun}
 use Rattle.dali_audit.specs.declared.bus.Spelled.{Spelled}
 use Rattle.dali_audit.specs.declared.bus.Spelled.TheVariants as spelled
 use Rattle.dali_audit.specs.declared.bus.Bus.{Bus}
 
--- WHAT A CAPTURE TELLS OF THE BUS up to an item, variable by variable.
+-- WHAT A CAPTURE TELLS OF THE BUS up to an item.
 
 abbrev pub same_frame : Forward → Forward → Bool
 same_frame f g = (f.address_byte == g.address_byte) && (f.opcode_byte == g.opcode_byte)
 
 -- a frame that is a command of the table
 abbrev pub addresses : Command → Bool
+addresses Terminate = true
+addresses (Initialise target) = true
+addresses Randomise = true
+addresses Compare = true
+addresses Withdraw = true
+addresses (SearchHigh byte) = true
+addresses (SearchMiddle byte) = true
+addresses (SearchLow byte) = true
+addresses (Program a) = true
+addresses (Verify a) = true
+addresses QueryShort = true
+addresses (RandomByte a part) = true
 addresses (Arc f) = false
 addresses (Other f) = false
-addresses _ = true
 
 abbrev pub is_addressing : Forward → Bool
 is_addressing f = addresses (command_of f)
@@ -66,15 +81,6 @@ number_by _ _ _ = None
 abbrev pub number : Search → Option ℕ
 number s = number_by s.high s.middle s.low
 
-abbrev pub search_by : Command → Search → Search
-search_by (SearchHigh byte) s = record s { high = Some byte }
-search_by (SearchMiddle byte) s = record s { middle = Some byte }
-search_by (SearchLow byte) s = record s { low = Some byte }
-search_by _ s = s
-
-abbrev pub search_after : Forward → Search → Search
-search_after f s = search_by (command_of f) s
-
 -- A PAIR: two equal frames, with no other forward frame between them, the second of which ends at
 -- most 100 ms after the begin of the first (IEC 62386-101:2014, send-twice forward frames)
 abbrev pub repeats : Option First → Forward → Bool
@@ -94,42 +100,19 @@ half_after x f half =
     then None
     else Some (record { frame = f; at = x.at; is_told = repeats half f })
 
--- WHEN RANDOMISE WAS COMPLETE, until an addressing command follows
-abbrev pub drawn_by : Command → Bool → Item → Bus → Option ℕ
-drawn_by Randomise second x b = if second then Some x.until else None
-drawn_by (Arc f) second x b = b.drawn
-drawn_by (Other f) second x b = b.drawn
-drawn_by _ second x b = None
-
-abbrev pub drawn_after : Item → Forward → Bus → Option ℕ
-drawn_after x f b = drawn_by (command_of f) (completes b.half x.until f) x b
-
--- THE INITIALISATION: when it was begun last; its 15 minutes are over at a frame for gear in it
--- that begins later (IEC 62386-102:2014, INITIALISE)
-abbrev pub is_over : Option ℕ → ℕ → Forward → Bool
+-- AN INITIALISATION lasts 15 minutes (IEC 62386-102:2014, INITIALISE). They are over at a frame for
+-- gear in it that begins later; of that is told once.
+abbrev pub is_over : Option Begun → ℕ → Forward → Bool
 is_over None at f = false
-is_over (Some begun) at f = in_initialisation f && nat_lt 900000000 (at - begun)
+is_over (Some begun) at f =
+    not begun.is_told && (in_initialisation f && nat_lt 900000000 (at - begun.until))
 
-abbrev pub unless_over : Item → Forward → Bus → Option ℕ
-unless_over x f b = if is_over b.begun x.at f then None else b.begun
+abbrev pub noted : Option Begun → Option Begun
+noted None = None
+noted (Some begun) = Some (record begun { is_told = true })
 
-abbrev pub begun_by : Command → Bool → Item → Forward → Bus → Option ℕ
-begun_by Terminate second x f b = None
-begun_by (Initialise target) second x f b = if second then Some x.until else unless_over x f b
-begun_by _ second x f b = unless_over x f b
-
-abbrev pub begun_after : Item → Forward → Bus → Option ℕ
-begun_after x f b = begun_by (command_of f) (completes b.half x.until f) x f b
-
--- WHEN PROGRAM SHORT ADDRESS BEGAN, until an addressing command follows
-abbrev pub given_by : Command → Item → Bus → Option ℕ
-given_by (Program a) x b = Some x.at
-given_by (Arc f) x b = b.given
-given_by (Other f) x b = b.given
-given_by _ x b = None
-
-abbrev pub given_after : Item → Forward → Bus → Option ℕ
-given_after x f b = given_by (command_of f) x b
+abbrev pub begun_after : Item → Forward → Option Begun → Option Begun
+begun_after x f begun = if is_over begun x.at f then noted begun else begun
 
 -- SEVERAL GEAR AT ONE SEARCH ADDRESS: a damaged answer under it says so, until another answer, or
 -- silence, under the same address says otherwise
@@ -146,18 +129,6 @@ crowd answer.Damaged (Some r) crowded = Some r
 crowd answer.Damaged None crowded = told_apart None crowded
 crowd answer.Silence search crowded = told_apart search crowded
 crowd (answer.Byte byte) search crowded = told_apart search crowded
-
-abbrev pub heard_under : Answer → Bus → Option ℕ
-heard_under a b = crowd a (number b.search) b.crowded
-
-abbrev pub crowded_by : Command → Bool → Answer → Bus → Option ℕ
-crowded_by Compare second a b = heard_under a b
-crowded_by QueryShort second a b = heard_under a b
-crowded_by Randomise second a b = if second then None else b.crowded
-crowded_by _ second a b = b.crowded
-
-abbrev pub crowded_after : Item → Forward → Answer → Bus → Option ℕ
-crowded_after x f a b = crowded_by (command_of f) (completes b.half x.until f) a b
 
 abbrev pub same_place : Option ℕ → Option ℕ → Bool
 same_place (Some a) (Some b) = a == b
@@ -183,27 +154,71 @@ byte_heard a High heard s = high_heard a heard
 byte_heard a Middle heard s = middle_heard a heard s
 byte_heard a Low heard s = spelled.Nothing
 
-abbrev pub spelled_by : Command → Answer → Spelled → Spelled
-spelled_by (RandomByte a part) heard s = byte_heard a part heard s
-spelled_by Randomise heard s = spelled.Nothing
-spelled_by (Program a) heard s = spelled.Nothing
-spelled_by _ heard s = s
+-- INITIALISE that names gear with a short address lets them draw too
+abbrev pub names_addressed : Target → Bool
+names_addressed All = true
+names_addressed (Addressed a) = true
+names_addressed Unaddressed = false
 
-abbrev pub spelled_after : Forward → Answer → Bus → Spelled
-spelled_after f heard b = spelled_by (command_of f) heard b.spelled
+abbrev pub begins : Item → Begun
+begins x = record { at = x.at; until = x.until; is_told = false }
 
--- whether gear with a short address may take part in the initialisation, so that RANDOMISE may let
--- them draw: one that names such gear was complete, or an address was programmed, since TERMINATE
-abbrev pub redraws_by : Command → Bool → Bool → Bool
-redraws_by Terminate second may = false
-redraws_by (Program a) second may = true
-redraws_by (Initialise All) second may = may || second
-redraws_by (Initialise (Addressed a)) second may = may || second
-redraws_by (Initialise Unaddressed) second may = may
-redraws_by _ second may = may
+-- WHAT EACH COMMAND CHANGES. `again`: it repeats the half pair that waited; `second`: in time.
+abbrev pub begun_by : Target → Bool → Bool → Item → Bus → Bus
+begun_by target again second x b = record b {
+  begun = if second then Some (begins x) else b.begun;
+  is_closed = b.is_closed && not again;
+  may_redraw = b.may_redraw || (second && names_addressed target);
+}
 
-abbrev pub redraws_after : Item → Forward → Bus → Bool
-redraws_after x f b = redraws_by (command_of f) (completes b.half x.until f) b.may_redraw
+abbrev pub drawn_by : Bool → Item → Bus → Bus
+drawn_by second x b = record b {
+  drawn = if second then Some x.until else b.drawn;
+  crowded = if second then None else b.crowded;
+  spelled = spelled.Nothing;
+}
+
+abbrev pub heard_by : Answer → Bus → Bus
+heard_by heard b = record b { crowded = crowd heard (number b.search) b.crowded }
+
+abbrev pub searched_by : Part → ℕ → Search → Search
+searched_by High byte s = record s { high = Some byte }
+searched_by Middle byte s = record s { middle = Some byte }
+searched_by Low byte s = record s { low = Some byte }
+
+abbrev pub searches : Part → ℕ → Bus → Bus
+searches part byte b = record b { search = searched_by part byte b.search }
+
+abbrev pub sent_by : Command → Bool → Bool → Item → Answer → Bus → Bus
+sent_by Terminate again second x heard b =
+    record b { begun = None; is_closed = true; may_redraw = false }
+sent_by (Initialise target) again second x heard b = begun_by target again second x b
+sent_by Randomise again second x heard b = drawn_by second x b
+sent_by Compare again second x heard b = heard_by heard b
+sent_by Withdraw again second x heard b = b
+sent_by (SearchHigh byte) again second x heard b = searches High byte b
+sent_by (SearchMiddle byte) again second x heard b = searches Middle byte b
+sent_by (SearchLow byte) again second x heard b = searches Low byte b
+sent_by (Program a) again second x heard b =
+    record b { given = Some x.at; spelled = spelled.Nothing; may_redraw = true }
+sent_by (Verify a) again second x heard b = b
+sent_by QueryShort again second x heard b = heard_by heard b
+sent_by (RandomByte a part) again second x heard b =
+    record b { spelled = byte_heard a part heard b.spelled }
+sent_by (Arc f) again second x heard b = b
+sent_by (Other f) again second x heard b = b
+
+-- and what every forward frame changes: after an addressing command none is awaited any more
+abbrev pub unless_addressing : Forward → Option ℕ → Option ℕ
+unless_addressing f time = if is_addressing f then None else time
+
+abbrev pub passed : Item → Forward → Bus → Bus
+passed x f b = record b {
+  half = half_after x f b.half;
+  begun = begun_after x f b.begun;
+  drawn = unless_addressing f b.drawn;
+  given = unless_addressing f b.given;
+}
 
 abbrev pub bus_at_first : Bus
 bus_at_first = record {
@@ -211,26 +226,30 @@ bus_at_first = record {
   half = None;
   drawn = None;
   begun = None;
+  is_closed = false;
   given = None;
+  settled = None;
   crowded = None;
   spelled = spelled.Nothing;
   may_redraw = true;
 }
 
 -- THE BUS AFTER AN ITEM. A frame for other devices ends a half pair; of a damaged frame nobody
--- knows what it was, so that nothing is awaited any more.
+-- knows what it was, so that nothing is awaited any more, and an initialisation may be in force.
+abbrev pub bus_heard : Item → Seen → Bus → Bus
+bus_heard x (seen.Sent f heard) b =
+    sent_by (command_of f) (repeats b.half f) (completes b.half x.until f) x heard (passed x f b)
+bus_heard x seen.Foreign b = record b { half = None }
+bus_heard x seen.Broken b = record b { half = None; given = None; is_closed = false }
+bus_heard x seen.Replied b = b
+bus_heard x seen.Stray b = b
+
+-- when the last frame was over, from which on the bus settles; of what is damaged nobody knows
+abbrev pub frame_end : Heard → ℕ → Option ℕ
+frame_end (heard.Forward f) until = Some until
+frame_end (heard.Backward byte) until = Some until
+frame_end heard.Device until = Some until
+frame_end heard.Damaged until = None
+
 abbrev pub bus_after : Item → Seen → Bus → Bus
-bus_after x (seen.Sent f heard) b = record {
-  search = search_after f b.search;
-  half = half_after x f b.half;
-  drawn = drawn_after x f b;
-  begun = begun_after x f b;
-  given = given_after x f b;
-  crowded = crowded_after x f heard b;
-  spelled = spelled_after f heard b;
-  may_redraw = redraws_after x f b;
-}
-bus_after x seen.Foreign b = record b { half = None }
-bus_after x seen.Broken b = record b { half = None; given = None }
-bus_after x seen.Replied b = b
-bus_after x seen.Stray b = b
+bus_after x s b = record (bus_heard x s b) { settled = frame_end x.what x.until }

@@ -4,11 +4,17 @@ use Rattle.std.specs.Prelude.{slice_index_or, slice_set}
 use Rattle.dali_frame.specs.declared.frames.Answer.{Answer}
 use Rattle.dali_frame.specs.declared.frames.Answer.TheVariants as answer
 use Rattle.dali_special.specs.declared.command.Command.{Command}
-use Rattle.dali_special.specs.declared.command.Command.TheVariants.{Compare, Verify}
+use Rattle.dali_special.specs.declared.command.Command.TheVariants.{Terminate, Initialise}
+use Rattle.dali_special.specs.declared.command.Command.TheVariants.{Randomise, Compare, Withdraw}
+use Rattle.dali_special.specs.declared.command.Command.TheVariants.{SearchHigh, SearchMiddle}
+use Rattle.dali_special.specs.declared.command.Command.TheVariants.{SearchLow, Program, Verify}
+use Rattle.dali_special.specs.declared.command.Command.TheVariants.{QueryShort, RandomByte}
+use Rattle.dali_special.specs.declared.command.Command.TheVariants.{Arc, Other}
 use Rattle.dali_special.specs.Command.{command_of}
 use Rattle.dali_gear.specs.declared.row.Reach.TheVariants.{Everyone}
 use Rattle.dali_gear.specs.Gear.{Gear, fresh, with_power, without_power, gear_expired, gear_quieted}
 use Rattle.dali_gear.specs.Row.{row_after, draws_needed, answers_of, heard_of}
+use Rattle.dali_audit.specs.Seen.{is_silence}
 use Rattle.dali_audit.specs.declared.comparing.Move.{Move}
 use Rattle.dali_audit.specs.declared.comparing.Move.TheVariants.{On, Off, Expire, Quiet, Frame}
 use Rattle.dali_audit.specs.declared.comparing.Step.{Step}
@@ -24,17 +30,23 @@ use Rattle.dali_audit.specs.declared.comparing.Outcome.TheVariants.{Agrees, Diff
 abbrev pub is_possible : Command → ℕ → Bool
 is_possible Compare byte = byte == 0xFF
 is_possible (Verify a) byte = byte == 0xFF
-is_possible _ byte = true
+is_possible QueryShort byte = true
+is_possible (RandomByte a part) byte = true
+is_possible Terminate byte = true
+is_possible (Initialise target) byte = true
+is_possible Randomise byte = true
+is_possible Withdraw byte = true
+is_possible (SearchHigh sent) byte = true
+is_possible (SearchMiddle sent) byte = true
+is_possible (SearchLow sent) byte = true
+is_possible (Program a) byte = true
+is_possible (Arc f) byte = true
+is_possible (Other f) byte = true
 
 abbrev pub fits : ℕ → Answer → Bool
 fits byte (answer.Byte own) = own == byte
 fits byte answer.Silence = true
 fits byte answer.Damaged = true
-
-abbrev pub is_silence : Answer → Bool
-is_silence answer.Silence = true
-is_silence (answer.Byte byte) = false
-is_silence answer.Damaged = false
 
 abbrev pub agrees : Command → Answer → Answer → Bool
 agrees c answer.Silence given = is_silence given

@@ -1,16 +1,24 @@
-use Rattle.std.specs.Prelude.{ℕ, ◌-◌, Bool, true, false, ◌&&◌, not, ◌==◌, nat_lt, codes}
+use Rattle.std.specs.Prelude.{ℕ, ◌-◌, Bool, true, false, ◌&&◌, ◌||◌, not, ◌==◌, nat_lt, nat_le}
+use Rattle.std.specs.Prelude.{codes, is_some}
 use Rattle.std.specs.Prelude.{Option, Some, None, if◌then◌else◌, List, [], ◌∷◌, ◌++◌}
 use Rattle.std.specs.Prelude.{option_map, option_to_list}
+use Rattle.std.specs.List.{list_any}
 use Rattle.dali_frame.specs.declared.frames.Forward.{Forward}
+use Rattle.dali_frame.specs.declared.frames.Answer.{Answer}
 use Rattle.dali_frame.specs.declared.frames.Answer.TheVariants as answer
 use Rattle.dali_special.specs.declared.command.Command.{Command}
-use Rattle.dali_special.specs.declared.command.Command.TheVariants.{Compare, Program, Verify}
+use Rattle.dali_special.specs.declared.command.Command.TheVariants.{Terminate, Initialise}
+use Rattle.dali_special.specs.declared.command.Command.TheVariants.{Randomise, Compare, Withdraw}
+use Rattle.dali_special.specs.declared.command.Command.TheVariants.{SearchHigh, SearchMiddle}
+use Rattle.dali_special.specs.declared.command.Command.TheVariants.{SearchLow, Program, Verify}
 use Rattle.dali_special.specs.declared.command.Command.TheVariants.{QueryShort, RandomByte}
+use Rattle.dali_special.specs.declared.command.Command.TheVariants.{Arc, Other}
 use Rattle.dali_special.specs.Command.{command_of, is_question}
 use Rattle.dali_capture.specs.declared.item.Item.{Item}
 use Rattle.dali_audit.specs.declared.seen.Seen.{Seen}
 use Rattle.dali_audit.specs.declared.seen.Seen.TheVariants as seen
 use Rattle.dali_audit.specs.declared.bus.First.{First}
+use Rattle.dali_audit.specs.declared.bus.Begun.{Begun}
 use Rattle.dali_audit.specs.declared.bus.Bus.{Bus}
 use Rattle.dali_audit.specs.declared.holders.Holder.{Holder}
 use Rattle.dali_audit.specs.declared.holders.Change.{Change}
@@ -19,32 +27,39 @@ use Rattle.dali_audit.specs.declared.findings.Kind.{Kind}
 use Rattle.dali_audit.specs.declared.findings.Kind.TheVariants as kind
 use Rattle.dali_audit.specs.declared.findings.Finding.{Finding}
 use Rattle.dali_audit.specs.declared.telling.Known.{Known}
-use Rattle.dali_audit.specs.Seen.{seen_of}
-use Rattle.dali_audit.specs.Bus.{same_frame, is_addressing, repeats, late_by, is_over, is_crowded}
-use Rattle.dali_audit.specs.Bus.{same_number, bus_after, bus_at_first}
+use Rattle.dali_audit.specs.Seen.{seen_of, is_silence}
+use Rattle.dali_audit.specs.Bus.{same_frame, addresses, is_addressing, for_initialised, repeats}
+use Rattle.dali_audit.specs.Bus.{late_by, is_over, is_crowded, number, same_number, bus_after}
+use Rattle.dali_audit.specs.Bus.{bus_at_first}
 use Rattle.dali_audit.specs.Holders.{change_of, heard_of, is_other, holder_at, is_heard}
-use Rattle.dali_audit.specs.Holders.{table_after, table_at_first}
+use Rattle.dali_audit.specs.Holders.{was_confirmed, is_confirmed, table_after, table_at_first}
 
 -- THE NAMES OF THE FINDINGS. They never change.
 abbrev pub kind_name : Kind → List ℕ
 kind_name kind.DamagedFrame = codes "damaged-frame"
 kind_name kind.DamagedAnswer = codes "damaged-answer"
 kind_name kind.UnaskedAnswer = codes "unasked-answer"
+kind_name kind.NotInitialised = codes "not-initialised"
+kind_name kind.SettlingTime = codes "settling-time"
 kind_name kind.HalfPair = codes "half-pair"
 kind_name kind.LatePair = codes "late-pair"
 kind_name kind.EarlyFrame = codes "early-frame"
 kind_name kind.InitialisationOver = codes "initialisation-over"
 kind_name kind.NotQueried = codes "not-queried"
+kind_name kind.NotFound = codes "not-found"
 kind_name kind.SeveralProgrammed = codes "several-programmed"
 kind_name kind.AddressTaken = codes "address-taken"
+kind_name kind.AddressMoved = codes "address-moved"
 kind_name kind.TwoRandomAddresses = codes "two-random-addresses"
 kind_name kind.TwoShortAddresses = codes "two-short-addresses"
+kind_name kind.NotTerminated = codes "not-terminated"
 
 abbrev pub kinds : List Kind
 kinds =
-    kind.DamagedFrame ∷ kind.DamagedAnswer ∷ kind.UnaskedAnswer ∷ kind.HalfPair ∷ kind.LatePair
-    ∷ kind.EarlyFrame ∷ kind.InitialisationOver ∷ kind.NotQueried ∷ kind.SeveralProgrammed
-    ∷ kind.AddressTaken ∷ kind.TwoRandomAddresses ∷ kind.TwoShortAddresses ∷ []
+    kind.DamagedFrame ∷ kind.DamagedAnswer ∷ kind.UnaskedAnswer ∷ kind.NotInitialised
+    ∷ kind.SettlingTime ∷ kind.HalfPair ∷ kind.LatePair ∷ kind.EarlyFrame ∷ kind.InitialisationOver
+    ∷ kind.NotQueried ∷ kind.NotFound ∷ kind.SeveralProgrammed ∷ kind.AddressTaken
+    ∷ kind.AddressMoved ∷ kind.TwoRandomAddresses ∷ kind.TwoShortAddresses ∷ kind.NotTerminated ∷ []
 
 -- THE RULES, each with the time that is told where an item breaks it.
 
@@ -70,6 +85,30 @@ abbrev pub damaged_answer : Item → Seen → Option ℕ
 damaged_answer x (seen.Sent f answer.Damaged) = at_where (asks_one (command_of f)) x.at
 damaged_answer x _ = None
 
+-- gear answer COMPARE, VERIFY SHORT ADDRESS and QUERY SHORT ADDRESS in an initialisation alone (102,
+-- special commands): not after TERMINATE, until an INITIALISE that they may have taken
+abbrev pub asks_initialised : Command → Bool
+asks_initialised c = for_initialised c && is_question c
+
+abbrev pub not_initialised : Bus → Item → Seen → Option ℕ
+not_initialised b x (seen.Sent f heard) =
+    at_where (b.is_closed && (asks_initialised (command_of f) && not (is_silence heard))) x.at
+not_initialised b x _ = None
+
+-- a forward frame begins at least 13.5 ms after the end of the frame before, which is the settling
+-- time of priority 1 (101, multi-master transmitter frame sequence timing); what recorded the bus
+-- may tell a tenth less
+abbrev pub too_close : Option ℕ → Item → Option ℕ
+too_close None x = None
+too_close (Some settled) x = at_where (nat_lt (x.at - settled) 12150) x.at
+
+abbrev pub settling_time : Bus → Item → Seen → Option ℕ
+settling_time b x (seen.Sent f heard) = too_close b.settled x
+settling_time b x seen.Foreign = too_close b.settled x
+settling_time b x seen.Replied = None
+settling_time b x seen.Stray = None
+settling_time b x seen.Broken = None
+
 -- after the first frame of a pair comes its second (101, send-twice forward frames)
 abbrev pub breaks : Forward → Seen → Bool
 breaks first (seen.Sent f heard) = not (same_frame first f)
@@ -90,10 +129,11 @@ abbrev pub late_pair : Bus → Item → Seen → Option ℕ
 late_pair b x (seen.Sent f heard) = at_where (repeats b.half f && late_by b.half x.until) x.at
 late_pair b x _ = None
 
--- gear may take 100 ms to draw a random address (102, RANDOMISE)
+-- gear may take 100 ms to draw a random address (102, RANDOMISE); what recorded the bus may tell a
+-- tenth less
 abbrev pub too_early : Option ℕ → Item → Seen → Option ℕ
 too_early (Some drawn) x (seen.Sent f heard) =
-    at_where (is_addressing f && nat_lt (x.at - drawn) 100000) x.at
+    at_where (is_addressing f && nat_lt (x.at - drawn) 90000) x.at
 too_early _ x s = None
 
 abbrev pub early_frame : Bus → Item → Seen → Option ℕ
@@ -104,37 +144,102 @@ abbrev pub initialisation_over : Bus → Item → Seen → Option ℕ
 initialisation_over b x (seen.Sent f heard) = at_where (is_over b.begun x.at f) x.at
 initialisation_over b x _ = None
 
--- whoever programs a short address asks for it next (this project's profile)
+-- whoever programs a short address asks for it next, in the same transaction (this project's
+-- profile)
 abbrev pub asks_short : Command → Bool
 asks_short QueryShort = true
 asks_short (Verify a) = true
 asks_short (RandomByte a part) = true
-asks_short _ = false
+asks_short Terminate = false
+asks_short (Initialise target) = false
+asks_short Randomise = false
+asks_short Compare = false
+asks_short Withdraw = false
+asks_short (SearchHigh byte) = false
+asks_short (SearchMiddle byte) = false
+asks_short (SearchLow byte) = false
+asks_short (Program a) = false
+asks_short (Arc f) = false
+asks_short (Other f) = false
 
-abbrev pub asks_for_short : Forward → Bool
-asks_for_short f = asks_short (command_of f)
+-- what is for the gear at the search address begins no transaction, since it needs one
+abbrev pub needs_search : Command → Bool
+needs_search Compare = true
+needs_search Withdraw = true
+needs_search (Program a) = true
+needs_search QueryShort = true
+needs_search Terminate = false
+needs_search (Initialise target) = false
+needs_search Randomise = false
+needs_search (SearchHigh byte) = false
+needs_search (SearchMiddle byte) = false
+needs_search (SearchLow byte) = false
+needs_search (Verify a) = false
+needs_search (RandomByte a part) = false
+needs_search (Arc f) = false
+needs_search (Other f) = false
 
-abbrev pub unasked : Option ℕ → Seen → Option ℕ
-unasked (Some given) (seen.Sent f heard) =
-    at_where (is_addressing f && not (asks_for_short f)) given
-unasked _ s = None
+-- A TRANSACTION GOES ON with a frame of priority 1, which begins at most 14.7 ms after the end of
+-- the frame before; a new one begins at least 16.3 ms after it, with priority 3 (101, multi-master
+-- transmitter frame sequence timing). The limit lies in the middle.
+abbrev pub is_soon : Option ℕ → ℕ → Bool
+is_soon None at = false
+is_soon (Some settled) at = nat_le (at - settled) 15500
 
-abbrev pub not_queried : Bus → Seen → Option ℕ
-not_queried b s = unasked b.given s
+abbrev pub goes_on : Bus → Item → Command → Bool
+goes_on b x c = is_soon b.settled x.at || needs_search c
 
--- a short address is programmed where one gear is (102, PROGRAM SHORT ADDRESS)
-abbrev pub programs_several : Command → Bus → Item → Option ℕ
-programs_several (Program a) b x = at_where (is_crowded b) x.at
-programs_several _ b x = None
+abbrev pub unasked_by : ℕ → Bus → Item → Command → Option ℕ
+unasked_by given b x c = at_where (addresses c && (not (asks_short c) && goes_on b x c)) given
 
-abbrev pub several_programmed : Bus → Item → Seen → Option ℕ
-several_programmed b x (seen.Sent f heard) = programs_several (command_of f) b x
-several_programmed b x _ = None
+abbrev pub unasked : Option ℕ → Bus → Item → Seen → Option ℕ
+unasked (Some given) b x (seen.Sent f heard) = unasked_by given b x (command_of f)
+unasked _ b x s = None
+
+abbrev pub not_queried : Bus → Item → Seen → Option ℕ
+not_queried b x s = unasked b.given b x s
+
+-- PROGRAM SHORT ADDRESS, by what it changes: at the search address
+abbrev pub programs_at : Change → Option ℕ
+programs_at (change.Given a r) = Some r
+programs_at (change.Erased r) = Some r
+programs_at change.Nothing = None
+programs_at (change.Told a r) = None
+programs_at (change.Verified a) = None
+programs_at (change.Answered a) = None
+programs_at change.Redrawn = None
+programs_at (change.Forgotten short) = None
+
+-- it is sent to a gear that was found: in an initialisation that the capture shows from its begin,
+-- COMPARE or QUERY SHORT ADDRESS was answered at that search address, or that random address was
+-- told under a short address (this project's profile)
+abbrev pub is_among : List ℕ → ℕ → Bool
+is_among found r = list_any (λ own. own == r) found
+
+abbrev pub is_found : List ℕ → List Holder → ℕ → Bool
+is_found found hs r = is_among found r || is_heard r hs
+
+abbrev pub unfound : Option ℕ → Known → Bool
+unfound None k = false
+unfound (Some r) k = is_some k.bus.begun && not (is_found k.found k.table r)
+
+abbrev pub not_found : Known → Change → Bool
+not_found k c = unfound (programs_at c) k
+
+-- and where one gear is (102, PROGRAM SHORT ADDRESS)
+abbrev pub several_programmed : Bus → Change → Bool
+several_programmed b c = is_some (programs_at c) && is_crowded b
 
 -- a short address is given under which nobody else was heard
 abbrev pub address_taken : List Holder → Change → Bool
 address_taken hs (change.Given a r) = is_other r (holder_at hs a)
 address_taken hs _ = false
+
+-- a gear that was given a short address and heard under it keeps it (this project's profile)
+abbrev pub address_moved : List Holder → Change → Bool
+address_moved hs (change.Given a r) =
+    not (was_confirmed r (holder_at hs a)) && is_confirmed r hs
+address_moved hs _ = false
 
 -- a short address has one random address
 abbrev pub is_another : Option ℕ → ℕ → Bool
@@ -151,19 +256,33 @@ two_short hs (change.Told a r) =
     not (same_number (heard_of (holder_at hs a)) (Some r)) && is_heard r hs
 two_short hs _ = false
 
+-- whoever begins an initialisation ends it (102, TERMINATE): told when the capture ends
+abbrev pub begun_at : Option Begun → Option ℕ
+begun_at None = None
+begun_at (Some begun) = Some begun.at
+
+abbrev pub not_terminated : Bus → Option ℕ
+not_terminated b = begun_at b.begun
+
 abbrev pub told_at : Kind → Known → Item → Seen → Option ℕ
 told_at kind.DamagedFrame k x s = at_where (is_broken s) x.at
 told_at kind.DamagedAnswer k x s = damaged_answer x s
 told_at kind.UnaskedAnswer k x s = at_where (is_stray s) x.at
+told_at kind.NotInitialised k x s = not_initialised k.bus x s
+told_at kind.SettlingTime k x s = settling_time k.bus x s
 told_at kind.HalfPair k x s = half_pair k.bus s
 told_at kind.LatePair k x s = late_pair k.bus x s
 told_at kind.EarlyFrame k x s = early_frame k.bus x s
 told_at kind.InitialisationOver k x s = initialisation_over k.bus x s
-told_at kind.NotQueried k x s = not_queried k.bus s
-told_at kind.SeveralProgrammed k x s = several_programmed k.bus x s
+told_at kind.NotQueried k x s = not_queried k.bus x s
+told_at kind.NotFound k x s = at_where (not_found k (change_of k.bus x s)) x.at
+told_at kind.SeveralProgrammed k x s =
+    at_where (several_programmed k.bus (change_of k.bus x s)) x.at
 told_at kind.AddressTaken k x s = at_where (address_taken k.table (change_of k.bus x s)) x.at
+told_at kind.AddressMoved k x s = at_where (address_moved k.table (change_of k.bus x s)) x.at
 told_at kind.TwoRandomAddresses k x s = at_where (two_random k.table (change_of k.bus x s)) x.at
 told_at kind.TwoShortAddresses k x s = at_where (two_short k.table (change_of k.bus x s)) x.at
+told_at kind.NotTerminated k x s = None
 
 -- WHAT IS TOLD OF AN ITEM: each rule that it breaks
 abbrev pub told_by : Kind → Option ℕ → List Finding
@@ -175,21 +294,31 @@ told_of k x s (kind ∷ more) = told_by kind (told_at kind k x s) ++ told_of k x
 
 -- WHAT A CAPTURE TELLS up to an item
 abbrev pub known_at_first : Known
-known_at_first = record { bus = bus_at_first; table = table_at_first }
+known_at_first = record { bus = bus_at_first; table = table_at_first; found = [] }
+
+-- the search address at which gear answer a question
+abbrev pub found_at : Bus → Seen → Option ℕ
+found_at b (seen.Sent f heard) =
+    if needs_search (command_of f) && not (is_silence heard) then number b.search else None
+found_at b seen.Replied = None
+found_at b seen.Stray = None
+found_at b seen.Foreign = None
+found_at b seen.Broken = None
 
 abbrev pub known_after : Item → Seen → Known → Known
 known_after x s k = record {
   bus = bus_after x s k.bus;
   table = table_after (change_of k.bus x s) k.table;
+  found = k.found ++ option_to_list (found_at k.bus s);
 }
 
--- WHAT IS TOLD OF A CAPTURE: of each item, by what the items before it tell
+-- WHAT IS TOLD OF A CAPTURE: of each item, by what the items before it tell; and last of its end
 abbrev pub first_of : List Item → Option Item
 first_of [] = None
 first_of (x ∷ xs) = Some x
 
 abbrev pub findings_from : Known → Option Item → List Item → List Finding
-findings_from k before [] = []
+findings_from k before [] = told_by kind.NotTerminated (not_terminated k.bus)
 findings_from k before (x ∷ xs) =
     told_of k x (seen_of before x (first_of xs)) kinds
     ++ findings_from (known_after x (seen_of before x (first_of xs)) k) (Some x) xs

@@ -10,8 +10,12 @@ use Rattle.dali_frame.specs.Short.{short_of}
 use Rattle.dali_special.specs.declared.command.Part.{Part}
 use Rattle.dali_special.specs.declared.command.Part.TheVariants.{High, Middle, Low}
 use Rattle.dali_special.specs.declared.command.Command.{Command}
-use Rattle.dali_special.specs.declared.command.Command.TheVariants.{Randomise, Program, Verify}
-use Rattle.dali_special.specs.declared.command.Command.TheVariants.{QueryShort, RandomByte, Other}
+use Rattle.dali_special.specs.declared.command.Command.TheVariants.{Terminate, Initialise}
+use Rattle.dali_special.specs.declared.command.Command.TheVariants.{Randomise, Compare, Withdraw}
+use Rattle.dali_special.specs.declared.command.Command.TheVariants.{SearchHigh, SearchMiddle}
+use Rattle.dali_special.specs.declared.command.Command.TheVariants.{SearchLow, Program, Verify}
+use Rattle.dali_special.specs.declared.command.Command.TheVariants.{QueryShort, RandomByte}
+use Rattle.dali_special.specs.declared.command.Command.TheVariants.{Arc, Other}
 use Rattle.dali_special.specs.Command.{command_of}
 use Rattle.dali_capture.specs.declared.item.Item.{Item}
 use Rattle.dali_audit.specs.declared.seen.Seen.{Seen}
@@ -44,7 +48,8 @@ short_change search answer.Silence = change.Nothing
 short_change search answer.Damaged = change.Nothing
 
 -- QUERY RANDOM ADDRESS (L), after (H) and (M) were answered under the same short address: the gear
--- there tells its random address, if it drew one. Else whoever answers is somebody.
+-- there tells its random address, if it drew one. Else whoever answers is somebody. A damaged answer
+-- may be a disturbance, where no gear is.
 abbrev pub number_told : ℕ → ℕ → Change
 number_told a r = if r == MASK24 then change.Answered a else change.Told a r
 
@@ -56,7 +61,7 @@ low_change spelled.Nothing a low = change.Answered a
 
 abbrev pub byte_change : Spelled → ℕ → Part → Answer → Change
 byte_change s a part answer.Silence = change.Nothing
-byte_change s a part answer.Damaged = change.Answered a
+byte_change s a part answer.Damaged = change.Nothing
 byte_change s a Low (answer.Byte byte) = low_change s a byte
 byte_change s a High (answer.Byte byte) = change.Answered a
 byte_change s a Middle (answer.Byte byte) = change.Answered a
@@ -65,7 +70,7 @@ byte_change s a Middle (answer.Byte byte) = change.Answered a
 abbrev pub verify_change : ℕ → Answer → Change
 verify_change a answer.Silence = change.Nothing
 verify_change a (answer.Byte byte) = change.Verified a
-verify_change a answer.Damaged = change.Answered a
+verify_change a answer.Damaged = change.Nothing
 
 -- RESET and SET SHORT ADDRESS, to a short address, to a group or to all (IEC 62386-102:2014,
 -- configuration instructions): what was known of these gear is known no more
@@ -90,7 +95,14 @@ change_by_command (Verify a) second heard b = verify_change a heard
 change_by_command Randomise second heard b =
     if b.may_redraw && second then change.Redrawn else change.Nothing
 change_by_command (Other f) second heard b = forgets f
-change_by_command _ second heard b = change.Nothing
+change_by_command (Arc f) second heard b = change.Nothing
+change_by_command Terminate second heard b = change.Nothing
+change_by_command (Initialise target) second heard b = change.Nothing
+change_by_command Compare second heard b = change.Nothing
+change_by_command Withdraw second heard b = change.Nothing
+change_by_command (SearchHigh byte) second heard b = change.Nothing
+change_by_command (SearchMiddle byte) second heard b = change.Nothing
+change_by_command (SearchLow byte) second heard b = change.Nothing
 
 abbrev pub change_by : Bus → Item → Forward → Answer → Change
 change_by b x f heard = change_by_command (command_of f) (completes b.half x.until f) heard b
@@ -208,9 +220,21 @@ table_at_first = replicate 64 holder.Nobody
 abbrev pub holder_at : List Holder → ℕ → Holder
 holder_at hs a = slice_index_or hs a holder.Nobody
 
+-- it was programmed at this search address, and then heard
+abbrev pub was_confirmed : ℕ → Holder → Bool
+was_confirmed r (holder.Verified own) = own == r
+was_confirmed r (holder.Programmed own) = false
+was_confirmed r (holder.Answered own) = false
+was_confirmed r holder.Nobody = false
+was_confirmed r holder.Somebody = false
+
 -- a gear with this random address was heard under some short address
 abbrev pub is_heard : ℕ → List Holder → Bool
 is_heard r hs = list_any (λ h. same_number (heard_of h) (Some r)) hs
+
+-- one with it was programmed under some short address, and then heard there
+abbrev pub is_confirmed : ℕ → List Holder → Bool
+is_confirmed r hs = list_any (was_confirmed r) hs
 
 -- WHO HAS EACH SHORT ADDRESS AFTER A CHANGE
 abbrev pub table_with : Option ℕ → Change → List Holder → List Holder

@@ -6,4 +6,6 @@ pub mod Comparing
 pub mod Report
 pub mod Script
 pub mod Frames
+pub mod Places
 pub mod Bench
+pub mod Judging

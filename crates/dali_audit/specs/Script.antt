@@ -1,9 +1,11 @@
-use Rattle.std.specs.Prelude.{ℕ, ◌+◌, List, [], ◌∷◌, ◌++◌, codes, decimal, Option, Some, None}
+use Rattle.std.specs.Prelude.{ℕ, ◌+◌, List, [], ◌∷◌, ◌++◌, length, codes, decimal}
+use Rattle.std.specs.Prelude.{Option, Some, None}
 use Rattle.dali_frame.specs.Hex.{random_text, forward_text}
 use Rattle.dali_audit.specs.declared.places.Place.{Place}
 use Rattle.dali_audit.specs.declared.comparing.Move.{Move}
 use Rattle.dali_audit.specs.declared.comparing.Move.TheVariants.{On, Off, Expire, Quiet, Frame}
 use Rattle.dali_audit.specs.declared.comparing.Step.{Step}
+use Rattle.dali_audit.specs.declared.bench.Bench.{Bench}
 
 -- THE LINES OF A BENCH: a line for each step
 abbrev pub move_text : Move → List ℕ
@@ -39,3 +41,14 @@ all_used_text k (p ∷ ps) = used_text k p ++ all_used_text (k + 1) ps
 abbrev pub draws_text : List ℕ → List ℕ
 draws_text [] = []
 draws_text (r ∷ rs) = (codes " " ++ random_text r) ++ draws_text rs
+
+-- A BENCH AS A SCRIPT. A script has one gear at least: where none is known, that one has no power.
+abbrev pub bench_head : List Place → List ℕ → List ℕ
+bench_head [] rs = codes "bench 1\ndraws\noff 0\n"
+bench_head (p ∷ ps) rs =
+    codes "bench "
+    ++ (decimal (length (p ∷ ps))
+    ++ (codes "\ndraws" ++ (draws_text rs ++ (codes "\n" ++ all_used_text 0 (p ∷ ps)))))
+
+abbrev pub script_text : Bench → List ℕ
+script_text b = bench_head b.places.items b.draws ++ steps_text b.steps.items

@@ -51,6 +51,11 @@ answer_after asked None = answer.Silence
 answer_after asked (Some x) =
     if may_be_answered asked.what && in_window asked x then as_answer x.what else answer.Silence
 
+abbrev pub is_silence : Answer → Bool
+is_silence answer.Silence = true
+is_silence (answer.Byte byte) = false
+is_silence answer.Damaged = false
+
 -- WHAT AN ITEM IS, by the one before it and the one after it
 abbrev pub seen_by : Heard → Option Item → Item → Option Item → Seen
 seen_by (heard.Forward f) before x after = seen.Sent f (answer_after x after)

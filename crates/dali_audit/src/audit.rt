@@ -12,7 +12,7 @@ use std::alloc::{AllocError, Global};
 /// What is told of a capture.
 #[derive(Drop)]
 pub struct Audit {
-    /// The rules that were broken, in the order of the items.
+    /// The rules that were broken, in the order of the items, and last what the end of the capture breaks.
     pub findings: Vec<Finding>,
     /// What is known after the last item.
     pub known: Known,
@@ -34,15 +34,16 @@ pub fn audit_items(alloc: Global, items: &[Item]) -> Result<Audit, AllocError>
     ensures known { IfOk result (λ a. a.known ≡ known_in items.now) }
 {
     let mut findings = Vec::new(alloc);
-    let mut known = Known::new();
+    let mut known = Known::new(alloc);
     let mut before = None;
     let mut rest = items;
     while let [item, more @ ..] = rest {
         let seen = seen_of(before, item, first_of(more));
         known.tell(&mut findings, item, seen, &KINDS)?;
-        known.take(item, seen);
+        known.take(item, seen)?;
         before = Some(*item);
         rest = more;
     }
+    known.tell_end(&mut findings)?;
     Ok(Audit { findings, known })
 }

@@ -1,21 +1,30 @@
 //! A capture as a bench: gear with the random addresses that it reveals, and its frames.
 
-ghost use Rattle.std.specs.Prelude.{◌≡◌, ◌≢◌, ◌<◌, ◌≤◌, ◌⊎◌, drop, length, All, IsTrue};
-ghost use Rattle.dali_frame.specs.Random.{MASK24};
-ghost use Rattle.dali_audit.specs.declared.comparing.Outcome.TheVariants.{Spent};
+ghost use Rattle.std.specs.Prelude.{◌≡◌, ◌<◌, ◌≤◌, ◌++◌, [], ◌∷◌, length, OnOk, IfOk, IfErr, slice_set};
+ghost use Rattle.std.specs.Prelude.{slice_index_or, slice_get, true, false, None, option_to_list};
+ghost use Rattle.std.specs.List.{list_any};
+ghost use Rattle.dali_audit.specs.declared.comparing.Move.TheVariants.{Frame};
 ghost use Rattle.dali_audit.specs.Comparing.{compared};
-ghost use Rattle.dali_audit.specs.Bench.{gear_at_first, IsBenchOf};
+ghost use Rattle.dali_audit.specs.Frames.{frames_of, frames_in, step_of, asked};
+ghost use Rattle.dali_audit.specs.Bench.{gear_at_first, early, early_frames, is_early, IsBenchOf, power_steps};
+ghost use Rattle.dali_audit.specs.Bench.{IsAwake, terminates, is_terminate, is_due};
+ghost use Rattle.dali_audit.specs.Places.{places_in};
+ghost use Rattle.dali_audit.specs.declared.places.BenchError.TheVariants.{TooManyGear};
+ghost use Rattle.dali_special.specs.Command.{command_of};
 
+use crate::audit::first_of;
 use crate::comparing::{Move, Outcome, Step, compare, play};
-use crate::frames::{asked, take_frames};
+use crate::draws::Draws;
+use crate::frames::asked;
 use crate::holders::{Change, change_of};
-use crate::places::{BenchError, GEAR_LIMIT, Place, Reading, places_of, seen_at};
-use crate::seen::Seen;
+use crate::later::heard_later;
+use crate::places::{BenchError, GEAR_LIMIT, Place, Reading, places_of};
+use crate::seen::{Seen, seen_of};
 use dali_capture::Item;
-use dali_frame::{Answer, Forward, Random24, Short};
+use dali_frame::{Answer, Forward, Short};
 use dali_gear::Row;
 use dali_special::{Command, Target};
-use std::alloc::Global;
+use std::alloc::{AllocError, Global};
 
 /// A bench that takes the frames of a capture.
 #[derive(Drop)]
@@ -23,49 +32,72 @@ pub struct Bench {
     /// The gear, in order of their numbers.
     pub places: Vec<Place>,
     pub steps: Vec<Step>,
-    /// How many of the steps come before the capture.
-    pub before: usize,
     /// The numbers that gear draw, in order.
-    pub draws: Vec<Random24>,
+    pub draws: Draws,
     /// How many of the gear are not known to the end.
     pub unknown: usize,
 }
 
+/// The item that is taken: its number, and when it began.
+#[derive(Clone, Copy)]
+struct Moment {
+    at: u64,
+    number: usize,
+}
+
+/// What becomes of a gear beside the frames.
+#[derive(Clone, Copy)]
+enum Deed {
+    /// It has power.
+    On,
+    /// It has none until the next TERMINATE.
+    Rest,
+    /// It is not known any more.
+    Lose,
+    /// Its initialisation is over.
+    Expire,
+}
+
+/// Of which gear.
+#[derive(Clone, Copy)]
+enum Whom {
+    Everyone,
+    /// Those that did not draw before the capture, or had a short address.
+    NotEarly,
+    /// Those that are played from this item on.
+    Coming,
+    /// Those that the frame at the search address is for.
+    Found,
+    /// The same, if they have no power.
+    FoundResting,
+    /// Those that may have drawn at this RANDOMISE, though they have no power.
+    Missed,
+    /// Those that may have drawn at a RANDOMISE that was destroyed.
+    Drawing,
+    /// Those with this short address.
+    Under(Short),
+    /// Those that are played already.
+    Born,
+    /// Those that are not heard before the next TERMINATE.
+    Unheard,
+}
+
 /// A bench in the making. The row has taken each step.
 #[derive(Drop)]
-struct Making {
-    bench: Bench,
+struct Making<'a> {
+    places: &'a [Place],
+    steps: Vec<Step>,
+    draws: Draws,
+    unknown: usize,
     row: Row,
     reading: Reading,
     /// Which gear have power, and which are not known any more.
     on: [bool; 128],
     lost: [bool; 128],
+    /// Which gear are heard after the last damaged frame, before the next TERMINATE.
+    heard: [bool; 128],
     /// How many numbers were drawn.
     drawn: usize,
-    at: u64,
-}
-
-/// Whether each number may be drawn.
-fn are_draws(draws: &[Random24]) -> bool
-    ensures { IsTrue result → All (λ r. r < MASK24) draws.now }
-{
-    draws.iter().all(|draw| *draw < Random24::MASK)
-}
-
-/// The numbers from a place on.
-fn from_place(draws: &[Random24], place: usize) -> &[Random24] {
-    &draws[place.min(draws.len())..]
-}
-
-/// The steps from a place on.
-fn steps_from(steps: &[Step], place: usize) -> &[Step]
-    ensures { result.now ≡ drop place steps.now }
-{
-    if place < steps.len() {
-        &steps[place..]
-    } else {
-        &steps[steps.len()..]
-    }
 }
 
 /// The row of gear when a capture begins: those with a short address, and others from the factory.
@@ -82,69 +114,89 @@ fn row_of(places: &[Place]) -> Row
     row
 }
 
-impl Making {
-    fn new(alloc: Global, places: Vec<Place>) -> Making
-        requires { length places.items ≤ 128 }
+/// Whether a gear drew its number before the capture.
+fn is_early(place: &Place) -> bool
+    ensures { result ≡ is_early place.now }
+{
+    place.draw.is_none() && place.short.is_none()
+}
+
+impl<'a> Making<'a> {
+    fn new(alloc: Global, places: &'a [Place]) -> Making<'a>
+        requires { length places.now ≤ 128 }
+        ensures steps { result.steps.items ≡ [] }
+        ensures places { result.places.now ≡ places.now }
     {
-        let row = row_of(places.as_slice());
         Making {
-            bench: Bench {
-                places,
-                steps: Vec::new(alloc),
-                before: 0,
-                draws: Vec::new(alloc),
-                unknown: 0,
-            },
-            row,
-            reading: Reading::new(),
+            places,
+            steps: Vec::new(alloc),
+            draws: Draws::new(alloc),
+            unknown: 0,
+            row: row_of(places),
+            reading: Reading::new(alloc),
             on: [true; 128],
             lost: [false; 128],
+            heard: [false; 128],
             drawn: 0,
-            at: 0,
         }
+    }
+
+    /// The numbers that are left to draw.
+    fn play(&mut self, what: &Move) {
+        let draws = self.draws.as_slice();
+        let left = &draws[self.drawn.min(draws.len())..];
+        self.drawn = self.drawn.saturating_add(play(&mut self.row, what, left));
     }
 
     /// One step more, which the row takes.
-    fn push(&mut self, what: Move) -> Result<(), BenchError> {
-        let left = from_place(self.bench.draws.as_slice(), self.drawn);
-        if are_draws(left) {
-            self.drawn = self.drawn.saturating_add(play(&mut self.row, &what, left));
-        }
-        match self.bench.steps.push(Step { at: self.at, what }) {
-            Ok(()) => Ok(()),
-            Err(_) => Err(BenchError::NoMemory),
-        }
+    #[tactic(auto, using(crate::proofs::Growing::frames_more))]
+    fn push(&mut self, at: u64, what: Move) -> Result<(), AllocError>
+        ensures steps { OnOk result (self.new.steps.items
+            ≡ self.old.steps.items ++ (record { at = at; what = what } ∷ [])) }
+        ensures frames { OnOk result (frames_of self.new.steps.items
+            ≡ frames_of self.old.steps.items ++ frames_of (record { at = at; what = what } ∷ [])) }
+        ensures on { self.new.on ≡ self.old.on }
+        ensures lost { self.new.lost ≡ self.old.lost }
+        ensures places { self.new.places.now ≡ self.old.places.now }
+    {
+        self.play(&what);
+        self.steps.push(Step { at, what })?;
+        Ok(())
     }
 
-    fn set_power(&mut self, gear: u8, on: bool) -> Result<(), BenchError> {
-        let number = usize::from(gear);
-        if number >= GEAR_LIMIT || self.on[number] == on {
+    fn place(&self, gear: u8) -> Option<Place>
+        ensures { result ≡ slice_get self.now.places.now gear }
+    {
+        self.places.get(usize::from(gear)).copied()
+    }
+
+    /// A gear has power, or has it not.
+    fn set_power(&mut self, at: u64, gear: u8, on: bool) -> Result<(), AllocError>
+        requires { gear < 128 }
+        ensures steps { OnOk result (self.new.steps.items
+            ≡ self.old.steps.items ++ power_steps at gear (slice_index_or self.old.on gear false) on) }
+        ensures frames { OnOk result (frames_of self.new.steps.items ≡ frames_of self.old.steps.items) }
+        ensures on { OnOk result (self.new.on ≡ slice_set self.old.on gear on) }
+        ensures lost { self.new.lost ≡ self.old.lost }
+        ensures places { self.new.places.now ≡ self.old.places.now }
+    {
+        if self.on[usize::from(gear)] == on {
             return Ok(());
         }
-        self.on[number] = on;
-        self.push(if on { Move::On(gear) } else { Move::Off(gear) })
+        self.on[usize::from(gear)] = on;
+        self.push(at, if on { Move::On(gear) } else { Move::Off(gear) })
     }
 
     /// A gear is not known any more.
-    fn lose(&mut self, gear: u8) -> Result<(), BenchError> {
-        let number = usize::from(gear);
-        if number < GEAR_LIMIT && !self.lost[number] {
-            self.lost[number] = true;
-            self.bench.unknown = self.bench.unknown.saturating_add(1);
-        }
-        self.set_power(gear, false)
-    }
-
-    fn place(&self, gear: u8) -> Option<Place> {
-        self.bench.places.get(usize::from(gear)).copied()
-    }
-
-    /// How many gear there are, at most 128.
-    fn gear(&self) -> u8
-        ensures { result ≤ 128 }
+    fn lose(&mut self, at: u64, gear: u8) -> Result<(), AllocError>
+        requires { gear < 128 }
+        ensures { OnOk result (frames_of self.new.steps.items ≡ frames_of self.old.steps.items) }
     {
-        let count = self.bench.places.len();
-        if count < GEAR_LIMIT { count as u8 } else { 128 }
+        if !self.lost[usize::from(gear)] {
+            self.lost[usize::from(gear)] = true;
+            self.unknown = self.unknown.saturating_add(1);
+        }
+        self.set_power(at, gear, false)
     }
 
     /// The short address of a gear, as it stands in the row.
@@ -164,268 +216,340 @@ impl Making {
         }
     }
 
-    fn put(&mut self, command: Command, heard: Option<Answer>) -> Result<(), BenchError> {
-        self.push(Move::Frame(command.write(), heard))
+    fn is_found(&self, place: &Place) -> bool {
+        self.reading.known.bus.search.number() == Some(place.random)
     }
 
-    /// The gear that drew their random address before the capture draw it.
-    fn draw_early(&mut self) -> Result<(), BenchError> {
-        for _ in 0..2u8 {
-            self.put(Command::Initialise(Target::Unaddressed), None)?;
-        }
-        self.put(Command::Randomise, None)?;
-        self.draw(Command::Randomise.write(), 0)?;
-        self.put(Command::Randomise, None)?;
-        self.put(Command::Terminate, None)
-    }
-
-    /// What was before the capture; then all gear wait for the first TERMINATE.
-    fn begin(&mut self) -> Result<(), BenchError> {
-        let mut some = false;
-        for gear in 0..self.gear() {
-            if self.is_early(gear) {
-                some = true;
-            } else {
-                self.set_power(gear, false)?;
+    /// Whether it may have drawn at a RANDOMISE that was destroyed: where that was the second of two.
+    fn may_have_drawn(&self, gear: u8) -> bool {
+        match self.reading.known.bus.half {
+            Some(first) => {
+                Command::read(first.frame) == Command::Randomise
+                    && (self.short(gear).is_none() || self.would_draw(gear, first.frame))
             }
-        }
-        if some {
-            self.draw_early()?;
-        }
-        for gear in 0..self.gear() {
-            self.set_power(gear, false)?;
-        }
-        Ok(())
-    }
-
-    fn is_early(&self, gear: u8) -> bool {
-        match self.place(gear) {
-            Some(place) => place.draw == 0 && place.short.is_none(),
             None => false,
         }
     }
 
-    /// Whoever would draw at this frame draws its random address, if it is that of this RANDOMISE. Of any other nobody
-    /// knows what it draws.
-    fn draw(&mut self, frame: Forward, draw: usize) -> Result<(), BenchError> {
-        for gear in 0..self.gear() {
-            if self.would_draw(gear, frame) {
-                match self.place(gear) {
-                    Some(place) if place.draw == draw && place.short.is_none() => {
-                        if self.bench.draws.push(place.random).is_err() {
-                            return Err(BenchError::NoMemory);
-                        }
-                    }
-                    _ => self.lose(gear)?,
-                }
+    /// Whether a gear is meant.
+    fn is_meant(&self, number: usize, whom: &Whom, gear: u8) -> bool
+        requires { gear < 128 }
+    {
+        let Some(place) = self.place(gear) else {
+            return false;
+        };
+        let index = usize::from(gear);
+        let is_born = place.from <= number;
+        match whom {
+            Whom::Everyone => true,
+            Whom::NotEarly => !is_early(&place),
+            Whom::Coming => number > 0 && place.from == number && !self.lost[index],
+            Whom::Found => is_born && self.is_found(&place),
+            Whom::FoundResting => is_born && self.is_found(&place) && !self.on[index],
+            Whom::Missed => is_born && !self.on[index] && self.short(gear).is_none(),
+            Whom::Drawing => is_born && self.may_have_drawn(gear),
+            Whom::Under(short) => is_born && self.short(gear) == Some(*short),
+            Whom::Born => is_born,
+            Whom::Unheard => !self.heard[index],
+        }
+    }
+
+    fn deal(&mut self, at: u64, deed: Deed, gear: u8) -> Result<(), AllocError>
+        requires { gear < 128 }
+        ensures { OnOk result (frames_of self.new.steps.items ≡ frames_of self.old.steps.items) }
+    {
+        match deed {
+            Deed::On => self.set_power(at, gear, true),
+            Deed::Rest => self.set_power(at, gear, false),
+            Deed::Lose => self.lose(at, gear),
+            Deed::Expire => self.push(at, Move::Expire(gear)),
+        }
+    }
+
+    /// What becomes of some gear.
+    fn each(&mut self, now: Moment, whom: &Whom, deed: Deed) -> Result<(), AllocError>
+        ensures { OnOk result (frames_of self.new.steps.items ≡ frames_of self.old.steps.items) }
+    {
+        for gear in 0..128u8 {
+            if self.is_meant(now.number, whom, gear) {
+                self.deal(now.at, deed, gear)?;
             }
         }
         Ok(())
     }
 
-    /// Gear that are to be played from this item on.
-    fn come(&mut self, number: usize) -> Result<(), BenchError> {
-        for gear in 0..self.gear() {
-            if let Some(place) = self.place(gear) {
-                if number > 0 && place.from == number && !self.is_lost(gear) {
-                    self.set_power(gear, true)?;
-                }
-            }
+    fn is_due(&self, number: usize, gear: u8) -> bool
+        requires { gear < 128 }
+        ensures { result ≡ is_due number (slice_get self.now.places.now gear) (slice_index_or self.now.lost gear true) }
+    {
+        match self.place(gear) {
+            Some(place) => place.from <= number && !self.lost[usize::from(gear)],
+            None => false,
         }
-        Ok(())
-    }
-
-    fn is_lost(&self, gear: u8) -> bool {
-        let number = usize::from(gear);
-        number < GEAR_LIMIT && self.lost[number]
     }
 
     /// After TERMINATE the state of all gear is known.
-    fn wake(&mut self, number: usize) -> Result<(), BenchError> {
-        for gear in 0..self.gear() {
-            if let Some(place) = self.place(gear) {
-                if place.from <= number && !self.is_lost(gear) {
-                    self.set_power(gear, true)?;
-                }
+    fn wake(&mut self, now: Moment) -> Result<(), AllocError>
+        ensures frames { OnOk result (frames_of self.new.steps.items ≡ frames_of self.old.steps.items) }
+        ensures awake { OnOk result (IsAwake now.number self.new.places.now self.new.lost self.new.on) }
+    {
+        for gear in 0..128u8 {
+            if self.is_due(now.number, gear) {
+                self.set_power(now.at, gear, true)?;
             }
         }
         Ok(())
+    }
+
+    /// A gear that would draw at this frame draws its random address, if it is that of this RANDOMISE. Of any other
+    /// nobody knows what it draws.
+    fn draw_one(&mut self, at: u64, gear: u8, draw: Option<usize>) -> Result<(), AllocError>
+        requires { gear < 128 }
+        ensures { OnOk result (frames_of self.new.steps.items ≡ frames_of self.old.steps.items) }
+    {
+        match self.place(gear) {
+            Some(place) if place.draw == draw && place.short.is_none() => {
+                self.draws.push(place.random)
+            }
+            _ => self.lose(at, gear),
+        }
+    }
+
+    /// All gear that would draw at this frame, which is the RANDOMISE of this item, do so.
+    fn draw(&mut self, at: u64, frame: Forward, draw: Option<usize>) -> Result<(), AllocError>
+        ensures { OnOk result (frames_of self.new.steps.items ≡ frames_of self.old.steps.items) }
+    {
+        for gear in 0..128u8 {
+            if self.would_draw(gear, frame) {
+                self.draw_one(at, gear, draw)?;
+            }
+        }
+        Ok(())
+    }
+
+    /// A frame from before the capture.
+    fn put(&mut self, command: Command) -> Result<(), AllocError>
+        ensures { OnOk result (frames_of self.new.steps.items
+            ≡ frames_of self.old.steps.items ++ (early command ∷ [])) }
+    {
+        self.push(0, Move::Frame(command.write(), None))
+    }
+
+    /// The gear that drew their random address before the capture draw it.
+    fn draw_early(&mut self) -> Result<(), AllocError>
+        ensures { OnOk result (frames_of self.new.steps.items ≡ frames_of self.old.steps.items ++ early_frames true) }
+    {
+        self.put(Command::Initialise(Target::Unaddressed))?;
+        self.put(Command::Initialise(Target::Unaddressed))?;
+        self.put(Command::Randomise)?;
+        self.draw(0, Command::Randomise.write(), None)?;
+        self.put(Command::Randomise)?;
+        self.put(Command::Terminate)
+    }
+
+    /// What was before the capture; then all gear wait for the first TERMINATE.
+    fn begin(&mut self) -> Result<(), AllocError>
+        ensures { OnOk result (frames_of self.new.steps.items
+            ≡ frames_of self.old.steps.items ++ early_frames (list_any is_early self.old.places.now)) }
+    {
+        let now = Moment { at: 0, number: 0 };
+        if self.places.iter().any(|place| is_early(place)) {
+            self.each(now, &Whom::NotEarly, Deed::Rest)?;
+            self.draw_early()?;
+        }
+        self.each(now, &Whom::Everyone, Deed::Rest)
     }
 
     /// Time that passed before a frame.
-    fn pass(&mut self, item: &Item, frame: Forward) -> Result<(), BenchError> {
-        let bus = &self.reading.known.bus;
-        let is_late = bus.repeats(frame) && bus.is_late(item);
-        let is_over = bus.is_over(item, frame);
-        if is_late {
-            self.push(Move::Quiet)?;
+    fn pass(&mut self, now: Moment, item: &Item, frame: Forward) -> Result<(), AllocError>
+        ensures { OnOk result (frames_of self.new.steps.items ≡ frames_of self.old.steps.items) }
+    {
+        let bus = self.reading.known.bus;
+        if bus.repeats(frame) && bus.is_late(item) {
+            self.push(now.at, Move::Quiet)?;
         }
-        if is_over {
-            for gear in 0..self.gear() {
-                self.push(Move::Expire(gear))?;
-            }
+        if bus.is_over(item, frame) {
+            self.each(now, &Whom::Everyone, Deed::Expire)?;
         }
         Ok(())
     }
 
-    /// The gear at the search address is not known any more.
-    fn lose_found(&mut self) -> Result<(), BenchError> {
-        let search = self.reading.known.bus.search.number();
-        for gear in 0..self.gear() {
-            if let Some(place) = self.place(gear) {
-                if search == Some(place.random) {
-                    self.lose(gear)?;
-                }
-            }
+    /// A damaged frame: nobody knows who took it, and what it was. After TERMINATE it changes the state of no gear.
+    /// Else that of the gear at the search address is not known, nor that of any gear which is not heard before the
+    /// next TERMINATE.
+    fn spoil(&mut self, now: Moment, item: &Item, after: &[Item]) -> Result<(), AllocError>
+        ensures { OnOk result (frames_of self.new.steps.items ≡ frames_of self.old.steps.items) }
+    {
+        self.push(now.at, Move::Quiet)?;
+        let bus = self.reading.known.bus;
+        if bus.is_closed && bus.half.is_none() {
+            return Ok(());
         }
-        Ok(())
-    }
-
-    fn is_off(&self, gear: u8) -> bool {
-        let number = usize::from(gear);
-        number < GEAR_LIMIT && !self.on[number]
-    }
-
-    /// A gear whose state was not known may have got a short address, or lost it.
-    fn miss_address(&mut self) -> Result<(), BenchError> {
-        let search = self.reading.known.bus.search.number();
-        for gear in 0..self.gear() {
-            if let Some(place) = self.place(gear) {
-                if search == Some(place.random) && self.is_off(gear) {
-                    self.lose(gear)?;
-                }
-            }
-        }
-        Ok(())
-    }
-
-    /// A gear whose state was not known may have drawn, at the RANDOMISE of this number.
-    fn miss_draw(&mut self, draw: usize) -> Result<(), BenchError> {
-        for gear in 0..self.gear() {
-            if let Some(place) = self.place(gear) {
-                if place.draw <= draw && self.is_off(gear) && self.short(gear).is_none() {
-                    self.lose(gear)?;
-                }
-            }
-        }
-        Ok(())
-    }
-
-    /// A damaged frame: nobody knows who took it, and what it was. The state of gear is known again from TERMINATE on.
-    fn spoil(&mut self) -> Result<(), BenchError> {
-        self.push(Move::Quiet)?;
-        self.lose_found()?;
-        let draws = match self.reading.known.bus.half {
-            Some(first) => Command::read(first.frame) == Command::Randomise,
-            None => false,
-        };
-        for gear in 0..self.gear() {
-            if draws && self.short(gear).is_none() {
-                self.lose(gear)?;
-            }
-            self.set_power(gear, false)?;
-        }
-        Ok(())
+        self.each(now, &Whom::Found, Deed::Lose)?;
+        self.each(now, &Whom::Drawing, Deed::Lose)?;
+        self.heard = heard_later(self.places, &bus, item, after);
+        self.each(now, &Whom::Unheard, Deed::Rest)
     }
 
     /// RESET and SET SHORT ADDRESS.
-    fn forget(&mut self, whom: Option<Short>) -> Result<(), BenchError> {
-        for gear in 0..self.gear() {
-            if whom.is_none() || self.short(gear) == whom {
-                self.lose(gear)?;
-            }
+    fn forget(&mut self, now: Moment, short: Option<Short>) -> Result<(), AllocError>
+        ensures { OnOk result (frames_of self.new.steps.items ≡ frames_of self.old.steps.items) }
+    {
+        match short {
+            Some(short) => self.each(now, &Whom::Under(short), Deed::Lose),
+            None => self.each(now, &Whom::Born, Deed::Lose),
         }
-        Ok(())
+    }
+
+    /// RANDOMISE.
+    fn randomise(&mut self, now: Moment, item: &Item, frame: Forward) -> Result<(), AllocError>
+        ensures { OnOk result (frames_of self.new.steps.items ≡ frames_of self.old.steps.items) }
+    {
+        if self.reading.known.bus.completes(item, frame) {
+            self.each(now, &Whom::Missed, Deed::Lose)?;
+        }
+        self.draw(now.at, frame, Some(now.number))
     }
 
     /// What a frame makes unknown.
-    fn unlearn(&mut self, item: &Item, seen: Seen, frame: Forward) -> Result<(), BenchError> {
-        if let Change::Forgotten(whom) = change_of(&self.reading.known.bus, item, seen) {
-            self.forget(whom)?;
-        }
-        match Command::read(frame) {
-            Command::Randomise => {
-                let next = self.reading.draw.saturating_add(1);
-                if self.reading.known.bus.completes(item, frame) {
-                    self.miss_draw(next)?;
-                }
-                self.draw(frame, next)
+    fn unlearn(
+        &mut self,
+        now: Moment,
+        item: &Item,
+        seen: Seen,
+        frame: Forward,
+    ) -> Result<(), AllocError>
+        ensures { OnOk result (frames_of self.new.steps.items ≡ frames_of self.old.steps.items) }
+    {
+        match change_of(&self.reading.known.bus, item, seen) {
+            Change::Forgotten(short) => self.forget(now, short)?,
+            Change::Given(..) | Change::Erased(_) => {
+                // A gear whose state was not known may have got a short address, or lost it.
+                self.each(now, &Whom::FoundResting, Deed::Lose)?;
             }
-            Command::Program(_) => self.miss_address(),
-            _ => Ok(()),
+            Change::Nothing
+            | Change::Told(..)
+            | Change::Verified(_)
+            | Change::Answered(_)
+            | Change::Redrawn => {}
         }
+        if Command::read(frame) == Command::Randomise {
+            self.randomise(now, item, frame)?;
+        }
+        Ok(())
     }
 
     fn send(
         &mut self,
-        number: usize,
+        now: Moment,
         item: &Item,
         frame: Forward,
         answer: Answer,
-    ) -> Result<(), BenchError> {
-        self.come(number)?;
-        self.pass(item, frame)?;
-        self.unlearn(item, Seen::Sent(frame, answer), frame)?;
-        self.push(Move::Frame(frame, asked(frame, answer)))?;
-        match Command::read(frame) {
-            Command::Terminate => self.wake(number),
-            _ => Ok(()),
+    ) -> Result<(), AllocError>
+        ensures frames { OnOk result (frames_of self.new.steps.items
+            ≡ frames_of self.old.steps.items ++ (record { at = now.at; what = Frame frame (asked frame answer) } ∷ [])) }
+        ensures awake { terminates (command_of frame) ≡ true
+            → OnOk result (IsAwake now.number self.new.places.now self.new.lost self.new.on) }
+    {
+        self.each(now, &Whom::Coming, Deed::On)?;
+        self.pass(now, item, frame)?;
+        self.unlearn(now, item, Seen::Sent(frame, answer), frame)?;
+        self.push(now.at, Move::Frame(frame, asked(frame, answer)))?;
+        if Command::read(frame) == Command::Terminate {
+            self.wake(now)?;
         }
+        Ok(())
     }
 
-    /// An item of the capture, by its number.
-    fn take(&mut self, number: usize, item: &Item, seen: Seen) -> Result<(), BenchError> {
-        self.at = item.at;
+    /// An item of the capture, by its number; what is behind it.
+    fn take(
+        &mut self,
+        number: usize,
+        item: &Item,
+        seen: Seen,
+        after: &[Item],
+    ) -> Result<(), AllocError>
+        ensures frames { OnOk result (frames_of self.new.steps.items
+            ≡ frames_of self.old.steps.items ++ option_to_list (step_of item.now seen)) }
+        ensures awake { is_terminate seen ≡ true
+            → OnOk result (IsAwake number self.new.places.now self.new.lost self.new.on) }
+    {
+        let now = Moment {
+            at: item.at,
+            number,
+        };
         match seen {
-            Seen::Sent(frame, answer) => self.send(number, item, frame, answer)?,
-            Seen::Foreign => self.push(Move::Quiet)?,
-            Seen::Broken => self.spoil()?,
+            Seen::Sent(frame, answer) => self.send(now, item, frame, answer)?,
+            Seen::Foreign => self.push(now.at, Move::Quiet)?,
+            Seen::Broken => self.spoil(now, item, after)?,
             Seen::Replied | Seen::Stray => {}
         }
-        self.reading.take(number, item, seen);
+        self.reading.take(number, item, seen)
+    }
+
+    /// All items of the capture.
+    fn take_all(&mut self, items: &[Item]) -> Result<(), AllocError>
+        ensures { OnOk result (frames_of self.new.steps.items ≡ frames_of self.old.steps.items ++ frames_in None items.now) }
+    {
+        let mut before = None;
+        let mut rest = items;
+        let mut number: usize = 0;
+        while let [item, more @ ..] = rest {
+            self.take(number, item, seen_of(before, item, first_of(more)), more)?;
+            before = Some(*item);
+            rest = more;
+            number += 1;
+        }
         Ok(())
     }
 }
 
 impl Bench {
+    /// The bench of a capture that reveals these gear.
+    fn made(alloc: Global, places: Vec<Place>, items: &[Item]) -> Result<Bench, AllocError>
+        requires few { length places.items ≤ 128 }
+        requires gear { places.items ≡ places_in items.now }
+        ensures { IfOk result (λ b. IsBenchOf b items.now) }
+    {
+        let mut making = Making::new(alloc, places.as_slice());
+        making.begin()?;
+        making.take_all(items)?;
+        let Making {
+            steps,
+            draws,
+            unknown,
+            ..
+        } = making;
+        Ok(Bench {
+            places,
+            steps,
+            draws,
+            unknown,
+        })
+    }
+
     /// The bench of a capture.
-    pub fn of(alloc: Global, items: &[Item]) -> Result<Bench, BenchError> {
-        let places = places_of(alloc, items)?;
+    pub fn of(alloc: Global, items: &[Item]) -> Result<Bench, BenchError>
+        ensures bench { IfOk result (λ b. IsBenchOf b items.now) }
+        ensures many { IfErr result (λ e. e ≡ TooManyGear → 128 < length (places_in items.now)) }
+    {
+        let Ok(places) = places_of(alloc, items) else {
+            return Err(BenchError::NoMemory);
+        };
         if places.len() > GEAR_LIMIT {
             return Err(BenchError::TooManyGear);
         }
-        let mut making = Making::new(alloc, places);
-        making.begin()?;
-        making.bench.before = making.bench.steps.len();
-        for (number, item) in items.iter().enumerate() {
-            making.take(number, item, seen_at(items, number, item))?;
+        match Bench::made(alloc, places, items) {
+            Ok(bench) => Ok(bench),
+            Err(_) => Err(BenchError::NoMemory),
         }
-        let Making { bench, .. } = making;
-        Ok(bench)
     }
 
-    /// Whether it takes the frames of this capture after what came before, and has no more gear and other numbers than
-    /// a bench may have.
-    fn is_of(&self, items: &[Item]) -> bool
-        ensures { IsTrue result → IsBenchOf self.now.before self.now.steps.items self.now.draws.items
-            self.now.places.items items.now }
+    /// The first step at which something was heard that the gear did not answer.
+    pub fn compare(&self) -> Outcome
+        requires { length self.now.places.items ≤ 128 }
+        ensures { result ≡ compared 0 self.now.steps.items self.now.draws (gear_at_first self.now.places.items) }
     {
-        self.places.len() <= GEAR_LIMIT
-            && are_draws(self.draws.as_slice())
-            && take_frames(steps_from(self.steps.as_slice(), self.before), items)
-    }
-
-    /// The first step at which something was heard that the gear did not answer. The bench is that of these items: of
-    /// any other one the answer is that numbers are spent at once.
-    pub fn compare(&self, items: &[Item]) -> Outcome
-        ensures first { (result ≡ Spent 0) ⊎ (result
-            ≡ compared 0 self.now.steps.items self.now.draws.items (gear_at_first self.now.places.items)) }
-        ensures frames { result ≢ Spent 0 → IsBenchOf self.now.before self.now.steps.items self.now.draws.items
-            self.now.places.items items.now }
-    {
-        if !self.is_of(items) {
-            return Outcome::Spent(0);
-        }
         let mut row = row_of(self.places.as_slice());
         compare(&mut row, self.steps.as_slice(), self.draws.as_slice())
     }

@@ -2,22 +2,19 @@
 
 ghost use Rattle.std.specs.Prelude.{◌≡◌, Option};
 ghost use Rattle.dali_audit.specs.Bus.{same_frame, number, is_addressing, in_initialisation, repeats, late_by};
-ghost use Rattle.dali_audit.specs.Bus.{completes, bus_at_first, search_after, half_after, drawn_after, begun_after};
-ghost use Rattle.dali_audit.specs.Bus.{given_after, heard_under, high_heard, middle_heard, byte_heard, crowded_after};
-ghost use Rattle.dali_audit.specs.Bus.{spelled_after, redraws_after};
-ghost use Rattle.dali_audit.specs.Bus.{bus_after, is_over, is_crowded};
+ghost use Rattle.dali_audit.specs.Bus.{completes, bus_at_first, half_after, is_over, begun_after, begins, crowd};
+ghost use Rattle.dali_audit.specs.Bus.{is_crowded, high_heard, middle_heard, byte_heard, names_addressed, begun_by};
+ghost use Rattle.dali_audit.specs.Bus.{drawn_by, heard_by, searched_by, searches, sent_by, unless_addressing, passed};
+ghost use Rattle.dali_audit.specs.Bus.{bus_heard, frame_end, bus_after};
 
 use crate::seen::Seen;
-use dali_capture::Item;
+use dali_capture::{Heard, Item};
 use dali_frame::{Answer, Forward, Random24, Short};
 use dali_special::{Command, Part, Target};
 
 /// How long a pair may take, from the begin of its first frame to the end of its second, in µs (IEC 62386-101:2014,
 /// send-twice forward frames).
 pub const PAIR: u64 = 100_000;
-
-/// How long gear may take to draw a random address, in µs (IEC 62386-102:2014, RANDOMISE).
-pub const DRAW: u64 = 100_000;
 
 /// How long an initialisation lasts, in µs: 15 minutes (IEC 62386-102:2014, INITIALISE).
 pub const INITIALISATION: u64 = 900_000_000;
@@ -39,6 +36,17 @@ pub struct First {
     pub is_told: bool,
 }
 
+/// An INITIALISE that was complete.
+#[derive(Clone, Copy)]
+pub struct Begun {
+    /// When its second frame began.
+    pub at: u64,
+    /// When that was over.
+    pub until: u64,
+    /// Whether it was told that its time is over.
+    pub is_told: bool,
+}
+
 /// How much of a random address was heard under a short address, query by query.
 #[derive(Clone, Copy)]
 pub enum Spelled {
@@ -56,10 +64,14 @@ pub struct Bus {
     pub half: Option<First>,
     /// When RANDOMISE was complete, if no addressing command followed yet.
     pub drawn: Option<u64>,
-    /// When the last INITIALISE was complete, if no TERMINATE followed and its time was not told to be over.
-    pub begun: Option<u64>,
+    /// The last INITIALISE that was complete, if no TERMINATE followed.
+    pub begun: Option<Begun>,
+    /// Whether TERMINATE came, and since then nothing that may have begun an initialisation.
+    pub is_closed: bool,
     /// When PROGRAM SHORT ADDRESS began, if no addressing command followed yet.
     pub given: Option<u64>,
+    /// When the last frame was over, if what was heard last is one.
+    pub settled: Option<u64>,
     /// The search address under which several gear were heard, and nothing told them apart.
     pub crowded: Option<Random24>,
     pub spelled: Spelled,
@@ -78,7 +90,21 @@ pub(crate) fn same_frame(one: Forward, other: Forward) -> bool
 pub(crate) fn is_addressing(frame: Forward) -> bool
     ensures { result ≡ is_addressing frame }
 {
-    !matches!(Command::read(frame), Command::Arc(_) | Command::Other(_))
+    match Command::read(frame) {
+        Command::Terminate
+        | Command::Initialise(_)
+        | Command::Randomise
+        | Command::Compare
+        | Command::Withdraw
+        | Command::SearchHigh(_)
+        | Command::SearchMiddle(_)
+        | Command::SearchLow(_)
+        | Command::Program(_)
+        | Command::Verify(_)
+        | Command::QueryShort
+        | Command::RandomByte(..) => true,
+        Command::Arc(_) | Command::Other(_) => false,
+    }
 }
 
 /// Whether a frame is for gear in an initialisation alone.
@@ -133,6 +159,41 @@ fn byte_heard(short: Short, part: Part, answer: Answer, spelled: &Spelled) -> Sp
     }
 }
 
+fn names_addressed(target: Target) -> bool
+    ensures { result ≡ names_addressed target }
+{
+    match target {
+        Target::All | Target::Addressed(_) => true,
+        Target::Unaddressed => false,
+    }
+}
+
+fn begins(item: &Item) -> Begun
+    ensures { result ≡ begins item.now }
+{
+    Begun {
+        at: item.at,
+        until: item.until,
+        is_told: false,
+    }
+}
+
+fn unless_addressing(frame: Forward, time: Option<u64>) -> Option<u64>
+    ensures { result ≡ unless_addressing frame time }
+{
+    if is_addressing(frame) { None } else { time }
+}
+
+/// When a frame was over, from which on the bus settles.
+fn frame_end(item: &Item) -> Option<u64>
+    ensures { result ≡ frame_end item.now.what item.now.until }
+{
+    match item.what {
+        Heard::Forward(_) | Heard::Backward(_) | Heard::Device => Some(item.until),
+        Heard::Damaged => None,
+    }
+}
+
 impl Search {
     /// The search address, where the capture tells all of it.
     pub fn number(self) -> Option<Random24>
@@ -144,17 +205,18 @@ impl Search {
         }
     }
 
-    fn after(self, frame: Forward) -> Search
-        ensures { result ≡ search_after frame self }
+    fn searched(self, part: Part, byte: u8) -> Search
+        ensures { result ≡ searched_by part byte self }
     {
-        let mut search = self;
-        match Command::read(frame) {
-            Command::SearchHigh(byte) => search.high = Some(byte),
-            Command::SearchMiddle(byte) => search.middle = Some(byte),
-            Command::SearchLow(byte) => search.low = Some(byte),
-            _ => {}
+        let byte = Some(byte);
+        match part {
+            Part::High => Search { high: byte, ..self },
+            Part::Middle => Search {
+                middle: byte,
+                ..self
+            },
+            Part::Low => Search { low: byte, ..self },
         }
-        search
     }
 }
 
@@ -172,7 +234,9 @@ impl Bus {
             half: None,
             drawn: None,
             begun: None,
+            is_closed: false,
             given: None,
+            settled: None,
             crowded: None,
             spelled: Spelled::Nothing,
             may_redraw: true,
@@ -212,7 +276,9 @@ impl Bus {
     {
         match self.begun {
             Some(begun) => {
-                in_initialisation(frame) && item.at.saturating_sub(begun) > INITIALISATION
+                !begun.is_told
+                    && in_initialisation(frame)
+                    && item.at.saturating_sub(begun.until) > INITIALISATION
             }
             None => false,
         }
@@ -241,50 +307,70 @@ impl Bus {
         })
     }
 
-    fn drawn_after(&self, item: &Item, frame: Forward) -> Option<u64>
-        ensures { result ≡ drawn_after item.now frame self.now }
+    fn begun_after(&self, item: &Item, frame: Forward) -> Option<Begun>
+        ensures { result ≡ begun_after item.now frame self.now.begun }
     {
-        match Command::read(frame) {
-            Command::Randomise if self.completes(item, frame) => Some(item.until),
-            Command::Arc(_) | Command::Other(_) => self.drawn,
-            _ => None,
+        match self.begun {
+            Some(begun) if self.is_over(item, frame) => Some(Begun {
+                is_told: true,
+                ..begun
+            }),
+            _ => self.begun,
         }
     }
 
-    fn begun_after(&self, item: &Item, frame: Forward) -> Option<u64>
-        ensures { result ≡ begun_after item.now frame self.now }
+    /// What every forward frame changes.
+    fn passed(&self, item: &Item, frame: Forward) -> Bus
+        ensures { result ≡ passed item.now frame self.now }
     {
-        match Command::read(frame) {
-            Command::Terminate => None,
-            Command::Initialise(_) if self.completes(item, frame) => Some(item.until),
-            _ => {
-                if self.is_over(item, frame) {
-                    None
-                } else {
-                    self.begun
-                }
+        Bus {
+            half: self.half_after(item, frame),
+            begun: self.begun_after(item, frame),
+            drawn: unless_addressing(frame, self.drawn),
+            given: unless_addressing(frame, self.given),
+            ..*self
+        }
+    }
+
+    fn initialised(&self, target: Target, is_again: bool, is_second: bool, item: &Item) -> Bus
+        ensures { result ≡ begun_by target is_again is_second item.now self.now }
+    {
+        Bus {
+            begun: if is_second {
+                Some(begins(item))
+            } else {
+                self.begun
+            },
+            is_closed: self.is_closed && !is_again,
+            may_redraw: self.may_redraw || (is_second && names_addressed(target)),
+            ..*self
+        }
+    }
+
+    fn randomised(&self, is_second: bool, item: &Item) -> Bus
+        ensures { result ≡ drawn_by is_second item.now self.now }
+    {
+        let spelled = Spelled::Nothing;
+        if is_second {
+            Bus {
+                drawn: Some(item.until),
+                crowded: None,
+                spelled,
+                ..*self
             }
-        }
-    }
-
-    fn given_after(&self, item: &Item, frame: Forward) -> Option<u64>
-        ensures { result ≡ given_after item.now frame self.now }
-    {
-        match Command::read(frame) {
-            Command::Program(_) => Some(item.at),
-            Command::Arc(_) | Command::Other(_) => self.given,
-            _ => None,
+        } else {
+            Bus { spelled, ..*self }
         }
     }
 
     /// What an answer under the search address tells of how many gear are there.
-    fn heard_under(&self, answer: Answer) -> Option<Random24>
-        ensures { result ≡ heard_under answer self.now }
+    fn crowd(&self, answer: Answer) -> Option<Random24>
+        ensures { result ≡ crowd answer (number self.now.search) self.now.crowded }
     {
         let search = self.search.number();
         match answer {
             Answer::Damaged if search.is_some() => search,
-            _ => {
+            Answer::Damaged | Answer::Silence | Answer::Byte(_) => {
                 if self.crowded == search {
                     None
                 } else {
@@ -294,54 +380,72 @@ impl Bus {
         }
     }
 
-    fn crowded_after(&self, item: &Item, frame: Forward, answer: Answer) -> Option<Random24>
-        ensures { result ≡ crowded_after item.now frame answer self.now }
+    fn heard(&self, answer: Answer) -> Bus
+        ensures { result ≡ heard_by answer self.now }
     {
-        match Command::read(frame) {
-            Command::Compare | Command::QueryShort => self.heard_under(answer),
-            Command::Randomise if self.completes(item, frame) => None,
-            _ => self.crowded,
+        Bus {
+            crowded: self.crowd(answer),
+            ..*self
         }
     }
 
-    fn spelled_after(&self, frame: Forward, answer: Answer) -> Spelled
-        ensures { result ≡ spelled_after frame answer self.now }
+    fn searched(&self, part: Part, byte: u8) -> Bus
+        ensures { result ≡ searches part byte self.now }
     {
-        match Command::read(frame) {
-            Command::RandomByte(short, part) => byte_heard(short, part, answer, &self.spelled),
-            Command::Randomise | Command::Program(_) => Spelled::Nothing,
-            _ => self.spelled,
+        Bus {
+            search: self.search.searched(part, byte),
+            ..*self
         }
     }
 
-    fn redraws_after(&self, item: &Item, frame: Forward) -> bool
-        ensures { result ≡ redraws_after item.now frame self.now }
+    /// What each command changes.
+    fn sent(
+        &self,
+        command: Command,
+        is_again: bool,
+        is_second: bool,
+        item: &Item,
+        answer: Answer,
+    ) -> Bus
+        ensures { result ≡ sent_by command is_again is_second item.now answer self.now }
     {
-        match Command::read(frame) {
-            Command::Terminate => false,
-            Command::Program(_) => true,
-            Command::Initialise(Target::All | Target::Addressed(_)) => {
-                self.may_redraw || self.completes(item, frame)
-            }
-            _ => self.may_redraw,
+        match command {
+            Command::Terminate => Bus {
+                begun: None,
+                is_closed: true,
+                may_redraw: false,
+                ..*self
+            },
+            Command::Initialise(target) => self.initialised(target, is_again, is_second, item),
+            Command::Randomise => self.randomised(is_second, item),
+            Command::Compare | Command::QueryShort => self.heard(answer),
+            Command::SearchHigh(byte) => self.searched(Part::High, byte),
+            Command::SearchMiddle(byte) => self.searched(Part::Middle, byte),
+            Command::SearchLow(byte) => self.searched(Part::Low, byte),
+            Command::Program(_) => Bus {
+                given: Some(item.at),
+                spelled: Spelled::Nothing,
+                may_redraw: true,
+                ..*self
+            },
+            Command::RandomByte(short, part) => Bus {
+                spelled: byte_heard(short, part, answer, &self.spelled),
+                ..*self
+            },
+            Command::Withdraw | Command::Verify(_) | Command::Arc(_) | Command::Other(_) => *self,
         }
     }
 
-    /// After an item.
-    pub fn after(&self, item: &Item, seen: Seen) -> Bus
-        ensures { result ≡ bus_after item.now seen self.now }
+    fn heard_of(&self, item: &Item, seen: Seen) -> Bus
+        ensures { result ≡ bus_heard item.now seen self.now }
     {
         match seen {
-            Seen::Sent(frame, answer) => Bus {
-                search: self.search.after(frame),
-                half: self.half_after(item, frame),
-                drawn: self.drawn_after(item, frame),
-                begun: self.begun_after(item, frame),
-                given: self.given_after(item, frame),
-                crowded: self.crowded_after(item, frame, answer),
-                spelled: self.spelled_after(frame, answer),
-                may_redraw: self.redraws_after(item, frame),
-            },
+            Seen::Sent(frame, answer) => {
+                let is_again = self.repeats(frame);
+                let is_second = self.completes(item, frame);
+                self.passed(item, frame)
+                    .sent(Command::read(frame), is_again, is_second, item, answer)
+            }
             Seen::Foreign => Bus {
                 half: None,
                 ..*self
@@ -349,9 +453,20 @@ impl Bus {
             Seen::Broken => Bus {
                 half: None,
                 given: None,
+                is_closed: false,
                 ..*self
             },
             Seen::Replied | Seen::Stray => *self,
+        }
+    }
+
+    /// After an item.
+    pub fn after(&self, item: &Item, seen: Seen) -> Bus
+        ensures { result ≡ bus_after item.now seen self.now }
+    {
+        Bus {
+            settled: frame_end(item),
+            ..self.heard_of(item, seen)
         }
     }
 }

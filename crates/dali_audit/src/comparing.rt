@@ -57,7 +57,18 @@ fn is_possible(command: &Command, byte: u8) -> bool
 {
     match command {
         Command::Compare | Command::Verify(_) => byte == 0xFF,
-        _ => true,
+        Command::QueryShort
+        | Command::RandomByte(..)
+        | Command::Terminate
+        | Command::Initialise(_)
+        | Command::Randomise
+        | Command::Withdraw
+        | Command::SearchHigh(_)
+        | Command::SearchMiddle(_)
+        | Command::SearchLow(_)
+        | Command::Program(_)
+        | Command::Arc(_)
+        | Command::Other(_) => true,
     }
 }
 

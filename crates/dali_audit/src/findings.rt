@@ -12,6 +12,10 @@ pub enum Kind {
     DamagedAnswer,
     /// A backward frame where nobody may answer.
     UnaskedAnswer,
+    /// An answer that gear give in an initialisation alone, when none is in force.
+    NotInitialised,
+    /// A forward frame too soon after the end of the frame before.
+    SettlingTime,
     /// The first frame of a pair, after which another frame came.
     HalfPair,
     /// The second frame of a pair ended more than 100 ms after the first one began.
@@ -20,32 +24,43 @@ pub enum Kind {
     EarlyFrame,
     /// A command for gear in an initialisation, more than 15 minutes after the last INITIALISE.
     InitialisationOver,
-    /// PROGRAM SHORT ADDRESS, and the next addressing command does not ask for it.
+    /// PROGRAM SHORT ADDRESS, and the next addressing command of the transaction does not ask for it.
     NotQueried,
+    /// PROGRAM SHORT ADDRESS at a search address at which no gear answered.
+    NotFound,
     /// PROGRAM SHORT ADDRESS at a search address under which several gear were heard.
     SeveralProgrammed,
     /// PROGRAM SHORT ADDRESS of an address under which another gear was heard.
     AddressTaken,
+    /// PROGRAM SHORT ADDRESS of a gear that was given another one and heard under it.
+    AddressMoved,
     /// Two random addresses were heard under one short address.
     TwoRandomAddresses,
     /// One random address was heard under two short addresses.
     TwoShortAddresses,
+    /// INITIALISE, and no TERMINATE until the capture ends.
+    NotTerminated,
 }
 
-/// All of them, in the order in which they are told of one item.
-pub const KINDS: [Kind; 12] = [
+/// All of them, in the order in which they are told of one item; the last one is told of the end alone.
+pub const KINDS: [Kind; 17] = [
     Kind::DamagedFrame,
     Kind::DamagedAnswer,
     Kind::UnaskedAnswer,
+    Kind::NotInitialised,
+    Kind::SettlingTime,
     Kind::HalfPair,
     Kind::LatePair,
     Kind::EarlyFrame,
     Kind::InitialisationOver,
     Kind::NotQueried,
+    Kind::NotFound,
     Kind::SeveralProgrammed,
     Kind::AddressTaken,
+    Kind::AddressMoved,
     Kind::TwoRandomAddresses,
     Kind::TwoShortAddresses,
+    Kind::NotTerminated,
 ];
 
 impl Kind {
@@ -57,15 +72,20 @@ impl Kind {
             Kind::DamagedFrame => "damaged-frame",
             Kind::DamagedAnswer => "damaged-answer",
             Kind::UnaskedAnswer => "unasked-answer",
+            Kind::NotInitialised => "not-initialised",
+            Kind::SettlingTime => "settling-time",
             Kind::HalfPair => "half-pair",
             Kind::LatePair => "late-pair",
             Kind::EarlyFrame => "early-frame",
             Kind::InitialisationOver => "initialisation-over",
             Kind::NotQueried => "not-queried",
+            Kind::NotFound => "not-found",
             Kind::SeveralProgrammed => "several-programmed",
             Kind::AddressTaken => "address-taken",
+            Kind::AddressMoved => "address-moved",
             Kind::TwoRandomAddresses => "two-random-addresses",
             Kind::TwoShortAddresses => "two-short-addresses",
+            Kind::NotTerminated => "not-terminated",
         }
     }
 }

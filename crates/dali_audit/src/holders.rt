@@ -1,7 +1,7 @@
 //! Who has which short address, as far as a capture shows.
 
 ghost use Rattle.std.specs.Prelude.{◌≡◌, map};
-ghost use Rattle.dali_audit.specs.Holders.{given, was_given, left_by, told};
+ghost use Rattle.dali_audit.specs.Holders.{given, was_given, was_confirmed, is_confirmed, left_by, told};
 ghost use Rattle.dali_audit.specs.Holders.{passed_on, answered, verified, redrawn, renewed};
 ghost use Rattle.dali_audit.specs.Holders.{swept, short_in};
 ghost use Rattle.dali_audit.specs.Holders.{program_change, short_change, byte_change, verify_change, forgets};
@@ -103,9 +103,9 @@ fn byte_change(spelled: &Spelled, short: Short, part: Part, answer: Answer) -> C
     ensures { result ≡ byte_change spelled.now short part answer }
 {
     match (answer, part) {
-        (Answer::Silence, _) => Change::Nothing,
+        (Answer::Silence | Answer::Damaged, _) => Change::Nothing,
         (Answer::Byte(low), Part::Low) => low_change(spelled, short, low),
-        (Answer::Byte(_) | Answer::Damaged, _) => Change::Answered(short),
+        (Answer::Byte(_), Part::High | Part::Middle) => Change::Answered(short),
     }
 }
 
@@ -114,9 +114,8 @@ fn verify_change(short: Short, answer: Answer) -> Change
     ensures { result ≡ verify_change short answer }
 {
     match answer {
-        Answer::Silence => Change::Nothing,
+        Answer::Silence | Answer::Damaged => Change::Nothing,
         Answer::Byte(_) => Change::Verified(short),
-        Answer::Damaged => Change::Answered(short),
     }
 }
 
@@ -221,6 +220,17 @@ impl Holder {
         match self {
             Holder::Programmed(own) | Holder::Verified(own) => *own == random,
             Holder::Nobody | Holder::Somebody | Holder::Answered(_) => false,
+        }
+    }
+
+    /// Whether it was programmed at this search address, and then heard.
+    pub(crate) fn was_confirmed(&self, random: Random24) -> bool
+        ensures { result ≡ was_confirmed random self.now }
+    {
+        match self {
+            Holder::Verified(own) => *own == random,
+            Holder::Programmed(_) | Holder::Answered(_) | Holder::Nobody | Holder::Somebody =>
+                false,
         }
     }
 
@@ -389,6 +399,15 @@ impl Table {
         self.holders
             .iter()
             .any(|holder| holder.heard() == Some(random))
+    }
+
+    /// Whether the gear that has this random address was programmed and heard under some short address.
+    pub(crate) fn is_confirmed(&self, random: Random24) -> bool
+        ensures { result ≡ is_confirmed random self.now }
+    {
+        self.holders
+            .iter()
+            .any(|holder| holder.was_confirmed(random))
     }
 
     fn sweep(&mut self, change: &Change)

@@ -1,7 +1,8 @@
 //! A bench of a capture as a script, which `dali_sim replay` plays.
 #![tactic(auto, using(std::proofs::lemmas::List::append_assoc))]
 
-ghost use Rattle.std.specs.Prelude.{◌≡◌, ◌++◌, OnOk, string_bytes};
+ghost use Rattle.std.specs.Prelude.{◌≡◌, ◌++◌, OnOk, IfOk, string_bytes};
+ghost use Rattle.dali_audit.specs.Script.{bench_head, script_text};
 ghost use Rattle.dali_audit.specs.Script.{step_text, steps_text, used_text, all_used_text, draws_text};
 
 use crate::bench::Bench;
@@ -69,23 +70,33 @@ fn push_draws(text: &mut String, draws: &[Random24]) -> Result<(), AllocError>
     Ok(())
 }
 
-fn push_bench(text: &mut String, bench: &Bench) -> Result<(), AllocError> {
-    let count = bench.places.len();
+/// What a script has before the steps.
+fn push_head(text: &mut String, places: &[Place], draws: &[Random24]) -> Result<(), AllocError>
+    ensures { OnOk result (string_bytes text.new ≡ string_bytes text.old ++ bench_head places.now draws.now) }
+{
+    let count = places.len();
     // A script has one gear at least. Where none is known, that one has no power.
     if count == 0 {
-        text.push_str("bench 1\ndraws\noff 0\n")?;
-    } else {
-        write!(text, "bench {count}\ndraws")?;
-        push_draws(text, bench.draws.as_slice())?;
-        text.push_str("\n")?;
-        push_all_used(text, bench.places.as_slice())?;
+        return text.push_str("bench 1\ndraws\noff 0\n");
     }
+    write!(text, "bench {count}\ndraws")?;
+    push_draws(text, draws)?;
+    text.push_str("\n")?;
+    push_all_used(text, places)
+}
+
+fn push_bench(text: &mut String, bench: &Bench) -> Result<(), AllocError>
+    ensures { OnOk result (string_bytes text.new ≡ string_bytes text.old ++ script_text bench.now) }
+{
+    push_head(text, bench.places.as_slice(), bench.draws.as_slice())?;
     push_steps(text, bench.steps.as_slice())
 }
 
 impl Bench {
     /// The bench as a script, of at most 1,048,576 bytes.
-    pub fn script(&self, alloc: Global) -> Result<String, BenchError> {
+    pub fn script(&self, alloc: Global) -> Result<String, BenchError>
+        ensures { IfOk result (λ text. string_bytes text ≡ script_text self.now) }
+    {
         let mut text = String::new(alloc);
         if push_bench(&mut text, self).is_err() {
             return Err(BenchError::NoMemory);

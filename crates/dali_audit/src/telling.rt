@@ -2,26 +2,42 @@
 
 ghost use Rattle.std.specs.Prelude.{◌≡◌, ◌++◌, OnOk};
 ghost use Rattle.dali_audit.specs.Findings.{at_where, is_broken, is_stray, damaged_answer, half_pair, late_pair};
-ghost use Rattle.dali_audit.specs.Findings.{early_frame};
-ghost use Rattle.dali_audit.specs.Findings.{initialisation_over, not_queried, several_programmed, address_taken};
-ghost use Rattle.dali_audit.specs.Findings.{two_random, two_short, told_at, told_of, known_after};
-ghost use Rattle.dali_audit.specs.Findings.{asks_for_short, breaks, known_at_first};
+ghost use Rattle.dali_audit.specs.Findings.{not_initialised, asks_initialised, too_close, settling_time, early_frame};
+ghost use Rattle.dali_audit.specs.Findings.{initialisation_over, asks_short, needs_search, is_soon, goes_on};
+ghost use Rattle.dali_audit.specs.Findings.{not_queried, unasked_by, programs_at, is_found, not_found};
+ghost use Rattle.dali_audit.specs.Findings.{several_programmed, address_taken, address_moved, not_terminated};
+ghost use Rattle.dali_audit.specs.Findings.{two_random, two_short, told_at, told_of, told_by, found_at, known_after};
+ghost use Rattle.dali_audit.specs.Findings.{breaks, known_at_first};
 ghost use Rattle.dali_audit.specs.Holders.{change_of};
+ghost use Rattle.dali_special.specs.Command.{command_of};
+ghost use Rattle.dali_audit.specs.declared.findings.Kind.TheVariants as kind;
 
-use crate::bus::{Bus, DRAW, is_addressing, same_frame};
+use crate::bus::{Bus, in_initialisation, is_addressing, same_frame};
 use crate::findings::{Finding, Kind};
+use crate::found::Found;
 use crate::holders::{Change, Table, change_of};
 use crate::seen::Seen;
 use dali_capture::Item;
-use dali_frame::{Answer, Forward};
+use dali_frame::{Answer, Forward, Random24};
 use dali_special::Command;
-use std::alloc::AllocError;
+use std::alloc::{AllocError, Global};
+
+/// From the end of a frame to the next forward frame, in µs: 13.5 ms, less a tenth (IEC 62386-101:2014, multi-master
+/// transmitter frame sequence timing).
+const SETTLING: u64 = 12_150;
+
+/// How long gear may take to draw a random address, in µs: 100 ms, less a tenth (IEC 62386-102:2014, RANDOMISE).
+const DRAW: u64 = 90_000;
+
+/// From the end of a frame to the next one of the same transaction, in µs: between priorities 1 and 3.
+const SOON: u64 = 15_500;
 
 /// What a capture tells up to an item: of the bus, and of who has which short address.
 #[derive(Drop)]
 pub struct Known {
     pub bus: Bus,
     pub table: Table,
+    pub found: Found,
 }
 
 fn at_where(holds: bool, at: u64) -> Option<u64>
@@ -57,6 +73,43 @@ fn damaged_answer(item: &Item, seen: Seen) -> Option<u64>
             command => at_where(command.is_question(), item.at),
         },
         _ => None,
+    }
+}
+
+/// Whether gear answer a frame in an initialisation alone.
+fn asks_initialised(frame: Forward) -> bool
+    ensures { result ≡ asks_initialised (command_of frame) }
+{
+    in_initialisation(frame) && Command::read(frame).is_question()
+}
+
+fn not_initialised(bus: &Bus, item: &Item, seen: Seen) -> Option<u64>
+    ensures { result ≡ not_initialised bus.now item.now seen }
+{
+    match seen {
+        Seen::Sent(frame, answer) => {
+            let is_answered = asks_initialised(frame) && answer != Answer::Silence;
+            at_where(bus.is_closed && is_answered, item.at)
+        }
+        Seen::Replied | Seen::Stray | Seen::Foreign | Seen::Broken => None,
+    }
+}
+
+fn too_close(settled: Option<u64>, item: &Item) -> Option<u64>
+    ensures { result ≡ too_close settled item.now }
+{
+    match settled {
+        Some(settled) => at_where(item.at.saturating_sub(settled) < SETTLING, item.at),
+        None => None,
+    }
+}
+
+fn settling_time(bus: &Bus, item: &Item, seen: Seen) -> Option<u64>
+    ensures { result ≡ settling_time bus.now item.now seen }
+{
+    match seen {
+        Seen::Sent(..) | Seen::Foreign => too_close(bus.settled, item),
+        Seen::Replied | Seen::Stray | Seen::Broken => None,
     }
 }
 
@@ -111,35 +164,114 @@ fn initialisation_over(bus: &Bus, item: &Item, seen: Seen) -> Option<u64>
 }
 
 /// Whether a frame asks for a short address, or asks somebody under it.
-fn asks_for_short(frame: Forward) -> bool
-    ensures { result ≡ asks_for_short frame }
+fn asks_short(command: &Command) -> bool
+    ensures { result ≡ asks_short command.now }
 {
-    matches!(
-        Command::read(frame),
-        Command::QueryShort | Command::Verify(_) | Command::RandomByte(..)
+    match command {
+        Command::QueryShort | Command::Verify(_) | Command::RandomByte(..) => true,
+        Command::Terminate
+        | Command::Initialise(_)
+        | Command::Randomise
+        | Command::Compare
+        | Command::Withdraw
+        | Command::SearchHigh(_)
+        | Command::SearchMiddle(_)
+        | Command::SearchLow(_)
+        | Command::Program(_)
+        | Command::Arc(_)
+        | Command::Other(_) => false,
+    }
+}
+
+/// Whether a frame is for the gear at the search address.
+fn needs_search(command: &Command) -> bool
+    ensures { result ≡ needs_search command.now }
+{
+    match command {
+        Command::Compare | Command::Withdraw | Command::Program(_) | Command::QueryShort => true,
+        Command::Terminate
+        | Command::Initialise(_)
+        | Command::Randomise
+        | Command::SearchHigh(_)
+        | Command::SearchMiddle(_)
+        | Command::SearchLow(_)
+        | Command::Verify(_)
+        | Command::RandomByte(..)
+        | Command::Arc(_)
+        | Command::Other(_) => false,
+    }
+}
+
+fn is_soon(settled: Option<u64>, at: u64) -> bool
+    ensures { result ≡ is_soon settled at }
+{
+    match settled {
+        Some(settled) => at.saturating_sub(settled) <= SOON,
+        None => false,
+    }
+}
+
+/// Whether a frame belongs to the transaction of the one before.
+fn goes_on(bus: &Bus, item: &Item, command: &Command) -> bool
+    ensures { result ≡ goes_on bus.now item.now command.now }
+{
+    is_soon(bus.settled, item.at) || needs_search(command)
+}
+
+fn unasked_by(given: u64, bus: &Bus, item: &Item, frame: Forward) -> Option<u64>
+    ensures { result ≡ unasked_by given bus.now item.now (command_of frame) }
+{
+    let command = Command::read(frame);
+    let is_asked = asks_short(&command);
+    at_where(
+        is_addressing(frame) && !is_asked && goes_on(bus, item, &command),
+        given,
     )
 }
 
-fn not_queried(bus: &Bus, seen: Seen) -> Option<u64>
-    ensures { result ≡ not_queried bus.now seen }
+fn not_queried(bus: &Bus, item: &Item, seen: Seen) -> Option<u64>
+    ensures { result ≡ not_queried bus.now item.now seen }
 {
     match (bus.given, seen) {
-        (Some(given), Seen::Sent(frame, _)) => {
-            at_where(is_addressing(frame) && !asks_for_short(frame), given)
-        }
+        (Some(given), Seen::Sent(frame, _)) => unasked_by(given, bus, item, frame),
         _ => None,
     }
 }
 
-fn several_programmed(bus: &Bus, item: &Item, seen: Seen) -> Option<u64>
-    ensures { result ≡ several_programmed bus.now item.now seen }
+/// The search address at which PROGRAM SHORT ADDRESS is sent, by what it changes.
+fn programs_at(change: &Change) -> Option<Random24>
+    ensures { result ≡ programs_at change.now }
+{
+    match change {
+        Change::Given(_, random) | Change::Erased(random) => Some(*random),
+        Change::Nothing
+        | Change::Told(..)
+        | Change::Verified(_)
+        | Change::Answered(_)
+        | Change::Redrawn
+        | Change::Forgotten(_) => None,
+    }
+}
+
+fn several_programmed(bus: &Bus, change: &Change) -> bool
+    ensures { result ≡ several_programmed bus.now change.now }
+{
+    programs_at(change).is_some() && bus.is_crowded()
+}
+
+/// The search address at which gear answer a question.
+fn found_at(bus: &Bus, seen: Seen) -> Option<Random24>
+    ensures { result ≡ found_at bus.now seen }
 {
     match seen {
-        Seen::Sent(frame, _) => match Command::read(frame) {
-            Command::Program(_) => at_where(bus.is_crowded(), item.at),
-            _ => None,
-        },
-        _ => None,
+        Seen::Sent(frame, answer) => {
+            if needs_search(&Command::read(frame)) && answer != Answer::Silence {
+                bus.search.number()
+            } else {
+                None
+            }
+        }
+        Seen::Replied | Seen::Stray | Seen::Foreign | Seen::Broken => None,
     }
 }
 
@@ -149,6 +281,27 @@ fn address_taken(table: &Table, change: &Change) -> bool
     match change {
         Change::Given(short, random) => table.holder(*short).is_other(*random),
         _ => false,
+    }
+}
+
+fn address_moved(table: &Table, change: &Change) -> bool
+    ensures { result ≡ address_moved table.now change.now }
+{
+    match change {
+        Change::Given(short, random) => {
+            !table.holder(*short).was_confirmed(*random) && table.is_confirmed(*random)
+        }
+        _ => false,
+    }
+}
+
+/// The begin of an initialisation that has no end.
+pub(crate) fn not_terminated(bus: &Bus) -> Option<u64>
+    ensures { result ≡ not_terminated bus.now }
+{
+    match bus.begun {
+        Some(begun) => Some(begun.at),
+        None => None,
     }
 }
 
@@ -177,12 +330,29 @@ fn two_short(table: &Table, change: &Change) -> bool
 
 impl Known {
     /// Before any item nothing is known.
-    pub fn new() -> Known
+    pub fn new(alloc: Global) -> Known
         ensures { result ≡ known_at_first }
     {
         Known {
             bus: Bus::new(),
             table: Table::new(),
+            found: Found::new(alloc),
+        }
+    }
+
+    /// Whether gear answered at this search address, or told that they have this random address.
+    fn is_found(&self, random: Random24) -> bool
+        ensures { result ≡ is_found self.now.found self.now.table random }
+    {
+        self.found.contains(random) || self.table.is_heard(random)
+    }
+
+    fn not_found(&self, change: &Change) -> bool
+        ensures { result ≡ not_found self.now change.now }
+    {
+        match programs_at(change) {
+            Some(random) => self.bus.begun.is_some() && !self.is_found(random),
+            None => false,
         }
     }
 
@@ -200,15 +370,28 @@ impl Known {
             Kind::DamagedFrame => at_where(is_broken(seen), item.at),
             Kind::DamagedAnswer => damaged_answer(item, seen),
             Kind::UnaskedAnswer => at_where(is_stray(seen), item.at),
+            Kind::NotInitialised => not_initialised(&self.bus, item, seen),
+            Kind::SettlingTime => settling_time(&self.bus, item, seen),
             Kind::HalfPair => half_pair(&self.bus, seen),
             Kind::LatePair => late_pair(&self.bus, item, seen),
             Kind::EarlyFrame => early_frame(&self.bus, item, seen),
             Kind::InitialisationOver => initialisation_over(&self.bus, item, seen),
-            Kind::NotQueried => not_queried(&self.bus, seen),
-            Kind::SeveralProgrammed => several_programmed(&self.bus, item, seen),
+            Kind::NotQueried => not_queried(&self.bus, item, seen),
+            Kind::NotFound => {
+                let change = self.change(item, seen);
+                at_where(self.not_found(&change), item.at)
+            }
+            Kind::SeveralProgrammed => {
+                let change = self.change(item, seen);
+                at_where(several_programmed(&self.bus, &change), item.at)
+            }
             Kind::AddressTaken => {
                 let change = self.change(item, seen);
                 at_where(address_taken(&self.table, &change), item.at)
+            }
+            Kind::AddressMoved => {
+                let change = self.change(item, seen);
+                at_where(address_moved(&self.table, &change), item.at)
             }
             Kind::TwoRandomAddresses => {
                 let change = self.change(item, seen);
@@ -218,6 +401,7 @@ impl Known {
                 let change = self.change(item, seen);
                 at_where(two_short(&self.table, &change), item.at)
             }
+            Kind::NotTerminated => None,
         }
     }
 
@@ -239,12 +423,28 @@ impl Known {
         Ok(())
     }
 
+    /// Notes what the end of the capture breaks.
+    pub(crate) fn tell_end(&self, findings: &mut Vec<Finding>) -> Result<(), AllocError>
+        ensures { OnOk result (findings.new.items
+            ≡ findings.old.items ++ told_by kind.NotTerminated (not_terminated self.now.bus)) }
+    {
+        if let Some(at) = not_terminated(&self.bus) {
+            findings.push(Finding {
+                at,
+                kind: Kind::NotTerminated,
+            })?;
+        }
+        Ok(())
+    }
+
     /// After an item.
-    pub fn take(&mut self, item: &Item, seen: Seen)
-        ensures { self.new ≡ known_after item.now seen self.old }
+    pub fn take(&mut self, item: &Item, seen: Seen) -> Result<(), AllocError>
+        ensures { OnOk result (self.new ≡ known_after item.now seen self.old) }
     {
         let change = self.change(item, seen);
+        let found = found_at(&self.bus, seen);
         self.table.take(&change);
         self.bus = self.bus.after(item, seen);
+        self.found.note(found)
     }
 }

@@ -9,14 +9,14 @@ use std::process::Abort;
 use std::test::Fail;
 
 /// Fails unless the gear of the bench may have answered all that was heard, and so many are known.
-fn agrees<R: Abort>(rt: &R, bench: &Bench, capture: &Capture, gear: usize) {
+fn agrees<R: Abort>(rt: &R, bench: &Bench, gear: usize) {
     assert_eq!(rt; bench.places.len(), gear);
-    assert_eq!(rt; bench.compare(capture.items.as_slice()), Outcome::Agrees);
+    assert_eq!(rt; bench.compare(), Outcome::Agrees);
 }
 
 /// Fails unless the first difference is at this time.
-fn differs_at<R: Abort>(rt: &R, bench: &Bench, capture: &Capture, at: u64) {
-    match bench.compare(capture.items.as_slice()) {
+fn differs_at<R: Abort>(rt: &R, bench: &Bench, at: u64) {
+    match bench.compare() {
         Outcome::Differs(step) => assert_eq!(rt; bench.steps[step].at, at),
         outcome => assert_eq!(rt; outcome, Outcome::Differs(0)),
     }
@@ -29,12 +29,7 @@ fn a_plain_commissioning_agrees(rt: HostRuntime) -> Result<(), Fail> {
     capture.give(0x123456, 0)?;
     capture.give(0x9ABCDE, 1)?;
     capture.tell(Command::Terminate)?;
-    agrees(
-        &rt,
-        &Bench::of(rt.alloc(), capture.items.as_slice())?,
-        &capture,
-        2,
-    );
+    agrees(&rt, &Bench::of(rt.alloc(), capture.items.as_slice())?, 2);
     Ok(())
 }
 
@@ -46,12 +41,7 @@ fn silence_of_a_gear_that_is_known_differs(rt: HostRuntime) -> Result<(), Fail> 
     capture.tell(Command::Compare)?;
     let at = capture.items[capture.items.len() - 1].at;
     capture.give(0x123456, 0)?;
-    differs_at(
-        &rt,
-        &Bench::of(rt.alloc(), capture.items.as_slice())?,
-        &capture,
-        at,
-    );
+    differs_at(&rt, &Bench::of(rt.alloc(), capture.items.as_slice())?, at);
     Ok(())
 }
 
@@ -61,20 +51,10 @@ fn an_answer_after_withdraw_is_of_somebody_else(rt: HostRuntime) -> Result<(), F
     capture.open()?;
     capture.give(0x123456, 0)?;
     capture.ask(Command::Compare, 0xFF)?;
-    agrees(
-        &rt,
-        &Bench::of(rt.alloc(), capture.items.as_slice())?,
-        &capture,
-        1,
-    );
+    agrees(&rt, &Bench::of(rt.alloc(), capture.items.as_slice())?, 1);
     capture.ask(Command::Compare, 0xFE)?;
     let at = capture.items[capture.items.len() - 2].at;
-    differs_at(
-        &rt,
-        &Bench::of(rt.alloc(), capture.items.as_slice())?,
-        &capture,
-        at,
-    );
+    differs_at(&rt, &Bench::of(rt.alloc(), capture.items.as_slice())?, at);
     Ok(())
 }
 
@@ -86,12 +66,7 @@ fn another_byte_differs(rt: HostRuntime) -> Result<(), Fail> {
     capture.ask(Command::RandomByte(short(5)?, Part::High), 0x12)?;
     capture.ask(Command::RandomByte(short(5)?, Part::Middle), 0x35)?;
     let at = capture.items[capture.items.len() - 2].at;
-    differs_at(
-        &rt,
-        &Bench::of(rt.alloc(), capture.items.as_slice())?,
-        &capture,
-        at,
-    );
+    differs_at(&rt, &Bench::of(rt.alloc(), capture.items.as_slice())?, at);
     Ok(())
 }
 
@@ -108,7 +83,7 @@ fn used_gear_and_gear_from_before_are_there(rt: HostRuntime) -> Result<(), Fail>
     capture.open()?;
     capture.give(0x654321, 1)?;
     let bench = Bench::of(rt.alloc(), capture.items.as_slice())?;
-    agrees(&rt, &bench, &capture, 3);
+    agrees(&rt, &bench, 3);
     assert_eq!(rt; bench.places[0].random, random(0x770001)?);
     assert_eq!(rt; bench.places[0].short, Some(short(9)?));
     assert_eq!(rt;
@@ -130,12 +105,7 @@ fn after_a_damaged_frame_gear_are_not_known(rt: HostRuntime) -> Result<(), Fail>
     capture.ask(Command::QueryShort, 0x01)?;
     capture.open()?;
     capture.give(0x654321, 1)?;
-    agrees(
-        &rt,
-        &Bench::of(rt.alloc(), capture.items.as_slice())?,
-        &capture,
-        2,
-    );
+    agrees(&rt, &Bench::of(rt.alloc(), capture.items.as_slice())?, 2);
     Ok(())
 }
 
@@ -187,6 +157,7 @@ fn a_judgement_has_a_head_findings_and_gear(rt: HostRuntime) -> Result<(), Fail>
     capture.open()?;
     capture.give(0x123456, 0)?;
     capture.give(0x9ABCDE, 0)?;
+    capture.tell(Command::Terminate)?;
     let judgement = Judgement::of(rt.alloc(), capture.items.as_slice())?;
     assert_eq!(rt; judgement.is_clean(), false);
     let mut text = String::new(rt.alloc());
@@ -205,19 +176,53 @@ fn a_judgement_has_a_head_findings_and_gear(rt: HostRuntime) -> Result<(), Fail>
     Ok(())
 }
 
-#[test]
-fn an_address_given_while_a_gear_is_not_known_is_missed(rt: HostRuntime) -> Result<(), Fail> {
+/// The bench of a capture with a damaged frame, at the search address of the gear 123456 or before any search; after it
+/// the gear gets its short address.
+fn disturbed<R: Abort + AllocGlobal>(rt: &R, is_found: bool) -> Result<Bench, Fail> {
     let mut capture = Capture::new(rt.alloc());
     capture.open()?;
-    capture.hear(14_000, 14_167, Heard::Damaged)?;
+    if is_found {
+        capture.search(0x123456)?;
+    }
+    capture.hear(14_000, 9_000, Heard::Damaged)?;
     capture.give(0x123456, 0)?;
-    // The gear has an address now, so it is not asked.
     capture.tell(Command::Terminate)?;
     capture.twice(Command::Initialise(Target::Unaddressed))?;
     capture.search(0xFFFFFE)?;
     capture.tell(Command::Compare)?;
-    let bench = Bench::of(rt.alloc(), capture.items.as_slice())?;
-    agrees(&rt, &bench, &capture, 1);
+    Ok(Bench::of(rt.alloc(), capture.items.as_slice())?)
+}
+
+#[test]
+fn a_gear_that_is_heard_after_a_damaged_frame_is_known(rt: HostRuntime) -> Result<(), Fail> {
+    let bench = disturbed(&rt, false)?;
+    agrees(&rt, &bench, 1);
+    assert_eq!(rt; bench.unknown, 0);
+    Ok(())
+}
+
+#[test]
+fn a_gear_at_the_search_address_of_a_damaged_frame_is_not_known(
+    rt: HostRuntime,
+) -> Result<(), Fail> {
+    let bench = disturbed(&rt, true)?;
+    agrees(&rt, &bench, 1);
     assert_eq!(rt; bench.unknown, 1);
+    Ok(())
+}
+
+#[test]
+fn after_terminate_a_damaged_frame_changes_no_gear(rt: HostRuntime) -> Result<(), Fail> {
+    let mut capture = Capture::new(rt.alloc());
+    capture.open()?;
+    capture.give(0x123456, 0)?;
+    capture.tell(Command::Terminate)?;
+    capture.hear(14_000, 9_000, Heard::Damaged)?;
+    // The gear is asked, and another byte is heard.
+    capture.ask(Command::RandomByte(short(0)?, Part::High), 0x77)?;
+    let at = capture.items[capture.items.len() - 2].at;
+    let bench = Bench::of(rt.alloc(), capture.items.as_slice())?;
+    assert_eq!(rt; bench.unknown, 0);
+    differs_at(&rt, &bench, at);
     Ok(())
 }

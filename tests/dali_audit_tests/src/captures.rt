@@ -47,6 +47,11 @@ impl Capture {
         self.now += micros;
     }
 
+    /// What is heard next begins so many µs earlier.
+    pub fn hurry(&mut self, micros: u64) {
+        self.now -= micros;
+    }
+
     /// A forward frame.
     pub fn frame(&mut self, frame: Forward) -> Result<(), Fail> {
         self.hear(14_000, 14_167, Heard::Forward(frame))
@@ -107,6 +112,12 @@ impl Capture {
         self.ask(Command::QueryShort, 2 * address + 1)
     }
 
+    /// The judge's word, after TERMINATE.
+    pub fn closed(&mut self, alloc: Global) -> Result<Audit, Fail> {
+        self.tell(Command::Terminate)?;
+        self.audit(alloc)
+    }
+
     /// The judge's word.
     pub fn audit(&self, alloc: Global) -> Result<Audit, Fail> {
         Ok(audit_items(alloc, self.items.as_slice())?)
@@ -119,5 +130,5 @@ pub fn told<R: Abort>(rt: &R, audit: &Audit, wanted: &[Kind]) {
     for (finding, kind) in audit.findings.iter().zip(wanted) {
         assert_eq!(rt; finding.kind, *kind);
     }
-    assert_eq!(rt; KINDS.len(), 12);
+    assert_eq!(rt; KINDS.len(), 17);
 }

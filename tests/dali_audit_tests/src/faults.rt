@@ -12,7 +12,7 @@ fn a_damaged_frame(rt: HostRuntime) -> Result<(), Fail> {
     capture.open()?;
     capture.hear(14_000, 9_000, Heard::Damaged)?;
     capture.give(0x123456, 0)?;
-    told(&rt, &capture.audit(rt.alloc())?, &[Kind::DamagedFrame]);
+    told(&rt, &capture.closed(rt.alloc())?, &[Kind::DamagedFrame]);
     Ok(())
 }
 
@@ -23,7 +23,7 @@ fn a_damaged_frame_in_place_of_the_second_of_a_pair(rt: HostRuntime) -> Result<(
     capture.tell(Command::Randomise)?;
     capture.hear(14_000, 9_000, Heard::Damaged)?;
     capture.open()?;
-    told(&rt, &capture.audit(rt.alloc())?, &[Kind::DamagedFrame]);
+    told(&rt, &capture.closed(rt.alloc())?, &[Kind::DamagedFrame]);
     Ok(())
 }
 
@@ -34,7 +34,7 @@ fn several_gear_answer_at_one_search_address(rt: HostRuntime) -> Result<(), Fail
     capture.search(0x123456)?;
     capture.ask_several(Command::Compare)?;
     capture.ask_several(Command::QueryShort)?;
-    told(&rt, &capture.audit(rt.alloc())?, &[Kind::DamagedAnswer]);
+    told(&rt, &capture.closed(rt.alloc())?, &[Kind::DamagedAnswer]);
     Ok(())
 }
 
@@ -47,7 +47,7 @@ fn an_answer_where_nobody_may_answer(rt: HostRuntime) -> Result<(), Fail> {
     capture.hear(7_000, 7_500, Heard::Backward(0xFF))?;
     told(
         &rt,
-        &capture.audit(rt.alloc())?,
+        &capture.closed(rt.alloc())?,
         &[Kind::UnaskedAnswer, Kind::UnaskedAnswer],
     );
     Ok(())
@@ -59,7 +59,8 @@ fn half_a_pair(rt: HostRuntime) -> Result<(), Fail> {
     capture.tell(Command::Terminate)?;
     capture.tell(Command::Initialise(Target::Unaddressed))?;
     capture.twice(Command::Randomise)?;
-    let audit = capture.audit(rt.alloc())?;
+    capture.wait(100_000);
+    let audit = capture.closed(rt.alloc())?;
     told(&rt, &audit, &[Kind::HalfPair]);
     // The time that is told is that of the half.
     assert_eq!(rt; audit.findings[0].at, capture.items[1].at);
@@ -75,7 +76,8 @@ fn a_pair_too_slow(rt: HostRuntime) -> Result<(), Fail> {
         capture.wait(pause - 14_000);
         capture.tell(Command::Initialise(Target::Unaddressed))?;
         capture.twice(Command::Randomise)?;
-        let audit = capture.audit(rt.alloc())?;
+        capture.wait(100_000);
+        let audit = capture.closed(rt.alloc())?;
         if is_late {
             told(&rt, &audit, &[Kind::LatePair]);
         } else {
@@ -92,7 +94,7 @@ fn randomise_followed_too_soon(rt: HostRuntime) -> Result<(), Fail> {
     capture.twice(Command::Initialise(Target::Unaddressed))?;
     capture.twice(Command::Randomise)?;
     capture.give(0x123456, 0)?;
-    told(&rt, &capture.audit(rt.alloc())?, &[Kind::EarlyFrame]);
+    told(&rt, &capture.closed(rt.alloc())?, &[Kind::EarlyFrame]);
     Ok(())
 }
 
@@ -105,7 +107,7 @@ fn an_initialisation_that_went_on(rt: HostRuntime) -> Result<(), Fail> {
     capture.give(0x9ABCDE, 1)?;
     told(
         &rt,
-        &capture.audit(rt.alloc())?,
+        &capture.closed(rt.alloc())?,
         &[Kind::InitialisationOver],
     );
     Ok(())
@@ -120,7 +122,7 @@ fn a_verify_left_out(rt: HostRuntime) -> Result<(), Fail> {
     capture.tell(Command::Program(Some(short(0)?)))?;
     capture.tell(Command::Withdraw)?;
     capture.give(0x9ABCDE, 1)?;
-    told(&rt, &capture.audit(rt.alloc())?, &[Kind::NotQueried]);
+    told(&rt, &capture.closed(rt.alloc())?, &[Kind::NotQueried]);
     Ok(())
 }
 
@@ -134,7 +136,11 @@ fn several_gear_get_one_address(rt: HostRuntime) -> Result<(), Fail> {
     capture.tell(Command::Compare)?;
     capture.search(0x123456)?;
     capture.program(0)?;
-    told(&rt, &capture.audit(rt.alloc())?, &[Kind::SeveralProgrammed]);
+    told(
+        &rt,
+        &capture.closed(rt.alloc())?,
+        &[Kind::SeveralProgrammed],
+    );
     Ok(())
 }
 
@@ -144,7 +150,7 @@ fn an_address_given_twice(rt: HostRuntime) -> Result<(), Fail> {
     capture.open()?;
     capture.give(0x123456, 0)?;
     capture.give(0x9ABCDE, 0)?;
-    told(&rt, &capture.audit(rt.alloc())?, &[Kind::AddressTaken]);
+    told(&rt, &capture.closed(rt.alloc())?, &[Kind::AddressTaken]);
     Ok(())
 }
 
@@ -154,7 +160,7 @@ fn an_address_given_although_somebody_answered(rt: HostRuntime) -> Result<(), Fa
     capture.ask(Command::RandomByte(short(0)?, Part::High), 0x77)?;
     capture.open()?;
     capture.give(0x123456, 0)?;
-    told(&rt, &capture.audit(rt.alloc())?, &[Kind::AddressTaken]);
+    told(&rt, &capture.closed(rt.alloc())?, &[Kind::AddressTaken]);
     Ok(())
 }
 
@@ -168,7 +174,7 @@ fn one_short_address_with_two_random_addresses(rt: HostRuntime) -> Result<(), Fa
     }
     told(
         &rt,
-        &capture.audit(rt.alloc())?,
+        &capture.closed(rt.alloc())?,
         &[Kind::TwoRandomAddresses],
     );
     Ok(())
@@ -182,6 +188,10 @@ fn one_random_address_with_two_short_addresses(rt: HostRuntime) -> Result<(), Fa
         capture.ask(Command::RandomByte(short(number)?, Part::Middle), 0x34)?;
         capture.ask(Command::RandomByte(short(number)?, Part::Low), 0x56)?;
     }
-    told(&rt, &capture.audit(rt.alloc())?, &[Kind::TwoShortAddresses]);
+    told(
+        &rt,
+        &capture.closed(rt.alloc())?,
+        &[Kind::TwoShortAddresses],
+    );
     Ok(())
 }

@@ -11,3 +11,5 @@ mod faults;
 mod own;
 #[cfg(test)]
 mod plain;
+#[cfg(test)]
+mod shortest;

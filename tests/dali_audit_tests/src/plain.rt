@@ -14,7 +14,7 @@ fn a_plain_commissioning_breaks_no_rule(rt: HostRuntime) -> Result<(), Fail> {
     capture.give(0x123456, 0)?;
     capture.give(0x9ABCDE, 1)?;
     capture.tell(Command::Terminate)?;
-    let audit = capture.audit(rt.alloc())?;
+    let audit = capture.closed(rt.alloc())?;
     told(&rt, &audit, &[]);
     assert_eq!(rt;
         audit.known.table.holder(short(0)?),
@@ -64,7 +64,7 @@ fn after_reset_nothing_is_known_of_a_gear(rt: HostRuntime) -> Result<(), Fail> {
             opcode_byte: 0x20,
         })?;
     }
-    let audit = capture.audit(rt.alloc())?;
+    let audit = capture.closed(rt.alloc())?;
     told(&rt, &audit, &[]);
     assert_eq!(rt; audit.known.table.holder(short(0)?), Holder::Nobody);
     assert_eq!(rt;
@@ -92,7 +92,7 @@ fn sensors_and_other_questions_break_no_rule(rt: HostRuntime) -> Result<(), Fail
     capture.hear(14_000, 20_800, Heard::Device)?;
     capture.hear(7_000, 7_500, Heard::Backward(0x04))?;
     capture.give(0x123456, 0)?;
-    told(&rt, &capture.audit(rt.alloc())?, &[]);
+    told(&rt, &capture.closed(rt.alloc())?, &[]);
     Ok(())
 }
 
@@ -105,10 +105,10 @@ fn an_answer_begins_in_its_time(rt: HostRuntime) -> Result<(), Fail> {
         (12_401, false),
     ] {
         let mut capture = Capture::new(rt.alloc());
-        capture.tell(Command::Terminate)?;
+        capture.open()?;
         capture.tell(Command::Compare)?;
         capture.hear(gap, 7_500, Heard::Backward(0xFF))?;
-        let audit = capture.audit(rt.alloc())?;
+        let audit = capture.closed(rt.alloc())?;
         if is_one {
             told(&rt, &audit, &[]);
         } else {
