@@ -1,4 +1,4 @@
-use Rattle.std.proofs.Common.{◌≡◌, ◌⊎◌, inl, inr, ℕ, ◌+◌, ◌-◌, ◌<◌, ◌≤◌, Bool, true, false, List, refl, sym, ap, subst, ◌∙◌, arith, Option, Some, None}
+use Rattle.std.proofs.Common.{◌≡◌, ℕ, ◌+◌, ◌-◌, ◌<◌, ◌≤◌, Bool, true, false, List, refl, sym, ap, subst, ◌∙◌, arith, Option, Some, None}
 use Rattle.std.specs.Prelude.{◌&&◌, ◌||◌, not, ◌==◌, nat_lt, if◌then◌else◌, unwrap_or}
 use Rattle.std.proofs.lemmas.Bool.Decides.{nat_tests}
 use Rattle.dali_frame.specs.declared.frames.Forward.{Forward}
@@ -6,7 +6,6 @@ use Rattle.dali_frame.specs.declared.frames.Answer.{Answer}
 use Rattle.dali_frame.specs.declared.frames.Answer.TheVariants.{Silence, Byte, Damaged}
 use Rattle.dali_frame.specs.declared.numbers.SearchAddress.{SearchAddress}
 use Rattle.dali_frame.specs.Short.{short_of}
-use Rattle.dali_frame.specs.Random.{value_of}
 use Rattle.dali_special.specs.declared.command.Part.TheVariants.{High, Middle, Low}
 use Rattle.dali_special.specs.declared.command.Target.TheVariants.{Unaddressed}
 use Rattle.dali_special.specs.declared.command.Command.{Command}
@@ -29,8 +28,8 @@ use Rattle.dali_audit.specs.declared.bus.First.{First}
 use Rattle.dali_audit.specs.declared.bus.Spelled.{Spelled}
 use Rattle.dali_audit.specs.declared.bus.Spelled.TheVariants as spelled
 use Rattle.dali_audit.specs.declared.bus.Bus.{Bus}
-use Rattle.dali_audit.specs.Bus.{number, repeats, completes, same_frame, late_by, addresses, begun_after, sent_by, byte_heard as spelled_on}
-use Rattle.dali_audit.specs.Bus.{same_place, same_number, told_apart, crowd, bus_after}
+use Rattle.dali_audit.specs.Bus.{number, repeats, completes, same_frame, addresses, begun_after, sent_by, byte_heard as spelled_on}
+use Rattle.dali_audit.specs.Bus.{same_place, same_number, told_apart, bus_after}
 use Rattle.dali_script.specs.Stages.{may_follow}
 use Rattle.dali_script.proofs.Giving.{may_give_by}
 use Rattle.dali_audited.specs.Undisturbed.{AwaitsMore}
@@ -146,7 +145,7 @@ by_command now drew f h b = refl
 same : (n : ℕ) → (n == n) ≡ true
 same n = grind (arith, nat_tests)
 
-same_frames : (f : Forward) → same_frame f f ≡ true
+pub same_frames : (f : Forward) → same_frame f f ≡ true
 same_frames f = rw (same f.address_byte, same f.opcode_byte) refl
 
 -- no pair is half, or this is its second frame, in time
@@ -194,7 +193,7 @@ module _ (Q P : Type 0) (F G : SearchAddress → Type 0) (L : SearchAddress → 
   Goes s c = Fits P G (MayGive b xs) s later (is_randomise c) (bus_by c again second (item_of now drew c f) f h bus)
 
   -- a stage that says nothing but that no pair is half
-  Plain : Stage → Type 0
+  abbrev Plain : Stage → Type 0
   Plain (stage.Unanswered r) = Unit {0}
   Plain (stage.Inconclusive r other) = Unit {0}
   Plain (stage.Found r a) = Unit {0}
@@ -211,7 +210,6 @@ module _ (Q P : Type 0) (F G : SearchAddress → Type 0) (L : SearchAddress → 
 
   plain_fits : (s : Stage) (c : Command) → Plain s → (bus_by c again second (item_of now drew c f) f h bus).half ≡ None
       → (bus_by c again second (item_of now drew c f) f h bus).drawn ≡ None → (bus_by c again second (item_of now drew c f) f h bus).given ≡ None → Goes s c
-  unfolding Plain
   plain_fits (stage.Unanswered r) c is half drawn given =
       record { half = half; drawn = drawn; given = given; search = tt; crowded = tt; spelled = tt; redraw = tt; quieted = tt; answered = tt; reserved = tt }
   plain_fits (stage.Inconclusive r other) c is half drawn given =
@@ -241,7 +239,7 @@ module _ (Q P : Type 0) (F G : SearchAddress → Type 0) (L : SearchAddress → 
   -- the first frame of a pair
   first_half : (c : Command) → command_of f ≡ c → is_send_twice c ≡ true → second ≡ false → bus.half ≡ None
       → later ≡ now + rest_before drew c + 14167 → IsHalf c later (half_by c second (item_of now drew c f) f bus.half)
-  first_half c e twice one none at = rw (twice, one, none) (f, now + rest_before drew c, e, at, refl)
+  first_half c e pairs one none at = rw (pairs, one, none) (f, now + rest_before drew c, e, at, refl)
 
   -- and its second
   second_half : (c : Command) → IsHalf c now bus.half → Paired bus.half f (item_of now drew c f).until
@@ -309,11 +307,11 @@ module _ (Q P : Type 0) (F G : SearchAddress → Type 0) (L : SearchAddress → 
 
   middle_told : (a : ℕ) (high : Option ℕ) (x : Answer) (sp : Spelled) → Told (stage.HighAsked a high) sp
       → Told (stage.MiddleAsked a (bytes_heard high x)) (spelled_on a Middle x sp)
-  middle_told a (Some high) Silence sp k = rw k refl
-  middle_told a (Some high) Damaged sp k = rw k refl
+  middle_told a (Some high) Silence sp k = refl
+  middle_told a (Some high) Damaged sp k = refl
   middle_told a (Some high) (Byte v) sp k = rw (k, same a) refl
-  middle_told a None Silence sp k = rw k refl
-  middle_told a None Damaged sp k = rw k refl
+  middle_told a None Silence sp k = refl
+  middle_told a None Damaged sp k = refl
   middle_told a None (Byte v) sp k = rw k refl
 
   middle_fits : (a c : ℕ) (high : Option ℕ) → c ≡ a → Fits Q F L (stage.HighAsked a high) now drew bus
@@ -408,24 +406,24 @@ module _ (Q P : Type 0) (F G : SearchAddress → Type 0) (L : SearchAddress → 
 -- ---------------------------------------------------------------- the end of a transaction
 pub leave : (Q : Type 0) (F : SearchAddress → Type 0) (L M : SearchAddress → ℕ → Type 0) (s : Stage) (now : ℕ) (drew : Bool) (bus : Bus) → (AwaitsMore s → ⊥)
     → Fits Q F L s now drew bus → Fits Q F M stage.Free now drew bus
-leave Q F L M stage.InitialisedOnce now drew bus no k = absurd (no tt)
-leave Q F L M stage.RandomisedOnce now drew bus no k = absurd (no tt)
-leave Q F L M (stage.Programmed r a) now drew bus no k = absurd (no tt)
-leave Q F L M stage.Free now drew bus no k =
+leave Q F L M stage.InitialisedOnce now drew bus whole k = absurd (whole tt)
+leave Q F L M stage.RandomisedOnce now drew bus whole k = absurd (whole tt)
+leave Q F L M (stage.Programmed r a) now drew bus whole k = absurd (whole tt)
+leave Q F L M stage.Free now drew bus whole k =
     record { half = k.half; drawn = k.drawn; given = k.given; search = tt; crowded = tt; spelled = tt; redraw = tt; quieted = tt; answered = tt; reserved = tt }
-leave Q F L M stage.Opened now drew bus no k =
+leave Q F L M stage.Opened now drew bus whole k =
     record { half = k.half; drawn = k.drawn; given = k.given; search = tt; crowded = tt; spelled = tt; redraw = tt; quieted = tt; answered = tt; reserved = tt }
-leave Q F L M stage.Over now drew bus no k =
+leave Q F L M stage.Over now drew bus whole k =
     record { half = k.half; drawn = k.drawn; given = k.given; search = tt; crowded = tt; spelled = tt; redraw = tt; quieted = tt; answered = tt; reserved = tt }
-leave Q F L M _ now drew bus no k =
+leave Q F L M _ now drew bus whole k =
     record { half = k.half; drawn = λ t e. absurd (let none = k.drawn in cc); given = k.given; search = tt; crowded = tt; spelled = tt; redraw = tt; quieted = tt; answered = tt; reserved = tt }
 
 -- a transaction after which no frame may follow awaits none
 pub ended : (b : Block) (xs : List Assignment) (s : Stage) → Reserved (MayGive b xs) s → may_follow b xs s ≡ false → AwaitsMore s → ⊥
-ended b xs stage.InitialisedOnce may no waits = cc
-ended b xs stage.RandomisedOnce may no waits = cc
-ended b xs (stage.Programmed r a) may no waits = let yes = may_give_by b xs r a may in cc
-ended b xs _ may no waits = waits
+ended b xs stage.InitialisedOnce may stops waits = cc
+ended b xs stage.RandomisedOnce may stops waits = cc
+ended b xs (stage.Programmed r a) may stops waits = let yes = may_give_by b xs r a may in cc
+ended b xs _ may stops waits = waits
 
 -- what is reserved is of no further account
 pub go_on : (Q : Type 0) (F : SearchAddress → Type 0) (L : SearchAddress → ℕ → Type 0) (s : Stage) (now : ℕ) (drew : Bool) (bus : Bus)

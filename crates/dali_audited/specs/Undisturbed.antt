@@ -1,5 +1,7 @@
-use Rattle.std.specs.Prelude.{◌≡◌, ℕ, ◌<◌, ◌≤◌, true, List, [], ◌∷◌}
+use Rattle.std.specs.Prelude.{◌≡◌, ℕ, ◌<◌, ◌≤◌, Bool, true, false, List, [], ◌∷◌}
 use Rattle.dali_frame.specs.Random.{value_of, MASK24}
+use Rattle.dali_special.specs.declared.command.Command.{Command}
+use Rattle.dali_special.specs.declared.command.Command.TheVariants.{Terminate, Initialise}
 use Rattle.dali_special.specs.declared.command.Command.TheVariants.{QueryShort}
 use Rattle.dali_special.specs.Command.{command_of}
 use Rattle.dali_gear.specs.declared.row.Reach.TheVariants.{Everyone}
@@ -7,6 +9,7 @@ use Rattle.dali_gear.specs.Row.{heard_of, answers_of}
 use Rattle.dali_script.specs.declared.stage.Stage.{Stage}
 use Rattle.dali_script.specs.declared.stage.Stage.TheVariants.{InitialisedOnce, RandomisedOnce}
 use Rattle.dali_script.specs.declared.stage.Stage.TheVariants.{Programmed}
+use Rattle.dali_script.specs.declared.trace.Entry.{Entry}
 use Rattle.dali_script.specs.Findings.{search_of}
 use Rattle.dali_script.specs.Stages.{stage_of}
 use Rattle.dali_events.specs.declared.event.Event.{Event}
@@ -15,7 +18,7 @@ use Rattle.dali_events.specs.Plan.{Plan}
 use Rattle.dali_events.specs.World.{World, start}
 use Rattle.dali_events.specs.Happens.{happens, trace_running, gives_up}
 use Rattle.dali_events.specs.Runs.{IsRun}
-use Rattle.dali_audited.specs.Capture.{time_of}
+use Rattle.dali_audited.specs.Capture.{frames_of, time_of}
 
 -- WHERE A TRANSACTION IS NOT TO BE LEFT: between the two frames of a pair, and before the query that
 -- asks for a short address that was programmed
@@ -51,8 +54,18 @@ abbrev pub DisturbNothing : World → List Event → Type 0
 DisturbNothing w [] = Unit {0}
 DisturbNothing w (e ∷ es) = DisturbsNothing w e × DisturbNothing (happens w e) es
 
+-- WHETHER AN INITIALISATION IS OPEN after these frames: INITIALISE opens one, TERMINATE closes it
+abbrev pub opened : Command → Bool → Bool
+opened Terminate open_before = false
+opened (Initialise target) open_before = true
+opened _ open_before = open_before
+
+abbrev pub is_open : Bool → List Entry → Bool
+is_open open_before [] = open_before
+is_open open_before (x ∷ xs) = is_open (opened (command_of x.frame) open_before) xs
+
 -- AN UNDISTURBED RUN, of gear from the factory, in at most 15 minutes: an initialisation is over
--- after that time (IEC 62386-102:2014, INITIALISE)
+-- after that time (IEC 62386-102:2014, INITIALISE). At its end none is open.
 abbrev pub QUARTER : ℕ
 QUARTER = 900000000
 
@@ -61,3 +74,4 @@ pub record IsUndisturbed (p : Plan) (capacity : ℕ) (log : List Event) : Type 0
   pub factory : p.used ≡ []
   pub calm : DisturbNothing (start p capacity) log
   pub in_time : time_of log ≤ QUARTER
+  pub closed : is_open false (frames_of log) ≡ false
