@@ -6,3 +6,4 @@ mod Idle
 mod Changes
 mod Whole
 mod Begin
+mod Worked
