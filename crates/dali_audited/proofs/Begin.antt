@@ -21,8 +21,7 @@ use Rattle.dali_audited.specs.Capture.{capture_of}
 use Rattle.dali_audited.specs.Undisturbed.{IsUndisturbed}
 use Rattle.dali_audited.specs.Tables.{Holds, IsTableOf}
 use Rattle.dali_audited.proofs.Grammar.{Fits}
-use Rattle.dali_audited.proofs.Whole.{Agrees, Met, Any, IsToldOf, whole}
-use Rattle.dali_audited.proofs.Idle.{NoneHalf}
+use Rattle.dali_audited.proofs.Whole.{Agrees, Ended, Met, Any, IsToldOf, whole}
 
 -- A RUN BEGINS: nobody stands in the table, and gear from the factory have no short address
 
@@ -42,11 +41,11 @@ none_holds p capacity factory g a has = go (row_at p g (subst (λ n. g < n) (sta
   go (inl k) = unused p.used k.0 factory k.1
   go (inr k) = let none : (gear_of (start p capacity).gear g).short ≡ None = ap (λ (x : Gear). x.short) k in let some = has.1 in cc
 
-begins : (p : Plan) (plan : IsPlan p) (capacity : ℕ) → p.used ≡ [] → Agrees p (start p capacity) 0 false false known_at_first
+begins : (p : Plan) (plan : IsPlan p) (capacity : ℕ) → p.used ≡ [] → Agrees p (start p capacity) 0 false None known_at_first
 begins p plan capacity factory = record {
   holds = holds_start p plan capacity;
   idle = λ e. refl;
-  fits = subst (λ z. Fits (NoneHalf (start p capacity).gear) (Met (start p capacity).gear []) Any z 0 false bus_at_first) (sym stage_none) (record {
+  fits = subst (λ z. Fits (Ended (start p capacity).gear bus_at_first) (Met (start p capacity).gear []) Any z 0 false bus_at_first) (sym stage_none) (record {
     half = refl;
     drawn = λ t e. absurd (cc);
     given = refl;
@@ -60,7 +59,7 @@ begins p plan capacity factory = record {
   });
   settled = λ t e. absurd (cc);
   closed = λ e. absurd (cc);
-  begun = λ e. refl;
+  begun = λ y e. absurd (cc);
   table = record {
     true_of = λ a some. absurd (some (nobody_at a));
     has = λ g a has. absurd (none_holds p capacity factory g a has);
@@ -71,7 +70,7 @@ begins p plan capacity factory = record {
 told : (p : Plan) (capacity : ℕ) (log : List Event) (is : IsUndisturbed p capacity log)
     → IsToldOf p is.run.plan log (start p capacity) known_at_first None (capture_of log)
 told p capacity log is =
-    whole p is.run.plan (start p capacity) log 0 false false known_at_first None is.run.allowed is.run.leaves is.calm is.in_time is.closed
+    whole p is.run.plan (start p capacity) log 0 false None known_at_first None is.run.allowed is.run.leaves is.calm is.in_time
     (begins p is.run.plan capacity is.factory)
 
 pub no_finding : (p : Plan) (capacity : ℕ) (log : List Event) → IsUndisturbed p capacity log → findings_in (capture_of log) ≡ []

@@ -1,4 +1,4 @@
-use Rattle.std.proofs.Common.{◌≡◌, ℕ, ◌<◌, ◌⊎◌, inl, inr, Bool, true, false, List, refl, ap, subst, length, get_or, Some, None}
+use Rattle.std.proofs.Common.{◌≡◌, ℕ, ◌<◌, ◌⊎◌, inl, inr, Bool, true, false, List, refl, sym, ap, subst, ◌∙◌, length, get_or, Option, Some, None}
 use Rattle.std.specs.Prelude.{◌&&◌, not, nat_le, if◌then◌else◌}
 use Rattle.dali_frame.specs.declared.frames.Answer.{Answer}
 use Rattle.dali_frame.specs.declared.frames.Answer.TheVariants.{Silence, Byte, Damaged}
@@ -14,13 +14,14 @@ use Rattle.dali_gear.specs.declared.state.InitialisationState.TheVariants.{Disab
 use Rattle.dali_gear.specs.Gear.{Gear, fresh, answer, is_active, is_enabled, is_found, is_second, concerns, has_short, state_after, YES}
 use Rattle.dali_gear.specs.Row.{answers_of, heard_of, row_after, drawn_of}
 use Rattle.dali_capture.specs.declared.item.Item.{Item}
+use Rattle.dali_audit.specs.declared.bus.Begun.{Begun}
 use Rattle.dali_audit.specs.declared.bus.Bus.{Bus}
-use Rattle.dali_audit.specs.Bus.{sent_by, passed}
+use Rattle.dali_audit.specs.Bus.{sent_by, passed, is_over}
 use Rattle.dali_audit.specs.Seen.{is_silence}
 use Rattle.dali_audit.specs.Findings.{asks_initialised}
 use Rattle.dali_events.proofs.Invariant.Takes.{Moved, stays, goes, moves_at, row_length}
 use Rattle.dali_events.proofs.Invariant.Sending.{powered_takes}
-use Rattle.dali_audited.specs.Undisturbed.{opened}
+use Rattle.dali_audited.specs.Undisturbed.{open_since}
 use Rattle.dali_audited.proofs.Replies.{Replies, somebody, several}
 
 -- AFTER TERMINATE NO GEAR TAKES PART, until an INITIALISE is complete
@@ -119,8 +120,16 @@ closed_from (Initialise t) again second x f h b e = inr (go b.is_closed again e)
   go false n e = absurd (cc)
 closed_from _ again second x f h b e = inr (e, λ t is. absurd (cc))
 
-pub begun_from : (c : Command) (again second opens : Bool) (x : Item) (f : Forward) (h : Answer) (b : Bus) → opened c opens ≡ false → (opens ≡ false → b.begun ≡ None)
-    → (sent_by c again second x h (passed x f b)).begun ≡ None
-begun_from Terminate again second opens x f h b e k = refl
-begun_from (Initialise t) again second opens x f h b e k = absurd (cc)
-begun_from _ again second opens x f h b e k = rw (k e) refl
+-- the last INITIALISE that was complete is the one since which an initialisation is open
+pub begun_from : (c : Command) (again second : Bool) (since : Option ℕ) (x : Item) (f : Forward) (h : Answer) (b : Bus)
+    → ((t : Target) → c ≡ Initialise t → second ≡ false → b.begun ≡ None) → is_over b.begun x.at f ≡ false
+    → ((y : Begun) → b.begun ≡ Some y → since ≡ Some y.until)
+    → (y : Begun) → (sent_by c again second x h (passed x f b)).begun ≡ Some y → open_since c x.until since ≡ Some y.until
+begun_from Terminate again second since x f h b none short k y e = absurd (cc)
+begun_from (Initialise t) again true since x f h b none short k y e = ap (λ (z : Option Begun). until_of z) e where
+  until_of : Option Begun → Option ℕ
+  until_of None = None
+  until_of (Some z) = Some z.until
+begun_from (Initialise t) again false since x f h b none short k y e =
+    absurd (let was : b.begun ≡ None = none t refl refl in let now : Some y ≡ None = sym e ∙ rw (short, was) refl in cc)
+begun_from _ again second since x f h b none short k y e = k y (rw short at e)

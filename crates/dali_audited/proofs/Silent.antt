@@ -70,11 +70,11 @@ no_early b xs stage.Opened _ now drew d f h on k = absurd (let none = on.leads_o
 no_early b xs stage.Over _ now drew d f h on k = absurd (let none = on.leads_on in cc)
 no_early b xs _ c now drew d f h on k = rw k refl
 
-pub in_time : (begun : Option Begun) (at : ℕ) (f : Forward) → at ≤ 900000000 → at_where (is_over begun at f) at ≡ None
-in_time None at f e = refl
-in_time (Some t) at f e = rw (short, never (in_initialisation f), never (not t.is_told)) refl where
-  short : nat_lt 900000000 (at - t.until) ≡ false
-  short = grind (arith, nat_tests)
+pub in_time : (begun : Option Begun) (at : ℕ) (f : Forward) → ((y : Begun) → begun ≡ Some y → at ≤ y.until + 900000000) → is_over begun at f ≡ false
+in_time None at f k = refl
+in_time (Some y) at f k = rw (short, never (in_initialisation f), never (not y.is_told)) refl where
+  short : nat_lt 900000000 (at - y.until) ≡ false
+  short = let within : at ≤ y.until + 900000000 = k y refl in grind (arith, nat_tests)
 
 asked_next : (given : Option ℕ) (bus : Bus) (x : Item) (f : Forward) (h : Answer) → command_of f ≡ QueryShort → unasked given bus x (seen.Sent f h) ≡ None
 asked_next None bus x f h e = refl
@@ -115,8 +115,8 @@ module _ (b : Block) (xs : List Assignment) (s : Stage) (c : Command) (now : ℕ
   pub no_early_frame : early_frame bus (item_of now drew c f) (seen.Sent f h) ≡ None
   no_early_frame = no_early b xs s c now drew bus.drawn f h on k.drawn
 
-  pub not_over : now + rest_before drew c ≤ 900000000 → initialisation_over bus (item_of now drew c f) (seen.Sent f h) ≡ None
-  not_over short = in_time bus.begun _ f short
+  pub not_over : is_over bus.begun (item_of now drew c f).at f ≡ false → initialisation_over bus (item_of now drew c f) (seen.Sent f h) ≡ None
+  not_over short = rw short refl
 
   pub queried_next : not_queried bus (item_of now drew c f) (seen.Sent f h) ≡ None
   queried_next = asked b xs s c bus.given bus (item_of now drew c f) f h on e k.given

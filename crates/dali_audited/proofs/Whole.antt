@@ -34,11 +34,12 @@ use Rattle.dali_capture.specs.declared.item.Heard.TheVariants as heard
 use Rattle.dali_capture.specs.declared.item.Item.{Item}
 use Rattle.dali_audit.specs.declared.seen.Seen.TheVariants as seen
 use Rattle.dali_audit.specs.declared.bus.Bus.{Bus}
+use Rattle.dali_audit.specs.declared.bus.Begun.{Begun}
 use Rattle.dali_audit.specs.declared.bus.First.{First}
 use Rattle.dali_audit.specs.declared.holders.Change.{Change}
 use Rattle.dali_audit.specs.declared.holders.Change.TheVariants as change
 use Rattle.dali_audit.specs.declared.telling.Known.{Known}
-use Rattle.dali_audit.specs.Bus.{number, completes, repeats, frame_end}
+use Rattle.dali_audit.specs.Bus.{number, is_over, completes, repeats, frame_end}
 use Rattle.dali_audit.specs.Seen.{awaits, seen_of, answer_after, in_window, may_be_answered}
 use Rattle.dali_audit.specs.Holders.{change_of, table_after, short_in}
 use Rattle.dali_audit.specs.Findings.{told_of, kinds, known_after, findings_from, known_from, first_of, address_taken, address_moved, two_random, two_short, broken_pair}
@@ -60,11 +61,11 @@ use Rattle.dali_events.proofs.Invariant.Sparing.{IsOwned}
 use Rattle.dali_events.proofs.Invariant.Naming.{found_names}
 use Rattle.dali_events.proofs.Invariant.Resolving.{tells_if}
 use Rattle.dali_events.proofs.Invariant.Safe.{Holds as HoldsAll, holds_step}
-use Rattle.dali_audited.specs.Capture.{frames_of, items_from, answers_at, over_at, begins_at, ends_at, next_at, over_after, is_randomise, rest_before, item_at, WAIT}
-use Rattle.dali_audited.specs.Undisturbed.{AwaitsMore, DisturbsNothing, DisturbNothing, opened, is_open}
+use Rattle.dali_audited.specs.Capture.{frames_of, items_from, answers_at, over_at, begins_at, ends_at, is_randomise, rest_before, item_at, WAIT}
+use Rattle.dali_audited.specs.Undisturbed.{AwaitsMore, DisturbsNothing, DisturbNothing, open_since, Within, AreInTime}
 use Rattle.dali_audited.specs.Tables.{Holds, IsTableOf}
-use Rattle.dali_audited.proofs.Grammar.{Fits, Paired, alone, twice, paired, repeated, item_of, fits_step, leave, ended, go_on}
-use Rattle.dali_audited.proofs.Silent.{clear, no_half_pair, no_late_pair, no_early_frame, not_over, queried_next, settled_before}
+use Rattle.dali_audited.proofs.Grammar.{Fits, Paired, alone, twice, paired, completed, repeated, item_of, fits_step, leave, ended, go_on}
+use Rattle.dali_audited.proofs.Silent.{clear, in_time, no_half_pair, no_late_pair, no_early_frame, not_over, queried_next, settled_before}
 use Rattle.dali_audited.proofs.Standing.{SameGear, one_random, one_short, table_nothing, table_told, table_answered, length_after, free, unmoved, table_given}
 use Rattle.dali_audited.proofs.Idle.{AllIdle, NoneHalf, idle_taken, half_taken, initialised, closed_from, begun_from}
 use Rattle.dali_audited.proofs.Replies.{somebody, silent, query_replies, found_here}
@@ -82,17 +83,21 @@ pub record Stands (gs : List Gear) (r : SearchAddress) : Type 0 where
 abbrev pub Met : List Gear → List ℕ → SearchAddress → Type 0
 Met gs found r = Stands gs r × (is_among found (value_of r) ≡ true)
 
+-- TERMINATE was sent, and nothing since
+abbrev pub Ended : List Gear → Bus → Type 0
+Ended gs bus = NoneHalf gs × (bus.begun ≡ None)
+
 abbrev pub Any : SearchAddress → ℕ → Type 0
 Any r a = Unit {0}
 
--- WHAT THE AUDIT KNOWS AGREES with the world; `opens`: whether an initialisation is open
-pub record Agrees (p : Plan) (w : World) (now : ℕ) (drew opens : Bool) (k : Known) : Type 0 where
+-- WHAT THE AUDIT KNOWS AGREES with the world; `since`: since when an initialisation is open
+pub record Agrees (p : Plan) (w : World) (now : ℕ) (drew : Bool) (since : Option ℕ) (k : Known) : Type 0 where
   pub holds : HoldsAll p w
   pub idle : w.bus.owner ≡ None → w.trace ≡ []
-  pub fits : Fits (NoneHalf w.gear) (Met w.gear k.found) Any (stage_of w.trace) now drew k.bus
+  pub fits : Fits (Ended w.gear k.bus) (Met w.gear k.found) Any (stage_of w.trace) now drew k.bus
   pub settled : (t : ℕ) → k.bus.settled ≡ Some t → t ≤ now
   pub closed : k.bus.is_closed ≡ true → AllIdle w.gear
-  pub begun : opens ≡ false → k.bus.begun ≡ None
+  pub begun : (y : Begun) → k.bus.begun ≡ Some y → since ≡ Some y.until
   pub table : IsTableOf w.gear k.table
   pub places : length k.table ≡ 64
 
@@ -154,10 +159,15 @@ awaited f QueryShort e q = rw e refl
 awaited f (RandomByte a part) e q = rw e refl
 awaited f _ e q = absurd (cc)
 
+pub over_later : (y : ℕ) (a : Answer) → y ≤ over_at y a
+over_later y Silence = omega arith
+over_later y (Byte n) = omega arith
+over_later y Damaged = omega arith
+
 -- ---------------------------------------------------------------- a frame that was sent
-module _ (p : Plan) (plan : IsPlan p) (w : World) (c : ℕ) (f : Forward) (h : Answer) (now : ℕ) (drew opens : Bool) (k : Known)
+module _ (p : Plan) (plan : IsPlan p) (w : World) (c : ℕ) (f : Forward) (h : Answer) (now : ℕ) (drew : Bool) (since : Option ℕ) (k : Known)
     (here : Allowed w (event.Sent c f h)) (leaves : LeavesUsed p.used (event.Sent c f h)) (calm : DisturbsNothing w (event.Sent c f h))
-    (agrees : Agrees p w now drew opens k) where
+    (agrees : Agrees p w now drew since k) (within : Within since (now + rest_before drew (command_of f))) where
   abbrev b : Block
   b = (controller_at w c).records.block
 
@@ -173,6 +183,20 @@ module _ (p : Plan) (plan : IsPlan p) (w : World) (c : ℕ) (f : Forward) (h : A
   abbrev v : World
   v = happens w (event.Sent c f h)
 
+  -- what is known after it, and when the bus is at rest again
+  abbrev known : Known
+  known = known_after (item_of now drew (command_of f) f) (seen.Sent f h) k
+
+  abbrev later : ℕ
+  later = over_at (now + rest_before drew (command_of f) + 14167) h
+
+  abbrev Before : Stage → Type 0
+  Before z = Fits (Ended w.gear k.bus) (Met w.gear k.found) Any z now drew k.bus
+
+  abbrev After : (SearchAddress → ℕ → Type 0) → Stage → Type 0
+  After M z = Fits (Ended (happens w (event.Sent c f h)).gear known.bus) (Met (happens w (event.Sent c f h)).gear known.found) M z later
+      (is_randomise (command_of f)) known.bus
+
   runs : trace_running w c ≡ w.trace
   runs = go here.may where
     go : MaySend w c f → trace_running w c ≡ w.trace
@@ -185,8 +209,8 @@ module _ (p : Plan) (plan : IsPlan p) (w : World) (c : ℕ) (f : Forward) (h : A
   lawful : Lawful b xs t f
   lawful = lawful_of w c f here.may
 
-  fits : Fits (NoneHalf w.gear) (Met w.gear k.found) Any s now drew k.bus
-  fits = subst (λ x. Fits (NoneHalf w.gear) (Met w.gear k.found) Any (stage_of x) now drew k.bus) (sym runs) agrees.fits
+  fits : Before s
+  fits = subst (λ x. Before (stage_of x)) (sym runs) agrees.fits
 
   knows : KnowsAll s w.gear
   knows = knows_running w c agrees.holds.known.knows
@@ -286,11 +310,11 @@ module _ (p : Plan) (plan : IsPlan p) (w : World) (c : ℕ) (f : Forward) (h : A
   clean_else : ((o : Option ℕ) → command_of f ≡ Program o → ⊥) → IsClean k v.gear ch
   clean_else other = clean_by ch (same other)
       (true_change p plan w agrees.holds b xs s (command_of f) now drew (completes k.bus.half x.until f) h k.bus (search_of t) (asked_of t)
-      (NoneHalf w.gear) (Met w.gear k.found) Any on fits searched (asked_lawful b xs t f lawful) calm.0 found other)
+      (Ended w.gear k.bus) (Met w.gear k.found) Any on fits searched (asked_lawful b xs t f lawful) calm.0 found other)
 
   given_clean : (a : ℕ) (r : SearchAddress) → command_of f ≡ Program (Some a) → s ≡ stage.Unnamed r → IsClean k v.gear (change.Given a (value_of r))
   given_clean a r is at =
-      let fit : Fits (NoneHalf w.gear) (Met w.gear k.found) Any (stage.Unnamed r) now drew k.bus = subst (λ z. Fits (NoneHalf w.gear) (Met w.gear k.found) Any z now drew k.bus) at fits in
+      let fit : Before (stage.Unnamed r) = subst (λ z. Before z) at fits in
       let one : Stands w.gear r = fit.answered.0 in
       let know : Knows (stage.Unnamed r) (gear_of w.gear one.gear) = subst (λ z. Knows z (gear_of w.gear one.gear)) at (knows one.gear one.in_row one.powered) in
       let none : (gear_of w.gear one.gear).short ≡ None = (know one.active).1 one.random in
@@ -323,7 +347,7 @@ module _ (p : Plan) (plan : IsPlan p) (w : World) (c : ℕ) (f : Forward) (h : A
     go (inl o) =
         let at = program_at b xs t f o.0 lawful o.1 in
         let is : command_of f ≡ Program (Some at.0) = o.1 ∙ ap (λ y. Program y) at.2 in
-        let fit : Fits (NoneHalf w.gear) (Met w.gear k.found) Any (stage.Unnamed at.1) now drew k.bus = subst (λ z. Fits (NoneHalf w.gear) (Met w.gear k.found) Any z now drew k.bus) at.3 fits in
+        let fit : Before (stage.Unnamed at.1) = subst (λ z. Before z) at.3 fits in
         let sought : number k.bus.search ≡ Some (value_of at.1) = number_at p plan w agrees.holds at.1 k.bus.search fit.search in
         subst (λ d. IsClean k v.gear d) (sym (given_change at.0 at.1 is sought)) (given_clean at.0 at.1 is at.3) where
       given_change : (a : ℕ) (r : SearchAddress) → command_of f ≡ Program (Some a) → number k.bus.search ≡ Some (value_of r) → ch ≡ change.Given a (value_of r)
@@ -333,87 +357,88 @@ module _ (p : Plan) (plan : IsPlan p) (w : World) (c : ℕ) (f : Forward) (h : A
   one_gear : h ≡ Damaged → asks_one (command_of f) ≡ false
   one_gear is = one_answers p plan w agrees.holds b xs s (command_of f) (search_of t) on searched knows calm.1 (sym is ∙ calm.0)
 
-  pub nothing_told : x.at ≤ 900000000 → told_of k x (seen.Sent f h) kinds ≡ []
-  nothing_told early =
+  over : is_over k.bus.begun x.at f ≡ false
+  over = in_time k.bus.begun x.at f (λ y e. before since (agrees.begun y e) within) where
+    before : (o : Option ℕ) {n : ℕ} → o ≡ Some n → Within o x.at → x.at ≤ n + 900000000
+    before None e short = absurd (cc)
+    before (Some n) e short = subst (λ i. x.at ≤ i + 900000000) (let same : n ≡ _ = cc in same) short
+
+  pub nothing_told : told_of k x (seen.Sent f h) kinds ≡ []
+  nothing_told =
       rw (clear x f h one_gear,
         initialised k.bus.is_closed (command_of f) w.gear h agrees.closed calm.0,
-        settled_before b xs s (command_of f) now drew f h k.bus (NoneHalf w.gear) (Met w.gear k.found) Any on refl fits agrees.settled,
-        no_half_pair b xs s (command_of f) now drew f h k.bus (NoneHalf w.gear) (Met w.gear k.found) Any on refl fits,
-        no_late_pair b xs s (command_of f) now drew f h k.bus (NoneHalf w.gear) (Met w.gear k.found) Any on refl fits,
-        no_early_frame b xs s (command_of f) now drew f h k.bus (NoneHalf w.gear) (Met w.gear k.found) Any on refl fits,
-        not_over b xs s (command_of f) now drew f h k.bus (NoneHalf w.gear) (Met w.gear k.found) Any on refl fits early,
-        queried_next b xs s (command_of f) now drew f h k.bus (NoneHalf w.gear) (Met w.gear k.found) Any on refl fits,
+        settled_before b xs s (command_of f) now drew f h k.bus (Ended w.gear k.bus) (Met w.gear k.found) Any on refl fits agrees.settled,
+        no_half_pair b xs s (command_of f) now drew f h k.bus (Ended w.gear k.bus) (Met w.gear k.found) Any on refl fits,
+        no_late_pair b xs s (command_of f) now drew f h k.bus (Ended w.gear k.bus) (Met w.gear k.found) Any on refl fits,
+        no_early_frame b xs s (command_of f) now drew f h k.bus (Ended w.gear k.bus) (Met w.gear k.found) Any on refl fits,
+        not_over b xs s (command_of f) now drew f h k.bus (Ended w.gear k.bus) (Met w.gear k.found) Any on refl fits over,
+        queried_next b xs s (command_of f) now drew f h k.bus (Ended w.gear k.bus) (Met w.gear k.found) Any on refl fits,
         clean.found, clean.several, clean.free, clean.moved, clean.one_random, clean.one_short) refl
 
-  quiet_after : is_question (command_of f) ≡ false → over_at x.until h ≡ x.until
+  quiet_after : is_question (command_of f) ≡ false → later ≡ x.until
   quiet_after q = rw (silent (command_of f) w.gear h calm.0 q) refl
 
-  over_later : (y : ℕ) (a : Answer) → y ≤ over_at y a
-  over_later y Silence = omega arith
-  over_later y (Byte n) = omega arith
-  over_later y Damaged = omega arith
-
-  met : (r : SearchAddress) (n : ℕ) → s ≡ stage.NumberSent r → command_of f ≡ QueryShort → h ≡ Byte n
-      → Met v.gear (k.found ++ option_to_list (found_at k.bus (seen.Sent f h))) r
+  met : (r : SearchAddress) (n : ℕ) → s ≡ stage.NumberSent r → command_of f ≡ QueryShort → h ≡ Byte n → Met v.gear known.found r
   met r n at is heard_as =
-      let fit : Fits (NoneHalf w.gear) (Met w.gear k.found) Any (stage.NumberSent r) now drew k.bus =
-          subst (λ z. Fits (NoneHalf w.gear) (Met w.gear k.found) Any z now drew k.bus) at fits in
+      let fit : Before (stage.NumberSent r) = subst Before at fits in
       let sought : number k.bus.search ≡ Some (value_of r) = number_at p plan w agrees.holds r k.bus.search fit.search in
       (stands r n at is heard_as, rw (is, heard_as, sought) (among_last k.found (value_of r)))
 
-  ended_halves : command_of f ≡ Terminate → NoneHalf v.gear
-  ended_halves is = subst (λ d. NoneHalf (row_after Everyone d 0 w.gear w.left)) (sym is) (half_taken w.gear w.left)
+  ends : command_of f ≡ Terminate → Ended v.gear known.bus
+  ends is = (subst (λ d. NoneHalf (row_after Everyone d 0 w.gear w.left)) (sym is) (half_taken w.gear w.left), rw is refl)
 
-  after_fits : Fits (NoneHalf v.gear) (Met v.gear (known_after x (seen.Sent f h) k).found) (MayGive b xs) (next_stage s (command_of f) h) (over_at x.until h)
-      (is_randomise (command_of f)) (known_after x (seen.Sent f h) k).bus
-  after_fits = fits_step (NoneHalf w.gear) (NoneHalf v.gear) (Met w.gear k.found) (Met v.gear (known_after x (seen.Sent f h) k).found) Any b xs now
-      (over_at x.until h) drew f h k.bus (repeats k.bus.half f) (completes k.bus.half x.until f) s (command_of f) on refl refl
-      (over_later x.until h) quiet_after met ended_halves fits
+  after_fits : After (MayGive b xs) (next_stage s (command_of f) h)
+  after_fits = fits_step (Ended w.gear k.bus) (Ended v.gear known.bus) (Met w.gear k.found) (Met v.gear known.found) Any b xs now later drew f h k.bus
+      (repeats k.bus.half f) (completes k.bus.half x.until f) s (command_of f) on refl refl (over_later x.until h) quiet_after met ends fits
 
-  traced : (more : Bool) → goes_on w c (t ++ entry f h ∷ []) ≡ more
-      → Fits (NoneHalf v.gear) (Met v.gear (known_after x (seen.Sent f h) k).found) Any (stage_of (if more then t ++ entry f h ∷ [] else [])) (over_at x.until h)
-      (is_randomise (command_of f)) (known_after x (seen.Sent f h) k).bus
-  traced true e = subst (λ z. Fits (NoneHalf v.gear) (Met v.gear (known_after x (seen.Sent f h) k).found) Any z (over_at x.until h) (is_randomise (command_of f))
-      (known_after x (seen.Sent f h) k).bus)
-      (sym (stage_more t (entry f h))) (go_on (NoneHalf v.gear) (Met v.gear (known_after x (seen.Sent f h) k).found) (MayGive b xs) _ _ _ _ after_fits)
-  traced false e = subst (λ z. Fits (NoneHalf v.gear) (Met v.gear (known_after x (seen.Sent f h) k).found) Any z (over_at x.until h) (is_randomise (command_of f))
-      (known_after x (seen.Sent f h) k).bus)
-      (sym stage_none) (leave (NoneHalf v.gear) (Met v.gear (known_after x (seen.Sent f h) k).found) (MayGive b xs) Any _ _ _ _
+  traced : (more : Bool) → goes_on w c (t ++ entry f h ∷ []) ≡ more → After Any (stage_of (if more then t ++ entry f h ∷ [] else []))
+  traced true e = subst (After Any) (sym (stage_more t (entry f h))) (go_on (Ended v.gear known.bus) (Met v.gear known.found) (MayGive b xs) _ _ _ _ after_fits)
+  traced false e = subst (After Any) (sym stage_none) (leave (Ended v.gear known.bus) (Met v.gear known.found) (MayGive b xs) Any _ _ _ _
       (ended b xs (next_stage s (command_of f) h) after_fits.reserved (subst (λ z. may_follow b xs z ≡ false) (stage_more t (entry f h)) e)) after_fits)
 
-  -- TERMINATE makes all idle, and half a pair is no INITIALISE
-  again_not : (d : Target) → command_of f ≡ Initialise d → repeats k.bus.half f ≡ false → NoneHalf w.gear
-  again_not d is first = go (initialise_at b xs t f d lawful is).1 where
-    go : (s ≡ stage.Terminated) ⊎ (s ≡ stage.InitialisedOnce) → NoneHalf w.gear
-    go (inl at) = (subst (λ z. Fits (NoneHalf w.gear) (Met w.gear k.found) Any z now drew k.bus) at fits).quieted
-    go (inr at) = absurd (
-        let fit : Fits (NoneHalf w.gear) (Met w.gear k.found) Any stage.InitialisedOnce now drew k.bus =
-            subst (λ z. Fits (NoneHalf w.gear) (Met w.gear k.found) Any z now drew k.bus) at fits in
-        broken fit.half.0.4 (paired b xs s (command_of f) now drew k.bus.half f on refl fits.half)) where
-      broken : {y : First} → k.bus.half ≡ Some y → Paired k.bus.half f x.until → ⊥
-      broken some (alone none) = let both = sym some ∙ none in cc
-      broken some (twice u e in_time) = let yes : repeats k.bus.half f ≡ true = repeated k.bus.half f u e in cc
+  -- INITIALISE comes after TERMINATE, or is the second of a pair
+  twice_or : (d : Target) → command_of f ≡ Initialise d → Ended w.gear k.bus ⊎ ((repeats k.bus.half f ≡ true) × (completes k.bus.half x.until f ≡ true))
+  twice_or d is = go (initialise_at b xs t f d lawful is).1 where
+    go : (s ≡ stage.Terminated) ⊎ (s ≡ stage.InitialisedOnce) → Ended w.gear k.bus ⊎ ((repeats k.bus.half f ≡ true) × (completes k.bus.half x.until f ≡ true))
+    go (inl at) = inl (subst Before at fits).quieted
+    go (inr at) = inr (second (subst Before at fits).half.0.4 (paired b xs s (command_of f) now drew k.bus.half f on refl fits.half)) where
+      second : {y : First} → k.bus.half ≡ Some y → Paired k.bus.half f x.until → (repeats k.bus.half f ≡ true) × (completes k.bus.half x.until f ≡ true)
+      second some (alone none) = absurd (let both = sym some ∙ none in cc)
+      second some (twice u e in_time) = (repeated k.bus.half f u e, completed k.bus.half f x.until u e in_time)
 
-  closed_after : (known_after x (seen.Sent f h) k).bus.is_closed ≡ true → AllIdle v.gear
+  first_halves : (d : Target) → command_of f ≡ Initialise d → repeats k.bus.half f ≡ false → NoneHalf w.gear
+  first_halves d is first = go (twice_or d is) where
+    go : Ended w.gear k.bus ⊎ ((repeats k.bus.half f ≡ true) × (completes k.bus.half x.until f ≡ true)) → NoneHalf w.gear
+    go (inl ended) = ended.0
+    go (inr second) = absurd (let yes = second.0 in cc)
+
+  first_begun : (d : Target) → command_of f ≡ Initialise d → completes k.bus.half x.until f ≡ false → k.bus.begun ≡ None
+  first_begun d is first = go (twice_or d is) where
+    go : Ended w.gear k.bus ⊎ ((repeats k.bus.half f ≡ true) × (completes k.bus.half x.until f ≡ true)) → k.bus.begun ≡ None
+    go (inl ended) = ended.1
+    go (inr second) = absurd (let yes = second.1 in cc)
+
+  -- TERMINATE makes all idle
+  closed_after : known.bus.is_closed ≡ true → AllIdle v.gear
   closed_after e = go (closed_from (command_of f) (repeats k.bus.half f) (completes k.bus.half x.until f) x f h k.bus e) where
     by : (d : Command) → command_of f ≡ d → k.bus.is_closed ≡ true → ((u : Target) → command_of f ≡ Initialise u → repeats k.bus.half f ≡ false) → AllIdle v.gear
     by Terminate is shut first = subst (λ d. AllIdle (row_after Everyone d 0 w.gear w.left)) (sym is) (idle_taken Terminate w.gear w.left (λ i in_row on. tt))
     by (Initialise u) is shut first = subst (λ d. AllIdle (row_after Everyone d 0 w.gear w.left)) (sym is)
-        (idle_taken (Initialise u) w.gear w.left (λ i in_row on. (agrees.closed shut i in_row on, again_not u is (first u is) i in_row on)))
+        (idle_taken (Initialise u) w.gear w.left (λ i in_row on. (agrees.closed shut i in_row on, first_halves u is (first u is) i in_row on)))
     by d is shut first = subst (λ d. AllIdle (row_after Everyone d 0 w.gear w.left)) (sym is) (idle_taken d w.gear w.left (agrees.closed shut))
 
     go : (command_of f ≡ Terminate) ⊎ ((k.bus.is_closed ≡ true) × ((u : Target) → command_of f ≡ Initialise u → repeats k.bus.half f ≡ false)) → AllIdle v.gear
     go (inl is) = subst (λ d. AllIdle (row_after Everyone d 0 w.gear w.left)) (sym is) (idle_taken Terminate w.gear w.left (λ i in_row on. tt))
     go (inr y) = by (command_of f) refl y.0 y.1
 
-  pub known_agrees : Agrees p v (over_at x.until h) (is_randomise (command_of f)) (opened (command_of f) opens) (known_after x (seen.Sent f h) k)
+  pub known_agrees : Agrees p v later (is_randomise (command_of f)) (open_since (command_of f) x.until since) known
   known_agrees = record {
     holds = held;
     idle = idle (goes_on w c (t ++ entry f h ∷ []));
     fits = traced (goes_on w c (t ++ entry f h ∷ [])) refl;
-    settled = λ u e. subst (λ n. n ≤ over_at x.until h) (let one : x.until ≡ u = cc in one) (over_later x.until h);
+    settled = λ u e. subst (λ n. n ≤ later) (let one : x.until ≡ u = cc in one) (over_later x.until h);
     closed = closed_after;
-    begun = λ e. begun_from (command_of f) (repeats k.bus.half f) (completes k.bus.half x.until f) opens x f h k.bus e agrees.begun;
+    begun = begun_from (command_of f) (repeats k.bus.half f) (completes k.bus.half x.until f) since x f h k.bus first_begun over agrees.begun;
     table = clean.table;
     places = length_after (short_in ch) ch k.table ∙ agrees.places;
   } where
@@ -440,9 +465,9 @@ replied_given (Some t) b x = refl
 replied_tells : (k : Known) (x : Item) → told_of k x seen.Replied kinds ≡ []
 replied_tells k x = rw (replied_pair k.bus.half, replied_early k.bus.drawn x, replied_given k.bus.given k.bus x) refl
 
-replied_agrees : (p : Plan) (plan : IsPlan p) (w : World) (now : ℕ) (drew opens : Bool) (k : Known) (x : Item) → x.until ≤ now → Agrees p w now drew opens k
-    → Agrees p w now drew opens (known_after x seen.Replied k)
-replied_agrees p plan w now drew opens k x over a = record {
+replied_agrees : (p : Plan) (plan : IsPlan p) (w : World) (now : ℕ) (drew : Bool) (since : Option ℕ) (k : Known) (x : Item) → x.until ≤ now → Agrees p w now drew since k
+    → Agrees p w now drew since (known_after x seen.Replied k)
+replied_agrees p plan w now drew since k x over a = record {
   holds = a.holds;
   idle = a.idle;
   fits = renewed;
@@ -458,10 +483,10 @@ replied_agrees p plan w now drew opens k x over a = record {
   ends heard.Device t e = subst (λ n. n ≤ now) (let one : x.until ≡ t = cc in one) over
   ends heard.Damaged t e = absurd (cc)
 
-  same_found : Fits (NoneHalf w.gear) (Met w.gear (k.found ++ [])) Any (stage_of w.trace) now drew k.bus
-  same_found = subst (λ ns. Fits (NoneHalf w.gear) (Met w.gear ns) Any (stage_of w.trace) now drew k.bus) (sym (append-nil k.found)) a.fits
+  same_found : Fits (Ended w.gear k.bus) (Met w.gear (k.found ++ [])) Any (stage_of w.trace) now drew k.bus
+  same_found = subst (λ ns. Fits (Ended w.gear k.bus) (Met w.gear ns) Any (stage_of w.trace) now drew k.bus) (sym (append-nil k.found)) a.fits
 
-  renewed : Fits (NoneHalf w.gear) (Met w.gear (k.found ++ [])) Any (stage_of w.trace) now drew (known_after x seen.Replied k).bus
+  renewed : Fits (Ended w.gear k.bus) (Met w.gear (k.found ++ [])) Any (stage_of w.trace) now drew (known_after x seen.Replied k).bus
   renewed = record {
     half = same_found.half;
     drawn = same_found.drawn;
@@ -482,10 +507,10 @@ put_owner b c (Commit y) = refl
 put_owner b c (Done end) = refl
 put_owner b c (Halt why) = refl
 
-acted_agrees : (p : Plan) (plan : IsPlan p) (w : World) (c : ℕ) (i : Input) (o : Order) (now : ℕ) (drew opens : Bool) (k : Known) → Allowed w (event.Acted c i o)
-    → LeavesUsed p.used (event.Acted c i o) → DisturbsNothing w (event.Acted c i o) → Agrees p w now drew opens k
-    → Agrees p (happens w (event.Acted c i o)) now drew opens k
-acted_agrees p plan w c i o now drew opens k here leaves calm a = record {
+acted_agrees : (p : Plan) (plan : IsPlan p) (w : World) (c : ℕ) (i : Input) (o : Order) (now : ℕ) (drew : Bool) (since : Option ℕ) (k : Known) → Allowed w (event.Acted c i o)
+    → LeavesUsed p.used (event.Acted c i o) → DisturbsNothing w (event.Acted c i o) → Agrees p w now drew since k
+    → Agrees p (happens w (event.Acted c i o)) now drew since k
+acted_agrees p plan w c i o now drew since k here leaves calm a = record {
   holds = holds_step p plan w (event.Acted c i o) here leaves a.holds;
   idle = λ e. idle (gives_up w.bus c o) (sym (put_owner (if gives_up w.bus c o then bus_lapsed w.bus else w.bus) c o) ∙ e);
   fits = given_up (gives_up w.bus c o) calm;
@@ -499,13 +524,13 @@ acted_agrees p plan w c i o now drew opens k here leaves calm a = record {
   idle true e = refl
   idle false e = a.idle e
 
-  given_up : (m : Bool) → (m ≡ true → AwaitsMore (stage_of w.trace) → ⊥) → Fits (NoneHalf w.gear) (Met w.gear k.found) Any (stage_of (if m then [] else w.trace)) now drew k.bus
-  given_up true calm = subst (λ z. Fits (NoneHalf w.gear) (Met w.gear k.found) Any z now drew k.bus) (sym stage_none) (leave (NoneHalf w.gear) (Met w.gear k.found) Any Any _ _ _ _ (calm refl) a.fits)
+  given_up : (m : Bool) → (m ≡ true → AwaitsMore (stage_of w.trace) → ⊥) → Fits (Ended w.gear k.bus) (Met w.gear k.found) Any (stage_of (if m then [] else w.trace)) now drew k.bus
+  given_up true calm = subst (λ z. Fits (Ended w.gear k.bus) (Met w.gear k.found) Any z now drew k.bus) (sym stage_none) (leave (Ended w.gear k.bus) (Met w.gear k.found) Any Any _ _ _ _ (calm refl) a.fits)
   given_up false calm = a.fits
 
-offered_agrees : (p : Plan) (plan : IsPlan p) (w : World) (c : ℕ) (f : Forward) (now : ℕ) (drew opens : Bool) (k : Known) → Allowed w (event.Offered c f)
-    → LeavesUsed p.used (event.Offered c f) → Agrees p w now drew opens k → Agrees p (happens w (event.Offered c f)) now drew opens k
-offered_agrees p plan w c f now drew opens k here leaves a = record {
+offered_agrees : (p : Plan) (plan : IsPlan p) (w : World) (c : ℕ) (f : Forward) (now : ℕ) (drew : Bool) (since : Option ℕ) (k : Known) → Allowed w (event.Offered c f)
+    → LeavesUsed p.used (event.Offered c f) → Agrees p w now drew since k → Agrees p (happens w (event.Offered c f)) now drew since k
+offered_agrees p plan w c f now drew since k here leaves a = record {
   holds = holds_step p plan w (event.Offered c f) here leaves a.holds;
   idle = a.idle;
   fits = a.fits;
@@ -517,27 +542,6 @@ offered_agrees p plan w c f now drew opens k here leaves a = record {
 }
 
 -- ---------------------------------------------------------------- items
-over_more : (y : ℕ) (a : Answer) → y ≤ over_at y a
-over_more y Silence = omega arith
-over_more y (Byte n) = omega arith
-over_more y Damaged = omega arith
-
-grows : (xs : List Entry) (now : ℕ) (drew : Bool) → now ≤ over_after now drew xs
-grows [] now drew = omega arith
-grows (y ∷ ys) now drew =
-    let rest : next_at now drew y ≤ over_after (next_at now drew y) (is_randomise (command_of y.frame)) ys = grows ys (next_at now drew y) (is_randomise (command_of y.frame)) in
-    let one : ends_at now drew y ≤ next_at now drew y = over_more _ y.heard in
-    let begin : begins_at now drew y + 14167 ≤ next_at now drew y = one in
-    let at : now ≤ begins_at now drew y = omega arith in
-    omega arith
-
-begins_in_time : (now : ℕ) (drew : Bool) (y : Entry) (ys : List Entry) → over_after now drew (y ∷ ys) ≤ 900000000 → begins_at now drew y ≤ 900000000
-begins_in_time now drew y ys short =
-    let rest : next_at now drew y ≤ over_after (next_at now drew y) (is_randomise (command_of y.frame)) ys = grows ys (next_at now drew y) (is_randomise (command_of y.frame)) in
-    let one : begins_at now drew y + 14167 ≤ next_at now drew y = over_more _ y.heard in
-    let all : over_after (next_at now drew y) (is_randomise (command_of y.frame)) ys ≤ 900000000 = short in
-    omega arith
-
 -- a frame is followed by silence where no answer comes next
 no_answer : (x : Item) (now : ℕ) (drew : Bool) (ys : List Entry) → answer_after x (first_of (items_from now drew ys)) ≡ Silence
 no_answer x now drew [] = refl
@@ -565,24 +569,24 @@ module _ (p : Plan) (plan : IsPlan p) where
   both : {A : Type 0} (xs ys : List A) → xs ≡ [] → ys ≡ [] → xs ++ ys ≡ []
   both xs ys d e = rw (d, e) refl
 
-  sent_whole : (w : World) (c : ℕ) (f : Forward) (h : Answer) (es : List Event) (now : ℕ) (drew opens : Bool) (k : Known) (before : Option Item)
-      → Allowed w (event.Sent c f h) → LeavesUsed p.used (event.Sent c f h) → DisturbsNothing w (event.Sent c f h) → Agrees p w now drew opens k
-      → now + rest_before drew (command_of f) ≤ 900000000
+  sent_whole : (w : World) (c : ℕ) (f : Forward) (h : Answer) (es : List Event) (now : ℕ) (drew : Bool) (since : Option ℕ) (k : Known) (before : Option Item)
+      → Allowed w (event.Sent c f h) → LeavesUsed p.used (event.Sent c f h) → DisturbsNothing w (event.Sent c f h) → Agrees p w now drew since k
+      → Within since (now + rest_before drew (command_of f))
       → ((later : Known) (z : Option Item) → Agrees p (happens w (event.Sent c f h)) (over_at (now + rest_before drew (command_of f) + 14167) h)
-      (is_randomise (command_of f)) (opened (command_of f) opens) later
+      (is_randomise (command_of f)) (open_since (command_of f) (now + rest_before drew (command_of f) + 14167) since) later
       → IsToldOf es (happens w (event.Sent c f h)) later z (items_from (over_at (now + rest_before drew (command_of f) + 14167) h) (is_randomise (command_of f))
       (frames_of es)))
       → IsToldOf (event.Sent c f h ∷ es) w k before (items_from now drew (entry f h ∷ frames_of es))
-  sent_whole w c f h es now drew opens k before here leaves calm agrees early more = go h refl where
+  sent_whole w c f h es now drew since k before here leaves calm agrees within more = go h refl where
     frame : Item
     frame = item_of now drew (command_of f) f
 
     told : told_of k frame (seen.Sent f h) kinds ≡ []
-    told = nothing_told p plan w c f h now drew opens k here leaves calm agrees early
+    told = nothing_told p plan w c f h now drew since k here leaves calm agrees within
 
-    next : Agrees p (happens w (event.Sent c f h)) (over_at frame.until h) (is_randomise (command_of f)) (opened (command_of f) opens)
+    next : Agrees p (happens w (event.Sent c f h)) (over_at frame.until h) (is_randomise (command_of f)) (open_since (command_of f) frame.until since)
         (known_after frame (seen.Sent f h) k)
-    next = known_agrees p plan w c f h now drew opens k here leaves calm agrees
+    next = known_agrees p plan w c f h now drew since k here leaves calm agrees within
 
     asks : (h ≡ Silence → ⊥) → awaits f ≡ true
     asks some = by (is_question (command_of f)) refl where
@@ -608,7 +612,7 @@ module _ (p : Plan) (plan : IsPlan p) where
     answer_told z is reply over =
         let mid : Known = known_after frame (seen.Sent f h) k in
         let after = more (known_after z seen.Replied mid) (Some z)
-            (replied_agrees p plan (happens w (event.Sent c f h)) (over_at frame.until h) (is_randomise (command_of f)) (opened (command_of f) opens) mid z over next) in
+            (replied_agrees p plan (happens w (event.Sent c f h)) (over_at frame.until h) (is_randomise (command_of f)) (open_since (command_of f) frame.until since) mid z over next) in
         record {
           findings = subst (λ q. told_of k frame q kinds
               ++ (told_of (known_after frame q k) z (seen_of (Some frame) z (first_of rest)) kinds
@@ -632,19 +636,22 @@ module _ (p : Plan) (plan : IsPlan p) where
         (rw (an_answer now drew (entry f h) (item_at (frame.until + WAIT) heard.Damaged) (asks (λ s. let both = sym e ∙ s in cc)) refl) refl)
         (rw e (omega arith))
 
-  pub whole : (w : World) (es : List Event) (now : ℕ) (drew opens : Bool) (k : Known) (before : Option Item) → AllAllowed w es → AllByRecursion (LeavesUsed p.used) es
-      → DisturbNothing w es → over_after now drew (frames_of es) ≤ 900000000 → is_open opens (frames_of es) ≡ false → Agrees p w now drew opens k
+  pub whole : (w : World) (es : List Event) (now : ℕ) (drew : Bool) (since : Option ℕ) (k : Known) (before : Option Item) → AllAllowed w es → AllByRecursion (LeavesUsed p.used) es
+      → DisturbNothing w es → AreInTime since now drew (frames_of es) → Agrees p w now drew since k
       → IsToldOf es w k before (items_from now drew (frames_of es))
-  whole w [] now drew opens k before all leaves calm short shut a = record { findings = rw (a.begun shut) refl; table = a.table }
-  whole w (event.Acted c i o ∷ es) now drew opens k before all leaves calm short shut a =
-      let rest = whole (happens w (event.Acted c i o)) es now drew opens k before all.1 leaves.1 calm.1 short shut
-          (acted_agrees p plan w c i o now drew opens k all.0 leaves.0 calm.0 a) in
+  whole w [] now drew since k before all leaves calm timely a = record { findings = rw (none k.bus.begun a.begun) refl; table = a.table } where
+    none : (o : Option Begun) → ((y : Begun) → o ≡ Some y → since ≡ Some y.until) → o ≡ None
+    none None at = refl
+    none (Some y) at = absurd (let some = at y refl in let shut : since ≡ None = timely in let both = sym shut ∙ some in cc)
+  whole w (event.Acted c i o ∷ es) now drew since k before all leaves calm timely a =
+      let rest = whole (happens w (event.Acted c i o)) es now drew since k before all.1 leaves.1 calm.1 timely
+          (acted_agrees p plan w c i o now drew since k all.0 leaves.0 calm.0 a) in
       record { findings = rest.findings; table = rest.table }
-  whole w (event.Offered c f ∷ es) now drew opens k before all leaves calm short shut a =
-      let rest = whole (happens w (event.Offered c f)) es now drew opens k before all.1 leaves.1 calm.1 short shut
-          (offered_agrees p plan w c f now drew opens k all.0 leaves.0 a) in
+  whole w (event.Offered c f ∷ es) now drew since k before all leaves calm timely a =
+      let rest = whole (happens w (event.Offered c f)) es now drew since k before all.1 leaves.1 calm.1 timely
+          (offered_agrees p plan w c f now drew since k all.0 leaves.0 a) in
       record { findings = rest.findings; table = rest.table }
-  whole w (event.Sent c f h ∷ es) now drew opens k before all leaves calm short shut a =
-      sent_whole w c f h es now drew opens k before all.0 leaves.0 calm.0 a (begins_in_time now drew (entry f h) (frames_of es) short)
-      (λ later z agrees. whole (happens w (event.Sent c f h)) es _ _ _ later z all.1 leaves.1 calm.1 short shut agrees)
-  whole w (_ ∷ es) now drew opens k before all leaves calm short shut a = absurd calm.0
+  whole w (event.Sent c f h ∷ es) now drew since k before all leaves calm timely a =
+      sent_whole w c f h es now drew since k before all.0 leaves.0 calm.0 a timely.0
+      (λ later z agrees. whole (happens w (event.Sent c f h)) es _ _ _ later z all.1 leaves.1 calm.1 timely.1 agrees)
+  whole w (_ ∷ es) now drew since k before all leaves calm timely a = absurd calm.0

@@ -1,4 +1,4 @@
-use Rattle.std.proofs.Common.{◌≡◌, ℕ, ◌<◌, ◌≤◌, Bool, true, false, List, [], ◌∷◌, ◌++◌, refl, sym, ap, arith, Option, Some}
+use Rattle.std.proofs.Common.{◌≡◌, ℕ, ◌+◌, ◌<◌, ◌≤◌, Bool, true, false, List, [], ◌∷◌, ◌++◌, refl, sym, ap, arith, Option, Some, None, is_none}
 use Rattle.std.specs.Prelude.{not, ◌==◌, ◌&&◌, ◌||◌, nat_lt, nat_le}
 use Rattle.std.proofs.lemmas.Bool.Decides.{nat_tests}
 use Rattle.dali_frame.specs.declared.frames.Answer.{Answer}
@@ -9,6 +9,7 @@ use Rattle.dali_special.specs.declared.command.Command.TheVariants.{QueryShort}
 use Rattle.dali_special.specs.Command.{command_of, frame}
 use Rattle.dali_gear.specs.declared.row.Reach.TheVariants.{Everyone}
 use Rattle.dali_gear.specs.Row.{heard_of, answers_of}
+use Rattle.dali_script.specs.declared.trace.Entry.{Entry}
 use Rattle.dali_script.specs.Findings.{search_of}
 use Rattle.dali_script.specs.Stages.{stage_of}
 use Rattle.dali_script.specs.declared.orders.Input.TheVariants as input
@@ -30,8 +31,8 @@ use Rattle.dali_events.proofs.Plans.{plan_is}
 use Rattle.dali_events.proofs.Invariant.Growing.{leave_none}
 use Rattle.dali_events.proofs.Histories.Openings.{at_123456, opening, visit, query, silent}
 use Rattle.dali_events.proofs.Histories.Tested.{all_allowed_by}
-use Rattle.dali_audited.specs.Capture.{capture_of, time_of}
-use Rattle.dali_audited.specs.Undisturbed.{AwaitsMore, DisturbsNothing, DisturbNothing, IsUndisturbed}
+use Rattle.dali_audited.specs.Capture.{capture_of, frames_of, is_randomise, begins_at, ends_at, next_at}
+use Rattle.dali_audited.specs.Undisturbed.{AwaitsMore, DisturbsNothing, DisturbNothing, open_since, Within, AreInTime, IsUndisturbed}
 
 -- AN UNDISTURBED RUN, proved by computing: one gear and one controller, an opening, a number that is reserved, an address that is
 -- given, and TERMINATE. It shows that the law speaks of something.
@@ -92,8 +93,28 @@ plan = plan_of 1 ((0, 3) ∷ []) (0x123456 ∷ [])
 abbrev log : List Event
 log = opening 0 ++ (visit 0 (input.Heard Silence) at_123456 0 ++ (query 0 0x01 ∷ silent 0 0xAB 0 ∷ silent 0 0xA1 0 ∷ []))
 
-in_time : (n m : ℕ) → nat_le n m ≡ true → n ≤ m
-in_time n m e = grind (arith, nat_tests)
+-- whether initialisations are ended in time, as a test
+abbrev within : Option ℕ → ℕ → Bool
+within None at = true
+within (Some since) at = nat_le at (since + 900000000)
+
+within_by : (since : Option ℕ) (at : ℕ) → within since at ≡ true → Within since at
+within_by None at e = tt
+within_by (Some since) at e = grind (arith, nat_tests)
+
+abbrev are_in_time : Option ℕ → ℕ → Bool → List Entry → Bool
+are_in_time since now drew [] = is_none since
+are_in_time since now drew (x ∷ xs) =
+    within since (begins_at now drew x)
+    && are_in_time (open_since (command_of x.frame) (ends_at now drew x) since) (next_at now drew x) (is_randomise (command_of x.frame)) xs
+
+none_by : (o : Option ℕ) → is_none o ≡ true → o ≡ None
+none_by None e = refl
+none_by (Some n) e = absurd (cc)
+
+in_time_by : (xs : List Entry) (since : Option ℕ) (now : ℕ) (drew : Bool) → are_in_time since now drew xs ≡ true → AreInTime since now drew xs
+in_time_by [] since now drew e = none_by since e
+in_time_by (x ∷ xs) since now drew e = (within_by since (begins_at now drew x) (first_of_both _ _ e), in_time_by xs _ _ _ (second_of_both _ _ e))
 
 pub undisturbed : IsUndisturbed plan 8 log
 unfolding command_of stage_of
@@ -105,8 +126,7 @@ undisturbed = record {
   };
   factory = refl;
   calm = all_calm_by (start plan 8) log refl;
-  in_time = in_time (time_of log) 900000000 refl;
-  closed = refl;
+  in_time = in_time_by (frames_of log) None 0 false refl;
 }
 
 -- and what the audit knows after it

@@ -89,12 +89,3 @@ items_from now drew (x ∷ xs) =
 -- THE CAPTURE OF A LOG, with nominal times
 abbrev pub capture_of : List Event → List Item
 capture_of es = items_from 0 false (frames_of es)
-
--- when the bus is at rest after the last of them
-abbrev pub over_after : ℕ → Bool → List Entry → ℕ
-over_after now drew [] = now
-over_after now drew (x ∷ xs) =
-    over_after (next_at now drew x) (is_randomise (command_of x.frame)) xs
-
-abbrev pub time_of : List Event → ℕ
-time_of es = over_after 0 false (frames_of es)

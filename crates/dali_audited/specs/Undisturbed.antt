@@ -1,4 +1,5 @@
-use Rattle.std.specs.Prelude.{◌≡◌, ℕ, ◌<◌, ◌≤◌, Bool, true, false, List, [], ◌∷◌}
+use Rattle.std.specs.Prelude.{◌≡◌, ℕ, ◌+◌, ◌<◌, ◌≤◌, Bool, true, false, List, [], ◌∷◌}
+use Rattle.std.specs.Prelude.{Option, Some, None}
 use Rattle.dali_frame.specs.Random.{value_of, MASK24}
 use Rattle.dali_special.specs.declared.command.Command.{Command}
 use Rattle.dali_special.specs.declared.command.Command.TheVariants.{Terminate, Initialise}
@@ -18,7 +19,7 @@ use Rattle.dali_events.specs.Plan.{Plan}
 use Rattle.dali_events.specs.World.{World, start}
 use Rattle.dali_events.specs.Happens.{happens, trace_running, gives_up}
 use Rattle.dali_events.specs.Runs.{IsRun}
-use Rattle.dali_audited.specs.Capture.{frames_of, time_of}
+use Rattle.dali_audited.specs.Capture.{frames_of, is_randomise, begins_at, ends_at, next_at}
 
 -- WHERE A TRANSACTION IS NOT TO BE LEFT: between the two frames of a pair, and before the query that
 -- asks for a short address that was programmed
@@ -54,24 +55,28 @@ abbrev pub DisturbNothing : World → List Event → Type 0
 DisturbNothing w [] = Unit {0}
 DisturbNothing w (e ∷ es) = DisturbsNothing w e × DisturbNothing (happens w e) es
 
--- WHETHER AN INITIALISATION IS OPEN after these frames: INITIALISE opens one, TERMINATE closes it
-abbrev pub opened : Command → Bool → Bool
-opened Terminate open_before = false
-opened (Initialise target) open_before = true
-opened _ open_before = open_before
+-- INITIALISATIONS: since when one is open, by the end of the last INITIALISE; none after TERMINATE
+abbrev pub open_since : Command → ℕ → Option ℕ → Option ℕ
+open_since Terminate end since = None
+open_since (Initialise target) end since = Some end
+open_since _ end since = since
 
-abbrev pub is_open : Bool → List Entry → Bool
-is_open open_before [] = open_before
-is_open open_before (x ∷ xs) = is_open (opened (command_of x.frame) open_before) xs
+-- an initialisation is over after 15 minutes (IEC 62386-102:2014, INITIALISE)
+abbrev pub Within : Option ℕ → ℕ → Type 0
+Within None at = Unit {0}
+Within (Some since) at = at ≤ since + 900000000
 
--- AN UNDISTURBED RUN, of gear from the factory, in at most 15 minutes: an initialisation is over
--- after that time (IEC 62386-102:2014, INITIALISE). At its end none is open.
-abbrev pub QUARTER : ℕ
-QUARTER = 900000000
+-- each frame begins within that time, and at the end none is open
+abbrev pub AreInTime : Option ℕ → ℕ → Bool → List Entry → Type 0
+AreInTime since now drew [] = since ≡ None
+AreInTime since now drew (x ∷ xs) =
+    Within since (begins_at now drew x)
+    × AreInTime (open_since (command_of x.frame) (ends_at now drew x) since) (next_at now drew x)
+    (is_randomise (command_of x.frame)) xs
 
+-- AN UNDISTURBED RUN of gear from the factory, whose initialisations are ended in time
 pub record IsUndisturbed (p : Plan) (capacity : ℕ) (log : List Event) : Type 0 where
   pub run : IsRun p capacity log
   pub factory : p.used ≡ []
   pub calm : DisturbNothing (start p capacity) log
-  pub in_time : time_of log ≤ QUARTER
-  pub closed : is_open false (frames_of log) ≡ false
+  pub in_time : AreInTime None 0 false (frames_of log)
