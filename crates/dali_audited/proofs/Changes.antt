@@ -87,11 +87,11 @@ module _ (p : Plan) (plan : IsPlan p) (w : World) (k : HoldsAll p w) where
     queried is two =
         let random_of : (i : ℕ) → Replies QueryShort w.gear i → (gear_of w.gear i).random ≡ value_of r =
         λ i k. let q = query_replies (gear_of w.gear i) k.byte k.reply in
-            found_random (gear_of w.gear i) r (search_known b xs s c (gear_of w.gear i) r on is searched (knows i k.in_row k.powered) q.0) q.1 in
+        found_random (gear_of w.gear i) r (search_known b xs s c (gear_of w.gear i) r on is searched (knows i k.in_row k.powered) q.0) q.1 in
         let one : (gear_of w.gear two.first).random ≡ value_of r = random_of two.first two.replies in
         let other : (gear_of w.gear two.second).random ≡ value_of r = random_of two.second two.replies_too in
         let same : two.second ≡ two.first = one_drawer two.first two.second two.replies.in_row two.replies_too.in_row
-            (subst (λ n. n < MASK24) (sym one) (below is)) (other ∙ sym one) in
+        (subst (λ n. n < MASK24) (sym one) (below is)) (other ∙ sym one) in
         let order : two.first < two.second = two.order in
         omega arith
 
@@ -122,7 +122,8 @@ module _ (p : Plan) (plan : IsPlan p) (w : World) (k : HoldsAll p w) where
   IsTrueChange (change.Answered a) = (g : ℕ) × Holds w.gear g a
   IsTrueChange _ = ⊥
 
-  holder_of : (a : ℕ) (part : Part) (h : Answer) → h ≡ heard_of (answers_of Everyone (RandomByte a part) 0 w.gear) → (h ≡ Silence → ⊥) → (g : ℕ) × Holds w.gear g a
+  holder_of : (a : ℕ) (part : Part) (h : Answer) → h ≡ heard_of (answers_of Everyone (RandomByte a part) 0 w.gear) → (h ≡ Silence → ⊥)
+      → (g : ℕ) × Holds w.gear g a
   holder_of a part Silence e some = absurd (some refl)
   holder_of a part (Byte v) e some =
       let k = somebody (RandomByte a part) w.gear v e in
@@ -139,7 +140,8 @@ module _ (p : Plan) (plan : IsPlan p) (w : World) (k : HoldsAll p w) where
   short_true r n q s Silence at same found = tt
   short_true r n q s Damaged at same found = tt
   short_true r n q s (Byte v) at same found = rw (number_at n s at) (go (short_of v) (λ x e. found x e)) where
-    go : (o : Option ℕ) → ((x : Finding) → option_map (λ b. Queried b (value_of r)) o ≡ Some x → Names w (assigned x)) → IsTrueChange (pair_told (Some (value_of n)) o)
+    go : (o : Option ℕ) → ((x : Finding) → option_map (λ b. Queried b (value_of r)) o ≡ Some x → Names w (assigned x))
+        → IsTrueChange (pair_told (Some (value_of n)) o)
     go None found = tt
     go (Some a) found = told_by_name a (value_of n) (subst (λ m. Names w (a, value_of m)) same (found (Queried a (value_of r)) refl))
 
@@ -159,8 +161,10 @@ module _ (p : Plan) (plan : IsPlan p) (w : World) (k : HoldsAll p w) where
       rw (some x refl, same, self b) (subst (λ n. IsTrueChange (number_told n (number_of x.0 x.1 v))) same
       (low_true a x.0 x.1 v has (found (Resolved a (number_of x.0 x.1 v)) (rw (asked, same, self b) refl))))
 
-  pub true_change : (b : Block) (xs : List Assignment) (s : Stage) (c : Command) (now : ℕ) (drew second : Bool) (h : Answer) (bus : Bus) (r : SearchAddress) (q : Asked)
-      → (Q : Type 0) (F : SearchAddress → Type 0) (L : SearchAddress → ℕ → Type 0) → Follows b xs s c → Fits Q F L s now drew bus → IsSearched s r → IsAsked s q → h ≡ heard_of (answers_of Everyone c 0 w.gear)
+  pub true_change : (b : Block) (xs : List Assignment) (s : Stage) (c : Command) (now : ℕ) (drew second : Bool) (h : Answer) (bus : Bus) (r : SearchAddress)
+      (q : Asked)
+      → (Q : Type 0) (F : SearchAddress → Type 0) (L : SearchAddress → ℕ → Type 0) → Follows b xs s c → Fits Q F L s now drew bus → IsSearched s r → IsAsked s q
+      → h ≡ heard_of (answers_of Everyone c 0 w.gear)
       → ((x : Finding) → found_by r q c h ≡ Some x → Names w (assigned x)) → ((o : Option ℕ) → c ≡ Program o → ⊥)
       → IsTrueChange (change_by_command c second h bus)
   true_change b xs s (Program o) now drew second h bus r q Q F L on fits searched asked e found other = absurd (other o refl)
@@ -172,7 +176,8 @@ module _ (p : Plan) (plan : IsPlan p) (w : World) (k : HoldsAll p w) where
       absurd (let asks = asks_hunting n last left QueryShort on.leads_on in let no = asks.1 in cc)
   true_change b xs _ QueryShort now drew second h bus r q Q F L on fits searched asked e found other = absurd (let none = on.leads_on in cc)
   true_change b xs stage.Free (RandomByte a High) now drew second Silence bus r q Q F L on fits searched asked e found other = tt
-  true_change b xs stage.Free (RandomByte a High) now drew second (Byte v) bus r q Q F L on fits searched asked e found other = holder_of a High (Byte v) e (λ s. cc)
+  true_change b xs stage.Free (RandomByte a High) now drew second (Byte v) bus r q Q F L on fits searched asked e found other =
+      holder_of a High (Byte v) e (λ s. cc)
   true_change b xs stage.Free (RandomByte a High) now drew second Damaged bus r q Q F L on fits searched asked e found other = tt
   true_change b xs (stage.HighAsked d x) (RandomByte a Middle) now drew second Silence bus r q Q F L on fits searched asked e found other = tt
   true_change b xs (stage.HighAsked d x) (RandomByte a Middle) now drew second (Byte v) bus r q Q F L on fits searched asked e found other =

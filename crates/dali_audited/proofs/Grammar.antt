@@ -153,7 +153,8 @@ pub data Paired (half : Option First) (f : Forward) (until : ℕ) : Type 0 where
   alone : half ≡ None → Paired half f until
   twice : (t : ℕ) → half ≡ Some (record { frame = f; at = t; is_told = false }) → until ≤ t + 100000 → Paired half f until
 
-second_of : (c : Command) (now until : ℕ) (half : Option First) (f : Forward) → command_of f ≡ c → until ≡ now + 14178 + 14167 → IsHalf c now half → Paired half f until
+second_of : (c : Command) (now until : ℕ) (half : Option First) (f : Forward) → command_of f ≡ c → until ≡ now + 14178 + 14167 → IsHalf c now half
+    → Paired half f until
 second_of c now until half f e is k =
     let one : k.0 ≡ f = one_frame k.0 f (k.2 ∙ sym e) in
     let t : ℕ = k.1 in
@@ -267,7 +268,18 @@ module _ (Q P : Type 0) (F G : SearchAddress → Type 0) (L : SearchAddress → 
     named_fits : (v : ℕ) (o : Option ℕ) (m : Bool) → h ≡ Byte v → Goes (named r o m) QueryShort
     named_fits v (Some a) m is = plain_fits (stage.Found r a) QueryShort tt refl refl refl
     named_fits v None true is =
-        record { half = refl; drawn = refl; given = refl; search = k.search; crowded = rw is (told_apart_from (number bus.search) bus.crowded); spelled = tt; redraw = tt; quieted = tt; answered = answering v is; reserved = tt }
+        record {
+          half = refl;
+          drawn = refl;
+          given = refl;
+          search = k.search;
+          crowded = rw is (told_apart_from (number bus.search) bus.crowded);
+          spelled = tt;
+          redraw = tt;
+          quieted = tt;
+          answered = answering v is;
+          reserved = tt;
+        }
     named_fits v None false is = plain_fits (stage.Inconclusive r None) QueryShort tt refl refl refl
 
     go : (x : Answer) → h ≡ x → Goes (queried r x) QueryShort
@@ -296,7 +308,8 @@ module _ (Q P : Type 0) (F G : SearchAddress → Type 0) (L : SearchAddress → 
   doubted_fits : bus.may_redraw ≡ false → Goes (doubted h) Compare
   doubted_fits spared = go h where
     go : (x : Answer) → Goes (doubted x) Compare
-    go Silence = record { half = refl; drawn = refl; given = refl; search = tt; crowded = tt; spelled = tt; redraw = spared; quieted = tt; answered = tt; reserved = tt }
+    go Silence =
+        record { half = refl; drawn = refl; given = refl; search = tt; crowded = tt; spelled = tt; redraw = spared; quieted = tt; answered = tt; reserved = tt }
     go (Byte v) = plain_fits stage.DrawBarred Compare tt refl refl refl
     go Damaged = plain_fits stage.DrawBarred Compare tt refl refl refl
 
@@ -318,7 +331,18 @@ module _ (Q P : Type 0) (F G : SearchAddress → Type 0) (L : SearchAddress → 
       → Goes (next_stage (stage.HighAsked a high) (RandomByte c Middle) h) (RandomByte c Middle)
   middle_fits a c high is k = subst (λ n. Goes (next_stage (stage.HighAsked a high) (RandomByte n Middle) h) (RandomByte n Middle)) (sym is)
       (subst (λ s. Goes s (RandomByte a Middle)) (sym (middle_next a high h))
-      (record { half = refl; drawn = refl; given = refl; search = tt; crowded = tt; spelled = middle_told a high h bus.spelled k.spelled; redraw = tt; quieted = tt; answered = tt; reserved = tt }))
+      (record {
+        half = refl;
+        drawn = refl;
+        given = refl;
+        search = tt;
+        crowded = tt;
+        spelled = middle_told a high h bus.spelled k.spelled;
+        redraw = tt;
+        quieted = tt;
+        answered = tt;
+        reserved = tt;
+      }))
 
   low_fits : (a c : ℕ) (bytes : Option (ℕ × ℕ)) → c ≡ a → Goes (next_stage (stage.MiddleAsked a bytes) (RandomByte c Low) h) (RandomByte c Low)
   low_fits a c bytes is = subst (λ n. Goes (next_stage (stage.MiddleAsked a bytes) (RandomByte n Low) h) (RandomByte n Low)) (sym is)
@@ -340,7 +364,8 @@ module _ (Q P : Type 0) (F G : SearchAddress → Type 0) (L : SearchAddress → 
 
   arc_rested : (g : Forward) → now + rest_before drew (Arc g) + 14167 ≤ later → IsRested now drew bus.drawn → IsRested later false bus.drawn
   arc_rested g late k t e = go drew late (k t e) where
-    go : (d : Bool) → now + rest_before d (Arc g) + 14167 ≤ later → (t ≤ now) × (d ≡ false → t + 100000 ≤ now) → (t ≤ later) × (false ≡ false → t + 100000 ≤ later)
+    go : (d : Bool) → now + rest_before d (Arc g) + 14167 ≤ later → (t ≤ now) × (d ≡ false → t + 100000 ≤ now)
+        → (t ≤ later) × (false ≡ false → t + 100000 ≤ later)
     go true late k = let before : t ≤ now = k.0 in (omega arith, λ w. omega arith)
     go false late k = let before : t ≤ now = k.0 in let rested : t + 100000 ≤ now = k.1 refl in (omega arith, λ w. omega arith)
 
@@ -360,43 +385,169 @@ module _ (Q P : Type 0) (F G : SearchAddress → Type 0) (L : SearchAddress → 
       → ((r : SearchAddress) (v : ℕ) → s ≡ stage.NumberSent r → c ≡ QueryShort → h ≡ Byte v → G r) → (c ≡ Terminate → P)
       → Fits Q F L s now drew bus → Goes (next_stage s c h) c
   fits_step stage.Free Terminate on e two late quiet answering ends k =
-      record { half = refl; drawn = refl; given = refl; search = tt; crowded = tt; spelled = tt; redraw = refl; quieted = ends refl; answered = tt; reserved = tt }
+      record {
+        half = refl;
+        drawn = refl;
+        given = refl;
+        search = tt;
+        crowded = tt;
+        spelled = tt;
+        redraw = refl;
+        quieted = ends refl;
+        answered = tt;
+        reserved = tt;
+      }
   fits_step stage.Free (SearchHigh high) on e two late quiet answering ends k =
       record { half = refl; drawn = refl; given = refl; search = refl; crowded = tt; spelled = tt; redraw = tt; quieted = tt; answered = tt; reserved = tt }
   fits_step stage.Free (RandomByte a High) on e two late quiet answering ends k =
-      record { half = refl; drawn = refl; given = refl; search = tt; crowded = tt; spelled = high_told a h bus.spelled; redraw = tt; quieted = tt; answered = tt; reserved = tt }
+      record {
+        half = refl;
+        drawn = refl;
+        given = refl;
+        search = tt;
+        crowded = tt;
+        spelled = high_told a h bus.spelled;
+        redraw = tt;
+        quieted = tt;
+        answered = tt;
+        reserved = tt;
+      }
   fits_step stage.Free (Arc g) on e two late quiet answering ends k =
-      record { half = refl; drawn = arc_rested g late k.drawn; given = k.given; search = tt; crowded = tt; spelled = tt; redraw = tt; quieted = tt; answered = tt; reserved = tt }
+      record {
+        half = refl;
+        drawn = arc_rested g late k.drawn;
+        given = k.given;
+        search = tt;
+        crowded = tt;
+        spelled = tt;
+        redraw = tt;
+        quieted = tt;
+        answered = tt;
+        reserved = tt;
+      }
   fits_step stage.Terminated (Initialise Unaddressed) on e two late quiet answering ends k =
-      record { half = (first_half (Initialise Unaddressed) e refl (two ∙ completed_none bus.half f _ k.half) k.half (quiet refl), refl); drawn = refl; given = refl; search = tt; crowded = tt; spelled = tt; redraw = spared second k.redraw; quieted = tt; answered = tt; reserved = tt }
+      record {
+        half = (first_half (Initialise Unaddressed) e refl (two ∙ completed_none bus.half f _ k.half) k.half (quiet refl), refl);
+        drawn = refl;
+        given = refl;
+        search = tt;
+        crowded = tt;
+        spelled = tt;
+        redraw = spared second k.redraw;
+        quieted = tt;
+        answered = tt;
+        reserved = tt;
+      }
   fits_step stage.InitialisedOnce (Initialise Unaddressed) on e two late quiet answering ends k =
-      record { half = rw (two ∙ second_half (Initialise Unaddressed) k.half.0 (paired b xs _ (Initialise Unaddressed) now drew bus.half f on e k.half)) refl; drawn = refl; given = refl; search = tt; crowded = tt; spelled = tt; redraw = spared second k.redraw; quieted = tt; answered = tt; reserved = tt }
+      record {
+        half = rw (two ∙ second_half (Initialise Unaddressed) k.half.0 (paired b xs _ (Initialise Unaddressed) now drew bus.half f on e k.half)) refl;
+        drawn = refl;
+        given = refl;
+        search = tt;
+        crowded = tt;
+        spelled = tt;
+        redraw = spared second k.redraw;
+        quieted = tt;
+        answered = tt;
+        reserved = tt;
+      }
   fits_step stage.Initialised Randomise on e two late quiet answering ends k =
-      record { half = first_half Randomise e refl (two ∙ completed_none bus.half f _ k.half) k.half (quiet refl); drawn = rw (two ∙ completed_none bus.half f _ k.half) refl; given = refl; search = tt; crowded = tt; spelled = tt; redraw = k.redraw; quieted = tt; answered = tt; reserved = tt }
+      record {
+        half = first_half Randomise e refl (two ∙ completed_none bus.half f _ k.half) k.half (quiet refl);
+        drawn = rw (two ∙ completed_none bus.half f _ k.half) refl;
+        given = refl;
+        search = tt;
+        crowded = tt;
+        spelled = tt;
+        redraw = k.redraw;
+        quieted =
+            tt;
+        answered = tt;
+        reserved = tt;
+      }
   fits_step stage.DrawFree Randomise on e two late quiet answering ends k =
-      record { half = first_half Randomise e refl (two ∙ completed_none bus.half f _ k.half) k.half (quiet refl); drawn = rw (two ∙ completed_none bus.half f _ k.half) refl; given = refl; search = tt; crowded = tt; spelled = tt; redraw = k.redraw; quieted = tt; answered = tt; reserved = tt }
+      record {
+        half = first_half Randomise e refl (two ∙ completed_none bus.half f _ k.half) k.half (quiet refl);
+        drawn = rw (two ∙ completed_none bus.half f _ k.half) refl;
+        given = refl;
+        search = tt;
+        crowded = tt;
+        spelled = tt;
+        redraw = k.redraw;
+        quieted =
+            tt;
+        answered = tt;
+        reserved = tt;
+      }
   fits_step stage.RandomisedOnce Randomise on e two late quiet answering ends k =
-      record { half = rw (two ∙ second_half Randomise k.half (paired b xs _ Randomise now drew bus.half f on e k.half)) refl; drawn = drawn_now (two ∙ second_half Randomise k.half (paired b xs _ Randomise now drew bus.half f on e k.half)) late _; given = refl; search = tt; crowded = tt; spelled = tt; redraw = tt; quieted = tt; answered = tt; reserved = tt }
+      record {
+        half = rw (two ∙ second_half Randomise k.half (paired b xs _ Randomise now drew bus.half f on e k.half)) refl;
+        drawn = drawn_now (two ∙ second_half Randomise k.half (paired b xs _ Randomise now drew bus.half f on e k.half)) late _;
+        given = refl;
+        search =
+            tt;
+        crowded = tt;
+        spelled = tt;
+        redraw = tt;
+        quieted = tt;
+        answered = tt;
+        reserved = tt;
+      }
   fits_step stage.Initialised (SearchHigh high) on e two late quiet answering ends k =
       record { half = refl; drawn = refl; given = refl; search = tt; crowded = tt; spelled = tt; redraw = k.redraw; quieted = tt; answered = tt; reserved = tt }
   fits_step (stage.WokenHigh high) (SearchLow low) on e two late quiet answering ends k = plain_fits (stage.WokenLow high low) (SearchLow low) tt refl refl refl
   fits_step (stage.WokenHigh high) (SearchMiddle middle) on e two late quiet answering ends k =
       record { half = refl; drawn = refl; given = refl; search = tt; crowded = tt; spelled = tt; redraw = k.redraw; quieted = tt; answered = tt; reserved = tt }
-  fits_step (stage.WokenLow high low) (SearchMiddle middle) on e two late quiet answering ends k = plain_fits (stage.Hunted _ None _) (SearchMiddle middle) tt refl refl refl
+  fits_step (stage.WokenLow high low) (SearchMiddle middle) on e two late quiet answering ends k =
+      plain_fits (stage.Hunted _ None _) (SearchMiddle middle) tt refl refl refl
   fits_step (stage.WokenMiddle high middle) Compare on e two late quiet answering ends k = doubted_fits k.redraw
   fits_step (stage.HighSent high) (SearchMiddle middle) on e two late quiet answering ends k =
-      record { half = refl; drawn = refl; given = refl; search = (k.search, refl); crowded = tt; spelled = tt; redraw = tt; quieted = tt; answered = tt; reserved = tt }
+      record {
+        half = refl;
+        drawn = refl;
+        given = refl;
+        search = (k.search, refl);
+        crowded = tt;
+        spelled = tt;
+        redraw = tt;
+        quieted = tt;
+        answered = tt;
+        reserved = tt;
+      }
   fits_step (stage.HighSent high) (SearchLow low) on e two late quiet answering ends k = plain_fits (stage.LowSent high low) (SearchLow low) tt refl refl refl
-  fits_step (stage.LowSent high low) (SearchMiddle middle) on e two late quiet answering ends k = plain_fits (stage.Hunted _ None _) (SearchMiddle middle) tt refl refl refl
+  fits_step (stage.LowSent high low) (SearchMiddle middle) on e two late quiet answering ends k =
+      plain_fits (stage.Hunted _ None _) (SearchMiddle middle) tt refl refl refl
   fits_step (stage.Hunted r last left) c on e two late quiet answering ends k = hunted_fits r last left c on
   fits_step (stage.MiddleSent high middle) (SearchLow low) on e two late quiet answering ends k =
-      record { half = refl; drawn = refl; given = refl; search = (k.search.0, k.search.1, refl); crowded = tt; spelled = tt; redraw = tt; quieted = tt; answered = tt; reserved = tt }
+      record {
+        half = refl;
+        drawn = refl;
+        given = refl;
+        search = (k.search.0, k.search.1, refl);
+        crowded = tt;
+        spelled = tt;
+        redraw = tt;
+        quieted = tt;
+        answered = tt;
+        reserved = tt;
+      }
   fits_step (stage.NumberSent r) Compare on e two late quiet answering ends k = plain_fits (stage.Probed r h) Compare tt refl refl refl
   fits_step (stage.NumberSent r) QueryShort on e two late quiet answering ends k = queried_fits r (λ v is. answering r v refl refl is) k
   fits_step (stage.NumberSent r) Withdraw on e two late quiet answering ends k = plain_fits (stage.PassedOver r) Withdraw tt refl refl refl
   fits_step (stage.Found r a) Withdraw on e two late quiet answering ends k = plain_fits (stage.Withdrawn r a) Withdraw tt refl refl refl
   fits_step (stage.Unnamed r) (Program (Some a)) on e two late quiet answering ends k =
-      record { half = refl; drawn = refl; given = tt; search = k.search; crowded = tt; spelled = tt; redraw = tt; quieted = tt; answered = tt; reserved = on.may }
+      record {
+        half = refl;
+        drawn = refl;
+        given = tt;
+        search = k.search;
+        crowded = tt;
+        spelled = tt;
+        redraw = tt;
+        quieted = tt;
+        answered = tt;
+        reserved = on.may;
+      }
   fits_step (stage.Programmed r a) QueryShort on e two late quiet answering ends k = verified_fits r a
   fits_step (stage.Confirmed r a) Withdraw on e two late quiet answering ends k = plain_fits (stage.Withdrawn r a) Withdraw tt refl refl refl
   fits_step (stage.HighAsked a high) (RandomByte d Middle) on e two late quiet answering ends k = middle_fits a d high (middle_same a d high on.leads_on) k
@@ -416,7 +567,18 @@ leave Q F L M stage.Opened now drew bus whole k =
 leave Q F L M stage.Over now drew bus whole k =
     record { half = k.half; drawn = k.drawn; given = k.given; search = tt; crowded = tt; spelled = tt; redraw = tt; quieted = tt; answered = tt; reserved = tt }
 leave Q F L M _ now drew bus whole k =
-    record { half = k.half; drawn = λ t e. absurd (let none = k.drawn in cc); given = k.given; search = tt; crowded = tt; spelled = tt; redraw = tt; quieted = tt; answered = tt; reserved = tt }
+    record {
+      half = k.half;
+      drawn = λ t e. absurd (let none = k.drawn in cc);
+      given = k.given;
+      search = tt;
+      crowded = tt;
+      spelled = tt;
+      redraw = tt;
+      quieted = tt;
+      answered = tt;
+      reserved = tt;
+    }
 
 -- a transaction after which no frame may follow awaits none
 pub ended : (b : Block) (xs : List Assignment) (s : Stage) → Reserved (MayGive b xs) s → may_follow b xs s ≡ false → AwaitsMore s → ⊥
@@ -429,7 +591,18 @@ ended b xs _ may stops waits = waits
 pub go_on : (Q : Type 0) (F : SearchAddress → Type 0) (L : SearchAddress → ℕ → Type 0) (s : Stage) (now : ℕ) (drew : Bool) (bus : Bus)
     → Fits Q F L s now drew bus → Fits Q F (λ r a. Unit {0}) s now drew bus
 go_on Q F L s now drew bus k =
-    record { half = k.half; drawn = k.drawn; given = k.given; search = k.search; crowded = k.crowded; spelled = k.spelled; redraw = k.redraw; quieted = k.quieted; answered = k.answered; reserved = any s } where
-  any : (s : Stage) → Reserved (λ r a. Unit {0}) s
-  any (stage.Programmed r a) = tt
-  any _ = tt
+    record {
+      half = k.half;
+      drawn = k.drawn;
+      given = k.given;
+      search = k.search;
+      crowded = k.crowded;
+      spelled = k.spelled;
+      redraw = k.redraw;
+      quieted = k.quieted;
+      answered = k.answered;
+      reserved = any s;
+    } where
+      any : (s : Stage) → Reserved (λ r a. Unit {0}) s
+      any (stage.Programmed r a) = tt
+      any _ = tt

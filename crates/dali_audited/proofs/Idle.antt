@@ -44,7 +44,8 @@ idle_after (Initialise target) g k = rw k.1 (first target) where
   first : (t : Target) → is_active (if is_second (Initialise t) None && concerns t g.short then Enabled else g.state) ≡ false
   first t = k.0
 idle_after Withdraw g k = go g.state k refl where
-  go : (st : InitialisationState) → is_active g.state ≡ false → g.state ≡ st → is_active (if is_enabled g.state && is_found g then Withdrawn else g.state) ≡ false
+  go : (st : InitialisationState) → is_active g.state ≡ false → g.state ≡ st
+      → is_active (if is_enabled g.state && is_found g then Withdrawn else g.state) ≡ false
   go Disabled off e = rw e refl
   go Enabled off e = absurd (let on : is_active g.state ≡ true = ap is_active e in cc)
   go Withdrawn off e = absurd (let on : is_active g.state ≡ true = ap is_active e in cc)
@@ -55,11 +56,13 @@ idle_moved : (c : Command) (ds : List (ℕ × ℕ)) (k : ℕ) (g g' : Gear) → 
 idle_moved c ds k g _ (stays off) on leaves = absurd (let there = powered_takes k g on in cc)
 idle_moved c ds k g _ (goes r there drew) on leaves = idle_after c g (leaves on)
 
-pub idle_taken : (c : Command) (gs : List Gear) (left : List ℕ) → ((i : ℕ) → i < length gs → (get_or gs i fresh).powered ≡ true → LeavesIdle c (get_or gs i fresh))
+pub idle_taken : (c : Command) (gs : List Gear) (left : List ℕ)
+    → ((i : ℕ) → i < length gs → (get_or gs i fresh).powered ≡ true → LeavesIdle c (get_or gs i fresh))
     → AllIdle (row_after Everyone c 0 gs left)
 idle_taken c gs left leaves i in_row on =
     let there : i < length gs = subst (λ n. i < n) (row_length Everyone c 0 gs left) in_row in
-    idle_moved c (drawn_of Everyone c 0 gs left) i (get_or gs i fresh) (get_or (row_after Everyone c 0 gs left) i fresh) (moves_at Everyone c gs left i there) on
+    idle_moved c (drawn_of Everyone c 0 gs left) i (get_or gs i fresh) (get_or (row_after Everyone c 0 gs left) i fresh)
+    (moves_at Everyone c gs left i there) on
     (leaves i there)
 
 half_moved : (ds : List (ℕ × ℕ)) (k : ℕ) (g g' : Gear) → Moved Everyone Terminate ds k g g' → g'.powered ≡ true → g'.half ≡ None
@@ -76,7 +79,8 @@ half_taken gs left i in_row on =
 -- what an idle gear does not answer
 reply_active : (c : Command) (g : Gear) (v : ℕ) → asks_initialised c ≡ true → answer c g ≡ Some v → is_active g.state ≡ true
 reply_active Compare g v asks e = go g.state refl e where
-  go : (st : InitialisationState) → g.state ≡ st → (if is_enabled st && nat_le g.random (value_of g.search) then Some YES else None) ≡ Some v → is_active g.state ≡ true
+  go : (st : InitialisationState) → g.state ≡ st → (if is_enabled st && nat_le g.random (value_of g.search) then Some YES else None) ≡ Some v
+      → is_active g.state ≡ true
   go Disabled is e = absurd (cc)
   go Enabled is e = ap is_active is
   go Withdrawn is e = absurd (cc)
@@ -96,7 +100,8 @@ replies_idle c gs i idle asks k =
     let off : is_active (get_or gs i fresh).state ≡ false = idle i k.in_row k.powered in
     cc
 
-idle_silent : (c : Command) (gs : List Gear) (h : Answer) → AllIdle gs → h ≡ heard_of (answers_of Everyone c 0 gs) → asks_initialised c ≡ true → is_silence h ≡ true
+idle_silent : (c : Command) (gs : List Gear) (h : Answer) → AllIdle gs → h ≡ heard_of (answers_of Everyone c 0 gs) → asks_initialised c ≡ true
+    → is_silence h ≡ true
 idle_silent c gs Silence idle e asks = refl
 idle_silent c gs (Byte v) idle e asks = absurd (let k = somebody c gs v e in replies_idle c gs k.0 idle asks k.1)
 idle_silent c gs Damaged idle e asks = absurd (let k = several c gs e in replies_idle c gs k.first idle asks k.replies)
@@ -110,7 +115,8 @@ initialised true c gs h idle e = go (asks_initialised c) refl where
   go true asks = rw (idle_silent c gs h (idle refl) e asks) refl
 
 -- ---------------------------------------------------------------- the bus as the audit knows it
-pub closed_from : (c : Command) (again second : Bool) (x : Item) (f : Forward) (h : Answer) (b : Bus) → (sent_by c again second x h (passed x f b)).is_closed ≡ true
+pub closed_from : (c : Command) (again second : Bool) (x : Item) (f : Forward) (h : Answer) (b : Bus)
+    → (sent_by c again second x h (passed x f b)).is_closed ≡ true
     → (c ≡ Terminate) ⊎ ((b.is_closed ≡ true) × ((t : Target) → c ≡ Initialise t → again ≡ false))
 closed_from Terminate again second x f h b e = inl refl
 closed_from (Initialise t) again second x f h b e = inr (go b.is_closed again e) where

@@ -20,7 +20,8 @@ use Rattle.dali_audit.specs.declared.bus.First.{First}
 use Rattle.dali_audit.specs.declared.bus.Begun.{Begun}
 use Rattle.dali_audit.specs.declared.bus.Bus.{Bus}
 use Rattle.dali_audit.specs.Bus.{is_addressing, in_initialisation, repeats, late_by, is_over}
-use Rattle.dali_audit.specs.Findings.{asks_one, damaged_answer, broken_pair, half_pair, late_pair, too_early, too_close, early_frame, initialisation_over, unasked, not_queried}
+use Rattle.dali_audit.specs.Findings.{asks_one, damaged_answer, broken_pair, half_pair, late_pair, too_early, too_close, early_frame, initialisation_over}
+use Rattle.dali_audit.specs.Findings.{unasked, not_queried}
 use Rattle.dali_audit.specs.Findings.{settling_time, at_where}
 use Rattle.dali_audited.specs.Capture.{rest_before}
 use Rattle.dali_audited.proofs.Grammar.{Drawn, IsRested, Given, Fits, Paired, alone, twice, paired, item_of, same_frames}
@@ -41,7 +42,8 @@ punctual half f until at (twice t is in_time) = rw (is, same_frames f, early) re
   early : nat_lt 100000 (until - t) ≡ false
   early = grind (arith, nat_tests)
 
-rested : (now at : ℕ) (drew : Bool) (d : Option ℕ) (x : Item) (f : Forward) (h : Answer) → IsRested now drew d → x.at ≡ at → now ≤ at → (drew ≡ true → now + 100000 ≤ at)
+rested : (now at : ℕ) (drew : Bool) (d : Option ℕ) (x : Item) (f : Forward) (h : Answer) → IsRested now drew d → x.at ≡ at → now ≤ at
+    → (drew ≡ true → now + 100000 ≤ at)
     → too_early d x (seen.Sent f h) ≡ None
 rested now at drew None x f h k is later drawn = refl
 rested now at drew (Some t) x f h k is later drawn = rw (early, never (is_addressing f)) refl where
@@ -105,7 +107,8 @@ clear x f (Byte v) one = refl
 clear x f Damaged one = rw (one refl) refl
 
 module _ (b : Block) (xs : List Assignment) (s : Stage) (c : Command) (now : ℕ) (drew : Bool) (f : Forward) (h : Answer) (bus : Bus)
-    (Q : Type 0) (F : SearchAddress → Type 0) (L : SearchAddress → ℕ → Type 0) (on : Follows b xs s c) (e : command_of f ≡ c) (k : Fits Q F L s now drew bus) where
+    (Q : Type 0) (F : SearchAddress → Type 0) (L : SearchAddress → ℕ → Type 0) (on : Follows b xs s c) (e : command_of f ≡ c)
+    (k : Fits Q F L s now drew bus) where
   pub no_half_pair : half_pair bus (seen.Sent f h) ≡ None
   no_half_pair = unbroken bus.half f h _ (paired b xs s c now drew bus.half f on e k.half)
 

@@ -1,4 +1,5 @@
-use Rattle.std.proofs.Common.{◌≡◌, ◌≢◌, ℕ, ◌<◌, ◌⊎◌, inl, inr, Bool, true, false, zero, suc, List, [], ◌∷◌, refl, sym, ap, subst, ◌∙◌, arith, length, length-set, map}
+use Rattle.std.proofs.Common.{◌≡◌, ◌≢◌, ℕ, ◌<◌, ◌⊎◌, inl, inr, Bool, true, false, zero, suc, List, [], ◌∷◌, refl, sym, ap, subst, ◌∙◌, arith, length}
+use Rattle.std.proofs.Common.{length-set, map}
 use Rattle.std.proofs.Common.{get_or-set_same, get_or-set_other, nat_eq, Option, Some, None}
 use Rattle.std.specs.Prelude.{◌&&◌, ◌||◌, not, ◌==◌, if◌then◌else◌}
 use Rattle.std.specs.List.{list_any}
@@ -11,7 +12,8 @@ use Rattle.dali_audit.specs.declared.holders.Holder.{Holder}
 use Rattle.dali_audit.specs.declared.holders.Holder.TheVariants as holder
 use Rattle.dali_audit.specs.declared.holders.Change.{Change}
 use Rattle.dali_audit.specs.declared.holders.Change.TheVariants as change
-use Rattle.dali_audit.specs.Holders.{random_of, heard_of, is_other, given, left_by, told, passed_on, answered, renewed, swept, table_after, table_with, holder_at, is_heard, was_confirmed, is_confirmed}
+use Rattle.dali_audit.specs.Holders.{random_of, heard_of, is_other, given, left_by, told, passed_on, answered, renewed, swept, table_after, table_with}
+use Rattle.dali_audit.specs.Holders.{holder_at, is_heard, was_confirmed, is_confirmed}
 use Rattle.dali_audit.specs.Findings.{is_another, two_random, two_short, address_taken, address_moved}
 use Rattle.dali_events.specs.Wanted.{gear_of}
 use Rattle.dali_audited.specs.Tables.{Holds, IsTableOf}
@@ -228,9 +230,12 @@ module _ (gs : List Gear) (hs : List Holder) (table : IsTableOf gs hs) (apart : 
     at : (i : ℕ) → (i ≡ a) ⊎ (i ≢ a)
         → (holder_at (table_after (change.Told a r) hs) i ≡ holder_at hs i)
         ⊎ ((n : ℕ) × (random_of (holder_at hs i) ≡ Some n) × (random_of (holder_at (table_after (change.Told a r) hs) i) ≡ Some n))
-    at i (inl e) = inr (r, subst (λ j. random_of (holder_at hs j) ≡ Some r) (sym e) (random_told a r is),
-        subst (λ j. random_of (holder_at (table_after (change.Told a r) hs) j) ≡ Some r) (sym e)
-        (ap random_of (here (change.Told a r) hs a there) ∙ told_random r (holder_at hs a) (random_told a r is)))
+    at i (inl e) = inr (
+      r,
+      subst (λ j. random_of (holder_at hs j) ≡ Some r) (sym e) (random_told a r is),
+      subst (λ j. random_of (holder_at (table_after (change.Told a r) hs) j) ≡ Some r) (sym e)
+          (ap random_of (here (change.Told a r) hs a there) ∙ told_random r (holder_at hs a) (random_told a r is)),
+    )
     at i (inr other) = inl (elsewhere (change.Told a r) hs a i other ∙ passed_same r (holder_at hs i) (λ e. other (stands_once a r i is e)))
 
   pub table_answered : (ht : List Gear) (a g : ℕ) → SameGear gs ht → a < length hs → Holds gs g a → IsTableOf ht (table_after (change.Answered a) hs)
@@ -243,7 +248,8 @@ module _ (gs : List Gear) (hs : List Holder) (table : IsTableOf gs hs) (apart : 
     at i (inr other) = inl (elsewhere (change.Answered a) hs a i other)
 
   -- PROGRAM SHORT ADDRESS a, where gear g without one has the search address r
-  module _ (ht : List Gear) (g a r : ℕ) (there : a < length hs) (in_row : g < length gs) (none : (gear_of gs g).short ≡ None) (random : (gear_of gs g).random ≡ r)
+  module _ (ht : List Gear) (g a r : ℕ) (there : a < length hs) (in_row : g < length gs) (none : (gear_of gs g).short ≡ None)
+      (random : (gear_of gs g).random ≡ r)
       (now : Holds ht g a) (still : (gear_of ht g).random ≡ r) (later : AreApart ht)
       (stays : (i c : ℕ) → Holds gs i c → Holds ht i c × ((gear_of ht i).random ≡ (gear_of gs i).random))
       (from : (i c : ℕ) → Holds ht i c → Holds gs i c ⊎ (c ≡ a)) where
@@ -285,9 +291,12 @@ module _ (gs : List Gear) (hs : List Holder) (table : IsTableOf gs hs) (apart : 
     table_given = record { true_of = λ i some. true_at i some (place i a); has = λ j i has. has_at j i has (place i a) } where
       true_at : (i : ℕ) → holder_at (table_after (change.Given a r) hs) i ≢ holder.Nobody → (i ≡ a) ⊎ (i ≢ a)
           → (j : ℕ) × Holds ht j i × (random_of (holder_at (table_after (change.Given a r) hs) i) ≡ Some (gear_of ht j).random)
-      true_at i some (inl e) = (g, subst (λ c. Holds ht g c) (sym e) now,
-          subst (λ c. random_of (holder_at (table_after (change.Given a r) hs) c) ≡ Some (gear_of ht g).random) (sym e)
-          (ap random_of (here (change.Given a r) hs a there) ∙ given_random r (holder_at hs a) ∙ ap (λ n. Some n) (sym still)))
+      true_at i some (inl e) = (
+        g,
+        subst (λ c. Holds ht g c) (sym e) now,
+        subst (λ c. random_of (holder_at (table_after (change.Given a r) hs) c) ≡ Some (gear_of ht g).random) (sym e)
+            (ap random_of (here (change.Given a r) hs a there) ∙ given_random r (holder_at hs a) ∙ ap (λ n. Some n) (sym still)),
+      )
       true_at i some (inr other) =
           let is : holder_at (table_after (change.Given a r) hs) i ≡ left_by r (holder_at hs i) = elsewhere (change.Given a r) hs a i other in
           let same : left_by r (holder_at hs i) ≡ holder_at hs i = left_is r (holder_at hs i) (λ e. some (is ∙ e)) in
@@ -301,11 +310,12 @@ module _ (gs : List Gear) (hs : List Holder) (table : IsTableOf gs hs) (apart : 
       has_at j i has (inr other) = go (from j i has) where
         go : Holds gs j i ⊎ (i ≡ a) → holder_at (table_after (change.Given a r) hs) i ≢ holder.Nobody
         go (inr e) = absurd (other e)
-        go (inl before) = λ none_now. table.has j i before (sym (left_same r (holder_at hs i) differs) ∙ sym (elsewhere (change.Given a r) hs a i other) ∙ none_now) where
-          differs : random_of (holder_at hs i) ≡ Some r → ⊥
-          differs e =
-              let own : Some (gear_of gs j).random ≡ Some r = sym (random_at j i before) ∙ e in
-              let number : (gear_of gs j).random ≡ r = cc in
-              let same : g ≡ j = apart.random j g i before in_row (random ∙ sym number) in
-              let short : (gear_of gs g).short ≡ Some i = subst (λ n. (gear_of gs n).short ≡ Some i) (sym same) before.1 in
-              cc
+        go (inl before) =
+            λ none_now. table.has j i before (sym (left_same r (holder_at hs i) differs) ∙ sym (elsewhere (change.Given a r) hs a i other) ∙ none_now) where
+              differs : random_of (holder_at hs i) ≡ Some r → ⊥
+              differs e =
+                  let own : Some (gear_of gs j).random ≡ Some r = sym (random_at j i before) ∙ e in
+                  let number : (gear_of gs j).random ≡ r = cc in
+                  let same : g ≡ j = apart.random j g i before in_row (random ∙ sym number) in
+                  let short : (gear_of gs g).short ≡ Some i = subst (λ n. (gear_of gs n).short ≡ Some i) (sym same) before.1 in
+                  cc

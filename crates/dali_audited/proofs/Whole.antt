@@ -1,5 +1,6 @@
-use Rattle.std.proofs.Common.{◌≡◌, ℕ, ◌+◌, ◌<◌, ◌≤◌, ◌⊎◌, inl, inr, Bool, true, false, List, [], ◌∷◌, ◌++◌, refl, sym, ap, subst, ◌∙◌, arith, length, Option, Some, None}
-use Rattle.std.specs.Prelude.{◌-◌, if◌then◌else◌, ◌&&◌, ◌||◌, not, ◌==◌, nat_le, option_to_list, is_some}
+use Rattle.std.proofs.Common.{◌≡◌, ℕ, ◌+◌, ◌<◌, ◌≤◌, ◌⊎◌, inl, inr, Bool, true, false, List, [], ◌∷◌, ◌++◌, refl, sym, ap, subst, ◌∙◌, arith, length, Option}
+use Rattle.std.proofs.Common.{Some, None}
+use Rattle.std.specs.Prelude.{◌-◌, if◌then◌else◌, ◌&&◌, ◌||◌, not, ◌==◌, nat_le, is_some}
 use Rattle.std.proofs.Common.{append-nil}
 use Rattle.std.specs.List.{AllByRecursion}
 use Rattle.dali_frame.specs.declared.frames.Forward.{Forward}
@@ -42,8 +43,9 @@ use Rattle.dali_audit.specs.declared.telling.Known.{Known}
 use Rattle.dali_audit.specs.Bus.{number, is_over, completes, repeats, frame_end}
 use Rattle.dali_audit.specs.Seen.{awaits, seen_of, answer_after, in_window, may_be_answered}
 use Rattle.dali_audit.specs.Holders.{change_of, table_after, short_in}
-use Rattle.dali_audit.specs.Findings.{told_of, kinds, known_after, findings_from, known_from, first_of, address_taken, address_moved, two_random, two_short, broken_pair}
-use Rattle.dali_audit.specs.Findings.{too_early, unasked, several_programmed, not_found, is_among, found_at, asks_one}
+use Rattle.dali_audit.specs.Findings.{told_of, kinds, known_after, findings_from, known_from, first_of, address_taken, address_moved, two_random, two_short}
+use Rattle.dali_audit.specs.Findings.{broken_pair}
+use Rattle.dali_audit.specs.Findings.{too_early, unasked, several_programmed, not_found, is_among, asks_one}
 use Rattle.dali_events.specs.declared.event.Event.{Event}
 use Rattle.dali_events.specs.declared.event.Event.TheVariants as event
 use Rattle.dali_events.specs.Plan.{Plan, IsPlan}
@@ -219,7 +221,8 @@ module _ (p : Plan) (plan : IsPlan p) (w : World) (c : ℕ) (f : Forward) (h : A
   searched = searched_lawful b xs t f lawful
 
   found : (x : Finding) → found_by (search_of t) (asked_of t) (command_of f) h ≡ Some x → Names w (assigned x)
-  found = found_names (IsOwned p.used w.controllers) w c f h here agrees.holds.known agrees.holds.gifts (tells_if (owns w.bus.owner c) w.trace w.gear agrees.holds.tells)
+  found = found_names (IsOwned p.used w.controllers) w c f h here agrees.holds.known agrees.holds.gifts
+      (tells_if (owns w.bus.owner c) w.trace w.gear agrees.holds.tells)
 
   held : HoldsAll p v
   held = holds_step p plan w (event.Sent c f h) here leaves agrees.holds
@@ -238,13 +241,13 @@ module _ (p : Plan) (plan : IsPlan p) (w : World) (c : ℕ) (f : Forward) (h : A
   from : (g a : ℕ) → Holds v.gear g a → Holds w.gear g a ⊎ (stored_short (command_of f) (gear_of w.gear g) ≡ Some a)
   from g a has = go (from_moved (command_of f) (drawn_of Everyone (command_of f) 0 w.gear w.left) g a (gear_of w.gear g) (gear_of v.gear g)
       (moves_at Everyone (command_of f) w.gear w.left g there) has.1) where
-    there : g < length w.gear
-    there = subst (λ n. g < n) (row_length Everyone (command_of f) 0 w.gear w.left) has.0
+        there : g < length w.gear
+        there = subst (λ n. g < n) (row_length Everyone (command_of f) 0 w.gear w.left) has.0
 
-    go : ((gear_of w.gear g).short ≡ Some a) ⊎ (stored_short (command_of f) (gear_of w.gear g) ≡ Some a)
-        → Holds w.gear g a ⊎ (stored_short (command_of f) (gear_of w.gear g) ≡ Some a)
-    go (inl e) = inl (there, e)
-    go (inr e) = inr e
+        go : ((gear_of w.gear g).short ≡ Some a) ⊎ (stored_short (command_of f) (gear_of w.gear g) ≡ Some a)
+            → Holds w.gear g a ⊎ (stored_short (command_of f) (gear_of w.gear g) ≡ Some a)
+        go (inl e) = inl (there, e)
+        go (inr e) = inr e
 
   same : ((o : Option ℕ) → command_of f ≡ Program o → ⊥) → SameGear w.gear v.gear
   same other = record { stays = stay; from = λ g a has. old g a (from g a has) } where
@@ -258,10 +261,10 @@ module _ (p : Plan) (plan : IsPlan p) (w : World) (c : ℕ) (f : Forward) (h : A
       let query = query_replies (gear_of w.gear who.0) n who.2 in
       let number : IsSearched (stage.NumberSent r) r = refl in
       let search = search_known b xs s (command_of f) (gear_of w.gear who.0) r on is (subst (λ z. IsSearched z r) (sym at) number)
-          (knows who.0 who.1.in_row who.1.powered) query.0 in
+      (knows who.0 who.1.in_row who.1.powered) query.0 in
       let random : (gear_of w.gear who.0).random ≡ value_of r = found_random (gear_of w.gear who.0) r search query.1 in
       let moved = queried_moved (command_of f) (drawn_of Everyone (command_of f) 0 w.gear w.left) who.0 (gear_of w.gear who.0) (gear_of v.gear who.0) is
-          who.1.powered (moves_at Everyone (command_of f) w.gear w.left who.0 who.1.in_row) in
+      who.1.powered (moves_at Everyone (command_of f) w.gear w.left who.0 who.1.in_row) in
       record {
         gear = who.0;
         in_row = subst (λ m. who.0 < m) (sym changes.count) who.1.in_row;
@@ -316,13 +319,15 @@ module _ (p : Plan) (plan : IsPlan p) (w : World) (c : ℕ) (f : Forward) (h : A
   given_clean a r is at =
       let fit : Before (stage.Unnamed r) = subst (λ z. Before z) at fits in
       let one : Stands w.gear r = fit.answered.0 in
-      let know : Knows (stage.Unnamed r) (gear_of w.gear one.gear) = subst (λ z. Knows z (gear_of w.gear one.gear)) at (knows one.gear one.in_row one.powered) in
+      let know : Knows (stage.Unnamed r) (gear_of w.gear one.gear) =
+      subst (λ z. Knows z (gear_of w.gear one.gear)) at (knows one.gear one.in_row one.powered) in
       let none : (gear_of w.gear one.gear).short ≡ None = (know one.active).1 one.random in
       let met : is_found (gear_of w.gear one.gear) ≡ true = found_here (gear_of w.gear one.gear) r (know one.active).0 one.random in
       let moved = programmed_moved (command_of f) (drawn_of Everyone (command_of f) 0 w.gear w.left) one.gear a (gear_of w.gear one.gear)
-          (gear_of v.gear one.gear) is one.powered one.active met (moves_at Everyone (command_of f) w.gear w.left one.gear one.in_row) in
+      (gear_of v.gear one.gear) is one.powered one.active met (moves_at Everyone (command_of f) w.gear w.left one.gear one.in_row) in
       let has : Holds v.gear one.gear a = (subst (λ m. one.gear < m) (sym changes.count) one.in_row, moved.0) in
-      let there : a < length k.table = (let at : a < 64 = held.known.short one.gear has.0 a has.1 in let all : length k.table ≡ 64 = agrees.places in omega arith) in
+      let there : a < length k.table =
+      (let at : a < 64 = held.known.short one.gear has.0 a has.1 in let all : length k.table ≡ 64 = agrees.places in omega arith) in
       record {
         several = fit.crowded;
         found = rw (fit.answered.1) (never (is_some k.bus.begun));
@@ -335,10 +340,10 @@ module _ (p : Plan) (plan : IsPlan p) (w : World) (c : ℕ) (f : Forward) (h : A
         table = table_given w.gear k.table agrees.table (apart p plan w agrees.holds) v.gear one.gear a (value_of r) there one.in_row none one.random has
             (moved.1 ∙ one.random) (apart p plan v held) stay (λ i d h. new a is i d (from i d h));
       } where
-    new : (a : ℕ) → command_of f ≡ Program (Some a) → (i d : ℕ) → Holds w.gear i d ⊎ (stored_short (command_of f) (gear_of w.gear i) ≡ Some d)
-        → Holds w.gear i d ⊎ (d ≡ a)
-    new a is i d (inl h) = inl h
-    new a is i d (inr e) = inr (stores_given (gear_of w.gear i) a d (subst (λ y. stored_short y (gear_of w.gear i) ≡ Some d) is e))
+        new : (a : ℕ) → command_of f ≡ Program (Some a) → (i d : ℕ) → Holds w.gear i d ⊎ (stored_short (command_of f) (gear_of w.gear i) ≡ Some d)
+            → Holds w.gear i d ⊎ (d ≡ a)
+        new a is i d (inl h) = inl h
+        new a is i d (inr e) = inr (stores_given (gear_of w.gear i) a d (subst (λ y. stored_short y (gear_of w.gear i) ≡ Some d) is e))
 
   clean : IsClean k v.gear ch
   clean = go (programs (command_of f)) where
@@ -350,8 +355,9 @@ module _ (p : Plan) (plan : IsPlan p) (w : World) (c : ℕ) (f : Forward) (h : A
         let fit : Before (stage.Unnamed at.1) = subst (λ z. Before z) at.3 fits in
         let sought : number k.bus.search ≡ Some (value_of at.1) = number_at p plan w agrees.holds at.1 k.bus.search fit.search in
         subst (λ d. IsClean k v.gear d) (sym (given_change at.0 at.1 is sought)) (given_clean at.0 at.1 is at.3) where
-      given_change : (a : ℕ) (r : SearchAddress) → command_of f ≡ Program (Some a) → number k.bus.search ≡ Some (value_of r) → ch ≡ change.Given a (value_of r)
-      given_change a r is sought = rw (is, sought) refl
+          given_change : (a : ℕ) (r : SearchAddress) → command_of f ≡ Program (Some a) → number k.bus.search ≡ Some (value_of r)
+              → ch ≡ change.Given a (value_of r)
+          given_change a r is sought = rw (is, sought) refl
 
   -- WHAT IS TOLD OF THE FRAME, and what is known after it
   one_gear : h ≡ Damaged → asks_one (command_of f) ≡ false
@@ -365,7 +371,8 @@ module _ (p : Plan) (plan : IsPlan p) (w : World) (c : ℕ) (f : Forward) (h : A
 
   pub nothing_told : told_of k x (seen.Sent f h) kinds ≡ []
   nothing_told =
-      rw (clear x f h one_gear,
+      rw (
+        clear x f h one_gear,
         initialised k.bus.is_closed (command_of f) w.gear h agrees.closed calm.0,
         settled_before b xs s (command_of f) now drew f h k.bus (Ended w.gear k.bus) (Met w.gear k.found) Any on refl fits agrees.settled,
         no_half_pair b xs s (command_of f) now drew f h k.bus (Ended w.gear k.bus) (Met w.gear k.found) Any on refl fits,
@@ -373,7 +380,13 @@ module _ (p : Plan) (plan : IsPlan p) (w : World) (c : ℕ) (f : Forward) (h : A
         no_early_frame b xs s (command_of f) now drew f h k.bus (Ended w.gear k.bus) (Met w.gear k.found) Any on refl fits,
         not_over b xs s (command_of f) now drew f h k.bus (Ended w.gear k.bus) (Met w.gear k.found) Any on refl fits over,
         queried_next b xs s (command_of f) now drew f h k.bus (Ended w.gear k.bus) (Met w.gear k.found) Any on refl fits,
-        clean.found, clean.several, clean.free, clean.moved, clean.one_random, clean.one_short) refl
+        clean.found,
+        clean.several,
+        clean.free,
+        clean.moved,
+        clean.one_random,
+        clean.one_short,
+      ) refl
 
   quiet_after : is_question (command_of f) ≡ false → later ≡ x.until
   quiet_after q = rw (silent (command_of f) w.gear h calm.0 q) refl
@@ -421,7 +434,8 @@ module _ (p : Plan) (plan : IsPlan p) (w : World) (c : ℕ) (f : Forward) (h : A
   -- TERMINATE makes all idle
   closed_after : known.bus.is_closed ≡ true → AllIdle v.gear
   closed_after e = go (closed_from (command_of f) (repeats k.bus.half f) (completes k.bus.half x.until f) x f h k.bus e) where
-    by : (d : Command) → command_of f ≡ d → k.bus.is_closed ≡ true → ((u : Target) → command_of f ≡ Initialise u → repeats k.bus.half f ≡ false) → AllIdle v.gear
+    by : (d : Command) → command_of f ≡ d → k.bus.is_closed ≡ true → ((u : Target) → command_of f ≡ Initialise u → repeats k.bus.half f ≡ false)
+        → AllIdle v.gear
     by Terminate is shut first = subst (λ d. AllIdle (row_after Everyone d 0 w.gear w.left)) (sym is) (idle_taken Terminate w.gear w.left (λ i in_row on. tt))
     by (Initialise u) is shut first = subst (λ d. AllIdle (row_after Everyone d 0 w.gear w.left)) (sym is)
         (idle_taken (Initialise u) w.gear w.left (λ i in_row on. (agrees.closed shut i in_row on, first_halves u is (first u is) i in_row on)))
@@ -465,7 +479,8 @@ replied_given (Some t) b x = refl
 replied_tells : (k : Known) (x : Item) → told_of k x seen.Replied kinds ≡ []
 replied_tells k x = rw (replied_pair k.bus.half, replied_early k.bus.drawn x, replied_given k.bus.given k.bus x) refl
 
-replied_agrees : (p : Plan) (plan : IsPlan p) (w : World) (now : ℕ) (drew : Bool) (since : Option ℕ) (k : Known) (x : Item) → x.until ≤ now → Agrees p w now drew since k
+replied_agrees : (p : Plan) (plan : IsPlan p) (w : World) (now : ℕ) (drew : Bool) (since : Option ℕ) (k : Known) (x : Item) → x.until ≤ now
+    → Agrees p w now drew since k
     → Agrees p w now drew since (known_after x seen.Replied k)
 replied_agrees p plan w now drew since k x over a = record {
   holds = a.holds;
@@ -507,7 +522,8 @@ put_owner b c (Commit y) = refl
 put_owner b c (Done end) = refl
 put_owner b c (Halt why) = refl
 
-acted_agrees : (p : Plan) (plan : IsPlan p) (w : World) (c : ℕ) (i : Input) (o : Order) (now : ℕ) (drew : Bool) (since : Option ℕ) (k : Known) → Allowed w (event.Acted c i o)
+acted_agrees : (p : Plan) (plan : IsPlan p) (w : World) (c : ℕ) (i : Input) (o : Order) (now : ℕ) (drew : Bool) (since : Option ℕ) (k : Known)
+    → Allowed w (event.Acted c i o)
     → LeavesUsed p.used (event.Acted c i o) → DisturbsNothing w (event.Acted c i o) → Agrees p w now drew since k
     → Agrees p (happens w (event.Acted c i o)) now drew since k
 acted_agrees p plan w c i o now drew since k here leaves calm a = record {
@@ -524,11 +540,15 @@ acted_agrees p plan w c i o now drew since k here leaves calm a = record {
   idle true e = refl
   idle false e = a.idle e
 
-  given_up : (m : Bool) → (m ≡ true → AwaitsMore (stage_of w.trace) → ⊥) → Fits (Ended w.gear k.bus) (Met w.gear k.found) Any (stage_of (if m then [] else w.trace)) now drew k.bus
-  given_up true calm = subst (λ z. Fits (Ended w.gear k.bus) (Met w.gear k.found) Any z now drew k.bus) (sym stage_none) (leave (Ended w.gear k.bus) (Met w.gear k.found) Any Any _ _ _ _ (calm refl) a.fits)
+  given_up : (m : Bool) → (m ≡ true → AwaitsMore (stage_of w.trace) → ⊥)
+      → Fits (Ended w.gear k.bus) (Met w.gear k.found) Any (stage_of (if m then [] else w.trace)) now drew k.bus
+  given_up true calm =
+      subst (λ z. Fits (Ended w.gear k.bus) (Met w.gear k.found) Any z now drew k.bus) (sym stage_none)
+      (leave (Ended w.gear k.bus) (Met w.gear k.found) Any Any _ _ _ _ (calm refl) a.fits)
   given_up false calm = a.fits
 
-offered_agrees : (p : Plan) (plan : IsPlan p) (w : World) (c : ℕ) (f : Forward) (now : ℕ) (drew : Bool) (since : Option ℕ) (k : Known) → Allowed w (event.Offered c f)
+offered_agrees : (p : Plan) (plan : IsPlan p) (w : World) (c : ℕ) (f : Forward) (now : ℕ) (drew : Bool) (since : Option ℕ) (k : Known)
+    → Allowed w (event.Offered c f)
     → LeavesUsed p.used (event.Offered c f) → Agrees p w now drew since k → Agrees p (happens w (event.Offered c f)) now drew since k
 offered_agrees p plan w c f now drew since k here leaves a = record {
   holds = holds_step p plan w (event.Offered c f) here leaves a.holds;
@@ -602,22 +622,27 @@ module _ (p : Plan) (plan : IsPlan p) where
     alone_told is =
         let after = more (known_after frame (seen.Sent f h) k) (Some frame) next in
         record {
-          findings = subst (λ q. told_of k frame q kinds ++ findings_from (known_after frame q k) (Some frame) rest ≡ []) (sym is) (both _ _ told after.findings);
-          table = subst (λ q. IsTableOf (after_all (happens w (event.Sent c f h)) es).gear (known_from (known_after frame q k) (Some frame) rest).table) (sym is)
+          findings =
+              subst (λ q. told_of k frame q kinds ++ findings_from (known_after frame q k) (Some frame) rest ≡ []) (sym is) (both _ _ told after.findings);
+          table = subst (λ q. IsTableOf (after_all (happens w (event.Sent c f h)) es).gear (known_from (known_after frame q k) (Some frame) rest).table)
+              (sym is)
               after.table;
         }
 
-    answer_told : (z : Item) → seen_of before frame (Some z) ≡ seen.Sent f h → seen_of (Some frame) z (first_of rest) ≡ seen.Replied → z.until ≤ over_at frame.until h
+    answer_told : (z : Item) → seen_of before frame (Some z) ≡ seen.Sent f h → seen_of (Some frame) z (first_of rest) ≡ seen.Replied
+        → z.until ≤ over_at frame.until h
         → IsToldOf (event.Sent c f h ∷ es) w k before (frame ∷ z ∷ rest)
     answer_told z is reply over =
         let mid : Known = known_after frame (seen.Sent f h) k in
         let after = more (known_after z seen.Replied mid) (Some z)
-            (replied_agrees p plan (happens w (event.Sent c f h)) (over_at frame.until h) (is_randomise (command_of f)) (open_since (command_of f) frame.until since) mid z over next) in
+        (replied_agrees p plan (happens w (event.Sent c f h)) (over_at frame.until h) (is_randomise (command_of f))
+        (open_since (command_of f) frame.until since) mid z over next) in
         record {
           findings = subst (λ q. told_of k frame q kinds
               ++ (told_of (known_after frame q k) z (seen_of (Some frame) z (first_of rest)) kinds
               ++ findings_from (known_after z (seen_of (Some frame) z (first_of rest)) (known_after frame q k)) (Some z) rest) ≡ []) (sym is)
-              (subst (λ q. told_of k frame (seen.Sent f h) kinds ++ (told_of mid z q kinds ++ findings_from (known_after z q mid) (Some z) rest) ≡ []) (sym reply)
+              (subst (λ q. told_of k frame (seen.Sent f h) kinds ++ (told_of mid z q kinds ++ findings_from (known_after z q mid) (Some z) rest) ≡ [])
+              (sym reply)
               (both _ _ told (both _ _ (replied_tells mid z) after.findings)));
           table = subst (λ q. IsTableOf (after_all (happens w (event.Sent c f h)) es).gear
               (known_from (known_after z (seen_of (Some frame) z (first_of rest)) (known_after frame q k)) (Some z) rest).table) (sym is)
@@ -636,7 +661,8 @@ module _ (p : Plan) (plan : IsPlan p) where
         (rw (an_answer now drew (entry f h) (item_at (frame.until + WAIT) heard.Damaged) (asks (λ s. let both = sym e ∙ s in cc)) refl) refl)
         (rw e (omega arith))
 
-  pub whole : (w : World) (es : List Event) (now : ℕ) (drew : Bool) (since : Option ℕ) (k : Known) (before : Option Item) → AllAllowed w es → AllByRecursion (LeavesUsed p.used) es
+  pub whole : (w : World) (es : List Event) (now : ℕ) (drew : Bool) (since : Option ℕ) (k : Known) (before : Option Item) → AllAllowed w es
+      → AllByRecursion (LeavesUsed p.used) es
       → DisturbNothing w es → AreInTime since now drew (frames_of es) → Agrees p w now drew since k
       → IsToldOf es w k before (items_from now drew (frames_of es))
   whole w [] now drew since k before all leaves calm timely a = record { findings = rw (none k.bus.begun a.begun) refl; table = a.table } where
@@ -645,11 +671,11 @@ module _ (p : Plan) (plan : IsPlan p) where
     none (Some y) at = absurd (let some = at y refl in let shut : since ≡ None = timely in let both = sym shut ∙ some in cc)
   whole w (event.Acted c i o ∷ es) now drew since k before all leaves calm timely a =
       let rest = whole (happens w (event.Acted c i o)) es now drew since k before all.1 leaves.1 calm.1 timely
-          (acted_agrees p plan w c i o now drew since k all.0 leaves.0 calm.0 a) in
+      (acted_agrees p plan w c i o now drew since k all.0 leaves.0 calm.0 a) in
       record { findings = rest.findings; table = rest.table }
   whole w (event.Offered c f ∷ es) now drew since k before all leaves calm timely a =
       let rest = whole (happens w (event.Offered c f)) es now drew since k before all.1 leaves.1 calm.1 timely
-          (offered_agrees p plan w c f now drew since k all.0 leaves.0 a) in
+      (offered_agrees p plan w c f now drew since k all.0 leaves.0 a) in
       record { findings = rest.findings; table = rest.table }
   whole w (event.Sent c f h ∷ es) now drew since k before all leaves calm timely a =
       sent_whole w c f h es now drew since k before all.0 leaves.0 calm.0 a timely.0

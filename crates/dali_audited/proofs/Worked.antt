@@ -1,5 +1,5 @@
-use Rattle.std.proofs.Common.{◌≡◌, ℕ, ◌+◌, ◌<◌, ◌≤◌, Bool, true, false, List, [], ◌∷◌, ◌++◌, refl, sym, ap, arith, Option, Some, None, is_none}
-use Rattle.std.specs.Prelude.{not, ◌==◌, ◌&&◌, ◌||◌, nat_lt, nat_le}
+use Rattle.std.proofs.Common.{◌≡◌, ℕ, ◌+◌, ◌<◌, Bool, true, false, List, [], ◌∷◌, ◌++◌, refl, ap, arith, Option, Some, None, is_none}
+use Rattle.std.specs.Prelude.{not, ◌==◌, ◌&&◌, nat_lt, nat_le}
 use Rattle.std.proofs.lemmas.Bool.Decides.{nat_tests}
 use Rattle.dali_frame.specs.declared.frames.Answer.{Answer}
 use Rattle.dali_frame.specs.declared.frames.Answer.TheVariants.{Silence, Byte, Damaged}
@@ -32,7 +32,7 @@ use Rattle.dali_events.proofs.Invariant.Growing.{leave_none}
 use Rattle.dali_events.proofs.Histories.Openings.{at_123456, opening, visit, query, silent}
 use Rattle.dali_events.proofs.Histories.Tested.{all_allowed_by}
 use Rattle.dali_audited.specs.Capture.{capture_of, frames_of, is_randomise, begins_at, ends_at, next_at}
-use Rattle.dali_audited.specs.Undisturbed.{AwaitsMore, DisturbsNothing, DisturbNothing, open_since, Within, AreInTime, IsUndisturbed}
+use Rattle.dali_audited.specs.Undisturbed.{DisturbsNothing, DisturbNothing, open_since, Within, AreInTime, IsUndisturbed}
 
 -- AN UNDISTURBED RUN, proved by computing: one gear and one controller, an opening, a number that is reserved, an address that is
 -- given, and TERMINATE. It shows that the law speaks of something.

@@ -21,22 +21,23 @@ use Rattle.dali_events.specs.Happens.{happens, trace_running, gives_up}
 use Rattle.dali_events.specs.Runs.{IsRun}
 use Rattle.dali_audited.specs.Capture.{frames_of, is_randomise, begins_at, ends_at, next_at}
 
--- WHERE A TRANSACTION IS NOT TO BE LEFT: between the two frames of a pair, and before the query that
--- asks for a short address that was programmed
+-- WHERE A TRANSACTION IS NOT TO BE LEFT: between the two frames of a pair, and before the query
+-- that asks for a short address that was programmed
 abbrev pub AwaitsMore : Stage → Type 0
 AwaitsMore InitialisedOnce = Unit {0}
 AwaitsMore RandomisedOnce = Unit {0}
 AwaitsMore (Programmed r a) = Unit {0}
 AwaitsMore _ = ⊥
 
--- WHAT DISTURBS NOTHING. A controller acts, and leaves no transaction where it is not to be left; it
--- asks to send direct arc power; or a frame is sent, and what is heard is what gear answer: several
--- together as damaged. No frame is destroyed, none collide, none come of other devices; no owner
--- loses the bus; it is never quiet for long; no power comes or goes, no initialisation expires, and no
--- controller restarts. QUERY SHORT ADDRESS is sent under no search address but one that gear draw: at
--- FFFFFF all that have not drawn answer together.
+-- WHAT DISTURBS NOTHING. A controller acts, and leaves no transaction where it is not to be left;
+-- or it asks to send direct arc power; or a frame is sent, and what is heard is what gear answer:
+-- several together as damaged. QUERY SHORT ADDRESS is sent under a search address that gear draw:
+-- at FFFFFF all that have not drawn answer together. No frame is destroyed, none collide, none come
+-- of other devices; no owner loses the bus; it is never quiet for long; no power comes or goes; no
+-- initialisation expires; no controller restarts.
 abbrev pub DisturbsNothing : World → Event → Type 0
-DisturbsNothing w (event.Acted c i o) = gives_up w.bus c o ≡ true → AwaitsMore (stage_of w.trace) → ⊥
+DisturbsNothing w (event.Acted c i o) =
+    gives_up w.bus c o ≡ true → AwaitsMore (stage_of w.trace) → ⊥
 DisturbsNothing w (event.Offered c f) = Unit {0}
 DisturbsNothing w (event.Sent c f h) =
     (h ≡ heard_of (answers_of Everyone (command_of f) 0 w.gear))
