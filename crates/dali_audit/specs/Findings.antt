@@ -85,8 +85,8 @@ abbrev pub damaged_answer : Item → Seen → Option ℕ
 damaged_answer x (seen.Sent f answer.Damaged) = at_where (asks_one (command_of f)) x.at
 damaged_answer x _ = None
 
--- gear answer COMPARE, VERIFY SHORT ADDRESS and QUERY SHORT ADDRESS in an initialisation alone (102,
--- special commands): not after TERMINATE, until an INITIALISE that they may have taken
+-- gear answer COMPARE, VERIFY SHORT ADDRESS and QUERY SHORT ADDRESS in an initialisation alone
+-- (102, special commands): not after TERMINATE, until an INITIALISE that they may have taken
 abbrev pub asks_initialised : Command → Bool
 asks_initialised c = for_initialised c && is_question c
 

@@ -48,8 +48,8 @@ short_change search answer.Silence = change.Nothing
 short_change search answer.Damaged = change.Nothing
 
 -- QUERY RANDOM ADDRESS (L), after (H) and (M) were answered under the same short address: the gear
--- there tells its random address, if it drew one. Else whoever answers is somebody. A damaged answer
--- may be a disturbance, where no gear is.
+-- there tells its random address, if it drew one. Else whoever answers is somebody. A damaged
+-- answer may be a disturbance, where no gear is.
 abbrev pub number_told : ℕ → ℕ → Change
 number_told a r = if r == MASK24 then change.Answered a else change.Told a r
 

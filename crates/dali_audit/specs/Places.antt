@@ -148,13 +148,18 @@ reading_at_first = record {
 }
 
 -- each gear once, and one alone under a short address that it had before
-abbrev pub is_same : Place → Place → Bool
+unfoldable pub is_same : Place → Place → Bool
 is_same p q = (p.random == q.random) || same_place p.short q.short
+
+abbrev pub has_same : List Place → Place → Bool
+has_same ps p = list_any (λ q. is_same q p) ps
+
+abbrev pub is_there : List Place → Place → Bool
+is_there ps p = has_same ps p || (p.random == MASK24)
 
 abbrev pub placed_with : Option Place → List Place → List Place
 placed_with None ps = ps
-placed_with (Some p) ps =
-    if list_any (λ q. is_same q p) ps || (p.random == MASK24) then ps else ps ++ (p ∷ [])
+placed_with (Some p) ps = if is_there ps p then ps else ps ++ (p ∷ [])
 
 abbrev pub places_from : Reading → Option Item → ℕ → List Item → List Place → List Place
 places_from rd before n [] ps = ps

@@ -1,5 +1,5 @@
 use Rattle.std.specs.Prelude.{ℕ, ◌+◌, List, [], ◌∷◌, ◌++◌, length, codes, decimal}
-use Rattle.std.specs.Prelude.{Option, Some, None}
+use Rattle.std.specs.Prelude.{Option, Some, None, ◌==◌, if◌then◌else◌}
 use Rattle.dali_frame.specs.Hex.{random_text, forward_text}
 use Rattle.dali_audit.specs.declared.places.Place.{Place}
 use Rattle.dali_audit.specs.declared.comparing.Move.{Move}
@@ -43,12 +43,15 @@ draws_text [] = []
 draws_text (r ∷ rs) = (codes " " ++ random_text r) ++ draws_text rs
 
 -- A BENCH AS A SCRIPT. A script has one gear at least: where none is known, that one has no power.
-abbrev pub bench_head : List Place → List ℕ → List ℕ
-bench_head [] rs = codes "bench 1\ndraws\noff 0\n"
-bench_head (p ∷ ps) rs =
+abbrev pub gear_head : List Place → List ℕ → List ℕ
+gear_head ps rs =
     codes "bench "
-    ++ (decimal (length (p ∷ ps))
-    ++ (codes "\ndraws" ++ (draws_text rs ++ (codes "\n" ++ all_used_text 0 (p ∷ ps)))))
+    ++ (decimal (length ps)
+    ++ (codes "\ndraws" ++ (draws_text rs ++ (codes "\n" ++ all_used_text 0 ps))))
+
+abbrev pub bench_head : List Place → List ℕ → List ℕ
+bench_head ps rs =
+    if length ps == 0 then codes "bench 1\ndraws\noff 0\n" else gear_head ps rs
 
 abbrev pub script_text : Bench → List ℕ
 script_text b = bench_head b.places.items b.draws ++ steps_text b.steps.items

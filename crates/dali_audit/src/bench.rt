@@ -1,9 +1,10 @@
 //! A capture as a bench: gear with the random addresses that it reveals, and its frames.
 
 ghost use Rattle.std.specs.Prelude.{◌≡◌, ◌<◌, ◌≤◌, ◌++◌, [], ◌∷◌, length, OnOk, IfOk, IfErr, slice_set};
-ghost use Rattle.std.specs.Prelude.{slice_index_or, slice_get, true, false, None, option_to_list};
+ghost use Rattle.std.specs.Prelude.{slice_index_or, slice_get, All, true, false, None, option_to_list};
 ghost use Rattle.std.specs.List.{list_any};
 ghost use Rattle.dali_audit.specs.declared.comparing.Move.TheVariants.{Frame};
+ghost use Rattle.dali_frame.specs.Random.{MASK24};
 ghost use Rattle.dali_audit.specs.Comparing.{compared};
 ghost use Rattle.dali_audit.specs.Frames.{frames_of, frames_in, step_of, asked};
 ghost use Rattle.dali_audit.specs.Bench.{gear_at_first, early, early_frames, is_early, IsBenchOf, power_steps};
@@ -21,7 +22,7 @@ use crate::later::heard_later;
 use crate::places::{BenchError, GEAR_LIMIT, Place, Reading, places_of};
 use crate::seen::{Seen, seen_of};
 use dali_capture::Item;
-use dali_frame::{Answer, Forward, Short};
+use dali_frame::{Answer, Forward, Random24, Short};
 use dali_gear::Row;
 use dali_special::{Command, Target};
 use std::alloc::{AllocError, Global};
@@ -84,8 +85,7 @@ enum Whom {
 
 /// A bench in the making. The row has taken each step.
 #[derive(Drop)]
-struct Making<'a> {
-    places: &'a [Place],
+struct Making {
     steps: Vec<Step>,
     draws: Draws,
     unknown: usize,
@@ -121,14 +121,33 @@ fn is_early(place: &Place) -> bool
     place.draw.is_none() && place.short.is_none()
 }
 
-impl<'a> Making<'a> {
-    fn new(alloc: Global, places: &'a [Place]) -> Making<'a>
+/// Whether some gear drew their number before the capture.
+fn has_early(places: &[Place]) -> bool
+    ensures { result ≡ list_any is_early places.now }
+{
+    places.iter().any(|place| is_early(place))
+}
+
+/// The row takes a move, where so many of the numbers were drawn. Answers how many then are.
+fn played(row: &mut Row, what: &Move, draws: &[Random24], drawn: usize) -> usize
+    requires { All (λ r. r < MASK24) draws.now }
+{
+    let left = &draws[drawn.min(draws.len())..];
+    drawn.saturating_add(play(row, what, left))
+}
+
+fn place_at(places: &[Place], gear: u8) -> Option<Place>
+    ensures { result ≡ slice_get places.now gear }
+{
+    places.get(usize::from(gear)).copied()
+}
+
+impl Making {
+    fn new(alloc: Global, places: &[Place]) -> Making
         requires { length places.now ≤ 128 }
-        ensures steps { result.steps.items ≡ [] }
-        ensures places { result.places.now ≡ places.now }
+        ensures { result.steps.items ≡ [] }
     {
         Making {
-            places,
             steps: Vec::new(alloc),
             draws: Draws::new(alloc),
             unknown: 0,
@@ -141,13 +160,6 @@ impl<'a> Making<'a> {
         }
     }
 
-    /// The numbers that are left to draw.
-    fn play(&mut self, what: &Move) {
-        let draws = self.draws.as_slice();
-        let left = &draws[self.drawn.min(draws.len())..];
-        self.drawn = self.drawn.saturating_add(play(&mut self.row, what, left));
-    }
-
     /// One step more, which the row takes.
     #[tactic(auto, using(crate::proofs::Growing::frames_more))]
     fn push(&mut self, at: u64, what: Move) -> Result<(), AllocError>
@@ -157,17 +169,10 @@ impl<'a> Making<'a> {
             ≡ frames_of self.old.steps.items ++ frames_of (record { at = at; what = what } ∷ [])) }
         ensures on { self.new.on ≡ self.old.on }
         ensures lost { self.new.lost ≡ self.old.lost }
-        ensures places { self.new.places.now ≡ self.old.places.now }
     {
-        self.play(&what);
+        self.drawn = played(&mut self.row, &what, self.draws.as_slice(), self.drawn);
         self.steps.push(Step { at, what })?;
         Ok(())
-    }
-
-    fn place(&self, gear: u8) -> Option<Place>
-        ensures { result ≡ slice_get self.now.places.now gear }
-    {
-        self.places.get(usize::from(gear)).copied()
     }
 
     /// A gear has power, or has it not.
@@ -178,7 +183,6 @@ impl<'a> Making<'a> {
         ensures frames { OnOk result (frames_of self.new.steps.items ≡ frames_of self.old.steps.items) }
         ensures on { OnOk result (self.new.on ≡ slice_set self.old.on gear on) }
         ensures lost { self.new.lost ≡ self.old.lost }
-        ensures places { self.new.places.now ≡ self.old.places.now }
     {
         if self.on[usize::from(gear)] == on {
             return Ok(());
@@ -232,10 +236,10 @@ impl<'a> Making<'a> {
     }
 
     /// Whether a gear is meant.
-    fn is_meant(&self, number: usize, whom: &Whom, gear: u8) -> bool
+    fn is_meant(&self, places: &[Place], number: usize, whom: &Whom, gear: u8) -> bool
         requires { gear < 128 }
     {
-        let Some(place) = self.place(gear) else {
+        let Some(place) = place_at(places, gear) else {
             return false;
         };
         let index = usize::from(gear);
@@ -267,34 +271,40 @@ impl<'a> Making<'a> {
     }
 
     /// What becomes of some gear.
-    fn each(&mut self, now: Moment, whom: &Whom, deed: Deed) -> Result<(), AllocError>
+    fn each(
+        &mut self,
+        places: &[Place],
+        now: Moment,
+        whom: &Whom,
+        deed: Deed,
+    ) -> Result<(), AllocError>
         ensures { OnOk result (frames_of self.new.steps.items ≡ frames_of self.old.steps.items) }
     {
         for gear in 0..128u8 {
-            if self.is_meant(now.number, whom, gear) {
+            if self.is_meant(places, now.number, whom, gear) {
                 self.deal(now.at, deed, gear)?;
             }
         }
         Ok(())
     }
 
-    fn is_due(&self, number: usize, gear: u8) -> bool
+    fn is_due(&self, places: &[Place], number: usize, gear: u8) -> bool
         requires { gear < 128 }
-        ensures { result ≡ is_due number (slice_get self.now.places.now gear) (slice_index_or self.now.lost gear true) }
+        ensures { result ≡ is_due number (slice_get places.now gear) (slice_index_or self.now.lost gear true) }
     {
-        match self.place(gear) {
+        match place_at(places, gear) {
             Some(place) => place.from <= number && !self.lost[usize::from(gear)],
             None => false,
         }
     }
 
     /// After TERMINATE the state of all gear is known.
-    fn wake(&mut self, now: Moment) -> Result<(), AllocError>
+    fn wake(&mut self, places: &[Place], now: Moment) -> Result<(), AllocError>
         ensures frames { OnOk result (frames_of self.new.steps.items ≡ frames_of self.old.steps.items) }
-        ensures awake { OnOk result (IsAwake now.number self.new.places.now self.new.lost self.new.on) }
+        ensures awake { OnOk result (IsAwake now.number places.now self.new.lost self.new.on) }
     {
         for gear in 0..128u8 {
-            if self.is_due(now.number, gear) {
+            if self.is_due(places, now.number, gear) {
                 self.set_power(now.at, gear, true)?;
             }
         }
@@ -303,11 +313,17 @@ impl<'a> Making<'a> {
 
     /// A gear that would draw at this frame draws its random address, if it is that of this RANDOMISE. Of any other
     /// nobody knows what it draws.
-    fn draw_one(&mut self, at: u64, gear: u8, draw: Option<usize>) -> Result<(), AllocError>
+    fn draw_one(
+        &mut self,
+        places: &[Place],
+        at: u64,
+        gear: u8,
+        draw: Option<usize>,
+    ) -> Result<(), AllocError>
         requires { gear < 128 }
         ensures { OnOk result (frames_of self.new.steps.items ≡ frames_of self.old.steps.items) }
     {
-        match self.place(gear) {
+        match place_at(places, gear) {
             Some(place) if place.draw == draw && place.short.is_none() => {
                 self.draws.push(place.random)
             }
@@ -316,12 +332,18 @@ impl<'a> Making<'a> {
     }
 
     /// All gear that would draw at this frame, which is the RANDOMISE of this item, do so.
-    fn draw(&mut self, at: u64, frame: Forward, draw: Option<usize>) -> Result<(), AllocError>
+    fn draw(
+        &mut self,
+        places: &[Place],
+        at: u64,
+        frame: Forward,
+        draw: Option<usize>,
+    ) -> Result<(), AllocError>
         ensures { OnOk result (frames_of self.new.steps.items ≡ frames_of self.old.steps.items) }
     {
         for gear in 0..128u8 {
             if self.would_draw(gear, frame) {
-                self.draw_one(at, gear, draw)?;
+                self.draw_one(places, at, gear, draw)?;
             }
         }
         Ok(())
@@ -336,32 +358,47 @@ impl<'a> Making<'a> {
     }
 
     /// The gear that drew their random address before the capture draw it.
-    fn draw_early(&mut self) -> Result<(), AllocError>
+    fn draw_early(&mut self, places: &[Place]) -> Result<(), AllocError>
         ensures { OnOk result (frames_of self.new.steps.items ≡ frames_of self.old.steps.items ++ early_frames true) }
     {
         self.put(Command::Initialise(Target::Unaddressed))?;
         self.put(Command::Initialise(Target::Unaddressed))?;
         self.put(Command::Randomise)?;
-        self.draw(0, Command::Randomise.write(), None)?;
+        self.draw(places, 0, Command::Randomise.write(), None)?;
         self.put(Command::Randomise)?;
         self.put(Command::Terminate)
     }
 
-    /// What was before the capture; then all gear wait for the first TERMINATE.
-    fn begin(&mut self) -> Result<(), AllocError>
+    /// What was before the capture, where some gear drew their random address before it.
+    fn precede(&mut self, places: &[Place], now: Moment, has_early: bool) -> Result<(), AllocError>
         ensures { OnOk result (frames_of self.new.steps.items
-            ≡ frames_of self.old.steps.items ++ early_frames (list_any is_early self.old.places.now)) }
+            ≡ frames_of self.old.steps.items ++ early_frames has_early) }
+    {
+        if !has_early {
+            return Ok(());
+        }
+        self.each(places, now, &Whom::NotEarly, Deed::Rest)?;
+        self.draw_early(places)
+    }
+
+    /// What was before the capture; then all gear wait for the first TERMINATE.
+    fn begin(&mut self, places: &[Place]) -> Result<(), AllocError>
+        ensures { OnOk result (frames_of self.new.steps.items
+            ≡ frames_of self.old.steps.items ++ early_frames (list_any is_early places.now)) }
     {
         let now = Moment { at: 0, number: 0 };
-        if self.places.iter().any(|place| is_early(place)) {
-            self.each(now, &Whom::NotEarly, Deed::Rest)?;
-            self.draw_early()?;
-        }
-        self.each(now, &Whom::Everyone, Deed::Rest)
+        self.precede(places, now, has_early(places))?;
+        self.each(places, now, &Whom::Everyone, Deed::Rest)
     }
 
     /// Time that passed before a frame.
-    fn pass(&mut self, now: Moment, item: &Item, frame: Forward) -> Result<(), AllocError>
+    fn pass(
+        &mut self,
+        places: &[Place],
+        now: Moment,
+        item: &Item,
+        frame: Forward,
+    ) -> Result<(), AllocError>
         ensures { OnOk result (frames_of self.new.steps.items ≡ frames_of self.old.steps.items) }
     {
         let bus = self.reading.known.bus;
@@ -369,7 +406,7 @@ impl<'a> Making<'a> {
             self.push(now.at, Move::Quiet)?;
         }
         if bus.is_over(item, frame) {
-            self.each(now, &Whom::Everyone, Deed::Expire)?;
+            self.each(places, now, &Whom::Everyone, Deed::Expire)?;
         }
         Ok(())
     }
@@ -377,7 +414,13 @@ impl<'a> Making<'a> {
     /// A damaged frame: nobody knows who took it, and what it was. After TERMINATE it changes the state of no gear.
     /// Else that of the gear at the search address is not known, nor that of any gear which is not heard before the
     /// next TERMINATE.
-    fn spoil(&mut self, now: Moment, item: &Item, after: &[Item]) -> Result<(), AllocError>
+    fn spoil(
+        &mut self,
+        places: &[Place],
+        now: Moment,
+        item: &Item,
+        after: &[Item],
+    ) -> Result<(), AllocError>
         ensures { OnOk result (frames_of self.new.steps.items ≡ frames_of self.old.steps.items) }
     {
         self.push(now.at, Move::Quiet)?;
@@ -385,35 +428,47 @@ impl<'a> Making<'a> {
         if bus.is_closed && bus.half.is_none() {
             return Ok(());
         }
-        self.each(now, &Whom::Found, Deed::Lose)?;
-        self.each(now, &Whom::Drawing, Deed::Lose)?;
-        self.heard = heard_later(self.places, &bus, item, after);
-        self.each(now, &Whom::Unheard, Deed::Rest)
+        self.each(places, now, &Whom::Found, Deed::Lose)?;
+        self.each(places, now, &Whom::Drawing, Deed::Lose)?;
+        self.heard = heard_later(places, &bus, item, after);
+        self.each(places, now, &Whom::Unheard, Deed::Rest)
     }
 
     /// RESET and SET SHORT ADDRESS.
-    fn forget(&mut self, now: Moment, short: Option<Short>) -> Result<(), AllocError>
+    fn forget(
+        &mut self,
+        places: &[Place],
+        now: Moment,
+        short: Option<Short>,
+    ) -> Result<(), AllocError>
         ensures { OnOk result (frames_of self.new.steps.items ≡ frames_of self.old.steps.items) }
     {
         match short {
-            Some(short) => self.each(now, &Whom::Under(short), Deed::Lose),
-            None => self.each(now, &Whom::Born, Deed::Lose),
+            Some(short) => self.each(places, now, &Whom::Under(short), Deed::Lose),
+            None => self.each(places, now, &Whom::Born, Deed::Lose),
         }
     }
 
     /// RANDOMISE.
-    fn randomise(&mut self, now: Moment, item: &Item, frame: Forward) -> Result<(), AllocError>
+    fn randomise(
+        &mut self,
+        places: &[Place],
+        now: Moment,
+        item: &Item,
+        frame: Forward,
+    ) -> Result<(), AllocError>
         ensures { OnOk result (frames_of self.new.steps.items ≡ frames_of self.old.steps.items) }
     {
         if self.reading.known.bus.completes(item, frame) {
-            self.each(now, &Whom::Missed, Deed::Lose)?;
+            self.each(places, now, &Whom::Missed, Deed::Lose)?;
         }
-        self.draw(now.at, frame, Some(now.number))
+        self.draw(places, now.at, frame, Some(now.number))
     }
 
     /// What a frame makes unknown.
     fn unlearn(
         &mut self,
+        places: &[Place],
         now: Moment,
         item: &Item,
         seen: Seen,
@@ -422,10 +477,10 @@ impl<'a> Making<'a> {
         ensures { OnOk result (frames_of self.new.steps.items ≡ frames_of self.old.steps.items) }
     {
         match change_of(&self.reading.known.bus, item, seen) {
-            Change::Forgotten(short) => self.forget(now, short)?,
+            Change::Forgotten(short) => self.forget(places, now, short)?,
             Change::Given(..) | Change::Erased(_) => {
                 // A gear whose state was not known may have got a short address, or lost it.
-                self.each(now, &Whom::FoundResting, Deed::Lose)?;
+                self.each(places, now, &Whom::FoundResting, Deed::Lose)?;
             }
             Change::Nothing
             | Change::Told(..)
@@ -434,29 +489,31 @@ impl<'a> Making<'a> {
             | Change::Redrawn => {}
         }
         if Command::read(frame) == Command::Randomise {
-            self.randomise(now, item, frame)?;
+            self.randomise(places, now, item, frame)?;
         }
         Ok(())
     }
 
     fn send(
         &mut self,
+        places: &[Place],
         now: Moment,
         item: &Item,
         frame: Forward,
         answer: Answer,
     ) -> Result<(), AllocError>
         ensures frames { OnOk result (frames_of self.new.steps.items
-            ≡ frames_of self.old.steps.items ++ (record { at = now.at; what = Frame frame (asked frame answer) } ∷ [])) }
+            ≡ frames_of self.old.steps.items
+            ++ (record { at = now.at; what = Frame frame (asked frame answer) } ∷ [])) }
         ensures awake { terminates (command_of frame) ≡ true
-            → OnOk result (IsAwake now.number self.new.places.now self.new.lost self.new.on) }
+            → OnOk result (IsAwake now.number places.now self.new.lost self.new.on) }
     {
-        self.each(now, &Whom::Coming, Deed::On)?;
-        self.pass(now, item, frame)?;
-        self.unlearn(now, item, Seen::Sent(frame, answer), frame)?;
+        self.each(places, now, &Whom::Coming, Deed::On)?;
+        self.pass(places, now, item, frame)?;
+        self.unlearn(places, now, item, Seen::Sent(frame, answer), frame)?;
         self.push(now.at, Move::Frame(frame, asked(frame, answer)))?;
         if Command::read(frame) == Command::Terminate {
-            self.wake(now)?;
+            self.wake(places, now)?;
         }
         Ok(())
     }
@@ -464,6 +521,7 @@ impl<'a> Making<'a> {
     /// An item of the capture, by its number; what is behind it.
     fn take(
         &mut self,
+        places: &[Place],
         number: usize,
         item: &Item,
         seen: Seen,
@@ -472,30 +530,37 @@ impl<'a> Making<'a> {
         ensures frames { OnOk result (frames_of self.new.steps.items
             ≡ frames_of self.old.steps.items ++ option_to_list (step_of item.now seen)) }
         ensures awake { is_terminate seen ≡ true
-            → OnOk result (IsAwake number self.new.places.now self.new.lost self.new.on) }
+            → OnOk result (IsAwake number places.now self.new.lost self.new.on) }
     {
         let now = Moment {
             at: item.at,
             number,
         };
         match seen {
-            Seen::Sent(frame, answer) => self.send(now, item, frame, answer)?,
+            Seen::Sent(frame, answer) => self.send(places, now, item, frame, answer)?,
             Seen::Foreign => self.push(now.at, Move::Quiet)?,
-            Seen::Broken => self.spoil(now, item, after)?,
+            Seen::Broken => self.spoil(places, now, item, after)?,
             Seen::Replied | Seen::Stray => {}
         }
         self.reading.take(number, item, seen)
     }
 
     /// All items of the capture.
-    fn take_all(&mut self, items: &[Item]) -> Result<(), AllocError>
-        ensures { OnOk result (frames_of self.new.steps.items ≡ frames_of self.old.steps.items ++ frames_in None items.now) }
+    fn take_all(&mut self, places: &[Place], items: &[Item]) -> Result<(), AllocError>
+        ensures { OnOk result (frames_of self.new.steps.items
+            ≡ frames_of self.old.steps.items ++ frames_in None items.now) }
     {
         let mut before = None;
         let mut rest = items;
         let mut number: usize = 0;
         while let [item, more @ ..] = rest {
-            self.take(number, item, seen_of(before, item, first_of(more)), more)?;
+            self.take(
+                places,
+                number,
+                item,
+                seen_of(before, item, first_of(more)),
+                more,
+            )?;
             before = Some(*item);
             rest = more;
             number += 1;
@@ -512,8 +577,8 @@ impl Bench {
         ensures { IfOk result (λ b. IsBenchOf b items.now) }
     {
         let mut making = Making::new(alloc, places.as_slice());
-        making.begin()?;
-        making.take_all(items)?;
+        making.begin(places.as_slice())?;
+        making.take_all(places.as_slice(), items)?;
         let Making {
             steps,
             draws,

@@ -2,7 +2,6 @@
 #![tactic(auto, using(std::proofs::lemmas::List::append_assoc))]
 
 ghost use Rattle.std.specs.Prelude.{◌≡◌, ◌≤◌, ◌++◌, OnOk, IfOk, length, string_bytes};
-ghost use Rattle.dali_audit.specs.Bench.{IsBenchOf};
 ghost use Rattle.dali_audit.specs.Judging.{other_of, IsBenchIn, IsJudgementOf, is_clean, head_text, other_text};
 ghost use Rattle.dali_audit.specs.Judging.{lines_text, json_head, json_other, json_text};
 

@@ -32,8 +32,8 @@ impl Look<'_> {
             return;
         };
         let search = self.bus.search.number();
-        for gear in 0..self.places.len().min(128) {
-            if search == Some(self.places[gear].random) {
+        for (gear, place) in self.places.iter().enumerate() {
+            if gear < 128 && search == Some(place.random) {
                 self.heard[gear] = true;
             }
         }

@@ -1,9 +1,9 @@
 //! The gear that a capture reveals: those that told their random address, or got a short address and confirmed it.
 
-ghost use Rattle.std.specs.Prelude.{◌≡◌, ◌<◌, OnOk, IfOk, IsTrue, length};
+ghost use Rattle.std.specs.Prelude.{◌≡◌, OnOk, IfOk};
 ghost use Rattle.dali_audit.specs.Places.{unaddressed, used, told_place, verified_place, is_mask, asks_at};
 ghost use Rattle.dali_audit.specs.Places.{masked_place, revealed, opened_after, reading_after, reading_at_first};
-ghost use Rattle.dali_audit.specs.Places.{is_same, placed_with, places_in};
+ghost use Rattle.dali_audit.specs.Places.{is_same, has_same, is_there, placed_with, places_in};
 
 use crate::audit::first_of;
 use crate::holders::{Change, Holder, change_of};
@@ -228,24 +228,35 @@ impl Reading {
     }
 }
 
+#[tactic(auto, unfolding(crate::specs::Places::is_same))]
 fn is_same(one: &Place, other: &Place) -> bool
     ensures { result ≡ is_same one.now other.now }
 {
     one.random == other.random || (one.short.is_some() && one.short == other.short)
 }
 
+fn has_same(places: &[Place], place: &Place) -> bool
+    ensures { result ≡ has_same places.now place.now }
+{
+    places.iter().any(|other| is_same(other, place))
+}
+
+/// Whether a gear is there already, or has drawn no number.
+fn is_there(places: &[Place], place: &Place) -> bool
+    ensures { result ≡ is_there places.now place.now }
+{
+    has_same(places, place) || place.random == Random24::MASK
+}
+
 /// One more gear, if it is not there yet.
 fn add(places: &mut Vec<Place>, place: Option<Place>) -> Result<(), AllocError>
     ensures { OnOk result (places.new.items ≡ placed_with place places.old.items) }
 {
-    let Some(place) = place else {
-        return Ok(());
-    };
-    let is_there = places.iter().any(|other| is_same(other, &place));
-    if is_there || place.random == Random24::MASK {
-        return Ok(());
+    if let Some(place) = place {
+        if !is_there(places.as_slice(), &place) {
+            places.push(place)?;
+        }
     }
-    places.push(place)?;
     Ok(())
 }
 

@@ -2,7 +2,7 @@
 #![tactic(auto, using(std::proofs::lemmas::List::append_assoc))]
 
 ghost use Rattle.std.specs.Prelude.{◌≡◌, ◌++◌, OnOk, IfOk, string_bytes};
-ghost use Rattle.dali_audit.specs.Script.{bench_head, script_text};
+ghost use Rattle.dali_audit.specs.Script.{gear_head, bench_head, script_text};
 ghost use Rattle.dali_audit.specs.Script.{step_text, steps_text, used_text, all_used_text, draws_text};
 
 use crate::bench::Bench;
@@ -70,19 +70,26 @@ fn push_draws(text: &mut String, draws: &[Random24]) -> Result<(), AllocError>
     Ok(())
 }
 
-/// What a script has before the steps.
-fn push_head(text: &mut String, places: &[Place], draws: &[Random24]) -> Result<(), AllocError>
-    ensures { OnOk result (string_bytes text.new ≡ string_bytes text.old ++ bench_head places.now draws.now) }
+/// How many gear there are, the numbers that they draw, and those that had a short address.
+fn push_gear(text: &mut String, places: &[Place], draws: &[Random24]) -> Result<(), AllocError>
+    ensures { OnOk result (string_bytes text.new ≡ string_bytes text.old ++ gear_head places.now draws.now) }
 {
     let count = places.len();
-    // A script has one gear at least. Where none is known, that one has no power.
-    if count == 0 {
-        return text.push_str("bench 1\ndraws\noff 0\n");
-    }
     write!(text, "bench {count}\ndraws")?;
     push_draws(text, draws)?;
     text.push_str("\n")?;
     push_all_used(text, places)
+}
+
+/// What a script has before the steps. It has one gear at least: where none is known, that one has no power.
+fn push_head(text: &mut String, places: &[Place], draws: &[Random24]) -> Result<(), AllocError>
+    ensures { OnOk result (string_bytes text.new ≡ string_bytes text.old ++ bench_head places.now draws.now) }
+{
+    if places.len() == 0 {
+        text.push_str("bench 1\ndraws\noff 0\n")
+    } else {
+        push_gear(text, places, draws)
+    }
 }
 
 fn push_bench(text: &mut String, bench: &Bench) -> Result<(), AllocError>

@@ -48,6 +48,10 @@ scale_word dump word = scale_read dump (scale_in word)
 abbrev pub no_end : List ℕ → Result (Unit {0}) Reason
 no_end word = if bytes_eq word (codes "$end") then Err reason.BadVariable else Ok tt
 
+-- a variable of a text is no wire, whatever its size
+abbrev pub typed : List ℕ → Section
+typed word = if bytes_eq word (codes "string") then at.Skipped else at.Size
+
 abbrev pub sized : List ℕ → Section
 sized word = if bytes_eq word (codes "1") then at.Identifier else at.Skipped
 
@@ -78,7 +82,7 @@ head_word at.Skipped dump wanted word = Ok (record dump { section = after_skippe
 head_word at.Scale dump wanted word = scale_word dump word
 head_word (at.Unit times) dump wanted word = scaled dump times word
 head_word at.Type dump wanted word =
-    map_ok (λ _. record dump { section = at.Size }) (no_end word)
+    map_ok (λ _. record dump { section = typed word }) (no_end word)
 head_word at.Size dump wanted word =
     map_ok (λ _. record dump { section = sized word }) (no_end word)
 head_word at.Identifier dump wanted word =

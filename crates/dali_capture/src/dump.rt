@@ -1,7 +1,7 @@
 //! Value change dumps (IEEE 1364-2005, 18): a head with the time scale and the variables, and then times and changes.
 
 ghost use Rattle.std.specs.Prelude.{◌≡◌, Some, None, option_map};
-ghost use Rattle.dali_capture.specs.Dumps.{dump_at_first, sized, level_in, after_skipped, no_end, holds_changes};
+ghost use Rattle.dali_capture.specs.Dumps.{dump_at_first, typed, sized, level_in, after_skipped, no_end, holds_changes};
 ghost use Rattle.dali_capture.specs.Dumps.{section_of, scaled, scale_word, named, head_word, at_time, changed};
 ghost use Rattle.dali_capture.specs.Dumps.{mark_of, level_word, marked_word, open_word, value_word, dump_word};
 ghost use Rattle.dali_capture.specs.Dumps.{dump_end};
@@ -65,6 +65,17 @@ pub struct Dump {
     pub now: u64,
     /// Hears the levels of the wire, from the first one on.
     pub ear: Option<Ear>,
+}
+
+/// What follows the type of a variable: of a text all is passed over.
+fn typed(word: &[u8]) -> Section
+    ensures { result ≡ typed word.now }
+{
+    if word == b"string".as_slice() {
+        Section::Skipped
+    } else {
+        Section::Size
+    }
 }
 
 /// The section that follows a size.
@@ -237,7 +248,7 @@ impl Dump {
             Section::Unit(times) => self.scaled(times, word),
             Section::Type => {
                 no_end(word)?;
-                Ok(self.at(Section::Size))
+                Ok(self.at(typed(word)))
             }
             Section::Size => {
                 no_end(word)?;

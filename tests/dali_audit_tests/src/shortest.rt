@@ -1,14 +1,13 @@
 //! Of each finding a shortest capture that has it, and the nearest one that has it not.
 //!
-//! A capture is words: `HHHH` is a forward frame, which begins 14,000 µs after what was heard before; `<HH` a byte and `<--`
-//! a damaged answer, 7,000 µs after it; `--` is damaged, where a frame may begin; `+N` is a wait of so many µs more, and
-//! `-N` of so many less.
+//! A capture is words: `HHHH` is a forward frame, which begins 14,000 µs after what was heard before; `<HH` a byte and
+//! `<--` a damaged answer, 7,000 µs after it; `--` is damaged, where a frame may begin; `+N` is a wait of so many µs
+//! more, and `-N` of so many less.
 
 use super::captures::Capture;
 use dali_audit::{KINDS, Kind};
 use dali_capture::Heard;
 use dali_frame::Forward;
-use std::alloc::Global;
 use std::process::Abort;
 use std::test::Fail;
 

@@ -52,6 +52,17 @@ $dumpon 0a1 0$ $end $comment 1a1 #3 $end #800",
 }
 
 #[test]
+fn a_string_is_no_wire(rt: HostRuntime) -> Result<(), Fail> {
+    let dump =
+        "$timescale 1us $end $var string 1 s bus $end $var wire 1 w bus $end $var string 1 t note $end
+$enddefinitions $end #0 1w stext s stext t #400 0w #1000 1w #1400 snext s #5000";
+    tells(&rt, dump, &[]);
+    tells_of(&rt, Some("bus"), false, dump, &[]);
+    is_bad_of(&rt, Some("note"), dump, 2, Reason::NoWire);
+    Ok(())
+}
+
+#[test]
 fn each_time_scale_is_read(rt: HostRuntime) -> Result<(), Fail> {
     for (scale, head, rise, end) in [
         ("1us", "#5000", "#5600", "#9000"),

@@ -7,6 +7,6 @@ abbrev pub invariant-loop-gear : goal.invariant-loop-gear
 invariant-loop-gear l = record {
   frames : frames_of l.self.steps.items ≡ frames_of l.fn.self.steps.items;
   awake :
-      (k : ℕ) → k < l.gear → is_due l.now.number (slice_get l.self.places k) (slice_index_or l.self.lost k true) ≡ true
+      (k : ℕ) → k < l.gear → is_due l.now.number (slice_get l.places k) (slice_index_or l.self.lost k true) ≡ true
       → slice_index_or l.self.on k false ≡ true;
 }
