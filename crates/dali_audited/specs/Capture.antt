@@ -33,9 +33,9 @@ abbrev pub frames_of : List Event → List Entry
 frames_of [] = []
 frames_of (e ∷ es) = sent_in e ++ frames_of es
 
--- TIMES in µs: from a frame or an answer to the next frame, 34 half bits of 417 µs; after RANDOMISE
--- to any other frame, 246, since gear may take 100 ms to draw; from a frame to its answer, 19
--- (IEC 62386-101:2014, frame sequence timing, from memory).
+-- TIMES in µs, all nominal. From a frame or an answer to the next frame, as one of priority 1: 34
+-- half bits of 417 µs; after RANDOMISE to any other frame, 246, since gear may take 100 ms to draw;
+-- from a frame to its answer, 19 (IEC 62386-101:2014, frame sequence timing, from memory).
 abbrev pub REST : ℕ
 REST = 14178
 
