@@ -1,0 +1,81 @@
+use Rattle.std.proofs.Common.{◌≡◌, ℕ, ◌<◌, ◌≤◌, inl, inr, Bool, true, false, List, [], refl, sym, ap, subst, arith, None}
+use Rattle.std.specs.Prelude.{nat_lt}
+use Rattle.std.proofs.lemmas.List.{get_or-replicate, get_or_past, length-replicate}
+use Rattle.std.proofs.lemmas.Bool.Decides.{nat_tests}
+use Rattle.dali_gear.specs.Gear.{Gear}
+use Rattle.dali_script.specs.Records.{Has}
+use Rattle.dali_script.proofs.Transactions.{stage_none}
+use Rattle.dali_audit.specs.declared.holders.Holder.TheVariants as holder
+use Rattle.dali_audit.specs.Holders.{holder_at, table_at_first}
+use Rattle.dali_audit.specs.Bus.{bus_at_first}
+use Rattle.dali_audit.specs.Findings.{known_at_first, findings_in, known_in}
+use Rattle.dali_events.specs.declared.event.Event.{Event}
+use Rattle.dali_events.specs.declared.used.Used.{Used}
+use Rattle.dali_events.specs.Plan.{Plan, IsPlan}
+use Rattle.dali_events.specs.World.{start}
+use Rattle.dali_events.specs.Runs.{after}
+use Rattle.dali_events.specs.Wanted.{gear_of}
+use Rattle.dali_events.proofs.Invariant.Starting.{IsUsedOrFresh, row_at, start_count}
+use Rattle.dali_events.proofs.Invariant.Safe.{holds_start}
+use Rattle.dali_audited.specs.Capture.{capture_of}
+use Rattle.dali_audited.specs.Undisturbed.{IsUndisturbed}
+use Rattle.dali_audited.specs.Tables.{Holds, IsTableOf}
+use Rattle.dali_audited.proofs.Grammar.{Fits}
+use Rattle.dali_audited.proofs.Whole.{Agrees, Ended, Met, Any, IsToldOf, whole}
+
+-- A RUN BEGINS: nobody stands in the table, and gear from the factory have no short address
+
+nobody_at : (a : ℕ) → holder_at table_at_first a ≡ holder.Nobody
+nobody_at a = go (nat_lt a 64) refl where
+  go : (m : Bool) → nat_lt a 64 ≡ m → holder_at table_at_first a ≡ holder.Nobody
+  go true e = get_or-replicate 64 a holder.Nobody holder.Nobody (let below : a < 64 = grind (arith, nat_tests) in below)
+  go false e = get_or_past table_at_first a holder.Nobody (let far : 64 ≤ a = grind (arith, nat_tests) in
+      subst (λ n. n ≤ a) (sym (length-replicate 64 holder.Nobody)) far)
+
+none_holds : (p : Plan) (capacity : ℕ) → p.used ≡ [] → (g a : ℕ) → Holds (start p capacity).gear g a → ⊥
+none_holds p capacity factory g a has = go (row_at p g (subst (λ n. g < n) (start_count p) has.0)) where
+  unused : (us : List Used) (u : Used) → us ≡ [] → Has us u → ⊥
+  unused us u e has = let none : Has [] u = subst (λ xs. Has xs u) e has in none
+
+  go : IsUsedOrFresh p g → ⊥
+  go (inl k) = unused p.used k.0 factory k.1
+  go (inr k) = let none : (gear_of (start p capacity).gear g).short ≡ None = ap (λ (x : Gear). x.short) k in let some = has.1 in cc
+
+begins : (p : Plan) (plan : IsPlan p) (capacity : ℕ) → p.used ≡ [] → Agrees p (start p capacity) 0 false None known_at_first
+begins p plan capacity factory = record {
+  holds = holds_start p plan capacity;
+  idle = λ e. refl;
+  fits = subst (λ z. Fits (Ended (start p capacity).gear bus_at_first) (Met (start p capacity).gear []) Any z 0 false bus_at_first) (sym stage_none) (record {
+    half = refl;
+    drawn = λ t e. absurd (cc);
+    given = refl;
+    search = tt;
+    crowded = tt;
+    spelled = tt;
+    redraw = tt;
+    quieted = tt;
+    answered = tt;
+    reserved = tt;
+  });
+  settled = λ t e. absurd (cc);
+  closed = λ e. absurd (cc);
+  begun = λ y e. absurd (cc);
+  table = record {
+    true_of = λ a some. absurd (some (nobody_at a));
+    has = λ g a has. absurd (none_holds p capacity factory g a has);
+  };
+  places = length-replicate 64 holder.Nobody;
+}
+
+told : (p : Plan) (capacity : ℕ) (log : List Event) (is : IsUndisturbed p capacity log)
+    → IsToldOf p is.run.plan log (start p capacity) known_at_first None (capture_of log)
+told p capacity log is =
+    whole p is.run.plan (start p capacity) log 0 false None known_at_first None is.run.allowed is.run.leaves is.calm is.in_time
+    (begins p is.run.plan capacity is.factory)
+
+pub no_finding : (p : Plan) (capacity : ℕ) (log : List Event) → IsUndisturbed p capacity log → findings_in (capture_of log) ≡ []
+no_finding p capacity log is = (told p capacity log is).findings
+
+pub same_table : (p : Plan) (capacity : ℕ) (log : List Event) → IsUndisturbed p capacity log
+    → IsTableOf (after p capacity log).gear (known_in (capture_of log)).table
+same_table p capacity log is = (told p capacity log is).table

@@ -1,0 +1,141 @@
+use Rattle.std.proofs.Common.{◌≡◌, ℕ, ◌<◌, ◌⊎◌, inl, inr, Bool, true, false, List, refl, sym, ap, subst, ◌∙◌, length, get_or, Option, Some, None}
+use Rattle.std.specs.Prelude.{◌&&◌, not, nat_le, if◌then◌else◌}
+use Rattle.dali_frame.specs.declared.frames.Answer.{Answer}
+use Rattle.dali_frame.specs.declared.frames.Answer.TheVariants.{Silence, Byte, Damaged}
+use Rattle.dali_frame.specs.declared.frames.Forward.{Forward}
+use Rattle.dali_frame.specs.Random.{value_of}
+use Rattle.dali_special.specs.declared.command.Target.{Target}
+use Rattle.dali_special.specs.declared.command.Command.{Command}
+use Rattle.dali_special.specs.declared.command.Command.TheVariants.{Terminate, Initialise, Withdraw, Compare, Verify, QueryShort}
+use Rattle.dali_special.specs.Command.{program_data}
+use Rattle.dali_gear.specs.declared.row.Reach.TheVariants.{Everyone}
+use Rattle.dali_gear.specs.declared.state.InitialisationState.{InitialisationState}
+use Rattle.dali_gear.specs.declared.state.InitialisationState.TheVariants.{Disabled, Enabled, Withdrawn}
+use Rattle.dali_gear.specs.Gear.{Gear, fresh, answer, is_active, is_enabled, is_found, is_second, concerns, has_short, state_after, YES}
+use Rattle.dali_gear.specs.Row.{answers_of, heard_of, row_after, drawn_of}
+use Rattle.dali_capture.specs.declared.item.Item.{Item}
+use Rattle.dali_audit.specs.declared.bus.Begun.{Begun}
+use Rattle.dali_audit.specs.declared.bus.Bus.{Bus}
+use Rattle.dali_audit.specs.Bus.{sent_by, passed, is_over}
+use Rattle.dali_audit.specs.Seen.{is_silence}
+use Rattle.dali_audit.specs.Findings.{asks_initialised}
+use Rattle.dali_events.proofs.Invariant.Takes.{Moved, stays, goes, moves_at, row_length}
+use Rattle.dali_events.proofs.Invariant.Sending.{powered_takes}
+use Rattle.dali_audited.specs.Undisturbed.{open_since}
+use Rattle.dali_audited.proofs.Replies.{Replies, somebody, several}
+
+-- AFTER TERMINATE NO GEAR TAKES PART, until an INITIALISE is complete
+
+abbrev pub AllIdle : List Gear → Type 0
+AllIdle gs = (i : ℕ) → i < length gs → (get_or gs i fresh).powered ≡ true → is_active (get_or gs i fresh).state ≡ false
+
+abbrev pub NoneHalf : List Gear → Type 0
+NoneHalf gs = (i : ℕ) → i < length gs → (get_or gs i fresh).powered ≡ true → (get_or gs i fresh).half ≡ None
+
+-- what a command leaves idle
+abbrev LeavesIdle : Command → Gear → Type 0
+LeavesIdle Terminate g = Unit {0}
+LeavesIdle (Initialise target) g = (is_active g.state ≡ false) × (g.half ≡ None)
+LeavesIdle _ g = is_active g.state ≡ false
+
+idle_after : (c : Command) (g : Gear) → LeavesIdle c g → is_active (state_after c g) ≡ false
+idle_after Terminate g k = refl
+idle_after (Initialise target) g k = rw k.1 (first target) where
+  first : (t : Target) → is_active (if is_second (Initialise t) None && concerns t g.short then Enabled else g.state) ≡ false
+  first t = k.0
+idle_after Withdraw g k = go g.state k refl where
+  go : (st : InitialisationState) → is_active g.state ≡ false → g.state ≡ st
+      → is_active (if is_enabled g.state && is_found g then Withdrawn else g.state) ≡ false
+  go Disabled off e = rw e refl
+  go Enabled off e = absurd (let on : is_active g.state ≡ true = ap is_active e in cc)
+  go Withdrawn off e = absurd (let on : is_active g.state ≡ true = ap is_active e in cc)
+idle_after _ g k = k
+
+idle_moved : (c : Command) (ds : List (ℕ × ℕ)) (k : ℕ) (g g' : Gear) → Moved Everyone c ds k g g' → g'.powered ≡ true → (g.powered ≡ true → LeavesIdle c g)
+    → is_active g'.state ≡ false
+idle_moved c ds k g _ (stays off) on leaves = absurd (let there = powered_takes k g on in cc)
+idle_moved c ds k g _ (goes r there drew) on leaves = idle_after c g (leaves on)
+
+pub idle_taken : (c : Command) (gs : List Gear) (left : List ℕ)
+    → ((i : ℕ) → i < length gs → (get_or gs i fresh).powered ≡ true → LeavesIdle c (get_or gs i fresh))
+    → AllIdle (row_after Everyone c 0 gs left)
+idle_taken c gs left leaves i in_row on =
+    let there : i < length gs = subst (λ n. i < n) (row_length Everyone c 0 gs left) in_row in
+    idle_moved c (drawn_of Everyone c 0 gs left) i (get_or gs i fresh) (get_or (row_after Everyone c 0 gs left) i fresh)
+    (moves_at Everyone c gs left i there) on
+    (leaves i there)
+
+half_moved : (ds : List (ℕ × ℕ)) (k : ℕ) (g g' : Gear) → Moved Everyone Terminate ds k g g' → g'.powered ≡ true → g'.half ≡ None
+half_moved ds k g _ (stays off) on = absurd (let there = powered_takes k g on in cc)
+half_moved ds k g _ (goes r there drew) on = refl
+
+-- TERMINATE ends half pairs
+pub half_taken : (gs : List Gear) (left : List ℕ) → NoneHalf (row_after Everyone Terminate 0 gs left)
+half_taken gs left i in_row on =
+    let there : i < length gs = subst (λ n. i < n) (row_length Everyone Terminate 0 gs left) in_row in
+    half_moved (drawn_of Everyone Terminate 0 gs left) i (get_or gs i fresh) (get_or (row_after Everyone Terminate 0 gs left) i fresh)
+    (moves_at Everyone Terminate gs left i there) on
+
+-- what an idle gear does not answer
+reply_active : (c : Command) (g : Gear) (v : ℕ) → asks_initialised c ≡ true → answer c g ≡ Some v → is_active g.state ≡ true
+reply_active Compare g v asks e = go g.state refl e where
+  go : (st : InitialisationState) → g.state ≡ st → (if is_enabled st && nat_le g.random (value_of g.search) then Some YES else None) ≡ Some v
+      → is_active g.state ≡ true
+  go Disabled is e = absurd (cc)
+  go Enabled is e = ap is_active is
+  go Withdrawn is e = absurd (cc)
+reply_active (Verify a) g v asks e = go (is_active g.state) e where
+  go : (m : Bool) → (if m && has_short a g.short then Some YES else None) ≡ Some v → m ≡ true
+  go true e = refl
+  go false e = absurd (cc)
+reply_active QueryShort g v asks e = go (is_active g.state) e where
+  go : (m : Bool) → (if m && is_found g then Some (program_data g.short) else None) ≡ Some v → m ≡ true
+  go true e = refl
+  go false e = absurd (cc)
+reply_active _ g v asks e = absurd (cc)
+
+replies_idle : (c : Command) (gs : List Gear) (i : ℕ) → AllIdle gs → asks_initialised c ≡ true → Replies c gs i → ⊥
+replies_idle c gs i idle asks k =
+    let on : is_active (get_or gs i fresh).state ≡ true = reply_active c (get_or gs i fresh) k.byte asks k.reply in
+    let off : is_active (get_or gs i fresh).state ≡ false = idle i k.in_row k.powered in
+    cc
+
+idle_silent : (c : Command) (gs : List Gear) (h : Answer) → AllIdle gs → h ≡ heard_of (answers_of Everyone c 0 gs) → asks_initialised c ≡ true
+    → is_silence h ≡ true
+idle_silent c gs Silence idle e asks = refl
+idle_silent c gs (Byte v) idle e asks = absurd (let k = somebody c gs v e in replies_idle c gs k.0 idle asks k.1)
+idle_silent c gs Damaged idle e asks = absurd (let k = several c gs e in replies_idle c gs k.first idle asks k.replies)
+
+pub initialised : (closed : Bool) (c : Command) (gs : List Gear) (h : Answer) → (closed ≡ true → AllIdle gs) → h ≡ heard_of (answers_of Everyone c 0 gs)
+    → (closed && (asks_initialised c && not (is_silence h))) ≡ false
+initialised false c gs h idle e = refl
+initialised true c gs h idle e = go (asks_initialised c) refl where
+  go : (m : Bool) → asks_initialised c ≡ m → (m && not (is_silence h)) ≡ false
+  go false asks = refl
+  go true asks = rw (idle_silent c gs h (idle refl) e asks) refl
+
+-- ---------------------------------------------------------------- the bus as the audit knows it
+pub closed_from : (c : Command) (again second : Bool) (x : Item) (f : Forward) (h : Answer) (b : Bus)
+    → (sent_by c again second x h (passed x f b)).is_closed ≡ true
+    → (c ≡ Terminate) ⊎ ((b.is_closed ≡ true) × ((t : Target) → c ≡ Initialise t → again ≡ false))
+closed_from Terminate again second x f h b e = inl refl
+closed_from (Initialise t) again second x f h b e = inr (go b.is_closed again e) where
+  go : (m n : Bool) → (m && not n) ≡ true → (m ≡ true) × ((t' : Target) → Initialise t ≡ Initialise t' → n ≡ false)
+  go true false e = (refl, λ t' is. refl)
+  go true true e = absurd (cc)
+  go false n e = absurd (cc)
+closed_from _ again second x f h b e = inr (e, λ t is. absurd (cc))
+
+-- the last INITIALISE that was complete is the one since which an initialisation is open
+pub begun_from : (c : Command) (again second : Bool) (since : Option ℕ) (x : Item) (f : Forward) (h : Answer) (b : Bus)
+    → ((t : Target) → c ≡ Initialise t → second ≡ false → b.begun ≡ None) → is_over b.begun x.at f ≡ false
+    → ((y : Begun) → b.begun ≡ Some y → since ≡ Some y.until)
+    → (y : Begun) → (sent_by c again second x h (passed x f b)).begun ≡ Some y → open_since c x.until since ≡ Some y.until
+begun_from Terminate again second since x f h b none short k y e = absurd (cc)
+begun_from (Initialise t) again true since x f h b none short k y e = ap (λ (z : Option Begun). until_of z) e where
+  until_of : Option Begun → Option ℕ
+  until_of None = None
+  until_of (Some z) = Some z.until
+begun_from (Initialise t) again false since x f h b none short k y e =
+    absurd (let was : b.begun ≡ None = none t refl refl in let now : Some y ≡ None = sym e ∙ rw (short, was) refl in cc)
+begun_from _ again second since x f h b none short k y e = k y (rw short at e)

@@ -1,0 +1,9 @@
+mod Grammar
+mod Silent
+mod Standing
+mod Replies
+mod Idle
+mod Changes
+mod Whole
+mod Begin
+mod Worked

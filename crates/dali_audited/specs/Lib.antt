@@ -1,0 +1,3 @@
+pub mod Capture
+pub mod Undisturbed
+pub mod Tables
