@@ -1,22 +1,14 @@
-use Rattle.std.specs.Prelude.{◌≡◌, ℕ, ◌+◌, ◌≤◌, ◌<◌, Bool, true, false, ◌&&◌, not, nat_le, is_some}
-use Rattle.std.specs.Prelude.{List, [], ◌∷◌, ◌++◌, length, replicate, slice_set, slice_get}
-use Rattle.std.specs.Prelude.{slice_index_or}
+use Rattle.std.specs.Prelude.{◌≡◌, ℕ, ◌+◌, ◌≤◌, Bool, true, false, ◌&&◌, not, nat_le, is_some}
+use Rattle.std.specs.Prelude.{List, [], ◌∷◌, ◌++◌, length, replicate, slice_set}
 use Rattle.std.specs.Prelude.{Option, Some, None, if◌then◌else◌}
 use Rattle.std.specs.List.{list_any}
-use Rattle.dali_frame.specs.declared.frames.Forward.{Forward}
 use Rattle.dali_special.specs.declared.command.Target.TheVariants.{Unaddressed}
 use Rattle.dali_special.specs.declared.command.Command.{Command}
 use Rattle.dali_special.specs.declared.command.Command.TheVariants.{Terminate, Initialise}
-use Rattle.dali_special.specs.declared.command.Command.TheVariants.{Randomise, Compare, Withdraw}
-use Rattle.dali_special.specs.declared.command.Command.TheVariants.{SearchHigh, SearchMiddle}
-use Rattle.dali_special.specs.declared.command.Command.TheVariants.{SearchLow, Program, Verify}
-use Rattle.dali_special.specs.declared.command.Command.TheVariants.{QueryShort, RandomByte}
-use Rattle.dali_special.specs.declared.command.Command.TheVariants.{Arc, Other}
-use Rattle.dali_special.specs.Command.{command_of, frame_of}
+use Rattle.dali_special.specs.declared.command.Command.TheVariants.{Randomise}
+use Rattle.dali_special.specs.Command.{frame_of}
 use Rattle.dali_gear.specs.Gear.{Gear, fresh, addressed}
 use Rattle.dali_capture.specs.declared.item.Item.{Item}
-use Rattle.dali_audit.specs.declared.seen.Seen.{Seen}
-use Rattle.dali_audit.specs.declared.seen.Seen.TheVariants as seen
 use Rattle.dali_audit.specs.declared.places.Place.{Place}
 use Rattle.dali_audit.specs.declared.comparing.Move.TheVariants.{On, Off, Frame}
 use Rattle.dali_audit.specs.declared.comparing.Step.{Step}
@@ -61,38 +53,13 @@ pub record IsBenchOf (b : Bench) (items : List Item) : Type 0 where
       ≡ early_frames (list_any is_early b.places.items) ++ frames_in None items
 
 -- POWER: after TERMINATE the state of each gear is known that draws its number no later, but of
--- those that are lost; each of them has power
-abbrev pub terminates : Command → Bool
-terminates Terminate = true
-terminates (Initialise target) = false
-terminates Randomise = false
-terminates Compare = false
-terminates Withdraw = false
-terminates (SearchHigh byte) = false
-terminates (SearchMiddle byte) = false
-terminates (SearchLow byte) = false
-terminates (Program a) = false
-terminates (Verify a) = false
-terminates QueryShort = false
-terminates (RandomByte a part) = false
-terminates (Arc f) = false
-terminates (Other f) = false
-
-abbrev pub is_terminate : Seen → Bool
-is_terminate (seen.Sent f heard) = terminates (command_of f)
-is_terminate seen.Replied = false
-is_terminate seen.Stray = false
-is_terminate seen.Foreign = false
-is_terminate seen.Broken = false
-
+-- those that are lost; each of them gets power
 abbrev pub is_due : ℕ → Option Place → Bool → Bool
 is_due n None lost = false
 is_due n (Some p) lost = nat_le p.from n && not lost
 
-abbrev pub IsAwake : ℕ → List Place → List Bool → List Bool → Type 0
-IsAwake n ps lost on =
-    (k : ℕ) → k < 128 → is_due n (slice_get ps k) (slice_index_or lost k true) ≡ true
-    → slice_index_or on k false ≡ true
+abbrev pub woken : Bool → ℕ → List Bool → List Bool
+woken due k on = if due then slice_set on k true else on
 
 -- a gear gets power, or loses it, by a step, where it has it not already
 abbrev pub power_steps : ℕ → ℕ → Bool → Bool → List Step

@@ -133,9 +133,11 @@ opened_after n x seen.Stray rd = rd
 opened_after n x seen.Foreign rd = rd
 opened_after n x seen.Broken rd = rd
 
+abbrev pub known_more : Item → Seen → Reading → Reading
+known_more x s rd = record rd { known = known_after x s rd.known }
+
 abbrev pub reading_after : ℕ → Item → Seen → Reading → Reading
-reading_after n x s rd =
-    record (opened_after n x s rd) { known = known_after x s rd.known }
+reading_after n x s rd = known_more x s (opened_after n x s rd)
 
 abbrev pub reading_at_first : Reading
 reading_at_first = record {

@@ -8,10 +8,9 @@ ghost use Rattle.dali_frame.specs.Random.{MASK24};
 ghost use Rattle.dali_audit.specs.Comparing.{compared};
 ghost use Rattle.dali_audit.specs.Frames.{frames_of, frames_in, step_of, asked};
 ghost use Rattle.dali_audit.specs.Bench.{gear_at_first, early, early_frames, is_early, IsBenchOf, power_steps};
-ghost use Rattle.dali_audit.specs.Bench.{IsAwake, terminates, is_terminate, is_due};
+ghost use Rattle.dali_audit.specs.Bench.{is_due, woken};
 ghost use Rattle.dali_audit.specs.Places.{places_in};
 ghost use Rattle.dali_audit.specs.declared.places.BenchError.TheVariants.{TooManyGear};
-ghost use Rattle.dali_special.specs.Command.{command_of};
 
 use crate::audit::first_of;
 use crate::comparing::{Move, Outcome, Step, compare, play};
@@ -298,15 +297,26 @@ impl Making {
         }
     }
 
+    /// A gear has power, if its state is known after TERMINATE.
+    fn wake_one(&mut self, places: &[Place], now: Moment, gear: u8) -> Result<(), AllocError>
+        requires { gear < 128 }
+        ensures frames { OnOk result (frames_of self.new.steps.items ≡ frames_of self.old.steps.items) }
+        ensures on { OnOk result (self.new.on ≡ woken
+            (is_due now.number (slice_get places.now gear) (slice_index_or self.old.lost gear true)) gear self.old.on) }
+    {
+        if self.is_due(places, now.number, gear) {
+            self.set_power(now.at, gear, true)
+        } else {
+            Ok(())
+        }
+    }
+
     /// After TERMINATE the state of all gear is known.
     fn wake(&mut self, places: &[Place], now: Moment) -> Result<(), AllocError>
-        ensures frames { OnOk result (frames_of self.new.steps.items ≡ frames_of self.old.steps.items) }
-        ensures awake { OnOk result (IsAwake now.number places.now self.new.lost self.new.on) }
+        ensures { OnOk result (frames_of self.new.steps.items ≡ frames_of self.old.steps.items) }
     {
         for gear in 0..128u8 {
-            if self.is_due(places, now.number, gear) {
-                self.set_power(now.at, gear, true)?;
-            }
+            self.wake_one(places, now, gear)?;
         }
         Ok(())
     }
@@ -505,8 +515,6 @@ impl Making {
         ensures frames { OnOk result (frames_of self.new.steps.items
             ≡ frames_of self.old.steps.items
             ++ (record { at = now.at; what = Frame frame (asked frame answer) } ∷ [])) }
-        ensures awake { terminates (command_of frame) ≡ true
-            → OnOk result (IsAwake now.number places.now self.new.lost self.new.on) }
     {
         self.each(places, now, &Whom::Coming, Deed::On)?;
         self.pass(places, now, item, frame)?;
@@ -529,8 +537,6 @@ impl Making {
     ) -> Result<(), AllocError>
         ensures frames { OnOk result (frames_of self.new.steps.items
             ≡ frames_of self.old.steps.items ++ option_to_list (step_of item.now seen)) }
-        ensures awake { is_terminate seen ≡ true
-            → OnOk result (IsAwake number places.now self.new.lost self.new.on) }
     {
         let now = Moment {
             at: item.at,
