@@ -33,6 +33,13 @@ pub enum StoreFault {
     /// It is a database that is damaged.
     #[error("it is a damaged database")]
     Damaged,
+    /// The journal beside it cannot be gone on with.
+    #[error("its journal, with .replacing behind its name, is damaged, or of files that lay elsewhere; \
+        docs/INSTALLER.md says what to do")]
+    BadJournal,
+    /// The system refuses it, by this error of its own.
+    #[error("the system refuses it, by its error {0}")]
+    System(i32),
     /// It cannot be opened for another reason.
     #[error("it cannot be opened")]
     CannotOpen,
