@@ -1,5 +1,6 @@
 //! Records in files, each a SQLite database.
 
+use crate::log::is_damaged;
 use crate::places::{folder_of, place};
 use dali_commission_program::{Actor, Borrower, Failure, Holder, StoreFault, Stores};
 use dali_reserve::{Keep, KeepError};
@@ -137,6 +138,9 @@ fn copied(
     name: &str,
 ) -> Result<SqliteKeep<FileStore<sqlite_disk::Memory>>, StoreFault> {
     let lying = at_one_moment(rt, name)?;
+    if is_damaged(&lying.log) {
+        return Err(StoreFault::DamagedLog);
+    }
     match open_copy(rt.alloc(), &lying.db, &lying.log, Block::ALL) {
         Ok(store) => Ok(store),
         Err(error) => Err(copy_fault(error)),

@@ -1,4 +1,4 @@
-use Rattle.std.proofs.Common.{◌≡◌, ◌≢◌, ℕ, inl, inr, List, [], ◌∷◌, ◌++◌, subst}
+use Rattle.std.proofs.Common.{◌≡◌, ◌≢◌, ℕ, inl, inr, List, [], ◌∷◌, ◌++◌, Result, Ok, Err, OnOk, sym, subst}
 use Rattle.dali_script.specs.declared.records.Record.TheVariants.{Reserve, Enrol}
 use Rattle.dali_script.specs.Records.{Kept, Assignment, Has, HasAddress, with_record}
 use Rattle.dali_script.proofs.Lists.{has_last, has_before}
@@ -35,3 +35,14 @@ reserved_has k a r = has_last k.reserved (a, r)
 
 pub reserves_on : (j k l : Kept) → KeepsReserved j k → KeepsReserved k l → KeepsReserved j l
 reserves_on j k l one more p has = more p (one p has)
+
+pub lacks_on : (r : Result (Unit {0}) ℕ) (a : ℕ) (j k l : Kept) → (Lacks a j → Lacks a k) → OnOk r (Lacks a k → Lacks a l)
+    → OnOk r (Lacks a j → Lacks a l)
+lacks_on (Ok x) a j k l one more = λ none. more (one none)
+lacks_on (Err e) a j k l one more = tt
+
+pub reserves_more : (p : Assignment) (ps : List Assignment) (table k l : Kept) → (Has table.enrolled p → Has k.reserved p)
+    → KeepsReserved k l → Reserves ps table l → Reserves (p ∷ ps) table l
+reserves_more p ps table k l first keeps rest q (inl is) here =
+    keeps q (subst (λ x. Has k.reserved x) is (first (subst (λ x. Has table.enrolled x) (sym is) here)))
+reserves_more p ps table k l first keeps rest q (inr has) here = rest q has here

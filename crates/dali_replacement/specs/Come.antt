@@ -21,22 +21,27 @@ other_come None None = Some Nowhere
 other_come None (Some s) = Some (Given s)
 other_come (Some r) enrolled = None
 
--- they reserve nothing but this address and what the old ones reserve; no other at all; and no old
--- gear has this number
-abbrev pub is_own : ℕ → List Assignment → List Assignment → Bool
-is_own a new old = not (list_any (λ p. not (p.0 == a) && not (list_any (λ q. is_pair p q) old)) new)
+-- a reservation is of another address, and none of the old ones; one of some is; one of some is of
+-- another address; and a gear has this number
+abbrev pub is_foreign : ℕ → Assignment → List Assignment → Bool
+is_foreign a p old = not (p.0 == a) && not (list_any (λ q. is_pair p q) old)
 
-abbrev pub is_alone : ℕ → List Assignment → Bool
-is_alone a new = not (list_any (λ p. not (p.0 == a)) new)
+abbrev pub has_foreign : ℕ → List Assignment → List Assignment → Bool
+has_foreign a new old = list_any (λ p. is_foreign a p old) new
 
-abbrev pub is_new : ℕ → List Assignment → Bool
-is_new r old = not (list_any (λ p. p.1 == r) old)
+abbrev pub has_other : ℕ → List Assignment → Bool
+has_other a new = list_any (λ p. not (p.0 == a)) new
+
+abbrev pub has_random : ℕ → List Assignment → Bool
+has_random r old = list_any (λ p. p.1 == r) old
 
 -- THEY ARE OF THIS REPLACEMENT: what the old ones reserve is reserved last, and the gear is new
 abbrev pub may_go_on : Come → ℕ → Kept → Kept → Bool
-may_go_on Nowhere a new old = is_alone a new.reserved
-may_go_on (Reserved r) a new old = is_alone a new.reserved && is_new r old.enrolled
-may_go_on (Given r) a new old = is_own a new.reserved old.reserved && is_new r old.enrolled
+may_go_on Nowhere a new old = not (has_other a new.reserved)
+may_go_on (Reserved r) a new old =
+    not (has_other a new.reserved) && not (has_random r old.enrolled)
+may_go_on (Given r) a new old =
+    not (has_foreign a new.reserved old.reserved) && not (has_random r old.enrolled)
 
 abbrev pub going_on : Option Come → ℕ → Kept → Kept → Option Come
 going_on None a new old = None

@@ -1,10 +1,11 @@
 //! How far an earlier call has come, by the new records that it has left; and what may be heard of the short address
 //! then.
 
-ghost use Rattle.std.specs.Prelude.{◌≡◌};
+ghost use Rattle.std.specs.Prelude.{◌≡◌, ◌==◌};
 ghost use Rattle.std.specs.List.{list_any};
 ghost use Rattle.dali_script.specs.Records.{is_pair};
-ghost use Rattle.dali_replacement.specs.Come.{is_own, is_alone, is_new, giver_come, other_come, may_go_on, come_of};
+ghost use Rattle.dali_replacement.specs.Come.{is_foreign, has_foreign, has_other, has_random, giver_come, other_come};
+ghost use Rattle.dali_replacement.specs.Come.{may_go_on, come_of};
 ghost use Rattle.dali_replacement.specs.Come.{going_on, is_silent, is_random, may_be_heard};
 
 use crate::refusal::ReplaceRefusal;
@@ -29,25 +30,38 @@ fn stands(pairs: &[Pair], pair: Pair) -> bool
     pairs.iter().any(|other| other.address() == pair.address() && other.random() == pair.random())
 }
 
-/// Whether records reserve nothing but a short address, and what the old ones reserve.
-fn is_own(short: Short, new: &[Pair], old: &[Pair]) -> bool
-    ensures { result ≡ is_own short new.now old.now }
+fn is_at(short: Short, pair: Pair) -> bool
+    ensures { result ≡ (pair.0 == short) }
 {
-    !new.iter().any(|pair| pair.address() != short.number() && !stands(old, *pair))
+    pair.address() == short.number()
 }
 
-/// Whether records reserve no other short address.
-fn is_alone(short: Short, new: &[Pair]) -> bool
-    ensures { result ≡ is_alone short new.now }
+/// Whether a pair is of another short address, and not one of these.
+fn is_foreign(short: Short, pair: Pair, old: &[Pair]) -> bool
+    ensures { result ≡ is_foreign short pair old.now }
 {
-    !new.iter().any(|pair| pair.address() != short.number())
+    !is_at(short, pair) && !stands(old, pair)
 }
 
-/// Whether no gear has this random address.
-fn is_new(random: Random24, old: &[Pair]) -> bool
-    ensures { result ≡ is_new random old.now }
+/// Whether one of some pairs is.
+fn has_foreign(short: Short, new: &[Pair], old: &[Pair]) -> bool
+    ensures { result ≡ has_foreign short new.now old.now }
 {
-    !old.iter().any(|pair| pair.random() == random)
+    new.iter().any(|pair| is_foreign(short, *pair, old))
+}
+
+/// Whether one of some pairs is of another short address.
+fn has_other(short: Short, new: &[Pair]) -> bool
+    ensures { result ≡ has_other short new.now }
+{
+    new.iter().any(|pair| !is_at(short, *pair))
+}
+
+/// Whether a gear has this random address.
+fn has_random(random: Random24, old: &[Pair]) -> bool
+    ensures { result ≡ has_random random old.now }
+{
+    old.iter().any(|pair| pair.random() == random)
 }
 
 /// By what the records of the one who gives have of the short address.
@@ -84,10 +98,13 @@ fn may_go_on(come: &Come, short: Short, new: &Kept, old: &Kept) -> bool
     ensures { result ≡ may_go_on come.now short new.now old.now }
 {
     match *come {
-        Come::Nowhere => is_alone(short, new.reserved()),
-        Come::Reserved(random) => is_alone(short, new.reserved()) && is_new(random, old.enrolled()),
+        Come::Nowhere => !has_other(short, new.reserved()),
+        Come::Reserved(random) => {
+            !has_other(short, new.reserved()) && !has_random(random, old.enrolled())
+        }
         Come::Given(random) => {
-            is_own(short, new.reserved(), old.reserved()) && is_new(random, old.enrolled())
+            !has_foreign(short, new.reserved(), old.reserved())
+                && !has_random(random, old.enrolled())
         }
     }
 }

@@ -31,8 +31,9 @@ fn add(all: &mut Kept, address: Short, pair: Pair) -> Result<(), Short>
 /// Adds a gear to a table so, unless it is the one with this short address.
 fn add_other(all: &mut Kept, pair: Pair, short: Short) -> Result<(), Short>
     requires { pair.0 < 64 }
-    ensures { OnOk result ((pair.0 ≢ short → Has all.new.enrolled pair) × Keeps all.old all.new
-        × (Lacks short all.old → Lacks short all.new)) }
+    ensures has { OnOk result (pair.0 ≢ short → Has all.new.enrolled pair) }
+    ensures keeps { OnOk result (Keeps all.old all.new) }
+    ensures lacks { OnOk result (Lacks short all.old → Lacks short all.new) }
 {
     let Some(address) = Short::of(pair.address()) else {
         unreachable!();
@@ -48,8 +49,9 @@ fn add_other(all: &mut Kept, pair: Pair, short: Short) -> Result<(), Short>
 #[tactic(auto, using(crate::proofs::Every::all_but_more))]
 fn add_all(all: &mut Kept, pairs: &[Pair], short: Short) -> Result<(), Short>
     requires { AreShort pairs.now }
-    ensures { OnOk result (HasAllBut short pairs.now all.new × Keeps all.old all.new
-        × (Lacks short all.old → Lacks short all.new)) }
+    ensures all { OnOk result (HasAllBut short pairs.now all.new) }
+    ensures keeps { OnOk result (Keeps all.old all.new) }
+    ensures lacks { OnOk result (Lacks short all.old → Lacks short all.new) }
 {
     let [pair, more @ ..] = pairs else {
         return Ok(());
@@ -61,8 +63,9 @@ fn add_all(all: &mut Kept, pairs: &[Pair], short: Short) -> Result<(), Short>
 /// Adds all gear of tables to another one so, but the one with this short address.
 #[tactic(auto, using(crate::proofs::Every::kept_are_short))]
 fn gather(all: &mut Kept, tables: &[Kept], short: Short) -> Result<(), Short>
-    ensures { OnOk result (IsGathered short tables.now all.new × Keeps all.old all.new
-        × (Lacks short all.old → Lacks short all.new)) }
+    ensures all { OnOk result (IsGathered short tables.now all.new) }
+    ensures keeps { OnOk result (Keeps all.old all.new) }
+    ensures lacks { OnOk result (Lacks short all.old → Lacks short all.new) }
 {
     let [table, more @ ..] = tables else {
         return Ok(());
@@ -156,6 +159,28 @@ fn reserve<K: Keep>(store: &mut K, kept: &Kept, pair: Pair) -> Result<(), KeepEr
     store.commit(record)
 }
 
+/// Reserves a pair in a store so, if a table has it.
+fn reserve_if<K: Keep>(
+    store: &mut K,
+    kept: &Kept,
+    table: &Kept,
+    pair: Pair,
+) -> Result<(), KeepError>
+    requires short { pair.0 < 64 }
+    requires block { kept.now.block ≡ K.block store.old }
+    requires has { KeepsReserved kept.now (K.kept store.old) }
+    ensures has { OnOk result (Has table.now.enrolled pair → Has (K.kept store.new).reserved pair) }
+    ensures keeps { OnOk result (KeepsReserved (K.kept store.old) (K.kept store.new)) }
+    ensures same { OnOk result ((K.kept store.new).enrolled ≡ (K.kept store.old).enrolled) }
+    ensures block { K.block store.new ≡ K.block store.old }
+{
+    if has(table.enrolled(), pair) {
+        reserve(store, kept, pair)
+    } else {
+        Ok(())
+    }
+}
+
 /// Reserves pairs in a store so, as far as a table has them.
 #[tactic(auto, using(crate::proofs::Filled::reserves_more, crate::proofs::Filled::reserves_on))]
 fn reserve_all<K: Keep>(
@@ -174,14 +199,12 @@ fn reserve_all<K: Keep>(
     let [pair, more @ ..] = pairs else {
         return Ok(());
     };
-    if has(table.enrolled(), *pair) {
-        reserve(store, kept, *pair)?;
-    }
+    reserve_if(store, kept, table, *pair)?;
     reserve_all(store, kept, table, more)
 }
 
 /// Enrols all gear of a table in a store, and reserves what other records have reserved for gear of the table.
-#[tactic(auto, using(crate::proofs::Every::kept_are_short, crate::proofs::Filled::keeps_itself))]
+#[tactic(auto, using(crate::proofs::Every::kept_are_short, crate::proofs::Every::reserved_are_short, crate::proofs::Filled::keeps_itself))]
 pub fn refill<K: Keep>(store: &mut K, table: &Kept, old: &Kept) -> Result<(), KeepError>
     ensures all { OnOk result (Keeps table.now (K.kept store.new)) }
     ensures reserved { OnOk result (Reserves old.now.reserved table.now (K.kept store.new)) }
