@@ -63,8 +63,8 @@ fn sum_after(head: &[u8; HEAD], before: (u32, u32), frame: &[u8]) -> Option<(u32
     }
 }
 
-/// Whether a transaction ends behind frames whose checksums hold, and another one begins behind it: all that lies before
-/// it was on the disk then, so it is damaged, and not torn.
+/// Whether a transaction ends behind the frames whose checksums hold, and another one begins behind it: all that lies
+/// before that was on the disk then, so it is damaged, and not torn.
 fn is_broken(head: &[u8; HEAD], frames: &[u8], size: usize) -> bool
     requires { 24 ≤ size }
 {

@@ -32,6 +32,7 @@ pub(crate) struct Asking<'a, S> {
 }
 
 impl<S: Eprint> Asking<'_, S> {
+    /// How is said how far it is.
     pub fn manner(&self) -> Manner {
         if self.wanted.is_quiet {
             Manner::Quiet

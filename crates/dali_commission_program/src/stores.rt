@@ -37,8 +37,7 @@ pub enum StoreFault {
     #[error("its log, with -wal behind its name, is damaged before its end, so records are lost; keep a copy of both")]
     DamagedLog,
     /// The journal beside it cannot be gone on with.
-    #[error("its journal, with .replacing behind its name, is damaged, or of files that lay elsewhere; \
-        docs/INSTALLER.md says what to do")]
+    #[error("its journal, with .replacing behind its name, is damaged, or of files that lay elsewhere")]
     BadJournal,
     /// The system refuses it, by this error of its own.
     #[error("the system refuses it, by its error {0}")]

@@ -54,8 +54,8 @@ come_of true a new old =
 come_of false a new old =
     going_on (other_come (random_at new.reserved a) (random_at new.enrolled a)) a new old
 
--- WHAT MAY BE HEARD of the short address, if an earlier call has come so far: nothing as long as the
--- new gear may not have it, and the new gear once it may
+-- WHAT MAY BE HEARD of the short address, if an earlier call has come so far: nothing as long as
+-- the new gear may not have it, and the new gear once it may
 abbrev pub is_silent : Reply → Bool
 is_silent reply.Silence = true
 is_silent reply.Noise = false

@@ -23,8 +23,8 @@ IsBegun Nowhere = ⊥
 IsBegun (Reserved r) = Unit {0}
 IsBegun (Given r) = Unit {0}
 
--- WHAT EACH THING THAT WAS SEEN IS OF: the short address, how far an earlier call had come, the table
--- of all others, and the random address that answered
+-- WHAT EACH THING THAT WAS SEEN IS OF: the short address, how far an earlier call had come, the
+-- table of all others, and the random address that answered
 abbrev pub vacant_at : Vacant → ℕ
 vacant_at seen = seen.short
 
@@ -56,7 +56,8 @@ confirmed_table seen = table_of seen.standing
 abbrev pub alone : ℕ → Block
 alone a = record { first = a; last = a }
 
--- AN ADDRESS WAS GIVEN by surveys alone, over a store of its block that had the gear of a table then
+-- AN ADDRESS WAS GIVEN by surveys alone, over a store of its block that had the gear of a table
+-- then
 pub record HasGiven {S : Type 0} (is_up is_sound : S → Type 0) (holds : S → List Record → Type 0)
     (kept_of : S → Kept) (block : Block) (a : ℕ) (table : Kept) (keep : S) (x y : Talk)
     (pass : PassEnd) : Type 0 where

@@ -67,9 +67,9 @@ AreGiven a r ks = (k : Kept) → Has ks k → Has k.enrolled (a, r)
 abbrev pub AreNew : ℕ → List Kept → Type 0
 AreNew r ks = (k : Kept) → Has ks k → HasRandom k.enrolled r → ⊥
 
--- THE NEW TABLES ARE COMPLETE: there is one for each of so many files, one at least, as there is an old
--- one; each has the same new gear under the address, and all that an old or another new one has
--- under others; and no old table has the new gear.
+-- THE NEW TABLES ARE COMPLETE: there is one for each of so many files, one at least, as there is an
+-- old one; each has the same new gear under the address, and all that an old or another new one
+-- has under others; and no old table has the new gear.
 pub record IsComplete (n a r : ℕ) (old news : List Kept) : Type 0 where
   pub some : 0 < n
   pub olds : length old ≡ n

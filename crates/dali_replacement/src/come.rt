@@ -177,8 +177,8 @@ impl Come {
         }
     }
 
-    /// Whether this may be heard of the short address: nothing as long as the new gear may not have it, and the new gear
-    /// once it may.
+    /// Whether this may be heard of the short address: nothing as long as the new gear may not have it, and the new
+    /// gear once it may.
     pub fn may_be_heard(&self, reply: &Reply) -> bool
         ensures { result ≡ may_be_heard self.now reply.now }
     {

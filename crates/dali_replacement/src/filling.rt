@@ -12,7 +12,7 @@ use dali_script::{Block, Kept, Pair, Record};
 
 /// Adds a gear to a table, where it is not there. Else which short address another gear has, or which other one this
 /// gear has.
-#[tactic(auto, using(crate::proofs::Every::enrolled_has, crate::proofs::Every::enrolled_keeps, crate::proofs::Filled::enrolled_spares))]
+#[tactic(auto, using(crate::proofs::Filled::enrolling))]
 fn add(all: &mut Kept, address: Short, pair: Pair) -> Result<(), Short>
     requires { address ≡ pair.0 }
     ensures { OnOk result (Has all.new.enrolled pair × Keeps all.old all.new × Spares pair all.old all.new) }
@@ -204,7 +204,7 @@ fn reserve_all<K: Keep>(
 }
 
 /// Enrols all gear of a table in a store, and reserves what other records have reserved for gear of the table.
-#[tactic(auto, using(crate::proofs::Every::kept_are_short, crate::proofs::Every::reserved_are_short, crate::proofs::Filled::keeps_itself))]
+#[tactic(auto, using(crate::proofs::Filled::filling))]
 pub fn refill<K: Keep>(store: &mut K, table: &Kept, old: &Kept) -> Result<(), KeepError>
     ensures all { OnOk result (Keeps table.now (K.kept store.new)) }
     ensures reserved { OnOk result (Reserves old.now.reserved table.now (K.kept store.new)) }

@@ -1,6 +1,6 @@
 //! Where the gear of a table stand, each of which was asked.
 
-ghost use Rattle.std.specs.Prelude.{◌≡◌, ℕ, ◌+◌, ◌≤◌, ◌↔◌, length, List, [], IsTrue, IfOk};
+ghost use Rattle.std.specs.Prelude.{◌≡◌, ◌+◌, ◌≤◌, ◌↔◌, length, List, [], IsTrue, IfOk};
 ghost use Rattle.dali_script.specs.Records.{Has};
 ghost use Rattle.dali_commissioning.specs.declared.census.Reply.{Reply};
 ghost use Rattle.dali_commissioning.specs.Drivers.{talk_of};

@@ -1,6 +1,6 @@
 //! The tables of a site in which a luminaire is replaced: who gives its address, and whether the new ones are complete.
 
-ghost use Rattle.std.specs.Prelude.{◌≡◌, ◌+◌, ◌≤◌, ◌<◌, ◌↔◌, length, IsTrue};
+ghost use Rattle.std.specs.Prelude.{◌≡◌, ◌+◌, ◌≤◌, ◌↔◌, length, IsTrue};
 ghost use Rattle.dali_script.specs.Records.{Kept, Has};
 ghost use Rattle.dali_replacement.specs.Tables.{joined, giver_from, reserves, HasAllBut, HaveAllBut, IsComplete};
 ghost use Rattle.dali_replacement.specs.Tables.{AreGiven, HaveAllOf, AreNew, IsGathered};
