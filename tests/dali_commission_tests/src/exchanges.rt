@@ -1,5 +1,5 @@
-//! `dali_commission replace` over gear in memory: luminaires are exchanged, and what the bus tells is another thing than
-//! the files of an earlier call.
+//! `dali_commission replace` over gear in memory: luminaires are exchanged, and what the bus tells is something else
+//! than the files of an earlier call say.
 
 use super::bus::Bus;
 use super::cabinet::Cabinet;
@@ -280,8 +280,6 @@ fn a_new_file_that_has_all_is_gone_on_with(rt: HostRuntime) {
         "2 addresses reserved",
     );
 }
-
-const BOTH_AGAIN: &[u8] = b"dali_commission replace 0 --records two.db --records site.db --again";
 
 /// What an earlier call has given is not there any more, or not alone; and the way out.
 #[test]
