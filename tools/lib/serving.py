@@ -1,6 +1,7 @@
 """Serves a page on the loopback, to whom its address was told: tools/page says how."""
 
 import base64
+import contextlib
 import hashlib
 import hmac
 import http.server
@@ -42,6 +43,8 @@ class Server(http.server.ThreadingHTTPServer):
 
     def __init__(self, bus: commanding.Bus, port: int) -> None:
         self.bus, self.token, self.lanes = bus, secrets.token_urlsafe(24), threading.BoundedSemaphore(LANES)
+        # The connections whose request is not whole yet, the oldest first.
+        self.half_open, self.lock = {}, threading.Lock()
         self.page = PAGE.read_text(encoding="utf-8")
         self.policy = f"default-src 'none'; script-src {hashed(self.page, 'script')}; style-src {hashed(self.page, 'style')}; "
         self.policy += "connect-src 'self'; img-src data:; base-uri 'none'; form-action 'none'; frame-ancestors 'none'"
@@ -52,16 +55,33 @@ class Server(http.server.ThreadingHTTPServer):
         return f"http://{self.hosts[0]}/{self.token}/"
 
     def process_request(self, request: socket.socket, client_address: typing.Any) -> None:
-        """Answers a request in a thread of its own, where not too many are being answered."""
-        if self.lanes.acquire(timeout=PATIENCE):
-            super().process_request(request, client_address)
-        else:
-            self.shutdown_request(request)
+        """Answers a request in a thread of its own. If too many are open, the oldest that is not whole yet is cut off."""
+        if not self.lanes.acquire(blocking=False):
+            self.cut_oldest()
+            if not self.lanes.acquire(timeout=PATIENCE):
+                self.shutdown_request(request)
+                return
+        with self.lock:
+            self.half_open[request] = None
+        super().process_request(request, client_address)
+
+    def cut_oldest(self) -> None:
+        with self.lock:
+            oldest = next(iter(self.half_open), None)
+            if oldest:
+                del self.half_open[oldest]
+                with contextlib.suppress(OSError):
+                    oldest.shutdown(socket.SHUT_RDWR)
+
+    def note_whole(self, request: socket.socket) -> None:
+        with self.lock:
+            self.half_open.pop(request, None)
 
     def process_request_thread(self, request: socket.socket, client_address: typing.Any) -> None:
         try:
             super().process_request_thread(request, client_address)
         finally:
+            self.note_whole(request)
             self.lanes.release()
 
     def handle_error(self, request: socket.socket, client_address: typing.Any) -> None:
@@ -77,6 +97,7 @@ class Handler(http.server.BaseHTTPRequestHandler):
         """Nothing is said of requests."""
 
     def do_GET(self) -> None:
+        self.server.note_whole(self.connection)
         self.answer({"": self.show, "state": self.tell_state, "table.csv": self.tell_csv})
 
     def do_POST(self) -> None:
@@ -120,8 +141,12 @@ class Handler(http.server.BaseHTTPRequestHandler):
             raise Refused(413, "too much")
         if self.headers.get_content_type() != "application/json":
             raise Refused(415, "JSON is wanted")
+        raw = self.rfile.read(int(lengths[0]))
+        self.server.note_whole(self.connection)
+        if len(raw) != int(lengths[0]):
+            raise Refused(400, "the request is cut short")
         try:
-            value = json.loads(self.rfile.read(int(lengths[0])))
+            value = json.loads(raw)
         except (ValueError, RecursionError) as why:
             raise Refused(400, "this is no JSON") from why
         if not isinstance(value, dict):

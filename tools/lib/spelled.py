@@ -160,7 +160,7 @@ PLACES = (
     Place(FORMAT, section("Exit statuses of `dali_commission`"), "End", "{name}`"),
     Place(FORMAT, section("Exit statuses of `dali_commission`"), "Fault", "`ended: {name}`", "Store"),
     Place(FORMAT, section("Exit statuses of `dali_commission`"), "DriverFault", "`{name}`", "Memory"),
-    Place(FORMAT, section("Exit statuses of `dali_commission`"), "StoreFault", "`{name}`", "Store"),
+    Place(FORMAT, section("Exit statuses of `dali_commission`"), "StoreFault", "`{name}`", "Store System"),
     Place(FORMAT, section("What `replace` refuses"), "ReplaceRefusal", "`{name}`"),
     Place(INSTALLER, table("| Status | What it means |"), "End", "`{name}`", "AllFound"),
     Place(INSTALLER, table("| Status | What it means |"), "Fault", "`{name}`", "Store"),

@@ -1,5 +1,6 @@
 //! Records in files, each a SQLite database.
 
+use crate::log::is_damaged;
 use crate::places::{folder_of, place};
 use dali_commission_program::{Actor, Borrower, Failure, Holder, StoreFault, Stores};
 use dali_reserve::{Keep, KeepError};
@@ -13,6 +14,9 @@ use std::{fs, io};
 
 /// How many bytes a file of records may have: some 3 million records.
 const MOST_BYTES: u64 = 64 * 1024 * 1024;
+
+/// How many bytes are tried where a store failed.
+const TRIED: usize = 8192;
 
 /// How often a file is read until two readings agree.
 const READINGS: u8 = 10;
@@ -44,6 +48,14 @@ fn system_fault(kind: ErrorKind) -> StoreFault {
     }
 }
 
+/// What a refusal of the system is: its own error, where it is none of these.
+fn refused_by(error: &io::Error) -> StoreFault {
+    match (system_fault(error.kind()), error.raw_os_error()) {
+        (StoreFault::CannotOpen, Some(number)) => StoreFault::System(number),
+        (fault, _) => fault,
+    }
+}
+
 fn copy_fault(error: CopyError) -> StoreFault {
     match error {
         CopyError::Foreign => StoreFault::Foreign,
@@ -62,11 +74,11 @@ fn bytes(rt: &HostRuntime, name: &str) -> Result<Vec<u8>, StoreFault> {
         }
         Ok(_) => {}
         Err(error) if error.kind() == ErrorKind::NotFound => return Ok(Vec::new(rt.alloc())),
-        Err(error) => return Err(system_fault(error.kind())),
+        Err(error) => return Err(refused_by(&error)),
     }
     match fs::read(rt, name) {
         Ok(bytes) => Ok(bytes),
-        Err(error) => Err(system_fault(error.kind())),
+        Err(error) => Err(refused_by(&error)),
     }
 }
 
@@ -85,7 +97,7 @@ fn log_of(rt: &HostRuntime, name: &str) -> Result<String, StoreFault> {
             format!(in rt.alloc(); "{path}-wal")
         }
         Err(error) if error.kind() == ErrorKind::NotFound => format!(in rt.alloc(); "{name}-wal"),
-        Err(error) => return Err(system_fault(error.kind())),
+        Err(error) => return Err(refused_by(&error)),
     };
     match made {
         Ok(log) => Ok(log),
@@ -126,6 +138,9 @@ fn copied(
     name: &str,
 ) -> Result<SqliteKeep<FileStore<sqlite_disk::Memory>>, StoreFault> {
     let lying = at_one_moment(rt, name)?;
+    if is_damaged(&lying.log) {
+        return Err(StoreFault::DamagedLog);
+    }
     match open_copy(rt.alloc(), &lying.db, &lying.log, Block::ALL) {
         Ok(store) => Ok(store),
         Err(error) => Err(copy_fault(error)),
@@ -149,7 +164,7 @@ fn written_fault(rt: &HostRuntime, name: &str) -> StoreFault {
     match opened_to_write(rt, name) {
         Ok(_) => StoreFault::CannotOpen,
         Err(error) if error.kind() == ErrorKind::NotFound => StoreFault::NoFolder,
-        Err(error) => system_fault(error.kind()),
+        Err(error) => refused_by(&error),
     }
 }
 
@@ -226,12 +241,23 @@ fn closed(rt: &HostRuntime, name: &str, conn: Connection<FileStore<File>>) -> bo
 /// Files of records that are open, each with its name, in the order of these.
 type Open<'a> = Vec<(&'a str, Connection<FileStore<File>>)>;
 
+/// Whether nothing lies in a file, nor in its log. It would become one of records by being opened.
+fn is_empty(rt: &HostRuntime, name: &str) -> Result<bool, Failure> {
+    match Lying::read(rt, name) {
+        Ok(lying) => Ok(lying.db.is_empty() && lying.log.is_empty()),
+        Err(fault) => Err(failure(fault)),
+    }
+}
+
 fn open_one<'a>(
     rt: &HostRuntime,
     name: &'a str,
     open: &mut Open<'a>,
     all: &mut Vec<Kept>,
 ) -> Result<(), Failure> {
+    if is_empty(rt, name)? {
+        return Err(failure(StoreFault::Foreign));
+    }
     let (conn, kept) = noted(opened(rt, name)?)?;
     if open.push((name, conn)).is_err() || all.push(kept).is_err() {
         return Err(failure(StoreFault::Store(KeepError::NoMemory)));
@@ -301,6 +327,30 @@ fn written(rt: &HostRuntime, name: &str, text: &str) -> io::Result<()> {
     file.sync_all()
 }
 
+/// Writes as much beside a file as a commit does, and removes it.
+fn tried(rt: &HostRuntime, name: &str) -> io::Result<()> {
+    let mut file = fs::File::create(rt, name)?;
+    let done = file.write_all(&[0; TRIED]);
+    let synced = file.sync_all();
+    fs::remove_file(rt, name)?;
+    done?;
+    synced
+}
+
+const STORE_FAILED: Failure = Failure::Store(StoreFault::Store(KeepError::StoreFailed));
+
+/// Why a store failed, where the system says so of a file beside it: SQLite does not pass it on.
+fn why_failed(rt: &HostRuntime, name: &str, failure: Failure) -> Failure {
+    if let Failure::Store(StoreFault::Store(KeepError::StoreFailed)) = failure {
+        if let Ok(part) = made(rt.alloc(), name, ".part") {
+            if let Err(error) = tried(rt, &part) {
+                return Failure::Store(refused_by(&error));
+            }
+        }
+    }
+    failure
+}
+
 fn removed(rt: &HostRuntime, name: &str) -> io::Result<()> {
     match fs::remove_file(rt, name) {
         Err(error) if error.kind() != ErrorKind::NotFound => Err(error),
@@ -317,7 +367,7 @@ fn renamed(rt: &HostRuntime, from: &str, to: &str) -> io::Result<()> {
 fn answered(done: io::Result<()>) -> Result<(), Failure> {
     match done {
         Ok(()) => Ok(()),
-        Err(error) => Err(failure(system_fault(error.kind()))),
+        Err(error) => Err(failure(refused_by(&error))),
     }
 }
 
@@ -342,11 +392,10 @@ impl Stores for Files<'_> {
         let conn = opened(self.rt, name)?;
         let (conn, done) = lent(conn, block, borrower)?;
         let is_closed = closed(self.rt, name, conn);
-        done?;
-        if is_closed {
-            Ok(())
-        } else {
-            Err(Failure::Store(StoreFault::Store(KeepError::StoreFailed)))
+        match done {
+            Ok(()) if is_closed => Ok(()),
+            Ok(()) => Err(why_failed(self.rt, name, STORE_FAILED)),
+            Err(failure) => Err(why_failed(self.rt, name, failure)),
         }
     }
 
@@ -378,7 +427,7 @@ impl Stores for Files<'_> {
     fn alone<A: Actor>(&self, name: &str, actor: &A) -> Result<(), Failure> {
         let file = match fs::File::open(self.rt, name) {
             Ok(file) => file,
-            Err(error) => return Err(failure(system_fault(error.kind()))),
+            Err(error) => return Err(failure(refused_by(&error))),
         };
         if let Err(TryLockError::WouldBlock) = file.try_lock() {
             return Err(failure(StoreFault::Locked));
@@ -393,7 +442,7 @@ impl Stores for Files<'_> {
             Err(error) if error.kind() == ErrorKind::InvalidData => Err(failure(
                 StoreFault::Foreign,
             )),
-            Err(error) => Err(failure(system_fault(error.kind()))),
+            Err(error) => Err(failure(refused_by(&error))),
         }
     }
 

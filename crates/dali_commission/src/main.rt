@@ -3,6 +3,7 @@
 #![tactic(auto)]
 
 mod files;
+mod log;
 mod places;
 
 use dali_commission_program::run_and_say;

@@ -22,6 +22,7 @@ use Rattle.dali_commission_program.specs.declared.failure.Failure.TheVariants.{S
 use Rattle.dali_commission_program.specs.declared.failure.Failure.TheVariants.{NobodyAnswered}
 use Rattle.dali_commission_program.specs.declared.failure.Failure.TheVariants.{NobodyThere}
 use Rattle.dali_commission_program.specs.declared.failure.Failure.TheVariants.{NotReplaced}
+use Rattle.dali_commission_program.specs.declared.failure.Failure.TheVariants.{NotConfirmed}
 use Rattle.dali_commission_program.specs.declared.failure.Failure.TheVariants.{Unfinished}
 use Rattle.dali_commission_program.specs.declared.stores.StoreFault.TheVariants as store
 
@@ -40,6 +41,7 @@ status_of Spent = 9
 status_of NobodyAnswered = 10
 status_of (NobodyThere a) = 10
 status_of (NotReplaced a refusal) = 11
+status_of (NotConfirmed a refusal) = 11
 status_of Unfinished = 12
 
 -- what the end of the last machine is to the program: where no gear was heard it is none

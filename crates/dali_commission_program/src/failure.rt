@@ -41,6 +41,8 @@ pub enum Failure {
     NobodyThere(Short),
     /// Status 11: a luminaire is not replaced, for what is so of this short address or of the site.
     NotReplaced(Short, ReplaceRefusal),
+    /// Status 11: files are exchanged that an earlier call began to exchange, and this is so of the site.
+    NotConfirmed(Short, ReplaceRefusal),
     /// Status 12: the files of a site are being replaced.
     Unfinished,
 }
@@ -70,8 +72,18 @@ impl fmt::Display for Failure {
                 return write!(f, "nobody answers to short address {number}");
             }
             Failure::NotReplaced(short, refusal) => {
-                let (number, what) = (short.number(), refusal.what());
-                return write!(f, "not replaced, {what}: short address {number}: {refusal}");
+                let (number, what, advice) = (short.number(), refusal.what(), refusal.advice());
+                return write!(
+                    f,
+                    "not replaced, {what}: short address {number}: {refusal}{advice}"
+                );
+            }
+            Failure::NotConfirmed(short, refusal) => {
+                let number = short.number();
+                return write!(
+                    f,
+                    "the files are exchanged, but short address {number}: {refusal}; see by check who answers"
+                );
             }
             Failure::Unfinished => {
                 "a replacement is not finished: call ./dali_commission replace again, with the same words"
@@ -105,6 +117,7 @@ impl Failure {
             Failure::Spent => "too-many-steps",
             Failure::NobodyAnswered | Failure::NobodyThere(_) => "nobody-answered",
             Failure::NotReplaced(..) => "not-replaced",
+            Failure::NotConfirmed(..) => "not-confirmed",
             Failure::Unfinished => "unfinished",
         }
     }
@@ -126,7 +139,7 @@ impl Failed for Failure {
             Failure::Conflict => 8,
             Failure::Spent => 9,
             Failure::NobodyAnswered | Failure::NobodyThere(_) => 10,
-            Failure::NotReplaced(..) => 11,
+            Failure::NotReplaced(..) | Failure::NotConfirmed(..) => 11,
             Failure::Unfinished => 12,
         }
     }

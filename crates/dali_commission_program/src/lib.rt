@@ -2,7 +2,9 @@
 #![tactic(auto)]
 
 mod checking;
+mod confirming;
 mod failure;
+mod finishing;
 mod identifying;
 mod json;
 mod program;

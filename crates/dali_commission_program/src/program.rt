@@ -98,7 +98,7 @@ where
             lend_copy(system.alloc(), stores, name, &writing)
         }
         Task::Replace(wanted) => {
-            replaces(system, stores, is_terminal, wanted, report)?;
+            let _heard = replaces(system, stores, is_terminal, wanted, report)?;
             note_first(system.alloc(), stores, wanted, report);
             Ok(())
         }

@@ -1,11 +1,11 @@
 //! The records of a name, as the tasks borrow them.
 
 use crate::failure::Failure;
-use crate::settling::beside;
+use crate::settling::found;
 use crate::stores::{Borrower, StoreFault, Stores};
 use dali_commissioning::outside;
 use dali_console::ConsoleFault;
-use dali_replacement::{fill, fill_reserved, journal_of};
+use dali_replacement::refill;
 use dali_reserve::{Keep, KeepError};
 use dali_script::{Block, Kept};
 use std::alloc::Global;
@@ -28,9 +28,9 @@ impl Borrower for Fitting {
     }
 }
 
-/// Whether a journal of a swap has this name.
-fn is_unfinished<F: Stores>(alloc: Global, stores: &F, journal: &str) -> Result<bool, Failure> {
-    Ok(stores.text(alloc, journal)?.is_some())
+/// Whether a journal of a swap lies beside the records at this place.
+fn is_unfinished<F: Stores>(alloc: Global, stores: &F, place: &str) -> Result<bool, Failure> {
+    Ok(found(alloc, stores, place)?.is_some())
 }
 
 /// Who borrows records only while no journal of a swap lies beside them. It is looked for once they are open, too: it
@@ -39,13 +39,13 @@ fn is_unfinished<F: Stores>(alloc: Global, stores: &F, journal: &str) -> Result<
 struct Undisturbed<'a, F, B> {
     alloc: Global,
     stores: &'a F,
-    journal: &'a str,
+    place: &'a str,
     borrower: &'a B,
 }
 
 impl<F: Stores, B: Borrower> Borrower for Undisturbed<'_, F, B> {
     fn take<K: Keep>(&self, store: &mut K) -> Result<(), Failure> {
-        if is_unfinished(self.alloc, self.stores, self.journal)? {
+        if is_unfinished(self.alloc, self.stores, self.place)? {
             Err(Failure::Unfinished)
         } else {
             self.borrower.take(store)
@@ -53,20 +53,15 @@ impl<F: Stores, B: Borrower> Borrower for Undisturbed<'_, F, B> {
     }
 }
 
-/// Where the journal of a swap of the records of this name lies, if there is one.
-fn journal_at<F: Stores>(alloc: Global, stores: &F, name: &str) -> Result<String, Failure> {
-    beside(journal_of(alloc, &stores.place_of(alloc, name)?))
-}
-
 /// Lends a copy of the records of a name where no journal lies beside them.
 fn lend_seen<F: Stores, B: Borrower>(
     alloc: Global,
     stores: &F,
-    journal: &str,
+    place: &str,
     name: &str,
     borrower: &B,
 ) -> Result<(), Failure> {
-    if is_unfinished(alloc, stores, journal)? {
+    if is_unfinished(alloc, stores, place)? {
         return Err(Failure::Unfinished);
     }
     stores.lend_copy(
@@ -74,7 +69,7 @@ fn lend_seen<F: Stores, B: Borrower>(
         &Undisturbed {
             alloc,
             stores,
-            journal,
+            place,
             borrower,
         },
     )
@@ -89,15 +84,15 @@ pub(crate) fn lend<F: Stores, B: Borrower>(
     block: &Block,
     borrower: &B,
 ) -> Result<(), Failure> {
-    let journal = journal_at(alloc, stores, name)?;
-    lend_seen(alloc, stores, &journal, name, &Fitting { block: *block })?;
+    let place = stores.place_of(alloc, name)?;
+    lend_seen(alloc, stores, &place, name, &Fitting { block: *block })?;
     stores.lend(
         name,
         *block,
         &Undisturbed {
             alloc,
             stores,
-            journal: &journal,
+            place: &place,
             borrower,
         },
     )
@@ -110,9 +105,9 @@ pub(crate) fn lend_copy<F: Stores, B: Borrower>(
     name: &str,
     borrower: &B,
 ) -> Result<(), Failure> {
-    let journal = journal_at(alloc, stores, name)?;
-    if stores.has(name) || is_unfinished(alloc, stores, &journal)? {
-        lend_seen(alloc, stores, &journal, name, borrower)
+    let place = stores.place_of(alloc, name)?;
+    if stores.has(name) || is_unfinished(alloc, stores, &place)? {
+        lend_seen(alloc, stores, &place, name, borrower)
     } else {
         Err(Failure::Store(StoreFault::Missing))
     }
@@ -143,8 +138,7 @@ pub(crate) struct Filling<'a> {
 
 impl Borrower for Filling<'_> {
     fn take<K: Keep>(&self, store: &mut K) -> Result<(), Failure> {
-        answered(fill(store, self.from))?;
-        answered(fill_reserved(store, self.old))
+        answered(refill(store, self.from, self.old))
     }
 }
 
@@ -164,5 +158,15 @@ impl Borrower for Copying<'_> {
             },
             Err(_) => Err(REFUSED),
         }
+    }
+}
+
+/// Who does nothing with records.
+#[derive(Drop)]
+pub(crate) struct Nothing;
+
+impl Borrower for Nothing {
+    fn take<K: Keep>(&self, _store: &mut K) -> Result<(), Failure> {
+        Ok(())
     }
 }

@@ -1,22 +1,21 @@
 //! `replace`: a new luminaire gets the short address of one that is gone.
 
+use crate::confirming::Asking;
 use crate::failure::{Failure, ended_as, failure_of};
+use crate::finishing::{confirms, exchanged, read, say_kept};
 use crate::progress::{Manner, Progress};
-use crate::records::{Copying, Filling, kept, lend, lend_copy, see};
+use crate::records::{Filling, Nothing, kept, lend, lend_copy, see};
 use crate::report::Report;
-use crate::reports::{say_left_alone, say_line, say_not_there, say_why_ended};
+use crate::reports::{say_left_alone, say_line, say_why_ended};
 use crate::settling::{Settling, beside, found, free_number, say_refused};
 use crate::stores::{Borrower, Holder, StoreFault, Stores};
 use crate::tasks::Replacement;
-use arrayvec::ArrayVec;
-use dali_commissioning::{
-    CommissionFault, DriverLink, Ended, PassEnd, Place, Reply, ask, outside, places,
-};
+use dali_commissioning::{DriverLink, Ended, PassEnd, outside};
 use dali_console::ConsoleFault;
-use dali_frame::{Random24, Short};
+use dali_frame::Short;
 use dali_replacement::{
-    Come, Giver, MOST_FILES, OthersThere, Permit, ReplaceFault, ReplaceRefusal, Swap, Vacant,
-    gathered, giver_from, is_complete, kept_of, new_of,
+    Come, Confirmed, Giver, MOST_FILES, OthersThere, Permit, ReplaceRefusal, Swap, aside_of,
+    gathered, giver_from, new_of,
 };
 use dali_reserve::Keep;
 use dali_script::{Block, End, Kept};
@@ -27,6 +26,9 @@ use std::io::{Eprint, Read, Write};
 
 const REFUSED: Failure = Failure::Console(ConsoleFault::Refused);
 
+/// How many names are tried for a new file that is put aside.
+const MOST_ASIDE: u32 = 10_000;
+
 fn refuse<T>(short: Short, refusal: ReplaceRefusal) -> Result<T, Failure> {
     Err(Failure::NotReplaced(short, refusal))
 }
@@ -34,33 +36,6 @@ fn refuse<T>(short: Short, refusal: ReplaceRefusal) -> Result<T, Failure> {
 /// Whether a table has this short address.
 fn is_anywhere(tables: &[Kept], short: Short) -> bool {
     tables.iter().any(|kept| kept.enrolled_at(short).is_some())
-}
-
-/// Why a luminaire is not replaced, at this line of the driver.
-fn not_replaced(short: Short, fault: ReplaceFault, line: u64) -> Failure {
-    match fault {
-        ReplaceFault::Refused(refusal) => Failure::NotReplaced(short, refusal),
-        ReplaceFault::Commission(fault) => failure_of(fault, line),
-    }
-}
-
-/// What is heard of the gear of a table, and where they stand beside it.
-fn standing<R: Read, W: Write>(
-    driver: &mut DriverLink<R, W>,
-    table: &Kept,
-) -> Result<ArrayVec<Place, 64>, CommissionFault> {
-    let mut replies: ArrayVec<Reply, 64> = ArrayVec::new();
-    for number in 0..64u8 {
-        let Some(short) = Short::of(number) else {
-            unreachable!();
-        };
-        let reply = match table.enrolled_at(short) {
-            Some(_) => ask(driver, short)?,
-            None => Reply::Silence,
-        };
-        let _ = replies.try_push(reply);
-    }
-    Ok(places(table, &[], &replies))
 }
 
 /// Who gives the new gear its short address, into these records.
@@ -126,7 +101,7 @@ struct Replacing<'a, S, F> {
     wanted: &'a Replacement,
     /// Where the files lie.
     names: &'a [String],
-    is_terminal: bool,
+    asking: &'a Asking<'a, S>,
     /// What is done once the files are closed.
     due: RefCell<Option<DueSwap>>,
     report: &'a RefCell<Report>,
@@ -136,25 +111,20 @@ struct Replacing<'a, S, F> {
 #[derive(Drop)]
 struct DueSwap {
     swap: Swap,
-    /// The random address of the new gear.
-    random: Random24,
+    /// The new gear that was heard.
+    confirmed: Confirmed,
     /// How many gear are in each new table.
     count: usize,
+}
+
+/// Whether another one's new records have come no further than the giver's.
+fn is_behind(other: &Come, come: &Come) -> bool {
+    matches!(other, Come::Nowhere) || other == come
 }
 
 impl<S: Input + Print + Eprint + AllocGlobal, F: Stores> Replacing<'_, S, F> {
     fn alloc(&self) -> Global {
         self.system.alloc()
-    }
-
-    fn manner(&self) -> Manner {
-        if self.wanted.is_quiet {
-            Manner::Quiet
-        } else if self.is_terminal {
-            Manner::Rewritten
-        } else {
-            Manner::Plain
-        }
     }
 
     /// The number of the file from whose block the short address is given.
@@ -175,41 +145,34 @@ impl<S: Input + Print + Eprint + AllocGlobal, F: Stores> Replacing<'_, S, F> {
         }
     }
 
-    /// The records of this name, as a copy of them has them.
-    fn read(&self, name: &str) -> Result<Kept, Failure> {
-        let into = RefCell::new(Vec::new(self.alloc()));
-        let copying = Copying { into: &into };
-        if let Err(failure) = lend_copy(self.alloc(), self.stores, name, &copying) {
-            return Err(say_refused(self.system, name, failure));
-        }
-        match into.try_borrow_mut() {
-            Ok(mut all) => match all.pop() {
-                Some(kept) => Ok(kept),
-                None => Err(REFUSED),
-            },
-            Err(_) => Err(REFUSED),
-        }
-    }
-
     /// How far the new file of a name has come, beside what the old one has.
     fn come(&self, name: &str, old: &Kept, is_giver: bool) -> Result<Come, Failure> {
         let new = beside(new_of(self.alloc(), name))?;
         if !self.stores.has(&new) {
             return Ok(Come::Nowhere);
         }
-        match Come::of(&self.read(&new)?, old, self.wanted.short, is_giver) {
+        match Come::of(
+            &read(self.system, self.stores, &new)?,
+            old,
+            self.wanted.short,
+            is_giver,
+        ) {
             Some(come) => Ok(come),
             None => refuse(self.wanted.short, ReplaceRefusal::OtherNew),
         }
     }
 
-    /// How far an earlier call has come.
+    /// How far an earlier call has come. No other new file has another gear there than the giver's.
     fn all_come(&self, all: &[Kept], giver: u32) -> Result<Come, Failure> {
-        let mut come = Come::Nowhere;
+        let giver = giver as usize;
+        let (Some(name), Some(old)) = (self.names.get(giver), all.get(giver)) else {
+            return Err(REFUSED);
+        };
+        let come = self.come(name, old, true)?;
         for (number, (name, old)) in self.names.iter().zip(all).enumerate() {
-            let is_giver = number == giver as usize;
-            let here = self.come(name, old, is_giver)?;
-            come = if is_giver { here } else { come };
+            if number != giver && !is_behind(&self.come(name, old, false)?, &come) {
+                return refuse(self.wanted.short, ReplaceRefusal::OtherNew);
+            }
         }
         Ok(come)
     }
@@ -234,61 +197,13 @@ impl<S: Input + Print + Eprint + AllocGlobal, F: Stores> Replacing<'_, S, F> {
         Ok(Plan { table, giver, come })
     }
 
-    /// All other gear are there, but those that are known to be gone.
-    fn others_there<R: Read, W: Write>(
-        &self,
-        driver: &mut DriverLink<R, W>,
-        vacant: Vacant,
-        table: &Kept,
-    ) -> Result<OthersThere, Failure> {
-        let all = match standing(driver, table) {
-            Ok(all) => all,
-            Err(fault) => return Err(failure_of(fault, driver.lines())),
-        };
-        match vacant.beside(&self.wanted.missing, &all) {
-            Ok(seen) => Ok(seen),
-            Err(_) if !driver.has_heard() => Err(Failure::NobodyAnswered),
-            Err(refusal) => {
-                say_not_there(self.system, &all);
-                if let Ok(mut report) = self.report.try_borrow_mut() {
-                    report.places = all;
-                }
-                refuse(self.wanted.short, refusal)
-            }
-        }
-    }
-
-    /// Nobody has the short address, all other gear are there, one alone has none; or an earlier call has seen that.
-    fn permit<R: Read, W: Write>(
-        &self,
-        driver: &mut DriverLink<R, W>,
-        plan: &Plan,
-    ) -> Result<Permit, Failure> {
-        let (system, short) = (self.system, self.wanted.short);
-        if self.manner() != Manner::Quiet {
-            let _ = eprintln!(system; "asking the luminaires of the tables");
-        }
-        let vacant = match Vacant::ask(driver, short, plan.come) {
-            Ok(vacant) => vacant,
-            Err(fault) => return Err(not_replaced(short, fault, driver.lines())),
-        };
-        let seen = self.others_there(driver, vacant, &plan.table)?;
-        if plan.come != Come::Nowhere {
-            let _ = eprintln!(system; "an earlier call is gone on with");
-        }
-        match seen.look(driver, &plan.table) {
-            Ok(permit) => Ok(permit),
-            Err(fault) => Err(not_replaced(short, fault, driver.lines())),
-        }
-    }
-
     /// Lends the new file of a name.
     fn renew<B: Borrower>(&self, name: &str, block: Block, borrower: &B) -> Result<Kept, Failure> {
         let new = beside(new_of(self.alloc(), name))?;
         if let Err(failure) = lend(self.alloc(), self.stores, &new, &block, borrower) {
             return Err(say_refused(self.system, &new, failure));
         }
-        self.read(&new)
+        read(self.system, self.stores, &new)
     }
 
     /// The new table of each file, where the giver's has been this one.
@@ -315,53 +230,102 @@ impl<S: Input + Print + Eprint + AllocGlobal, F: Stores> Replacing<'_, S, F> {
     }
 
     /// The swap that is due, where the new tables may take the places of the old ones.
-    fn due_swap(&self, all: &[Kept], news: &[Kept]) -> Result<DueSwap, Failure> {
-        let (short, number) = (
-            self.wanted.short,
-            free_number(self.alloc(), self.stores, self.names)?,
-        );
+    fn due_swap(
+        &self,
+        confirmed: Confirmed,
+        all: &[Kept],
+        news: &[Kept],
+    ) -> Result<DueSwap, Failure> {
+        let number = free_number(self.alloc(), self.stores, self.names)?;
         let names = self.copied_names()?;
-        let [new, ..] = news else {
-            return refuse(short, ReplaceRefusal::NotGiven);
+        let count = match news.first() {
+            Some(new) => new.enrolled().len(),
+            None => 0,
         };
-        let Some(random) = new.enrolled_at(short) else {
-            return refuse(short, ReplaceRefusal::NotGiven);
-        };
-        if !is_complete(short, random, all, news) {
-            return refuse(short, ReplaceRefusal::Incomplete);
+        match Swap::of(&confirmed, all, news, number, names) {
+            Ok(swap) => Ok(DueSwap {
+                swap,
+                confirmed,
+                count,
+            }),
+            Err(refusal) => refuse(self.wanted.short, refusal),
         }
-        Ok(DueSwap {
-            swap: Swap::of(short, random, all, news, number, names),
-            random,
-            count: new.enrolled().len(),
-        })
     }
 
-    /// Gives the short address in the new file of the giver, where an earlier call has not done it. What that has then.
-    fn first<R: Read, W: Write>(
+    /// Gives the short address in the new file of the giver.
+    fn give<R: Read, W: Write>(
         &self,
         driver: &RefCell<DriverLink<R, W>>,
-        plan: &Plan,
+        name: &str,
+        others: &OthersThere,
     ) -> Result<Kept, Failure> {
-        let Some(name) = self.names.get(plan.giver as usize) else {
-            return Err(REFUSED);
-        };
-        if plan.come == Come::Given {
-            let _ = eprintln!(self.system; "an earlier call is gone on with");
-            return self.read(&beside(new_of(self.alloc(), name))?);
-        }
         let permit = match driver.try_borrow_mut() {
-            Ok(mut driver) => self.permit(&mut *driver, plan)?,
+            Ok(mut driver) => self.asking.permit(&mut *driver, others)?,
             Err(_) => return Err(REFUSED),
         };
         let giving = Giving {
             system: self.system,
             driver,
             permit: &permit,
-            table: &plan.table,
-            manner: self.manner(),
+            table: others.table(),
+            manner: self.asking.manner(),
         };
         self.renew(name, permit.block(), &giving)
+    }
+
+    /// What the new file of the giver has, in which the short address is given where an earlier call has not done it.
+    fn first<R: Read, W: Write>(
+        &self,
+        driver: &RefCell<DriverLink<R, W>>,
+        giver: u32,
+        others: &OthersThere,
+    ) -> Result<Kept, Failure> {
+        let Some(name) = self.names.get(giver as usize) else {
+            return Err(REFUSED);
+        };
+        if !matches!(others.come(), Come::Nowhere) {
+            let _ = eprintln!(self.system; "an earlier call is gone on with");
+        }
+        if matches!(others.come(), Come::Given(_)) {
+            let new = beside(new_of(self.alloc(), name))?;
+            read(self.system, self.stores, &new)
+        } else {
+            self.give(driver, name, others)
+        }
+    }
+
+    /// The new gear was heard to have the address that all new tables have it at.
+    fn confirm<R: Read, W: Write>(
+        &self,
+        driver: &RefCell<DriverLink<R, W>>,
+        others: OthersThere,
+        news: &[Kept],
+    ) -> Result<Confirmed, Failure> {
+        match driver.try_borrow_mut() {
+            Ok(mut driver) => self.asking.confirm(&mut *driver, others, news),
+            Err(_) => Err(REFUSED),
+        }
+    }
+
+    /// Nobody has the address, or the new gear, and all others are there.
+    fn others_there<R: Read, W: Write>(
+        &self,
+        driver: &RefCell<DriverLink<R, W>>,
+        come: Come,
+        table: Kept,
+    ) -> Result<OthersThere, Failure> {
+        match driver.try_borrow_mut() {
+            Ok(mut driver) => self.asking.others_there(&mut *driver, come, table),
+            Err(_) => Err(REFUSED),
+        }
+    }
+
+    /// Why the new gear has not got the address.
+    fn not_given<R: Read, W: Write>(&self, driver: &RefCell<DriverLink<R, W>>) -> Failure {
+        match driver.try_borrow_mut() {
+            Ok(mut driver) => self.asking.not_given(&mut *driver),
+            Err(_) => REFUSED,
+        }
     }
 
     /// Gives the short address, and makes the new tables complete.
@@ -370,14 +334,20 @@ impl<S: Input + Print + Eprint + AllocGlobal, F: Stores> Replacing<'_, S, F> {
         driver: &RefCell<DriverLink<R, W>>,
         all: &[Kept],
     ) -> Result<(), Failure> {
+        if self.wanted.is_again {
+            self.put_aside()?;
+        }
         let plan = self.plan(all)?;
-        let first = self.first(driver, &plan)?;
+        let giver = plan.giver;
+        let others = self.others_there(driver, plan.come, plan.table)?;
+        let first = self.first(driver, giver, &others)?;
         // What the giver's new file has reserved besides says to a later call that the address is given there.
         if first.enrolled_at(self.wanted.short).is_none() {
-            return refuse(self.wanted.short, ReplaceRefusal::NotGiven);
+            return Err(self.not_given(driver));
         }
         let news = self.news(all, &first)?;
-        let swap = self.due_swap(all, &news)?;
+        let confirmed = self.confirm(driver, others, &news)?;
+        let swap = self.due_swap(confirmed, all, &news)?;
         match self.due.try_borrow_mut() {
             Ok(mut due) => {
                 *due = Some(swap);
@@ -387,11 +357,38 @@ impl<S: Input + Print + Eprint + AllocGlobal, F: Stores> Replacing<'_, S, F> {
         }
     }
 
+    /// Puts the new file of a name aside that an earlier call has left, where there is one.
+    fn put_one_aside(&self, name: &str) -> Result<(), Failure> {
+        let (alloc, stores) = (self.alloc(), self.stores);
+        let new = beside(new_of(alloc, name))?;
+        if !stores.has(&new) {
+            return Ok(());
+        }
+        let aside = free_aside(alloc, stores, name)?;
+        // Once it is closed, nothing of it lies in a log.
+        let done = match lend(alloc, stores, &new, &Block::ALL, &Nothing) {
+            Ok(()) => stores.rename(alloc, &new, &aside),
+            Err(failure) => Err(failure),
+        };
+        if let Err(failure) = done {
+            return Err(say_refused(self.system, &new, failure));
+        }
+        let _ = eprintln!(self.system; "{new}: put aside as {aside}");
+        Ok(())
+    }
+
+    /// Puts all new files aside. No journal lies beside their files, and all others are kept from these.
+    fn put_aside(&self) -> Result<(), Failure> {
+        for name in self.names {
+            self.put_one_aside(name)?;
+        }
+        Ok(())
+    }
+
     /// Exchanges the files, and says which gear has the short address.
     fn exchange(&self, due: &DueSwap) -> Result<(), Failure> {
-        let system = self.system;
         let settling = Settling {
-            system,
+            system: self.system,
             stores: self.stores,
             swap: &due.swap,
             is_done: RefCell::new(false),
@@ -400,13 +397,32 @@ impl<S: Input + Print + Eprint + AllocGlobal, F: Stores> Replacing<'_, S, F> {
         if !settling.settle()? {
             return Err(Failure::Unfinished);
         }
-        let (number, random, count) = (self.wanted.short.number(), due.random, due.count);
-        let _ = eprintln!(system;
-            "{number} {random} the new luminaire has the address; {count} gear are in each table"
-        );
-        let _ = say_kept(system, &due.swap);
+        self.asking.say_confirmed(&due.confirmed, due.count);
+        let _ = say_kept(self.system, &due.swap);
         Ok(())
     }
+
+    /// The new gear that was heard, once the files are exchanged.
+    fn confirmed(&self) -> Result<Confirmed, Failure> {
+        match self.due.try_borrow_mut() {
+            Ok(mut due) => match due.take() {
+                Some(due) => Ok(due.confirmed),
+                None => Err(REFUSED),
+            },
+            Err(_) => Err(REFUSED),
+        }
+    }
+}
+
+/// The first name for a new file that is put aside which nothing has.
+fn free_aside<F: Stores>(alloc: Global, stores: &F, name: &str) -> Result<String, Failure> {
+    for number in 1..MOST_ASIDE {
+        let aside = beside(aside_of(alloc, name, number))?;
+        if !stores.has(&aside) {
+            return Ok(aside);
+        }
+    }
+    Err(Failure::Store(StoreFault::CannotOpen))
 }
 
 fn add_copy(
@@ -452,62 +468,6 @@ impl<S: Input + Print + Eprint + AllocGlobal, F: Stores> Holder for Replacing<'_
             Err(_) => Err(REFUSED),
         }
     }
-}
-
-/// Says where the old files are kept.
-fn say_kept<S: Eprint + AllocGlobal>(system: &S, swap: &Swap) -> Result<(), Failure> {
-    for name in swap.names() {
-        let kept = beside(kept_of(system.alloc(), name, swap.number()))?;
-        let _ = eprintln!(system; "{name}: the old file is kept as {kept}");
-    }
-    Ok(())
-}
-
-/// Brings a swap of an earlier call to its end, or takes it back, and says which. Whether the new files have taken the
-/// places of the old ones.
-fn finishes<S: Eprint + AllocGlobal, F: Stores>(
-    system: &S,
-    stores: &F,
-    swap: &Swap,
-) -> Result<bool, Failure> {
-    let settling = Settling {
-        system,
-        stores,
-        swap,
-        is_done: RefCell::new(false),
-    };
-    let is_done = settling.settle()?;
-    let number = swap.short().number();
-    if is_done {
-        let _ = eprintln!(system;
-            "short address {number}: the replacement that was not finished is done now"
-        );
-        let _ = say_kept(system, swap);
-    } else {
-        let _ = eprintln!(system;
-            "short address {number}: a replacement was stopped before it changed a file; it is gone on with"
-        );
-    }
-    Ok(is_done)
-}
-
-/// Whether an earlier call has replaced the luminaire with this short address, but for the end of it.
-fn is_finished<S: Eprint + AllocGlobal, F: Stores>(
-    system: &S,
-    stores: &F,
-    names: &[String],
-    short: Short,
-) -> Result<bool, Failure> {
-    let mut is_finished = false;
-    for name in names {
-        match found(system.alloc(), stores, name) {
-            Ok(Some(swap)) => is_finished |= finishes(system, stores, &swap)?
-                && swap.short() == short,
-            Ok(None) => {}
-            Err(failure) => return Err(say_refused(system, name, failure)),
-        }
-    }
-    Ok(is_finished)
 }
 
 /// Where the files of these names lie.
@@ -572,14 +532,14 @@ pub(crate) fn note_first<F: Stores>(
 }
 
 /// Gives a new luminaire the short address of one that is gone, in all records of the site; or finishes what an earlier
-/// call has begun.
+/// call has begun. The new gear that was heard to have the address.
 pub(crate) fn replaces<S, F>(
     system: &S,
     stores: &F,
     is_terminal: bool,
     wanted: &Replacement,
     report: &RefCell<Report>,
-) -> Result<(), Failure>
+) -> Result<Confirmed, Failure>
 where
     S: Input + Print + Eprint + AllocGlobal,
     F: Stores,
@@ -588,8 +548,14 @@ where
     if !are_apart(system.alloc(), &names)? {
         return refuse(wanted.short, ReplaceRefusal::SameFile);
     }
-    if is_finished(system, stores, &names, wanted.short)? {
-        return Ok(());
+    let asking = Asking {
+        system,
+        wanted,
+        is_terminal,
+        report,
+    };
+    if let Some(swap) = exchanged(system, stores, &names, wanted.short)? {
+        return confirms(&asking, stores, &swap);
     }
     for name in names.iter() {
         if let Err(failure) = see(system.alloc(), stores, name) {
@@ -601,9 +567,10 @@ where
         stores,
         wanted,
         names: &names,
-        is_terminal,
+        asking: &asking,
         due: RefCell::new(None),
         report,
     };
-    stores.hold(system.alloc(), &names, &replacing)
+    stores.hold(system.alloc(), &names, &replacing)?;
+    replacing.confirmed()
 }

@@ -36,6 +36,14 @@ impl Report {
         }
     }
 
+    /// Notes what stands under each short address.
+    pub fn note_places(&mut self, places: &[Place]) {
+        self.places.clear();
+        for place in places {
+            let _ = self.places.try_push(*place);
+        }
+    }
+
     /// Notes the records as they are in the end.
     pub fn note_table(&mut self, kept: &Kept) {
         self.table.clear();

@@ -194,7 +194,9 @@ fn say_gave_up<S: Eprint>(system: &S, pass: &PassEnd, aim: Aim) {
     let _ = if pass.tally.calls >= 3 && pass.tally.passed.count > 0 {
         eprintln!(system; "all other gear that answered were served")
     } else if pass.tally.draws >= 3 {
-        eprintln!(system; "gear without short address are there that draw no random address")
+        eprintln!(system;
+            "gear without short address are there that draw no random address, or whose answers are not heard"
+        )
     } else {
         eprintln!(system;
             "too many searches in a row led to a gear that did not answer; the last frames were {aim}"

@@ -217,12 +217,17 @@ pub(crate) fn found<F: Stores>(
     stores: &F,
     name: &str,
 ) -> Result<Option<Swap>, Failure> {
-    let Some(text) = stores.text(alloc, &beside(journal_of(alloc, name))?)? else {
-        return Ok(None);
+    let text = match stores.text(alloc, &beside(journal_of(alloc, name))?) {
+        Ok(Some(text)) => text,
+        Ok(None) => return Ok(None),
+        Err(Failure::Store(StoreFault::Foreign)) => {
+            return Err(Failure::Store(StoreFault::BadJournal));
+        }
+        Err(failure) => return Err(failure),
     };
     match Swap::read(alloc, &text) {
         Ok(Some(swap)) if swap.has(name) => Ok(Some(swap)),
-        Ok(_) => Err(Failure::Store(StoreFault::Foreign)),
+        Ok(_) => Err(Failure::Store(StoreFault::BadJournal)),
         Err(_) => Err(REFUSED),
     }
 }

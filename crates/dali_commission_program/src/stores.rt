@@ -33,6 +33,15 @@ pub enum StoreFault {
     /// It is a database that is damaged.
     #[error("it is a damaged database")]
     Damaged,
+    /// What lies in its log before the end cannot be read, so records would be missing.
+    #[error("its log, with -wal behind its name, is damaged before its end, so records are lost; keep a copy of both")]
+    DamagedLog,
+    /// The journal beside it cannot be gone on with.
+    #[error("its journal, with .replacing behind its name, is damaged, or of files that lay elsewhere")]
+    BadJournal,
+    /// The system refuses it, by this error of its own.
+    #[error("the system refuses it, by its error {0}")]
+    System(i32),
     /// It cannot be opened for another reason.
     #[error("it cannot be opened")]
     CannotOpen,

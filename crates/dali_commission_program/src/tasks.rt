@@ -77,6 +77,8 @@ pub struct Replacement {
     pub missing: Vec<Short>,
     /// The block of the records, where they are of one name.
     pub block: Block,
+    /// Whether the new files of an earlier call are put aside, and it begins anew.
+    pub is_again: bool,
     /// Whether nothing is said of how far it is.
     pub is_quiet: bool,
     /// Whether what it came to is written as an object of JSON, too.

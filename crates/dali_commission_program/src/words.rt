@@ -22,7 +22,7 @@ Examples:
   ./dali_commission check --records site.db --driver 'adapters/daliserver localhost 55825'
   ./dali_commission identify 5 --driver 'adapters/daliserver localhost 55825'
   ./dali_commission table --records site.db --csv
-  ./dali_commission replace 5 --records site.db --driver 'adapters/daliserver localhost 55825'
+  ./dali_commission replace 5 --records site.db --only --driver 'adapters/daliserver localhost 55825'
 
 docs/INSTALLER.md of the repository says how to use it, docs/FORMAT.md has each line and the exit statuses.";
 
@@ -46,8 +46,9 @@ Gives a new luminaire the short address of one that is gone, in all files of rec
 The new luminaire is on and has no short address, the old one is disconnected, and all others are on. Each file is named
 by --records. A new file is made beside each; when all are complete they take the places of the old ones, which are kept
 as FILE.before-1, FILE.before-2 and so on. It refuses and changes nothing where somebody still answers to the address,
-where another luminaire of a table does not answer, or where not exactly one new luminaire is found. It may be stopped
-at any moment, also by a power cut: the same line goes on where it was.";
+where another luminaire of a table does not answer, or where not exactly one new luminaire is found. Before any file
+takes the place of another, and before it says that it is done, it has heard the new luminaire answer to the address.
+It may be stopped at any moment, also by a power cut: the same line goes on where it was, or with --again anew.";
 
 const DRIVER: Word = Word {
     name: "driver",
@@ -174,6 +175,18 @@ const REPLACE_WORDS: &[Word] = &[
         help: "The short address of another luminaire that is known to be gone; may be given again",
         kind: WordKind::Again,
     },
+    Word {
+        name: "only",
+        value: "",
+        help: "No other controller has a file of records: the one that is named is the only one of the site",
+        kind: WordKind::Flag,
+    },
+    Word {
+        name: "again",
+        value: "",
+        help: "Put aside the new files that an earlier call has left, and begin anew",
+        kind: WordKind::Flag,
+    },
     DRIVER,
     DRIVER_TIMEOUT,
     QUIET,
@@ -187,7 +200,7 @@ const REPLACE_WORDS: &[Word] = &[
     Word {
         name: "block",
         value: "BLOCK",
-        help: "The block of the records, where one file is named; 0-63 if nothing is said",
+        help: "The block of the records, where one file is named",
         kind: WordKind::LastPlace(Value::Text),
     },
 ];
@@ -379,12 +392,20 @@ fn missing(alloc: Global, line: &CommandLine) -> Result<Vec<Short>, LineFault> {
     Ok(missing)
 }
 
+const ONE_FILE: &str = "\
+one file is named: where other controllers have files, name each by --records; where none has, say --only, or name \
+the block, as 0-31";
+
 /// The block of the only file of records.
 fn only_block(alloc: Global, line: &CommandLine, files: usize) -> Result<Block, LineFault> {
-    match line.value("block") {
-        None => Ok(Block::ALL),
-        Some(word) if files == 1 => block(alloc, word),
-        Some(_) => conflict(alloc, "a block is that of one file, and several are named"),
+    match (line.value("block"), line.has("only")) {
+        (Some(word), _) if files == 1 => block(alloc, word),
+        (Some(_), _) => conflict(alloc, "a block is that of one file, and several are named"),
+        (None, false) if files == 1 => conflict(alloc, ONE_FILE),
+        (None, true) if files > 1 => {
+            conflict(alloc, "--only is said of one file, and several are named")
+        }
+        (None, _) => Ok(Block::ALL),
     }
 }
 
@@ -397,6 +418,7 @@ fn replacement(alloc: Global, line: &CommandLine) -> Result<Replacement, LineFau
         records,
         missing: missing(alloc, line)?,
         block,
+        is_again: line.has("again"),
         is_quiet: line.has("quiet"),
         as_json: line.has("json"),
     })

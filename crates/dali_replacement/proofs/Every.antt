@@ -1,4 +1,4 @@
-use Rattle.std.proofs.Common.{◌≡◌, ◌≢◌, ℕ, ◌<◌, ◌⊎◌, inl, inr, Bool, true, false, List, [], ◌∷◌, ◌++◌, refl, subst, not, cond}
+use Rattle.std.proofs.Common.{◌≡◌, ◌≢◌, ℕ, ◌<◌, inl, inr, Bool, true, false, List, [], ◌∷◌, refl, subst, not, cond}
 use Rattle.dali_script.specs.declared.records.Record.{Record}
 use Rattle.dali_script.specs.declared.records.Record.TheVariants.{Reserve, Enrol, Release}
 use Rattle.dali_script.specs.Records.{Kept, Assignment, IsKept, Has, HasAddress, HasRandom, is_pair, without_pair, with_record, Shows}
@@ -20,6 +20,9 @@ are_short (p ∷ xs) below = (below p.0 (inl refl), are_short xs (λ a has. belo
 
 pub kept_are_short : (k : Kept) → IsKept k → AreShort k.enrolled
 kept_are_short k kept = are_short k.enrolled kept.enrolled.short
+
+pub reserved_are_short : (k : Kept) → IsKept k → AreShort k.reserved
+reserved_are_short k kept = are_short k.reserved kept.reserved.short
 
 pub has_its_address : (xs : List Assignment) (a r : ℕ) → Has xs (a, r) → HasAddress xs a
 has_its_address xs a r has = has_map (λ p. p.0) xs (a, r) has

@@ -1,2 +1,4 @@
 pub mod Every
+pub mod Filled
+pub mod Heard
 pub mod Moments

@@ -1,3 +1,6 @@
+pub mod Come
 pub mod Permit
+pub mod Standing
 pub mod Swap
+pub mod Swapping
 pub mod Tables

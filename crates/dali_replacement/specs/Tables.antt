@@ -1,6 +1,6 @@
-use Rattle.std.specs.Prelude.{◌≢◌, ℕ, ◌+◌, ◌<◌, ◌==◌, Bool, true, false, List, [], ◌∷◌}
+use Rattle.std.specs.Prelude.{◌≡◌, ◌≢◌, ℕ, ◌+◌, ◌<◌, ◌==◌, Bool, true, false, List, [], ◌∷◌, length}
 use Rattle.std.specs.List.{list_any}
-use Rattle.dali_script.specs.Records.{Kept, Assignment, Has, HasRandom}
+use Rattle.dali_script.specs.Records.{Kept, Assignment, Has, HasAddress, HasRandom}
 use Rattle.dali_replacement.specs.declared.tables.Giver.{Giver}
 use Rattle.dali_replacement.specs.declared.tables.Giver.TheVariants.{Nobody, One, Several}
 
@@ -34,9 +34,28 @@ abbrev pub AreShort : List Assignment → Type 0
 AreShort [] = Unit {0}
 AreShort (p ∷ more) = (p.0 < 64) × AreShort more
 
--- a table has what another one has; and what several have but under one address
+-- a table has all pairs of a list; what another one has; and has reserved what that has
+abbrev pub HasAll : List Assignment → Kept → Type 0
+HasAll xs k = (p : Assignment) → Has xs p → Has k.enrolled p
+
 abbrev pub Keeps : Kept → Kept → Type 0
-Keeps old new = (p : Assignment) → Has old.enrolled p → Has new.enrolled p
+Keeps old new = HasAll old.enrolled new
+
+abbrev pub KeepsReserved : Kept → Kept → Type 0
+KeepsReserved old new = (p : Assignment) → Has old.reserved p → Has new.reserved p
+
+-- pairs are reserved, as far as a table has them
+abbrev pub Reserves : List Assignment → Kept → Kept → Type 0
+Reserves xs table k = (p : Assignment) → Has xs p → Has table.enrolled p → Has k.reserved p
+
+-- no gear has the address; so it stays for each address but that of a pair
+abbrev pub Lacks : ℕ → Kept → Type 0
+Lacks a k = HasAddress k.enrolled a → ⊥
+
+abbrev pub Spares : Assignment → Kept → Kept → Type 0
+Spares p old new = (a : ℕ) → p.0 ≢ a → Lacks a old → Lacks a new
+
+-- a table has what several have but under one address
 
 abbrev pub IsGathered : ℕ → List Kept → Kept → Type 0
 IsGathered a ks all = (k : Kept) → Has ks k → HasAllBut a k.enrolled all
@@ -48,9 +67,13 @@ AreGiven a r ks = (k : Kept) → Has ks k → Has k.enrolled (a, r)
 abbrev pub AreNew : ℕ → List Kept → Type 0
 AreNew r ks = (k : Kept) → Has ks k → HasRandom k.enrolled r → ⊥
 
--- THE NEW TABLES ARE COMPLETE: each has the same new gear under the address, and all that an old or
--- another new one has under others; and no old table has the new gear.
-pub record IsComplete (a r : ℕ) (old news : List Kept) : Type 0 where
+-- THE NEW TABLES ARE COMPLETE: there is one for each of so many files, one at least, as there is an
+-- old one; each has the same new gear under the address, and all that an old or another new one
+-- has under others; and no old table has the new gear.
+pub record IsComplete (n a r : ℕ) (old news : List Kept) : Type 0 where
+  pub some : 0 < n
+  pub olds : length old ≡ n
+  pub count : length news ≡ n
   pub given : AreGiven a r news
   pub all : HaveAllOf a news old
   pub same : HaveAllOf a news news

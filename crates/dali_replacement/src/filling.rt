@@ -1,19 +1,21 @@
 //! What the tables of a site have, gathered into one, and filled into other records.
 
 ghost use Rattle.std.specs.Prelude.{◌≡◌, ◌≢◌, ◌<◌, IfOk, OnOk};
-ghost use Rattle.dali_script.specs.Records.{Has, Shows};
-ghost use Rattle.dali_replacement.specs.Tables.{AreShort, HasAllBut, Keeps, IsGathered};
+ghost use Rattle.dali_script.specs.Records.{Has};
+ghost use Rattle.dali_replacement.specs.Tables.{AreShort, HasAllBut, HasAll, Keeps, KeepsReserved, Lacks, Spares};
+ghost use Rattle.dali_replacement.specs.Tables.{IsGathered, Reserves};
 
+use crate::tables::has;
 use dali_frame::Short;
 use dali_reserve::{Keep, KeepError};
 use dali_script::{Block, Kept, Pair, Record};
 
 /// Adds a gear to a table, where it is not there. Else which short address another gear has, or which other one this
 /// gear has.
-#[tactic(auto, using(crate::proofs::Every::enrolled_has, crate::proofs::Every::enrolled_keeps))]
+#[tactic(auto, using(crate::proofs::Filled::enrolling))]
 fn add(all: &mut Kept, address: Short, pair: Pair) -> Result<(), Short>
     requires { address ≡ pair.0 }
-    ensures { OnOk result (Has all.new.enrolled pair × Keeps all.old all.new) }
+    ensures { OnOk result (Has all.new.enrolled pair × Keeps all.old all.new × Spares pair all.old all.new) }
 {
     let record = Record::Enrol(address, pair.random());
     if all.shows(&record) {
@@ -29,7 +31,9 @@ fn add(all: &mut Kept, address: Short, pair: Pair) -> Result<(), Short>
 /// Adds a gear to a table so, unless it is the one with this short address.
 fn add_other(all: &mut Kept, pair: Pair, short: Short) -> Result<(), Short>
     requires { pair.0 < 64 }
-    ensures { OnOk result ((pair.0 ≢ short → Has all.new.enrolled pair) × Keeps all.old all.new) }
+    ensures has { OnOk result (pair.0 ≢ short → Has all.new.enrolled pair) }
+    ensures keeps { OnOk result (Keeps all.old all.new) }
+    ensures lacks { OnOk result (Lacks short all.old → Lacks short all.new) }
 {
     let Some(address) = Short::of(pair.address()) else {
         unreachable!();
@@ -45,7 +49,9 @@ fn add_other(all: &mut Kept, pair: Pair, short: Short) -> Result<(), Short>
 #[tactic(auto, using(crate::proofs::Every::all_but_more))]
 fn add_all(all: &mut Kept, pairs: &[Pair], short: Short) -> Result<(), Short>
     requires { AreShort pairs.now }
-    ensures { OnOk result (HasAllBut short pairs.now all.new × Keeps all.old all.new) }
+    ensures all { OnOk result (HasAllBut short pairs.now all.new) }
+    ensures keeps { OnOk result (Keeps all.old all.new) }
+    ensures lacks { OnOk result (Lacks short all.old → Lacks short all.new) }
 {
     let [pair, more @ ..] = pairs else {
         return Ok(());
@@ -57,7 +63,9 @@ fn add_all(all: &mut Kept, pairs: &[Pair], short: Short) -> Result<(), Short>
 /// Adds all gear of tables to another one so, but the one with this short address.
 #[tactic(auto, using(crate::proofs::Every::kept_are_short))]
 fn gather(all: &mut Kept, tables: &[Kept], short: Short) -> Result<(), Short>
-    ensures { OnOk result (IsGathered short tables.now all.new × Keeps all.old all.new) }
+    ensures all { OnOk result (IsGathered short tables.now all.new) }
+    ensures keeps { OnOk result (Keeps all.old all.new) }
+    ensures lacks { OnOk result (Lacks short all.old → Lacks short all.new) }
 {
     let [table, more @ ..] = tables else {
         return Ok(());
@@ -69,47 +77,139 @@ fn gather(all: &mut Kept, tables: &[Kept], short: Short) -> Result<(), Short>
 /// A table of all gear that tables have, but the one which is replaced; or the short address about which two of them
 /// disagree.
 pub fn gathered(tables: &[Kept], short: Short) -> Result<Kept, Short>
-    ensures { IfOk result (λ all. IsGathered short tables.now all) }
+    ensures all { IfOk result (λ all. IsGathered short tables.now all) }
+    ensures without { IfOk result (λ all. Lacks short all) }
 {
     let mut all = Kept::new(Block::ALL);
     gather(&mut all, tables, short)?;
     Ok(all)
 }
 
-/// Adds a record to a store, where its records do not show it.
-#[tactic(auto, using(crate::proofs::Every::added_shows))]
-fn put<K: Keep>(store: &mut K, added: Record) -> Result<(), KeepError>
-    ensures { OnOk result (Shows (K.kept store.new) added) }
+/// Enrols a pair in a store, where its records, as they were read, do not have it.
+#[tactic(auto, using(crate::proofs::Every::enrolled_has, crate::proofs::Every::enrolled_keeps))]
+fn enrol<K: Keep>(store: &mut K, kept: &Kept, pair: Pair) -> Result<(), KeepError>
+    requires short { pair.0 < 64 }
+    requires has { Keeps kept.now (K.kept store.old) }
+    ensures has { OnOk result (Has (K.kept store.new).enrolled pair) }
+    ensures keeps { OnOk result (Keeps (K.kept store.old) (K.kept store.new)) }
+    ensures same { OnOk result ((K.kept store.new).reserved ≡ (K.kept store.old).reserved) }
+    ensures block { K.block store.new ≡ K.block store.old }
 {
-    let kept = store.read()?;
-    if kept.shows(&added) {
+    let Some(address) = Short::of(pair.address()) else {
+        unreachable!();
+    };
+    let record = Record::Enrol(address, pair.random());
+    if kept.shows(&record) {
         return Ok(());
     }
-    if !kept.fits(&added) {
+    if !kept.fits(&record) {
         return Err(KeepError::BadStore);
     }
-    store.commit(added)
+    store.commit(record)
+}
+
+/// Enrols pairs in a store so.
+#[tactic(auto, using(crate::proofs::Filled::all_more, crate::proofs::Filled::keeps_on))]
+fn enrol_all<K: Keep>(store: &mut K, kept: &Kept, pairs: &[Pair]) -> Result<(), KeepError>
+    requires short { AreShort pairs.now }
+    requires has { Keeps kept.now (K.kept store.old) }
+    ensures all { OnOk result (HasAll pairs.now (K.kept store.new)) }
+    ensures keeps { OnOk result (Keeps (K.kept store.old) (K.kept store.new)) }
+    ensures same { OnOk result ((K.kept store.new).reserved ≡ (K.kept store.old).reserved) }
+    ensures block { K.block store.new ≡ K.block store.old }
+{
+    let [pair, more @ ..] = pairs else {
+        return Ok(());
+    };
+    enrol(store, kept, *pair)?;
+    enrol_all(store, kept, more)
 }
 
 /// Enrols all gear of a table in a store.
-pub fn fill<K: Keep>(store: &mut K, table: &Kept) -> Result<(), KeepError> {
-    for pair in table.enrolled() {
-        if let Some(address) = Short::of(pair.address()) {
-            put(store, Record::Enrol(address, pair.random()))?;
-        }
-    }
-    Ok(())
+#[tactic(auto, using(crate::proofs::Every::kept_are_short, crate::proofs::Filled::keeps_itself))]
+pub fn fill<K: Keep>(store: &mut K, table: &Kept) -> Result<(), KeepError>
+    ensures all { OnOk result (Keeps table.now (K.kept store.new)) }
+    ensures block { K.block store.new ≡ K.block store.old }
+{
+    let kept = store.read()?;
+    enrol_all(store, &kept, table.enrolled())
 }
 
-/// Reserves in a store what other records have reserved, for the gear that are enrolled in both so.
-pub fn fill_reserved<K: Keep>(store: &mut K, old: &Kept) -> Result<(), KeepError> {
-    for pair in old.reserved() {
-        if let Some(address) = Short::of(pair.address()) {
-            let random = pair.random();
-            if store.read()?.shows(&Record::Enrol(address, random)) {
-                put(store, Record::Reserve(address, random))?;
-            }
-        }
+/// Reserves a pair in a store, where its records, as they were read, do not have it reserved.
+#[tactic(auto, using(crate::proofs::Filled::reserved_has, crate::proofs::Filled::reserved_keeps))]
+fn reserve<K: Keep>(store: &mut K, kept: &Kept, pair: Pair) -> Result<(), KeepError>
+    requires short { pair.0 < 64 }
+    requires block { kept.now.block ≡ K.block store.old }
+    requires has { KeepsReserved kept.now (K.kept store.old) }
+    ensures has { OnOk result (Has (K.kept store.new).reserved pair) }
+    ensures keeps { OnOk result (KeepsReserved (K.kept store.old) (K.kept store.new)) }
+    ensures same { OnOk result ((K.kept store.new).enrolled ≡ (K.kept store.old).enrolled) }
+    ensures block { K.block store.new ≡ K.block store.old }
+{
+    let Some(address) = Short::of(pair.address()) else {
+        unreachable!();
+    };
+    let record = Record::Reserve(address, pair.random());
+    if kept.shows(&record) {
+        return Ok(());
     }
-    Ok(())
+    if !kept.fits(&record) {
+        return Err(KeepError::BadStore);
+    }
+    store.commit(record)
+}
+
+/// Reserves a pair in a store so, if a table has it.
+fn reserve_if<K: Keep>(
+    store: &mut K,
+    kept: &Kept,
+    table: &Kept,
+    pair: Pair,
+) -> Result<(), KeepError>
+    requires short { pair.0 < 64 }
+    requires block { kept.now.block ≡ K.block store.old }
+    requires has { KeepsReserved kept.now (K.kept store.old) }
+    ensures has { OnOk result (Has table.now.enrolled pair → Has (K.kept store.new).reserved pair) }
+    ensures keeps { OnOk result (KeepsReserved (K.kept store.old) (K.kept store.new)) }
+    ensures same { OnOk result ((K.kept store.new).enrolled ≡ (K.kept store.old).enrolled) }
+    ensures block { K.block store.new ≡ K.block store.old }
+{
+    if has(table.enrolled(), pair) {
+        reserve(store, kept, pair)
+    } else {
+        Ok(())
+    }
+}
+
+/// Reserves pairs in a store so, as far as a table has them.
+#[tactic(auto, using(crate::proofs::Filled::reserves_more, crate::proofs::Filled::reserves_on))]
+fn reserve_all<K: Keep>(
+    store: &mut K,
+    kept: &Kept,
+    table: &Kept,
+    pairs: &[Pair],
+) -> Result<(), KeepError>
+    requires short { AreShort pairs.now }
+    requires block { kept.now.block ≡ K.block store.old }
+    requires has { KeepsReserved kept.now (K.kept store.old) }
+    ensures all { OnOk result (Reserves pairs.now table.now (K.kept store.new)) }
+    ensures keeps { OnOk result (KeepsReserved (K.kept store.old) (K.kept store.new)) }
+    ensures same { OnOk result ((K.kept store.new).enrolled ≡ (K.kept store.old).enrolled) }
+{
+    let [pair, more @ ..] = pairs else {
+        return Ok(());
+    };
+    reserve_if(store, kept, table, *pair)?;
+    reserve_all(store, kept, table, more)
+}
+
+/// Enrols all gear of a table in a store, and reserves what other records have reserved for gear of the table.
+#[tactic(auto, using(crate::proofs::Filled::filling))]
+pub fn refill<K: Keep>(store: &mut K, table: &Kept, old: &Kept) -> Result<(), KeepError>
+    ensures all { OnOk result (Keeps table.now (K.kept store.new)) }
+    ensures reserved { OnOk result (Reserves old.now.reserved table.now (K.kept store.new)) }
+{
+    let kept = store.read()?;
+    enrol_all(store, &kept, table.enrolled())?;
+    reserve_all(store, &kept, table, old.reserved())
 }

@@ -2,17 +2,23 @@
 //! when new files of records may take the places of old ones, and how.
 #![tactic(auto)]
 
+mod come;
+mod confirmed;
 mod filling;
 pub mod laws;
 mod permit;
 mod refusal;
+mod standing;
 mod swap;
 mod swapping;
 mod tables;
 
-pub use filling::{fill, fill_reserved, gathered};
-pub use permit::{Come, OthersThere, Permit, Vacant};
+pub use come::Come;
+pub use confirmed::Confirmed;
+pub use filling::{fill, gathered, refill};
+pub use permit::{OthersThere, Permit, Vacant};
 pub use refusal::{ReplaceFault, ReplaceRefusal};
+pub use standing::Standing;
 pub use swap::{Lies, MOST_FILES, Step, lies_at, moment_of, step_after};
-pub use swapping::{Swap, journal_of, kept_of, new_of};
-pub use tables::{Giver, giver_from, is_complete};
+pub use swapping::{Swap, aside_of, journal_of, kept_of, new_of};
+pub use tables::{Giver, giver_from};

@@ -22,7 +22,7 @@ pub enum ReplaceRefusal {
     #[error("it is said to be missing, and no table has it, or it is to be replaced")]
     NotMissing,
     /// A new file lies there that reserves another short address.
-    #[error("a new file lies there that gives another short address: finish that replacement first")]
+    #[error("a new file lies there that is of another replacement: finish that first, or begin anew by --again")]
     OtherNew,
     /// Somebody answers to the short address.
     #[error("somebody answers to it: the old luminaire is still there")]
@@ -40,20 +40,49 @@ pub enum ReplaceRefusal {
     #[error("it is not clear whether one luminaire alone has no short address: call again")]
     UnclearNew,
     /// The new gear did not get the short address.
-    #[error("the new luminaire has not got it: call again")]
+    #[error("the new luminaire has not got it")]
     NotGiven,
+    /// The gear that the new tables have there does not answer.
+    #[error("the new luminaire does not answer to it")]
+    NewSilent,
+    /// Another one answers.
+    #[error("another luminaire answers to it than the new one")]
+    AnotherAnswers,
+    /// Several answer together, or something answers that tells no random address.
+    #[error("several luminaires answer to it, or the bus is disturbed")]
+    SeveralAnswer,
     /// The new tables lack something.
     #[error("a new table would lack something that an old one has")]
     Incomplete,
 }
 
 impl ReplaceRefusal {
+    /// Whether it is of what the bus tells of the short address, once an earlier call may have given it.
+    fn is_of_bus(self) -> bool {
+        match self {
+            ReplaceRefusal::NotGiven
+            | ReplaceRefusal::NewSilent
+            | ReplaceRefusal::AnotherAnswers
+            | ReplaceRefusal::SeveralAnswer => true,
+            _ => false,
+        }
+    }
+
     /// What was not changed. Once the address may have been given, only the files of the records are as they were.
     pub fn what(self) -> &'static str {
-        if matches!(self, ReplaceRefusal::NotGiven | ReplaceRefusal::Incomplete) {
+        if self.is_of_bus() || matches!(self, ReplaceRefusal::Incomplete) {
             "no file of records was changed"
         } else {
             "nothing was changed"
+        }
+    }
+
+    /// What can be done about it, where the text does not say so.
+    pub fn advice(self) -> &'static str {
+        if self.is_of_bus() {
+            ": call again when the new one alone answers, or begin anew by --again"
+        } else {
+            ""
         }
     }
 }

@@ -1,10 +1,16 @@
 //! A swap of files of records, its journal, and the names of what lies beside a file.
 
-ghost use Rattle.std.specs.Prelude.{◌≡◌, ◌≤◌, ◌++◌, IfOk, codes, decimal, string_bytes};
-ghost use Rattle.dali_replacement.specs.Tables.{IsComplete};
+ghost use Rattle.std.specs.Prelude.{◌≡◌, ◌≤◌, ◌++◌, ◌↔◌, IsOk, IfOk, codes, decimal, length, min, string_bytes};
+ghost use Rattle.std.specs.Prelude.{vec_len};
+ghost use Rattle.dali_replacement.specs.Permit.{confirmed_at, confirmed_random, confirmed_table};
+ghost use Rattle.dali_replacement.specs.Tables.{IsComplete, IsGathered};
+ghost use Rattle.dali_replacement.specs.Swapping.{address_of, number_of, names_of};
 
+use crate::confirmed::Confirmed;
+use crate::refusal::ReplaceRefusal;
 use crate::swap::MOST_FILES;
-use dali_frame::{Random24, Short};
+use crate::tables::{is_complete, is_gathered};
+use dali_frame::Short;
 use dali_script::Kept;
 use std::alloc::{AllocError, Global};
 
@@ -32,6 +38,13 @@ pub fn journal_of(alloc: Global, name: &str) -> Result<String, AllocError>
     ensures { IfOk result (λ at. string_bytes at ≡ name.now ++ codes ".replacing") }
 {
     format!(in alloc; "{name}.replacing")
+}
+
+/// Where a new file of records is put aside.
+pub fn aside_of(alloc: Global, name: &str, number: u32) -> Result<String, AllocError>
+    ensures { IfOk result (λ at. string_bytes at ≡ name.now ++ (codes ".aside-" ++ decimal number)) }
+{
+    format!(in alloc; "{name}.aside-{number}")
 }
 
 /// Where the old file of records is kept.
@@ -71,37 +84,54 @@ fn numbers_in(text: &str) -> Option<(Short, u32, &str)> {
 }
 
 impl Swap {
-    /// A swap of the files of these names, in whose new tables a short address was given to the gear with this random
-    /// address. The old files are to be kept under this number. It may begin, since the new tables are complete.
+    /// A swap of the files of these names, whose new tables have the gear that was heard, where it may begin: the new
+    /// tables are complete, and all others of the old ones were asked for. The old files are to be kept under this
+    /// number.
     pub fn of(
-        short: Short,
-        _random: Random24,
-        _old: &[Kept],
-        _news: &[Kept],
+        confirmed: &Confirmed,
+        old: &[Kept],
+        news: &[Kept],
         number: u32,
         names: Vec<String>,
-    ) -> Swap
-        requires complete { IsComplete short _random _old.now _news.now }
+    ) -> Result<Swap, ReplaceRefusal>
+        ensures complete { IsOk result ↔ (IsComplete (vec_len names) (confirmed_at confirmed.now)
+            (confirmed_random confirmed.now) old.now news.now
+            × IsGathered (confirmed_at confirmed.now) old.now (confirmed_table confirmed.now)) }
+        ensures swap { IfOk result (λ swap. (address_of swap ≡ confirmed_at confirmed.now)
+            × (number_of swap ≡ number) × (names_of swap ≡ names.items)) }
     {
-        Swap {
-            short,
-            number,
-            names,
+        let (short, random) = (confirmed.short(), confirmed.random());
+        if is_complete(names.len(), short, random, old, news)
+            && is_gathered(short, old, confirmed.table())
+        {
+            Ok(Swap {
+                short,
+                number,
+                names,
+            })
+        } else {
+            Err(ReplaceRefusal::Incomplete)
         }
     }
 
     /// The short address that was given anew.
-    pub fn short(&self) -> Short {
+    pub fn short(&self) -> Short
+        ensures { result ≡ address_of self.now }
+    {
         self.short
     }
 
     /// The number under which the old files are kept.
-    pub fn number(&self) -> u32 {
+    pub fn number(&self) -> u32
+        ensures { result ≡ number_of self.now }
+    {
         self.number
     }
 
     /// The names of the files.
-    pub fn names(&self) -> &[String] {
+    pub fn names(&self) -> &[String]
+        ensures { result.now ≡ names_of self.now }
+    {
         &self.names
     }
 
@@ -133,7 +163,8 @@ impl Swap {
 
     /// How many files it has, 64 at most.
     pub fn count(&self) -> u32
-        ensures { result ≤ 64 }
+        ensures value { result ≡ min (length (names_of self.now)) 64 }
+        ensures most { result ≤ 64 }
     {
         match u32::try_from(self.names.len()) {
             Ok(count) => count.min(64),

@@ -3,7 +3,7 @@
 ghost use Rattle.std.specs.Prelude.{◌≡◌, ◌+◌, ◌≤◌, ◌↔◌, length, IsTrue};
 ghost use Rattle.dali_script.specs.Records.{Kept, Has};
 ghost use Rattle.dali_replacement.specs.Tables.{joined, giver_from, reserves, HasAllBut, HaveAllBut, IsComplete};
-ghost use Rattle.dali_replacement.specs.Tables.{AreGiven, HaveAllOf, AreNew};
+ghost use Rattle.dali_replacement.specs.Tables.{AreGiven, HaveAllOf, AreNew, IsGathered};
 
 use dali_frame::{Random24, Short};
 use dali_script::{Kept, Pair};
@@ -106,7 +106,7 @@ fn have_all_of(short: Short, tables: &[Kept], others: &[Kept]) -> bool
 }
 
 /// Whether each table has a gear.
-fn are_given(short: Short, random: Random24, tables: &[Kept]) -> bool
+pub(crate) fn are_given(short: Short, random: Random24, tables: &[Kept]) -> bool
     ensures { IsTrue result ↔ AreGiven short random tables.now }
 {
     match tables {
@@ -128,12 +128,33 @@ fn are_new(random: Random24, tables: &[Kept]) -> bool
     }
 }
 
-/// Whether new tables may take the places of old ones: each has the new gear under the short address, and all that an
-/// old or another new one has under others; and no old one has the new gear.
-pub fn is_complete(short: Short, random: Random24, old: &[Kept], news: &[Kept]) -> bool
-    ensures { IsTrue result ↔ IsComplete short random old.now news.now }
+/// Whether a table has all that tables have under other short addresses than this one.
+pub(crate) fn is_gathered(short: Short, tables: &[Kept], all: &Kept) -> bool
+    ensures { IsTrue result ↔ IsGathered short tables.now all.now }
 {
-    are_given(short, random, news)
+    match tables {
+        [] => true,
+        [table, more @ ..] => {
+            has_all_but(short, all, table.enrolled()) && is_gathered(short, more, all)
+        }
+    }
+}
+
+/// Whether new tables may take the places of old ones, in so many files: each has the new gear under the short address,
+/// and all that an old or another new one has under others; and no old one has the new gear.
+pub(crate) fn is_complete(
+    count: usize,
+    short: Short,
+    random: Random24,
+    old: &[Kept],
+    news: &[Kept],
+) -> bool
+    ensures { IsTrue result ↔ IsComplete count short random old.now news.now }
+{
+    count > 0
+        && old.len() == count
+        && news.len() == count
+        && are_given(short, random, news)
         && have_all_of(short, news, old)
         && have_all_of(short, news, news)
         && are_new(random, old)

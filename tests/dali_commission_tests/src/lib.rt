@@ -10,6 +10,8 @@ mod cabinet;
 #[cfg(test)]
 mod conversations;
 #[cfg(test)]
+mod exchanges;
+#[cfg(test)]
 mod programs;
 #[cfg(test)]
 mod replacements;

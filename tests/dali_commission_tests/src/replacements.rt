@@ -1,12 +1,9 @@
 //! `dali_commission replace`, by its command line: what it refuses, and how it goes on from each moment of a swap.
 
-use super::bus::Bus;
 use super::cabinet::Cabinet;
-use super::room::Room;
-use dali_commission_program::{Stores, run_and_say};
+use dali_commission_program::run_and_say;
 use dali_console::Failed;
 use dali_desk::Desk;
-use dali_frame::Short;
 use std::process::Abort;
 
 /// The records of a site of two luminaires, 5 and 7; what another one has them as; and what new files have.
@@ -23,7 +20,7 @@ const NEW: [(u8, u8, u32); 3] = [(1, 5, 0x222222), (2, 7, 0xABCDEF), (2, 5, 0x22
 
 const OTHER_NEW: [(u8, u8, u32); 2] = [(2, 7, 0xABCDEF), (2, 5, 0x222222)];
 
-const ONE: &[u8] = b"dali_commission replace 5 --records site.db";
+const ONE: &[u8] = b"dali_commission replace 5 --records site.db --only";
 
 const TWO: &[u8] = b"dali_commission replace 5 --records site.db --records two.db";
 
@@ -66,6 +63,16 @@ fn then_seven<R: Abort + AllocGlobal>(rt: &R, first: &str) -> String {
     repeated(rt, first, "byte AB\nbyte CD\nbyte EF\n", 3)
 }
 
+/// What the new luminaire 5 answers when it is asked so, behind these answers.
+fn then_five<R: Abort + AllocGlobal>(rt: &R, first: &str) -> String {
+    repeated(rt, first, "byte 22\n", 9)
+}
+
+/// What is heard where all is as the new files say: 5 is asked, then 7, then 5 once more.
+fn all_there<R: Abort + AllocGlobal>(rt: &R) -> String {
+    then_five(rt, then_seven(rt, then_five(rt, "").as_str()).as_str())
+}
+
 /// The site with one file, and with two.
 fn one<R: Abort + AllocGlobal>(rt: &R) -> Cabinet {
     let cabinet = Cabinet::new(rt.alloc());
@@ -93,8 +100,16 @@ fn words_that_do_not_go_together_are_refused(rt: HostRuntime) {
             "'64'",
         ),
         (
-            b"dali_commission replace 5 --records site.db --missing 64".as_slice(),
+            b"dali_commission replace 5 --records site.db --only --missing 64".as_slice(),
             "'64'",
+        ),
+        (
+            b"dali_commission replace 5 --records two.db".as_slice(),
+            "one file is named: where other controllers have files, name each by --records; where none has, say --only",
+        ),
+        (
+            b"dali_commission replace 5 --records site.db --records two.db --only".as_slice(),
+            "--only is said of one file, and several are named",
         ),
         (
             b"dali_commission replace 5 --records site.db 0-64".as_slice(),
@@ -119,7 +134,7 @@ fn files_that_do_not_fit_are_refused(rt: HostRuntime) {
     let nothing = "not replaced, nothing was changed: ";
     for (words, said) in [
         (
-            b"dali_commission replace 6 --records site.db".as_slice(),
+            b"dali_commission replace 6 --records site.db --only".as_slice(),
             "short address 6: no table has",
         ),
         (
@@ -131,11 +146,11 @@ fn files_that_do_not_fit_are_refused(rt: HostRuntime) {
             "two of the files are one",
         ),
         (
-            b"dali_commission replace 5 --records site.db --missing 9".as_slice(),
+            b"dali_commission replace 5 --records site.db --only --missing 9".as_slice(),
             "short address 9: it is said to be missing",
         ),
         (
-            b"dali_commission replace 5 --records site.db --missing 5".as_slice(),
+            b"dali_commission replace 5 --records site.db --only --missing 5".as_slice(),
             "short address 5: it is said to be missing",
         ),
         (
@@ -183,7 +198,7 @@ fn files_that_do_not_fit_are_refused(rt: HostRuntime) {
         5,
         "error: gone.db: there is no such file of records\n",
     );
-    let words = b"dali_commission replace 5 --records a\nb.db";
+    let words = b"dali_commission replace 5 --only --records a\nb.db";
     ends(
         &rt,
         words,
@@ -199,7 +214,7 @@ fn files_that_do_not_fit_are_refused(rt: HostRuntime) {
         &cabinet,
         "",
         11,
-        "a new file lies there that gives another short address",
+        "a new file lies there that is of another replacement",
     );
 }
 
@@ -248,7 +263,7 @@ fn a_bus_on_which_not_one_luminaire_alone_is_new_is_refused(rt: HostRuntime) {
         assert!(rt; cabinet.count() == 1);
     }
     // Where 7 is known to be gone, nobody else is asked for.
-    let words = b"dali_commission replace 5 --records site.db --missing 7";
+    let words = b"dali_commission replace 5 --records site.db --only --missing 7";
     let silent = silence(&rt, "", 3000);
     ends(
         &rt,
@@ -265,14 +280,14 @@ fn a_bus_on_which_not_one_luminaire_alone_is_new_is_refused(rt: HostRuntime) {
 fn new_files_that_are_not_complete_are_refused(rt: HostRuntime) {
     let cabinet = one(&rt);
     assert!(rt; cabinet.has_put("site.db.new", &[(1, 5, 0x222222)]));
-    let seven = then_seven(&rt, "");
+    let there = then_seven(&rt, silence(&rt, "", 9).as_str());
     ends(
         &rt,
         ONE,
         &cabinet,
-        silence(&rt, seven.as_str(), 3000).as_str(),
+        silence(&rt, there.as_str(), 3000).as_str(),
         11,
-        "not replaced, no file of records was changed: short address 5: the new luminaire has not got it",
+        "not replaced, no file of records was changed: short address 5: the new luminaire has not got it: call again",
     );
     // It has nothing but what it was given, so the next call asks again.
     assert!(rt; cabinet.is("site.db.new", &[(1, 5, 0x222222), (2, 7, 0xABCDEF)]));
@@ -283,7 +298,7 @@ fn new_files_that_are_not_complete_are_refused(rt: HostRuntime) {
         &rt,
         ONE,
         &cabinet,
-        "",
+        all_there(&rt).as_str(),
         11,
         "not replaced, no file of records was changed: short address 5: a new table would lack something",
     );
@@ -361,8 +376,11 @@ fn is_new(cabinet: &Cabinet) -> bool {
         && cabinet.is("two.db.before-1", &OTHER)
 }
 
+const EXCHANGED: &str =
+    "short address 5: the files that an earlier call began to exchange are exchanged now\n";
+
 /// Before each journal is written nothing is changed, and the call begins as always: the driver that it asks has ended.
-/// From then on it is finished, without a driver.
+/// From then on the files are exchanged, and the bus is asked.
 #[test]
 fn a_swap_that_was_stopped_goes_on_or_is_taken_back(rt: HostRuntime) {
     for moment in 0..2u32 {
@@ -370,39 +388,103 @@ fn a_swap_that_was_stopped_goes_on_or_is_taken_back(rt: HostRuntime) {
         ends(&rt, TWO, &cabinet, "", 4, "end of input");
         assert!(rt; is_old(&cabinet));
     }
+    let there = all_there(&rt);
     for moment in 2..8u32 {
         for words in [
             TWO,
             ONE,
-            b"dali_commission replace 5 --records two.db".as_slice(),
+            b"dali_commission replace 5 --records two.db --only".as_slice(),
         ] {
-            let cabinet = at(&rt, moment);
             let is_seen = moment < 7 || words != ONE;
             let (status, said) = if is_seen {
-                (
-                    0,
-                    "short address 5: the replacement that was not finished is done now\n",
-                )
+                (0, EXCHANGED)
             } else {
-                (4, "end of input")
+                (11, "somebody answers to it")
             };
-            ends(&rt, words, &cabinet, "", status, said);
+            let cabinet = at(&rt, moment);
+            ends(&rt, words, &cabinet, there.as_str(), status, said);
             assert!(rt; is_seen != cabinet.is("two.db.replacing", &[]));
         }
+        ends(
+            &rt,
+            TWO,
+            &at(&rt, moment),
+            there.as_str(),
+            0,
+            "5 222222 the new luminaire has the address; 2 gear are in each table\n",
+        );
     }
     assert!(rt; is_new(&at(&rt, 8)));
+}
+
+/// Once the files are exchanged, it is done only if the new luminaire and all others answer.
+#[test]
+fn an_exchange_that_is_finished_says_what_the_bus_tells(rt: HostRuntime) {
+    let five = then_five(&rt, "");
+    let six = repeated(&rt, then_seven(&rt, five.as_str()).as_str(), "byte 23\n", 9);
+    let but = "the files are exchanged, but short address 5: ";
+    for (answers, status, said) in [
+        ("", 4, "end of input"),
+        (
+            silence(&rt, "", 9).as_str(),
+            11,
+            "the new luminaire does not answer to it; see by check who answers",
+        ),
+        (
+            repeated(&rt, "", "byte 12\nbyte 34\nbyte 56\n", 3).as_str(),
+            11,
+            "another luminaire answers to it than the new one; see by check",
+        ),
+        (
+            repeated(&rt, "", "damaged\n", 9).as_str(),
+            11,
+            "several luminaires answer to it, or the bus is disturbed; see by check",
+        ),
+        (
+            silence(&rt, five.as_str(), 9).as_str(),
+            11,
+            "a luminaire of the tables is not there as recorded",
+        ),
+        // What is heard last decides.
+        (
+            six.as_str(),
+            11,
+            "another luminaire answers to it than the new one; see by check",
+        ),
+        (
+            silence(&rt, then_seven(&rt, five.as_str()).as_str(), 9).as_str(),
+            11,
+            "the new luminaire does not answer to it; see by check",
+        ),
+    ] {
+        let cabinet = at(&rt, 3);
+        ends(&rt, TWO, &cabinet, answers, status, said);
+        assert!(rt; is_new(&cabinet));
+        if status == 11 {
+            ends(&rt, TWO, &at(&rt, 4), answers, status, but);
+        }
+    }
 }
 
 #[test]
 fn what_a_replacement_came_to_is_an_object_of_json(rt: HostRuntime) {
     let words = b"dali_commission replace 5 --records site.db --records two.db --json";
-    let finished = Desk::new(rt.alloc(), words, "");
+    let there = all_there(&rt);
+    let finished = Desk::new(rt.alloc(), words, there.as_str());
     assert!(rt; run_and_say(&finished, &at(&rt, 4), false).is_ok());
     assert!(rt;
         finished.has_written(
-            "{\"end\":\"replaced\",\"status\":0,\"frames\":0,\"enrolled\":0,\"table\":[\
+            "{\"end\":\"replaced\",\"status\":0,\"frames\":27,\"enrolled\":0,\"table\":[\
         {\"address\":5,\"random\":\"222222\",\"given\":true},{\"address\":7,\"random\":\"ABCDEF\",\"given\":false}],\
         \"left_alone\":[],\"missing\":[],\"strangers\":[],\"unaddressed\":null}\n"
+        )
+    );
+    let gone = silence(&rt, "", 9);
+    let unheard = Desk::new(rt.alloc(), words, gone.as_str());
+    assert!(rt; run_and_say(&unheard, &at(&rt, 4), false).is_err());
+    assert!(rt;
+        unheard.has_written(
+            "{\"end\":\"not-confirmed\",\"status\":11,\"frames\":9,\"enrolled\":0,\"table\":[],"
         )
     );
     let other = repeated(
@@ -410,6 +492,11 @@ fn what_a_replacement_came_to_is_an_object_of_json(rt: HostRuntime) {
         silence(&rt, "", 9).as_str(),
         "byte AB\nbyte CD\nbyte EE\n",
         3,
+    );
+    let nobody = silence(
+        &rt,
+        then_seven(&rt, silence(&rt, "", 9).as_str()).as_str(),
+        3000,
     );
     for (heard, text) in [
         (
@@ -421,6 +508,11 @@ fn what_a_replacement_came_to_is_an_object_of_json(rt: HostRuntime) {
             silence(&rt, "byte 12\n", 8).as_str(),
             "{\"end\":\"not-replaced\",\"status\":11,\"frames\":9,\"enrolled\":0,\"table\":[],",
         ),
+        // Whoever looks for a new luminaire asks all short addresses but 7, which the table has.
+        (
+            nobody.as_str(),
+            "{\"end\":\"not-replaced\",\"status\":11,\"frames\":224,\"enrolled\":0,\"table\":[],",
+        ),
     ] {
         let refused = Desk::new(rt.alloc(), words, heard);
         assert!(rt; run_and_say(&refused, &two(&rt), false).is_err());
@@ -431,7 +523,7 @@ fn what_a_replacement_came_to_is_an_object_of_json(rt: HostRuntime) {
 /// What is said at an end with this status.
 fn said(status: u8) -> &'static str {
     match status {
-        0 => "short address 5: the replacement that was not finished is done now\n",
+        0 => EXCHANGED,
         12 => "a replacement is not finished: call ./dali_commission replace again",
         4 => "end of input",
         _ => "an end that is not expected here",
@@ -441,6 +533,7 @@ fn said(status: u8) -> &'static str {
 /// A file that cannot be written, renamed or removed stops it, at any moment; the next call goes on from there.
 #[test]
 fn a_swap_goes_on_after_a_step_that_fails(rt: HostRuntime) {
+    let there = all_there(&rt);
     for moment in 1..8u32 {
         for left in 0..8u32 {
             let cabinet = at(&rt, moment);
@@ -457,10 +550,15 @@ fn a_swap_goes_on_after_a_step_that_fails(rt: HostRuntime) {
             } else {
                 4
             };
-            ends(&rt, TWO, &cabinet, "", status, said(status));
+            let heard = if is_forward { there.as_str() } else { "" };
+            ends(&rt, TWO, &cabinet, heard, status, said(status));
             cabinet.limit(None);
-            let status = if is_forward && left < more { 0 } else { 4 };
-            ends(&rt, TWO, &cabinet, "", status, said(status));
+            let (status, heard) = if is_forward && left < more {
+                (0, there.as_str())
+            } else {
+                (4, "")
+            };
+            ends(&rt, TWO, &cabinet, heard, status, said(status));
             assert!(rt;
                 if is_forward {
                     is_new(&cabinet)
@@ -496,284 +594,43 @@ fn other_tasks_wait_for_the_end_of_a_swap(rt: HostRuntime) {
         12,
         "what lies beside the files is not what a replacement leaves",
     );
+    // What is no journal of the files that lie there is named, whoever finds it.
+    let elsewhere = "\
+        dali_commission: a replacement is not finished; call ./dali_commission replace again\n5 1\n/there/site.db\n";
+    for journal in ["something else\n", elsewhere] {
+        let cabinet = one(&rt);
+        assert!(rt; cabinet.has_written("site.db.replacing", journal));
+        for words in [
+            ONE,
+            b"dali_commission table --records site.db".as_slice(),
+            b"dali_commission run --records site.db 0-63".as_slice(),
+        ] {
+            ends(
+                &rt,
+                words,
+                &cabinet,
+                "",
+                5,
+                "error: site.db: its journal, with .replacing behind its name, is damaged, or of files that lay",
+            );
+        }
+        assert!(rt; cabinet.count() == 2);
+    }
+}
+
+/// The old luminaire is connected again after the address was reserved: that is seen before anything is given.
+#[test]
+fn an_old_luminaire_that_is_back_is_seen_early(rt: HostRuntime) {
     let cabinet = one(&rt);
-    assert!(rt; cabinet.has_written("site.db.replacing", "something else\n"));
+    assert!(rt; cabinet.has_put("site.db.new", &[(1, 5, 0x222222)]));
+    let old = repeated(&rt, "", "byte 12\nbyte 34\nbyte 56\n", 3);
     ends(
         &rt,
         ONE,
         &cabinet,
-        "",
-        5,
-        "error: site.db: it is no file of records, and is left as it is\n",
-    );
-}
-
-/// The program over a bus ends with this status, and says this.
-fn ends_over<R: Abort + AllocGlobal>(
-    rt: &R,
-    words: &[u8],
-    cabinet: &Cabinet,
-    bus: &Bus,
-    wanted: u8,
-    said: &str,
-) {
-    let room = Room::new(rt.alloc(), words, bus);
-    let status = match run_and_say(&room, cabinet, false) {
-        Ok(()) => 0,
-        Err(failure) => failure.status(),
-    };
-    assert!(rt; status == wanted);
-    assert!(rt; room.has_said(said));
-}
-
-const FIRST: &[u8] = b"dali_commission run --records site.db --others 1-63 0-0";
-
-const SECOND: &[u8] = b"dali_commission run --records two.db --others 0-0 1-63";
-
-const BOTH: &[u8] = b"dali_commission replace 0 --records two.db --records site.db";
-
-/// The number of the gear among the first two with a short address.
-fn with<R: Abort>(rt: &R, bus: &Bus, wanted: u8) -> usize {
-    let mut found = 3;
-    for number in 0..2usize {
-        if let Some((_, Some(short))) = bus.gear(number) {
-            found = if short.number() == wanted {
-                number
-            } else {
-                found
-            };
-        }
-    }
-    assert!(rt; found < 2);
-    found
-}
-
-/// Two gear with addresses 0 and 1, each given by another controller; the first one is gone, and a new one is there.
-fn exchanged<R: Abort + AllocGlobal>(rt: &R) -> (Cabinet, Bus) {
-    let (cabinet, bus) = (Cabinet::new(rt.alloc()), Bus::of(rt.alloc(), 4));
-    bus.switch(2, false);
-    bus.switch(3, false);
-    ends_over(rt, FIRST, &cabinet, &bus, 6, "ended: block-full\n");
-    ends_over(rt, SECOND, &cabinet, &bus, 0, "2 are in the table");
-    bus.switch(with(rt, &bus, 0), false);
-    bus.switch(2, true);
-    (cabinet, bus)
-}
-
-fn has_first(bus: &Bus) -> bool {
-    match bus.gear(2) {
-        Some((_, short)) => short == Some(Short::FIRST),
-        None => false,
-    }
-}
-
-#[test]
-fn a_luminaire_is_replaced_in_one_file_or_two(rt: HostRuntime) {
-    let (cabinet, bus) = exchanged(&rt);
-    let words = b"dali_commission replace 0 --records two.db 0-63";
-    ends_over(
-        &rt,
-        words,
-        &cabinet,
-        &bus,
-        0,
-        "the new luminaire has the address; 2 gear are in each table\n",
-    );
-    assert!(rt; has_first(&bus));
-    assert!(rt; cabinet.count() == 3);
-    ends_over(
-        &rt,
-        b"dali_commission check --records two.db",
-        &cabinet,
-        &bus,
-        0,
-        "0 of them not there; 0 strangers",
-    );
-    let (cabinet, bus) = exchanged(&rt);
-    ends_over(
-        &rt,
-        BOTH,
-        &cabinet,
-        &bus,
-        0,
-        "two.db: the old file is kept as two.db.before-1\nsite.db: the old",
-    );
-    assert!(rt; has_first(&bus));
-    assert!(rt; cabinet.count() == 4);
-    for words in [
-        b"dali_commission check --records two.db".as_slice(),
-        b"dali_commission check --records site.db".as_slice(),
-    ] {
-        ends_over(
-            &rt,
-            words,
-            &cabinet,
-            &bus,
-            0,
-            "2 in the table, 0 of them not there; 0 strangers",
-        );
-    }
-}
-
-/// Wherever the exchange of the files is stopped, the same line goes on, also where the new luminaire has the address.
-#[test]
-fn a_replacement_goes_on_after_each_step_that_fails(rt: HostRuntime) {
-    for left in 0..8u32 {
-        let (cabinet, bus) = exchanged(&rt);
-        cabinet.limit(Some(left));
-        ends_over(
-            &rt,
-            BOTH,
-            &cabinet,
-            &bus,
-            12,
-            "error: the files cannot be exchanged: it cannot be opened\n",
-        );
-        cabinet.limit(None);
-        let said = if left < 2 {
-            "an earlier call is gone on with\n"
-        } else {
-            "short address 0: the replacement that was not finished is done now\n"
-        };
-        ends_over(&rt, BOTH, &cabinet, &bus, 0, said);
-        assert!(rt; has_first(&bus));
-        assert!(rt; cabinet.count() == 4);
-        ends_over(
-            &rt,
-            b"dali_commission check --records site.db",
-            &cabinet,
-            &bus,
-            0,
-            "2 in the table, 0 of them",
-        );
-    }
-}
-
-#[test]
-fn not_exactly_one_new_luminaire_is_refused(rt: HostRuntime) {
-    let (cabinet, bus) = exchanged(&rt);
-    bus.switch(3, true);
-    ends_over(
-        &rt,
-        BOTH,
-        &cabinet,
-        &bus,
+        old.as_str(),
         11,
-        "several luminaires without short address are there",
+        "short address 5: another luminaire answers to it than the new one: call again when the new one alone",
     );
-    bus.switch(2, false);
-    bus.switch(3, false);
-    ends_over(
-        &rt,
-        BOTH,
-        &cabinet,
-        &bus,
-        11,
-        "no luminaire without short address was found\n",
-    );
-    // An earlier call has begun to give the address to a gear that is gone since.
-    bus.switch(2, true);
-    assert!(rt; cabinet.has_put("site.db.new", &[(1, 0, 0x111111)]));
-    ends_over(
-        &rt,
-        BOTH,
-        &cabinet,
-        &bus,
-        11,
-        "short address 0: the new luminaire has not got it: call again\n",
-    );
-    let _ = cabinet.remove(rt.alloc(), "site.db.new");
-    bus.switch(with(&rt, &bus, 0), true);
-    ends_over(
-        &rt,
-        BOTH,
-        &cabinet,
-        &bus,
-        11,
-        "short address 0: somebody answers to it",
-    );
-    assert!(rt; cabinet.count() == 2);
-}
-
-const ALONE: &[u8] = b"dali_commission run --records site.db 0-63";
-
-/// What the old files have reserved stays reserved, so each luminaire of a site may be replaced, one after the other.
-#[test]
-fn luminaires_are_replaced_one_after_the_other(rt: HostRuntime) {
-    let (cabinet, bus) = exchanged(&rt);
-    ends_over(
-        &rt,
-        BOTH,
-        &cabinet,
-        &bus,
-        0,
-        "the new luminaire has the address",
-    );
-    bus.switch(with(&rt, &bus, 1), false);
-    bus.switch(3, true);
-    let words = b"dali_commission replace 1 --records site.db --records two.db";
-    ends_over(
-        &rt,
-        words,
-        &cabinet,
-        &bus,
-        0,
-        "site.db: the old file is kept as site.db.before-2\n",
-    );
-    assert!(rt; cabinet.count() == 6);
-    for (words, status) in [
-        (b"dali_commission check --records two.db".as_slice(), 0),
-        (
-            b"dali_commission check --records two.db.before-2".as_slice(),
-            1,
-        ),
-    ] {
-        ends_over(&rt, words, &cabinet, &bus, status, "2 in the table");
-    }
-}
-
-/// A call that was stopped after the new file had all is gone on with, and nothing is put on the bus again.
-#[test]
-fn a_new_file_that_has_all_is_gone_on_with(rt: HostRuntime) {
-    let (cabinet, bus) = (Cabinet::new(rt.alloc()), Bus::of(rt.alloc(), 3));
-    bus.switch(2, false);
-    ends_over(&rt, ALONE, &cabinet, &bus, 0, "2 are in the table");
-    bus.switch(with(&rt, &bus, 0), false);
-    bus.switch(2, true);
-    let words = b"dali_commission replace 0 --records site.db";
-    cabinet.limit(Some(0));
-    ends_over(
-        &rt,
-        words,
-        &cabinet,
-        &bus,
-        12,
-        "the files cannot be exchanged",
-    );
-    ends_over(
-        &rt,
-        b"dali_commission replace 1 --records site.db",
-        &cabinet,
-        &bus,
-        11,
-        "finish that replacement first",
-    );
-    cabinet.limit(None);
-    ends(
-        &rt,
-        words,
-        &cabinet,
-        "",
-        0,
-        "an earlier call is gone on with\n0 ",
-    );
-    assert!(rt; has_first(&bus));
-    ends_over(
-        &rt,
-        b"dali_commission check --records site.db",
-        &cabinet,
-        &bus,
-        0,
-        "2 addresses reserved",
-    );
+    assert!(rt; cabinet.is("site.db.new", &[(1, 5, 0x222222)]));
 }

@@ -1,5 +1,5 @@
 use Rattle.std.proofs.Common.{length}
-use Rattle.dali_replacement.proofs.permit.+is_gone.Given as goal
+use Rattle.dali_replacement.proofs.standing.+is_gone.Given as goal
 
 abbrev pub decreases-is_gone : goal.decreases-is_gone
 decreases-is_gone l = length l.gone.now

@@ -1,0 +1,101 @@
+//! Whether the log of a database is damaged before its end (SQLite's file format, section 4).
+
+ghost use Rattle.std.specs.Prelude.{◌≤◌, ◌+◌, length};
+
+use sqlite_wal::checksum_of;
+
+/// How many bytes the header of a log has, and that of a frame.
+const HEAD: usize = 32;
+
+const FRAME: usize = 24;
+
+/// The first byte of a log that is not emptied.
+const MAGIC: u8 = 0x37;
+
+/// The number that stands at a place, its highest byte first.
+fn number_at(bytes: &[u8], at: usize) -> u32
+    requires { at + 4 ≤ length bytes.now }
+{
+    u32::from_be_bytes([bytes[at], bytes[at + 1], bytes[at + 2], bytes[at + 3]])
+}
+
+/// Two numbers, as of a checksum.
+fn numbers_at(bytes: &[u8], at: usize) -> (u32, u32)
+    requires { at + 8 ≤ length bytes.now }
+{
+    (number_at(bytes, at), number_at(bytes, at + 4))
+}
+
+/// The header of a log. Its first byte is another one when the log is emptied.
+fn head_of(log: &[u8]) -> Option<[u8; HEAD]> {
+    let mut head = [0; HEAD];
+    head.copy_from_slice(log.get(..HEAD)?);
+    head[0] = MAGIC;
+    Some(head)
+}
+
+fn is_big(head: &[u8; HEAD]) -> bool {
+    head[3] == 0x83
+}
+
+/// Whether the checksum of a header holds.
+fn is_signed(head: &[u8; HEAD]) -> bool {
+    checksum_of(is_big(head), (0, 0), &head[..FRAME]) == numbers_at(head, FRAME)
+}
+
+/// Whether a frame is of the log as it is now, by the number that its header has too.
+fn is_of(head: &[u8; HEAD], frame: &[u8]) -> bool
+    requires { 24 ≤ length frame.now }
+{
+    frame[8..16] == head[16..24]
+}
+
+/// The checksum of a frame, where it holds behind that of the one before.
+fn sum_after(head: &[u8; HEAD], before: (u32, u32), frame: &[u8]) -> Option<(u32, u32)>
+    requires { 24 ≤ length frame.now }
+{
+    let front = checksum_of(is_big(head), before, &frame[..8]);
+    let sum = checksum_of(is_big(head), front, &frame[FRAME..]);
+    if is_of(head, frame) && sum == numbers_at(frame, 16) {
+        Some(sum)
+    } else {
+        None
+    }
+}
+
+/// Whether a transaction ends behind the frames whose checksums hold, and another one begins behind it: all that lies
+/// before that was on the disk then, so it is damaged, and not torn.
+fn is_broken(head: &[u8; HEAD], frames: &[u8], size: usize) -> bool
+    requires { 24 ≤ size }
+{
+    let mut sum = Some(numbers_at(head, FRAME));
+    let mut is_ended = false;
+    for frame in frames.chunks_exact(size) {
+        sum = match sum {
+            Some(before) => sum_after(head, before, frame),
+            None => None,
+        };
+        if sum.is_none() && is_of(head, frame) {
+            if is_ended {
+                return true;
+            }
+            is_ended = number_at(frame, 4) != 0;
+        }
+    }
+    false
+}
+
+/// Whether a log is damaged before its end, so that SQLite reads only what lies before.
+pub(crate) fn is_damaged(log: &[u8]) -> bool {
+    let Some(head) = head_of(log) else {
+        return false;
+    };
+    let size = number_at(&head, 8);
+    if !is_signed(&head) || size > 65536 {
+        return log.len() > HEAD + FRAME;
+    }
+    match log.get(HEAD..) {
+        Some(frames) => is_broken(&head, frames, FRAME + size as usize),
+        None => false,
+    }
+}
