@@ -417,6 +417,7 @@ def build(title: str, programs: list[str], is_measured: bool = False) -> int:
 
     if not wanted(programs):
         return 0
+    before = {it: signal.getsignal(it) for it in ENDS}
     end_by_signals()
     try:
         with open(f"{room()}.lock", "w") as lock:
@@ -428,6 +429,9 @@ def build(title: str, programs: list[str], is_measured: bool = False) -> int:
     except OSError as error:
         say(f"{title}: nothing can be built in {ROOT}: {error.strerror}")
         return MISSING
+    finally:
+        for number, how in before.items():
+            signal.signal(number, how)
 
 
 def end_by_signals() -> None:
