@@ -69,12 +69,18 @@ at_where holds at = if holds then Some at else None
 -- what is on the bus is a frame or an answer (IEC 62386-101:2014, frame structure)
 abbrev pub is_broken : Seen → Bool
 is_broken seen.Broken = true
-is_broken _ = false
+is_broken (seen.Sent f heard) = false
+is_broken seen.Replied = false
+is_broken seen.Stray = false
+is_broken seen.Foreign = false
 
 -- nobody answers but where a question is (102, queries and special commands)
 abbrev pub is_stray : Seen → Bool
 is_stray seen.Stray = true
-is_stray _ = false
+is_stray (seen.Sent f heard) = false
+is_stray seen.Replied = false
+is_stray seen.Foreign = false
+is_stray seen.Broken = false
 
 -- one gear at the most answers a question, but COMPARE
 abbrev pub asks_one : Command → Bool
@@ -93,7 +99,10 @@ asks_initialised c = for_initialised c && is_question c
 abbrev pub not_initialised : Bus → Item → Seen → Option ℕ
 not_initialised b x (seen.Sent f heard) =
     at_where (b.is_closed && (asks_initialised (command_of f) && not (is_silence heard))) x.at
-not_initialised b x _ = None
+not_initialised b x seen.Replied = None
+not_initialised b x seen.Stray = None
+not_initialised b x seen.Foreign = None
+not_initialised b x seen.Broken = None
 
 -- a forward frame begins at least 13.5 ms after the end of the frame before, which is the settling
 -- time of priority 1 (101, multi-master transmitter frame sequence timing); what recorded the bus
@@ -127,7 +136,10 @@ half_pair b s = broken_pair b.half s
 -- and it ends at most 100 ms after the first one began
 abbrev pub late_pair : Bus → Item → Seen → Option ℕ
 late_pair b x (seen.Sent f heard) = at_where (repeats b.half f && late_by b.half x.until) x.at
-late_pair b x _ = None
+late_pair b x seen.Replied = None
+late_pair b x seen.Stray = None
+late_pair b x seen.Foreign = None
+late_pair b x seen.Broken = None
 
 -- gear may take 100 ms to draw a random address (102, RANDOMISE); what recorded the bus may tell a
 -- tenth less
@@ -142,7 +154,10 @@ early_frame b x s = too_early b.drawn x s
 -- an initialisation is over after 15 minutes (102, INITIALISE)
 abbrev pub initialisation_over : Bus → Item → Seen → Option ℕ
 initialisation_over b x (seen.Sent f heard) = at_where (is_over b.begun x.at f) x.at
-initialisation_over b x _ = None
+initialisation_over b x seen.Replied = None
+initialisation_over b x seen.Stray = None
+initialisation_over b x seen.Foreign = None
+initialisation_over b x seen.Broken = None
 
 -- whoever programs a short address asks for it next, in the same transaction (this project's
 -- profile)
@@ -233,13 +248,25 @@ several_programmed b c = is_some (programs_at c) && is_crowded b
 -- a short address is given under which nobody else was heard
 abbrev pub address_taken : List Holder → Change → Bool
 address_taken hs (change.Given a r) = is_other r (holder_at hs a)
-address_taken hs _ = false
+address_taken hs change.Nothing = false
+address_taken hs (change.Erased r) = false
+address_taken hs (change.Told a r) = false
+address_taken hs (change.Verified a) = false
+address_taken hs (change.Answered a) = false
+address_taken hs change.Redrawn = false
+address_taken hs (change.Forgotten short) = false
 
 -- a gear that was given a short address and heard under it keeps it (this project's profile)
 abbrev pub address_moved : List Holder → Change → Bool
 address_moved hs (change.Given a r) =
     not (was_confirmed r (holder_at hs a)) && is_confirmed r hs
-address_moved hs _ = false
+address_moved hs change.Nothing = false
+address_moved hs (change.Erased r) = false
+address_moved hs (change.Told a r) = false
+address_moved hs (change.Verified a) = false
+address_moved hs (change.Answered a) = false
+address_moved hs change.Redrawn = false
+address_moved hs (change.Forgotten short) = false
 
 -- a short address has one random address
 abbrev pub is_another : Option ℕ → ℕ → Bool
@@ -248,13 +275,25 @@ is_another (Some own) r = not (own == r)
 
 abbrev pub two_random : List Holder → Change → Bool
 two_random hs (change.Told a r) = is_another (heard_of (holder_at hs a)) r
-two_random hs _ = false
+two_random hs change.Nothing = false
+two_random hs (change.Given a r) = false
+two_random hs (change.Erased r) = false
+two_random hs (change.Verified a) = false
+two_random hs (change.Answered a) = false
+two_random hs change.Redrawn = false
+two_random hs (change.Forgotten short) = false
 
 -- a random address has one short address
 abbrev pub two_short : List Holder → Change → Bool
 two_short hs (change.Told a r) =
     not (same_number (heard_of (holder_at hs a)) (Some r)) && is_heard r hs
-two_short hs _ = false
+two_short hs change.Nothing = false
+two_short hs (change.Given a r) = false
+two_short hs (change.Erased r) = false
+two_short hs (change.Verified a) = false
+two_short hs (change.Answered a) = false
+two_short hs change.Redrawn = false
+two_short hs (change.Forgotten short) = false
 
 -- whoever begins an initialisation ends it (102, TERMINATE): told when the capture ends
 abbrev pub begun_at : Option Begun → Option ℕ

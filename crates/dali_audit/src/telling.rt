@@ -138,7 +138,7 @@ fn late_pair(bus: &Bus, item: &Item, seen: Seen) -> Option<u64>
 {
     match seen {
         Seen::Sent(frame, _) => at_where(bus.repeats(frame) && bus.is_late(item), item.at),
-        _ => None,
+        Seen::Replied | Seen::Stray | Seen::Foreign | Seen::Broken => None,
     }
 }
 
@@ -159,7 +159,7 @@ fn initialisation_over(bus: &Bus, item: &Item, seen: Seen) -> Option<u64>
 {
     match seen {
         Seen::Sent(frame, _) => at_where(bus.is_over(item, frame), item.at),
-        _ => None,
+        Seen::Replied | Seen::Stray | Seen::Foreign | Seen::Broken => None,
     }
 }
 
@@ -280,7 +280,13 @@ fn address_taken(table: &Table, change: &Change) -> bool
 {
     match change {
         Change::Given(short, random) => table.holder(*short).is_other(*random),
-        _ => false,
+        Change::Nothing
+        | Change::Erased(_)
+        | Change::Told(..)
+        | Change::Verified(_)
+        | Change::Answered(_)
+        | Change::Redrawn
+        | Change::Forgotten(_) => false,
     }
 }
 
@@ -291,7 +297,13 @@ fn address_moved(table: &Table, change: &Change) -> bool
         Change::Given(short, random) => {
             !table.holder(*short).was_confirmed(*random) && table.is_confirmed(*random)
         }
-        _ => false,
+        Change::Nothing
+        | Change::Erased(_)
+        | Change::Told(..)
+        | Change::Verified(_)
+        | Change::Answered(_)
+        | Change::Redrawn
+        | Change::Forgotten(_) => false,
     }
 }
 
@@ -313,7 +325,13 @@ fn two_random(table: &Table, change: &Change) -> bool
             Some(own) => own != *random,
             None => false,
         },
-        _ => false,
+        Change::Nothing
+        | Change::Given(..)
+        | Change::Erased(_)
+        | Change::Verified(_)
+        | Change::Answered(_)
+        | Change::Redrawn
+        | Change::Forgotten(_) => false,
     }
 }
 
@@ -324,7 +342,13 @@ fn two_short(table: &Table, change: &Change) -> bool
         Change::Told(short, random) => {
             table.holder(*short).heard() != Some(*random) && table.is_heard(*random)
         }
-        _ => false,
+        Change::Nothing
+        | Change::Given(..)
+        | Change::Erased(_)
+        | Change::Verified(_)
+        | Change::Answered(_)
+        | Change::Redrawn
+        | Change::Forgotten(_) => false,
     }
 }
 

@@ -8,4 +8,5 @@ pub mod OpeningAlone
 pub mod LapseForgotten
 pub mod ToldAsDamaged
 pub mod GiftReleased
+pub mod PassedOver
 pub mod UsedGear

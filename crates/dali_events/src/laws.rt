@@ -227,12 +227,18 @@ pub fn roll_calls_are_answered()
         → Calls p capacity front c first es compare → AreCalled p capacity front c first es }
 {}
 
-/// ALL FOUND IS TRUE. Where a controller sent a whole opening, and later a COMPARE under the search address `FFFFFE`
-/// that no gear answers, every powered gear has a short address, when the COMPARE is sent and afterwards. Since the
-/// opening's first frame no gear's power came or went, no initialisation expired, the bus was not quiet for long, and
-/// no other TERMINATE was sent or destroyed.
+/// ALL FOUND IS TRUE. If a controller sent a whole opening, and later a COMPARE under the search address `FFFFFE` that
+/// no gear answers, every powered gear has a short address, when the COMPARE is sent and afterwards. The premises are:
 ///
-/// What is heard may be silence where a gear did answer, since answers may be lost: the law speaks of the answers.
+/// - Since the opening's first frame no gear's power came or went, no initialisation expired, the bus was not quiet for
+///   long, and no other TERMINATE was sent or destroyed.
+/// - No frame of another device came between the two INITIALISE or the two RANDOMISE of the opening.
+/// - Since the opening no controller passed a gear over: none sent WITHDRAW to a gear that it did not ask for its short
+///   address (`nobody_passed`). Only surveys do that. A gear that another controller passes over is WITHDRAWN, so it
+///   answers no COMPARE, and has no short address: a short history ends so (`proofs/Histories/PassedOver`,
+///   `examples/passed-over.txt`).
+///
+/// What is heard may be silence when a gear did answer, since answers may be lost: the law speaks of the answers.
 pub fn all_found_is_true()
     ensures now { (p : Plan) (capacity : ℕ) (front : List Event) (c : ℕ) (first : Entry) (opening : List Event)
         (last : Entry) (middle : List Event) (compare : Entry)

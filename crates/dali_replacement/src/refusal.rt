@@ -64,7 +64,18 @@ impl ReplaceRefusal {
             | ReplaceRefusal::NewSilent
             | ReplaceRefusal::AnotherAnswers
             | ReplaceRefusal::SeveralAnswer => true,
-            _ => false,
+            ReplaceRefusal::SameFile
+            | ReplaceRefusal::NotInTables
+            | ReplaceRefusal::Disagree
+            | ReplaceRefusal::NoGiver
+            | ReplaceRefusal::NotMissing
+            | ReplaceRefusal::OtherNew
+            | ReplaceRefusal::Answered
+            | ReplaceRefusal::NotThere
+            | ReplaceRefusal::NobodyNew
+            | ReplaceRefusal::SeveralNew
+            | ReplaceRefusal::UnclearNew
+            | ReplaceRefusal::Incomplete => false,
         }
     }
 

@@ -35,7 +35,7 @@ pub enum Refusal {
     NoMemory,
     /// 10: the controller would reserve a short address that used gear have.
     AddressInUse,
-    /// 11: no other device may send the frame: it is an addressing command, or RESET or SET SHORT ADDRESS.
+    /// 11: no other device may send the frame: it is an addressing command, RESET or SET SHORT ADDRESS.
     NotForeign,
 }
 

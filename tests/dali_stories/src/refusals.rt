@@ -146,8 +146,9 @@ const STORIES: [(&str, &str); 9] = [
          arc 0 AAAA > 0: put 2 AAAA",
     ),
     (
-        // Addressing commands; RESET and SET SHORT ADDRESS to one gear, all, a group, and those without address. Arc
-        // power with these bytes is another frame, and so is what no gear is meant by.
+        // Addressing commands, of which PHYSICAL SELECTION (BD00) is one of edition 1; RESET and SET SHORT ADDRESS to
+        // one gear, all, a group, and those without address. Arc power with these bytes is another frame, and so is one
+        // to an address byte that is reserved (CD to FB).
         "a frame of another device is no addressing command",
         "site 1 0-3
          draws
@@ -163,6 +164,7 @@ const STORIES: [(&str, &str); 9] = [
          foreign B701 > refused 11 NotForeign
          foreign B901 > refused 11 NotForeign
          foreign BB00 > refused 11 NotForeign
+         foreign BD00 > refused 11 NotForeign
          foreign 01C2 > refused 11 NotForeign
          foreign 7FC4 > refused 11 NotForeign
          foreign 0120 > refused 11 NotForeign
@@ -179,7 +181,12 @@ const STORIES: [(&str, &str); 9] = [
          foreign A101 > ok
          foreign A3FF > ok
          foreign A120 > ok
+         foreign BD01 > ok
+         foreign BF00 > ok
          foreign C180 > ok
+         foreign CD20 > ok
+         foreign E120 > ok
+         foreign FB20 > ok
          foreign FB80 > ok",
     ),
 ];
