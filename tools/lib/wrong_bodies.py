@@ -2,7 +2,7 @@
 
 An edit is a file with the lines 'file: src/NAME.rt', and 'old: TEXT' and 'new: TEXT' for each place; TEXT stands once in the file. The function
 in which the lines stand is planted once more, with the edit and under a name of its own, beside the right one, with its contract and its
-proof; so all edits of a crate are tried by one check of these functions over the libraries that are proved. The prover judges each function
+proof; so many edits of a crate are tried by one check of these functions over the libraries that are proved. The prover judges each function
 by the contracts of the others, and goes on after one that it refuses. So the bodies of all other functions are left out, since a check would
 prove what a function calls too, which costs most of it: then a right function is proved, or said to call what is not proved. What cannot be
 planted so (an edit of a type, of several functions, of a trait's impl) is tried alone and in its place. So is what came out otherwise than
@@ -25,6 +25,8 @@ from collections.abc import Callable, Iterable, Iterator
 
 from lib import ROOT, proving
 
+# How many edits of a crate one check tries: a check begins with some ten seconds of reading, and takes one processor.
+TOGETHER = 30
 # What a try comes to.
 REFUSED, PROVED, BAD, UNSURE = "refused", "proved", "BAD EDIT", "NO VERDICT"
 HEAD = re.compile(r"\s*(?:pub(?:\(\w+\))? )?(const )?(?:unsafe )?fn (\w+)")
@@ -337,8 +339,8 @@ def folders(kinds: tuple[str, ...], names: Iterable[str]) -> list[tuple[proving.
 
 
 def run(title: str, tries: list[tuple[proving.Crate, str]], trial: Trial, wanted: str, is_planted_alone: bool = False) -> int:
-    """Tries the edits that stand in folders of crates, all of a crate at once, or those alone that can be planted: each by a trial that must
-    come to what is wanted.
+    """Tries the edits that stand in folders of crates, many of a crate by one check, or those alone that can be planted: each by a trial that
+    must come to what is wanted.
 
     Prints what each came to, and answers the status of a command.
     """
@@ -365,7 +367,8 @@ def run(title: str, tries: list[tuple[proving.Crate, str]], trial: Trial, wanted
             tell(crate, folder, name, BAD, why)
         of_crates.setdefault(crate, []).extend(plantable(crate, edits) if is_planted_alone else edits)
     with concurrent.futures.ThreadPoolExecutor(proving.processors()) as lanes:
-        for it in [lanes.submit(try_all, crate, edits) for crate, edits in of_crates.items()]:
+        parts = [(crate, edits[at : at + TOGETHER]) for crate, edits in of_crates.items() for at in range(0, len(edits), TOGETHER)]
+        for it in [lanes.submit(try_all, *part) for part in parts]:
             it.result()
     if named:
         print(f"{len(named)} of them change a shape and have no twin: that these are refused says less of the contract")
