@@ -43,7 +43,9 @@ pub enum End {
     AllFound,
     /// Gear without short address was found, and each address of the block is reserved.
     BlockFull,
-    /// A transaction was lost eight times, or sixteen searches led to no gear.
+    /// A transaction was lost eight times in a row; or too many searches in a row led to no gear, sixteen after a start
+    /// and eighty in a survey. A survey also ends so if gear are left that were passed over, or that draw no random
+    /// address, and gear may draw no more.
     GaveUp,
 }
 

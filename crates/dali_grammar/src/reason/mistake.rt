@@ -110,7 +110,8 @@ impl Mistake {
     }
 }
 
-/// The limit that a refused plan goes past, in words that fit a script and a command line.
+/// The limit that a refused plan goes past, in words that fit a script and a command line. What they say of the random
+/// address `FFFFFF` is about used gear: gear from the factory have it until they draw.
 pub fn plan_limit(error: PlanError) -> &'static str {
     match error {
         PlanError::NoMemory => "there is too little memory",
