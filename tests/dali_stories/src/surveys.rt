@@ -4,7 +4,7 @@ use super::story::all_play;
 use std::test::Fail;
 
 /// Stories with their names.
-const STORIES: [(&str, &str); 16] = [
+const STORIES: [(&str, &str); 17] = [
     (
         // The second survey asks three gear for their numbers, and hears nobody without address.
         "a survey gives addresses as a start does, and a second one commits nothing",
@@ -318,6 +318,24 @@ const STORIES: [(&str, &str); 16] = [
          show > gear 0 on disabled 100000 FFFFFE 1
          > gear 1 on disabled 200000 FFFFFE 0
          > table 0: 0=200000 1=100000",
+    ),
+    (
+        // Its visit fails twice, and it is passed over. Its third failure is a first one again: the search begins anew
+        // under FFFFFE (B1FF), and does not pass the gear over at once (B112).
+        "passing over clears the failure of the number",
+        "site 1 0-3
+         draws 123456
+         survey 0 > 0: put 3 01C2
+         run 284 > ran 284
+         go 0 > 0: put 1 BB00
+         pump lost > 0: sent BB00 silence
+         run 72 > ran 72
+         go 0 > 0: put 1 BB00
+         pump lost > 0: sent BB00 silence
+         run 96 > ran 96
+         go 0 > 0: put 1 BB00
+         pump lost > 0: sent BB00 silence
+         go 0 > 0: put 3 B1FF",
     ),
     (
         // The reservation of the first gear is unfinished, and its visits hear nothing. The second one finds no address
