@@ -8,6 +8,8 @@ from lib import ROOT
 
 HELP = ROOT / "tools/lib/help"
 BAD_WORD = 2
+# The list of commands in a help, and each of them.
+LISTED = re.compile(r"^(?:Commands|The launcher .*):\n((?:  .*\n)+)", re.M)
 COMMAND = re.compile(r"^  (\w+) +[A-Z]", re.M)
 OPTION = re.compile(r"^ +(?:-\w, )?(--[\w-]+)( <\w+>)?", re.M)
 USAGE = re.compile(r"^Usage: .*$", re.M)
@@ -27,9 +29,8 @@ class Form(typing.NamedTuple):
 
 def commands(program: str) -> list[str]:
     """The commands of a program and of its launcher, none where it has no help."""
-    file, more = HELP / f"{program}.txt", HELP / f"{program}-launcher.txt"
-    listed = file.read_text().partition("\nCommands:\n")[2].partition("\n\n")[0] if file.exists() else ""
-    return COMMAND.findall(listed + (more.read_text().partition("\n\n")[0] if more.exists() else ""))
+    helps = [it.read_text() for it in (HELP / f"{program}.txt", HELP / f"{program}-launcher.txt") if it.exists()]
+    return list(dict.fromkeys(name for text in helps for listed in LISTED.findall(text) for name in COMMAND.findall(listed)))
 
 
 def form(program: str, command: str) -> Form | None:

@@ -15,6 +15,7 @@ from lib import line_forms, spelled, wrong_bodies
 WIDTHS = {"src": (".rt", 120), "specs": (".antt", 100), "proofs": (".antt", 160)}
 LONGEST = 800
 MOST_WORDS = 1100
+HELP_WIDTH = 100
 # The folders that have crates, and the lists of what each crate stands on.
 FOLDERS = {"crates": "crates.txt", "tests": "tests/tests.txt", "extra": "extra/programs.txt"}
 
@@ -280,6 +281,25 @@ def version(root: pathlib.Path) -> Iterator[str]:
                 yield f"{name}: {it and it[1]} is not the version {wanted}"
 
 
+def helps(root: pathlib.Path) -> Iterator[str]:
+    """The help of ./dali_commission is at most 100 columns wide, lists `page` first, and names each command and each of its options."""
+    own = root / "tools/lib/help/dali_commission-launcher.txt"
+    text = own.read_text() if own.exists() else ""
+    for at, line in enumerate(text.splitlines(), 1):
+        if len(line) > HELP_WIDTH:
+            yield f"{named(root, own)}:{at}: {len(line)} columns, and {HELP_WIDTH} at most"
+    if text and not re.search(r"^Commands:\n  page ", text, re.M):
+        yield f"{named(root, own)}: page is not its first command"
+    for file in files(root, "tools/lib/help/dali_commission-*.txt") if text else ():
+        words = re.findall(r"^ +(?:-\w, )?(--[\w-]+)", file.read_text(), re.M)
+        for word in words if file != own else ():
+            if not re.search(rf"{word}(?![\w-])", text):
+                yield f"{named(root, own)}: {word} of {file.name} is missing"
+        command = file.stem.partition("-")[2]
+        if command not in ("launcher", "version") and not re.search(rf"^  {command} ", text, re.M):
+            yield f"{named(root, own)}: the command {command} is missing"
+
+
 def readmes(root: pathlib.Path) -> Iterator[str]:
     """Each crate has a README of at most 1,100 words, counted between blanks."""
     for folder in (it for top in FOLDERS for it in sorted((root / top).glob("*/")) if (it / "src").is_dir()):
@@ -307,7 +327,7 @@ def public(body: list[ast.stmt], before: str = "") -> Iterator[tuple[str, ast.Fu
             yield f"{before}{it.name}", it
 
 
-RULES = (widths, lengths, imports, docs, crates, links, paths, clauses, readmes, kit, handles, spellings, forms, edits, version, annotations)
+RULES = (widths, lengths, imports, docs, crates, links, paths, clauses, readmes, kit, handles, spellings, forms, edits, version, helps, annotations)
 
 
 def offences(root: pathlib.Path | str) -> dict[str, list[str]]:
