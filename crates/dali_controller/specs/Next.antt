@@ -83,7 +83,7 @@ abbrev pub may_draw : Machine → Bool
 may_draw t = nat_lt t.course.tally.draws 3 && has_open t
 
 -- Where no address can be given: once a visit failed, the gear of a reservation that is unfinished
--- may have got another address meanwhile. So short addresses are asked again, six times in all.
+-- may have got another address meanwhile. So short addresses are asked again, six times at most.
 abbrev pub asks_again : Machine → Bool
 asks_again t =
     nat_lt t.course.tally.askings 6 && t.course.tally.is_missed

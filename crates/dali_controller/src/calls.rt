@@ -173,7 +173,7 @@ impl State {
     }
 
     /// Whether short addresses are asked again because no address can be given. Once a visit failed, the gear of a
-    /// reservation that is unfinished may have got another address meanwhile. So it is asked six times in all.
+    /// reservation that is unfinished may have got another address meanwhile. So it is asked again, six times at most.
     fn asks_again(&self, kept: &Records<'_>) -> bool
         ensures { result ≡ asks_again (machine_with self.now kept.now) }
     {
