@@ -335,7 +335,13 @@ const STORIES: [(&str, &str); 17] = [
          run 96 > ran 96
          go 0 > 0: put 1 BB00
          pump lost > 0: sent BB00 silence
-         go 0 > 0: put 3 B1FF",
+         go 0 > 0: put 3 B1FF
+         run 1000 > 0: commit reserve 0 123456
+         > 0: commit enrol 0 123456
+         > 0: done all-found
+         > ran 110
+         show > gear 0 on disabled 123456 FFFFFE 0
+         > table 0: 0=123456",
     ),
     (
         // The reservation of the first gear is unfinished, and its visits hear nothing. The second one finds no address
