@@ -521,7 +521,7 @@ const PLANS: [(&str, PlanError, &str); 16] = [
     (
         "site 2 0-3\ndraws\nused 1 1 123456\nused 0 2 FFFFFF\n",
         PlanError::RandomTooLarge,
-        "line 4, word 4: `FFFFFF`: no gear has the random address FFFFFF",
+        "line 4, word 4: `FFFFFF`: FFFFFF is the random address of gear that drew none",
     ),
     (
         "site 2 0-3\ndraws\nused 1 1 123456\nused 0 2 123456\n",

@@ -110,8 +110,7 @@ impl Mistake {
     }
 }
 
-/// The limit that a refused plan goes past, in words that fit a script and a command line. What they say of the random
-/// address `FFFFFF` is about used gear: gear from the factory have it until they draw.
+/// The limit that a refused plan goes past, in words that fit a script and a command line.
 pub fn plan_limit(error: PlanError) -> &'static str {
     match error {
         PlanError::NoMemory => "there is too little memory",
@@ -126,7 +125,7 @@ pub fn plan_limit(error: PlanError) -> &'static str {
         PlanError::UnknownGear => "gear are counted from 0, up to one less than there are",
         PlanError::GearTwice => "a gear has one line `used` at most",
         PlanError::ShortTwice => "a short address is that of one gear alone",
-        PlanError::RandomTooLarge => "no gear has the random address FFFFFF",
+        PlanError::RandomTooLarge => "FFFFFF is the random address of gear that drew none",
         PlanError::RandomTwice => {
             "a random address is that of one gear alone, and is not drawn again"
         }
