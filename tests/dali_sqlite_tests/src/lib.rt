@@ -1,6 +1,7 @@
 //! Tests of the store over SQLite and of what stands on it, through public calls. Of the store: worked examples, what
-//! other programs may leave in its table, and databases in files. Of the rest: whole runs of threads, and the program
-//! by its command line. They stand in a crate of their own so that no other tests load SQLite.
+//! other programs may leave in its table, and databases in files. Of the rest: a commit that is held up while another
+//! controller uses the bus, whole runs of threads, and the program by its command line. They stand in a crate of their
+//! own so that no other tests load SQLite.
 #![tactic(auto)]
 
 #[cfg(test)]
@@ -9,6 +10,8 @@ mod command_lines;
 mod copies;
 #[cfg(test)]
 mod files;
+#[cfg(test)]
+mod held;
 #[cfg(test)]
 mod runs;
 #[cfg(test)]
