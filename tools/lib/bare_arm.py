@@ -29,9 +29,9 @@ def program(
 # What stands in the program.
 
 FUNCTION = re.compile(r"^([0-9a-f]+) <(.*)>:$")
-# A branch to an address, or to one in a register.
+# A branch to an address, or to one in a register. Of a branch that may be narrow or wide, a processor that has both tells which it is.
 BRANCHES = "b bl blx bx beq bne bhs blo bmi bpl bvs bvc bhi bls bge blt bgt ble".replace(" ", "|")
-BRANCH = re.compile(rf"^\s*[0-9a-f]+:\s+({BRANCHES})\s+(?:0x([0-9a-f]+) <|(r\d+)\b)")
+BRANCH = re.compile(rf"^\s*[0-9a-f]+:\s+({BRANCHES})(?:\.[nw])?\s+(?:0x([0-9a-f]+) <|(r\d+)\b)")
 
 
 class Function:
