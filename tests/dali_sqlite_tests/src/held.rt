@@ -281,8 +281,8 @@ where
     (one, other, pumped)
 }
 
-/// In the log, all that controller 1 did stands within a commit of controller 0: behind its order, and before it was
-/// told the outcome. So often controller 1 was told that a record is committed, and so many frames it sent.
+/// In the log, each step and each frame of controller 1 stands within a commit of controller 0: behind its order, and
+/// before its outcome was told. So often controller 1 was told that a record is committed, and so many frames it sent.
 fn done_within<R: Abort>(rt: &R, log: &[Event]) -> (usize, usize) {
     let (mut is_open, mut commits, mut frames) = (false, 0usize, 0usize);
     for event in log {
