@@ -284,7 +284,7 @@ class Bus:
         else:
             self.gear, self.last_drawn = read_site(text, chosen.file, chosen.alike)
             self.kept = self.keeps()
-        self.mute = [] if chosen.mute is None else self.gear[chosen.mute : chosen.mute + 1]
+        self.mute = [it for number, it in enumerate(self.gear) if number in chosen.mute]
         self.keep()
 
     def keeps(self) -> list[tuple[int | None, int, int]]:
@@ -377,6 +377,7 @@ def add_words(options: argparse.ArgumentParser) -> None:
     options.add_argument("--one-code", action="store_true", help="tell `damaged` of a question that was destroyed")
     options.add_argument("--lapse", **chance, help="that it is not sent")
     options.add_argument("--foreign", **chance, help="that another device sends direct arc power before it")
-    options.add_argument("--mute", type=count, metavar="N", help="gear N, counted from 0, never answers QUERY SHORT ADDRESS")
+    mute = "gear N, counted from 0, never answers QUERY SHORT ADDRESS; may be given again"
+    options.add_argument("--mute", type=count, action="append", default=[], metavar="N", help=mute)
     options.add_argument("--alike", action="store_true", help="let gear of FILE have one random address, as after equal draws")
     options.add_argument("--slow", type=measure(60), default=0, metavar="SECONDS", help="how long each frame takes")
