@@ -11,6 +11,7 @@ PLAN is JSON:
     kill        {pid, byte, count, moment, delay, is_cut}: the program is killed at the count-th frame with this address byte
                 (null: with any): `before` the driver has the frame, `unheard`, before the program is told of it, or `after`,
                 so many seconds later. Where it is_cut, the driver is killed with it
+    garbled     address byte and opcode byte of a frame: when the driver tells silence of it, the program is told `damaged`
     fault       {at, kind, text}: at this line, `text` is told in hexadecimal digits, and then no more where `kind` is `ends`.
                 `mute` tells nothing and waits, `stalls` does until its input ends, `closed` reads no more. Where `kind` is
                 `ahead` or `beside`, the driver has the frame, and `text` is told before its answer, or together with it
@@ -113,6 +114,8 @@ class Between:
         if moment == "before":
             self.do_kill()
         told = self.put(line)
+        if told == b"silence\n" and self.plan.get("garbled") == [address_byte, opcode_byte]:
+            told = b"damaged\n"
         if moment == "unheard":
             self.do_kill()
         os.write(1, told)
