@@ -12,6 +12,7 @@ use Rattle.dali_replay.specs.declared.played.PlayedLine.{PlayedLine}
 use Rattle.dali_replay.specs.declared.played.Played.{Played}
 use Rattle.dali_grammar.specs.Lines.{numbered_after}
 use Rattle.dali_replay.specs.BenchReport.{with_event}
+use Rattle.dali_replay.specs.Json.{json_state}
 use Rattle.dali_replay.specs.Text.{gear_texts}
 use Rattle.dali_replay.specs.SiteReport.{site_text}
 use Rattle.dali_grammar.specs.Setting.{NumberedLines, End, Setting, PlansNot}
@@ -94,6 +95,7 @@ pub record IsEmpty (x : Played) : Type 0 where
   pub reports : string_bytes x.reports ≡ []
   pub log : x.log.items ≡ []
   pub end : string_bytes x.end ≡ []
+  pub state : string_bytes x.state ≡ []
 
 -- of a script that sets this up
 pub record IsOf (is_bench : Bool) (p : Plan) (x : Played) : Type 0 where
@@ -110,13 +112,14 @@ pub record IsSame (x y : Played) : Type 0 where
   pub draws : y.draws.items ≡ x.draws.items
   pub used : y.used.items ≡ x.used.items
 
--- A SCRIPT THAT WAS PLAYED TO ITS END: its lines and their reports, all that happened, and the text
--- of the end.
+-- A SCRIPT THAT WAS PLAYED TO ITS END: its lines and their reports, all that happened, and the end
+-- as text and as JSON.
 abbrev pub IsPlayed : Stand → Played → Type 0
 IsPlayed p x =
     (t : Player) × (kept : List Event)
     × Follow p.player p.left [] [] x.lines.items t kept (string_bytes x.reports)
     × (x.log.items ≡ log_in t kept) × (string_bytes x.end ≡ end_text t)
+    × (string_bytes x.state ≡ json_state t)
 
 -- what the first lines set up, and all lines behind them
 abbrev pub begun : Setting × NumberedLines → Stand

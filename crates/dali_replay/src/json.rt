@@ -39,7 +39,8 @@ fn push_short(text: &mut String, short: Option<Short>) -> Result<(), AllocError>
     }
 }
 
-fn push_condition(text: &mut String, number: usize, gear: &Gear) -> Result<(), AllocError>
+/// The number, the power and the initialisation state of a gear: the begin of its object.
+pub fn push_condition(text: &mut String, number: usize, gear: &Gear) -> Result<(), AllocError>
     ensures { OnOk result (string_bytes text.new ≡ string_bytes text.old ++ json_condition number gear.now) }
 {
     let power = power_name(gear.is_powered());
@@ -50,7 +51,8 @@ fn push_condition(text: &mut String, number: usize, gear: &Gear) -> Result<(), A
     )
 }
 
-fn push_addresses(text: &mut String, gear: &Gear) -> Result<(), AllocError>
+/// The addresses of a gear: the rest of its object.
+pub fn push_addresses(text: &mut String, gear: &Gear) -> Result<(), AllocError>
     ensures { OnOk result (string_bytes text.new ≡ string_bytes text.old ++ json_addresses gear.now) }
 {
     let random = gear.random();
@@ -73,8 +75,8 @@ fn push_gear(text: &mut String, number: usize, gear: &Gear) -> Result<(), AllocE
     push_addresses(text, gear)
 }
 
-/// The states of a row of gear.
-fn push_row(text: &mut String, row: &Row) -> Result<(), AllocError>
+/// The states of a row of gear, with commas between them.
+pub fn push_row(text: &mut String, row: &Row) -> Result<(), AllocError>
     ensures { OnOk result (string_bytes text.new ≡ string_bytes text.old ++ json_row 0 row.now) }
 {
     for number in 0..row.len() {
@@ -146,7 +148,7 @@ fn push_tables(text: &mut String, installation: &Installation) -> Result<(), All
 }
 
 /// The gear and the tables. A bench has no tables.
-fn push_state(text: &mut String, player: &Player) -> Result<(), AllocError>
+pub(crate) fn push_state(text: &mut String, player: &Player) -> Result<(), AllocError>
     ensures { OnOk result (string_bytes text.new ≡ string_bytes text.old ++ json_state player.now) }
 {
     match player {

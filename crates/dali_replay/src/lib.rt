@@ -20,7 +20,9 @@ pub use dali_grammar::{
     ReplayFault, SiteLine, Spot, Stop, Wanted, Wrong, block_of, plan_limit, site_line_of,
 };
 pub use form::Form;
-pub use json::{push_comma, push_json_gear, push_json_table};
+pub use json::{
+    push_addresses, push_comma, push_condition, push_json_gear, push_json_table, push_row,
+};
 pub use played::{Played, PlayedLine};
 pub use replay::{read_input, run_replay};
 pub use site_report::push_gear_lines;

@@ -7,6 +7,7 @@ ghost use Rattle.dali_replay.specs.Played.{stand, events_in, end_text, log_in, I
 ghost use Rattle.dali_replay.specs.Played.{IsPlayed, IsPlayedBy, StopsIn, StopsBy};
 ghost use Rattle.dali_grammar.specs.Setting.{setting_of};
 
+use crate::json::push_state;
 use crate::player::Player;
 use crate::site_report::show;
 use crate::text::push_all_gear;
@@ -47,6 +48,8 @@ pub struct Played<'a> {
     pub log: Vec<Event>,
     /// The gear and the tables at the end, as `show` prints them.
     pub end: String,
+    /// The same, as `show` has them as JSON.
+    pub state: String,
 }
 
 /// Puts one item more at the end of a list.
@@ -169,6 +172,7 @@ impl<'a> Played<'a> {
             reports: String::new(alloc),
             log: Vec::new(alloc),
             end: String::new(alloc),
+            state: String::new(alloc),
         })
     }
 
@@ -188,6 +192,7 @@ impl<'a> Played<'a> {
             &mut self.log,
         )?;
         push_end(&mut self.end, player)?;
+        push_state(&mut self.state, player)?;
         keep_log(&mut self.log, player)?;
         Ok(())
     }

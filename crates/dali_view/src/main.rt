@@ -1,41 +1,21 @@
 //! `dali_view` reads a script of what happens on a bench of DALI control gear, or on a site with application
-//! controllers, plays it to its end, and writes a page that shows the run as a picture; or, with the word `--trace`, a
-//! value change dump of the bus. It takes no other word.
+//! controllers, plays it to its end, and writes the story of the run: what happened, as lines of JSON. It takes no
+//! word.
 #![tactic(auto)]
 
 use dali_console::{ConsoleFault, exit_code, words};
-use dali_picture::draw_streams;
 use dali_replay::Explained;
-use dali_trace::trace_streams;
+use dali_story::tell_streams;
 use std::env::Env;
 use std::io::Eprint;
 use std::process::ExitCode;
 
-/// What is written of a run.
-#[derive(Clone, Copy)]
-enum Output {
-    Page,
-    Trace,
-}
-
-impl Output {
-    /// What it is called in messages.
-    fn name(self) -> &'static str {
-        match self {
-            Output::Page => "view",
-            Output::Trace => "trace",
-        }
-    }
-}
-
 fn main(rt: HostRuntime) -> ExitCode {
-    match output_asked(&rt) {
-        Ok(output) => exit_code(write_and_say(&rt, output)),
+    match no_word(&rt) {
+        Ok(()) => exit_code(tell_and_say(&rt)),
         Err(fault) => {
             let _ = match fault {
-                ConsoleFault::BadCommandLine => {
-                    eprintln!(&rt; "view: no word is taken but --trace")
-                }
+                ConsoleFault::BadCommandLine => eprintln!(&rt; "view: no word is taken"),
                 ConsoleFault::NotText | ConsoleFault::Refused => eprintln!(&rt; "{fault}"),
             };
             exit_code(Err(fault))
@@ -43,33 +23,20 @@ fn main(rt: HostRuntime) -> ExitCode {
     }
 }
 
-/// What is to be written, by the words of the command line, of which the first is the program's name.
-fn output_of(words: &[String]) -> Option<Output> {
-    match words {
-        [] | [_] => Some(Output::Page),
-        [_, word] if word.as_str() == "--trace" => Some(Output::Trace),
-        _ => None,
+/// Whether the command line has the program's name alone.
+fn no_word<R: Env + AllocGlobal>(rt: &R) -> Result<(), ConsoleFault> {
+    if words(rt)?.len() > 1 {
+        return Err(ConsoleFault::BadCommandLine);
     }
-}
-
-/// What the command line asks to be written.
-fn output_asked<R: Env + AllocGlobal>(rt: &R) -> Result<Output, ConsoleFault> {
-    output_of(&words(rt)?).ok_or(ConsoleFault::BadCommandLine)
+    Ok(())
 }
 
 /// Plays the script of standard input, and says on standard error why it ended before its end. What is said there
 /// changes nothing, also where it cannot be said.
-fn write_and_say<R: Input + Print + Eprint + AllocGlobal>(
-    rt: &R,
-    output: Output,
-) -> Result<(), Explained> {
-    let ended = match output {
-        Output::Page => draw_streams(rt),
-        Output::Trace => trace_streams(rt),
-    };
+fn tell_and_say<R: Input + Print + Eprint + AllocGlobal>(rt: &R) -> Result<(), Explained> {
+    let ended = tell_streams(rt);
     if let Err(explained) = &ended {
-        let name = output.name();
-        let _ = eprintln!(rt; "{name}: {explained}");
+        let _ = eprintln!(rt; "view: {explained}");
     }
     ended
 }

@@ -1,0 +1,2 @@
+mod ListLemmas
+mod TellLemmas

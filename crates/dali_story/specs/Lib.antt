@@ -1,0 +1,10 @@
+pub mod Commands
+pub mod Transactions
+pub mod RunGear
+pub mod Lists
+pub mod Events
+pub mod Members
+pub mod Teller
+pub mod Stances
+pub mod Story
+pub mod Tells
