@@ -18,8 +18,6 @@ mod giving_up;
 #[cfg(test)]
 mod json;
 #[cfg(test)]
-mod pictures;
-#[cfg(test)]
 mod plans;
 #[cfg(test)]
 mod reasons;
@@ -31,6 +29,8 @@ mod restarts;
 mod story;
 #[cfg(test)]
 mod surveys;
+#[cfg(test)]
+mod told;
 #[cfg(test)]
 mod troubles;
 #[cfg(test)]
