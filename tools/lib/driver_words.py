@@ -1,6 +1,7 @@
-"""The words of the launcher that are about a driver: --driver, --driver-timeout and --trace, as tools/drive says; and the program."""
+"""The words of the launcher that are about a driver: --driver, --driver-timeout, --story and --trace, as tools/drive says; and the program."""
 
 import argparse
+import contextlib
 import os
 import re
 import shlex
@@ -11,8 +12,8 @@ import typing
 from lib import ROOT, joining, proving
 
 OPTIONS = ("--driver", "--driver-timeout")
-# What tools/drive alone takes besides.
-TRACE = "--trace"
+# What tools/drive alone takes besides: a file each.
+FILES = ("--story", "--trace")
 # How many seconds a driver may be given for an answer.
 MOST = 86400
 
@@ -67,16 +68,24 @@ def seconds_of(given: list[str]) -> float:
     return float(given[0])
 
 
-def trace_of(given: list[str]) -> typing.BinaryIO | None:
-    """The file that the bus is drawn to, made anew, or None where none is wanted."""
+def file_of(name: str, given: list[str]) -> typing.BinaryIO | None:
+    """The file that is given to an option, made anew, or None where none is."""
     if not given:
         return None
     if len(given) != 1 or not given[0]:
-        raise BadWord(f"one --trace FILE is wanted, and not {len(given)}" if given[0] else "--trace has no FILE")
+        raise BadWord(f"one {name} FILE is wanted, and not {len(given)}" if given[0] else f"{name} has no FILE")
     try:
         return open(given[0], "wb", buffering=0)
     except OSError as why:
-        raise BadWord(f"--trace {given[0]}: {why.strerror}") from why
+        raise BadWord(f"{name} {given[0]}: {why.strerror}") from why
+
+
+@contextlib.contextmanager
+def files_of(given: dict[str, list[str]]) -> typing.Iterator[dict[str, typing.BinaryIO]]:
+    """The files that are wanted of a run, by the names of their options without dashes."""
+    with contextlib.ExitStack() as opened:
+        files = {name[2:]: file_of(name, given[name]) for name in FILES}
+        yield {name: opened.enter_context(file) for name, file in files.items() if file}
 
 
 def program_of(path: str | None) -> tuple[str, int]:

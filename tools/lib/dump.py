@@ -1,21 +1,25 @@
-"""Draws frames and answers as a value change dump of the bus, with nominal times: docs/FORMAT.md says what is in it."""
+"""Draws a story as a value change dump of the bus, with nominal times: docs/FORMAT.md says what is in it."""
 
 import itertools
 import re
 import typing
 
+from lib import story
+
 # How many µs a half bit takes.
 HALF = 417
 # How many half bits the bus is at rest: for a stop condition; beyond that before a frame of each priority, after RANDOMISE,
-# before a backward frame, and at the end (docs/VENDOR.md).
-STOP, WAITS, AFTER_RANDOMISE, BEFORE_ANSWER, AT_END = 6, {1: 28, 2: 31, 3: 35, 4: 39, 5: 43}, 240, 13, 48
+# before a backward frame, while it is quiet, and at the end (docs/VENDOR.md).
+STOP, WAITS, AFTER_RANDOMISE, BEFORE_ANSWER, QUIET, AT_END = 6, {1: 28, 2: 31, 3: 35, 4: 39, 5: 43}, 240, 13, 288, 48
 RANDOMISE = 0xA700
+# The priority of direct arc power and of other devices, of a frame that begins a transaction, and of each later one.
+ARC, FIRST, LATER = 2, 3, 1
 # A destroyed frame is broken off after so many half bits, and the bus is low for so many more: no frame is.
 WHOLE, BREAK = 18, 4
 # A damaged answer begins low for two half bits, which no frame does.
 DAMAGED = [True, True, *23 * [False]]
-# A line of a program for its driver, as far as it is drawn.
-PUT = re.compile(rb"put ([1-5]) ([0-9A-F]{4}) .*\n")
+# What no word of a dump has.
+NO_WORD = re.compile(r"[^\"-~]")
 HEADER = """\
 $version Yolgibat $end
 $comment
@@ -46,45 +50,60 @@ def levels(number: int, bits: int) -> list[bool]:
     return [low for bit in frame for low in (bit, not bit)] + STOP * [False]
 
 
-class Trace:
-    """A dump that is written to a file, each frame when it is answered.
+def driven(bus: list[bool], begin: int, frame: list[bool]) -> list[bool]:
+    """The bus where a sender drives it too, from a half bit on: low where either is."""
+    frame = begin * [False] + frame
+    return [low or other for low, other in itertools.zip_longest(bus, frame[: len(bus)], fillvalue=False)]
 
-    fault  what was wrong with the file, after which nothing more was written, or None
-    """
 
-    def __init__(self, file: typing.BinaryIO) -> None:
-        self.file, self.fault, self.text = file, None, HEADER
-        # Where the dump has come to, in half bits; how many transactions were begun; the last frame; and what waits.
-        self.at, self.transactions, self.before, self.waiting = 0, 0, 0, None
-        self.write()
+def broken(frame: list[bool]) -> list[bool]:
+    """A frame that is broken off."""
+    return [*frame[:WHOLE], *BREAK * [True], *STOP * [False]]
 
-    def put(self, line: bytes) -> None:
-        """A program puts this line to its driver."""
-        self.waiting = PUT.fullmatch(line)
 
-    def answer(self, line: bytes) -> None:
-        """The driver answers it so."""
-        if self.waiting:
-            self.draw_exchange(int(self.waiting[1]), int(self.waiting[2], 16), line.decode("ascii"))
-            self.write()
+def frame_levels(event: story.Line) -> list[bool]:
+    """The forward frame of an event, as it stands on the bus."""
+    if "frame" not in event:
+        return broken(levels(0, 16))
+    whole = levels(int(event["frame"], 16), 16)
+    if event["kind"] == "collided":
+        whole = driven(whole, 0, levels(int(event["other_frame"], 16), 16))
+    return broken(whole) if event["kind"] in ("destroyed", "collided") else whole
+
+
+def heard_levels(event: story.Line) -> list[bool]:
+    """What is heard after the frame of an event, from the time before it on. The gear that answer drive the bus together."""
+    heard = event.get("heard", "silence")
+    if heard == "silence":
+        return []
+    answer = levels(int(heard, 16), 8) if heard != "damaged" else DAMAGED
+    if heard == "damaged":
+        for at, it in enumerate(event.get("answers", [])):
+            answer = driven(answer, min(at, 1), levels(int(it["byte"], 16), 8))
+    return [*BEFORE_ANSWER * [False], *answer]
+
+
+class Dump:
+    """A dump that grows event by event, of a story of this source."""
+
+    def __init__(self, source: str) -> None:
+        self.text, self.source = HEADER, source
+        # Where the dump has come to, in half bits; the priority that each controller asked for last; the last frame on the bus; and
+        # whether something stands in the variable `event`.
+        self.at, self.asked, self.before, self.is_told = 0, {}, None, False
+
+    def taken(self) -> str:
+        """What was drawn since the last time."""
+        text, self.text = self.text, ""
+        return text
 
     def end(self) -> None:
         """The bus stays at rest for longer than an answer may take."""
         self.text += f"#{(self.at + AT_END) * HALF}\n"
-        self.write()
-
-    def write(self) -> None:
-        """Writes what was drawn since the last time."""
-        text, self.text = self.text.encode("ascii"), ""
-        try:
-            while text and not self.fault:
-                text = text[self.file.write(text) :]
-        except OSError as why:
-            self.fault = why.strerror
 
     def say(self, **values: str) -> None:
         """What the variables are from now on. The code of each is its first letter."""
-        self.text += f"#{self.at * HALF}\n" + "".join(f"s{value.replace(' ', '_')} {name[0]}\n" for name, value in values.items())
+        self.text += f"#{self.at * HALF}\n" + "".join(f"s{NO_WORD.sub('_', value)} {name[0]}\n" for name, value in values.items())
 
     def draw(self, lows: list[bool]) -> None:
         """The levels of the bus, which is high before and after them."""
@@ -93,17 +112,57 @@ class Trace:
                 self.text += f"#{at * HALF}\n{'10'[low]}!\n"
         self.at += len(lows)
 
-    def draw_exchange(self, priority: int, frame: int, answer: str) -> None:
-        if answer == "lapsed":
-            self.say(transaction="-", heard="-", event=f"lapsed before {frame:04X}")
-            return
-        self.transactions += priority != 1
-        self.at += AFTER_RANDOMISE if self.before == RANDOMISE != frame else WAITS[priority]
-        self.before = frame
-        self.say(transaction=str(self.transactions), frame=f"{frame:04X}", heard="-", event="-")
-        whole = levels(frame, 16)
-        self.draw([*whole[:WHOLE], *BREAK * [True], *STOP * [False]] if answer == "destroyed" else whole)
-        self.say(frame="-", heard=answer)
-        if answer.startswith("byte ") or answer == "damaged":
-            self.at += BEFORE_ANSWER
-            self.draw(DAMAGED if answer == "damaged" else levels(int(answer[5:], 16), 8))
+    def take(self, event: story.Line) -> None:
+        """Draws an event."""
+        kind = event["kind"]
+        if kind == "acted" and event["order"] == "put":
+            self.asked[event.get("controller")] = event.get("priority", LATER)
+        elif kind in ("sent", "destroyed", "collided", "foreign"):
+            self.take_frame(event)
+        elif kind != "offered":
+            self.at += QUIET if kind == "quiet" else 0
+            self.before = None if kind == "quiet" else self.before
+            self.is_told = True
+            self.say(event=story.words(event))
+
+    def take_frame(self, event: story.Line) -> None:
+        """Draws a frame, and what is heard after it."""
+        frame = int(event["frame"], 16) if "frame" in event else None
+        self.at += AFTER_RANDOMISE if self.before == RANDOMISE != frame else WAITS[self.priority(event, frame)]
+        self.before = frame if event["kind"] in ("sent", "destroyed") else None
+        of = f" controller {event['controller']}" if "controller" in event else ""
+        first = {"transaction": f"{event['transaction']}{of}" if "transaction" in event else "-"}
+        first["frame"] = f"{event.get('frame', '')} {event.get('command', '')}".strip() or "-"
+        self.say(**first, heard="-", answering="-", **({"event": "-"} if self.is_told else {}))
+        self.is_told = False
+        self.draw(frame_levels(event))
+        answers = "".join(f" {it['gear']}:{it['byte']}" for it in event.get("answers", []))
+        self.say(frame="-", heard=heard_of(event), answering=f"gear{answers}" if answers else "-")
+        self.draw(heard_levels(event))
+
+    def priority(self, event: story.Line, frame: int | None) -> int:
+        """The priority of a frame: that which its controller asked for, else by its place in its transaction."""
+        if event["kind"] == "foreign" or (frame is not None and frame & 0x100 == 0):
+            return ARC
+        by_place = FIRST if self.source == "bus" and event.get("place") == 0 else LATER
+        return self.asked.get(event.get("controller"), by_place)
+
+
+def heard_of(event: story.Line) -> str:
+    """What the variable `heard` says of an event."""
+    if event["kind"] != "sent":
+        return {"foreign": "-"}.get(event["kind"], event["kind"])
+    heard = event.get("heard", "-")
+    if event.get("trouble") == "lost":
+        return f"{heard}, lost"
+    return heard if heard in ("silence", "damaged", "-") else f"byte {heard}"
+
+
+def of(told: story.Story) -> str:
+    """The dump of a story."""
+    drawn, texts = Dump(told.head["source"]), []
+    for event in told.events():
+        drawn.take(event)
+        texts.append(drawn.taken())
+    drawn.end()
+    return "".join(texts) + drawn.taken()

@@ -11,7 +11,7 @@ import time
 import types
 import typing
 
-from lib import ROOT, dump, relay
+from lib import ROOT, relay, telling
 
 # The signals that are passed on to the program.
 PASSED = (signal.SIGTERM, signal.SIGHUP, signal.SIGINT)
@@ -137,9 +137,10 @@ def alone(program: list[str], driver: list[str], seconds: float, is_gentle: bool
 
 
 def join(
-    program: list[str], driver: list[str], seconds: float = ANSWERS, is_gentle: bool = False, trace: typing.BinaryIO | None = None
+    program: list[str], driver: list[str], seconds: float = ANSWERS, is_gentle: bool = False,
+    files: dict[str, typing.BinaryIO] | None = None,
 ) -> int:
-    """Runs a program and a driver, each a list of words, draws their frames to a file, and returns the exit status."""
+    """Runs a program and a driver, each a list of words, tells of their frames in files, `story` and `trace`, and returns the exit status."""
     title, signals = os.path.basename(program[0]), Signals(is_gentle)
     drives = started(title, "driver", driver)
     if not drives:
@@ -149,15 +150,15 @@ def join(
         say_end(title, drives, None, end(title, drives))
         return NOT_STARTED
     signals.begin(runs)
-    draws = dump.Trace(trace) if trace else None
-    between = relay.Relay(runs, drives, seconds, signals, draws)
+    tells = telling.Run(**files) if files else None
+    between = relay.Relay(runs, drives, seconds, signals, tells)
     between.run()
     is_by_itself = end(title, drives)
     between.look_for_rest()
-    if draws:
-        draws.end()
-        if draws.fault:
-            say(f"{title}: the trace cannot be written: {draws.fault}")
+    if tells:
+        tells.end(runs.returncode if program[1:2] == ["run"] and not between.fault else None)
+        for name, why in tells.faults.items():
+            say(f"{title}: the {name} cannot be written: {why}")
     say_end(title, drives, between.fault, is_by_itself)
     return status_of(title, runs, between, signals)
 

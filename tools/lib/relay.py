@@ -9,7 +9,7 @@ import time
 import typing
 
 if typing.TYPE_CHECKING:
-    from lib import dump, joining
+    from lib import joining, telling
 
 # What the lines of a program begin with that are the driver's.
 PUT = b"put "
@@ -51,14 +51,14 @@ class Relay:
     program, driver  the two processes
     seconds          how long a driver may take for an answer
     signals          which signals came, and a file that says so
-    trace            where frames and answers are drawn, or None
+    tells            what tells of frames and answers in files, or None
     """
 
     def __init__(
         self, program: subprocess.Popen[bytes], driver: subprocess.Popen[bytes], seconds: float, signals: "joining.Signals",
-        trace: "dump.Trace | None" = None,
+        tells: "telling.Run | None" = None,
     ) -> None:
-        self.program, self.driver, self.seconds, self.signals, self.trace = program, driver, seconds, signals, trace
+        self.program, self.driver, self.seconds, self.signals, self.tells = program, driver, seconds, signals, tells
         # What both wrote that is not passed yet, and whether that was their last.
         self.wrote, self.told, self.is_ended, self.is_gone = b"", b"", False, False
         # How many frames were passed, and until when the last one is to be answered, where it is not.
@@ -182,8 +182,8 @@ class Relay:
             raise Gone(f"before it answered frame {self.frames + 1}")
         self.frames += 1
         self.until = time.monotonic() + self.seconds
-        if self.trace:
-            self.trace.put(line)
+        if self.tells:
+            self.tells.put(line)
         try:
             is_taken = os.write(self.driver.stdin.fileno(), line) == len(line)
         except BlockingIOError:
@@ -211,8 +211,8 @@ class Relay:
             self.answer(line + feed)
             if not ANSWER.fullmatch(line):
                 raise Fault(f"the driver answered frame {self.frames} by a line that is no answer: {shown(line)}")
-            if self.trace:
-                self.trace.answer(line)
+            if self.tells:
+                self.tells.answer(line)
 
     def hear_end(self) -> None:
         """The driver writes no more."""
