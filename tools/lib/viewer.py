@@ -25,8 +25,8 @@ def fill(raw: bytes) -> bytes:
 
 
 def encoded(text: str) -> bytes:
-    """The bytes of a text. Half a surrogate, which no text has, shows as a question mark."""
-    return text.encode("utf-8", "replace")
+    """The bytes of a text. What no text of a page has, half a surrogate or a zero, shows as a question mark."""
+    return text.replace("\0", "?").encode("utf-8", "replace")
 
 
 def text_of(told: story.Story) -> str:
