@@ -30,11 +30,11 @@ def encoded(text: str) -> bytes:
 
 
 def text_of(told: story.Story) -> str:
-    """What a page says to whoever has no JavaScript."""
-    parts = ["<h2>Result</h2>\n", listed(results(told))]
+    """What a page says to whoever has no JavaScript. To a browser that has it this is one text, however long."""
+    parts = ["<noscript>\n<h2>Result</h2>\n", listed(results(told))]
     if told.end:
         parts += gear_of(told.end) + tables_of(told.end)
-    return "".join(parts + ["<h2>Events</h2>\n", *events_of(told)])
+    return "".join([*parts, "<h2>Events</h2>\n", *events_of(told), "</noscript>\n"])
 
 
 def listed(texts: list[str]) -> str:
