@@ -33,7 +33,7 @@ STORY = r"""
 """[1:]
 # What its events and its finding say, in their order.
 WORDS = """
-controller 0 is to start, asks at priority 3 to send INITIALISE no short address (A5FF)
+controller 0 is to start, and asks at priority 3 to send INITIALISE no short address (A5FF)
 controller 1 asks at priority 2 to send DAPC (0AFE)
 controller 0 sent INITIALISE no short address (A5FF); silence
 controller 0 sent COMPARE (A900); heard FF; answers: gear 1 FF
@@ -50,11 +50,11 @@ the power of gear 1 is off; now gear 1 (off, disabled, random address FFFFFF, sh
 the power of gear 1 is on; now gear 1 (on, disabled, random address FFFFFF, short address none)
 the initialisation of gear 0 ran out
 finding half-pair: a text
-controller 0 heard FF, commits: reserve short address 1 for 123456
+controller 0 heard FF, and commits: reserve short address 1 for 123456
 controller 0 went down
 controller 0 came up, with the record that was outstanding
-controller 0 heard a damaged answer, is done: gave-up
-controller 1 was told that its commit failed, halts: store
+controller 0 heard a damaged answer, and is done: gave-up
+controller 1 was told that its commit failed, and halts: store
 """.strip().splitlines()
 # What its page says first, and the gear and the tables on it.
 RESULT = """
