@@ -22,7 +22,7 @@ STORY = r"""
 {"event":12,"kind":"quiet","bits":128}
 {"event":13,"kind":"power","bits":128,"gear":1,"power":"off","trouble":"power-off","changed":[{"gear":1,"power":"off","state":"disabled","random":"FFFFFF","search":"FFFFFF","short":null}]}
 {"event":14,"kind":"power","bits":128,"gear":1,"power":"on","changed":[{"gear":1,"power":"on","state":"disabled","random":"FFFFFF","search":"FFFFFF","short":null}]}
-{"event":15,"kind":"expired","bits":128,"gear":0,"trouble":"expired","changed":[]}
+{"event":15,"kind":"expired","bits":128,"gear":0,"trouble":"expired","changed":[{"gear":0,"power":"on","state":"disabled","random":"123456","search":"FFFFFF","short":1}]}
 {"finding":"half-pair","event":15,"text":"a text"}
 {"event":16,"kind":"acted","bits":128,"controller":0,"told":"heard FF","order":"commit","record":"reserve","short":1,"random":"123456"}
 {"event":17,"kind":"down","bits":128,"controller":0,"trouble":"down"}
@@ -48,7 +48,7 @@ the bus lapsed
 the bus was quiet: half pairs are forgotten
 the power of gear 1 is off; now gear 1 (off, disabled, random address FFFFFF, short address none)
 the power of gear 1 is on; now gear 1 (on, disabled, random address FFFFFF, short address none)
-the initialisation of gear 0 ran out
+the initialisation of gear 0 ran out; now gear 0 (on, disabled, random address 123456, short address 1)
 finding half-pair: a text
 controller 0 heard FF, and commits: reserve short address 1 for 123456
 controller 0 went down

@@ -170,3 +170,17 @@ def made(events: int, seed: int, gear: int = 3, controllers: int = 2) -> list[Li
 def text_of(lines: list[typing.Any]) -> str:
     """The story of these lines. What is a text already stands as it is."""
     return "".join(f"{it if isinstance(it, str) else json.dumps(it, separators=(',', ':'))}\n" for it in lines)
+
+
+def capture(events: int, seed: int) -> list[Line]:
+    """The lines of a story of what was recorded of a bus, which knows no sender, no gear and no answer of a gear."""
+    dice, lines, time = random.Random(seed), [], 0
+    for number in range(events):
+        time += dice.randrange(20_000, 90_000)
+        command, _, frame = dice.choice(dice.choice(TRANSACTIONS)).format(dice.randrange(256)).rpartition(" ")
+        kind = "sent" if dice.random() < 0.9 else "foreign"
+        line = {"event": number, "kind": kind, "time": time, "frame": frame, "command": command}
+        lines.append(line | ({"heard": dice.choice(("silence", "FF", "damaged"))} if kind == "sent" else {}))
+        if dice.random() < 0.05:
+            lines.append({"finding": "wrong-frame", "event": number, "text": "a frame that the audit did not expect"})
+    return [{"story": 1, "source": "capture", "gear": []}, *lines, {"end": True}]
