@@ -18,6 +18,8 @@ LONGEST = 200_000_000
 KNOWING, IF_THEY_HOLD = ("script", "bench"), ("time", "trouble")
 # The kinds of lines, by their first member; of an event the member `kind` says more, and of one that acted `order`.
 KINDS = {"story": "head", "line": "line", "event": "event", "finding": "finding", "end": "end"}
+# The types of JSON that are no list and no object.
+SCALARS = {"string": str, "integer": int, "boolean": bool, "null": type(None)}
 # How many items of a list stand in words.
 FIRST_ITEMS = 8
 
@@ -73,28 +75,18 @@ def shown(value: object) -> str:
     return text if len(text) <= 40 else f"{text[:40]}.."
 
 
-def is_of(value: object, kind: str) -> bool:
-    """Whether a value is of a type of JSON."""
-    types = {"string": str, "integer": int, "boolean": bool, "array": list, "object": dict, "null": type(None)}
-    return isinstance(value, types[kind]) and (kind == "boolean" or not isinstance(value, bool))
-
-
 def test_of_scalar(schema: Line) -> Test:
     """The test of a value that is no list and no object."""
     kinds = schema["type"] if isinstance(schema["type"], list) else [schema["type"]]
-    least, most = schema.get("minimum", 0), schema.get("maximum")
-    pattern = re.compile(schema.get("pattern", "(?s:.*)"))
-    wanted = schema.get("description") or (f"a number from {least} on" if "integer" in kinds else f"of type {kinds[0]}")
-    wanted = f"a number from {least} to {most}" if most is not None and "description" not in schema else wanted
+    types = {SCALARS[it] for it in kinds}
+    least, most = schema.get("minimum", 0), schema.get("maximum", float("inf"))
+    pattern = re.compile(schema["pattern"]) if "pattern" in schema else None
+    wanted = schema.get("description") or (f"a number from {least} to {most}" if "maximum" in schema else f"of type {kinds[0]}")
 
     def test(value: typing.Any) -> str | None:
-        if not any(is_of(value, it) for it in kinds):
-            return f"is {shown(value)}, and not {wanted}"
-        if isinstance(value, str) and not pattern.fullmatch(value):
-            return f"is {shown(value)}, and not {wanted}"
-        if isinstance(value, int) and not isinstance(value, bool) and not (least <= value and (most is None or value <= most)):
-            return f"is {shown(value)}, and not {wanted}"
-        return None
+        kind = type(value)
+        is_right = kind in types and (kind is not int or least <= value <= most) and (kind is not str or not pattern or pattern.fullmatch(value))
+        return None if is_right else f"is {shown(value)}, and not {wanted}"
 
     return test
 
@@ -118,7 +110,7 @@ def test_of_object(required: frozenset[str], members: dict[str, Test]) -> Test:
         if not isinstance(value, dict):
             return f"is {shown(value)}, and no object"
         if not value.keys() >= required:
-            return f"lacks {', '.join(f'`{it}`' for it in members if it in required - value.keys())}"
+            return f"lacks {', '.join(f'`{it}`' for it in members if it in required and it not in value)}"
         for name, it in value.items():
             if name in members and (why := members[name](it)):
                 return f"has a `{name}` that {why}"
@@ -131,8 +123,9 @@ def test_of_choice(choices: list[typing.Any]) -> Test:
     words = ", ".join(map(shown, choices))
 
     def test(value: typing.Any) -> str | None:
-        is_one = any(value == it and type(value) is type(it) for it in choices)
-        return None if is_one else f"is {shown(value)}, and not {words}" if len(choices) == 1 else f"is {shown(value)}, and none of {words}"
+        if any(value == it and type(value) is type(it) for it in choices):
+            return None
+        return f"is {shown(value)}, and {'not' if len(choices) == 1 else 'none of'} {words}"
 
     return test
 
