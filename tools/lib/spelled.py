@@ -90,6 +90,7 @@ HEADER, MAIN, STATUSES = "include/dali_c.h", "examples/c/main.c", "examples/c/st
 FORMAT, INSTALLER, VENDOR, ADAPTERS = "docs/FORMAT.md", "docs/INSTALLER.md", "docs/VENDOR.md", "docs/ADAPTERS.md"
 REPLAY, THREADS, FORMS = "tools/lib/replay_report.py", "tools/lib/threads_report.py", "tools/lib/script_forms.py"
 SITE, LIBRARY = "tools/lib/commission_site.py", "tools/check/c-library"
+SCHEMA, VIEWER = "docs/story.schema.json", "tools/lib/viewer.html"
 LINES, MISTAKES = "crates/dali_grammar/src/reason/forms.rt", "crates/dali_grammar/src/reason/mistake.rt"
 # The inputs that do not tell what became of a frame; how it was heard is an answer.
 NOT_OF_FRAMES = "Start Survey Heard Committed CommitFailed"
@@ -199,6 +200,26 @@ PLACES = (
     Place("adapters/template", block("# So this ends with", "def "), "Input", "return lines.{UPPER}", NOT_OF_FRAMES),
     Place("adapters/testing.py", line("                if told[-1] in"), "Input", '"{kebab}"', NOT_OF_FRAMES),
     Place("tools/measure/replay", block("words[1] in (", ")"), "Answer", '"{kebab}"'),
+    # Stories: their format, the schema of a line, and the words of the viewer.
+    Place(FORMAT, table("| Kind | Members |"), "Event", "| `{kebab}` |"),
+    Place(FORMAT, line("| end | `end`,"), "End", "`{name}`"),
+    Place(FORMAT, line("| end | `end`,"), "Fault", "`halt-{name}`"),
+    Place(FORMAT, line("| `told`, `order` |"), "Input", "`{kebab}`", "Heard"),
+    Place(SCHEMA, WHOLE, "Event", '"kind": {{"const": "{kebab}"}}'),
+    Place(SCHEMA, WHOLE, "Order", '"order": {{"const": "{kebab}"}}'),
+    Place(SCHEMA, block('"told": {', '"frame": {'), "Input", "{kebab}", "Heard"),
+    Place(SCHEMA, block('"told": {', '"frame": {'), "Answer", "{kebab}", "Byte"),
+    Place(SCHEMA, block('"acted-commit": {', "address"), "Record", '"{name}"'),
+    Place(SCHEMA, block('"acted-done": {', "}\n    }"), "End", '"{name}"'),
+    Place(SCHEMA, block('"acted-halt": {', "}\n    }"), "Fault", '"{name}"'),
+    Place(SCHEMA, block('"stands": {', "]"), "End", '"{name}"'),
+    Place(SCHEMA, block('"stands": {', "]"), "Fault", '"halt-{name}"'),
+    Place(SCHEMA, line('        "state":'), "InitialisationState", '"{kebab}"'),
+    Place(VIEWER, block('id="words"', "</script>"), "Event", '"{kebab}":'),
+    Place(VIEWER, block('id="words"', "</script>"), "Order", '"order:{kebab}":'),
+    Place(VIEWER, block('id="words"', "</script>"), "Input", '"told:{kebab}', "Heard"),
+    Place(VIEWER, block('id="words"', "</script>"), "End", '"stands:{name}":'),
+    Place(VIEWER, block('id="words"', "</script>"), "Fault", '"stands:halt-{name}":'),
     # The scripts of tools/.
     Place(REPLAY, line("ANSWER ="), "Answer", "{kebab}"),
     Place(REPLAY, line("COMMIT ="), "Record", "{name}"),
