@@ -79,3 +79,29 @@ TABLES = [
 FRAMES = [
     "A5FF", "A900", "FF", "A900", "damaged", "A900", "B703", "damaged", "damaged", "damaged", "damaged", "0100",
 ]
+# What was heard of a bus, as the log of a capture, and what is found in it; and what its story says in words.
+ITEMS = """
+100000 A900
+104000 < damaged
+200000 A900
+204000 < FF
+250000 < FF
+300000 A500
+320000 device
+330000 < damaged
+340000 < 0B
+400000 0AFE
+""".lstrip()
+FOUND = {"findings": [{"at": 204000, "kind": "unasked-answer"}, {"at": 320000, "kind": "settling-time"}, {"at": 300000, "kind": "half-pair"}], "other_answer": 100000}
+CAPTURE = """
+sent COMPARE (A900); heard damaged
+finding other-answer
+sent COMPARE (A900); heard FF
+finding unasked-answer
+sent INITIALISE all (A500); silence
+finding half-pair
+another device sent a frame of 24 bits
+finding settling-time
+something damaged was destroyed
+sent DAPC (0AFE); silence
+""".strip().splitlines()

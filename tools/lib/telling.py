@@ -133,9 +133,9 @@ def events_of(items: str) -> list[dict[str, typing.Any]]:
         if words[0] == "<" and found and found[-1]["kind"] == "sent" and found[-1]["heard"] == "silence":
             found[-1]["heard"] = words[1]
         elif words == ["<", "damaged"]:
-            found.append({"event": len(found), "kind": "destroyed", "time": int(at), "trouble": "destroyed"})
+            found.append({"event": len(found), "kind": "destroyed", "time": int(at), "command": "something damaged", "trouble": "destroyed"})
         elif words == ["device"]:
-            found.append({"event": len(found), "kind": "foreign", "time": int(at)})
+            found.append({"event": len(found), "kind": "foreign", "time": int(at), "command": "a frame of 24 bits"})
         elif words[0] != "<":
             event = {"event": len(found), "kind": "sent", "time": int(at), "frame": words[0]}
             found.append(event | {"command": command_of(int(words[0], 16)), "heard": "silence"})
