@@ -92,7 +92,10 @@ ITEMS = """
 340000 < 0B
 400000 0AFE
 """.lstrip()
-FOUND = {"findings": [{"at": 204000, "kind": "unasked-answer"}, {"at": 320000, "kind": "settling-time"}, {"at": 300000, "kind": "half-pair"}], "other_answer": 100000}
+FOUND = {
+    "findings": [{"at": 204000, "kind": "unasked-answer"}, {"at": 320000, "kind": "settling-time"}, {"at": 300000, "kind": "half-pair"}],
+    "other_answer": 100000,
+}
 CAPTURE = """
 sent COMPARE (A900); heard damaged
 finding other-answer
