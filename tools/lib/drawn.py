@@ -1,4 +1,4 @@
-"""What can be drawn of a story, by name: each takes the bytes of a story, and gives those of what it draws; `story.Bad` where it is none."""
+"""What can be drawn of a story, by name: each takes the bytes of a story, and gives those of what it draws; `story.Bad` if it is none."""
 
 from lib import dump, story, viewer
 

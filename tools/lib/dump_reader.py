@@ -15,7 +15,7 @@ def values(text: str, code: str) -> list[str]:
 
 
 def frames(text: str) -> list[str]:
-    """The frames and answers on the bus in hexadecimal digits, each of which has as many bits as its digits say; `damaged` where it is none."""
+    """The frames and answers on the bus in hexadecimal digits, each of which has as many bits as its digits say; `damaged` if it is none."""
     times, levels, now = [], [], 0
     for line in text.splitlines():
         if line.startswith("#"):

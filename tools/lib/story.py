@@ -14,7 +14,7 @@ SCHEMA = ROOT / "docs/story.schema.json"
 VIEWER = ROOT / "tools/lib/viewer.html"
 # How many bytes a story has at most.
 LONGEST = 200_000_000
-# The sources that know all of a run, and the members that a line of theirs lacks all the same where they do not hold.
+# The sources that know all of a run, and the members that a line of theirs lacks all the same if they do not hold.
 KNOWING, IF_THEY_HOLD = ("script", "bench"), ("time", "trouble")
 # The kinds of lines, by their first member; of an event the member `kind` says more, and of one that acted `order`.
 KINDS = {"story": "head", "line": "line", "event": "event", "finding": "finding", "end": "end"}
@@ -45,7 +45,7 @@ class Story(typing.NamedTuple):
 
     head   its first line
     lines  all lines between the first and the last one: lines of the script, events and findings
-    end    its last line; None where the story is cut off, or its run goes on
+    end    its last line; None if the story is cut off, or its run goes on
     cut    what is to be said of a story without end: else ""
     """
 
@@ -147,7 +147,7 @@ def test_of(schema: Line, is_whole: bool) -> Test:
 
 @functools.cache
 def test_of_line(first: str, name: str, is_whole: bool) -> Test | None:
-    """The test of a line by its first member and the name of its definition, or None where there is none."""
+    """The test of a line by its first member and the name of its definition, or None if there is none."""
     found = definitions().get(name, {})
     return test_of(found, is_whole) if first in list(found.get("properties", ()))[:1] else None
 
@@ -237,7 +237,7 @@ class Reader:
 
 
 def read(raw: bytes) -> Story:
-    """A story, as far as it goes; `Bad` where it is none. One that is cut off is told up to its last whole line."""
+    """A story, as far as it goes; `Bad` if it is none. One that is cut off is told up to its last whole line."""
     *whole, rest = raw.split(b"\n")
     reader, lines = Reader(), []
     for it in whole:
@@ -279,7 +279,7 @@ def written(key: str, members: Line, value: object = None) -> str:
 
 
 def in_words(name: str, members: Line, value: object) -> str | None:
-    """What stands for a member, or None where it is lacking; of `=` the value itself."""
+    """What stands for a member, or None if it is lacking; of `=` the value itself."""
     if name == "=":
         return plain(value)
     if name not in members:
@@ -293,7 +293,7 @@ def in_words(name: str, members: Line, value: object) -> str | None:
 
 
 def listed(name: str, items: list[typing.Any]) -> str | None:
-    """A list in words, or None where it is empty and that has none."""
+    """A list in words, or None if it is empty and there are no words for that."""
     if not items:
         return written(f"{name}:empty", {}) if f"{name}:empty" in templates() else None
     said = [written(f"each:{name}", it if isinstance(it, dict) else {}, it) for it in items[:FIRST_ITEMS]]

@@ -55,7 +55,7 @@ def line_of(members: dict[str, typing.Any]) -> str:
 class Run:
     """What a driver tells of a run of one controller, as a story that is written to a file, and as a dump to another one, event by event.
 
-    story, trace  the files, each None where none is wanted
+    story, trace  the files, each None if none is wanted
     faults        what was wrong with a file, by its name: nothing more was written to it then
     """
 

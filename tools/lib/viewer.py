@@ -15,7 +15,7 @@ TROUBLES = ("lost", "noise", "destroyed", "collided", "lapsed", "power-off", "ex
 
 
 def fill(raw: bytes) -> bytes:
-    """The page of a story; `story.Bad` where it is none. Of one that is cut off it has what came, and says so."""
+    """The page of a story; `story.Bad` if it is none. Of one that is cut off it has what came, and says so."""
     told = story.read(raw)
     before, _, rest = story.VIEWER.read_text().partition(RESULT)
     between, _, after = rest.partition(STORY)
@@ -66,14 +66,14 @@ def table(heads: tuple[str, ...], rows: list[list[object]]) -> str:
 
 
 def gear_of(end: story.Line) -> list[str]:
-    """The gear at the end, where they are known."""
+    """The gear at the end, if they are known."""
     if "gear" not in end:
         return []
     return ["<h2>Gear at the end</h2>\n", table(GEAR, [[it[name] for name in GEAR] for it in end["gear"]])]
 
 
 def tables_of(end: story.Line) -> list[str]:
-    """The tables of the controllers, where there are any."""
+    """The tables of the controllers, if there are any."""
     rows = [[it["controller"], entry["short"], entry["random"]] for it in end.get("tables", []) for entry in it["entries"]]
     return ["<h2>Tables of the controllers</h2>\n", table(("controller", "short", "random"), rows)] if rows else []
 
