@@ -29,7 +29,7 @@ STORY = r"""
 {"event":18,"kind":"up","bits":128,"controller":0,"kept":true}
 {"event":19,"kind":"acted","bits":128,"controller":0,"told":"heard damaged","order":"done","end":"gave-up"}
 {"event":20,"kind":"acted","bits":128,"controller":1,"told":"commit-failed","order":"halt","fault":"store"}
-{"end":true,"stands":["gave-up","halt-store"],"frames":9,"bits":128,"gear":[{"gear":0,"power":"on","state":"disabled","random":"123456","search":"FFFFFF","short":1},{"gear":1,"power":"on","state":"disabled","random":"FFFFFF","search":"FFFFFF","short":null}],"tables":[{"controller":0,"entries":[{"short":1,"random":"123456"}]},{"controller":1,"entries":[]}]}
+{"end":true,"stands":["gave-up","halt-store"],"frames":8,"bits":128,"gear":[{"gear":0,"power":"on","state":"disabled","random":"123456","search":"FFFFFF","short":1},{"gear":1,"power":"on","state":"disabled","random":"FFFFFF","search":"FFFFFF","short":null}],"tables":[{"controller":0,"entries":[{"short":1,"random":"123456"}]},{"controller":1,"entries":[]}]}
 """[1:]
 # What its events and its finding say, in their order.
 WORDS = """
@@ -61,7 +61,7 @@ RESULT = """
 controller 0: gave-up: its transactions were lost again and again, or its searches led to no gear
 controller 1: halt-store: a record could not be kept
 1 of 2 gear have a short address
-frames on the bus: 9; they take at least 0.1 s
+frames on the bus: 8; they take at least 0.1 s
 1 answer lost
 1 answer damaged
 2 frames destroyed

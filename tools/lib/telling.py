@@ -155,5 +155,5 @@ def capture_story(items: str, told: dict[str, typing.Any]) -> str:
     for event in events:
         lines += [event, *behind.get(event["event"], [])]
     heard = sum(it["kind"] == "sent" and it["heard"] != "silence" for it in events)
-    sent = sum(it["kind"] == "sent" for it in events)
-    return "".join(map(line_of, [*lines, {"end": True, "frames": len(events), "bits": FORWARD * sent + BACKWARD * heard}]))
+    sent, foreign = (sum(it["kind"] == kind for it in events) for kind in ("sent", "foreign"))
+    return "".join(map(line_of, [*lines, {"end": True, "frames": len(events) - foreign, "bits": FORWARD * sent + BACKWARD * heard}]))
