@@ -124,15 +124,19 @@ def unfinished_address(records: str) -> int | None:
 
 
 class Command:
-    """A command that goes on, or has ended: what it says, and how far it is."""
+    """A command that goes on, or has ended: what it says, how far it is, and the story of its frames, in memory.
 
-    def __init__(self, site: Site, name: str, address: int | None, words: list[str], kept: tuple[int, ...]) -> None:
-        self.name, self.address, self.begun, self.said = name, address, time.time(), []
+    number  how many commands were begun before
+    """
+
+    def __init__(self, site: Site, number: int, name: str, address: int | None, words: list[str], kept: tuple[int, ...]) -> None:
+        self.number, self.name, self.address, self.begun, self.said = number, name, address, time.time(), []
         self.found = self.frames = self.left = self.status = None
         self.is_stopped, self.report = False, {}
         how = {"stdin": subprocess.DEVNULL, "stdout": subprocess.PIPE, "stderr": subprocess.PIPE, "start_new_session": True}
-        call = joining.alone([site.program, *words], site.driver, site.seconds, COMMANDS[name])
-        self.process = subprocess.Popen(call, pass_fds=kept, **how)
+        self.story = os.memfd_create("story")
+        call = joining.alone([site.program, *words], site.driver, site.seconds, COMMANDS[name], self.story)
+        self.process = subprocess.Popen(call, pass_fds=(*kept, self.story), **how)
 
     def follow(self) -> None:
         """Hears what it says until it has ended."""
@@ -155,6 +159,11 @@ class Command:
             self.found, self.frames, self.left = map(int, progress.groups())
         elif line and not (self.is_stopped and INPUT_ENDED.fullmatch(line)):
             self.said = [*self.said[1 - LINES :], line]
+
+    def told(self, begin: int) -> bytes:
+        """The lines of its story from a byte on, as far as they are whole."""
+        came = os.pread(self.story, MUCH, begin)
+        return came[: came.rfind(b"\n") + 1]
 
     def stop(self) -> None:
         """Asks it to end, and once more where it does not."""
@@ -219,7 +228,10 @@ class Bus:
             if not self.idle.is_set():
                 raise Busy(f"{self.command.name} goes on")
             old = next((it["random"] for it in self.table if it["address"] == address), None)
-            self.command = Command(self.site, name, address if isinstance(address, int) else None, words, self.kept)
+            number = self.command.number + 1 if self.command else 0
+            if self.command:
+                os.close(self.command.story)
+            self.command = Command(self.site, number, name, address if isinstance(address, int) else None, words, self.kept)
             self.idle.clear()
             threading.Thread(target=self.follow, args=(self.command, old), daemon=True).start()
 
@@ -250,6 +262,15 @@ class Bus:
         with self.lock:
             if not self.idle.is_set():
                 self.command.stop()
+
+    def told(self, number: int | None, begin: int) -> tuple[int, bytes] | None:
+        """The number of the command that was begun last, and what its story has from a byte on. None if this is another command, or it has
+        ended and nothing more comes."""
+        with self.lock:
+            if not self.command or number not in (None, self.command.number):
+                return None
+            came = self.command.told(begin)
+            return (self.command.number, came) if came or not self.idle.is_set() else None
 
     def end(self) -> None:
         """Stops what goes on, and waits for its end."""

@@ -12,12 +12,13 @@ import socket
 import threading
 import typing
 
-from lib import ROOT, commanding, places
+from lib import ROOT, commanding, places, story, viewer
 
 LOOPBACK = "127.0.0.1"
 PAGE = ROOT / "tools/lib/page.html"
 # How many bytes the target of a request may have, and its body; how many requests are answered at once, in how many seconds each.
 LONGEST, BODY, LANES, PATIENCE = 512, 8192, 32, 5
+NUMBER = re.compile("[0-9]{1,9}")
 # Who may ask: a browser says where a request comes from.
 OWN = ("same-origin", "none")
 
@@ -31,9 +32,15 @@ class Refused(Exception):
 
 
 def hashed(text: str, tag: str) -> str:
-    """What a policy says of the only element of this kind."""
-    found = re.search(rf"<{tag}>(.*?)</{tag}>", text, re.S)
-    return "'sha256-" + base64.b64encode(hashlib.sha256(found[1].encode()).digest()).decode() + "'"
+    """What a policy says of the elements of this kind that have no attribute."""
+    found = re.findall(rf"<{tag}>(.*?)</{tag}>", text, re.S)
+    return " ".join("'sha256-" + base64.b64encode(hashlib.sha256(it.encode()).digest()).decode() + "'" for it in found)
+
+
+def policy(page: str) -> str:
+    """What a page may do: run its own script, look as it says, and ask its server."""
+    own = f"default-src 'none'; script-src {hashed(page, 'script')}; style-src {hashed(page, 'style')}; "
+    return own + "connect-src 'self'; img-src data:; base-uri 'none'; form-action 'none'; frame-ancestors 'none'"
 
 
 class Server(http.server.ThreadingHTTPServer):
@@ -46,8 +53,7 @@ class Server(http.server.ThreadingHTTPServer):
         # The connections whose request is not whole yet, the oldest first.
         self.half_open, self.lock = {}, threading.Lock()
         self.page = PAGE.read_text(encoding="utf-8")
-        self.policy = f"default-src 'none'; script-src {hashed(self.page, 'script')}; style-src {hashed(self.page, 'style')}; "
-        self.policy += "connect-src 'self'; img-src data:; base-uri 'none'; form-action 'none'; frame-ancestors 'none'"
+        self.policy, self.viewer_policy = policy(self.page), policy(story.VIEWER.read_text(encoding="utf-8"))
         super().__init__((LOOPBACK, port), Handler)
         self.hosts = [f"{it}:{self.server_address[1]}" for it in (LOOPBACK, "localhost")]
 
@@ -98,15 +104,16 @@ class Handler(http.server.BaseHTTPRequestHandler):
 
     def do_GET(self) -> None:
         self.server.note_whole(self.connection)
-        self.answer({"": self.show, "state": self.tell_state, "table.csv": self.tell_csv})
+        self.answer({"": self.show, "state": self.tell_state, "table.csv": self.tell_csv, "frames": self.show_frames, "more": self.tell_more})
 
     def do_POST(self) -> None:
         self.answer({"do": self.do, "stop": self.stop, "name": self.name})
 
     def answer(self, known: dict[str, typing.Callable[[], None]]) -> None:
         try:
-            call = known.get(self.asked())
-            if not call:
+            name, *self.numbers = self.asked().split("/")
+            call = known.get(name)
+            if not call or len(self.numbers) != (2 if name == "more" else 0) or not all(map(NUMBER.fullmatch, self.numbers)):
                 raise Refused(404, "nothing stands here")
             call()
         except Refused as why:
@@ -153,12 +160,12 @@ class Handler(http.server.BaseHTTPRequestHandler):
             raise Refused(400, "an object is wanted")
         return value
 
-    def write(self, status: int, kind: str, text: str, *more: tuple[str, str]) -> None:
-        raw = text.encode()
+    def write(self, status: int, kind: str, text: str | bytes, *more: tuple[str, str], policy: str = "") -> None:
+        raw = text.encode() if isinstance(text, str) else text
         self.send_response(status)
         fixed = {
             "Content-Type": f"{kind}; charset=utf-8", "Content-Length": str(len(raw)), "Cache-Control": "no-store",
-            "Content-Security-Policy": self.server.policy, "Referrer-Policy": "no-referrer", "X-Content-Type-Options": "nosniff",
+            "Content-Security-Policy": policy or self.server.policy, "Referrer-Policy": "no-referrer", "X-Content-Type-Options": "nosniff",
             "Cross-Origin-Resource-Policy": "same-origin", "Cross-Origin-Opener-Policy": "same-origin",
         }
         for name, value in [*fixed.items(), *more]:
@@ -174,6 +181,21 @@ class Handler(http.server.BaseHTTPRequestHandler):
 
     def tell_state(self) -> None:
         self.write(200, "application/json", json.dumps(self.server.bus.state()))
+
+    def show_frames(self) -> None:
+        """The frames of the command that was begun last, which goes on telling of them."""
+        came = self.server.bus.told(None, 0)
+        if not came or not came[1]:
+            raise Refused(404, "no command has told of its frames yet")
+        page = viewer.fill(came[1], f"more/{came[0]}/")
+        self.write(200, "text/html", page, policy=self.server.viewer_policy)
+
+    def tell_more(self) -> None:
+        """What was told of a command since a page had so many bytes."""
+        came = self.server.bus.told(*map(int, self.numbers))
+        if not came:
+            raise Refused(410, "the command has ended, or another one was begun")
+        self.write(200, "application/x-ndjson", came[1])
 
     def tell_csv(self) -> None:
         self.write(200, "text/csv", self.server.bus.csv(), ("Content-Disposition", 'attachment; filename="luminaires.csv"'))

@@ -5,8 +5,9 @@ import html
 
 from lib import story
 
-# The places of the viewer that are filled.
+# The places of the viewer that are filled, and what stands at its begin where more of the story comes from a server.
 RESULT, STORY = "<!--RESULT-->", "/*STORY*/"
+WHOLE, GROWS = '<html lang="en">', '<html lang="en" data-more="{more}" data-bytes="{bytes}">'
 # How many bit times a second has.
 BITS = 1200
 GEAR = ("gear", "short", "power", "state", "random")
@@ -14,10 +15,15 @@ GEAR = ("gear", "short", "power", "state", "random")
 TROUBLES = ("lost", "noise", "destroyed", "collided", "lapsed", "power-off", "expired", "down")
 
 
-def fill(raw: bytes) -> bytes:
-    """The page of a story; `story.Bad` if it is none. Of one that is cut off it has what came, and says so."""
-    told = story.read(raw)
-    before, _, rest = story.VIEWER.read_text().partition(RESULT)
+def fill(raw: bytes, more: str | None = None) -> bytes:
+    """The page of a story; `story.Bad` if it is none. Of one that is cut off it has what came, and says so.
+
+    With `more` the page asks for what comes behind it, at that address and the number of bytes that it has.
+    """
+    told, page = story.read(raw), story.VIEWER.read_text()
+    if more is not None:
+        page = page.replace(WHOLE, GROWS.format(more=more, bytes=raw.rfind(b"\n") + 1), 1)
+    before, _, rest = page.partition(RESULT)
     between, _, after = rest.partition(STORY)
     # A mark can only begin in a text, so the story stays the same.
     lines = raw[: raw.rfind(b"\n") + 1].replace(b"<", rb"\u003c")
