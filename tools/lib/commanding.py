@@ -52,6 +52,11 @@ ENDS: dict[int | tuple[str, int], str] = {
     ("identify", 128): "It was stopped, and the luminaire is bright.",
     ("replace", 128): "It was stopped. Replace again, with the same luminaire: it goes on where it was.",
 }
+# What a run came to that left short addresses alone, or after a check that found them odd: how many, and which.
+ODD = (
+    "Not all is well. Short addresses that are left alone, or not as is recorded: {} ({}). They are marked below. Check tells more; "
+    "if several luminaires have one address, take it away from all of them, and run again."
+)
 
 
 class Busy(Exception):
@@ -99,9 +104,18 @@ def words_of(site: Site, command: str, address: object, missing: object) -> list
     return ["replace", "--json", *records, *gone, str(address_of(address)), *block]
 
 
-def end_of(command: str, status: int) -> str:
+def look_of(command: str, status: int, odd: list[int]) -> str:
+    """How well an end is: a run that left somebody who is not understood has not done all."""
+    if status == DONE:
+        return "part" if command == "run" and odd else "good"
+    return "part" if status >= STOPPED else "bad"
+
+
+def end_of(command: str, status: int, odd: list[int] = ()) -> str:
     """What an end is in words, with what can be done."""
     status = STOPPED if status >= STOPPED else status
+    if (command, status) == ("run", DONE) and odd:
+        return ODD.format(len(odd), ", ".join(map(str, odd)))
     return ENDS.get((command, status)) or ENDS.get(status) or f"It ended with status {status}."
 
 
@@ -177,12 +191,13 @@ class Command:
         if self.status is None:
             self.process.send_signal(signal.SIGINT)
 
-    def state(self) -> dict[str, typing.Any]:
+    def state(self, odd: list[int]) -> dict[str, typing.Any]:
+        """What a page shows of it. These short addresses have somebody who is not understood, or not as is recorded."""
         state = {"command": self.name, "address": self.address, "begun": self.begun, "said": self.said}
         state |= {"found": self.found, "frames": self.report.get("frames", self.frames), "left": self.left}
         state |= {"stopped": self.is_stopped, "status": self.status}
         if self.status is not None:
-            state |= {"end": self.report.get("end"), "words": end_of(self.name, self.status)}
+            state |= {"end": self.report.get("end"), "words": end_of(self.name, self.status, odd), "look": look_of(self.name, self.status, odd)}
         return state
 
 
@@ -247,16 +262,22 @@ class Bus:
                 command.hear(f"what it came to is not known: {why}")
 
     def learn(self, command: Command, report: dict[str, typing.Any], old: str | None) -> None:
+        """Takes what a command found. What is odd stays so until a check finds otherwise, or a replacement has heard the new luminaire there."""
         pairs = {it["address"]: it["random"] for it in self.table}
         if command.name == "run" and report:
-            self.left_alone, self.strangers = report["left_alone"], odd_of(report)
+            self.left_alone = sorted({*self.left_alone, *report["left_alone"]})
+            # Who was heard under an address alone, and is enrolled with it now, is odd no more.
+            self.strangers = {at: it for at, it in self.strangers.items() if it[1] is None or it[1] != pairs.get(at)}
         if command.name == "check" and command.status in (DONE, NOT_SO, NOBODY):
             self.strangers, self.left_alone, self.checked = odd_of(report), [], time.time()
             self.missing = {(it, pairs.get(it)) for it in report["missing"]}
             self.there = {it for it in pairs.items() if it not in self.missing and it[0] not in self.strangers}
             self.unaddressed = report["unaddressed"]
-        if command.name == "replace" and command.status == DONE and old and command.address in pairs:
-            places.hand_over(self.names, old, pairs[command.address])
+        if command.name == "replace" and command.status == DONE:
+            self.left_alone = [it for it in self.left_alone if it != command.address]
+            self.strangers.pop(command.address, None)
+            if old and command.address in pairs:
+                places.hand_over(self.names, old, pairs[command.address])
 
     def stop(self) -> None:
         with self.lock:
@@ -284,11 +305,10 @@ class Bus:
             pair = (it["address"], it["random"])
             what = "missing" if pair in self.missing else "there" if pair in self.there else "enrolled"
             found[it["address"]] = it | {"is": what, "heard": None}
-        for address, (what, heard) in self.strangers.items():
+        odd = {it: ("left-alone", None) for it in self.left_alone} | self.strangers
+        for address, (what, heard) in odd.items():
             blank = {"address": address, "random": None, "place": names.get(heard)}
             found[address] = found.get(address, blank) | {"is": what, "heard": heard}
-        for address in self.left_alone:
-            found.setdefault(address, {"address": address, "random": None, "place": None, "is": "left-alone", "heard": None})
         return [found[it] for it in sorted(found)]
 
     def state(self) -> dict[str, typing.Any]:
@@ -302,10 +322,12 @@ class Bus:
             except places.Unreadable as why:
                 trouble = str(why)
             unfinished = None if not self.idle.is_set() else unfinished_address(self.site.records[0])
+            odd = sorted({*self.left_alone, *self.strangers})
+            command = self.command.state(odd) if self.command else None
             return {
                 "records": self.site.records, "block": self.site.block, "driver": self.site.title, "trouble": trouble,
-                "busy": not self.idle.is_set(), "command": self.command.state() if self.command else None, "places": them,
-                "spare": spare, "unaddressed": self.unaddressed, "checked": self.checked, "unfinished": unfinished,
+                "busy": not self.idle.is_set(), "command": command, "places": them, "odd": odd, "spare": spare,
+                "unaddressed": self.unaddressed, "checked": self.checked, "unfinished": unfinished,
             }
 
     def csv(self) -> str:

@@ -2,7 +2,8 @@
 """Stands for the program `dali_commission` in checks that have no kit: it takes its words and says what it says.
 
 The file of the records is JSON, a random address for each short one. The file that BUS names has the random addresses of the gear that
-are there. A frame is put for each gear; while a file `hold` lies beside that one, it waits at the second.
+are there. A frame is put for each gear; while a file `hold` lies beside that one, it waits at the second. A file `odd` there has short
+addresses at which several gear answer.
 """
 
 import contextlib
@@ -33,6 +34,12 @@ def say(text: str) -> None:
         os.write(2, f"{text}\n".encode())
 
 
+def odd() -> list[int]:
+    """The short addresses at which several gear answer."""
+    file = pathlib.Path(os.environ["BUS"]).with_name("odd")
+    return json.loads(file.read_text()) if file.exists() else []
+
+
 def listed(records: dict[str, str]) -> list[dict[str, object]]:
     return [{"address": int(it), "random": records[it], "given": True} for it in sorted(records, key=int)]
 
@@ -52,7 +59,9 @@ def run(file: pathlib.Path, records: dict[str, str], gear: list[str]) -> None:
             new.write_text(json.dumps(records))
             new.replace(file)
         say(f"{number} gear found, {9 * number} frames, {64 - number} addresses left")
-    ended("all-found", 0, records)
+    for it in odd():
+        say(f"{it} - somebody answers whose random address was not heard; left alone")
+    ended("all-found", 0, records, left_alone=odd())
 
 
 def check(records: dict[str, str], gear: list[str]) -> None:
@@ -61,9 +70,10 @@ def check(records: dict[str, str], gear: list[str]) -> None:
     for it in missing:
         say(f"{it} {records[str(it)]} missing")
     strangers = [it for it in gear if it not in records.values()]
-    odd = [{"address": 63 - at, "is": "stranger", "random": it} for at, it in enumerate(strangers)]
-    is_well = not missing and not odd
-    ended("as-recorded" if is_well else "not-as-recorded", int(not is_well), records, missing=missing, strangers=odd, unaddressed=False)
+    others = [{"address": 63 - at, "is": "stranger", "random": it} for at, it in enumerate(strangers)]
+    others += [{"address": it, "is": "unclear" if str(it) in records else "unclear-strangers", "random": None} for it in odd()]
+    is_well = not missing and not others
+    ended("as-recorded" if is_well else "not-as-recorded", int(not is_well), records, missing=missing, strangers=others, unaddressed=False)
 
 
 def replace(file: pathlib.Path, records: dict[str, str], gear: list[str], address: str) -> None:

@@ -24,11 +24,11 @@ OWN = ("same-origin", "none")
 
 
 class Refused(Exception):
-    """Why a request is refused: its status and a text."""
+    """Why a request is refused: its status and a text, and a header if one says more."""
 
-    def __init__(self, status: int, text: str) -> None:
+    def __init__(self, status: int, text: str, *more: tuple[str, str]) -> None:
         super().__init__(text)
-        self.status = status
+        self.status, self.more = status, more
 
 
 def hashed(text: str, tag: str) -> str:
@@ -48,8 +48,8 @@ class Server(http.server.ThreadingHTTPServer):
 
     daemon_threads, request_queue_size = True, 64
 
-    def __init__(self, bus: commanding.Bus, port: int) -> None:
-        self.bus, self.token, self.lanes = bus, secrets.token_urlsafe(24), threading.BoundedSemaphore(LANES)
+    def __init__(self, bus: commanding.Bus, port: int, token: str = "") -> None:
+        self.bus, self.token, self.lanes = bus, token or secrets.token_urlsafe(24), threading.BoundedSemaphore(LANES)
         # The connections whose request is not whole yet, the oldest first.
         self.half_open, self.lock = {}, threading.Lock()
         self.page = PAGE.read_text(encoding="utf-8")
@@ -117,7 +117,7 @@ class Handler(http.server.BaseHTTPRequestHandler):
                 raise Refused(404, "nothing stands here")
             call()
         except Refused as why:
-            self.write(why.status, "text/plain", f"{why}\n")
+            self.write(why.status, "text/plain", f"{why}\n", *why.more)
         except commanding.Bad as why:
             self.write(400, "text/plain", f"{why}\n")
         except commanding.Busy as why:
@@ -135,8 +135,10 @@ class Handler(http.server.BaseHTTPRequestHandler):
         is_own &= all(it in OWN for it in said["Sec-Fetch-Site"])
         _, _, rest = self.path.partition("/")
         token, slash, what = rest.partition("/")
-        if not is_own or not slash or not hmac.compare_digest(token.encode(), self.server.token.encode()):
+        if not is_own or not hmac.compare_digest(token.encode(), self.server.token.encode()):
             raise Refused(403, "refused: the page has the address that was printed when it was started")
+        if not slash:
+            raise Refused(308, "the page is there", ("Location", f"/{self.server.token}/"))
         return what
 
     def body(self) -> dict[str, typing.Any]:
