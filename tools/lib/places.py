@@ -12,7 +12,15 @@ import typing
 
 # How many characters a place may have, and how many places a file.
 LONGEST, MOST = 120, 4096
+# What a file of places ends with, in the place of the ending of the file of records.
+ENDING = ".names.json"
 RANDOM = re.compile(r"[0-9A-F]{6}")
+# Characters that join or part the letters beside them, as in Persian and in pictures of several parts; and what no place begins or ends with.
+JOINERS = "\u200c\u200d"
+EDGES = f" {JOINERS}"
+# In comma-separated values a random address has this before it, so that no spreadsheet takes it for a number, as it does 0969E9; and a text
+# that a spreadsheet would take for a formula, an apostrophe.
+HEXADECIMAL, FORMULA = "0x", re.compile(r"'*[=+@\-\uff1d\uff0b\uff20\uff0d]")
 # A gear of the table: its short address, its random address, and its place or None.
 Row = dict[str, typing.Any]
 
@@ -23,12 +31,13 @@ class Unreadable(Exception):
 
 def file_of(records: str | pathlib.Path) -> pathlib.Path:
     """Where the places of these records are kept: of `site.db` in `site.names.json` beside it."""
-    return pathlib.Path(records).with_suffix(".names.json")
+    return pathlib.Path(records).with_suffix(ENDING)
 
 
 def clean(place: str) -> str:
-    """A place as it is kept: on one line, of characters that can be printed."""
-    return " ".join("".join(it if it.isprintable() else " " for it in place).split())[:LONGEST].rstrip()
+    """A place as it is kept: on one line, of characters that can be printed and such that join them, which none begins or ends with."""
+    line = " ".join("".join(it if it.isprintable() or it in JOINERS else " " for it in place).split())
+    return line.strip(EDGES)[:LONGEST].rstrip(EDGES)
 
 
 def read(file: pathlib.Path) -> dict[str, str]:
@@ -101,8 +110,29 @@ def as_text(them: list[Row]) -> str:
 def as_csv(them: list[Row]) -> str:
     text = io.StringIO()
     writer = csv.writer(text, lineterminator="\n")
-    writer.writerows([("address", "random", "place"), *((it["address"], it["random"], it["place"] or "") for it in them)])
+    rows = [(it["address"], HEXADECIMAL + it["random"], safe(it["place"] or "")) for it in them]
+    writer.writerows([("address", "random", "place"), *rows])
     return text.getvalue()
+
+
+def safe(text: str) -> str:
+    """A text that no spreadsheet takes for a formula."""
+    return f"'{text}" if FORMULA.match(text) else text
+
+
+def of_csv(text: str) -> list[Row]:
+    """The gear of a table that was written as comma-separated values, with places or without, also with random addresses as they are."""
+    rows = list(csv.DictReader(io.StringIO(text)))
+    places = [it.get("place") or "" for it in rows]
+    return [
+        {"address": int(it["address"]), "random": it["random"].removeprefix(HEXADECIMAL), "place": (place[1:] if is_safe(place) else place) or None}
+        for it, place in zip(rows, places)
+    ]
+
+
+def is_safe(text: str) -> bool:
+    """Whether a text has an apostrophe before it that is not its own."""
+    return text.startswith("'") and bool(FORMULA.match(text))
 
 
 def as_json(them: list[Row]) -> str:
