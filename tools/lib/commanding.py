@@ -10,11 +10,16 @@ import threading
 import time
 import typing
 
-from lib import joining, places
+from lib import ROOT, following, joining, places, texts
+
+if typing.TYPE_CHECKING:
+    from lib import walking
 
 # The commands that a page may ask for, and whether each leaves the light of a luminaire as it is to be when it is stopped.
 COMMANDS = {"run": False, "check": False, "identify": True, "replace": False}
 ADDRESSES = range(64)
+# The program, as it calls itself.
+VERSION = (ROOT / "tools/lib/help/dali_commission-version.txt").read_text().strip()
 # How many lines are kept of what a command says, how long each may be, and how much it may write.
 LINES, LONGEST, MUCH = 200, 400, 1 << 20
 # How many seconds a command has to end once it was stopped, before it is asked again.
@@ -22,41 +27,10 @@ PATIENCE = 8
 # How far a run is; and what a program says that was stopped by the end of its input.
 PROGRESS = re.compile(r"(\d+) gear found, (\d+) frames, (\d+) addresses left")
 INPUT_ENDED = re.compile(r"error: line \d+ of the driver: end of input")
-# What an end is, and what can be done: by command and status, or by status alone.
+# The statuses of which something more is known; all of a signal are one.
 DONE, NOT_SO, NOBODY, STOPPED = 0, 1, 10, 128
-ENDS: dict[int | tuple[str, int], str] = {
-    ("run", 0): "All gear that answered have addresses. Count the luminaires: where the table has fewer, look at those that are dark, and "
-    "run once more.",
-    ("check", 0): "All gear are as in the table, and nobody else answers.",
-    ("identify", 0): "It blinked, and is bright again.",
-    ("replace", 0): "The new luminaire has the address.",
-    ("check", 1): "Something is not as in the table: look at the places that are marked.",
-    1: "It has not done what it was to do: what was said last tells why.",
-    2: "The command line is refused: what was said last tells why. Start the page with other words.",
-    3: "The program was refused memory, or its output was.",
-    4: "The driver ended, was too slow, or wrote what is no answer. See to the driver, and run again.",
-    5: "The file of the records cannot be had: what was said last tells why. Where another program has it open, a run goes on elsewhere: "
-    "wait until that has ended.",
-    6: "Gear are left, and each address of the block is taken. Start the page with a larger block; where it is 0-63, replace luminaires "
-    "that are gone.",
-    7: "It gave up: frames were lost, or gear do not tell what they are asked. Check the bus, the driver, and the gear that are named; "
-    "then run again.",
-    8: "A gear contradicts the table. Find out whether the file is an old copy, or another tool gave that address.",
-    9: "It took more steps than it may.",
-    10: "No answer was heard. Is the interface connected, is the bus powered, are the luminaires on?",
-    ("identify", 10): "Nobody answers to this short address. Is the luminaire on?",
-    11: "The luminaire is not replaced, and no file was changed: what was said last tells why.",
-    12: "A replacement is not finished. Replace again, with the same luminaire.",
-    127: "The driver or the program cannot be started.",
-    128: "It was stopped. What was committed is kept: the next run goes on from there.",
-    ("identify", 128): "It was stopped, and the luminaire is bright.",
-    ("replace", 128): "It was stopped. Replace again, with the same luminaire: it goes on where it was.",
-}
-# What a run came to that left short addresses alone, or after a check that found them odd: how many, and which.
-ODD = (
-    "Not all is well. Short addresses that are left alone, or not as is recorded: {} ({}). They are marked below. Check tells more; "
-    "if several luminaires have one address, take it away from all of them, and run again."
-)
+# The words of an end, and what can be done, stand in tools/lib/texts: by command and status, or by status alone.
+END, ODD, OTHER = "end:{}:{}", "end:run:odd", "end:other"
 
 
 class Busy(Exception):
@@ -112,11 +86,12 @@ def look_of(command: str, status: int, odd: list[int]) -> str:
 
 
 def end_of(command: str, status: int, odd: list[int] = ()) -> str:
-    """What an end is in words, with what can be done."""
+    """The key of the words that say what an end is, and what can be done."""
     status = STOPPED if status >= STOPPED else status
     if (command, status) == ("run", DONE) and odd:
-        return ODD.format(len(odd), ", ".join(map(str, odd)))
-    return ENDS.get((command, status)) or ENDS.get(status) or f"It ended with status {status}."
+        return ODD
+    known = texts.of(texts.FIRST)
+    return next((it for it in (END.format(command, status), f"end:{status}") if it in known), OTHER)
 
 
 def object_of(text: bytes) -> dict[str, typing.Any]:
@@ -145,10 +120,10 @@ class Command:
 
     def __init__(self, site: Site, number: int, name: str, address: int | None, words: list[str], kept: tuple[int, ...]) -> None:
         self.number, self.name, self.address, self.begun, self.said = number, name, address, time.time(), []
-        self.found = self.frames = self.left = self.status = None
-        self.is_stopped, self.report = False, {}
+        self.found = self.frames = self.left = self.status = self.ended = None
+        self.is_stopped, self.report, self.lock = False, {}, threading.Lock()
         how = {"stdin": subprocess.DEVNULL, "stdout": subprocess.PIPE, "stderr": subprocess.PIPE, "start_new_session": True}
-        self.story = os.memfd_create("story")
+        self.story, self.follower, self.since = os.memfd_create("story"), following.Follower(), None
         call = joining.alone([site.program, *words], site.driver, site.seconds, COMMANDS[name], self.story)
         self.process = subprocess.Popen(call, pass_fds=(*kept, self.story), **how)
 
@@ -160,6 +135,7 @@ class Command:
             self.hear(line.decode(errors="replace").rstrip())
         writes.join()
         self.process.wait()
+        self.ended = time.time()
         self.status = self.process.returncode if self.process.returncode >= 0 else STOPPED - self.process.returncode
 
     def take(self) -> None:
@@ -171,6 +147,7 @@ class Command:
     def hear(self, line: str) -> None:
         if progress := PROGRESS.fullmatch(line):
             self.found, self.frames, self.left = map(int, progress.groups())
+            self.since = self.followed().passes
         elif line and not (self.is_stopped and INPUT_ENDED.fullmatch(line)):
             self.said = [*self.said[1 - LINES :], line]
 
@@ -178,6 +155,13 @@ class Command:
         """The lines of its story from a byte on, as far as they are whole."""
         came = os.pread(self.story, MUCH, begin)
         return came[: came.rfind(b"\n") + 1]
+
+    def followed(self) -> following.Follower:
+        """What its story tells up to now."""
+        with self.lock:
+            while came := self.told(self.follower.bytes):
+                self.follower.take(came)
+        return self.follower
 
     def stop(self) -> None:
         """Asks it to end, and once more where it does not."""
@@ -193,11 +177,13 @@ class Command:
 
     def state(self, odd: list[int]) -> dict[str, typing.Any]:
         """What a page shows of it. These short addresses have somebody who is not understood, or not as is recorded."""
-        state = {"command": self.name, "address": self.address, "begun": self.begun, "said": self.said}
-        state |= {"found": self.found, "frames": self.report.get("frames", self.frames), "left": self.left}
-        state |= {"stopped": self.is_stopped, "status": self.status}
+        followed = self.followed().state()
+        state = {"command": self.name, "address": self.address, "begun": self.begun, "said": self.said, **followed}
+        state |= {"found": self.found, "left": self.left, "stopped": self.is_stopped, "status": self.status}
+        state |= {"seconds": (self.ended or time.time()) - self.begun, "since": self.since}
         if self.status is not None:
-            state |= {"end": self.report.get("end"), "words": end_of(self.name, self.status, odd), "look": look_of(self.name, self.status, odd)}
+            state |= {"frames": self.report.get("frames", followed["frames"]), "end": self.report.get("end")}
+            state |= {"words": end_of(self.name, self.status, odd), "look": look_of(self.name, self.status, odd)}
         return state
 
 
@@ -213,6 +199,8 @@ class Bus:
         # The table; what the last check found beside it, and when; the addresses that the last run left alone.
         self.table, self.there, self.missing, self.strangers = [], set(), set(), {}
         self.left_alone, self.unaddressed, self.checked = [], None, None
+        # The walk, and the turns of all walks up to now, so that no turn of one is taken for another one's.
+        self.walk, self.turns = None, 0
         self.idle.set()
         self.read_table()
 
@@ -235,25 +223,44 @@ class Bus:
                 self.trouble = str(why)
 
     def begin(self, name: object, address: object = None, missing: object = ()) -> None:
-        """Begins a command, where none goes on."""
+        """Begins a command, if none goes on, and no walk."""
         if not isinstance(name, str) or name not in COMMANDS:
             raise Bad("this is none of the commands")
         words = words_of(self.site, name, address, missing)
         with self.lock:
-            if not self.idle.is_set():
-                raise Busy(f"{self.command.name} goes on")
-            old = next((it["random"] for it in self.table if it["address"] == address), None)
-            number = self.command.number + 1 if self.command else 0
-            if self.command:
-                os.close(self.command.story)
-            self.command = Command(self.site, number, name, address if isinstance(address, int) else None, words, self.kept)
-            self.idle.clear()
-            threading.Thread(target=self.follow, args=(self.command, old), daemon=True).start()
+            if self.walking():
+                raise Busy("a walk goes on")
+            self.start(name, address, words)
+
+    def start(self, name: str, address: object, words: list[str] | None = None) -> Command:
+        """Begins a command, if none goes on."""
+        if not self.idle.is_set():
+            raise Busy(f"{self.command.name} goes on")
+        words = words or words_of(self.site, name, address, ())
+        old = next((it["random"] for it in self.table if it["address"] == address), None)
+        number = self.command.number + 1 if self.command else 0
+        if self.command:
+            os.close(self.command.story)
+        self.command = Command(self.site, number, name, address if isinstance(address, int) else None, words, self.kept)
+        self.idle.clear()
+        threading.Thread(target=self.follow, args=(self.command, old), daemon=True).start()
+        return self.command
+
+    def walking(self) -> "walking.Walk | None":
+        """The walk that goes on."""
+        if self.walk and not self.walk.is_on:
+            self.walk, self.turns = None, self.walk.turn + 1
+        return self.walk
+
+    def walkable(self) -> list[dict[str, typing.Any]]:
+        """The luminaires of the table that may blink."""
+        return [it for it in self.table if (it["address"], it["random"]) not in self.missing]
 
     def follow(self, command: Command, old: str | None) -> None:
         """Waits for the end of a command, and takes what it found."""
         command.follow()
         with self.lock:
+            command.followed()
             self.idle.set()
             self.read_table()
             try:
@@ -266,6 +273,10 @@ class Bus:
         pairs = {it["address"]: it["random"] for it in self.table}
         if command.name == "run" and report:
             self.left_alone = sorted({*self.left_alone, *report["left_alone"]})
+            # It asks all short addresses: who answered as recorded when it was asked last is there, also if a check missed it.
+            heard = {it for it in command.follower.heard.items() if it in pairs.items()}
+            self.there = {it for it in self.there if it[0] not in command.follower.parts} | heard
+            self.missing -= heard
             # Who was heard under an address alone, and is enrolled with it now, is odd no more.
             self.strangers = {at: it for at, it in self.strangers.items() if it[1] is None or it[1] != pairs.get(at)}
         if command.name == "check" and command.status in (DONE, NOT_SO, NOBODY):
@@ -280,7 +291,10 @@ class Bus:
                 places.hand_over(self.names, old, pairs[command.address])
 
     def stop(self) -> None:
+        """Stops what goes on, and the walk."""
         with self.lock:
+            if self.walking():
+                self.walk.end()
             if not self.idle.is_set():
                 self.command.stop()
 
@@ -305,11 +319,27 @@ class Bus:
             pair = (it["address"], it["random"])
             what = "missing" if pair in self.missing else "there" if pair in self.there else "enrolled"
             found[it["address"]] = it | {"is": what, "heard": None}
+        for address, (what, random) in self.live().items():
+            blank = {"address": address, "random": None, "place": names.get(random), "is": what, "heard": random}
+            known = found.setdefault(address, blank)
+            if random and known["random"] == random:
+                known["is"] = "there"
+            else:
+                is_another = what == "heard-now" and known["random"]
+                found[address] = known | {"is": "another" if is_another else what, "heard": random}
         odd = {it: ("left-alone", None) for it in self.left_alone} | self.strangers
         for address, (what, heard) in odd.items():
             blank = {"address": address, "random": None, "place": names.get(heard)}
             found[address] = found.get(address, blank) | {"is": what, "heard": heard}
         return [found[it] for it in sorted(found)]
+
+    def live(self) -> dict[int, tuple[str, str | None]]:
+        """What the command that goes on has heard up to now, by short address."""
+        if self.idle.is_set() or self.command.name == "identify":
+            return {}
+        told = self.command.followed()
+        found: dict[int, tuple[str, str | None]] = {it: ("heard-now", random) for it, random in told.heard.items()}
+        return found | {it: ("given-now", random) for it, random in told.given.items()} | {it: ("unclear-now", None) for it in told.unclear}
 
     def state(self) -> dict[str, typing.Any]:
         """All that a page shows."""
@@ -322,12 +352,15 @@ class Bus:
             except places.Unreadable as why:
                 trouble = str(why)
             unfinished = None if not self.idle.is_set() else unfinished_address(self.site.records[0])
-            odd = sorted({*self.left_alone, *self.strangers})
+            odd, walk = sorted({*self.left_alone, *self.strangers}), self.walking()
+            if walk:
+                walk.seen = time.monotonic()
             command = self.command.state(odd) if self.command else None
             return {
-                "records": self.site.records, "block": self.site.block, "driver": self.site.title, "trouble": trouble,
+                "site": self.names.name.removesuffix(places.ENDING), "version": VERSION, "records": self.site.records, "block": self.site.block, "driver": self.site.title, "trouble": trouble,
                 "busy": not self.idle.is_set(), "command": command, "places": them, "odd": odd, "spare": spare,
                 "unaddressed": self.unaddressed, "checked": self.checked, "unfinished": unfinished,
+                "walk": walk.state() if walk else None,
             }
 
     def csv(self) -> str:

@@ -3,7 +3,8 @@
 
 The file of the records is JSON, a random address for each short one. The file that BUS names has the random addresses of the gear that
 are there. A frame is put for each gear; while a file `hold` lies beside that one, it waits at the second. A file `odd` there has short
-addresses at which several gear answer.
+addresses at which several gear answer, a file `dark` those at which none does. A run asks those
+that a file `asked` has for their random addresses before all else.
 """
 
 import contextlib
@@ -34,9 +35,9 @@ def say(text: str) -> None:
         os.write(2, f"{text}\n".encode())
 
 
-def odd() -> list[int]:
-    """The short addresses at which several gear answer."""
-    file = pathlib.Path(os.environ["BUS"]).with_name("odd")
+def beside(name: str) -> list[int]:
+    """The short addresses that a file beside the gear has."""
+    file = pathlib.Path(os.environ["BUS"]).with_name(name)
     return json.loads(file.read_text()) if file.exists() else []
 
 
@@ -51,6 +52,8 @@ def ended(end: str, status: int, records: dict[str, str], **more: object) -> Non
 
 
 def run(file: pathlib.Path, records: dict[str, str], gear: list[str]) -> None:
+    for frame in (f"{2 * it + 1:02X}{part}" for it in beside("asked") for part in ("C2", "C3", "C4")):
+        put(frame, 1)
     for number, random in enumerate(gear, 1):
         put("A900", number)
         if random not in records.values():
@@ -59,9 +62,9 @@ def run(file: pathlib.Path, records: dict[str, str], gear: list[str]) -> None:
             new.write_text(json.dumps(records))
             new.replace(file)
         say(f"{number} gear found, {9 * number} frames, {64 - number} addresses left")
-    for it in odd():
+    for it in beside("odd"):
         say(f"{it} - somebody answers whose random address was not heard; left alone")
-    ended("all-found", 0, records, left_alone=odd())
+    ended("all-found", 0, records, left_alone=beside("odd"))
 
 
 def check(records: dict[str, str], gear: list[str]) -> None:
@@ -71,7 +74,7 @@ def check(records: dict[str, str], gear: list[str]) -> None:
         say(f"{it} {records[str(it)]} missing")
     strangers = [it for it in gear if it not in records.values()]
     others = [{"address": 63 - at, "is": "stranger", "random": it} for at, it in enumerate(strangers)]
-    others += [{"address": it, "is": "unclear" if str(it) in records else "unclear-strangers", "random": None} for it in odd()]
+    others += [{"address": it, "is": "unclear" if str(it) in records else "unclear-strangers", "random": None} for it in beside("odd")]
     is_well = not missing and not others
     ended("as-recorded" if is_well else "not-as-recorded", int(not is_well), records, missing=missing, strangers=others, unaddressed=False)
 
@@ -85,6 +88,17 @@ def replace(file: pathlib.Path, records: dict[str, str], gear: list[str], addres
     records[address] = new[0]
     file.write_text(json.dumps(records))
     ended("replaced", 0, records)
+
+
+def identify(address: int) -> None:
+    put(f"{2 * address + 1:02X}C2")
+    if address in beside("dark"):
+        say(f"nobody answers to short address {address}")
+        ended("nobody-answered", 10, {})
+    for level in 5 * ("FE", "00"):
+        put(f"{2 * address:02X}{level}")
+        time.sleep(0.02)
+    say("shown")
 
 
 def main(task: str, *words: str) -> None:
@@ -106,10 +120,7 @@ def main(task: str, *words: str) -> None:
         elif task == "check":
             check(records, gear)
         elif task == "identify":
-            for _ in range(5):
-                put("0A00")
-                time.sleep(0.02)
-            say("shown")
+            identify(int(words[-1]))
         elif task == "replace":
             replace(file, records, gear, next(it for it in words if it.isdigit()))
         else:

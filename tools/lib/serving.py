@@ -6,21 +6,26 @@ import hashlib
 import hmac
 import http.server
 import json
+import os
 import re
 import secrets
 import socket
 import threading
 import typing
 
-from lib import ROOT, commanding, places, story, viewer
+from lib import ROOT, commanding, places, story, texts, viewer, walking
 
 LOOPBACK = "127.0.0.1"
 PAGE = ROOT / "tools/lib/page.html"
 # How many bytes the target of a request may have, and its body; how many requests are answered at once, in how many seconds each.
 LONGEST, BODY, LANES, PATIENCE = 512, 8192, 32, 5
 NUMBER = re.compile("[0-9]{1,9}")
+# An address that was kept: its port and its token.
+KEPT = re.compile(r"http://127\.0\.0\.1:([0-9]{1,5})/([A-Za-z0-9_-]{32})/")
 # Who may ask: a browser says where a request comes from.
 OWN = ("same-origin", "none")
+# What is filled in the page: its language, and its texts as JSON.
+LANGUAGE, TEXTS = '<html lang="en">', "/*TEXTS*/"
 
 
 class Refused(Exception):
@@ -43,6 +48,28 @@ def policy(page: str) -> str:
     return own + "connect-src 'self'; img-src data:; base-uri 'none'; form-action 'none'; frame-ancestors 'none'"
 
 
+def filled(page: str, language: str) -> str:
+    """The page in a language."""
+    words = json.dumps(texts.of(language), ensure_ascii=False).replace("<", "\\u003c")
+    return page.replace(LANGUAGE, f'<html lang="{language}">', 1).replace(TEXTS, words, 1)
+
+
+class Kept(typing.NamedTuple):
+    """What is kept of the address of the page before, if anything."""
+
+    port: int = 0
+    token: str = ""
+
+
+def kept_of(opened: typing.TextIO) -> Kept:
+    """What a file keeps, unless others could read it."""
+    opened.seek(0)
+    found = KEPT.fullmatch(opened.read(512).strip())
+    is_own = os.fstat(opened.fileno()).st_mode & 0o077 == 0
+    os.fchmod(opened.fileno(), 0o600)
+    return Kept(int(found[1]), found[2]) if found and is_own and int(found[1]) < 1 << 16 else Kept()
+
+
 class Server(http.server.ThreadingHTTPServer):
     """The server of one page."""
 
@@ -52,8 +79,9 @@ class Server(http.server.ThreadingHTTPServer):
         self.bus, self.token, self.lanes = bus, token or secrets.token_urlsafe(24), threading.BoundedSemaphore(LANES)
         # The connections whose request is not whole yet, the oldest first.
         self.half_open, self.lock = {}, threading.Lock()
-        self.page = PAGE.read_text(encoding="utf-8")
-        self.policy, self.viewer_policy = policy(self.page), policy(story.VIEWER.read_text(encoding="utf-8"))
+        page = PAGE.read_text(encoding="utf-8")
+        self.pages = {it: filled(page, it) for it in texts.languages()}
+        self.policy, self.viewer_policy = policy(page), policy(story.VIEWER.read_text(encoding="utf-8"))
         super().__init__((LOOPBACK, port), Handler)
         self.hosts = [f"{it}:{self.server_address[1]}" for it in (LOOPBACK, "localhost")]
 
@@ -107,7 +135,7 @@ class Handler(http.server.BaseHTTPRequestHandler):
         self.answer({"": self.show, "state": self.tell_state, "table.csv": self.tell_csv, "frames": self.show_frames, "more": self.tell_more})
 
     def do_POST(self) -> None:
-        self.answer({"do": self.do, "stop": self.stop, "name": self.name})
+        self.answer({"do": self.do, "stop": self.stop, "name": self.name, "walk": self.walk})
 
     def answer(self, known: dict[str, typing.Callable[[], None]]) -> None:
         try:
@@ -121,7 +149,9 @@ class Handler(http.server.BaseHTTPRequestHandler):
         except commanding.Bad as why:
             self.write(400, "text/plain", f"{why}\n")
         except commanding.Busy as why:
-            self.write(409, "text/plain", f"{why}\n")
+            self.write(409, "text/plain", f"{why}\n", ("Why", "busy"))
+        except walking.Moved as why:
+            self.write(409, "text/plain", f"{why}\n", ("Why", why.key))
         except (places.Unreadable, OSError) as why:
             self.write(500, "text/plain", f"{why}\n")
 
@@ -179,7 +209,7 @@ class Handler(http.server.BaseHTTPRequestHandler):
 
     def show(self) -> None:
         self.server.bus.read_table()
-        self.write(200, "text/html", self.server.page)
+        self.write(200, "text/html", self.server.pages[texts.chosen(self.headers.get("Accept-Language", ""))])
 
     def tell_state(self) -> None:
         self.write(200, "application/json", json.dumps(self.server.bus.state()))
@@ -205,6 +235,10 @@ class Handler(http.server.BaseHTTPRequestHandler):
     def do(self) -> None:
         asked = self.body()
         self.server.bus.begin(asked.get("command"), asked.get("address"), asked.get("missing", []))
+        self.tell_state()
+
+    def walk(self) -> None:
+        walking.ask(self.server.bus, self.body())
         self.tell_state()
 
     def stop(self) -> None:
