@@ -13,8 +13,6 @@ use Rattle.dali_replay.specs.declared.played.Played.{Played}
 use Rattle.dali_grammar.specs.Lines.{numbered_after}
 use Rattle.dali_replay.specs.BenchReport.{with_event}
 use Rattle.dali_replay.specs.Json.{json_state}
-use Rattle.dali_replay.specs.Text.{gear_texts}
-use Rattle.dali_replay.specs.SiteReport.{site_text}
 use Rattle.dali_grammar.specs.Setting.{NumberedLines, End, Setting, PlansNot}
 use Rattle.dali_replay.specs.Player.{Turns, IsBad, player_of}
 
@@ -27,11 +25,6 @@ log_in (player.Site n) kept = n.site.log
 
 abbrev pub events_in : Player → List Event → ℕ
 events_in s kept = length (log_in s kept)
-
--- the gear and the tables, as `show` prints them
-abbrev pub end_text : Player → List ℕ
-end_text (player.Bench w) = gear_texts 0 w.gear
-end_text (player.Site n) = site_text n.site
 
 -- ---------------------------------------------------------------- the lines
 
@@ -94,7 +87,6 @@ pub record IsEmpty (x : Played) : Type 0 where
   pub lines : x.lines.items ≡ []
   pub reports : string_bytes x.reports ≡ []
   pub log : x.log.items ≡ []
-  pub end : string_bytes x.end ≡ []
   pub state : string_bytes x.state ≡ []
 
 -- of a script that sets this up
@@ -112,14 +104,13 @@ pub record IsSame (x y : Played) : Type 0 where
   pub draws : y.draws.items ≡ x.draws.items
   pub used : y.used.items ≡ x.used.items
 
--- A SCRIPT THAT WAS PLAYED TO ITS END: its lines and their reports, all that happened, and the end
--- as text and as JSON.
+-- A SCRIPT THAT WAS PLAYED TO ITS END: its lines and their reports, all that happened, and the gear
+-- and the tables at the end, as `show` has them as JSON.
 abbrev pub IsPlayed : Stand → Played → Type 0
 IsPlayed p x =
     (t : Player) × (kept : List Event)
     × Follow p.player p.left [] [] x.lines.items t kept (string_bytes x.reports)
-    × (x.log.items ≡ log_in t kept) × (string_bytes x.end ≡ end_text t)
-    × (string_bytes x.state ≡ json_state t)
+    × (x.log.items ≡ log_in t kept) × (string_bytes x.state ≡ json_state t)
 
 -- what the first lines set up, and all lines behind them
 abbrev pub begun : Setting × NumberedLines → Stand

@@ -3,14 +3,12 @@
 ghost use Rattle.std.specs.Prelude.{◌≡◌, ◌+◌, ◌≤◌, ◌++◌, ◌∷◌, [], length, IfOk, IfErr, OnOk, string_bytes};
 ghost use Rattle.dali_grammar.specs.ReplayFault.{fault_of, with_fault};
 ghost use Rattle.dali_replay.specs.BenchReport.{with_event};
-ghost use Rattle.dali_replay.specs.Played.{stand, events_in, end_text, log_in, IsEmpty, IsOf, IsSame, PlaysAll};
+ghost use Rattle.dali_replay.specs.Played.{stand, events_in, log_in, IsEmpty, IsOf, IsSame, PlaysAll};
 ghost use Rattle.dali_replay.specs.Played.{IsPlayed, IsPlayedBy, StopsIn, StopsBy};
 ghost use Rattle.dali_grammar.specs.Setting.{setting_of};
 
 use crate::json::push_state;
 use crate::player::Player;
-use crate::site_report::show;
-use crate::text::push_all_gear;
 use dali_frame::Random24;
 use dali_grammar::{Script, Stop, plan};
 use dali_world::{Event, Plan, Used};
@@ -46,9 +44,7 @@ pub struct Played<'a> {
     pub reports: String,
     /// All that happened, oldest first. On a bench controller 0 stands for whoever sends a frame.
     pub log: Vec<Event>,
-    /// The gear and the tables at the end, as `show` prints them.
-    pub end: String,
-    /// The same, as `show` has them as JSON.
+    /// The gear and the tables at the end, as `show` has them as JSON.
     pub state: String,
 }
 
@@ -121,16 +117,6 @@ fn play_all<'a>(
     Ok(())
 }
 
-/// The gear and the tables, as `show` prints them.
-fn push_end(text: &mut String, player: &Player) -> Result<(), AllocError>
-    ensures { OnOk result (string_bytes text.new ≡ string_bytes text.old ++ end_text player.now) }
-{
-    match player {
-        Player::Bench(bench) => push_all_gear(text, bench.gear()),
-        Player::Site(installation) => show(text, installation),
-    }
-}
-
 /// All that happened: on a bench what was kept, on a site its log.
 fn keep_log(log: &mut Vec<Event>, player: &Player) -> Result<(), AllocError>
     ensures { OnOk result (log.new.items ≡ log_in player.now log.old.items) }
@@ -171,7 +157,6 @@ impl<'a> Played<'a> {
             lines: Vec::new(alloc),
             reports: String::new(alloc),
             log: Vec::new(alloc),
-            end: String::new(alloc),
             state: String::new(alloc),
         })
     }
@@ -191,7 +176,6 @@ impl<'a> Played<'a> {
             &mut self.reports,
             &mut self.log,
         )?;
-        push_end(&mut self.end, player)?;
         push_state(&mut self.state, player)?;
         keep_log(&mut self.log, player)?;
         Ok(())

@@ -10,18 +10,18 @@ use Rattle.dali_special.specs.declared.command.Command.TheVariants as command
 -- THE NAMES OF COMMANDS, as the standard has them, each with its argument: a byte as two digits, a
 -- short address as a number.
 
-abbrev pub with_byte : List ℕ → ℕ → List ℕ
+unfoldable pub with_byte : List ℕ → ℕ → List ℕ
 with_byte name byte = name ++ (codes " " ++ byte_text byte)
 
-abbrev pub with_short : List ℕ → ℕ → List ℕ
+unfoldable pub with_short : List ℕ → ℕ → List ℕ
 with_short name a = name ++ (codes " " ++ decimal a)
 
-abbrev pub initialise_text : Target → List ℕ
+unfoldable pub initialise_text : Target → List ℕ
 initialise_text target.All = codes "INITIALISE all"
 initialise_text (target.Addressed a) = with_short (codes "INITIALISE") a
 initialise_text target.Unaddressed = codes "INITIALISE no short address"
 
-abbrev pub program_text : Option ℕ → List ℕ
+unfoldable pub program_text : Option ℕ → List ℕ
 program_text None = codes "PROGRAM SHORT ADDRESS none"
 program_text (Some a) = with_short (codes "PROGRAM SHORT ADDRESS") a
 

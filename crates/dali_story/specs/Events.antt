@@ -47,8 +47,11 @@ abbrev pub frame_members : List ℕ → List ℕ → Forward → List ℕ
 frame_members frame command f =
     text_member frame (forward_text f) ++ text_member command (command_text (command_of f))
 
-abbrev pub the_frame : Forward → List ℕ
+unfoldable pub the_frame : Forward → List ℕ
 the_frame f = frame_members (codes "frame") (codes "command") f
+
+unfoldable pub other_frame : Forward → List ℕ
+other_frame f = frame_members (codes "other_frame") (codes "other_command") f
 
 -- what was heard
 abbrev pub answer_text : Answer → List ℕ
@@ -120,9 +123,7 @@ destroyed_members c f set r was =
 
 unfoldable pub collided_members : ℕ → Forward → ℕ → Forward → List ℕ
 collided_members c f d g =
-    framed c f
-    ++ (number_member (codes "other") d
-    ++ frame_members (codes "other_frame") (codes "other_command") g)
+    framed c f ++ (number_member (codes "other") d ++ other_frame g)
 
 unfoldable pub power_members : ℕ → Bool → List ℕ
 power_members g on =

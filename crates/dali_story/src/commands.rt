@@ -1,5 +1,5 @@
 //! The names of commands, as the standard has them, each with its argument.
-#![tactic(auto, using(std::proofs::lemmas::List::append_assoc, std::proofs::lemmas::Fmt::hex_byte))]
+#![tactic(auto)]
 
 ghost use Rattle.std.specs.Prelude.{◌≡◌, ◌++◌, OnOk, string_bytes};
 ghost use Rattle.dali_story.specs.Commands.{with_byte, with_short, initialise_text, program_text, query_name};
@@ -9,12 +9,14 @@ use dali_frame::Short;
 use dali_special::{Command, Part, Target};
 use std::alloc::AllocError;
 
+#[tactic(auto, using(std::proofs::lemmas::Fmt::hex_byte), unfolding(crate::specs::Commands::with_byte))]
 fn push_with_byte(text: &mut String, name: &str, byte: u8) -> Result<(), AllocError>
     ensures { OnOk result (string_bytes text.new ≡ string_bytes text.old ++ with_byte name.now byte) }
 {
     write!(text, "{name} {byte:02X}")
 }
 
+#[tactic(auto, unfolding(crate::specs::Commands::with_short))]
 fn push_with_short(text: &mut String, name: &str, short: Short) -> Result<(), AllocError>
     ensures { OnOk result (string_bytes text.new ≡ string_bytes text.old ++ with_short name.now short) }
 {
@@ -22,6 +24,7 @@ fn push_with_short(text: &mut String, name: &str, short: Short) -> Result<(), Al
     write!(text, "{name} {number}")
 }
 
+#[tactic(auto, unfolding(crate::specs::Commands::initialise_text))]
 fn push_initialise(text: &mut String, target: Target) -> Result<(), AllocError>
     ensures { OnOk result (string_bytes text.new ≡ string_bytes text.old ++ initialise_text target) }
 {
@@ -32,6 +35,7 @@ fn push_initialise(text: &mut String, target: Target) -> Result<(), AllocError>
     }
 }
 
+#[tactic(auto, unfolding(crate::specs::Commands::program_text))]
 fn push_program(text: &mut String, short: Option<Short>) -> Result<(), AllocError>
     ensures { OnOk result (string_bytes text.new ≡ string_bytes text.old ++ program_text short) }
 {

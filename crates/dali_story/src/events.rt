@@ -4,7 +4,7 @@
 ghost use Rattle.std.specs.Prelude.{◌≡◌, ◌++◌, OnOk, codes, string_bytes};
 ghost use Rattle.dali_frame.specs.Hex.{random_text};
 ghost use Rattle.dali_story.specs.Members.{text_member, list_member};
-ghost use Rattle.dali_story.specs.Events.{kind_of, frame_members, the_frame};
+ghost use Rattle.dali_story.specs.Events.{kind_of, frame_members, the_frame, other_frame};
 ghost use Rattle.dali_story.specs.Events.{answer_text, told_text, put_members, commit_members, done_members};
 ghost use Rattle.dali_story.specs.Events.{halt_members, order_members, acted_members, framed, placed, sent_members};
 ghost use Rattle.dali_story.specs.Events.{destroyed_members, collided_members, power_members, kept_member, up_members};
@@ -65,10 +65,19 @@ fn push_frame_as(
     text.push_str("\"")
 }
 
+#[tactic(auto, unfolding(crate::specs::Events::the_frame))]
 fn push_frame(text: &mut String, frame: Forward) -> Result<(), AllocError>
     ensures { OnOk result (string_bytes text.new ≡ string_bytes text.old ++ the_frame frame) }
 {
     push_frame_as(text, "frame", "command", frame)
+}
+
+/// Of two frames that collide the second one.
+#[tactic(auto, unfolding(crate::specs::Events::other_frame))]
+fn push_other_frame(text: &mut String, frame: Forward) -> Result<(), AllocError>
+    ensures { OnOk result (string_bytes text.new ≡ string_bytes text.old ++ other_frame frame) }
+{
+    push_frame_as(text, "other_frame", "other_command", frame)
 }
 
 #[tactic(auto, unfolding(crate::specs::Members::list_member))]
@@ -247,7 +256,7 @@ fn push_collided(
 {
     push_framed(text, c, frame)?;
     push_number(text, "other", u64::from(d))?;
-    push_frame_as(text, "other_frame", "other_command", other)
+    push_other_frame(text, other)
 }
 
 #[tactic(auto, unfolding(crate::specs::Events::power_members))]

@@ -1,4 +1,0 @@
-mod LevelLemmas
-mod TraceLemmas
-mod NoteLemmas
-mod StreamLemmas
