@@ -10,7 +10,7 @@ import threading
 import time
 import typing
 
-from lib import ROOT, following, joining, places, texts
+from lib import ROOT, following, joining, marks, places, texts
 
 if typing.TYPE_CHECKING:
     from lib import walking
@@ -180,7 +180,7 @@ class Command:
         followed = self.followed().state()
         state = {"command": self.name, "address": self.address, "begun": self.begun, "said": self.said, **followed}
         state |= {"found": self.found, "left": self.left, "stopped": self.is_stopped, "status": self.status}
-        state |= {"seconds": (self.ended or time.time()) - self.begun, "since": self.since}
+        state |= {"lit": self.address in self.follower.lit, "seconds": (self.ended or time.time()) - self.begun, "since": self.since}
         if self.status is not None:
             state |= {"frames": self.report.get("frames", followed["frames"]), "end": self.report.get("end")}
             state |= {"words": end_of(self.name, self.status, odd), "look": look_of(self.name, self.status, odd)}
@@ -197,8 +197,8 @@ class Bus:
         self.site, self.kept, self.lock, self.idle = site, kept, threading.RLock(), threading.Event()
         self.names, self.command, self.trouble = places.file_of(site.records[0]), None, None
         # The table; what the last check found beside it, and when; the addresses that the last run left alone.
-        self.table, self.there, self.missing, self.strangers = [], set(), set(), {}
-        self.left_alone, self.unaddressed, self.checked = [], None, None
+        self.table, self.there, self.unaddressed = [], set(), None
+        self.left_alone, self.strangers, self.missing, self.checked = marks.read(marks.file_of(site.records[0]))
         # The walk, and the turns of all walks up to now, so that no turn of one is taken for another one's.
         self.walk, self.turns = None, 0
         self.idle.set()
@@ -265,6 +265,8 @@ class Bus:
             self.read_table()
             try:
                 self.learn(command, command.report, old)
+                kept = marks.Marks(self.left_alone, self.strangers, self.missing, self.checked)
+                marks.keep(marks.file_of(self.site.records[0]), kept)
             except (KeyError, TypeError, OSError, places.Unreadable) as why:
                 command.hear(f"what it came to is not known: {why}")
 
