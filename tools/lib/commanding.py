@@ -25,7 +25,7 @@ LINES, LONGEST, MUCH = 200, 400, 1 << 20
 # How many seconds a command has to end once it was stopped, before it is asked again.
 PATIENCE = 8
 # How far a run is; and what a program says that was stopped by the end of its input.
-PROGRESS = re.compile(r"(\d+) gear found, (\d+) frames, (\d+) addresses left")
+PROGRESS = re.compile(r"(\d+) gear found, \d+ frames, (\d+) addresses left")
 INPUT_ENDED = re.compile(r"error: line \d+ of the driver: end of input")
 # The statuses of which something more is known; all of a signal are one.
 DONE, NOT_SO, NOBODY, STOPPED = 0, 1, 10, 128
@@ -120,7 +120,7 @@ class Command:
 
     def __init__(self, site: Site, number: int, name: str, address: int | None, words: list[str], kept: tuple[int, ...]) -> None:
         self.number, self.name, self.address, self.begun, self.said = number, name, address, time.time(), []
-        self.found = self.frames = self.left = self.status = self.ended = None
+        self.found = self.left = self.status = self.ended = None
         self.is_stopped, self.report, self.lock = False, {}, threading.Lock()
         how = {"stdin": subprocess.DEVNULL, "stdout": subprocess.PIPE, "stderr": subprocess.PIPE, "start_new_session": True}
         self.story, self.follower, self.since = os.memfd_create("story"), following.Follower(), None
@@ -146,7 +146,7 @@ class Command:
 
     def hear(self, line: str) -> None:
         if progress := PROGRESS.fullmatch(line):
-            self.found, self.frames, self.left = map(int, progress.groups())
+            self.found, self.left = map(int, progress.groups())
             self.since = self.followed().passes
         elif line and not (self.is_stopped and INPUT_ENDED.fullmatch(line)):
             self.said = [*self.said[1 - LINES :], line]
@@ -199,8 +199,9 @@ class Bus:
         # The table; what the last check found beside it, and when; the addresses that the last run left alone.
         self.table, self.there, self.unaddressed = [], set(), None
         self.left_alone, self.strangers, self.missing, self.checked = marks.read(marks.file_of(site.records[0]))
-        # The walk, and the turns of all walks up to now, so that no turn of one is taken for another one's.
-        self.walk, self.turns = None, 0
+        # The walk, and the turns of all walks up to now, so that no turn of one is taken for another one's; and how many luminaires the last
+        # one has been at and how many it has left, until something else begins.
+        self.walk, self.turns, self.walked = None, 0, None
         self.idle.set()
         self.read_table()
 
@@ -231,6 +232,7 @@ class Bus:
             if self.walking():
                 raise Busy("a walk goes on")
             self.start(name, address, words)
+            self.walked = None
 
     def start(self, name: str, address: object, words: list[str] | None = None) -> Command:
         """Begins a command, if none goes on."""
@@ -249,6 +251,7 @@ class Bus:
     def walking(self) -> "walking.Walk | None":
         """The walk that goes on."""
         if self.walk and not self.walk.is_on:
+            self.walked = {"done": len(self.walk.done), "left": len(self.walk.left)}
             self.walk, self.turns = None, self.walk.turn + 1
         return self.walk
 
@@ -273,12 +276,14 @@ class Bus:
     def learn(self, command: Command, report: dict[str, typing.Any], old: str | None) -> None:
         """Takes what a command found. What is odd stays so until a check finds otherwise, or a replacement has heard the new luminaire there."""
         pairs = {it["address"]: it["random"] for it in self.table}
-        if command.name == "run" and report:
-            self.left_alone = sorted({*self.left_alone, *report["left_alone"]})
-            # It asks all short addresses: who answered as recorded when it was asked last is there, also if a check missed it.
+        if command.name in ("run", "identify"):
+            # Who answered as recorded when it was asked last is there, also if a check missed it; who did not is not.
             heard = {it for it in command.follower.heard.items() if it in pairs.items()}
-            self.there = {it for it in self.there if it[0] not in command.follower.parts} | heard
+            self.there = {it for it in self.there if it[0] not in command.follower.asked()} | heard
             self.missing -= heard
+        if command.name == "run":
+            self.unaddressed = None
+            self.left_alone = sorted({*self.left_alone, *report.get("left_alone", [])})
             # Who was heard under an address alone, and is enrolled with it now, is odd no more.
             self.strangers = {at: it for at, it in self.strangers.items() if it[1] is None or it[1] != pairs.get(at)}
         if command.name == "check" and command.status in (DONE, NOT_SO, NOBODY):
@@ -287,8 +292,9 @@ class Bus:
             self.there = {it for it in pairs.items() if it not in self.missing and it[0] not in self.strangers}
             self.unaddressed = report["unaddressed"]
         if command.name == "replace" and command.status == DONE:
-            self.left_alone = [it for it in self.left_alone if it != command.address]
+            self.left_alone, self.unaddressed = [it for it in self.left_alone if it != command.address], None
             self.strangers.pop(command.address, None)
+            self.there |= {it for it in pairs.items() if it[0] == command.address}
             if old and command.address in pairs:
                 places.hand_over(self.names, old, pairs[command.address])
 
@@ -362,7 +368,7 @@ class Bus:
                 "site": self.names.name.removesuffix(places.ENDING), "version": VERSION, "records": self.site.records, "block": self.site.block, "driver": self.site.title, "trouble": trouble,
                 "busy": not self.idle.is_set(), "command": command, "places": them, "odd": odd, "spare": spare,
                 "unaddressed": self.unaddressed, "checked": self.checked, "unfinished": unfinished,
-                "walk": walk.state() if walk else None,
+                "walk": walk.state() if walk else None, "walked": self.walked,
             }
 
     def csv(self) -> str:

@@ -83,12 +83,16 @@ class Follower:
         self.phase, self.at = "searching", None
         name, _, byte = command.partition(" ")
         if name in telling.SEARCH.values():
-            self.search["HML".index(name[-1])] = byte
+            self.search[PARTS.index(name[-1])] = byte
 
     def take_told(self, heard: str | None) -> None:
         """The gear at the search address was asked for its short address."""
         if self.programmed and heard == f"{2 * self.programmed[0] + 1:02X}" and self.programmed[1] == "".join(self.search):
             self.given[self.programmed[0]] = self.programmed[1]
+
+    def asked(self) -> set[int]:
+        """The short addresses that were asked last to the end, or up to an answer that is no byte."""
+        return {at for at, told in self.parts.items() if len(told) == len(PARTS) or not all(BYTE.fullmatch(it or "") for it in told.values())}
 
     def state(self) -> dict[str, typing.Any]:
         return {"frames": self.frames, "phase": self.phase, "at": self.at, "pass": self.passes}
