@@ -1,5 +1,9 @@
-use Rattle.std.specs.Prelude.{ℕ, ◌+◌, min, Bool, true, false, not, ◌==◌, ◌&&◌, nat_lt}
+use Rattle.std.specs.Prelude.{ℕ, ◌+◌, min, List, ◌∷◌, Bool, true, false, not, ◌==◌, ◌&&◌, nat_lt}
 use Rattle.std.specs.Prelude.{if◌then◌else◌}
+use Rattle.dali_frame.specs.declared.frames.Forward.{Forward}
+use Rattle.dali_script.specs.declared.trace.Entry.{Entry}
+use Rattle.dali_script.specs.Scripts.{Script, steps, IsFront}
+use Rattle.dali_script.specs.Scripts as scripts
 use Rattle.dali_special.specs.declared.command.Part.TheVariants as part
 use Rattle.dali_special.specs.declared.command.Command.{Command}
 use Rattle.dali_special.specs.declared.command.Command.TheVariants as command
@@ -88,6 +92,18 @@ may_follow r (command.RandomByte a part.Middle) = true
 may_follow r (command.RandomByte a part.Low) = true
 may_follow r (command.Arc f) = false
 may_follow r (command.Other f) = false
+
+-- A FURTHER FRAME of a script: one that stands behind others there. In a hunt, a roll call and a
+-- draw SEARCHADDRH may.
+abbrev pub IsHighFirst : Script → Type 0
+IsHighFirst (scripts.Hunt r cs) = ⊥
+IsHighFirst (scripts.Call r cs) = ⊥
+IsHighFirst (scripts.Draw h m) = ⊥
+IsHighFirst _ = Unit {0}
+
+abbrev pub IsLater : Forward → Type 0
+IsLater f =
+    (s : Script) × (e : Entry) × (t : List Entry) × IsHighFirst s × IsFront (e ∷ t) f (steps s)
 
 -- nothing follows direct arc power, and what is no addressing command
 abbrev pub is_over : Mode → Bool

@@ -9,7 +9,6 @@ use crate::run_gear::RunGear;
 use crate::transactions::{Running, counted};
 use dali_frame::{Answer, Random24};
 use dali_gear::Row;
-use dali_special::Command;
 use dali_world::{Event, Sending, Used};
 use std::alloc::AllocError;
 use std::marker::Model;
@@ -55,7 +54,7 @@ fn running_with(sending: Option<Sending>, running: &Running) -> Running
 {
     match sending {
         None => *running,
-        Some(sending) => running.after(sending.sender, &Command::read(sending.frame)),
+        Some(sending) => running.after(sending.sender, sending.frame),
     }
 }
 

@@ -1,9 +1,12 @@
 //! Which frames of a log belong to one transaction.
 
-ghost use Rattle.std.specs.Prelude.{◌≡◌};
+ghost use Rattle.std.specs.Prelude.{◌≡◌, true, IsTrue};
+ghost use Rattle.dali_special.specs.Command.{command_of};
+ghost use Rattle.dali_script.specs.Scripts.{IsFirst};
 ghost use Rattle.dali_story.specs.Transactions.{counted, searched, hunted, compared, further, mode_after, has_room};
-ghost use Rattle.dali_story.specs.Transactions.{may_follow, is_over, goes_on, running_after, none_runs};
+ghost use Rattle.dali_story.specs.Transactions.{may_follow, is_over, goes_on, running_after, none_runs, IsLater};
 
+use dali_frame::Forward;
 use dali_special::{Command, Part};
 
 /// A number and so many more; it stops at the last one.
@@ -124,11 +127,14 @@ impl Running {
         }
     }
 
-    /// Whether this command begins no transaction.
-    fn may_follow(&self, command: &Command) -> bool
-        ensures { result ≡ may_follow self.now command.now }
+    /// Whether this frame begins no transaction. None does that stands behind others in a script, but SEARCHADDRH in a
+    /// hunt, a roll call and a draw may.
+    fn may_follow(&self, frame: Forward) -> bool
+        ensures value { result ≡ may_follow self.now (command_of frame) }
+        ensures first { IsFirst frame → result ≡ true → IsTrue (has_room self.now.mode self.now.frames) }
+        ensures later { IsLater frame → result ≡ true }
     {
-        match *command {
+        match Command::read(frame) {
             Command::Terminate
             | Command::RandomByte(_, Part::High)
             | Command::Arc(_)
@@ -147,18 +153,19 @@ impl Running {
         }
     }
 
-    fn goes_on(&self, sender: u8, command: &Command) -> bool
-        ensures { result ≡ goes_on self.now sender command.now }
+    fn goes_on(&self, sender: u8, frame: Forward) -> bool
+        ensures { result ≡ goes_on self.now sender (command_of frame) }
     {
-        !is_over(self.mode) && self.sender == sender && self.may_follow(command)
+        !is_over(self.mode) && self.sender == sender && self.may_follow(frame)
     }
 
     /// The transaction of a further frame: this one, or the next.
-    pub fn after(&self, sender: u8, command: &Command) -> Running
-        ensures { result ≡ running_after sender command.now self.now }
+    pub fn after(&self, sender: u8, frame: Forward) -> Running
+        ensures { result ≡ running_after sender (command_of frame) self.now }
     {
-        if self.goes_on(sender, command) {
-            let mode = mode_after(self.mode, command);
+        let command = Command::read(frame);
+        if self.goes_on(sender, frame) {
+            let mode = mode_after(self.mode, &command);
             Running {
                 begun: self.begun,
                 frames: counted(self.frames, 1),
@@ -166,7 +173,7 @@ impl Running {
                 mode,
             }
         } else {
-            let mode = mode_after(Mode::Over, command);
+            let mode = mode_after(Mode::Over, &command);
             Running {
                 begun: counted(self.begun, 1),
                 frames: 1,
