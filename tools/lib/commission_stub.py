@@ -97,7 +97,7 @@ def identify(address: int) -> None:
         ended("nobody-answered", 10, {})
     for level in 5 * ("FE", "00"):
         put(f"{2 * address:02X}{level}")
-        time.sleep(0.02)
+        time.sleep(0.05)
     say("shown")
 
 
