@@ -388,7 +388,7 @@ fn owner_of(event: &Event) -> u8 {
         Event::Sent(..) => 4,
         Event::Down(_) => 5,
         Event::Up(..) => 6,
-        Event::Offered(..) | Event::Destroyed(..) | Event::Collided(..) => 7,
+        Event::Offered(..) | Event::Destroyed(..) | Event::Collided(..) | Event::Foreign(_) => 7,
         Event::Lapsed | Event::Quiet | Event::Power(..) | Event::Expired(_) => 7,
     }
 }
