@@ -94,6 +94,12 @@ const THREADS_WORDS: &[Word] = &[
         kind: WordKind::Flag,
     },
     Word {
+        name: "story",
+        value: "",
+        help: "Writes the story of the run in the place of the report",
+        kind: WordKind::Flag,
+    },
+    Word {
         name: "blocks",
         value: "BLOCK",
         help: "A controller each, 1 to 4: the first and the last address of its block, as 0-15",
@@ -194,6 +200,8 @@ fn setup(alloc: Global, line: &CommandLine) -> Result<Setup, LineFault>
         blocks_of (values_of (codes "blocks") line.now.values.items) ≡ Some setup.blocks.items) }
     ensures json { IfOk result (λ setup. IsTrue setup.as_json
         ↔ (slice_get (values_of (codes "json") line.now.values.items) 0 ≡ Some (codes "true"))) }
+    ensures story { IfOk result (λ setup. IsTrue setup.as_story
+        ↔ (slice_get (values_of (codes "story") line.now.values.items) 0 ≡ Some (codes "true"))) }
 {
     Ok(Setup {
         gear: gear_count(alloc, line)?,
@@ -201,6 +209,7 @@ fn setup(alloc: Global, line: &CommandLine) -> Result<Setup, LineFault>
         turns: number(alloc, line, "turns")?,
         surveys: line.has("survey"),
         as_json: line.has("json"),
+        as_story: line.has("story"),
         blocks: blocks(alloc, line)?,
     })
 }

@@ -7,4 +7,5 @@ pub mod Members
 pub mod Teller
 pub mod Stances
 pub mod Story
+pub mod Site
 pub mod Tells

@@ -79,13 +79,13 @@ left_first x = record {
 -- ---------------------------------------------------------------- the end
 
 -- how each controller stands, what was counted, and gear and tables as `show` has them
-unfoldable pub end_text : Played → Counts → List ℕ
-end_text x n =
+unfoldable pub end_text : ℕ → List Event → Counts → List ℕ → List ℕ
+end_text controllers log n state =
     codes "{\"end\":true"
-    ++ (list_member (codes "stands") (stances_before x.log.items x.controllers)
+    ++ (list_member (codes "stands") (stances_before log controllers)
     ++ (number_member (codes "frames") n.frames
     ++ (number_member (codes "bits") n.bits
-    ++ (list_member (codes "gear") (string_bytes x.state) ++ codes "}\n"))))
+    ++ (list_member (codes "gear") state ++ codes "}\n"))))
 
 -- ---------------------------------------------------------------- all of it
 
@@ -95,4 +95,5 @@ left_last x = left_after_all x.lines.items (left_first x)
 abbrev pub story_of : Played → List ℕ
 story_of x =
     head_text x
-    ++ (lines_text x.lines.items (left_first x) ++ end_text x (left_last x).told.counts)
+    ++ (lines_text x.lines.items (left_first x)
+    ++ end_text x.controllers x.log.items (left_last x).told.counts (string_bytes x.state))

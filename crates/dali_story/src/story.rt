@@ -72,16 +72,23 @@ fn push_stands(
     text.push_str("]")
 }
 
-/// The end.
+/// The end: how the controllers stand, what was counted, and the state of gear and tables.
 #[tactic(auto, unfolding(crate::specs::Story::end_text))]
-fn push_end(text: &mut String, played: &Played, counts: &Counts) -> Result<(), AllocError>
-    ensures { OnOk result (string_bytes text.new ≡ string_bytes text.old ++ end_text played.now counts.now) }
+pub fn push_end(
+    text: &mut String,
+    controllers: u8,
+    log: &[Event],
+    counts: &Counts,
+    state: &str,
+) -> Result<(), AllocError>
+    ensures { OnOk result (string_bytes text.new
+        ≡ string_bytes text.old ++ end_text controllers log.now counts.now state.now) }
 {
     text.push_str("{\"end\":true")?;
-    push_stands(text, "stands", played.controllers, &played.log)?;
+    push_stands(text, "stands", controllers, log)?;
     push_number(text, "frames", counts.frames)?;
     push_number(text, "bits", counts.bits)?;
-    push_items(text, "gear", played.state.as_str())?;
+    push_items(text, "gear", state)?;
     text.push_str("}\n")
 }
 
@@ -153,6 +160,12 @@ pub fn story_of(alloc: Global, played: &Played) -> Result<String, AllocError>
     let mut telling = Telling::of(played);
     push_head(&mut text, played, telling.teller.row())?;
     telling.tell_lines(&mut text, &played.lines)?;
-    push_end(&mut text, played, telling.teller.counts())?;
+    push_end(
+        &mut text,
+        played.controllers,
+        &played.log,
+        telling.teller.counts(),
+        played.state.as_str(),
+    )?;
     Ok(text)
 }

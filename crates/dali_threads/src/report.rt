@@ -8,6 +8,7 @@ ghost use Rattle.dali_world.specs.Site.{world};
 
 use dali_line::Outcome;
 use dali_replay::{push_comma, push_gear_lines, push_json_gear, push_json_table, push_table};
+use dali_story::story_of_site;
 use dali_world::SiteState;
 use std::alloc::{AllocError, Global};
 
@@ -181,4 +182,11 @@ pub(crate) fn json_report(
     let mut text = String::new(alloc);
     push_json_run(&mut text, outcomes, site)?;
     Ok(text)
+}
+
+/// The story of the run, with the tables of all controllers that are up.
+pub(crate) fn story(alloc: Global, site: &SiteState) -> Result<String, AllocError> {
+    let mut tables = String::new(alloc);
+    push_json_tables(&mut tables, site)?;
+    story_of_site(alloc, site, tables.as_str())
 }

@@ -11,7 +11,7 @@ ghost use Rattle.dali_threads.specs.declared.setup.ThreadsFault.TheVariants.{Bad
 ghost use Rattle.std.specs.Io.KnownBytes.{Appends};
 
 use crate::draws::drawn;
-use crate::report::{json_report, report};
+use crate::report::{json_report, report, story};
 use crate::setup::{Setup, ThreadsFault};
 use crate::workers::{Left, all_run};
 use arrayvec::ArrayVec;
@@ -140,7 +140,7 @@ fn planned(
 
 /// Runs a worker in a thread of its own for each block, and a pumper, on so many gear from the factory, and writes what
 /// became of them: how each worker ended, the states of all gear, the controllers' tables, and how many gear have a
-/// short address.
+/// short address; or the story of the run.
 ///
 /// The gear draw numbers of a generator from the seed: the same for the same seed, though which controller gives which
 /// address is open.
@@ -154,7 +154,8 @@ pub fn run_threads<R: Threads + Wait + Sync, W: Write>(
         (λ e. IsErrOf result (BadPlan e) × (writer.new ≡ writer.old)) }
     ensures cause { IfErr result (λ fault. (e : PlanError) → fault ≡ BadPlan e
         → refusal_of setup.gear setup.blocks.items [] ≡ Some e) }
-    ensures told { setup.as_json ≡ false → OnOk result (Reports setup.turns setup.surveys (length setup.blocks.items)
+    ensures told { setup.as_json ≡ false → setup.as_story ≡ false
+        → OnOk result (Reports setup.turns setup.surveys (length setup.blocks.items)
         (W.contents writer.old) (W.contents writer.new)) }
 {
     match planned(alloc, setup.gear, setup.blocks.as_slice(), &[]) {
@@ -205,7 +206,8 @@ fn run_on<R: Threads + Wait + Sync, W: Write>(
 ) -> Result<(), ThreadsFault>
     requires { refusal_of setup.now.gear setup.now.blocks.items [] ≡ None }
     ensures cause { IfErr result (λ fault. (e : PlanError) → fault ≡ BadPlan e → ⊥) }
-    ensures told { setup.now.as_json ≡ false → OnOk result (Reports setup.now.turns setup.now.surveys
+    ensures told { setup.now.as_json ≡ false → setup.now.as_story ≡ false
+        → OnOk result (Reports setup.now.turns setup.now.surveys
         (length setup.now.blocks.items) (W.contents writer.old) (W.contents writer.new)) }
 {
     let plan = drawn_plan(alloc, setup, undrawn)?;
@@ -221,7 +223,9 @@ fn run_on<R: Threads + Wait + Sync, W: Write>(
         setup.turns,
         setup.surveys,
     )?;
-    let text = if setup.as_json {
+    let text = if setup.as_story {
+        story(alloc, &site)
+    } else if setup.as_json {
         json_report(alloc, &outcomes, &site)
     } else {
         report(alloc, &outcomes, &site)

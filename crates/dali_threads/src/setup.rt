@@ -20,6 +20,8 @@ pub struct Setup {
     pub surveys: bool,
     /// Whether the report is one line of JSON.
     pub as_json: bool,
+    /// Whether the story of the run is written in the place of a report.
+    pub as_story: bool,
     /// The first and the last short address of each controller's block, 0 to 63.
     pub blocks: ArrayVec<(u8, u8), 4>,
 }

@@ -20,6 +20,7 @@ fn setup(gear: u32, seed: u64, blocks: &[(u8, u8)]) -> Setup {
         turns: 100_000,
         surveys: false,
         as_json: false,
+        as_story: false,
         blocks: list,
     }
 }
@@ -106,6 +107,45 @@ fn one_run_twice<R: Threads + Wait + Sync + Abort + AllocGlobal>(rt: &R) -> Resu
     let text = written(rt, setup(1, 7, &[(0, 3)]))?;
     let json = written(rt, as_json(setup(1, 7, &[(0, 3)])))?;
     one_gear_json(rt, text.as_str(), json.as_str())
+}
+
+/// The same to be run, and told as a story.
+fn as_story(mut setup: Setup) -> Setup {
+    setup.as_story = true;
+    setup
+}
+
+/// A story of one gear begins with the gear as it comes from the factory, has an event of each number, and ends with
+/// what the report as JSON has.
+fn one_gear_story<R: Abort>(rt: &R, story: &str, json: &str) {
+    let head = "{\"story\":1,\"source\":\"threads\",\"controllers\":1,\"gear\":[{\"gear\":0,\"power\":\"on\",\
+        \"state\":\"disabled\",\"random\":\"FFFFFF\",\"search\":\"FFFFFF\",\"short\":null}]}";
+    assert!(rt; story.lines().next() == Some(head));
+    let last = story.lines().last().unwrap_or("");
+    assert!(rt; last.starts_with("{\"end\":true,\"stands\":[\"all-found\"],\"frames\":121,\"bits\":"));
+    let state = json.split(",\"gear\":").nth(1).unwrap_or("?");
+    let state = state.split(",\"addressed\":").next().unwrap_or("?");
+    assert!(rt; last.strip_suffix("}").is_some_and(|it| it.ends_with(state)));
+    let mut events = 0;
+    for line in story.lines().skip(1) {
+        let number = line.strip_prefix("{\"event\":").and_then(|it| it.split(',').next());
+        assert!(rt; line == last || number.and_then(|it| it.parse::<u32>().ok()) == Some(events));
+        events += 1;
+    }
+    assert!(rt; events > 121 * 2);
+}
+
+/// A run of the same seed as a story and as JSON.
+fn one_run_told<R: Threads + Wait + Sync + Abort + AllocGlobal>(rt: &R) -> Result<(), Fail> {
+    let story = written(rt, as_story(setup(1, 7, &[(0, 3)])))?;
+    let json = written(rt, as_json(setup(1, 7, &[(0, 3)])))?;
+    one_gear_story(rt, story.as_str(), json.as_str());
+    Ok(())
+}
+
+#[test]
+fn a_story_has_each_event_and_ends_as_the_report(rt: HostRuntime) -> Result<(), Fail> {
+    one_run_told(&rt)
 }
 
 #[test]
