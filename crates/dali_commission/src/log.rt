@@ -9,8 +9,13 @@ const HEAD: usize = 32;
 
 const FRAME: usize = 24;
 
-/// The first byte of a log that is not emptied.
+/// The first byte of a log, and of one that is emptied.
 const MAGIC: u8 = 0x37;
+
+const EMPTIED: u8 = 0;
+
+/// The page with which each transaction begins that is counted, as each of a store is (`sqlite_wal`).
+const COUNTED: u32 = 0xFF00_0000;
 
 /// The number that stands at a place, its highest byte first.
 fn number_at(bytes: &[u8], at: usize) -> u32
@@ -63,24 +68,26 @@ fn sum_after(head: &[u8; HEAD], before: (u32, u32), frame: &[u8]) -> Option<(u32
     }
 }
 
-/// Whether a transaction ends behind the frames whose checksums hold, and another one begins behind it: all that lies
-/// before that was on the disk then, so it is damaged, and not torn.
+/// Whether another transaction begins behind frames whose checksums do not hold: behind one that ends a transaction, or
+/// with the page that begins one. All that lies before it was on the disk then, so it is damaged, and not torn.
 fn is_broken(head: &[u8; HEAD], frames: &[u8], size: usize) -> bool
     requires { 24 ≤ size }
 {
     let mut sum = Some(numbers_at(head, FRAME));
     let mut is_ended = false;
+    let mut is_behind = false;
     for frame in frames.chunks_exact(size) {
         sum = match sum {
             Some(before) => sum_after(head, before, frame),
             None => None,
         };
         if sum.is_none() && is_of(head, frame) {
-            if is_ended {
+            if is_ended || (is_behind && number_at(frame, 0) == COUNTED) {
                 return true;
             }
             is_ended = number_at(frame, 4) != 0;
         }
+        is_behind = sum.is_none();
     }
     false
 }
@@ -91,7 +98,8 @@ pub(crate) fn is_damaged(log: &[u8]) -> bool {
         return false;
     };
     let size = number_at(&head, 8);
-    if !is_signed(&head) || size > 65536 {
+    let is_log = log[0] == MAGIC || log[0] == EMPTIED;
+    if !is_log || !is_signed(&head) || size > 65536 {
         return log.len() > HEAD + FRAME;
     }
     match log.get(HEAD..) {
