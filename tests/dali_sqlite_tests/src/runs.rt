@@ -118,17 +118,22 @@ fn as_story(mut setup: Setup) -> Setup {
 /// A story of one gear begins with the gear as it comes from the factory, has an event of each number, and ends with
 /// what the report as JSON has.
 fn one_gear_story<R: Abort>(rt: &R, story: &str, json: &str) {
-    let head = "{\"story\":1,\"source\":\"threads\",\"controllers\":1,\"gear\":[{\"gear\":0,\"power\":\"on\",\
+    let head =
+        "{\"story\":1,\"source\":\"threads\",\"controllers\":1,\"gear\":[{\"gear\":0,\"power\":\"on\",\
         \"state\":\"disabled\",\"random\":\"FFFFFF\",\"search\":\"FFFFFF\",\"short\":null}]}";
     assert!(rt; story.lines().next() == Some(head));
     let last = story.lines().last().unwrap_or("");
-    assert!(rt; last.starts_with("{\"end\":true,\"stands\":[\"all-found\"],\"frames\":121,\"bits\":"));
+    assert!(rt;
+        last.starts_with("{\"end\":true,\"stands\":[\"all-found\"],\"frames\":121,\"bits\":")
+    );
     let state = json.split(",\"gear\":").nth(1).unwrap_or("?");
     let state = state.split(",\"addressed\":").next().unwrap_or("?");
     assert!(rt; last.strip_suffix("}").is_some_and(|it| it.ends_with(state)));
     let mut events = 0;
     for line in story.lines().skip(1) {
-        let number = line.strip_prefix("{\"event\":").and_then(|it| it.split(',').next());
+        let number = line
+            .strip_prefix("{\"event\":")
+            .and_then(|it| it.split(',').next());
         assert!(rt; line == last || number.and_then(|it| it.parse::<u32>().ok()) == Some(events));
         events += 1;
     }
