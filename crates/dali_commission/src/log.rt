@@ -31,6 +31,14 @@ fn numbers_at(bytes: &[u8], at: usize) -> (u32, u32)
     (number_at(bytes, at), number_at(bytes, at + 4))
 }
 
+/// Whether these bytes begin as those of a log, or of one that is emptied.
+fn begins_log(log: &[u8]) -> bool {
+    match log {
+        [first, ..] => *first == MAGIC || *first == EMPTIED,
+        [] => false,
+    }
+}
+
 /// The header of a log. Its first byte is another one when the log is emptied.
 fn head_of(log: &[u8]) -> Option<[u8; HEAD]> {
     let mut head = [0; HEAD];
@@ -98,8 +106,7 @@ pub(crate) fn is_damaged(log: &[u8]) -> bool {
         return false;
     };
     let size = number_at(&head, 8);
-    let is_log = log[0] == MAGIC || log[0] == EMPTIED;
-    if !is_log || !is_signed(&head) || size > 65536 {
+    if !begins_log(log) || !is_signed(&head) || size > 65536 {
         return log.len() > HEAD + FRAME;
     }
     match log.get(HEAD..) {
