@@ -1,9 +1,12 @@
 //! The words that a program knows, as a table, of which `clap` makes its command.
 
-ghost use Rattle.std.specs.Prelude.{◌≡◌, ◌++◌, ◌∷◌, [], true, Some, IfOk, IsOkAnd, OnOk};
+ghost use Rattle.std.specs.Prelude.{◌≡◌, ◌++◌, ◌∷◌, [], true, None, Some, IfOk, IsOkAnd, OnOk};
+ghost use Rattle.clap.specs.Texts.{items_of};
+ghost use Rattle.dali_words.specs.Arguments.{is_needed, action_of, tested, value_of, default_of};
+ghost use Rattle.dali_words.specs.Arguments.{IsArgument, AddsArguments};
 
 use clap::builder::ValueParser;
-use clap::{Arg, ArgAction, Command, value_parser};
+use clap::{Arg, ArgAction, Command};
 use std::alloc::{AllocError, Global};
 
 /// The version of all programs.
@@ -77,74 +80,130 @@ pub struct Program {
     pub subcommands: &'static [Subcommand],
 }
 
-/// An option that is there or not, under the name of its word.
-fn flag<'a>(alloc: Global, word: &Word) -> Arg<'a>
-    ensures name { result.id.now ≡ word.now.name.now }
-    ensures there { result.action ≡ Some ArgAction.SetTrue }
+/// Whether a word has to be there.
+fn is_needed(kind: WordKind) -> bool
+    ensures { result ≡ is_needed kind }
 {
-    Arg::new(alloc, word.name)
-        .long(word.name)
-        .action(ArgAction::SetTrue)
-        .help(word.help)
+    match kind {
+        WordKind::Needed(_) | WordKind::NeededAgain | WordKind::Place(_) | WordKind::Places => true,
+        WordKind::Flag
+        | WordKind::NotBeside(_)
+        | WordKind::Option(_)
+        | WordKind::Default(..)
+        | WordKind::Again
+        | WordKind::LastPlace(_) => false,
+    }
+}
+
+/// What a use of a word does.
+fn action_of(kind: WordKind) -> ArgAction
+    ensures { result ≡ action_of kind }
+{
+    match kind {
+        WordKind::Flag | WordKind::NotBeside(_) => ArgAction::SetTrue,
+        WordKind::Again | WordKind::NeededAgain | WordKind::Places => ArgAction::Append,
+        WordKind::Option(_)
+        | WordKind::Needed(_)
+        | WordKind::Default(..)
+        | WordKind::Place(_)
+        | WordKind::LastPlace(_) => ArgAction::Set,
+    }
+}
+
+/// What a value of a word has to be.
+fn value_of(kind: WordKind) -> Value
+    ensures { result ≡ value_of kind }
+{
+    match kind {
+        WordKind::Option(value)
+        | WordKind::Needed(value)
+        | WordKind::Default(value, _)
+        | WordKind::Place(value)
+        | WordKind::LastPlace(value) => value,
+        WordKind::Flag
+        | WordKind::NotBeside(_)
+        | WordKind::Again
+        | WordKind::NeededAgain
+        | WordKind::Places => Value::Text,
+    }
+}
+
+/// What `clap` tests a value for.
+fn tested(value: Value) -> Option<ValueParser<'static>>
+    ensures { result ≡ tested value }
+{
+    match value {
+        Value::Text => None,
+        Value::Among(these) => Some(ValueParser::from(these)),
+        Value::Count => Some(ValueParser::signed(1, 255)),
+        Value::Address => Some(ValueParser::signed(0, 63)),
+        Value::Number32 => Some(ValueParser::signed(0, 4_294_967_295)),
+        Value::Number64 => Some(ValueParser::unsigned(0, u64::MAX)),
+    }
 }
 
 /// The same argument, whose value has to be this.
 fn typed(arg: Arg<'_>, value: Value) -> Arg<'_>
-    ensures { result ≡ record arg.entry { value_parser = result.value_parser } }
+    requires { arg.value_parser ≡ None }
+    ensures { result ≡ record arg.entry { value_parser = tested value } }
 {
-    match value {
-        Value::Text => arg,
-        Value::Among(these) => arg.value_parser(ValueParser::from(these)),
-        Value::Count => arg.value_parser(value_parser!(u8).range(1..)),
-        Value::Address => arg.value_parser(value_parser!(u8).range(0..64)),
-        Value::Number32 => arg.value_parser(value_parser!(u32)),
-        Value::Number64 => arg.value_parser(value_parser!(u64)),
+    match tested(value) {
+        Some(parser) => arg.value_parser(parser),
+        None => arg,
     }
 }
 
-/// An option with a value.
-fn option<'a>(alloc: Global, word: &Word, value: Value) -> Arg<'a>
-    ensures { result.id.now ≡ word.now.name.now }
+/// The same argument, as it is spelled on a line and in the help.
+fn spelled<'a>(arg: Arg<'a>, word: &Word) -> Arg<'a>
+    ensures { result ≡ record arg.entry { long = result.long; val_names = result.val_names } }
 {
-    let arg = Arg::new(alloc, word.name)
-        .long(word.name)
-        .value_name(word.value)
-        .action(ArgAction::Set)
-        .help(word.help);
-    typed(arg, value)
+    match word.kind {
+        WordKind::Flag | WordKind::NotBeside(_) => arg.long(word.name),
+        WordKind::Place(_) | WordKind::LastPlace(_) | WordKind::Places => {
+            arg.value_name(word.value)
+        }
+        WordKind::Option(_)
+        | WordKind::Needed(_)
+        | WordKind::Default(..)
+        | WordKind::Again
+        | WordKind::NeededAgain => arg.long(word.name).value_name(word.value),
+    }
 }
 
-/// A word at its place, which has to be there.
-fn place<'a>(alloc: Global, word: &Word) -> Arg<'a>
-    ensures name { result.id.now ≡ word.now.name.now }
-    ensures needed { result.required ≡ true }
+/// The same argument, with what stands there where it is left out, and how often it may stand there, and beside what.
+fn bounded(arg: Arg<'_>, kind: WordKind) -> Result<Arg<'_>, AllocError>
+    requires { items_of arg.default_vals ≡ [] }
+    ensures { IfOk result (λ made. (items_of made.default_vals ≡ default_of kind)
+        × (made ≡ record arg.entry {
+          default_vals = made.default_vals;
+          num_vals = made.num_vals;
+          conflicts = made.conflicts;
+        })) }
 {
-    Arg::new(alloc, word.name)
-        .value_name(word.value)
-        .required(true)
-        .action(ArgAction::Set)
-        .help(word.help)
+    match kind {
+        WordKind::Default(_, is) => Ok(arg.default_value(is)),
+        WordKind::NotBeside(other) => arg.conflicts_with(other),
+        WordKind::Places => Ok(arg.num_args(1..)),
+        WordKind::Flag
+        | WordKind::Option(_)
+        | WordKind::Needed(_)
+        | WordKind::Again
+        | WordKind::NeededAgain
+        | WordKind::Place(_)
+        | WordKind::LastPlace(_) => Ok(arg),
+    }
 }
 
 /// The argument of `clap` that a word is.
 fn arg<'a>(alloc: Global, word: &Word) -> Result<Arg<'a>, AllocError>
-    ensures { IfOk result (λ arg. arg.id.now ≡ word.now.name.now) }
+    ensures { IfOk result (IsArgument word.now) }
 {
-    match word.kind {
-        WordKind::Flag => Ok(flag(alloc, word)),
-        WordKind::NotBeside(other) => flag(alloc, word).conflicts_with(other),
-        WordKind::Option(value) => Ok(option(alloc, word, value)),
-        WordKind::Needed(value) => Ok(option(alloc, word, value).required(true)),
-        WordKind::Default(value, is) => Ok(option(alloc, word, value).default_value(is)),
-        WordKind::Again => Ok(option(alloc, word, Value::Text).action(ArgAction::Append)),
-        WordKind::NeededAgain => {
-            let arg = option(alloc, word, Value::Text).required(true);
-            Ok(arg.action(ArgAction::Append))
-        }
-        WordKind::Place(value) => Ok(typed(place(alloc, word), value)),
-        WordKind::LastPlace(value) => Ok(typed(place(alloc, word).required(false), value)),
-        WordKind::Places => Ok(place(alloc, word).num_args(1..).action(ArgAction::Append)),
-    }
+    let kind = word.kind;
+    let arg = typed(Arg::new(alloc, word.name), value_of(kind))
+        .action(action_of(kind))
+        .required(is_needed(kind))
+        .help(word.help);
+    bounded(spelled(arg, word), kind)
 }
 
 /// Adds what was made to a list.
@@ -155,12 +214,24 @@ fn add<T: Drop>(list: &mut Vec<T>, made: Result<T, AllocError>) -> Result<(), Al
     Ok(())
 }
 
+/// Adds the arguments that these words are, in their order.
+fn push_args<'a>(args: &mut Vec<Arg<'a>>, alloc: Global, words: &[Word]) -> Result<(), AllocError>
+    ensures { OnOk result (AddsArguments args.old.items words.now args.new.items) }
+{
+    let [word, more @ ..] = words else {
+        return Ok(());
+    };
+    let arg = arg(alloc, word)?;
+    args.push(arg)?;
+    push_args(args, alloc, more)
+}
+
 /// The arguments that these words are, in their order.
-fn args<'a>(alloc: Global, words: &[Word]) -> Result<Vec<Arg<'a>>, AllocError> {
+fn args<'a>(alloc: Global, words: &[Word]) -> Result<Vec<Arg<'a>>, AllocError>
+    ensures { IfOk result (λ args. AddsArguments [] words.now args.items) }
+{
     let mut args = Vec::new(alloc);
-    for word in words {
-        add(&mut args, arg(alloc, word))?;
-    }
+    push_args(&mut args, alloc, words)?;
     Ok(args)
 }
 

@@ -1,8 +1,8 @@
 //! A command line is read, and it is said what is wrong with it.
 
-ghost use Rattle.std.specs.Prelude.{◌≡◌, Some, IfOk, IfSome, string_bytes};
-ghost use Rattle.clap.specs.Words.{subcommand_name_of};
-ghost use Rattle.dali_words.specs.Answered.{answered};
+ghost use Rattle.std.specs.Prelude.{◌≡◌, Some, IfOk, IfSome, option_map, find, bytes_eq, string_bytes};
+ghost use Rattle.clap.specs.Words.{subcommand_name_of, kind_of};
+ghost use Rattle.dali_words.specs.Answered.{answered, kind_of_fault};
 
 use crate::line::{CommandLine, LineFault, NO_SUBCOMMAND};
 use crate::program::{Program, Subcommand, command, command_of};
@@ -16,7 +16,9 @@ use std::io::Eprint;
 
 /// The subcommand of this name.
 fn named(program: &Program, name: &str) -> Option<&'static Subcommand>
-    ensures { IfSome result (λ from. from.now.name.now ≡ name.now) }
+    ensures first { option_map (λ from. from.now) result
+        ≡ find (λ from. bytes_eq from.name.now name.now) program.now.subcommands.now }
+    ensures name { IfSome result (λ from. from.now.name.now ≡ name.now) }
 {
     for from in program.subcommands {
         if from.name == name {
@@ -32,7 +34,9 @@ fn refused(
     program: &Program,
     name: &str,
     wrong: LineFault,
-) -> Result<Error, AllocError> {
+) -> Result<Error, AllocError>
+    ensures kind { IfOk result (λ error. Some (kind_of error) ≡ kind_of_fault wrong) }
+{
     let (kind, message) = match wrong {
         LineFault::Value(message) => (ErrorKind::ValueValidation, message),
         LineFault::TooMany(message) => (ErrorKind::TooManyValues, message),
