@@ -11,7 +11,7 @@ import typing
 
 # The file that has each enum, and the one in which its numbers, names and words stand, where that is another.
 ORDERS, CODES = "crates/dali_script/src/orders.rt", "crates/dali_c/src/codes.rt"
-SAID = "crates/dali_commission_program/src/reports.rt"
+SAID = "crates/dali_commission_program/src/said.rt"
 ENUMS = {
     "AddError": ("crates/dali_script/src/records.rt",),
     "Answer": ("crates/dali_frame/src/frames.rt", CODES),

@@ -189,8 +189,8 @@ fn opened(rt: &HostRuntime, name: &str) -> Result<Connection<FileStore<File>>, F
 fn lent<S: Alter + Drop, B: Borrower>(
     conn: Connection<S>,
     block: Block,
-    borrower: &B,
-) -> Result<(Connection<S>, Result<(), Failure>), Failure> {
+    borrower: B,
+) -> Result<(Connection<S>, Result<B::Out, Failure>), Failure> {
     let mut store = match SqliteKeep::over(conn, block) {
         Ok(store) => store,
         Err(error) => return Err(Failure::Store(StoreFault::Store(error))),
@@ -388,18 +388,23 @@ impl Stores for Files<'_> {
         }
     }
 
-    fn lend<B: Borrower>(&self, name: &str, block: Block, borrower: &B) -> Result<(), Failure> {
+    fn lend<B: Borrower>(&self, name: &str, block: Block, borrower: B) -> Result<B::Out, Failure> {
         let conn = opened(self.rt, name)?;
         let (conn, done) = lent(conn, block, borrower)?;
         let is_closed = closed(self.rt, name, conn);
         match done {
-            Ok(()) if is_closed => Ok(()),
-            Ok(()) => Err(why_failed(self.rt, name, STORE_FAILED)),
+            Ok(out) => {
+                if is_closed {
+                    Ok(out)
+                } else {
+                    Err(why_failed(self.rt, name, STORE_FAILED))
+                }
+            }
             Err(failure) => Err(why_failed(self.rt, name, failure)),
         }
     }
 
-    fn lend_copy<B: Borrower>(&self, name: &str, borrower: &B) -> Result<(), Failure> {
+    fn lend_copy<B: Borrower>(&self, name: &str, borrower: B) -> Result<B::Out, Failure> {
         let mut store = copied(self.rt, name).map_err(failure)?;
         borrower.take(&mut store)
     }
@@ -411,20 +416,25 @@ impl Stores for Files<'_> {
         }
     }
 
-    fn hold<H: Holder>(&self, alloc: Global, names: &[String], holder: &H) -> Result<(), Failure> {
+    fn hold<H: Holder>(
+        &self,
+        alloc: Global,
+        names: &[String],
+        mut holder: H,
+    ) -> Result<H::Out, Failure> {
         let mut open = Vec::new(alloc);
         let mut all = Vec::new(alloc);
-        let done = match open_all(self.rt, names, holder, &mut open, &mut all) {
+        let due = match open_all(self.rt, names, &holder, &mut open, &mut all) {
             Ok(()) => holder.take(&all),
             Err(failure) => Err(failure),
         };
-        let shut = shut_all(self.rt, holder, open);
-        done?;
+        let shut = shut_all(self.rt, &holder, open);
+        let due = due?;
         let _files = shut?;
-        holder.then()
+        holder.then(due)
     }
 
-    fn alone<A: Actor>(&self, name: &str, actor: &A) -> Result<(), Failure> {
+    fn alone<A: Actor>(&self, name: &str, actor: A) -> Result<A::Out, Failure> {
         let file = match fs::File::open(self.rt, name) {
             Ok(file) => file,
             Err(error) => return Err(failure(refused_by(&error))),

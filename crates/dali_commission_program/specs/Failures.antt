@@ -1,4 +1,5 @@
 use Rattle.std.specs.Prelude.{ℕ, Bool, true, false, not, ◌||◌, if◌then◌else◌, List, Result, Ok, Err}
+use Rattle.std.specs.Prelude.{codes}
 use Rattle.dali_script.specs.declared.orders.End.TheVariants as ends
 use Rattle.dali_script.specs.declared.orders.Fault.TheVariants as faults
 use Rattle.dali_reserve.specs.declared.error.KeepError.TheVariants.{StoreFailed}
@@ -9,6 +10,7 @@ use Rattle.dali_commissioning.specs.declared.verdict.Place.{Place}
 use Rattle.dali_commissioning.specs.Places.{are_as_recorded}
 use Rattle.dali_commissioning.specs.declared.fault.CommissionFault.{CommissionFault}
 use Rattle.dali_commissioning.specs.declared.fault.CommissionFault.TheVariants as commission
+use Rattle.dali_console.specs.declared.fault.ConsoleFault.TheVariants.{BadCommandLine, NotText}
 use Rattle.dali_console.specs.declared.fault.ConsoleFault.TheVariants.{Refused}
 use Rattle.dali_console.specs.Status as console
 use Rattle.dali_commission_program.specs.declared.failure.Failure.{Failure}
@@ -25,6 +27,8 @@ use Rattle.dali_commission_program.specs.declared.failure.Failure.TheVariants.{N
 use Rattle.dali_commission_program.specs.declared.failure.Failure.TheVariants.{NotConfirmed}
 use Rattle.dali_commission_program.specs.declared.failure.Failure.TheVariants.{Unfinished}
 use Rattle.dali_commission_program.specs.declared.stores.StoreFault.TheVariants as store
+use Rattle.dali_commission_program.specs.declared.tasks.Task.{Task}
+use Rattle.dali_commission_program.specs.declared.tasks.Task.TheVariants as task
 
 -- THE EXIT STATUSES of the program
 abbrev pub status_of : Failure → ℕ
@@ -43,6 +47,51 @@ status_of (NobodyThere a) = 10
 status_of (NotReplaced a refusal) = 11
 status_of (NotConfirmed a refusal) = 11
 status_of Unfinished = 12
+
+-- what the end of the program is called in an object of JSON
+abbrev pub name_of : Failure → List ℕ
+name_of AddressedBefore = codes "not-begun"
+name_of NotAsRecorded = codes "not-as-recorded"
+name_of (Console BadCommandLine) = codes "bad-command-line"
+name_of (Console NotText) = codes "bad-command-line"
+name_of (Console Refused) = codes "refused"
+name_of (Driver line fault) = codes "driver"
+name_of (Store fault) = codes "records"
+name_of (Outside a) = codes "records"
+name_of BlockFull = codes "block-full"
+name_of GaveUp = codes "gave-up"
+name_of Conflict = codes "conflict"
+name_of Spent = codes "too-many-steps"
+name_of NobodyAnswered = codes "nobody-answered"
+name_of (NobodyThere a) = codes "nobody-answered"
+name_of (NotReplaced a refusal) = codes "not-replaced"
+name_of (NotConfirmed a refusal) = codes "not-confirmed"
+name_of Unfinished = codes "unfinished"
+
+abbrev pub done_name : Task → List ℕ
+done_name (task.Run setup) = codes "all-found"
+done_name (task.Check bounds) = codes "as-recorded"
+done_name (task.Identify a as_json) = codes "shown"
+done_name (task.Table name form) = codes "written"
+done_name (task.Replace wanted) = codes "replaced"
+
+abbrev pub end_name : Task → Result (Unit {0}) Failure → List ℕ
+end_name asked (Ok done) = done_name asked
+end_name asked (Err failure) = name_of failure
+
+-- whether what it came to is to be written as an object of JSON
+abbrev pub wants_json : Task → Bool
+wants_json (task.Run setup) = setup.as_json
+wants_json (task.Check bounds) = bounds.as_json
+wants_json (task.Identify a as_json) = as_json
+wants_json (task.Table name form) = false
+wants_json (task.Replace wanted) = wanted.as_json
+
+-- a result that cannot be written is a failure, where there was none before
+abbrev pub or_refused : Result (Unit {0}) Failure → Bool → Result (Unit {0}) Failure
+or_refused (Ok done) true = Ok done
+or_refused (Ok done) false = Err (Console Refused)
+or_refused (Err failure) told = Err failure
 
 -- what the end of the last machine is to the program: where no gear was heard it is none
 abbrev pub ended_as : Ended → Bool → Result (Unit {0}) Failure

@@ -1,59 +1,81 @@
 //! `check`: it is said who answers, beside the records.
 
+ghost use Rattle.std.specs.Prelude.{◌≡◌, Result, IfOk};
+ghost use Rattle.dali_commissioning.specs.declared.beginning.Checked.{Checked};
+ghost use Rattle.dali_commissioning.specs.declared.fault.CommissionFault.{CommissionFault};
+ghost use Rattle.dali_commissioning.specs.Drivers.{talk_of, has_heard, lines_of};
+ghost use Rattle.dali_commissioning.specs.Runs.{IsChecked};
+ghost use Rattle.dali_commission_program.specs.Came.{check_ended, check_said, check_places};
+
 use crate::failure::{Failure, checked, failure_of};
 use crate::records::lend_copy;
-use crate::report::Report;
-use crate::reports::{say_checked, say_line};
+use crate::report::{Came, Report};
 use crate::stores::{Borrower, Stores};
 use crate::tasks::Bounds;
-use dali_commissioning::{Checked, DriverLink, check, places};
+use dali_commissioning::{Checked, CommissionFault, DriverLink, check};
 use dali_reserve::{Keep, MemoryKeep};
 use dali_script::Block;
-use std::cell::RefCell;
 use std::io;
-use std::io::Eprint;
+use std::io::{Eprint, Read, Write};
+
+/// What a check comes to that found this, or could not be made, at this line of the driver; and whether any gear was
+/// heard.
+fn came_of(
+    found: &Result<Checked, CommissionFault>,
+    others: &[Block],
+    has_heard: bool,
+    line: u64,
+) -> Came
+    ensures ended { result.ended ≡ check_ended found.now others.now has_heard line }
+    ensures said { result.report.said.items ≡ check_said found.now others.now }
+    ensures places { result.report.places.items ≡ check_places found.now others.now }
+{
+    match found {
+        Ok(found) => {
+            let report = Report::of_check(found, others);
+            let ended = checked(&report.places, found.has_unaddressed, has_heard);
+            Came { report, ended }
+        }
+        Err(fault) => Came {
+            report: Report::new(),
+            ended: Err(failure_of(*fault, line)),
+        },
+    }
+}
+
+/// Asks which gear answer, beside these records.
+fn checked_over<K: Keep, R: Read, W: Write>(
+    store: &mut K,
+    driver: &mut DriverLink<R, W>,
+    others: &[Block],
+) -> Came
+    ensures { (found : Result Checked CommissionFault)
+        × IfOk found (IsChecked K.is_up K.is_sound K.holds (K.block store.old) others.now store.old store.new
+        (talk_of R.remaining W.contents driver.old) (talk_of R.remaining W.contents driver.new))
+        × (result.ended ≡ check_ended found others.now (has_heard driver.new) (lines_of driver.new))
+        × (result.report.said.items ≡ check_said found others.now)
+        × (result.report.places.items ≡ check_places found others.now) }
+{
+    let found = check(store, driver, others);
+    came_of(&found, others, driver.has_heard(), driver.lines())
+}
 
 /// Who says which gear answer.
 #[derive(Drop)]
 struct Checking<'a, S> {
     system: &'a S,
     bounds: &'a Bounds,
-    report: &'a RefCell<Report>,
-}
-
-impl<S: Input + Print + Eprint + AllocGlobal> Checking<'_, S> {
-    /// Says where all gear stand, and notes it.
-    fn say(&self, found: &Checked, has_heard: bool) -> Result<(), Failure> {
-        let places = places(&found.kept, &self.bounds.others, &found.replies);
-        say_checked(self.system, &found.kept, &places, found.has_unaddressed);
-        let ended = checked(&places, found.has_unaddressed, has_heard);
-        if let Ok(mut report) = self.report.try_borrow_mut() {
-            report.has_unaddressed = Some(found.has_unaddressed);
-            report.note_table(&found.kept);
-            report.places = places;
-        }
-        ended
-    }
-
-    /// Says which gear answer, beside these records.
-    fn check<K: Keep>(&self, store: &mut K) -> Result<(), Failure> {
-        let system = self.system;
-        let mut driver = DriverLink::new(system.alloc(), system.reader(), io::writer(system));
-        let ended = match check(store, &mut driver, &self.bounds.others) {
-            Ok(found) => self.say(&found, driver.has_heard()),
-            Err(fault) => Err(failure_of(fault, driver.lines())),
-        };
-        say_line(system, &ended, driver.line());
-        if let Ok(mut report) = self.report.try_borrow_mut() {
-            report.frames = driver.lines();
-        }
-        ended
-    }
+    report: &'a mut Report,
 }
 
 impl<S: Input + Print + Eprint + AllocGlobal> Borrower for Checking<'_, S> {
-    fn take<K: Keep>(&self, store: &mut K) -> Result<(), Failure> {
-        self.check(store)
+    type Out = ();
+
+    fn take<K: Keep>(self, store: &mut K) -> Result<(), Failure> {
+        let system = self.system;
+        let mut driver = DriverLink::new(system.alloc(), system.reader(), io::writer(system));
+        let came = checked_over(store, &mut driver, &self.bounds.others);
+        came.told(system, &driver, self.report)
     }
 }
 
@@ -62,7 +84,7 @@ pub(crate) fn checks<S, F>(
     system: &S,
     stores: &F,
     bounds: &Bounds,
-    report: &RefCell<Report>,
+    report: &mut Report,
 ) -> Result<(), Failure>
 where
     S: Input + Print + Eprint + AllocGlobal,
@@ -74,7 +96,7 @@ where
         report,
     };
     match &bounds.records {
-        Some(name) => lend_copy(system.alloc(), stores, name, &checking),
-        None => checking.check(&mut MemoryKeep::new(Block::ALL)),
+        Some(name) => lend_copy(system.alloc(), stores, name, checking),
+        None => checking.take(&mut MemoryKeep::new(Block::ALL)),
     }
 }

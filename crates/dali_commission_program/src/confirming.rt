@@ -3,15 +3,16 @@
 use crate::failure::{Failure, failure_of};
 use crate::progress::Manner;
 use crate::report::Report;
-use crate::reports::say_not_there;
+use crate::reports::{Which, push_places};
+use crate::said::{Said, say};
 use crate::tasks::Replacement;
+use arrayvec::ArrayVec;
 use dali_commissioning::{DriverLink, Reply, ask};
 use dali_frame::Short;
 use dali_replacement::{
     Come, Confirmed, OthersThere, Permit, ReplaceFault, ReplaceRefusal, Standing, Vacant,
 };
 use dali_script::Kept;
-use std::cell::RefCell;
 use std::io::{Eprint, Read, Write};
 
 /// Why a luminaire is not replaced, at this line of the driver.
@@ -28,19 +29,12 @@ pub(crate) struct Asking<'a, S> {
     pub system: &'a S,
     pub wanted: &'a Replacement,
     pub is_terminal: bool,
-    pub report: &'a RefCell<Report>,
 }
 
 impl<S: Eprint> Asking<'_, S> {
     /// How is said how far it is.
     pub fn manner(&self) -> Manner {
-        if self.wanted.is_quiet {
-            Manner::Quiet
-        } else if self.is_terminal {
-            Manner::Rewritten
-        } else {
-            Manner::Plain
-        }
+        Manner::of(self.wanted.is_quiet, self.is_terminal)
     }
 
     fn refused<R: Read, W: Write>(
@@ -52,10 +46,12 @@ impl<S: Eprint> Asking<'_, S> {
     }
 
     /// Says where others than recorded stand.
-    fn say_missing(&self, standing: &Standing) -> Failure {
-        say_not_there(self.system, standing.places());
-        if let Ok(mut report) = self.report.try_borrow_mut() {
-            report.note_places(standing.places());
+    fn say_missing(&self, standing: &Standing, report: &mut Report) -> Failure {
+        report.note_wrong(standing.places());
+        let mut wrong = ArrayVec::new();
+        push_places(&mut wrong, Which::Wrong, 0, &report.places);
+        for said in wrong.iter() {
+            say(self.system, said);
         }
         Failure::NotReplaced(self.wanted.short, ReplaceRefusal::NotThere)
     }
@@ -67,9 +63,10 @@ impl<S: Eprint> Asking<'_, S> {
         driver: &mut DriverLink<R, W>,
         come: Come,
         table: Kept,
+        report: &mut Report,
     ) -> Result<OthersThere, Failure> {
         if self.manner() != Manner::Quiet {
-            let _ = eprintln!(self.system; "asking the luminaires of the tables");
+            say(self.system, &Said::AsksTables);
         }
         let vacant = match Vacant::ask(driver, self.wanted.short, come) {
             Ok(vacant) => vacant,
@@ -82,7 +79,7 @@ impl<S: Eprint> Asking<'_, S> {
         if standing.are_there(&self.wanted.missing) {
             Ok(vacant.beside(standing, &self.wanted.missing))
         } else if driver.has_heard() {
-            Err(self.say_missing(&standing))
+            Err(self.say_missing(&standing, report))
         } else {
             Err(Failure::NobodyAnswered)
         }
@@ -127,18 +124,11 @@ impl<S: Eprint> Asking<'_, S> {
         }
     }
 
-    /// Notes how many frames were put.
-    pub fn note_frames(&self, lines: u64) {
-        if let Ok(mut report) = self.report.try_borrow_mut() {
-            report.frames = lines;
-        }
-    }
-
     /// Says which gear has the short address, and how many are in each new table.
     pub fn say_confirmed(&self, confirmed: &Confirmed, count: usize) {
-        let (number, random) = (confirmed.short().number(), confirmed.random());
-        let _ = eprintln!(self.system;
-            "{number} {random} the new luminaire has the address; {count} gear are in each table"
+        say(
+            self.system,
+            &Said::Replaced(confirmed.short(), confirmed.random(), count),
         );
     }
 }

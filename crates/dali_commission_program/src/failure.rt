@@ -1,7 +1,7 @@
 //! Why the program ends without having done what was asked for, and its exit statuses.
 
-ghost use Rattle.std.specs.Prelude.{◌≡◌};
-ghost use Rattle.dali_commission_program.specs.Failures.{ended_as, checked, failure_of};
+ghost use Rattle.std.specs.Prelude.{◌≡◌, ◌++◌, ◌∷◌, [], OnOk};
+ghost use Rattle.dali_commission_program.specs.Failures.{name_of, ended_as, checked, failure_of};
 
 use crate::stores::StoreFault;
 use dali_commissioning::{CommissionFault, DriverFault, Ended, Place, are_as_recorded};
@@ -10,7 +10,11 @@ use dali_frame::Short;
 use dali_replacement::ReplaceRefusal;
 use dali_reserve::KeepError;
 use dali_script::{End, Fault};
+use std::alloc::AllocError;
 use std::fmt;
+
+/// Memory, or the output, is refused.
+pub(crate) const REFUSED: Failure = Failure::Console(ConsoleFault::Refused);
 
 /// Why the program ends without having done what was asked for.
 #[derive(Clone, Copy)]
@@ -45,6 +49,17 @@ pub enum Failure {
     NotConfirmed(Short, ReplaceRefusal),
     /// Status 12: the files of a site are being replaced.
     Unfinished,
+}
+
+impl From<AllocError> for Failure {
+    ghost use Rattle.dali_commission_program.specs.declared.failure.Failure.TheVariants.{Console};
+    ghost use Rattle.dali_console.specs.declared.fault.ConsoleFault.TheVariants.{Refused};
+
+    ghost from_gives = { λ _ f. f ≡ Console Refused };
+
+    fn from(_error: AllocError) -> Failure {
+        REFUSED
+    }
 }
 
 /// What is said of it on standard error.
@@ -102,7 +117,9 @@ impl fmt::Display for Failure {
 
 impl Failure {
     /// What it is called in an object of JSON.
-    pub(crate) fn name(&self) -> &'static str {
+    pub(crate) fn name(&self) -> &'static str
+        ensures { result.now ≡ name_of self.now }
+    {
         match self {
             Failure::AddressedBefore => "not-begun",
             Failure::NotAsRecorded => "not-as-recorded",
@@ -142,6 +159,16 @@ impl Failed for Failure {
             Failure::NotReplaced(..) | Failure::NotConfirmed(..) => 11,
             Failure::Unfinished => 12,
         }
+    }
+}
+
+/// Adds something to a list.
+pub(crate) fn add<T: Drop>(list: &mut Vec<T>, item: T) -> Result<(), Failure>
+    ensures { OnOk result (list.new.items ≡ list.old.items ++ item ∷ []) }
+{
+    match list.push(item) {
+        Ok(()) => Ok(()),
+        Err(_) => Err(REFUSED),
     }
 }
 

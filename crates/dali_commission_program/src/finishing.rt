@@ -1,21 +1,19 @@
 //! An exchange of files that an earlier call has begun is brought to its end, and the bus is asked what is there.
 
 use crate::confirming::Asking;
-use crate::failure::Failure;
-use crate::records::{Copying, lend_copy};
-use crate::reports::say_line;
-use crate::settling::{Settling, beside, found, say_refused};
+use crate::failure::{Failure, add};
+use crate::records::{Reading, lend_copy};
+use crate::report::Report;
+use crate::reports::wrote_said;
+use crate::said::{Said, say, say_refused};
+use crate::settling::{Settling, found};
 use crate::stores::Stores;
 use dali_commissioning::DriverLink;
-use dali_console::ConsoleFault;
 use dali_frame::Short;
 use dali_replacement::{Come, Confirmed, ReplaceRefusal, Swap, gathered, kept_of};
 use dali_script::Kept;
-use std::cell::RefCell;
 use std::io;
 use std::io::{Eprint, Read, Write};
-
-const REFUSED: Failure = Failure::Console(ConsoleFault::Refused);
 
 /// The records of this name, as a copy of them has them.
 pub(crate) fn read<S: Eprint + AllocGlobal, F: Stores>(
@@ -23,25 +21,17 @@ pub(crate) fn read<S: Eprint + AllocGlobal, F: Stores>(
     stores: &F,
     name: &str,
 ) -> Result<Kept, Failure> {
-    let into = RefCell::new(Vec::new(system.alloc()));
-    let copying = Copying { into: &into };
-    if let Err(failure) = lend_copy(system.alloc(), stores, name, &copying) {
-        return Err(say_refused(system, name, failure));
-    }
-    match into.try_borrow_mut() {
-        Ok(mut all) => match all.pop() {
-            Some(kept) => Ok(kept),
-            None => Err(REFUSED),
-        },
-        Err(_) => Err(REFUSED),
+    match lend_copy(system.alloc(), stores, name, Reading) {
+        Ok(kept) => Ok(kept),
+        Err(failure) => Err(say_refused(system, name, failure)),
     }
 }
 
 /// Says where the old files are kept.
 pub(crate) fn say_kept<S: Eprint + AllocGlobal>(system: &S, swap: &Swap) -> Result<(), Failure> {
     for name in swap.names() {
-        let kept = beside(kept_of(system.alloc(), name, swap.number()))?;
-        let _ = eprintln!(system; "{name}: the old file is kept as {kept}");
+        let kept = kept_of(system.alloc(), name, swap.number())?;
+        say(system, &Said::KeptAs(name, &kept));
     }
     Ok(())
 }
@@ -57,19 +47,13 @@ fn finishes<S: Eprint + AllocGlobal, F: Stores>(
         system,
         stores,
         swap,
-        is_done: RefCell::new(false),
     };
     let is_done = settling.settle()?;
-    let number = swap.short().number();
     if is_done {
-        let _ = eprintln!(system;
-            "short address {number}: the files that an earlier call began to exchange are exchanged now"
-        );
+        say(system, &Said::Exchanged(swap.short()));
         let _ = say_kept(system, swap);
     } else {
-        let _ = eprintln!(system;
-            "short address {number}: a replacement was stopped before it changed a file; it is gone on with"
-        );
+        say(system, &Said::TakenBack(swap.short()));
     }
     Ok(is_done)
 }
@@ -101,6 +85,7 @@ fn heard<S: Eprint, R: Read, W: Write>(
     asking: &Asking<'_, S>,
     driver: &mut DriverLink<R, W>,
     tables: &[Kept],
+    report: &mut Report,
 ) -> Result<Confirmed, Failure> {
     let short = asking.wanted.short;
     let random = match tables.first() {
@@ -114,7 +99,7 @@ fn heard<S: Eprint, R: Read, W: Write>(
         Ok(table) => table,
         Err(other) => return Err(Failure::NotReplaced(other, ReplaceRefusal::Disagree)),
     };
-    let others = asking.others_there(driver, Come::Given(random), table)?;
+    let others = asking.others_there(driver, Come::Given(random), table, report)?;
     asking.confirm(driver, others, tables)
 }
 
@@ -131,6 +116,7 @@ pub(crate) fn confirms<S, F>(
     asking: &Asking<'_, S>,
     stores: &F,
     swap: &Swap,
+    report: &mut Report,
 ) -> Result<Confirmed, Failure>
 where
     S: Input + Print + Eprint + AllocGlobal,
@@ -139,13 +125,11 @@ where
     let system = asking.system;
     let mut tables = Vec::new(system.alloc());
     for name in swap.names() {
-        if tables.push(read(system, stores, name)?).is_err() {
-            return Err(REFUSED);
-        }
+        add(&mut tables, read(system, stores, name)?)?;
     }
     let mut driver = DriverLink::new(system.alloc(), system.reader(), io::writer(system));
-    let heard = heard(asking, &mut driver, &tables);
-    asking.note_frames(driver.lines());
+    let heard = heard(asking, &mut driver, &tables, report);
+    report.frames = driver.lines();
     match heard {
         Ok(confirmed) => {
             if let Some(table) = tables.first() {
@@ -154,7 +138,9 @@ where
             Ok(confirmed)
         }
         Err(failure) => {
-            say_line(system, &Err(failure), driver.line());
+            if let Some(said) = wrote_said(Err(failure), driver.line()) {
+                say(system, &said);
+            }
             Err(although_exchanged(failure))
         }
     }

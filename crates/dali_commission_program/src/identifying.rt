@@ -1,11 +1,14 @@
 //! `identify`: a gear goes bright and dark.
 
+ghost use Rattle.std.specs.Prelude.{◌≡◌, false, OnOk};
+ghost use Rattle.dali_commissioning.specs.declared.census.Reply.{Reply};
+ghost use Rattle.dali_commissioning.specs.Census.{IsAnswered, is_silent};
+ghost use Rattle.dali_commissioning.specs.Drivers.{talk_of};
+
 use crate::failure::{Failure, failure_of};
-use crate::report::Report;
-use crate::reports::say_line;
+use crate::report::{Came, Report};
 use dali_commissioning::{CommissionFault, DriverLink, Reply, ask, light, light_at_last};
 use dali_frame::Short;
-use std::cell::RefCell;
 use std::io::{Eprint, Read, Write};
 use std::time::{Clock, Duration};
 use std::{io, thread};
@@ -53,6 +56,33 @@ fn blinks<S: Clock, R: Read, W: Write>(
     lit(driver, short, BRIGHT)
 }
 
+fn is_silent(reply: Reply) -> bool
+    ensures { result ≡ is_silent reply }
+{
+    match reply {
+        Reply::Silence => true,
+        Reply::Noise | Reply::Unclear | Reply::Random(_) | Reply::Several => false,
+    }
+}
+
+/// Somebody answers to a short address; or why the gear is not shown.
+fn is_there<R: Read, W: Write>(driver: &mut DriverLink<R, W>, short: Short) -> Result<(), Failure>
+    ensures { OnOk result ((heard : Reply) × IsAnswered short heard
+        (talk_of R.remaining W.contents driver.old) (talk_of R.remaining W.contents driver.new)
+        × (is_silent heard ≡ false)) }
+{
+    match ask(driver, short) {
+        Ok(reply) => {
+            if is_silent(reply) {
+                Err(Failure::NobodyThere(short))
+            } else {
+                Ok(())
+            }
+        }
+        Err(fault) => Err(failure_of(fault, driver.lines())),
+    }
+}
+
 /// Makes it so where somebody answers. Where that ends early, the last line is the one that makes it bright: the
 /// launcher passes it on when it was interrupted.
 fn shows<S: Clock, R: Read, W: Write>(
@@ -60,11 +90,7 @@ fn shows<S: Clock, R: Read, W: Write>(
     driver: &mut DriverLink<R, W>,
     short: Short,
 ) -> Result<(), Failure> {
-    match ask(driver, short) {
-        Ok(Reply::Silence) => return Err(Failure::NobodyThere(short)),
-        Ok(Reply::Noise | Reply::Unclear | Reply::Random(_) | Reply::Several) => {}
-        Err(fault) => return Err(failure_of(fault, driver.lines())),
-    }
+    is_there(driver, short)?;
     let shown = blinks(system, driver, short);
     if shown.is_err() {
         let _ = light_at_last(driver, short, BRIGHT);
@@ -76,13 +102,14 @@ fn shows<S: Clock, R: Read, W: Write>(
 pub(crate) fn identify<S: Input + Print + Eprint + AllocGlobal + Clock>(
     system: &S,
     short: Short,
-    report: &RefCell<Report>,
+    report: &mut Report,
 ) -> Result<(), Failure> {
     let mut driver = DriverLink::new(system.alloc(), system.reader(), io::writer(system));
-    let shown = shows(system, &mut driver, short);
-    say_line(system, &shown, driver.line());
-    if let Ok(mut report) = report.try_borrow_mut() {
-        report.frames = driver.lines();
+    let ended = shows(system, &mut driver, short);
+    let report_of = Report::new();
+    Came {
+        report: report_of,
+        ended,
     }
-    shown
+    .told(system, &driver, report)
 }

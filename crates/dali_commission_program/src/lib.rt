@@ -14,6 +14,7 @@ mod replacing;
 mod report;
 mod reports;
 mod running;
+mod said;
 mod settling;
 mod stores;
 mod table;

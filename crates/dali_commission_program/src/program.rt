@@ -1,33 +1,34 @@
 //! The program: what it reads of the system, does, and says.
 
-ghost use Rattle.std.specs.Prelude.{OnOk};
+ghost use Rattle.std.specs.Prelude.{◌≡◌, true, false, IsTrue, OnOk};
 ghost use Rattle.std.specs.Io.KnownBytes.{Appends};
+ghost use Rattle.dali_console.specs.Status.{status_after};
+ghost use Rattle.dali_commission_program.specs.Failures.{status_of, done_name, end_name, or_refused, wants_json};
+ghost use Rattle.dali_commission_program.specs.Json.{report_text};
 ghost use Rattle.dali_commission_program.specs.Tables.{table_text};
 
 use crate::checking::checks;
-use crate::failure::Failure;
+use crate::failure::{Failure, REFUSED};
 use crate::identifying::identify;
 use crate::json::write_report;
 use crate::records::{kept, lend, lend_copy};
 use crate::replacing::{note_first, replaces};
 use crate::report::Report;
 use crate::running::Running;
+use crate::said::{say, why_said};
 use crate::stores::{Borrower, Stores};
 use crate::table::push_table;
 use crate::tasks::{TableForm, Task};
 use crate::words::{PROGRAM, task_of};
-use dali_console::{ConsoleFault, Failed};
+use dali_console::Failed;
 use dali_reserve::Keep;
 use dali_script::Kept;
 use dali_words::asked;
 use std::alloc::Global;
-use std::cell::RefCell;
 use std::env::Env;
 use std::io;
 use std::io::{Eprint, Write};
 use std::time::Clock;
-
-const REFUSED: Failure = Failure::Console(ConsoleFault::Refused);
 
 /// Writes the table of the gear that are enrolled.
 fn write_table<W: Write>(
@@ -54,7 +55,9 @@ struct Writing<'a, S> {
 }
 
 impl<S: Print + AllocGlobal> Borrower for Writing<'_, S> {
-    fn take<K: Keep>(&self, store: &mut K) -> Result<(), Failure> {
+    type Out = ();
+
+    fn take<K: Keep>(self, store: &mut K) -> Result<(), Failure> {
         let (alloc, mut writer) = (self.system.alloc(), io::writer(self.system));
         write_table(alloc, &mut writer, self.form, &kept(store)?)
     }
@@ -66,12 +69,13 @@ fn does<S, F>(
     stores: &F,
     is_terminal: bool,
     task: &Task,
-    report: &RefCell<Report>,
+    report: &mut Report,
 ) -> Result<(), Failure>
 where
     S: Input + Print + Eprint + AllocGlobal + Clock,
     F: Stores,
 {
+    let alloc = system.alloc();
     match task {
         Task::Run(setup) => {
             let running = Running {
@@ -80,26 +84,17 @@ where
                 is_terminal,
                 report,
             };
-            lend(
-                system.alloc(),
-                stores,
-                &setup.records,
-                &setup.block,
-                &running,
-            )
+            lend(alloc, stores, &setup.records, &setup.block, running)
         }
         Task::Check(bounds) => checks(system, stores, bounds, report),
         Task::Identify(short, _) => identify(system, *short, report),
         Task::Table(name, form) => {
-            let writing = Writing {
-                system,
-                form: *form,
-            };
-            lend_copy(system.alloc(), stores, name, &writing)
+            let form = *form;
+            lend_copy(alloc, stores, name, Writing { system, form })
         }
         Task::Replace(wanted) => {
             let _heard = replaces(system, stores, is_terminal, wanted, report)?;
-            note_first(system.alloc(), stores, wanted, report);
+            note_first(alloc, stores, wanted, report);
             Ok(())
         }
     }
@@ -120,7 +115,9 @@ fn records_of(task: &Task) -> Option<&str> {
 }
 
 /// Whether what a task came to is to be written as JSON.
-fn wants_json(task: &Task) -> bool {
+fn wants_json(task: &Task) -> bool
+    ensures { result ≡ wants_json task.now }
+{
     match task {
         Task::Run(setup) => setup.as_json,
         Task::Check(bounds) => bounds.as_json,
@@ -130,19 +127,10 @@ fn wants_json(task: &Task) -> bool {
     }
 }
 
-/// Says on standard error why the program ended, where `clap` has not said it, nor where the file was found that cannot
-/// be had. What is said changes nothing, also where it cannot be said.
-fn say_why<S: Eprint>(system: &S, failure: &Failure, records: Option<&str>) {
-    let _ = match (failure, records) {
-        (Failure::Console(ConsoleFault::BadCommandLine), _) => Ok(()),
-        (Failure::Store(fault), Some(name)) => eprintln!(system; "error: {name}: {fault}"),
-        (Failure::Store(_), None) => Ok(()),
-        _ => eprintln!(system; "{failure}"),
-    };
-}
-
 /// What the end of a task is called that has done what was asked for.
-fn done_name(task: &Task) -> &'static str {
+fn done_name(task: &Task) -> &'static str
+    ensures { result.now ≡ done_name task.now }
+{
     match task {
         Task::Run(_) => "all-found",
         Task::Check(_) => "as-recorded",
@@ -153,14 +141,18 @@ fn done_name(task: &Task) -> &'static str {
 }
 
 /// What the end of a task is called: done, or why it ended before.
-fn end_name(task: &Task, ended: &Result<(), Failure>) -> &'static str {
+fn end_name(task: &Task, ended: &Result<(), Failure>) -> &'static str
+    ensures { result.now ≡ end_name task.now ended.now }
+{
     match ended {
         Ok(()) => done_name(task),
         Err(failure) => failure.name(),
     }
 }
 
-fn status(ended: &Result<(), Failure>) -> u8 {
+fn status(ended: &Result<(), Failure>) -> u8
+    ensures { result ≡ status_after status_of ended.now }
+{
     match ended {
         Ok(()) => 0,
         Err(failure) => failure.status(),
@@ -168,32 +160,29 @@ fn status(ended: &Result<(), Failure>) -> u8 {
 }
 
 /// Writes what a task came to as JSON, if that is asked for. Whether it is written.
-fn is_told<S: Print + AllocGlobal>(
-    system: &S,
+fn is_told<W: Write>(
+    alloc: Global,
+    writer: &mut W,
     task: &Task,
-    report: &RefCell<Report>,
+    report: &Report,
     ended: &Result<(), Failure>,
-) -> bool {
-    if !wants_json(task) {
-        return true;
-    }
-    match report.try_borrow() {
-        Ok(report) => {
-            let end = end_name(task, ended);
-            write_report(
-                system.alloc(),
-                &mut io::writer(system),
-                &report,
-                end,
-                status(ended),
-            )
-        }
-        Err(_) => false,
+) -> bool
+    ensures told { IsTrue result → wants_json task.now ≡ true
+        → Appends (W.contents writer.old) (W.contents writer.new)
+        (report_text (end_name task.now ended.now) (status_after status_of ended.now) report.now) }
+    ensures not_told { wants_json task.now ≡ false → (result ≡ true) × (writer.new ≡ writer.old) }
+{
+    if wants_json(task) {
+        write_report(alloc, writer, report, end_name(task, ended), status(ended))
+    } else {
+        true
     }
 }
 
 /// A result that cannot be written is a failure where there was none before.
-fn or_refused(ended: Result<(), Failure>, is_told: bool) -> Result<(), Failure> {
+fn or_refused(ended: Result<(), Failure>, is_told: bool) -> Result<(), Failure>
+    ensures { result ≡ or_refused ended is_told }
+{
     match ended {
         Ok(()) => { if is_told { Ok(()) } else { Err(REFUSED) } }
         Err(failure) => Err(failure),
@@ -211,14 +200,22 @@ where
     S: Input + Print + Eprint + AllocGlobal + Clock,
     F: Stores,
 {
-    let report = RefCell::new(Report::new());
-    let done = does(system, stores, is_terminal, task, &report);
-    let is_told = is_told(system, task, &report, &done);
+    let mut report = Report::new();
+    let done = does(system, stores, is_terminal, task, &mut report);
+    let (alloc, mut writer) = (system.alloc(), io::writer(system));
+    let is_told = is_told(alloc, &mut writer, task, &report, &done);
     let ended = or_refused(done, is_told);
     if let Err(failure) = &ended {
         say_why(system, failure, records_of(task));
     }
     ended
+}
+
+/// Says why the program ended, where that wants to be said.
+fn say_why<S: Eprint>(system: &S, failure: &Failure, records: Option<&str>) {
+    if let Some(said) = why_said(*failure, records) {
+        say(system, &said);
+    }
 }
 
 /// Does what the words of the command line ask for, and says on standard error why it ended before its end. The driver

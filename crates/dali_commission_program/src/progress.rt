@@ -1,7 +1,11 @@
 //! How far the machines are, as it is said on standard error.
 
+ghost use Rattle.std.specs.Prelude.{◌≡◌};
+ghost use Rattle.dali_commission_program.specs.Progress.{aim_after, far_after, is_told, first_aim};
+
+use crate::said::{Said, say};
 use dali_commissioning::Watch;
-use dali_frame::{Forward, Random24, Short};
+use dali_frame::{Random24, Short};
 use dali_script::{Input, Order, Record};
 use dali_special::Command;
 use std::fmt;
@@ -18,9 +22,20 @@ pub enum Manner {
     Rewritten,
 }
 
+impl Manner {
+    /// That of a call.
+    pub fn of(is_quiet: bool, is_terminal: bool) -> Manner {
+        match (is_quiet, is_terminal) {
+            (true, _) => Manner::Quiet,
+            (false, true) => Manner::Rewritten,
+            (false, false) => Manner::Plain,
+        }
+    }
+}
+
 /// Whom a frame is about.
 #[derive(Clone, Copy)]
-enum Whom {
+pub enum Whom {
     /// All gear.
     All,
     /// The gear with a short address.
@@ -32,39 +47,57 @@ enum Whom {
 /// Whom the frames were about that were put last, with the search address.
 #[derive(Clone, Copy)]
 pub struct Aim {
-    whom: Whom,
-    high: u8,
-    middle: u8,
-    low: u8,
+    pub whom: Whom,
+    pub high: u8,
+    pub middle: u8,
+    pub low: u8,
 }
 
 impl Aim {
     /// Before the first frame.
-    fn new() -> Aim {
-        Aim {
-            whom: Whom::All,
-            high: 0xFF,
-            middle: 0xFF,
-            low: 0xFF,
-        }
-    }
+    const FIRST: Aim = Aim {
+        whom: Whom::All,
+        high: 0xFF,
+        middle: 0xFF,
+        low: 0xFF,
+    };
 
-    /// One more frame was put.
-    fn follow(&mut self, frame: Forward) {
-        match Command::read(frame) {
-            Command::SearchHigh(byte) => {
-                self.high = byte;
-                self.whom = Whom::Search;
-            }
-            Command::SearchMiddle(byte) => {
-                self.middle = byte;
-                self.whom = Whom::Search;
-            }
-            Command::SearchLow(byte) => {
-                self.low = byte;
-                self.whom = Whom::Search;
-            }
-            Command::RandomByte(short, _) => self.whom = Whom::Address(short),
+    /// Once a frame more was put.
+    fn after(self, command: Command) -> Aim
+        ensures { result ≡ aim_after command self }
+    {
+        let Aim {
+            whom: _,
+            high,
+            middle,
+            low,
+        } = self;
+        let whom = Whom::Search;
+        match command {
+            Command::SearchHigh(high) => Aim {
+                whom,
+                high,
+                middle,
+                low,
+            },
+            Command::SearchMiddle(middle) => Aim {
+                whom,
+                high,
+                middle,
+                low,
+            },
+            Command::SearchLow(low) => Aim {
+                whom,
+                high,
+                middle,
+                low,
+            },
+            Command::RandomByte(short, _) => Aim {
+                whom: Whom::Address(short),
+                high,
+                middle,
+                low,
+            },
             Command::Terminate
             | Command::Initialise(_)
             | Command::Randomise
@@ -74,7 +107,7 @@ impl Aim {
             | Command::Verify(_)
             | Command::QueryShort
             | Command::Arc(_)
-            | Command::Other(_) => {}
+            | Command::Other(_) => self,
         }
     }
 }
@@ -95,51 +128,118 @@ impl fmt::Display for Aim {
     }
 }
 
+/// How far the machines are: how many gear were enrolled, how many frames were put, and how many short addresses are
+/// left that no reservation has.
+#[derive(Clone, Copy)]
+pub struct Far {
+    pub found: u32,
+    pub frames: u64,
+    pub left: u32,
+}
+
+impl fmt::Display for Far {
+    fn fmt<W: fmt::Write>(&self, f: &mut fmt::Formatter<W>) -> fmt::Result {
+        let (found, frames, left) = (self.found, self.frames, self.left);
+        write!(
+            f,
+            "{found} gear found, {frames} frames, {left} addresses left"
+        )
+    }
+}
+
+impl Far {
+    /// Once this was ordered too.
+    fn after(self, order: &Order) -> Far
+        ensures { result ≡ far_after order.now self }
+    {
+        let Far {
+            found,
+            frames,
+            left,
+        } = self;
+        match *order {
+            Order::Put(..) => Far {
+                found,
+                frames: frames.saturating_add(1),
+                left,
+            },
+            Order::Commit(Record::Reserve(..)) => Far {
+                found,
+                frames,
+                left: left.saturating_sub(1),
+            },
+            Order::Commit(Record::Release(..)) => Far {
+                found,
+                frames,
+                left: left.saturating_add(1),
+            },
+            Order::Commit(Record::Enrol(..)) => Far {
+                found: found.saturating_add(1),
+                frames,
+                left,
+            },
+            Order::Done(_) | Order::Halt(_) => self,
+        }
+    }
+}
+
 /// How many frames are put between two lines on a terminal.
 const FRAMES: u64 = 32;
+
+/// Whether it is told after an order how far they are.
+fn is_told(manner: Manner, order: &Order, frames: u64) -> bool
+    ensures { result ≡ is_told manner order.now frames }
+{
+    match (manner, *order) {
+        (Manner::Quiet, _) => false,
+        (Manner::Plain | Manner::Rewritten, Order::Commit(Record::Enrol(..))) => true,
+        (Manner::Rewritten, Order::Put(..)) => frames % FRAMES == 0,
+        (Manner::Plain | Manner::Rewritten, _) => false,
+    }
+}
 
 /// Who says how far the machines are.
 #[derive(Drop)]
 pub struct Progress<'a, S> {
     system: &'a S,
     manner: Manner,
-    frames: u64,
-    found: u32,
-    left: u32,
+    far: Far,
     aim: Aim,
 }
 
 impl<'a, S: Eprint> Progress<'a, S> {
     /// Of so many short addresses that no reservation has.
-    pub fn new(system: &'a S, manner: Manner, left: u32) -> Progress<'a, S> {
+    pub fn new(system: &'a S, manner: Manner, left: u32) -> Progress<'a, S>
+        ensures far { result.far ≡ record { found = 0; frames = 0; left = left } }
+        ensures aim { result.aim ≡ first_aim }
+    {
         Progress {
             system,
             manner,
-            frames: 0,
-            found: 0,
-            left,
-            aim: Aim::new(),
+            far: Far {
+                found: 0,
+                frames: 0,
+                left,
+            },
+            aim: Aim::FIRST,
         }
     }
 
     /// What comes first is said.
-    pub fn begin(&self) {
+    pub fn begin(&self, said: &Said<'_>) {
         if self.manner != Manner::Quiet {
-            let _ = eprintln!(self.system; "asking the short addresses that are not accounted for");
+            say(self.system, said);
         }
     }
 
     /// What is said. Where it cannot be said, nothing else changes.
-    fn say(&self) {
-        let (found, frames, left) = (self.found, self.frames, self.left);
-        let (start, end) = match self.manner {
-            Manner::Quiet => return,
-            Manner::Plain => ("", "\n"),
-            Manner::Rewritten => ("\r", " "),
-        };
-        let _ = eprint!(self.system;
-            "{start}{found} gear found, {frames} frames, {left} addresses left{end}"
-        );
+    fn tell(&self) {
+        let said = Said::Far(self.far);
+        if self.manner == Manner::Rewritten {
+            let _ = eprint!(self.system; "\r{said} ");
+        } else {
+            say(self.system, &said);
+        }
     }
 
     /// The last line is ended.
@@ -150,28 +250,23 @@ impl<'a, S: Eprint> Progress<'a, S> {
     }
 
     /// Whom the frames were about that were put last, but for the close.
-    pub fn aim(&self) -> Aim {
+    pub fn aim(&self) -> Aim
+        ensures { result ≡ self.now.aim }
+    {
         self.aim
     }
 }
 
 impl<S: Eprint> Watch for Progress<'_, S> {
-    fn ordered(&mut self, order: &Order) {
-        match *order {
-            Order::Put(_, frame) => {
-                self.aim.follow(frame);
-                self.frames = self.frames.saturating_add(1);
-                if self.manner == Manner::Rewritten && self.frames % FRAMES == 0 {
-                    self.say();
-                }
-            }
-            Order::Commit(Record::Reserve(..)) => self.left = self.left.saturating_sub(1),
-            Order::Commit(Record::Release(..)) => self.left = self.left.saturating_add(1),
-            Order::Commit(Record::Enrol(..)) => {
-                self.found = self.found.saturating_add(1);
-                self.say();
-            }
-            Order::Done(_) | Order::Halt(_) => {}
+    fn ordered(&mut self, order: &Order)
+        ensures far { self.new.far ≡ far_after order.now self.old.far }
+    {
+        self.far = self.far.after(order);
+        if let Order::Put(_, frame) = *order {
+            self.aim = self.aim.after(Command::read(frame));
+        }
+        if is_told(self.manner, order, self.far.frames) {
+            self.tell();
         }
     }
 

@@ -4,14 +4,10 @@ use crate::failure::Failure;
 use crate::settling::found;
 use crate::stores::{Borrower, StoreFault, Stores};
 use dali_commissioning::outside;
-use dali_console::ConsoleFault;
 use dali_replacement::refill;
 use dali_reserve::{Keep, KeepError};
 use dali_script::{Block, Kept};
 use std::alloc::Global;
-use std::cell::RefCell;
-
-const REFUSED: Failure = Failure::Console(ConsoleFault::Refused);
 
 /// Who sees that records are of a block.
 #[derive(Drop)]
@@ -20,7 +16,9 @@ struct Fitting {
 }
 
 impl Borrower for Fitting {
-    fn take<K: Keep>(&self, store: &mut K) -> Result<(), Failure> {
+    type Out = ();
+
+    fn take<K: Keep>(self, store: &mut K) -> Result<(), Failure> {
         match outside(&kept(store)?, self.block) {
             Some(short) => Err(Failure::Outside(short)),
             None => Ok(()),
@@ -40,11 +38,13 @@ struct Undisturbed<'a, F, B> {
     alloc: Global,
     stores: &'a F,
     place: &'a str,
-    borrower: &'a B,
+    borrower: B,
 }
 
 impl<F: Stores, B: Borrower> Borrower for Undisturbed<'_, F, B> {
-    fn take<K: Keep>(&self, store: &mut K) -> Result<(), Failure> {
+    type Out = B::Out;
+
+    fn take<K: Keep>(self, store: &mut K) -> Result<B::Out, Failure> {
         if is_unfinished(self.alloc, self.stores, self.place)? {
             Err(Failure::Unfinished)
         } else {
@@ -59,14 +59,14 @@ fn lend_seen<F: Stores, B: Borrower>(
     stores: &F,
     place: &str,
     name: &str,
-    borrower: &B,
-) -> Result<(), Failure> {
+    borrower: B,
+) -> Result<B::Out, Failure> {
     if is_unfinished(alloc, stores, place)? {
         return Err(Failure::Unfinished);
     }
     stores.lend_copy(
         name,
-        &Undisturbed {
+        Undisturbed {
             alloc,
             stores,
             place,
@@ -82,14 +82,14 @@ pub(crate) fn lend<F: Stores, B: Borrower>(
     stores: &F,
     name: &str,
     block: &Block,
-    borrower: &B,
-) -> Result<(), Failure> {
+    borrower: B,
+) -> Result<B::Out, Failure> {
     let place = stores.place_of(alloc, name)?;
-    lend_seen(alloc, stores, &place, name, &Fitting { block: *block })?;
+    lend_seen(alloc, stores, &place, name, Fitting { block: *block })?;
     stores.lend(
         name,
         *block,
-        &Undisturbed {
+        Undisturbed {
             alloc,
             stores,
             place: &place,
@@ -103,8 +103,8 @@ pub(crate) fn lend_copy<F: Stores, B: Borrower>(
     alloc: Global,
     stores: &F,
     name: &str,
-    borrower: &B,
-) -> Result<(), Failure> {
+    borrower: B,
+) -> Result<B::Out, Failure> {
     let place = stores.place_of(alloc, name)?;
     if stores.has(name) || is_unfinished(alloc, stores, &place)? {
         lend_seen(alloc, stores, &place, name, borrower)
@@ -115,7 +115,7 @@ pub(crate) fn lend_copy<F: Stores, B: Borrower>(
 
 /// Sees by a copy that there are records of this name.
 pub(crate) fn see<F: Stores>(alloc: Global, stores: &F, name: &str) -> Result<(), Failure> {
-    lend_copy(alloc, stores, name, &Fitting { block: Block::ALL })
+    lend_copy(alloc, stores, name, Fitting { block: Block::ALL })
 }
 
 fn answered<T>(done: Result<T, KeepError>) -> Result<T, Failure> {
@@ -137,27 +137,22 @@ pub(crate) struct Filling<'a> {
 }
 
 impl Borrower for Filling<'_> {
-    fn take<K: Keep>(&self, store: &mut K) -> Result<(), Failure> {
+    type Out = ();
+
+    fn take<K: Keep>(self, store: &mut K) -> Result<(), Failure> {
         answered(refill(store, self.from, self.old))
     }
 }
 
-/// Who keeps what records have.
+/// Who reads records.
 #[derive(Drop)]
-pub(crate) struct Copying<'a> {
-    pub into: &'a RefCell<Vec<Kept>>,
-}
+pub(crate) struct Reading;
 
-impl Borrower for Copying<'_> {
-    fn take<K: Keep>(&self, store: &mut K) -> Result<(), Failure> {
-        let kept = kept(store)?;
-        match self.into.try_borrow_mut() {
-            Ok(mut into) => match into.push(kept) {
-                Ok(()) => Ok(()),
-                Err(_) => Err(REFUSED),
-            },
-            Err(_) => Err(REFUSED),
-        }
+impl Borrower for Reading {
+    type Out = Kept;
+
+    fn take<K: Keep>(self, store: &mut K) -> Result<Kept, Failure> {
+        kept(store)
     }
 }
 
@@ -166,7 +161,9 @@ impl Borrower for Copying<'_> {
 pub(crate) struct Nothing;
 
 impl Borrower for Nothing {
-    fn take<K: Keep>(&self, _store: &mut K) -> Result<(), Failure> {
+    type Out = ();
+
+    fn take<K: Keep>(self, _store: &mut K) -> Result<(), Failure> {
         Ok(())
     }
 }

@@ -1,17 +1,17 @@
 //! `replace`: a new luminaire gets the short address of one that is gone.
 
 use crate::confirming::Asking;
-use crate::failure::{Failure, ended_as, failure_of};
+use crate::failure::{Failure, REFUSED, add, ended_as, failure_of};
 use crate::finishing::{confirms, exchanged, read, say_kept};
-use crate::progress::{Manner, Progress};
-use crate::records::{Filling, Nothing, kept, lend, lend_copy, see};
-use crate::report::Report;
-use crate::reports::{say_left_alone, say_line, say_why_ended};
-use crate::settling::{Settling, beside, found, free_number, say_refused};
+use crate::progress::{Aim, Manner, Progress};
+use crate::records::{Filling, Nothing, Reading, kept, lend, lend_copy, see};
+use crate::report::{Report, ended_said};
+use crate::reports::wrote_said;
+use crate::said::{Said, say, say_refused};
+use crate::settling::{Settling, found, free_number};
 use crate::stores::{Borrower, Holder, StoreFault, Stores};
 use crate::tasks::Replacement;
 use dali_commissioning::{DriverLink, Ended, PassEnd, outside};
-use dali_console::ConsoleFault;
 use dali_frame::Short;
 use dali_replacement::{
     Come, Confirmed, Giver, MOST_FILES, OthersThere, Permit, ReplaceRefusal, Swap, aside_of,
@@ -20,11 +20,8 @@ use dali_replacement::{
 use dali_reserve::Keep;
 use dali_script::{Block, End, Kept};
 use std::alloc::Global;
-use std::cell::RefCell;
 use std::io;
 use std::io::{Eprint, Read, Write};
-
-const REFUSED: Failure = Failure::Console(ConsoleFault::Refused);
 
 /// How many names are tried for a new file that is put aside.
 const MOST_ASIDE: u32 = 10_000;
@@ -42,43 +39,35 @@ fn is_anywhere(tables: &[Kept], short: Short) -> bool {
 #[derive(Drop)]
 struct Giving<'a, S, R, W> {
     system: &'a S,
-    driver: &'a RefCell<DriverLink<R, W>>,
+    driver: &'a mut DriverLink<R, W>,
     permit: &'a Permit,
     table: &'a Kept,
     manner: Manner,
 }
 
-impl<S: Eprint, R: Read, W: Write> Giving<'_, S, R, W> {
-    /// Says how the surveys ended. Whether the new gear has the address, the records say: who was heard besides has
-    /// none to get here.
-    fn say_ended(
-        &self,
-        pass: &PassEnd,
-        kept: &Kept,
-        progress: &Progress<'_, S>,
-    ) -> Result<(), Failure> {
-        say_left_alone(self.system, pass);
-        say_why_ended(self.system, pass, kept, progress.aim());
-        match pass.ended {
-            Ended::Done(End::BlockFull) => Ok(()),
-            ended => ended_as(ended, true),
-        }
+/// Says how the surveys ended. Whether the new gear has the address, the records say: who was heard besides has none to
+/// get here.
+fn say_ended<S: Eprint>(system: &S, pass: &PassEnd, kept: &Kept, aim: Aim) -> Result<(), Failure> {
+    for said in ended_said(pass, kept, aim).iter() {
+        say(system, said);
+    }
+    match pass.ended {
+        Ended::Done(End::BlockFull) => Ok(()),
+        ended => ended_as(ended, true),
     }
 }
 
 impl<S: Eprint, R: Read, W: Write> Borrower for Giving<'_, S, R, W> {
-    fn take<K: Keep>(&self, store: &mut K) -> Result<(), Failure> {
-        let Ok(mut driver) = self.driver.try_borrow_mut() else {
-            return Err(REFUSED);
-        };
-        let mut progress = Progress::new(self.system, self.manner, 1);
-        let came = self
-            .permit
-            .give(store, &mut *driver, &mut progress, self.table);
+    type Out = ();
+
+    fn take<K: Keep>(self, store: &mut K) -> Result<(), Failure> {
+        let (system, permit, table) = (self.system, self.permit, self.table);
+        let mut progress = Progress::new(system, self.manner, 1);
+        let came = permit.give(store, self.driver, &mut progress, table);
         progress.end();
         match came {
-            Ok(pass) => self.say_ended(&pass, &kept(store)?, &progress),
-            Err(fault) => Err(failure_of(fault, driver.lines())),
+            Ok(pass) => say_ended(system, &pass, &kept(store)?, progress.aim()),
+            Err(fault) => Err(failure_of(fault, self.driver.lines())),
         }
     }
 }
@@ -102,9 +91,7 @@ struct Replacing<'a, S, F> {
     /// Where the files lie.
     names: &'a [String],
     asking: &'a Asking<'a, S>,
-    /// What is done once the files are closed.
-    due: RefCell<Option<DueSwap>>,
-    report: &'a RefCell<Report>,
+    report: &'a mut Report,
 }
 
 /// A swap of files that may begin.
@@ -147,7 +134,7 @@ impl<S: Input + Print + Eprint + AllocGlobal, F: Stores> Replacing<'_, S, F> {
 
     /// How far the new file of a name has come, beside what the old one has.
     fn come(&self, name: &str, old: &Kept, is_giver: bool) -> Result<Come, Failure> {
-        let new = beside(new_of(self.alloc(), name))?;
+        let new = new_of(self.alloc(), name)?;
         if !self.stores.has(&new) {
             return Ok(Come::Nowhere);
         }
@@ -198,8 +185,8 @@ impl<S: Input + Print + Eprint + AllocGlobal, F: Stores> Replacing<'_, S, F> {
     }
 
     /// Lends the new file of a name.
-    fn renew<B: Borrower>(&self, name: &str, block: Block, borrower: &B) -> Result<Kept, Failure> {
-        let new = beside(new_of(self.alloc(), name))?;
+    fn renew<B: Borrower>(&self, name: &str, block: Block, borrower: B) -> Result<Kept, Failure> {
+        let new = new_of(self.alloc(), name)?;
         if let Err(failure) = lend(self.alloc(), self.stores, &new, &block, borrower) {
             return Err(say_refused(self.system, &new, failure));
         }
@@ -211,9 +198,7 @@ impl<S: Input + Print + Eprint + AllocGlobal, F: Stores> Replacing<'_, S, F> {
         let mut news = Vec::new(self.alloc());
         for (name, old) in self.names.iter().zip(all) {
             let filling = Filling { from: first, old };
-            if news.push(self.renew(name, Block::ALL, &filling)?).is_err() {
-                return Err(REFUSED);
-            }
+            add(&mut news, self.renew(name, Block::ALL, filling)?)?;
         }
         Ok(news)
     }
@@ -222,9 +207,7 @@ impl<S: Input + Print + Eprint + AllocGlobal, F: Stores> Replacing<'_, S, F> {
     fn copied_names(&self) -> Result<Vec<String>, Failure> {
         let mut names = Vec::new(self.alloc());
         for name in self.names {
-            if add_copy(self.alloc(), &mut names, name).is_err() {
-                return Err(REFUSED);
-            }
+            add(&mut names, String::from_str(self.alloc(), name)?)?;
         }
         Ok(names)
     }
@@ -255,14 +238,11 @@ impl<S: Input + Print + Eprint + AllocGlobal, F: Stores> Replacing<'_, S, F> {
     /// Gives the short address in the new file of the giver.
     fn give<R: Read, W: Write>(
         &self,
-        driver: &RefCell<DriverLink<R, W>>,
+        driver: &mut DriverLink<R, W>,
         name: &str,
         others: &OthersThere,
     ) -> Result<Kept, Failure> {
-        let permit = match driver.try_borrow_mut() {
-            Ok(mut driver) => self.asking.permit(&mut *driver, others)?,
-            Err(_) => return Err(REFUSED),
-        };
+        let permit = self.asking.permit(driver, others)?;
         let giving = Giving {
             system: self.system,
             driver,
@@ -270,13 +250,13 @@ impl<S: Input + Print + Eprint + AllocGlobal, F: Stores> Replacing<'_, S, F> {
             table: others.table(),
             manner: self.asking.manner(),
         };
-        self.renew(name, permit.block(), &giving)
+        self.renew(name, permit.block(), giving)
     }
 
     /// What the new file of the giver has, in which the short address is given where an earlier call has not done it.
     fn first<R: Read, W: Write>(
         &self,
-        driver: &RefCell<DriverLink<R, W>>,
+        driver: &mut DriverLink<R, W>,
         giver: u32,
         others: &OthersThere,
     ) -> Result<Kept, Failure> {
@@ -284,96 +264,56 @@ impl<S: Input + Print + Eprint + AllocGlobal, F: Stores> Replacing<'_, S, F> {
             return Err(REFUSED);
         };
         if !matches!(others.come(), Come::Nowhere) {
-            let _ = eprintln!(self.system; "an earlier call is gone on with");
+            say(self.system, &Said::GoneOn);
         }
         if matches!(others.come(), Come::Given(_)) {
-            let new = beside(new_of(self.alloc(), name))?;
-            read(self.system, self.stores, &new)
+            read(self.system, self.stores, &new_of(self.alloc(), name)?)
         } else {
             self.give(driver, name, others)
         }
     }
 
-    /// The new gear was heard to have the address that all new tables have it at.
-    fn confirm<R: Read, W: Write>(
-        &self,
-        driver: &RefCell<DriverLink<R, W>>,
-        others: OthersThere,
-        news: &[Kept],
-    ) -> Result<Confirmed, Failure> {
-        match driver.try_borrow_mut() {
-            Ok(mut driver) => self.asking.confirm(&mut *driver, others, news),
-            Err(_) => Err(REFUSED),
-        }
-    }
-
-    /// Nobody has the address, or the new gear, and all others are there.
-    fn others_there<R: Read, W: Write>(
-        &self,
-        driver: &RefCell<DriverLink<R, W>>,
-        come: Come,
-        table: Kept,
-    ) -> Result<OthersThere, Failure> {
-        match driver.try_borrow_mut() {
-            Ok(mut driver) => self.asking.others_there(&mut *driver, come, table),
-            Err(_) => Err(REFUSED),
-        }
-    }
-
-    /// Why the new gear has not got the address.
-    fn not_given<R: Read, W: Write>(&self, driver: &RefCell<DriverLink<R, W>>) -> Failure {
-        match driver.try_borrow_mut() {
-            Ok(mut driver) => self.asking.not_given(&mut *driver),
-            Err(_) => REFUSED,
-        }
-    }
-
-    /// Gives the short address, and makes the new tables complete.
+    /// Gives the short address, and makes the new tables complete. The swap that is due then.
     fn gives<R: Read, W: Write>(
-        &self,
-        driver: &RefCell<DriverLink<R, W>>,
+        &mut self,
+        driver: &mut DriverLink<R, W>,
         all: &[Kept],
-    ) -> Result<(), Failure> {
+    ) -> Result<DueSwap, Failure> {
         if self.wanted.is_again {
             self.put_aside()?;
         }
         let plan = self.plan(all)?;
         let giver = plan.giver;
-        let others = self.others_there(driver, plan.come, plan.table)?;
+        let others = self
+            .asking
+            .others_there(driver, plan.come, plan.table, self.report)?;
         let first = self.first(driver, giver, &others)?;
         // What the giver's new file has reserved besides says to a later call that the address is given there.
         if first.enrolled_at(self.wanted.short).is_none() {
-            return Err(self.not_given(driver));
+            return Err(self.asking.not_given(driver));
         }
         let news = self.news(all, &first)?;
-        let confirmed = self.confirm(driver, others, &news)?;
-        let swap = self.due_swap(confirmed, all, &news)?;
-        match self.due.try_borrow_mut() {
-            Ok(mut due) => {
-                *due = Some(swap);
-                Ok(())
-            }
-            Err(_) => Err(REFUSED),
-        }
+        let confirmed = self.asking.confirm(driver, others, &news)?;
+        self.due_swap(confirmed, all, &news)
     }
 
     /// Puts the new file of a name aside that an earlier call has left, where there is one.
     fn put_one_aside(&self, name: &str) -> Result<(), Failure> {
         let (alloc, stores) = (self.alloc(), self.stores);
-        let new = beside(new_of(alloc, name))?;
+        let new = new_of(alloc, name)?;
         if !stores.has(&new) {
             return Ok(());
         }
         let aside = free_aside(alloc, stores, name)?;
         // Once it is closed, nothing of it lies in a log.
-        let done = match lend(alloc, stores, &new, &Block::ALL, &Nothing) {
+        let done = match lend(alloc, stores, &new, &Block::ALL, Nothing) {
             Ok(()) => stores.rename(alloc, &new, &aside),
             Err(failure) => Err(failure),
         };
         if let Err(failure) = done {
             return Err(say_refused(self.system, &new, failure));
         }
-        let _ = eprintln!(self.system; "{new}: put aside as {aside}");
+        say(self.system, &Said::Aside(&new, &aside));
         Ok(())
     }
 
@@ -384,40 +324,12 @@ impl<S: Input + Print + Eprint + AllocGlobal, F: Stores> Replacing<'_, S, F> {
         }
         Ok(())
     }
-
-    /// Exchanges the files, and says which gear has the short address.
-    fn exchange(&self, due: &DueSwap) -> Result<(), Failure> {
-        let settling = Settling {
-            system: self.system,
-            stores: self.stores,
-            swap: &due.swap,
-            is_done: RefCell::new(false),
-        };
-        settling.begin()?;
-        if !settling.settle()? {
-            return Err(Failure::Unfinished);
-        }
-        self.asking.say_confirmed(&due.confirmed, due.count);
-        let _ = say_kept(self.system, &due.swap);
-        Ok(())
-    }
-
-    /// The new gear that was heard, once the files are exchanged.
-    fn confirmed(&self) -> Result<Confirmed, Failure> {
-        match self.due.try_borrow_mut() {
-            Ok(mut due) => match due.take() {
-                Some(due) => Ok(due.confirmed),
-                None => Err(REFUSED),
-            },
-            Err(_) => Err(REFUSED),
-        }
-    }
 }
 
 /// The first name for a new file that is put aside which nothing has.
 fn free_aside<F: Stores>(alloc: Global, stores: &F, name: &str) -> Result<String, Failure> {
     for number in 1..MOST_ASIDE {
-        let aside = beside(aside_of(alloc, name, number))?;
+        let aside = aside_of(alloc, name, number)?;
         if !stores.has(&aside) {
             return Ok(aside);
         }
@@ -425,21 +337,16 @@ fn free_aside<F: Stores>(alloc: Global, stores: &F, name: &str) -> Result<String
     Err(Failure::Store(StoreFault::CannotOpen))
 }
 
-fn add_copy(
-    alloc: Global,
-    names: &mut Vec<String>,
-    name: &str,
-) -> Result<(), std::alloc::AllocError> {
-    names.push(String::from_str(alloc, name)?)?;
-    Ok(())
-}
-
 impl<S: Input + Print + Eprint + AllocGlobal, F: Stores> Holder for Replacing<'_, S, F> {
+    type Due = DueSwap;
+
+    type Out = Confirmed;
+
     fn refused(&self, name: &str, failure: Failure) -> Failure {
         say_refused(self.system, name, failure)
     }
 
-    fn take(&self, all: &[Kept]) -> Result<(), Failure> {
+    fn take(&mut self, all: &[Kept]) -> Result<DueSwap, Failure> {
         let system = self.system;
         // They may have been announced while the files were opened.
         for name in self.names {
@@ -447,26 +354,34 @@ impl<S: Input + Print + Eprint + AllocGlobal, F: Stores> Holder for Replacing<'_
                 return Err(Failure::Unfinished);
             }
         }
-        let driver = DriverLink::new(system.alloc(), system.reader(), io::writer(system));
-        let driver = RefCell::new(driver);
-        let gave = self.gives(&driver, all);
-        if let Ok(driver) = driver.try_borrow() {
-            say_line(system, &gave, driver.line());
-            if let Ok(mut report) = self.report.try_borrow_mut() {
-                report.frames = driver.lines();
+        let mut driver = DriverLink::new(system.alloc(), system.reader(), io::writer(system));
+        let gave = self.gives(&mut driver, all);
+        self.report.frames = driver.lines();
+        match gave {
+            Ok(due) => Ok(due),
+            Err(failure) => {
+                if let Some(said) = wrote_said(Err(failure), driver.line()) {
+                    say(system, &said);
+                }
+                Err(failure)
             }
         }
-        gave
     }
 
-    fn then(&self) -> Result<(), Failure> {
-        match self.due.try_borrow() {
-            Ok(due) => match &*due {
-                Some(due) => self.exchange(due),
-                None => Err(REFUSED),
-            },
-            Err(_) => Err(REFUSED),
+    /// Exchanges the files, and says which gear has the short address.
+    fn then(self, due: DueSwap) -> Result<Confirmed, Failure> {
+        let settling = Settling {
+            system: self.system,
+            stores: self.stores,
+            swap: &due.swap,
+        };
+        settling.begin()?;
+        if !settling.settle()? {
+            return Err(Failure::Unfinished);
         }
+        self.asking.say_confirmed(&due.confirmed, due.count);
+        let _ = say_kept(self.system, &due.swap);
+        Ok(due.confirmed)
     }
 }
 
@@ -484,9 +399,7 @@ fn places_of<S: Eprint + AllocGlobal, F: Stores>(
             Ok(_) => return Err(say_refused(system, name, Failure::Store(StoreFault::CannotOpen))),
             Err(failure) => return Err(say_refused(system, name, failure)),
         };
-        if names.push(place).is_err() {
-            return Err(REFUSED);
-        }
+        add(&mut names, place)?;
     }
     Ok(names)
 }
@@ -494,7 +407,7 @@ fn places_of<S: Eprint + AllocGlobal, F: Stores>(
 /// Whether no file is another one, and none lies where another one's new file is to lie.
 fn are_apart(alloc: Global, names: &[String]) -> Result<bool, Failure> {
     for (number, name) in names.iter().enumerate() {
-        let new = beside(new_of(alloc, name))?;
+        let new = new_of(alloc, name)?;
         let are_same = names.iter().enumerate().any(|(at, other)| {
             (at != number && other.as_str() == name.as_str()) || other.as_str() == new.as_str()
         });
@@ -505,29 +418,17 @@ fn are_apart(alloc: Global, names: &[String]) -> Result<bool, Failure> {
     Ok(true)
 }
 
-/// Who notes the table of the records.
-#[derive(Drop)]
-struct Noting<'a>(&'a RefCell<Report>);
-
-impl Borrower for Noting<'_> {
-    fn take<K: Keep>(&self, store: &mut K) -> Result<(), Failure> {
-        let kept = kept(store)?;
-        if let Ok(mut report) = self.0.try_borrow_mut() {
-            report.note_table(&kept);
-        }
-        Ok(())
-    }
-}
-
 /// Notes the table of the first file, when a luminaire is replaced. Where that cannot be read any more, none is noted.
 pub(crate) fn note_first<F: Stores>(
     alloc: Global,
     stores: &F,
     wanted: &Replacement,
-    report: &RefCell<Report>,
+    report: &mut Report,
 ) {
     if let [name, ..] = wanted.records.as_slice() {
-        let _ = lend_copy(alloc, stores, name, &Noting(report));
+        if let Ok(kept) = lend_copy(alloc, stores, name, Reading) {
+            report.note_table(&kept);
+        }
     }
 }
 
@@ -538,7 +439,7 @@ pub(crate) fn replaces<S, F>(
     stores: &F,
     is_terminal: bool,
     wanted: &Replacement,
-    report: &RefCell<Report>,
+    report: &mut Report,
 ) -> Result<Confirmed, Failure>
 where
     S: Input + Print + Eprint + AllocGlobal,
@@ -552,10 +453,9 @@ where
         system,
         wanted,
         is_terminal,
-        report,
     };
     if let Some(swap) = exchanged(system, stores, &names, wanted.short)? {
-        return confirms(&asking, stores, &swap);
+        return confirms(&asking, stores, &swap, report);
     }
     for name in names.iter() {
         if let Err(failure) = see(system.alloc(), stores, name) {
@@ -568,9 +468,7 @@ where
         wanted,
         names: &names,
         asking: &asking,
-        due: RefCell::new(None),
         report,
     };
-    stores.hold(system.alloc(), &names, &replacing)?;
-    replacing.confirmed()
+    stores.hold(system.alloc(), &names, replacing)
 }

@@ -1,22 +1,23 @@
 //! `run`: gear are given short addresses.
 
-ghost use Rattle.std.specs.Prelude.{◌<◌};
+ghost use Rattle.std.specs.Prelude.{◌≡◌, IfOk};
+ghost use Rattle.dali_commissioning.specs.Drivers.{talk_of, has_heard};
+ghost use Rattle.dali_commission_program.specs.Failures.{ended_as};
+ghost use Rattle.dali_commission_program.specs.Came.{HasBegun, ComesTo, RunSaid};
 
 use crate::failure::{Failure, ended_as, failure_of};
-use crate::progress::{Manner, Progress};
+use crate::progress::{Aim, Manner, Progress};
 use crate::records::kept;
-use crate::report::Report;
-use crate::reports::{say_addressed, say_commissioned, say_left_alone, say_line, say_why_ended};
+use crate::report::{Came, Report};
+use crate::said::Said;
 use crate::stores::Borrower;
 use crate::tasks::{Setup, Start};
 use dali_commissioning::{
     Begun, CommissionFault, DriverLink, PassEnd, Reply, Watch, ask, begin, commission,
 };
-use dali_console::ConsoleFault;
 use dali_frame::Short;
 use dali_reserve::Keep;
-use dali_script::{Input as Told, Kept};
-use std::cell::RefCell;
+use dali_script::{Block, Input as Told, Kept};
 use std::io;
 use std::io::{Eprint, Read, Write};
 
@@ -32,16 +33,6 @@ fn left_of(kept: &Kept) -> u32 {
     }
 }
 
-fn manner(setup: &Setup, is_terminal: bool) -> Manner {
-    if setup.is_quiet {
-        Manner::Quiet
-    } else if is_terminal {
-        Manner::Rewritten
-    } else {
-        Manner::Plain
-    }
-}
-
 /// Begins as is asked for: machines that survey ask themselves who is there, before all others there is a census.
 fn begun<K: Keep, R: Read, W: Write, P: Watch>(
     store: &mut K,
@@ -49,7 +40,9 @@ fn begun<K: Keep, R: Read, W: Write, P: Watch>(
     watch: &mut P,
     setup: &Setup,
 ) -> Result<Begun, CommissionFault>
-    requires some { 0 < setup.now.idle_passes }
+    ensures { IfOk result (HasBegun K.is_up K.is_sound K.holds (K.block store.old) setup.now.others.items
+        setup.now.idle_passes store.old store.new
+        (talk_of R.remaining W.contents driver.old) (talk_of R.remaining W.contents driver.new) setup.now.start) }
 {
     match setup.start {
         Start::Fresh => begin(store, driver, watch, &setup.others, setup.idle_passes),
@@ -65,7 +58,9 @@ fn begun<K: Keep, R: Read, W: Write, P: Watch>(
 fn is_anybody_there<R: Read, W: Write>(
     driver: &mut DriverLink<R, W>,
     kept: &Kept,
-) -> Result<bool, CommissionFault> {
+) -> Result<bool, CommissionFault>
+    ensures { IfOk result (λ is_heard. is_heard ≡ has_heard driver.new) }
+{
     for pair in kept.enrolled() {
         if driver.has_heard() {
             return Ok(true);
@@ -77,66 +72,64 @@ fn is_anybody_there<R: Read, W: Write>(
     Ok(driver.has_heard())
 }
 
-/// What is reported of a run.
-#[derive(Drop)]
-struct Came<'a> {
-    before: &'a Kept,
-    setup: &'a Setup,
-    report: &'a RefCell<Report>,
+/// What a run comes to whose last machine ended so, from one table to another: by whether any gear was heard, and after
+/// so many frames.
+fn came_of(
+    pass: &PassEnd,
+    before: &Kept,
+    after: &Kept,
+    aim: Aim,
+    has_heard: bool,
+    frames: u64,
+) -> Came
+    ensures ended { result.ended ≡ ended_as pass.now.ended has_heard }
+    ensures said { RunSaid pass.now before.now after.now aim frames result.report.said.items }
+{
+    Came {
+        report: Report::of_run(pass, before, after, aim, frames),
+        ended: ended_as(pass.ended, has_heard),
+    }
 }
 
-impl Came<'_> {
-    /// Notes what the last machine came to, and the records.
-    fn note(&self, pass: PassEnd, after: &Kept, enrolled: usize) {
-        if let Ok(mut report) = self.report.try_borrow_mut() {
-            report.pass = Some(pass);
-            report.enrolled = enrolled;
-            report.note_table(after);
-        }
-    }
+/// What the end of the last machine comes to, with what the records have then.
+fn ended_so<K: Keep, R: Read, W: Write>(
+    store: &mut K,
+    driver: &mut DriverLink<R, W>,
+    pass: &PassEnd,
+    before: &Kept,
+    aim: Aim,
+) -> Result<Came, Failure>
+    ensures { IfOk result (λ came. came.ended ≡ ended_as pass.now.ended (has_heard driver.new)) }
+{
+    let after = kept(store)?;
+    let lines = match is_anybody_there(driver, &after) {
+        Ok(_) => driver.lines(),
+        Err(fault) => return Err(failure_of(fault, driver.lines())),
+    };
+    Ok(came_of(pass, before, &after, aim, driver.has_heard(), lines))
+}
 
-    /// What the end of the last machine comes to, with what the records have then.
-    fn say_ended<S: Eprint, K: Keep, R: Read, W: Write>(
-        &self,
-        system: &S,
-        store: &mut K,
-        driver: &mut DriverLink<R, W>,
-        progress: &Progress<'_, S>,
-        pass: PassEnd,
-    ) -> Result<(), Failure> {
-        let after = kept(store)?;
-        let has_heard = match is_anybody_there(driver, &after) {
-            Ok(has_heard) => has_heard,
-            Err(fault) => return Err(failure_of(fault, driver.lines())),
-        };
-        let all = after.enrolled().len();
-        let enrolled = all.saturating_sub(self.before.enrolled().len());
-        self.note(pass, &after, enrolled);
-        say_left_alone(system, &pass);
-        say_why_ended(system, &pass, &after, progress.aim());
-        say_commissioned(system, enrolled, all, driver.lines());
-        ended_as(pass.ended, has_heard)
-    }
-
-    /// Says what a run came to.
-    fn say<S: Eprint, K: Keep, R: Read, W: Write>(
-        &self,
-        system: &S,
-        store: &mut K,
-        driver: &mut DriverLink<R, W>,
-        progress: &Progress<'_, S>,
-        came: Begun,
-    ) -> Result<(), Failure> {
-        match came {
-            Begun::Addressed(replies) => {
-                let places = say_addressed(system, self.before, &self.setup.others, &replies);
-                if let Ok(mut report) = self.report.try_borrow_mut() {
-                    report.places = places;
-                }
-                Err(Failure::AddressedBefore)
-            }
-            Begun::Commissioned(pass) => { self.say_ended(system, store, driver, progress, pass) }
-        }
+/// What a run comes to that began so, or could not, with the table before it.
+fn came_to<K: Keep, R: Read, W: Write>(
+    store: &mut K,
+    driver: &mut DriverLink<R, W>,
+    aim: Aim,
+    before: &Kept,
+    others: &[Block],
+    begun: Result<Begun, CommissionFault>,
+) -> Came
+    ensures { ComesTo before.now others.now (has_heard driver.new) begun result.report.said.items result.ended }
+{
+    match begun {
+        Ok(Begun::Addressed(replies)) => Came {
+            report: Report::of_strangers(before, others, &replies),
+            ended: Err(Failure::AddressedBefore),
+        },
+        Ok(Begun::Commissioned(pass)) => match ended_so(store, driver, &pass, before, aim) {
+            Ok(came) => came,
+            Err(failure) => Came::failed(failure),
+        },
+        Err(fault) => Came::failed(failure_of(fault, driver.lines())),
     }
 }
 
@@ -146,45 +139,26 @@ pub(crate) struct Running<'a, S> {
     pub system: &'a S,
     pub setup: &'a Setup,
     pub is_terminal: bool,
-    pub report: &'a RefCell<Report>,
-}
-
-impl<S: Input + Print + Eprint + AllocGlobal> Running<'_, S> {
-    /// Gives short addresses to gear, from and into these records.
-    fn run<K: Keep>(&self, store: &mut K) -> Result<(), Failure> {
-        let (system, setup) = (self.system, self.setup);
-        if setup.idle_passes == 0 {
-            return Err(Failure::Console(ConsoleFault::BadCommandLine));
-        }
-        let before = kept(store)?;
-        let mut driver = DriverLink::new(system.alloc(), system.reader(), io::writer(system));
-        let mut progress = Progress::new(system, manner(setup, self.is_terminal), left_of(&before));
-        progress.begin();
-        let came = begun(store, &mut driver, &mut progress, setup);
-        progress.end();
-        let came = match came {
-            Ok(came) => {
-                let before = &before;
-                let report = self.report;
-                let saying = Came {
-                    before,
-                    setup,
-                    report,
-                };
-                saying.say(system, store, &mut driver, &progress, came)
-            }
-            Err(fault) => Err(failure_of(fault, driver.lines())),
-        };
-        say_line(system, &came, driver.line());
-        if let Ok(mut report) = self.report.try_borrow_mut() {
-            report.frames = driver.lines();
-        }
-        came
-    }
+    pub report: &'a mut Report,
 }
 
 impl<S: Input + Print + Eprint + AllocGlobal> Borrower for Running<'_, S> {
-    fn take<K: Keep>(&self, store: &mut K) -> Result<(), Failure> {
-        self.run(store)
+    type Out = ();
+
+    fn take<K: Keep>(self, store: &mut K) -> Result<(), Failure> {
+        let (system, setup) = (self.system, self.setup);
+        let before = kept(store)?;
+        let mut driver = DriverLink::new(system.alloc(), system.reader(), io::writer(system));
+        let manner = Manner::of(setup.is_quiet, self.is_terminal);
+        let mut progress = Progress::new(system, manner, left_of(&before));
+        progress.begin(&Said::AsksAddresses);
+        let begun = begun(store, &mut driver, &mut progress, setup);
+        progress.end();
+        let aim = progress.aim();
+        came_to(store, &mut driver, aim, &before, &setup.others, begun).told(
+            system,
+            &driver,
+            self.report,
+        )
     }
 }

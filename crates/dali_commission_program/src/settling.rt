@@ -1,25 +1,14 @@
 //! A swap of files is brought to an end: step by step by `dali_replacement`, which says what is due at which moment.
 
-use crate::failure::Failure;
+use crate::failure::{Failure, REFUSED};
+use crate::said::{Said, say, say_refused};
 use crate::stores::{Actor, StoreFault, Stores};
 use arrayvec::ArrayVec;
-use dali_console::ConsoleFault;
 use dali_replacement::{
     Lies, MOST_FILES, Step, Swap, journal_of, kept_of, moment_of, new_of, step_after,
 };
-use std::alloc::{AllocError, Global};
-use std::cell::RefCell;
+use std::alloc::Global;
 use std::io::Eprint;
-
-const REFUSED: Failure = Failure::Console(ConsoleFault::Refused);
-
-/// The name of what lies beside a file.
-pub(crate) fn beside(name: Result<String, AllocError>) -> Result<String, Failure> {
-    match name {
-        Ok(name) => Ok(name),
-        Err(_) => Err(REFUSED),
-    }
-}
 
 /// The name of the file with this number.
 fn name_at(swap: &Swap, number: u32) -> Result<&str, Failure> {
@@ -29,22 +18,12 @@ fn name_at(swap: &Swap, number: u32) -> Result<&str, Failure> {
     }
 }
 
-/// Says why nothing can be done under a name.
-pub(crate) fn say_refused<S: Eprint>(system: &S, name: &str, failure: Failure) -> Failure {
-    if let Failure::Store(fault) = failure {
-        let _ = eprintln!(system; "error: {name}: {fault}");
-    }
-    failure
-}
-
 /// Who brings a swap to its end.
 #[derive(Drop)]
 pub(crate) struct Settling<'a, S, F> {
     pub system: &'a S,
     pub stores: &'a F,
     pub swap: &'a Swap,
-    /// Whether the new files have taken the places of the old ones.
-    pub is_done: RefCell<bool>,
 }
 
 impl<S: Eprint + AllocGlobal, F: Stores> Settling<'_, S, F> {
@@ -56,12 +35,10 @@ impl<S: Eprint + AllocGlobal, F: Stores> Settling<'_, S, F> {
     fn lies(&self, name: &str) -> Result<Lies, Failure> {
         let alloc = self.alloc();
         Ok(Lies {
-            journal: self.stores.has(&beside(journal_of(alloc, name))?),
-            new: self.stores.has(&beside(new_of(alloc, name))?),
+            journal: self.stores.has(&journal_of(alloc, name)?),
+            new: self.stores.has(&new_of(alloc, name)?),
             at: self.stores.has(name),
-            kept: self
-                .stores
-                .has(&beside(kept_of(alloc, name, self.swap.number()))?),
+            kept: self.stores.has(&kept_of(alloc, name, self.swap.number())?),
         })
     }
 
@@ -79,11 +56,8 @@ impl<S: Eprint + AllocGlobal, F: Stores> Settling<'_, S, F> {
     /// Writes the journal of a file.
     fn announce(&self, name: &str) -> Result<(), Failure> {
         let alloc = self.alloc();
-        let Ok(text) = self.swap.text(alloc) else {
-            return Err(REFUSED);
-        };
         self.stores
-            .write(alloc, &beside(journal_of(alloc, name))?, &text)
+            .write(alloc, &journal_of(alloc, name)?, &self.swap.text(alloc)?)
     }
 
     /// Does a step.
@@ -93,23 +67,17 @@ impl<S: Eprint + AllocGlobal, F: Stores> Settling<'_, S, F> {
             Step::Announce(number) => self.announce(name_at(self.swap, number)?),
             Step::SetAside(number) => {
                 let name = name_at(self.swap, number)?;
-                stores.rename(
-                    alloc,
-                    name,
-                    &beside(kept_of(alloc, name, self.swap.number()))?,
-                )
+                stores.rename(alloc, name, &kept_of(alloc, name, self.swap.number())?)
             }
             Step::Place(number) => {
                 let name = name_at(self.swap, number)?;
-                let new = beside(new_of(alloc, name))?;
-                stores.liken(&new, &beside(kept_of(alloc, name, self.swap.number()))?);
+                let new = new_of(alloc, name)?;
+                stores.liken(&new, &kept_of(alloc, name, self.swap.number())?);
                 stores.rename(alloc, &new, name)
             }
             Step::Forget(number) => {
-                stores.remove(
-                    alloc,
-                    &beside(journal_of(alloc, name_at(self.swap, number)?))?,
-                )
+                let journal = journal_of(alloc, name_at(self.swap, number)?)?;
+                stores.remove(alloc, &journal)
             }
         }
     }
@@ -146,9 +114,7 @@ impl<S: Eprint + AllocGlobal, F: Stores> Settling<'_, S, F> {
                 Ok(true)
             }
             None => {
-                let _ = eprintln!(self.system;
-                    "what lies beside the files is not what a replacement leaves; docs/INSTALLER.md says what to do"
-                );
+                say(self.system, &Said::NoMoment);
                 Err(Failure::Unfinished)
             }
         }
@@ -165,7 +131,7 @@ impl<S: Eprint + AllocGlobal, F: Stores> Settling<'_, S, F> {
     /// A swap that could not be brought to its end.
     fn stopped(&self, failure: Failure) -> Failure {
         if let Failure::Store(fault) = failure {
-            let _ = eprintln!(self.system; "error: the files cannot be exchanged: {fault}");
+            say(self.system, &Said::NotExchanged(fault));
         }
         Failure::Unfinished
     }
@@ -173,7 +139,7 @@ impl<S: Eprint + AllocGlobal, F: Stores> Settling<'_, S, F> {
     /// The first journal that lies there.
     fn first_journal(&self) -> Result<Option<String>, Failure> {
         for name in self.swap.names() {
-            let journal = beside(journal_of(self.alloc(), name))?;
+            let journal = journal_of(self.alloc(), name)?;
             if self.stores.has(&journal) {
                 return Ok(Some(journal));
             }
@@ -182,32 +148,26 @@ impl<S: Eprint + AllocGlobal, F: Stores> Settling<'_, S, F> {
     }
 
     /// Brings the swap to its end, or takes it back. Whether the new files have taken the places of the old ones.
-    pub fn settle(&self) -> Result<bool, Failure> {
+    pub fn settle(self) -> Result<bool, Failure> {
+        let (system, stores) = (self.system, self.stores);
         match self.first_journal()? {
-            Some(journal) => {
-                if let Err(failure) = self.stores.alone(&journal, self) {
-                    return Err(say_refused(self.system, &journal, failure));
-                }
-            }
-            None => self.act()?,
-        }
-        match self.is_done.try_borrow() {
-            Ok(is_done) => Ok(*is_done),
-            Err(_) => Err(Failure::Unfinished),
+            Some(journal) => match stores.alone(&journal, self) {
+                Ok(is_done) => Ok(is_done),
+                Err(failure) => Err(say_refused(system, &journal, failure)),
+            },
+            None => self.act(),
         }
     }
 }
 
 impl<S: Eprint + AllocGlobal, F: Stores> Actor for Settling<'_, S, F> {
-    fn act(&self) -> Result<(), Failure> {
-        let is_settled = match self.settles() {
-            Ok(is_settled) => is_settled,
-            Err(failure) => return Err(self.stopped(failure)),
-        };
-        if let Ok(mut is_done) = self.is_done.try_borrow_mut() {
-            *is_done = is_settled;
+    type Out = bool;
+
+    fn act(self) -> Result<bool, Failure> {
+        match self.settles() {
+            Ok(is_done) => Ok(is_done),
+            Err(failure) => Err(self.stopped(failure)),
         }
-        Ok(())
     }
 }
 
@@ -217,7 +177,7 @@ pub(crate) fn found<F: Stores>(
     stores: &F,
     name: &str,
 ) -> Result<Option<Swap>, Failure> {
-    let text = match stores.text(alloc, &beside(journal_of(alloc, name))?) {
+    let text = match stores.text(alloc, &journal_of(alloc, name)?) {
         Ok(Some(text)) => text,
         Ok(None) => return Ok(None),
         Err(Failure::Store(StoreFault::Foreign)) => {
@@ -242,7 +202,7 @@ fn is_free<F: Stores>(
     number: u32,
 ) -> Result<bool, Failure> {
     for name in names {
-        if stores.has(&beside(kept_of(alloc, name, number))?) {
+        if stores.has(&kept_of(alloc, name, number)?) {
             return Ok(false);
         }
     }

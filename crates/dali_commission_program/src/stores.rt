@@ -51,27 +51,39 @@ pub enum StoreFault {
 }
 
 /// Who does something with records while they are open.
-pub trait Borrower {
+pub trait Borrower: Drop {
+    /// What comes of it.
+    type Out: Drop;
+
     /// Does it.
-    fn take<K: Keep>(&self, store: &mut K) -> Result<(), Failure>;
+    fn take<K: Keep>(self, store: &mut K) -> Result<Self::Out, Failure>;
 }
 
 /// Who does something while the records of several names are held.
-pub trait Holder {
+pub trait Holder: Drop {
+    /// What is to be done once their files are closed.
+    type Due: Drop;
+
+    /// What comes of that.
+    type Out: Drop;
+
     /// The records of this name cannot be had, for this reason: it is said, and answered what the program ends with.
     fn refused(&self, name: &str, failure: Failure) -> Failure;
 
     /// Does what is to be done with the records, in the order of their names, and with their files open.
-    fn take(&self, all: &[Kept]) -> Result<(), Failure>;
+    fn take(&mut self, all: &[Kept]) -> Result<Self::Due, Failure>;
 
     /// Does what is to be done then, where that ended well, with each file closed and nothing beside it.
-    fn then(&self) -> Result<(), Failure>;
+    fn then(self, due: Self::Due) -> Result<Self::Out, Failure>;
 }
 
 /// Who does something alone.
-pub trait Actor {
+pub trait Actor: Drop {
+    /// What comes of it.
+    type Out: Drop;
+
     /// Does it.
-    fn act(&self) -> Result<(), Failure>;
+    fn act(self) -> Result<Self::Out, Failure>;
 }
 
 /// Places where records are kept.
@@ -84,21 +96,26 @@ pub trait Stores {
     /// Opens the records of this name for a controller with this block, lends them, and closes them. They are made
     /// where there are none. The caller has seen by `lend_copy` that they are records of this block. What the borrower
     /// ends with goes before why they could not be closed.
-    fn lend<B: Borrower>(&self, name: &str, block: Block, borrower: &B) -> Result<(), Failure>;
+    fn lend<B: Borrower>(&self, name: &str, block: Block, borrower: B) -> Result<B::Out, Failure>;
 
     /// Lends a copy of the records of this name, as to a controller with all addresses; one with no records where they
     /// are not there. They are only read: nothing that the borrower does to the copy changes them.
-    fn lend_copy<B: Borrower>(&self, name: &str, borrower: &B) -> Result<(), Failure>;
+    fn lend_copy<B: Borrower>(&self, name: &str, borrower: B) -> Result<B::Out, Failure>;
 
     /// The name under which what has this name lies, whatever links lead there, also where nothing lies there.
     fn place_of(&self, alloc: Global, name: &str) -> Result<String, Failure>;
 
     /// Reads the records of these names, each of another file, and keeps all others from opening them, until the holder
     /// is done. The caller has seen by `lend_copy` that they are records.
-    fn hold<H: Holder>(&self, alloc: Global, names: &[String], holder: &H) -> Result<(), Failure>;
+    fn hold<H: Holder>(
+        &self,
+        alloc: Global,
+        names: &[String],
+        holder: H,
+    ) -> Result<H::Out, Failure>;
 
     /// Keeps all others from acting by what has this name, until the actor is done.
-    fn alone<A: Actor>(&self, name: &str, actor: &A) -> Result<(), Failure>;
+    fn alone<A: Actor>(&self, name: &str, actor: A) -> Result<A::Out, Failure>;
 
     /// The text of this name. None where there is none.
     fn text(&self, alloc: Global, name: &str) -> Result<Option<String>, Failure>;

@@ -1,5 +1,7 @@
 //! What the command line may ask for.
 
+ghost use Rattle.std.specs.Prelude.{◌<◌};
+
 use dali_frame::Short;
 use dali_script::Block;
 
@@ -49,6 +51,7 @@ pub struct Setup {
     pub start: Start,
     /// How many passes in a row, each of one machine, are to have committed nothing, at least 1.
     pub idle_passes: u8,
+    ghost some: { 0 < idle_passes },
     /// Whether nothing is said of how far it is.
     pub is_quiet: bool,
     /// Whether what it came to is written as an object of JSON, too.

@@ -1,5 +1,7 @@
 //! The command line, and what it asks for.
 
+ghost use Rattle.std.specs.Prelude.{◌<◌};
+
 use crate::tasks::{Bounds, Replacement, Setup, Start, TableForm, Task};
 use dali_frame::Short;
 use dali_replacement::MOST_FILES;
@@ -316,6 +318,16 @@ fn start(alloc: Global, line: &CommandLine) -> Result<Start, LineFault> {
     }
 }
 
+/// How many passes must find nothing, which `clap` has seen that are some.
+fn idle_passes(line: &CommandLine) -> u8
+    ensures { 0 < result }
+{
+    match line.number("idle-passes") {
+        Some(0) | None => 3,
+        Some(count) => count,
+    }
+}
+
 /// What is asked for by `run`.
 fn setup(alloc: Global, line: &CommandLine) -> Result<Setup, LineFault> {
     let block = block(alloc, line.value("block").unwrap_or_default())?;
@@ -325,7 +337,7 @@ fn setup(alloc: Global, line: &CommandLine) -> Result<Setup, LineFault> {
         block,
         others,
         start: start(alloc, line)?,
-        idle_passes: line.number("idle-passes").unwrap_or(3),
+        idle_passes: idle_passes(line),
         is_quiet: line.has("quiet"),
         as_json: line.has("json"),
     })

@@ -175,7 +175,7 @@ impl Stores for Cabinet {
         self.place(name).is_some()
     }
 
-    fn lend<B: Borrower>(&self, name: &str, block: Block, borrower: &B) -> Result<(), Failure> {
+    fn lend<B: Borrower>(&self, name: &str, block: Block, borrower: B) -> Result<B::Out, Failure> {
         let mut store = self.opened(name, block)?;
         let done = borrower.take(&mut store);
         if let Ok(kept) = store.read() {
@@ -186,7 +186,7 @@ impl Stores for Cabinet {
         done
     }
 
-    fn lend_copy<B: Borrower>(&self, name: &str, borrower: &B) -> Result<(), Failure> {
+    fn lend_copy<B: Borrower>(&self, name: &str, borrower: B) -> Result<B::Out, Failure> {
         borrower.take(&mut self.opened(name, Block::ALL)?)
     }
 
@@ -194,7 +194,12 @@ impl Stores for Cabinet {
         String::from_str(alloc, name).map_err(|_| REFUSED)
     }
 
-    fn hold<H: Holder>(&self, alloc: Global, names: &[String], holder: &H) -> Result<(), Failure> {
+    fn hold<H: Holder>(
+        &self,
+        alloc: Global,
+        names: &[String],
+        mut holder: H,
+    ) -> Result<H::Out, Failure> {
         let mut all = Vec::new(alloc);
         for name in names {
             let kept = match self.opened(name, Block::ALL)?.read() {
@@ -205,11 +210,11 @@ impl Stores for Cabinet {
                 return Err(REFUSED);
             }
         }
-        holder.take(&all)?;
-        holder.then()
+        let due = holder.take(&all)?;
+        holder.then(due)
     }
 
-    fn alone<A: Actor>(&self, _name: &str, actor: &A) -> Result<(), Failure> {
+    fn alone<A: Actor>(&self, _name: &str, actor: A) -> Result<A::Out, Failure> {
         actor.act()
     }
 

@@ -82,7 +82,7 @@ impl Stores for Shelf<'_> {
         name == "site.db"
     }
 
-    fn lend<B: Borrower>(&self, _name: &str, block: Block, borrower: &B) -> Result<(), Failure> {
+    fn lend<B: Borrower>(&self, _name: &str, block: Block, borrower: B) -> Result<B::Out, Failure> {
         if let Some(fault) = self.fault {
             return Err(Failure::Store(fault));
         }
@@ -96,7 +96,7 @@ impl Stores for Shelf<'_> {
         }
     }
 
-    fn lend_copy<B: Borrower>(&self, name: &str, borrower: &B) -> Result<(), Failure> {
+    fn lend_copy<B: Borrower>(&self, name: &str, borrower: B) -> Result<B::Out, Failure> {
         self.lend(name, Block::ALL, borrower)
     }
 
@@ -106,11 +106,11 @@ impl Stores for Shelf<'_> {
 
     // Nothing is replaced here.
 
-    fn hold<H: Holder>(&self, _: Global, _: &[String], _: &H) -> Result<(), Failure> {
+    fn hold<H: Holder>(&self, _: Global, _: &[String], _: H) -> Result<H::Out, Failure> {
         Err(NONE)
     }
 
-    fn alone<A: Actor>(&self, _: &str, _: &A) -> Result<(), Failure> {
+    fn alone<A: Actor>(&self, _: &str, _: A) -> Result<A::Out, Failure> {
         Err(NONE)
     }
 

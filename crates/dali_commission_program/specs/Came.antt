@@ -1,0 +1,80 @@
+use Rattle.std.specs.Prelude.{◌≡◌, ◌⊎◌, ℕ, ◌-◌, Bool, List, [], ◌∷◌, ◌++◌, Result, Ok, Err}
+use Rattle.std.specs.Prelude.{length, IsErr}
+use Rattle.dali_script.specs.declared.block.Block.{Block}
+use Rattle.dali_script.specs.declared.orders.End.TheVariants.{AllFound}
+use Rattle.dali_script.specs.declared.orders.Input.TheVariants.{Survey}
+use Rattle.dali_script.specs.declared.records.Record.{Record}
+use Rattle.dali_script.specs.Records.{Kept}
+use Rattle.dali_commissioning.specs.declared.beginning.Begun.{Begun}
+use Rattle.dali_commissioning.specs.declared.beginning.Begun.TheVariants as begun
+use Rattle.dali_commissioning.specs.declared.beginning.Checked.{Checked}
+use Rattle.dali_commissioning.specs.declared.conducting.Ended.TheVariants.{Done}
+use Rattle.dali_commissioning.specs.declared.conducting.PassEnd.{PassEnd}
+use Rattle.dali_commissioning.specs.declared.fault.CommissionFault.{CommissionFault}
+use Rattle.dali_commissioning.specs.declared.verdict.Place.{Place}
+use Rattle.dali_commissioning.specs.Drivers.{Talk}
+use Rattle.dali_commissioning.specs.Places.{places}
+use Rattle.dali_commissioning.specs.Runs.{Run, AreRuns, EndWith, ComeTo, AreQuiet, IsBegun}
+use Rattle.dali_commission_program.specs.declared.failure.Failure.{Failure}
+use Rattle.dali_commission_program.specs.declared.failure.Failure.TheVariants.{AddressedBefore}
+use Rattle.dali_commission_program.specs.declared.progress.Aim.{Aim}
+use Rattle.dali_commission_program.specs.declared.said.Said.{Said}
+use Rattle.dali_commission_program.specs.declared.said.Said.TheVariants.{Commissioned}
+use Rattle.dali_commission_program.specs.declared.tasks.Start.{Start}
+use Rattle.dali_commission_program.specs.declared.tasks.Start.TheVariants as start
+use Rattle.dali_commission_program.specs.Failures.{checked, ended_as, failure_of}
+use Rattle.dali_commission_program.specs.Reports.{checked_said, addressed_said, heard_of}
+use Rattle.dali_commission_program.specs.Said.{heard_said, WhySaid}
+
+-- WHAT A CHECK COMES TO, by what it found, or why it could not be made: how it ends, what is said
+-- of it, and what stands where
+abbrev pub check_places : Result Checked CommissionFault → List Block → List Place
+check_places (Ok found) others = places found.kept others found.replies.items
+check_places (Err fault) others = []
+
+abbrev pub check_said : Result Checked CommissionFault → List Block → List Said
+check_said (Ok found) others =
+    checked_said found.kept (places found.kept others found.replies.items) found.has_unaddressed
+check_said (Err fault) others = []
+
+abbrev pub check_ended : Result Checked CommissionFault → List Block → Bool → ℕ
+    → Result (Unit {0}) Failure
+check_ended (Ok found) others heard line =
+    checked (places found.kept others found.replies.items) found.has_unaddressed heard
+check_ended (Err fault) others heard line = Err (failure_of fault line)
+
+-- HOW A RUN BEGINS: with a census, and then machines that start, or with machines that survey
+abbrev pub HasBegun : {S : Type 0} (is_up is_sound : S → Type 0)
+    (holds : S → List Record → Type 0) → Block → List Block → ℕ → S → S → Talk → Talk → Start
+    → Begun → Type 0
+HasBegun is_up is_sound holds block others wanted was keep x y start.Fresh came =
+    IsBegun is_up is_sound holds block others wanted was keep x y came
+HasBegun is_up is_sound holds block others wanted was keep x y start.Survey
+    (begun.Addressed replies) = ⊥
+HasBegun is_up is_sound holds block others wanted was keep x y start.Survey
+    (begun.Commissioned pass) =
+    (runs : List Run)
+    × AreRuns is_up is_sound holds block Survey was keep x y runs
+    × EndWith pass.ended runs
+    × ComeTo pass runs
+    × (pass.ended ≡ Done AllFound → AreQuiet wanted runs)
+
+-- WHAT A RUN COMES TO that began so: gear that no record names are said, and nothing else is done
+-- beside them; else it ends as the last machine did and by whether any gear was heard, or where
+-- that cannot be told without success
+abbrev pub ComesTo : Kept → List Block → Bool → Result Begun CommissionFault → List Said
+    → Result (Unit {0}) Failure → Type 0
+ComesTo k others heard (Ok (begun.Addressed replies)) lines ended =
+    (lines ≡ addressed_said (places k others replies.items)) × (ended ≡ Err AddressedBefore)
+ComesTo k others heard (Ok (begun.Commissioned pass)) lines ended =
+    IsErr ended ⊎ (ended ≡ ended_as pass.ended heard)
+ComesTo k others heard (Err fault) lines ended = IsErr ended
+
+-- WHAT IS SAID OF A RUN: whom its last survey left alone, why it ended so, and how many gear were
+-- enrolled, from one table to another
+abbrev pub RunSaid : PassEnd → Kept → Kept → Aim → ℕ → List Said → Type 0
+RunSaid pass before after aim frames lines =
+    (so_far : List Said)
+    × WhySaid (heard_said (heard_of pass.heard)) pass after aim so_far
+    × (lines ≡ so_far ++ Commissioned (length after.enrolled - length before.enrolled)
+    (length after.enrolled) frames ∷ [])
