@@ -94,6 +94,8 @@ SCHEMA, VIEWER = "docs/story.schema.json", "tools/lib/viewer.html"
 LINES, MISTAKES = "crates/dali_grammar/src/reason/forms.rt", "crates/dali_grammar/src/reason/mistake.rt"
 # The inputs that do not tell what became of a frame; how it was heard is an answer.
 NOT_OF_FRAMES = "Start Survey Heard Committed CommitFailed"
+# The refusals of a replacement whose text says what to do.
+SAYS_WHAT_TO_DO = "SameFile NotMissing OtherNew SeveralNew UnclearNew"
 PLACES = (
     # The header for C, and its example.
     Place(HEADER, block("enum dali_input {", "}"), "Input", "DALI_{UPPER} = {code}", "Heard"),
@@ -162,7 +164,7 @@ PLACES = (
     Place(FORMAT, section("Exit statuses of `dali_commission`"), "Fault", "`ended: {name}`", "Store"),
     Place(FORMAT, section("Exit statuses of `dali_commission`"), "DriverFault", "`{name}`", "Memory"),
     Place(FORMAT, section("Exit statuses of `dali_commission`"), "StoreFault", "`{name}`", "Store System"),
-    Place(FORMAT, section("What `replace` refuses"), "ReplaceRefusal", "`{name}`"),
+    Place(INSTALLER, section("What `replace` refuses"), "ReplaceRefusal", "`{name}`", SAYS_WHAT_TO_DO),
     Place(INSTALLER, table("| Status | What it means |"), "End", "`{name}`", "AllFound"),
     Place(INSTALLER, table("| Status | What it means |"), "Fault", "`{name}`", "Store"),
     Place(INSTALLER, table("| Status |"), "Failure", "| {code} |", "Console Spent"),
