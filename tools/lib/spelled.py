@@ -132,7 +132,7 @@ PLACES = (
     Place(FORMAT, section("Reports of the bus"), "Report", "{kebab}", "Collided"),
     Place(FORMAT, line("Of the rounds only"), "Order", "`{kebab}`", "Put"),
     Place(FORMAT, section("What `show` prints"), "InitialisationState", "`{kebab}`"),
-    Place(FORMAT, table("| Name | The frame | Source |"), "Kind", "| `{name}` |"),
+    Place("tools/lib/help/dali_sim-audit.txt", block("Findings,", "\n\n"), "Kind", "{name}"),
     Place(FORMAT, section("Refusals"), "Refusal", "`refused {code} {name}`", "NoMemory"),
     Place(FORMAT, WHOLE, "Refusal", "{code} {name}"),
     # The forms of lines, by which bad ones are explained. `Power` is `off` and `on`.

@@ -17,8 +17,9 @@ SEARCH = {0xB1: "SEARCHADDRH", 0xB3: "SEARCHADDRM", 0xB5: "SEARCHADDRL"}
 PARTS = {0xC2: "H", 0xC3: "M", 0xC4: "L"}
 # How a run that ended with such a status stands.
 STANDS = {0: "all-found", 6: "block-full", 7: "gave-up", 8: "halt-conflict"}
-# What a finding says, by its name: a row of a table in docs/FORMAT.md.
-FINDING = re.compile(r"^\| `([a-z-]+)` \| ((?:is|tells) .*?) \| \S.* \|$", re.M)
+# What a finding says, by its name, with its source behind it: the help of ./dali_sim audit, in which a text may go on in lines further in.
+HELP, GOES_ON = ROOT / "tools/lib/help/dali_sim-audit.txt", re.compile(r"\n {24}(?=\S)")
+FINDING = re.compile(r"^  ([a-z-]+) +((?:is|tells) .*) \((?:10[12],|profile).*\)$", re.M)
 
 
 def short_of(byte: int) -> int | None:
@@ -120,8 +121,8 @@ class Run:
 
 
 def findings() -> dict[str, str]:
-    """What each finding says, as docs/FORMAT.md has it."""
-    return {name: f"the frame {re.sub('`', '', text)}" for name, text in FINDING.findall((ROOT / "docs/FORMAT.md").read_text())}
+    """What each finding says, as the help has it."""
+    return {name: f"the frame {text}" for name, text in FINDING.findall(GOES_ON.sub(" ", HELP.read_text()))}
 
 
 def events_of(items: str) -> list[dict[str, typing.Any]]:
