@@ -200,6 +200,18 @@ def paths(root: pathlib.Path) -> Iterator[str]:
                 yield f"{named(root, file)}: there is no {path}"
 
 
+def examples(root: pathlib.Path) -> Iterator[str]:
+    """Each block of Rust in docs/LIBRARY.md stands in the test that compiles it, and there is one."""
+    page, test = root / "docs/LIBRARY.md", root / "tests/dali_line_tests/src/library.rt"
+    text = test.read_text() if test.exists() else ""
+    blocks = re.findall(r"^```rust\n(.*?)^```$", page.read_text(), re.M | re.S) if page.exists() else [text]
+    if not blocks:
+        yield f"{named(root, page)}: there is no block of Rust"
+    for block in blocks:
+        if block not in text:
+            yield f"{named(root, page)}: {named(root, test)} has no such text: {block.splitlines()[0]}"
+
+
 def clauses(root: pathlib.Path) -> Iterator[str]:
     """Each clause that docs/PROOFS.md or the README of a crate names stands in a contract of some crate."""
     contracts = "".join(file.read_text() for file in code(root, "*/src/**/*.rt"))
@@ -327,7 +339,7 @@ def public(body: list[ast.stmt], before: str = "") -> Iterator[tuple[str, ast.Fu
             yield f"{before}{it.name}", it
 
 
-RULES = (widths, lengths, imports, docs, crates, links, paths, clauses, readmes, kit, handles, spellings, forms, edits, version, helps, annotations)
+RULES = (widths, lengths, imports, docs, crates, links, paths, examples, clauses, readmes, kit, handles, spellings, forms, edits, version, helps, annotations)
 
 
 def offences(root: pathlib.Path | str) -> dict[str, list[str]]:

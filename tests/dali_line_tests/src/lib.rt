@@ -13,6 +13,8 @@ mod full;
 #[cfg(test)]
 mod holding;
 #[cfg(test)]
+mod library;
+#[cfg(test)]
 mod listed;
 #[cfg(test)]
 mod reading;
