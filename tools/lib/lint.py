@@ -10,11 +10,10 @@ import re
 import types
 from collections.abc import Iterator
 
-from lib import line_forms, spelled, wrong_bodies
+from lib import line_forms, spelled, writing, wrong_bodies
 
 WIDTHS = {"src": (".rt", 120), "specs": (".antt", 100), "proofs": (".antt", 160)}
 LONGEST = 800
-MOST_WORDS = 1100
 HELP_WIDTH = 100
 # The folders that have crates, and the lists of what each crate stands on.
 FOLDERS = {"crates": "crates.txt", "tests": "tests/tests.txt", "extra": "extra/programs.txt"}
@@ -313,11 +312,10 @@ def helps(root: pathlib.Path) -> Iterator[str]:
 
 
 def readmes(root: pathlib.Path) -> Iterator[str]:
-    """Each crate has a README of at most 1,100 words, counted between blanks."""
+    """Each crate has a README."""
     for folder in (it for top in FOLDERS for it in sorted((root / top).glob("*/")) if (it / "src").is_dir()):
-        count = len((folder / "README.md").read_text().split()) if (folder / "README.md").exists() else None
-        if count is None or count > MOST_WORDS:
-            yield f"{named(root, folder)}: its README has {count} words" if count else f"{named(root, folder)}: it has no README"
+        if not (folder / "README.md").exists():
+            yield f"{named(root, folder)}: it has no README"
 
 
 def annotations(root: pathlib.Path) -> Iterator[str]:
@@ -339,9 +337,14 @@ def public(body: list[ast.stmt], before: str = "") -> Iterator[tuple[str, ast.Fu
             yield f"{before}{it.name}", it
 
 
-RULES = (widths, lengths, imports, docs, crates, links, paths, examples, clauses, readmes, kit, handles, spellings, forms, edits, version, helps, annotations)
+RULES = (
+    widths, lengths, imports, docs, crates, links, paths, examples, clauses, readmes, writing.words, writing.plain, kit, handles,
+    spellings, forms, edits, version, helps, annotations,
+)
+# What is told, and is no offence.
+WARNINGS = (writing.sentences,)
 
 
-def offences(root: pathlib.Path | str) -> dict[str, list[str]]:
+def offences(root: pathlib.Path | str, rules: tuple = RULES) -> dict[str, list[str]]:
     """What each rule finds, by its name."""
-    return {rule.__name__: sorted(set(rule(pathlib.Path(root)))) for rule in RULES}
+    return {rule.__name__: sorted(set(rule(pathlib.Path(root)))) for rule in rules}
