@@ -159,6 +159,25 @@ def crates(root: pathlib.Path) -> Iterator[str]:
                     yield f"{named(root, listing)}: {name} names {it}, and no file of {name} does"
 
 
+def listed(root: pathlib.Path) -> dict[str, list[str]]:
+    """The crates of crates.txt, each with those that it stands on, the kit's too."""
+    heads = [re.split("#", it)[0].partition(":") for it in (root / "crates.txt").read_text().splitlines()]
+    return {head.split()[0]: below.split() for head, _, below in heads if head.strip()}
+
+
+def drawing(root: pathlib.Path) -> Iterator[str]:
+    """The drawing of docs/ARCHITECTURE.md has each crate, and what it stands on in a lower row."""
+    page = root / "docs/ARCHITECTURE.md"
+    them, blocks = listed(root), re.findall(r"^```\n(.*?)^```", page.read_text(), re.M | re.S)
+    rows = {name: at for at, line in enumerate(blocks[0].splitlines()) for name in line.split() if name in them} if blocks else {}
+    for name, below in them.items():
+        if name not in rows:
+            yield f"{named(root, page)}: the drawing lacks {name}"
+        for it in below:
+            if name in rows and it in rows and rows[it] <= rows[name]:
+                yield f"{named(root, page)}: the drawing has {it} not below {name}, which stands on it"
+
+
 def heading(line: str) -> str:
     """The name by which a link finds a heading."""
     return re.sub(r"[^\w\- ]", "", line.strip().lower().replace("`", "")).replace(" ", "-")
@@ -338,8 +357,8 @@ def public(body: list[ast.stmt], before: str = "") -> Iterator[tuple[str, ast.Fu
 
 
 RULES = (
-    widths, lengths, imports, docs, crates, links, paths, examples, clauses, readmes, writing.words, writing.plain, kit, handles,
-    spellings, forms, edits, version, helps, annotations,
+    widths, lengths, imports, docs, crates, drawing, links, paths, examples, clauses, readmes, writing.words, writing.plain, kit,
+    handles, spellings, forms, edits, version, helps, annotations,
 )
 # What is told, and is no offence.
 WARNINGS = (writing.sentences,)

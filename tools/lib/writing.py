@@ -12,11 +12,12 @@ MOST_WORDS = (
     (28_000, READMES),
     (1_100, ("README.md",)),
     (1_500, ("CONTRIBUTING.md",)),
+    (1_500, ("docs/ARCHITECTURE.md",)),
 )
 LONGEST_SENTENCE = 30
 # Documents in which words to avoid are not looked for yet.
 OLDER = (
-    "docs/ARCHITECTURE.md", "docs/DECISIONS.md", "docs/FORMAT.md", "docs/GATE.md", "docs/INSTALLER.md", "docs/PROOFS.md",
+    "docs/DECISIONS.md", "docs/FORMAT.md", "docs/GATE.md", "docs/INSTALLER.md", "docs/PROOFS.md",
     "docs/STORES.md", "docs/VENDOR.md", "tools/README.md", "CHANGELOG.md", *READMES,
 )
 # What stands for a piece of code in a text without it.
