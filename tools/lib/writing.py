@@ -17,7 +17,7 @@ MOST_WORDS = (
 LONGEST_SENTENCE = 30
 # Documents in which words to avoid are not looked for yet.
 OLDER = (
-    "docs/DECISIONS.md", "docs/FORMAT.md", "docs/GATE.md", "docs/INSTALLER.md", "docs/PROOFS.md",
+    "docs/FORMAT.md", "docs/GATE.md", "docs/INSTALLER.md", "docs/PROOFS.md",
     "docs/STORES.md", "docs/VENDOR.md", "tools/README.md", "CHANGELOG.md", *READMES,
 )
 # What stands for a piece of code in a text without it.
@@ -37,7 +37,7 @@ AVOIDED = {
     r"\bwhere there (?:is|are|was|were)\b": IF,
     rf"\bwhere {IT} (?:is|are|was|were) (?:not|no|already|still|called|connected|damaged|done|full|given|gone|known|missing|refused)\b": IF,
     rf"\bwhere {IT} (?:has|have|had|does|do|did|names?|needs?|wants?|cannot|can|could|would|fails?|failed)\b": IF,
-    r"\*\*\d+\.\*\*|(?i:\bdecisions? \d)": "decisions have no numbers: name one, or link to it",
+    r"\*\*\d+\.\*\*|\((?:\d+, )*\d+\)|(?i:\bdecisions? \d)": "decisions have no numbers: name one, or link to it",
 }
 
 
