@@ -32,7 +32,7 @@ MEMORY = 2_500_000_000
 SECONDS = ROOT / "tools/lib/proof-seconds.txt"
 # How long a job must have to do in seconds of processor, so that it is worth its reading.
 WORTH = 12
-# By the clock, how much faster so many jobs are than one: a guess, between the two crates that were tried with three (docs/GATE.md).
+# By the clock, how much faster so many jobs are than one: a guess, between the two crates that were tried with three.
 FASTER = {1: 1, 2: 1.4, 3: 1.7}
 # What a crate is taken to need that was never measured, and how many must be done before the time that is left is guessed.
 UNMEASURED, FEWEST = 100, 3
