@@ -16,7 +16,7 @@ MOST_WORDS = (
 )
 LONGEST_SENTENCE = 30
 # Documents in which words to avoid are not looked for yet.
-OLDER = ("docs/FORMAT.md", "docs/INSTALLER.md", "docs/STORES.md", "CHANGELOG.md", *READMES)
+OLDER = ("docs/FORMAT.md", "docs/INSTALLER.md", "docs/STORES.md", *READMES)
 # What stands for a piece of code in a text without it.
 CODE = "\N{LOZENGE}"
 # Words to avoid, and what to write. The conditions with 'where' are those that hardly ever are places.
