@@ -29,7 +29,7 @@ AVOIDED = {
     r"(?i)\bof (?:its|their|his|her) own\b": "leave it out, or write 'its own' before the word",
     r"(?:(?:^|[.:] |\()Where|; where) (?!to\b)[^.?]*?,": IF,
     r"\b(?:only|except|exactly|just|even|also|but|unless|than) where\b": IF,
-    rf"(?:{CODE}|\b\d+),? where (?!{IT} (?:lies?|stands?|hangs?|was|were|begins?|ends?)\b)": IF,
+    rf"(?:{CODE}|\b\d+) where (?!{IT} (?:lies?|stands?|hangs?|was|were|begins?|ends?)\b)": IF,
     r"\bwhere (?:nothing|no|none|neither|something|anything|several|both|all|more than|at least|two|three|either)\b": IF,
     r"\bwhere there (?:is|are|was|were)\b": IF,
     rf"\bwhere {IT} (?:is|are|was|were) (?:not|no|already|still|called|connected|damaged|done|full|given|gone|known|missing|refused)\b": IF,
