@@ -37,7 +37,7 @@ impl Model for Arbiter {
 }
 
 impl Arbiter {
-    /// An arbiter of a bus that nobody owns, with room for `capacity` requests: 1 to 1024.
+    /// An arbiter of a bus without owner, with room for `capacity` requests: 1 to 1024.
     ///
     /// `BadCapacity` comes before `NoMemory`.
     pub fn new(alloc: Global, capacity: usize) -> Result<Arbiter, NewError>
@@ -78,7 +78,7 @@ impl Arbiter {
         }
     }
 
-    /// The request that is next: of the owner of the bus its first at priority 1; where nobody owns the bus, the first
+    /// The request that is next: of the owner of the bus its first at priority 1; if the bus has no owner, the first
     /// of the highest priority that waits.
     pub fn pick(&self) -> Option<Request>
         ensures next { result ≡ next self.now }
@@ -92,8 +92,8 @@ impl Arbiter {
 
     /// The next request was sent: it leaves. There must be one: `pick` showed it.
     ///
-    /// With `more` frames of its transaction to come, its sender owns the bus from now on; else nobody does, and the
-    /// list of priority 1 is emptied.
+    /// With `more` frames of its transaction to come, its sender owns the bus from now on; else the bus has no owner,
+    /// and the list of priority 1 is emptied.
     pub fn sent(&mut self, more: bool)
         requires { IsSome (next self.old) }
         ensures { self.new ≡ bus_sent self.old more }
@@ -106,7 +106,7 @@ impl Arbiter {
         }
     }
 
-    /// The next request was destroyed on the bus: it leaves, nobody owns the bus, and the list of priority 1 is
+    /// The next request was destroyed on the bus: it leaves, the bus has no owner, and the list of priority 1 is
     /// emptied. There must be one: `pick` showed it.
     pub fn destroyed(&mut self)
         requires { IsSome (next self.old) }
@@ -116,7 +116,7 @@ impl Arbiter {
         self.free();
     }
 
-    /// The next request collided: as `destroyed`; where the request behind it in its list has another sender, that
+    /// The next request collided: as `destroyed`; if the request behind it in its list has another sender, that
     /// one leaves too and is answered: its sender is to be told too. There must be a next request: `pick` showed it.
     pub fn collided(&mut self) -> Option<Request>
         requires { IsSome (next self.old) }
@@ -128,7 +128,7 @@ impl Arbiter {
         other
     }
 
-    /// Ownership ends: nobody owns the bus, and the list of priority 1 is emptied. Answers who owned it.
+    /// Ownership ends: the bus has no owner, and the list of priority 1 is emptied. Answers who owned it.
     pub fn lapse(&mut self) -> Option<u8>
         ensures owner { result ≡ self.old.owner }
         ensures bus { self.new ≡ bus_lapsed self.old }
@@ -140,7 +140,7 @@ impl Arbiter {
 
     /// A sender falls silent: all its requests leave, the others keep their order, and its ownership ends.
     ///
-    /// Where it owned the bus, the list of priority 1 is emptied.
+    /// If it owned the bus, the list of priority 1 is emptied.
     pub fn silence(&mut self, sender: u8)
         ensures { self.new ≡ bus_silenced self.old sender }
     {
@@ -152,7 +152,7 @@ impl Arbiter {
 
     /// Who owns the bus.
     ///
-    /// The requests of priority 1 are the owner's; where nobody owns the bus there are none.
+    /// The requests of priority 1 are the owner's; if the bus has no owner there are none.
     pub fn owner(&self) -> Option<u8>
         ensures value { result ≡ self.now.owner }
         ensures owned { AllByRecursion (λ r. self.now.owner ≡ Some r.sender) (first_list self.now) }

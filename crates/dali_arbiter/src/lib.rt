@@ -2,7 +2,7 @@
 //! priority, and the owner of the bus.
 //!
 //! This project's profile of transactions in the manner of IEC 62386-101:2014: all forward frames of a transaction but
-//! the first have priority 1, and nobody else sends while the owner of the bus goes on.
+//! the first have priority 1, and no other controller sends while the owner of the bus goes on.
 //!
 //! Only [`Arbiter::new`] takes memory.
 #![tactic(auto)]

@@ -26,7 +26,7 @@ pub(crate) fn take_first(waiting: &mut Ring<Request>) -> Request
     waiting.pop(priority).unwrap()
 }
 
-/// Takes the oldest request of the highest priority out, and the one behind it in its list too where another sender
+/// Takes the oldest request of the highest priority out, and the one behind it in its list too if another sender
 /// has put it there: that one is answered.
 pub(crate) fn take_collision(waiting: &mut Ring<Request>) -> Option<Request>
     requires { IsSome (first_waiting waiting.old.lists) }

@@ -127,7 +127,7 @@ fn has_early(places: &[Place]) -> bool
     places.iter().any(|place| is_early(place))
 }
 
-/// The row takes a move, where so many of the numbers were drawn. Answers how many then are.
+/// The row takes a move, if so many of the numbers were drawn. Answers how many then are.
 fn played(row: &mut Row, what: &Move, draws: &[Random24], drawn: usize) -> usize
     requires { All (λ r. r < MASK24) draws.now }
 {
@@ -223,7 +223,7 @@ impl Making {
         self.reading.known.bus.search.number() == Some(place.random)
     }
 
-    /// Whether it may have drawn at a RANDOMISE that was destroyed: where that was the second of two.
+    /// Whether it may have drawn at a RANDOMISE that was destroyed: if that was the second of two.
     fn may_have_drawn(&self, gear: u8) -> bool {
         match self.reading.known.bus.half {
             Some(first) => {
@@ -322,7 +322,7 @@ impl Making {
     }
 
     /// A gear that would draw at this frame draws its random address, if it is that of this RANDOMISE. Of any other
-    /// nobody knows what it draws.
+    /// it is not known what it draws.
     fn draw_one(
         &mut self,
         places: &[Place],
@@ -379,7 +379,7 @@ impl Making {
         self.put(Command::Terminate)
     }
 
-    /// What was before the capture, where some gear drew their random address before it.
+    /// What was before the capture, if some gear drew their random address before it.
     fn precede(&mut self, places: &[Place], now: Moment, has_early: bool) -> Result<(), AllocError>
         ensures { OnOk result (frames_of self.new.steps.items
             ≡ frames_of self.old.steps.items ++ early_frames has_early) }
@@ -421,9 +421,9 @@ impl Making {
         Ok(())
     }
 
-    /// A damaged frame: nobody knows who took it, and what it was. After TERMINATE it changes the state of no gear.
-    /// Else that of the gear at the search address is not known, nor that of any gear which is not heard before the
-    /// next TERMINATE.
+    /// A damaged frame: it is not known what it was, and which gear took it. After TERMINATE it changes the state of no
+    /// gear. Else that of the gear at the search address is not known, nor that of any gear which is not heard before
+    /// the next TERMINATE.
     fn spoil(
         &mut self,
         places: &[Place],

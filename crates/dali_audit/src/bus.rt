@@ -195,7 +195,7 @@ fn frame_end(item: &Item) -> Option<u64>
 }
 
 impl Search {
-    /// The search address, where the capture tells all of it.
+    /// The search address, if the capture tells all of it.
     pub fn number(self) -> Option<Random24>
         ensures { result ≡ number self }
     {

@@ -21,7 +21,7 @@ pub enum Move {
     Expire(u8),
     /// Half pairs are forgotten.
     Quiet,
-    /// All gear that have power take a frame. What was heard after it is compared with what they answer, where it is a
+    /// All gear that have power take a frame. What was heard after it is compared with what they answer, if it is a
     /// question of the command table.
     Frame(Forward, Option<Answer>),
 }

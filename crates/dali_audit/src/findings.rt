@@ -10,7 +10,7 @@ pub enum Kind {
     DamagedFrame,
     /// The answer to a question is damaged, and it was no COMPARE.
     DamagedAnswer,
-    /// A backward frame where nobody may answer.
+    /// A backward frame where no gear may answer.
     UnaskedAnswer,
     /// An answer that gear give in an initialisation alone, when none is in force.
     NotInitialised,

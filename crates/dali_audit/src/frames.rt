@@ -6,7 +6,7 @@ ghost use Rattle.dali_audit.specs.Frames.{asked};
 use dali_frame::{Answer, Forward};
 use dali_special::Command;
 
-/// What is compared of a frame: what was heard, where it is a question of the command table.
+/// What is compared of a frame: what was heard, if it is a question of the command table.
 pub(crate) fn asked(frame: Forward, answer: Answer) -> Option<Answer>
     ensures { result ≡ asked frame answer }
 {

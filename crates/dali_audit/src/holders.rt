@@ -19,11 +19,11 @@ use std::marker::Model;
 /// Who has a short address, as far as the capture shows.
 #[derive(Clone, Copy, Debug, PartialEq, Eq)]
 pub enum Holder {
-    /// Nobody was heard under it.
+    /// No gear was heard under it.
     Nobody,
-    /// Somebody was heard under it whose random address is not known.
+    /// Gear was heard under it whose random address is not known.
     Somebody,
-    /// It was programmed at this search address, and nobody was heard under it since.
+    /// It was programmed at this search address, and no gear was heard under it since.
     Programmed(Random24),
     /// The gear with this random address was heard under it.
     Answered(Random24),
@@ -43,7 +43,7 @@ pub enum Change {
     Told(Short, Random24),
     /// VERIFY SHORT ADDRESS was heard as one answer.
     Verified(Short),
-    /// Somebody was heard under the short address.
+    /// Gear was heard under the short address.
     Answered(Short),
     /// Gear that may have short addresses drew new random addresses.
     Redrawn,
@@ -180,7 +180,7 @@ pub fn change_of(bus: &Bus, item: &Item, seen: Seen) -> Change
 }
 
 impl Holder {
-    /// The random address of the gear that has the short address, where one is known.
+    /// The random address of the gear that has the short address, if one is known.
     pub fn random(&self) -> Option<Random24>
         ensures { result ≡ random_of self.now }
     {
@@ -192,7 +192,7 @@ impl Holder {
         }
     }
 
-    /// The same, where that gear was heard.
+    /// The same, if that gear was heard.
     pub fn heard(&self) -> Option<Random24>
         ensures { result ≡ heard_of self.now }
     {
@@ -202,7 +202,7 @@ impl Holder {
         }
     }
 
-    /// Whether it is somebody who was heard, and not known to be the gear with this random address.
+    /// Whether it is gear that was heard, and not known to be the gear with this random address.
     pub(crate) fn is_other(&self, random: Random24) -> bool
         ensures { result ≡ is_other random self.now }
     {
@@ -303,7 +303,7 @@ impl Holder {
         }
     }
 
-    /// Whoever has the short address of which a change tells.
+    /// The gear with the short address of which a change tells.
     fn renewed(&self, change: &Change) -> Holder
         ensures { result ≡ renewed change.now self.now }
     {
@@ -317,7 +317,7 @@ impl Holder {
         }
     }
 
-    /// Whoever has any other.
+    /// The gear with any other.
     fn swept(&self, change: &Change) -> Holder
         ensures { result ≡ swept change.now self.now }
     {
@@ -369,7 +369,7 @@ impl Model for Table {
 }
 
 impl Table {
-    /// Nobody was heard.
+    /// No gear was heard.
     pub fn new() -> Table
         ensures { result ≡ table_at_first }
     {

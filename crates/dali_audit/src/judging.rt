@@ -17,7 +17,7 @@ use std::alloc::{AllocError, Global};
 #[derive(Drop)]
 pub struct Judgement {
     pub audit: Audit,
-    /// The bench that takes its frames; none where it reveals more than 128 gear.
+    /// The bench that takes its frames; none if it reveals more than 128 gear.
     pub bench: Option<Bench>,
     /// When something was heard for the first time that the gear of the bench did not answer.
     pub other_answer: Option<u64>,
@@ -122,7 +122,7 @@ impl Judgement {
         self.audit.findings.is_empty() && self.other_answer.is_none()
     }
 
-    /// A head, a line for each finding, and a line for each short address that somebody has.
+    /// A head, a line for each finding, and a line for each short address that gear has.
     pub fn push_lines(&self, text: &mut String) -> Result<(), AllocError>
         ensures { OnOk result (string_bytes text.new ≡ string_bytes text.old ++ lines_text self.now) }
     {

@@ -128,7 +128,7 @@ impl Reading {
         })
     }
 
-    /// The gear that was heard under a short address. Where that was not programmed in this capture, the gear had it.
+    /// The gear that was heard under a short address. If that was not programmed in this capture, the gear had it.
     fn told(&self, short: Short, random: Random24) -> Option<Place>
         ensures { result ≡ told_place short random self.now }
     {
@@ -139,7 +139,7 @@ impl Reading {
         }
     }
 
-    /// The gear that has the short address that was verified, where that was programmed.
+    /// The gear that has the short address that was verified, if that was programmed.
     fn verified(&self, holder: &Holder) -> Option<Place>
         ensures { result ≡ verified_place holder.now self.now }
     {

@@ -52,7 +52,7 @@ fn push_holder(text: &mut String, number: usize, holder: &Holder) -> Result<(), 
     }
 }
 
-/// A line for each short address that somebody has, as far as the capture shows.
+/// A line for each short address that gear has, as far as the capture shows.
 pub fn push_table(text: &mut String, table: &Table) -> Result<(), AllocError>
     ensures { OnOk result (string_bytes text.new ≡ string_bytes text.old ++ table_text 0 table.now) }
 {

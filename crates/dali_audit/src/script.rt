@@ -81,7 +81,7 @@ fn push_gear(text: &mut String, places: &[Place], draws: &[Random24]) -> Result<
     push_all_used(text, places)
 }
 
-/// What a script has before the steps. It has one gear at least: where none is known, that one has no power.
+/// What a script has before the steps. It has one gear at least: if none is known, that one has no power.
 fn push_head(text: &mut String, places: &[Place], draws: &[Random24]) -> Result<(), AllocError>
     ensures { OnOk result (string_bytes text.new ≡ string_bytes text.old ++ bench_head places.now draws.now) }
 {

@@ -28,7 +28,7 @@ const LEAST_WAIT: u64 = 2_400;
 
 const MOST_WAIT: u64 = 12_400;
 
-/// Whether somebody may answer a forward frame: it is a question of the command table, or no command of it.
+/// Whether gear may answer a forward frame: it is a question of the command table, or no command of it.
 fn awaits(frame: Forward) -> bool
     ensures { result ≡ awaits frame }
 {

@@ -163,7 +163,7 @@ fn initialisation_over(bus: &Bus, item: &Item, seen: Seen) -> Option<u64>
     }
 }
 
-/// Whether a frame asks for a short address, or asks somebody under it.
+/// Whether a frame asks for a short address, or asks the gear under it.
 fn asks_short(command: &Command) -> bool
     ensures { result ≡ asks_short command.now }
 {
@@ -386,7 +386,7 @@ impl Known {
         change_of(&self.bus, item, seen)
     }
 
-    /// The time that is told of an item, where it breaks this rule.
+    /// The time that is told of an item, if it breaks this rule.
     pub fn told_at(&self, kind: Kind, item: &Item, seen: Seen) -> Option<u64>
         ensures { result ≡ told_at kind self.now item.now seen }
     {

@@ -36,7 +36,7 @@ impl PlainAscent {
         }
     }
 
-    /// None where its bytes are none of an ascent's.
+    /// None if its bytes are none of an ascent's.
     pub(crate) fn read(&self) -> Option<Ascent>
         ensures ascent { IfSome result (IsPlainAscent self.now) }
         ensures same { (a : Ascent) → IsPlainAscent self.now a → result ≡ Some a }

@@ -162,7 +162,7 @@ pub extern "C" fn dali_machine_step(
     }
 }
 
-/// The same, where it is known that the struct holds a machine.
+/// The same, if it is known that the struct holds a machine.
 #[unsafe(no_mangle)]
 pub extern "C" fn dali_machine_go(
     machine: &mut PlainMachine,
@@ -219,7 +219,7 @@ fn go_on(
     }
 }
 
-/// A machine with these records takes an input. None where it waits for something else.
+/// A machine with these records takes an input. None if it waits for something else.
 fn step(state: &mut State, records: &mut PlainRecords, told: Input) -> Option<Order>
     requires records { AreRecords records.old }
     requires whole { IsWhole (machine_with state.old (kept_of records.old)) }
@@ -334,7 +334,7 @@ pub extern "C" fn dali_receiver_new(receiver: &mut PlainReceiver) -> u8
     status::OK
 }
 
-/// An edge, after which the bus is low or high, so many µs after the last one: the frame that had ended before, where
+/// An edge, after which the bus is low or high, so many µs after the last one: the frame that had ended before, if
 /// `dali_receiver_time` did not tell it.
 #[unsafe(no_mangle)]
 pub extern "C" fn dali_receiver_edge(

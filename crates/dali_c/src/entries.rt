@@ -52,7 +52,7 @@ impl PlainEntry {
         }
     }
 
-    /// None where it has no code of what was heard.
+    /// None if it has no code of what was heard.
     pub(crate) fn read(self) -> Option<Entry>
         ensures { result ≡ entry_of self }
     {
@@ -77,7 +77,7 @@ pub(crate) fn write_entries(entries: &[Entry]) -> [PlainEntry; FRAMES]
     plain
 }
 
-/// The running transaction of these frames. None where no controller has sent them.
+/// The running transaction of these frames. None if no controller has sent them.
 fn read_frames(plain: &[PlainEntry]) -> Option<Trace>
     requires { length plain.now ≤ 8 }
     ensures trace { IfSome result (λ t. AreEntries plain.now t × IsTransaction t) }

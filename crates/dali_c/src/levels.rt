@@ -10,7 +10,7 @@ use dali_wire::Sender;
 /// How many half bits a forward frame has with its stop condition.
 const HALVES: usize = 40;
 
-/// The levels of a frame with its stop condition, half bit by half bit: 1 where the bus is low.
+/// The levels of a frame with its stop condition, half bit by half bit: 1 while the bus is low.
 #[repr(C)]
 #[derive(Clone, Copy)]
 pub struct PlainLevels {

@@ -19,7 +19,7 @@ pub struct PlainMachine {
 }
 
 impl PlainMachine {
-    /// Its state. None where it is no machine between two inputs.
+    /// Its state. None if it is no machine between two inputs.
     pub(crate) fn read(&self) -> Option<State>
         ensures { MatchOption result
             ((m : Machine) → Holds self.now m → ⊥)
@@ -34,7 +34,7 @@ impl PlainMachine {
         }
     }
 
-    /// Why it is refused where it is none.
+    /// Why it is refused if it is none.
     pub(crate) fn refusal(&self) -> u8
         ensures { result ≡ refusal self.now }
     {

@@ -113,7 +113,7 @@ impl PlainOrder {
         }
     }
 
-    /// None where it is no order.
+    /// None if it is no order.
     pub(crate) fn read(self) -> Option<Option<Order>>
         ensures { result ≡ order_of self }
     {
@@ -169,7 +169,7 @@ impl PlainFinding {
         }
     }
 
-    /// None where it is no finding.
+    /// None if it is no finding.
     pub(crate) fn read(self) -> Option<Option<Finding>>
         ensures { result ≡ finding_of self }
     {

@@ -49,7 +49,7 @@ impl PlainRandom {
     }
 }
 
-/// The two numbers of a pair. None where the short address is above 63.
+/// The two numbers of a pair. None if the short address is above 63.
 pub(crate) fn read_pair(pair: Pair) -> Option<(Short, Random24)>
     ensures { result ≡ read_pair pair }
 {

@@ -7,7 +7,7 @@ use crate::codes::{answer_code, answer_of, bool_code, bool_of};
 use dali_frame::Answer;
 use dali_wire::{Frame, Reading, Receiver, Told, Window};
 
-/// A [`Receiver`]. `bits` are read where its reading has some.
+/// A [`Receiver`]. `bits` are read if its reading has some.
 #[repr(C)]
 #[derive(Clone, Copy)]
 pub struct PlainReceiver {
@@ -30,7 +30,7 @@ impl PlainReceiver {
         }
     }
 
-    /// None where its bytes are none of a receiver's.
+    /// None if its bytes are none of a receiver's.
     pub(crate) fn read(self) -> Option<Receiver>
         ensures { result ≡ receiver_of self }
     {
@@ -86,7 +86,7 @@ impl PlainTold {
     }
 }
 
-/// How much the code of what a window heard is greater where it has passed over a pulse.
+/// How much the code of what a window heard is greater if it has passed over a pulse.
 const PULSE: u8 = 4;
 
 /// A [`Window`].
@@ -116,7 +116,7 @@ impl PlainWindow {
         }
     }
 
-    /// None where its bytes are none of a window's.
+    /// None if its bytes are none of a window's.
     pub(crate) fn read(self) -> Option<Window>
         ensures { result ≡ window_of self }
     {

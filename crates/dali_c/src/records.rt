@@ -33,7 +33,7 @@ impl PlainRecords {
         }
     }
 
-    /// None where no controller keeps them. Nothing is copied.
+    /// None if no controller keeps them. Nothing is copied.
     pub(crate) fn read(&self) -> Option<Records<'_>>
         ensures { MatchOption result
             (AreRecords self.now → ⊥)
@@ -51,7 +51,7 @@ impl PlainRecords {
         )
     }
 
-    /// The same, where it is known that a controller keeps them.
+    /// The same, if it is known that a controller keeps them.
     pub(crate) fn known(&self) -> Records<'_>
         requires { AreRecords self.now }
         ensures { result ≡ kept_of self.now }
@@ -83,7 +83,7 @@ impl PlainRecords {
         }
     }
 
-    /// Adds a record, where there is one.
+    /// Adds a record, if there is one.
     pub(crate) fn keep(&mut self, added: Option<Record>)
         requires records { AreRecords self.old }
         requires may { IfSome added (λ x. Fits (kept_of self.old).block x × MayAdd (kept_of self.old) x) }

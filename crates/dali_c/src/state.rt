@@ -83,7 +83,7 @@ impl PlainState {
         self.entries = write_entries(entries);
     }
 
-    /// None where its bytes spell no state.
+    /// None if its bytes spell no state.
     pub(crate) fn read(&self) -> Option<State>
         ensures spelled { IfSome result (Spells self.now) }
         ensures none { IfNone result ((s : State) → Spells self.now s → ⊥) }
@@ -112,7 +112,7 @@ impl PlainState {
         })
     }
 
-    /// How far it is on its way. None where its bytes are those of no leg.
+    /// How far it is on its way. None if its bytes are those of no leg.
     fn leg(&self) -> Option<Leg>
         ensures leg { IfSome result (IsPlainLeg self.now) }
         ensures same { (l : Leg) → IsPlainLeg self.now l → result ≡ Some l }

@@ -8,7 +8,7 @@ use crate::pairs::PlainRandom;
 use dali_controller::{Passed, Tally};
 use dali_frame::Random24;
 
-/// A [`Tally`]. `failed` is read where `has_failed` is 1 alone.
+/// A [`Tally`]. `failed` is read only if `has_failed` is 1.
 #[repr(C)]
 #[derive(Clone, Copy)]
 pub struct PlainTally {
@@ -44,7 +44,7 @@ impl PlainTally {
         }
     }
 
-    /// None where its bytes are none of a tally's.
+    /// None if its bytes are none of a tally's.
     pub(crate) fn read(&self) -> Option<Tally>
         ensures { result ≡ tally_of self.now }
     {
@@ -66,7 +66,7 @@ impl PlainTally {
     }
 }
 
-/// The number whose visit failed, where one did.
+/// The number whose visit failed, if one did.
 fn read_failed(has_failed: bool, failed: PlainRandom) -> Option<Random24>
     ensures { result ≡ failed_of has_failed failed }
 {

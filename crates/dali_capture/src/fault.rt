@@ -20,7 +20,7 @@ pub enum Reason {
     LongIdentifier,
     /// No variable of one bit has the name that is wanted, or there is none at all.
     NoWire,
-    /// Two variables of one bit have the name that is wanted; where no name is wanted, there are two.
+    /// Two variables of one bit have the name that is wanted; if no name is wanted, there are two.
     SeveralWires,
     /// A time is less than the one before.
     TimeBack,

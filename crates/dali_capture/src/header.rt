@@ -61,7 +61,7 @@ pub fn unit_in(word: &[u8]) -> Option<Unit>
     }
 }
 
-/// So many times as many, where that is below 2^64.
+/// So many times as many, if that is below 2^64.
 fn product(number: u64, times: u64) -> Result<u64, Reason>
     ensures { result ≡ fitting (number * times) }
 {

@@ -65,7 +65,7 @@ impl SoFar {
         })
     }
 
-    /// An item, where one was told, joins those before.
+    /// An item, if one was told, joins those before.
     fn join(&mut self, told: Option<Item>) -> Result<(), CaptureFault>
         ensures joined { OnOk result
             (self.new ≡ record self.old { items = self.old.items ++ option_to_list told }) }
@@ -80,7 +80,7 @@ impl SoFar {
         }
     }
 
-    /// A word has ended, where one had begun.
+    /// A word has ended, if one had begun.
     fn word_end(&mut self, wanted: Option<&[u8]>, is_inverted: bool) -> Result<(), CaptureFault>
         ensures { Reads (word_end (option_map (λ w. w.now) wanted.entry) is_inverted self.old) self.new result }
     {
@@ -169,8 +169,9 @@ impl SoFar {
 
 /// Reads a capture as it comes, and gives its items in their order.
 ///
-/// `wanted` names the wire of a dump, where it has several of one bit; it is low where it is 0, inverted where it is 1.
-/// `Bad` comes with the first mistake, `Read` where the reader fails, `Interrupted` too, and `TooLong` past the limit.
+/// `wanted` names the wire of a dump, if it has several of one bit; the bus is low while the wire is 0, or, if
+/// inverted, while it is 1. `Bad` comes with the first mistake, `Read` if the reader fails, `Interrupted` too, and
+/// `TooLong` past the limit.
 pub fn read_capture<R: Read>(
     alloc: Global,
     wanted: Option<&[u8]>,

@@ -1,4 +1,4 @@
-//! A capture is a dump where its first word begins with `$`, else a log.
+//! A capture is a dump if its first word begins with `$`, else a log.
 
 ghost use Rattle.std.specs.Prelude.{◌≡◌, option_map};
 ghost use Rattle.dali_capture.specs.Sources.{begun, source_word, source_line_end, source_end};

@@ -22,7 +22,7 @@ fn is_digits(word: &[u8]) -> bool
     !word.is_empty()
 }
 
-/// The number that a word is; what it is not, where it has other characters than digits.
+/// The number that a word is; what it is not, if it has other characters than digits.
 pub fn number_in(word: &[u8], otherwise: Reason) -> Result<u64, Reason>
     ensures { result ≡ number_of otherwise word.now }
 {

@@ -45,11 +45,11 @@ fn records<K: Keep>(keep: &mut K) -> Result<Kept, CommissionFault>
     }
 }
 
-/// Asks each short address that the records do not name and that lies in no block of another controller, and where
+/// Asks each short address that the records do not name and that lies in no block of another controller, and if
 /// nothing is heard, commissions by machines that begin with Start.
 ///
 /// Such machines don't search gear that were addressed before, by another controller or by hand, and might give their
-/// addresses to others. So where anything is heard, nothing is begun. Machines that begin with Survey ask themselves:
+/// addresses to others. So if anything is heard, nothing is begun. Machines that begin with Survey ask themselves:
 /// `commission` runs them without a census.
 #[tactic(auto, using(crate::proofs::Ran::read_grows))]
 pub fn begin<K: Keep, R: Read, W: Write, P: Watch>(

@@ -146,7 +146,7 @@ fn lost_after(lost: u8, told: &Option<Reply>) -> u8
     }
 }
 
-/// Asks for one byte of a random address. None where the frame was lost.
+/// Asks for one byte of a random address. None if the frame was lost.
 fn byte<R: Read, W: Write>(
     driver: &mut DriverLink<R, W>,
     priority: Priority,
@@ -161,7 +161,7 @@ fn byte<R: Read, W: Write>(
     driver.ask(priority, frame, Half::Whole)
 }
 
-/// Asks the gear with a short address for its random address. None where one of the three frames was lost.
+/// Asks the gear with a short address for its random address. None if one of the three frames was lost.
 fn question<R: Read, W: Write>(
     driver: &mut DriverLink<R, W>,
     short: Short,
@@ -247,7 +247,7 @@ pub fn is_known(kept: &Kept, others: &[Block], short: Short) -> bool
     is_named(kept, short) || has_block(others, short)
 }
 
-/// What is heard of a short address, where it is not accounted for.
+/// What is heard of a short address, if it is not accounted for.
 fn count<R: Read, W: Write>(
     driver: &mut DriverLink<R, W>,
     kept: &Kept,

@@ -38,11 +38,11 @@ pub struct PassEnd {
     pub ended: Ended,
     /// Whether a record was committed.
     pub committed: bool,
-    /// The short addresses under which its survey heard somebody whose random address it does not know.
+    /// The short addresses at which its survey heard gear whose random address it does not know.
     pub heard: Shorts,
-    /// The gear that it found last: where it halted by a conflict, the one that contradicts its table.
+    /// The gear that it found last: if it halted by a conflict, the one that contradicts its table.
     pub found: Option<Finding>,
-    /// How often in a row its transaction was lost: 8 where it gave up for that.
+    /// How often in a row its transaction was lost: 8 if it gave up for that.
     pub tries: u8,
     /// What its survey has counted, and who was passed over.
     pub tally: Tally,
@@ -183,7 +183,7 @@ fn end_at(order: &Order) -> Option<Ended>
 /// Takes a machine from its start to its end: `start` is what it is told first, each frame that it puts is a line to
 /// the driver, and each record that it orders is committed in the store.
 ///
-/// The machine is told Committed only of a record that the store has then. It does at most so many orders. Where a
+/// The machine is told Committed only of a record that the store has then. It does at most so many orders. If a
 /// record cannot be committed, it is told nothing: what the store reads then decides. `watch` sees each order before it
 /// is done.
 #[tactic(auto, using(crate::proofs::Steps::left_at, crate::proofs::Steps::taken_at))]

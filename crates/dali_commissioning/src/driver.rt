@@ -136,7 +136,7 @@ impl<R: Read, W: Write> DriverLink<R, W> {
         }
     }
 
-    /// The number of the line that was read last, from 1 on: where a line is refused, that line's. It stops at
+    /// The number of the line that was read last, from 1 on: if a line is refused, that line's. It stops at
     /// 18,446,744,073,709,551,615.
     pub fn lines(&self) -> u64
         ensures { result ≡ lines_of self.now }
@@ -144,7 +144,7 @@ impl<R: Read, W: Write> DriverLink<R, W> {
         self.lines
     }
 
-    /// The line that was read last, without its line feed: where one is refused, that one, as far as it was read.
+    /// The line that was read last, without its line feed: if one is refused, that one, as far as it was read.
     pub fn line(&self) -> &[u8]
         ensures { result.now ≡ line_of self.now }
     {
@@ -206,7 +206,7 @@ impl<R: Read, W: Write> DriverLink<R, W> {
         }
     }
 
-    /// Writes the line of a frame, and reads nothing: what comes of it is learned by nobody.
+    /// Writes the line of a frame, and reads nothing: what comes of it is not learned.
     #[tactic(auto, using(crate::proofs::Written::appends_kept))]
     pub fn announce(
         &mut self,
@@ -250,7 +250,7 @@ impl<R: Read, W: Write> DriverLink<R, W> {
         self.read_told()
     }
 
-    /// The same: what was heard after the frame; None where it was lost.
+    /// The same: what was heard after the frame; None if it was lost.
     pub(crate) fn ask(
         &mut self,
         priority: Priority,

@@ -56,7 +56,7 @@ pub fn light<R: Read, W: Write>(
     Ok(is_sent(told))
 }
 
-/// Writes the line of the same frame, and reads nothing: for the end, where the driver tells no more.
+/// Writes the line of the same frame, and reads nothing: for the end, when the driver tells no more.
 pub fn light_at_last<R: Read, W: Write>(
     driver: &mut DriverLink<R, W>,
     short: Short,

@@ -68,7 +68,7 @@ fn told_byte(line: &[u8]) -> Option<Input>
     }
 }
 
-/// What a driver's line says, without its line feed; `None` where it is a bad line.
+/// What a driver's line says, without its line feed; `None` if it is a bad line.
 pub fn told_of(line: &[u8]) -> Option<Input>
     ensures value { result ≡ told_of line.now }
     ensures of_bus { IfSome result (λ told. accepts due.Bus told ≡ true) }

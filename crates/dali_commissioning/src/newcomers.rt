@@ -21,13 +21,13 @@ use std::io::{Read, Write};
 /// Gear without short address, as far as a survey found them.
 #[derive(Clone, Copy, PartialEq, Eq)]
 pub enum Newcomers {
-    /// Nobody has none.
+    /// No gear has none.
     Nobody,
-    /// One has none, with this random address; once it was withdrawn, nobody answered any more.
+    /// One has none, with this random address; once it was withdrawn, no gear answered any more.
     One(Random24),
     /// One has none, and others as well.
     Several,
-    /// The survey ended so before it found anybody.
+    /// The survey ended so before it found any gear.
     Unclear(Ended),
 }
 
@@ -46,7 +46,7 @@ fn without_any(ended: Ended) -> Newcomers
 /// asked. So none is given: who draws none, as this store takes no reservation, programs none
 /// (`laws::who_reserves_nothing_gives_nothing`). Gear without short address may draw new random addresses.
 ///
-/// The records are to have an address of their block that is neither reserved nor enrolled: where there is none a
+/// The records are to have an address of their block that is neither reserved nor enrolled: if there is none a
 /// survey does not search.
 pub fn look_for_newcomers<R: Read, W: Write, P: Watch>(
     keep: MemoryKeep,

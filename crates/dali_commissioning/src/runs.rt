@@ -71,7 +71,7 @@ fn run<K: Keep, R: Read, W: Write, P: Watch>(
 /// Runs machines, each of which begins by this input, until one ended otherwise than that no gear answers any more, or
 /// so many in a row have committed nothing. Answers what came of the last one.
 ///
-/// One run may leave gear where an answer was lost. The store has all that was committed, however it ends.
+/// One run may leave gear if an answer was lost. The store has all that was committed, however it ends.
 #[tactic(auto, using(crate::proofs::Ran::none_ran, crate::proofs::Ran::all_ran))]
 pub fn commission<K: Keep, R: Read, W: Write, P: Watch>(
     keep: &mut K,

@@ -24,7 +24,7 @@ pub struct Putting {
     pub priority: Priority,
     pub frame: Forward,
     pub half: Half,
-    /// Whether it asks if anybody is there.
+    /// Whether it asks if any gear is there.
     pub asks: bool,
 }
 
@@ -69,7 +69,7 @@ fn asking() -> [Putting; 10]
     ]
 }
 
-/// The same, where gear with this random address are withdrawn first: they do not answer then.
+/// The same, if gear with this random address are withdrawn first: they do not answer then.
 fn asking_beside(random: Random24) -> [Putting; 14]
     ensures { result ≡ asking_beside random }
 {
@@ -112,7 +112,7 @@ fn asking_beside(random: Random24) -> [Putting; 14]
     ]
 }
 
-/// Whether an answer to a frame says that somebody is there.
+/// Whether an answer to a frame says that gear is there.
 fn is_yes(asks: bool, heard: Answer) -> bool
     ensures { result ≡ is_yes asks heard }
 {
@@ -131,7 +131,7 @@ fn joined_yes(here: bool, later: Option<bool>) -> Option<bool>
     }
 }
 
-/// Puts frames one after the other. Whether one of them was heard to find somebody; None where one was lost.
+/// Puts frames one after the other. Whether one of them was heard to find gear; None if one was lost.
 fn put_all<R: Read, W: Write>(
     driver: &mut DriverLink<R, W>,
     puttings: &[Putting],
@@ -152,7 +152,7 @@ fn put_all<R: Read, W: Write>(
     }
 }
 
-/// Puts frames until each was heard, eight times in a row at most. Whether one of them was heard to find somebody.
+/// Puts frames until each was heard, eight times in a row at most. Whether one of them was heard to find gear.
 fn put_to_the_end<R: Read, W: Write>(
     driver: &mut DriverLink<R, W>,
     puttings: &[Putting],
@@ -173,7 +173,7 @@ fn put_to_the_end<R: Read, W: Write>(
 }
 
 /// Whether gear are there that have no short address: they are initialised, asked three times, and disabled again.
-/// Where one of these frames is lost all begins again, eight times in a row at most. No gear draws a random address, is
+/// If one of these frames is lost all begins again, eight times in a row at most. No gear draws a random address, is
 /// given a short one, or is withdrawn.
 pub fn has_unaddressed<R: Read, W: Write>(
     driver: &mut DriverLink<R, W>,

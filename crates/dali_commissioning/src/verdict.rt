@@ -16,12 +16,12 @@ use dali_script::{Block, Kept, Pair};
 pub enum Place {
     /// It lies in the block of another controller, and was not asked.
     NotAsked,
-    /// No gear is enrolled with it, and nobody answers.
+    /// No gear is enrolled with it, and no gear answers.
     #[default]
     Nobody,
     /// The gear with this random address is enrolled with it, and answers.
     There(Random24),
-    /// The gear with this random address is enrolled with it, and nobody answers.
+    /// The gear with this random address is enrolled with it, and no gear answers.
     Missing(Random24),
     /// The gear with the first random address is enrolled with it, and one with the second answers.
     Another(Random24, Random24),
@@ -30,7 +30,7 @@ pub enum Place {
     /// The gear with this random address is enrolled with it, and something answers that spells no random address:
     /// several gear together, or the bus is disturbed.
     Unclear(Random24),
-    /// It is reserved for the gear with this random address, which is not enrolled, and somebody answers.
+    /// It is reserved for the gear with this random address, which is not enrolled, and gear answers.
     Unfinished(Random24),
     /// No record names it, and a gear with this random address answers.
     Stranger(Random24),
@@ -85,7 +85,7 @@ fn strange_place(reply: Reply) -> Place
     }
 }
 
-/// Who answers to a short address with which nobody is enrolled.
+/// What answers to a short address with which no gear is enrolled.
 fn unnamed_place(reserved: Option<Random24>, reply: Reply) -> Place
     ensures { result ≡ unnamed_place reserved reply }
 {
@@ -146,7 +146,7 @@ pub fn places(kept: &Kept, others: &[Block], replies: &[Reply]) -> ArrayVec<Plac
 }
 
 /// Whether what stands under a short address is as the records have it: the gear that is enrolled is there, or none is
-/// enrolled and nobody answers.
+/// enrolled and no gear answers.
 pub fn is_as_recorded(place: Place) -> bool
     ensures { result ≡ is_as_recorded place }
 {
@@ -170,7 +170,7 @@ fn is_any_wrong(places: &[Place]) -> bool
     places.iter().any(|place| !is_as_recorded(*place))
 }
 
-/// Whether all gear that are enrolled are there, and nobody else answers.
+/// Whether all gear that are enrolled are there, and no other gear answers.
 pub fn are_as_recorded(places: &[Place]) -> bool
     ensures { result ≡ are_as_recorded places.now }
 {

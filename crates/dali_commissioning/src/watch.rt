@@ -9,7 +9,7 @@ pub trait Watch {
     fn told(&mut self, told: Input);
 }
 
-/// Nobody.
+/// No watch.
 #[derive(Drop)]
 pub struct Unwatched;
 

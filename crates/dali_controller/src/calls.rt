@@ -36,7 +36,7 @@ impl State {
     ghost use Rattle.dali_controller.specs.Next.{called_in, has_open, may_draw, nobody_left};
     ghost use Rattle.dali_controller.specs.Next.{blocked, ungiven, undrawn, full, asks_again, called_to};
 
-    /// The roll call: one COMPARE, two where the first is silent, that each gear without short address answers.
+    /// The roll call: one COMPARE, two if the first is silent, that each gear without short address answers.
     pub(crate) fn call(&mut self, kept: &Records<'_>) -> Order
         requires hunting { self.old.leg ≡ leg.Hunting (ascent_on self.old.leg) }
 
@@ -76,7 +76,7 @@ impl State {
         }
     }
 
-    /// Somebody answered a roll call.
+    /// Some gear answered a roll call.
     fn answered_call(&mut self, kept: &Records<'_>) -> Order
         requires hunting { self.old.leg ≡ leg.Hunting (ascent_on self.old.leg) }
 
@@ -122,7 +122,7 @@ impl State {
         self.tally.draws < DRAWS && self.has_open(kept)
     }
 
-    /// Nobody is left in a hunt. Where it found nobody, somebody was heard in the roll call who never drew a random
+    /// No gear is left in a hunt. If it found none, gear was heard in the roll call that never drew a random
     /// address.
     pub(crate) fn nobody_left(&mut self, kept: &Records<'_>, found: u8) -> Order
         requires hunting { self.old.leg ≡ leg.Hunting (ascent_on self.old.leg) }
@@ -139,7 +139,7 @@ impl State {
         }
     }
 
-    /// Somebody never drew a random address.
+    /// Some gear never drew a random address.
     fn undrawn(&mut self, kept: &Records<'_>) -> Order
         requires hunting { self.old.leg ≡ leg.Hunting (ascent_on self.old.leg) }
 

@@ -1,5 +1,5 @@
-//! The moments of a hunt: question after question in one transaction, as long as it has room; and whom it leads to in
-//! vain.
+//! The moments of a hunt: question after question in one transaction, as long as it has room; and which gear it leads
+//! to in vain.
 
 ghost use Rattle.std.specs.Prelude.{◌≡◌, Some, None};
 ghost use Rattle.dali_frame.specs.declared.numbers.SearchAddress.{SearchAddress};
@@ -39,7 +39,7 @@ impl State {
         self.begin(kept, Purpose::Hunting, SearchAddress::of(number))
     }
 
-    /// A search that has found nobody.
+    /// A search that has found no gear.
     pub(crate) fn hunt_first(&mut self, kept: &Records<'_>) -> Order
         requires hunting { self.old.leg ≡ leg.Hunting (ascent_on self.old.leg) }
 
@@ -52,7 +52,7 @@ impl State {
         self.hunt(kept, number)
     }
 
-    /// The search goes on above whom it found, who was withdrawn with a short address.
+    /// The search goes on above the gear that it found, which was withdrawn with a short address.
     pub(crate) fn hunt_on(&mut self, kept: &Records<'_>) -> Order
         requires hunting { self.old.leg ≡ leg.Hunting (ascent_on self.old.leg) }
 
@@ -63,7 +63,7 @@ impl State {
         self.hunt_above(kept)
     }
 
-    /// The search goes on above whom it found.
+    /// The search goes on above the gear that it found.
     pub(crate) fn hunt_above(&mut self, kept: &Records<'_>) -> Order
         requires hunting { self.old.leg ≡ leg.Hunting (ascent_on self.old.leg) }
 
@@ -78,7 +78,7 @@ impl State {
         self.hunt(kept, number)
     }
 
-    /// The visit of a number failed: the search begins anew, and where it leads to that number again, and in vain, the
+    /// The visit of a number failed: the search begins anew, and if it leads to that number again, and in vain, the
     /// number is passed over.
     pub(crate) fn missed(&mut self, kept: &Records<'_>) -> Order
         requires hunting { self.old.leg ≡ leg.Hunting (ascent_on self.old.leg) }
@@ -176,7 +176,7 @@ impl State {
         }
     }
 
-    /// The next question of a hunt: in the transaction that runs, where that has room for it.
+    /// The next question of a hunt: in the transaction that runs, if that has room for it.
     fn ask_next(
         &mut self,
         kept: &Records<'_>,

@@ -56,7 +56,7 @@ impl Leg {
         }
     }
 
-    /// The first short address that was not looked at; 64 where none is looked at any more.
+    /// The first short address that was not looked at; 64 if none is looked at any more.
     pub fn from(&self) -> u8
         ensures { result ≡ from_on self.now }
     {
@@ -76,7 +76,7 @@ impl Leg {
         }
     }
 
-    /// The search for the least random address, before its first question where there is none.
+    /// The search for the least random address, before its first question if there is none.
     pub fn search(&self) -> Search
         ensures { result ≡ search_on self.now }
     {
@@ -86,7 +86,7 @@ impl Leg {
         }
     }
 
-    /// The search that goes up, before its first question where there is none.
+    /// The search that goes up, before its first question if there is none.
     pub fn ascent(&self) -> Ascent
         ensures { result ≡ ascent_on self.now }
     {

@@ -27,7 +27,7 @@ use std::marker::Model;
 /// It begins in one of two ways. Told `Start`, it lets gear without short address draw new random addresses at once.
 /// Told `Survey`, it first asks each short address that its table does not name, or that it has reserved, who is there;
 /// enrols who tells its random address; searches gear without short address under the random addresses that they have;
-/// and gives no address under which somebody was heard. It ends with all-found only where two roll calls in a row were
+/// and gives no address at which gear was heard. It ends with all-found only if two roll calls in a row were
 /// silent, which each gear without short address answers. Survey is right wherever gear may have addresses already:
 /// after a restart, beside other controllers, and with gear from elsewhere. It sees no gear without power.
 ///
@@ -50,9 +50,9 @@ use std::marker::Model;
 /// `Done(GaveUp)`; `Committed` by the next visit, the opening or a new search; `CommitFailed` by `Halt(Store)`.
 ///
 /// What the bus owes: no other controller's frame between two frames of one transaction; `Heard` of what was heard in
-/// the time of a backward frame, where an answer may be lost or damaged but is never another byte, and no byte is heard
-/// where no gear answered; `Destroyed` for each frame that was destroyed, whether gear took it or not; `Lapsed` where
-/// the bus is lost before the frame was sent.
+/// the time of a backward frame, in which an answer may be lost or damaged but is never another byte, and no byte is
+/// heard if no gear answered; `Destroyed` for each frame that was destroyed, whether gear took it or not; `Lapsed`
+/// if the bus is lost before the frame was sent.
 ///
 /// Contracts see the records, the running transaction, the last finding, the last order, the counts by which it gives
 /// up, and its course: what the transaction is for, and where its search and its visits are.
@@ -78,7 +78,7 @@ impl Machine {
     /// A machine that has not started.
     ///
     /// `id` is the controller's number. `kept` are the records that it kept, or those that it may have kept: after a
-    /// `Commit` whose end nobody saw, what the store holds decides.
+    /// `Commit` whose end was not seen, what the store holds decides.
     pub fn new(id: u8, kept: &Kept) -> Machine
         ensures { result ≡ at_first id kept.now }
     {
@@ -88,7 +88,7 @@ impl Machine {
         }
     }
 
-    /// The machine with these records, in this state. None where that is the state of no machine between two inputs.
+    /// The machine with these records, in this state. None if that is the state of no machine between two inputs.
     pub fn of(kept: Kept, state: State) -> Option<Machine>
         ensures whole { IsSome result ↔ IsWhole (machine_with state kept) }
         ensures machine { IfSome result (λ m. m ≡ machine_with state kept) }
@@ -113,7 +113,7 @@ impl Machine {
     /// `NotDue`: the machine waits for something else, and nothing changed; `due` says for what. After `Done` and
     /// `Halt` it waits for nothing. The block stays, and a record that is ordered fits it. Which transaction begins
     /// next is a function of what the machine was told (`course`), and its first frame is the one that is put. A later
-    /// frame is the one that the running transaction sends next; where it sends no more, none is put (`whole`).
+    /// frame is the one that the running transaction sends next; if it sends no more, none is put (`whole`).
     pub fn step(&mut self, input: Input) -> Result<Order, StepError>
         ensures due { IsOk result ↔ (accepts (due_after self.old.last) input ≡ true) }
         ensures not_due { OnErr result (self.new ≡ self.old) }
@@ -185,7 +185,7 @@ impl Machine {
         self.state.tries
     }
 
-    /// The short addresses under which its survey heard somebody whose random address it does not know. It gives none
+    /// The short addresses at which its survey heard gear whose random address it does not know. It gives none
     /// of them.
     pub fn heard(&self) -> Shorts
         ensures { result ≡ self.now.heard }
@@ -229,7 +229,7 @@ impl Machine {
     }
 }
 
-/// Adds a record to those that are kept, where there is one.
+/// Adds a record to those that are kept, if there is one.
 fn keep(kept: &mut Kept, added: Option<Record>)
     requires { IfSome added (λ x. Fits kept.old.block x × MayAdd kept.old x) }
     ensures { kept.new ≡ with_some kept.old added }

@@ -203,7 +203,7 @@ impl State {
         self.put(kept, command)
     }
 
-    /// What follows where the transaction sends no more, or PROGRAM SHORT ADDRESS.
+    /// What follows if the transaction sends no more, or PROGRAM SHORT ADDRESS.
     fn over(&mut self, kept: &Records<'_>, stage: Stage) -> Order
         requires heard { IsHeard (machine_with self.old kept.now) stage }
         requires over { turn_of self.old.purpose self.old.number stage ≡ None }

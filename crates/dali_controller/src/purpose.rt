@@ -14,14 +14,14 @@ pub enum Purpose {
     Probing,
     /// To ask so, one number of the search that goes up after the other, in a survey.
     Hunting,
-    /// To find the gear at a number, and to program it where it has no short address.
+    /// To find the gear at a number, and to program it if it has no short address.
     Visiting,
-    /// To ask the gear with a short address for its random address, where the gear with the random address that it is
+    /// To ask the gear with a short address for its random address, if the gear with the random address that it is
     /// reserved for did not answer.
     Resolving(Short),
     /// To end the initialisation of all gear, and then to end so.
     Closing(End),
-    /// To ask whoever has a short address for its random address, in a survey.
+    /// To ask the gear with a short address for its random address, in a survey.
     Asking(Short),
     /// To call the roll: to ask all gear without short address whether one of them is there, in a survey. Gear that
     /// never drew a random address answer too.
@@ -138,7 +138,7 @@ impl Purpose {
     }
 }
 
-/// In a roll call COMPARE, and once more where the first was silent.
+/// In a roll call COMPARE, and once more if the first was silent.
 pub(crate) fn call_turn(last: Option<Answer>, left: u8) -> Option<Command>
     ensures { result ≡ call_turn last left }
 {
@@ -160,7 +160,7 @@ fn search_turn(number: SearchAddress, stage: &Stage) -> Option<Command>
     }
 }
 
-/// In a hunt the first search byte that is not yet that of the number, and COMPARE where all are.
+/// In a hunt the first search byte that is not yet that of the number, and COMPARE once all are.
 pub(crate) fn byte_to_send(number: SearchAddress, sent: SearchAddress) -> Command
     ensures { result ≡ byte_to_send number sent }
 {

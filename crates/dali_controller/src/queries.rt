@@ -1,4 +1,4 @@
-//! The moments of queries: whoever has a short address is asked for its random address.
+//! The moments of queries: the gear with a short address is asked for its random address.
 
 ghost use Rattle.std.specs.Prelude.{◌≡◌, ◌↔◌, ℕ, ◌<◌, false, Option, Some, None, IsTrue};
 ghost use Rattle.dali_frame.specs.Random.{value_of, MASK24};
@@ -47,7 +47,7 @@ impl State {
         }
     }
 
-    /// The transaction that asks whoever has a short address for its random address.
+    /// The transaction that asks the gear with a short address for its random address.
     fn ask(&mut self, kept: &Records<'_>, short: Short) -> Order
         requires early { is_searching self.old.leg ≡ false }
         requires surveying { way_on self.old.leg ≡ way.Surveying }
@@ -61,7 +61,7 @@ impl State {
         self.begin(kept, Purpose::Asking(short), number)
     }
 
-    /// A short address was asked for the first byte of a random address, and no byte was heard. Where it was silent, it
+    /// A short address was asked for the first byte of a random address, and no byte was heard. If it was silent, it
     /// is asked again, three times in all.
     pub(crate) fn asked_once(&mut self, kept: &Records<'_>) -> Order
         requires heard { (b : ℕ) × (high : Option ℕ)

@@ -24,8 +24,8 @@ impl State {
     ghost use Rattle.dali_controller.specs.Moments.{IsHeard, IsMoment, Begun};
     ghost use Rattle.dali_controller.specs.Course.{probing, searching_anew};
 
-    /// An opening is complete, or nobody draws: gear are searched from now on, in a survey with a search that has found
-    /// nobody.
+    /// An opening is complete, or no gear draws: gear are searched from now on, in a survey with a search that has
+    /// found none.
     pub(crate) fn search_first(&mut self, kept: &Records<'_>) -> Order
         requires heard { (s : Stage) × IsHeard (machine_with self.old kept.now) s
             × ((s ≡ stage.Opened) ⊎ (s ≡ stage.DrawBarred)) }

@@ -30,7 +30,7 @@ const ASKED: u8 = 3;
 /// A machine without its records: plain data of a fixed size, to be handed over or laid down between two inputs and
 /// made a machine again (`Machine::of`). It takes no memory.
 ///
-/// A state may be that of no machine. Whoever has the records elsewhere steps it with them (`step`).
+/// A state may be that of no machine. A caller that has the records elsewhere steps it with them (`step`).
 #[derive(Drop)]
 pub struct State {
     /// The controller's number.
@@ -47,11 +47,11 @@ pub struct State {
     pub silent: u8,
     /// What the running transaction is for.
     pub purpose: Purpose,
-    /// The search address of the running transaction, where it has one.
+    /// The search address of the running transaction, if it has one.
     pub number: SearchAddress,
     /// How far it is on its way.
     pub leg: Leg,
-    /// Under which short addresses a survey heard somebody whose random address it does not know.
+    /// At which short addresses a survey heard gear whose random address it does not know.
     pub heard: Shorts,
     /// What a survey has counted, and whose visits failed.
     pub tally: Tally,
@@ -90,7 +90,7 @@ impl State {
         self.purpose.end().is_some() || self.trace.complete_by(kept)
     }
 
-    /// The tries of the running transaction: none where it is complete.
+    /// The tries of the running transaction: none if it is complete.
     fn tries_after(&self, kept: &Records<'_>) -> u8
         ensures { result
             ≡ tries_after (is_complete kept.now (closing_of self.now.purpose) (stage_of self.now.trace)
@@ -151,7 +151,7 @@ impl State {
                 .is_none()
     }
 
-    /// Whom a survey has heard, with the running transaction, after whose last frame this was heard.
+    /// What a survey has heard, with the running transaction, after whose last frame this was heard.
     fn heard_after(&self, heard: Answer) -> Shorts
         ensures { result ≡ heard_after self.now.purpose (stage_of self.now.trace) heard self.now.heard }
     {
@@ -324,7 +324,7 @@ impl State {
     }
 }
 
-/// The short addresses under which somebody was heard, with the one that is asked: it is one of them until three bytes
+/// The short addresses at which gear was heard, with the one that is asked: it is one of them until three bytes
 /// told a random address that gear draw.
 fn marked_at(stage: &Stage, answer: Answer, heard: Shorts) -> Shorts
     ensures { result ≡ marked_at stage.now answer heard }

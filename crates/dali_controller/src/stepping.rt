@@ -45,7 +45,7 @@ impl State {
         Due::after(self.last)
     }
 
-    /// The record that is kept from now on, where this input says so: the one that was ordered last.
+    /// The record that is kept from now on, if this input says so: the one that was ordered last.
     pub fn kept_by(&self, input: Input) -> Option<Record>
         ensures { result ≡ kept_by self.now.last input }
     {

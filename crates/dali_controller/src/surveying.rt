@@ -23,7 +23,7 @@ pub(crate) fn next_asked(kept: &Records<'_>, from: u8) -> Option<Short>
 }
 
 /// The least short address of the block that is open: neither reserved nor enrolled, and none of those under which a
-/// survey heard somebody whose random address it does not know.
+/// survey heard gear whose random address it does not know.
 pub(crate) fn least_open(kept: &Records<'_>, heard: Shorts) -> Option<Short>
     ensures { result ≡ least_open kept.now heard }
 {
@@ -42,7 +42,7 @@ pub(crate) fn least_open(kept: &Records<'_>, heard: Shorts) -> Option<Short>
     None
 }
 
-/// Whether what is reserved for a random address is another gear's: somebody was heard under it whose random address is
+/// Whether what is reserved for a random address is another gear's: gear was heard at it whose random address is
 /// not known, or gear with another one is enrolled there.
 pub(crate) fn is_anothers(
     kept: &Records<'_>,

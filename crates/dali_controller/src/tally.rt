@@ -9,7 +9,7 @@ pub struct Tally {
     pub draws: u8,
     /// Whether the last roll call was silent.
     pub is_silent: bool,
-    /// How many roll calls heard somebody since a visit succeeded: 3 for more.
+    /// How many roll calls heard gear since a visit succeeded: 3 for more.
     pub calls: u8,
     /// How often short addresses were asked again because the block was full: at most six times.
     pub askings: u8,
@@ -76,7 +76,7 @@ impl Tally {
         }
     }
 
-    /// Somebody was passed over, and it heard somebody in three roll calls since a visit succeeded.
+    /// Some gear was passed over, and it heard gear in three roll calls since a visit succeeded.
     pub(crate) fn is_blocked(&self) -> bool
         ensures { result ≡ is_blocked self.now }
     {
@@ -99,7 +99,7 @@ impl Tally {
         self.is_silent = true;
     }
 
-    /// A roll call heard somebody.
+    /// A roll call heard gear.
     pub(crate) fn note_call(&mut self)
         ensures { self.new ≡ heard_call self.old }
     {

@@ -22,7 +22,7 @@ pub(crate) fn next_unfinished(kept: &Records<'_>, from: u8) -> Option<(u8, Rando
     None
 }
 
-/// The random address for which a short address is reserved, if that is unfinished. It is looked for only where it may
+/// The random address for which a short address is reserved, if that is unfinished. It is looked for only if it may
 /// be, so that all of them together are found in one pass over the records, mostly.
 fn unfinished_if(kept: &Records<'_>, maybe: bool, address: u8) -> Option<Random24>
     requires short { address < 64 }

@@ -130,7 +130,7 @@ impl State {
         }
     }
 
-    /// The same, where no address is left.
+    /// The same, if no address is left.
     fn leave_over(&mut self, kept: &Records<'_>, number: SearchAddress) -> Order
         requires heard { IsHeard (machine_with self.old kept.now) (stage.Unnamed number) }
         requires opened { is_searching self.old.leg ≡ true }

@@ -5,6 +5,6 @@ pub enum Way {
     /// searched.
     Fresh,
     /// It began with `Survey`: each short address is asked for its random address, and then gear without short address
-    /// are searched under the random addresses that they have. New ones are drawn where that leads to nothing.
+    /// are searched under the random addresses that they have. New ones are drawn if that leads to nothing.
     Surveying,
 }

@@ -161,7 +161,7 @@ impl State {
         self.trace.allows_by(kept, frame) && self.chooses(&stage, command)
     }
 
-    /// Whether it is this command that the transaction sends at a stage, where it may be sent there.
+    /// Whether it is this command that the transaction sends at a stage, if it may be sent there.
     fn chooses(&self, stage: &Stage, command: Command) -> bool
         ensures { IsTrue result ↔ IsChosen self.now.number self.now.purpose stage.now command }
     {
@@ -175,7 +175,7 @@ impl State {
         }
     }
 
-    /// Whether a hunt or a roll call sends this command after those that have sent a search address, where so many
+    /// Whether a hunt or a roll call sends this command after those that have sent a search address, if so many
     /// frames may follow.
     fn asks(&self, sent: SearchAddress, last: Option<Answer>, left: u8, command: Command) -> bool
         ensures { IsTrue result ↔ AsksOn self.now.purpose self.now.number sent last left command }

@@ -41,7 +41,7 @@ impl Model for Directory {
 #[derive(Drop)]
 pub struct Pass {
     notes: Vec<Note<Enrolled>>,
-    /// Where a card was posted or handed back, what stands there, be it of another address.
+    /// If a card was posted or handed back, what stands there, be it of another address.
     standing: Vec<Note<Enrolled>>,
 }
 
@@ -98,7 +98,7 @@ impl Directory {
         Ok(Pass { notes, standing })
     }
 
-    /// The entry of a short address; `None` where none is there yet. It waits for nobody and takes no memory.
+    /// The entry of a short address; `None` if none is there yet. It never waits and takes no memory.
     ///
     /// Once a pass got an entry, it gets this same one each time.
     pub fn look(&self, pass: &mut Pass, address: Short) -> Option<&Enrolled>
@@ -116,9 +116,9 @@ impl Directory {
         ask(&self.places[at], &mut pass.notes[at], address)
     }
 
-    /// Puts an entry at its short address, for good. It waits for nobody and takes no memory.
+    /// Puts an entry at its short address, for good. It never waits and takes no memory.
     ///
-    /// The card is handed back only where one was put there before. The pass then knows that one stands there, and
+    /// The card is handed back only if one was put there before. The pass then knows that one stands there, and
     /// which (`stands_at`); that it is of this address, `look` says.
     pub fn post(&self, pass: &mut Pass, card: Box<Enrolled>) -> Result<(), Box<Enrolled>>
         requires { pass.old.places ≡ self.now }
@@ -143,7 +143,7 @@ impl Directory {
         )
     }
 
-    /// Two passes of one directory that both know an entry of a short address know the same one. It waits for nobody
+    /// Two passes of one directory that both know an entry of a short address know the same one. It never waits
     /// and takes no memory.
     pub fn agree(one: &mut Pass, other: &mut Pass, address: Short)
         requires { one.old.places ≡ other.old.places }
@@ -204,7 +204,7 @@ fn is_taken(
     true
 }
 
-/// Puts a card into a place, where nothing stands there. The second note has what stands there then, whatever its
+/// Puts a card into a place, if nothing stands there. The second note has what stands there then, whatever its
 /// address.
 fn offer(
     place: &OnceBox<Enrolled>,

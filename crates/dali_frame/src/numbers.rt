@@ -126,7 +126,7 @@ impl Random24 {
     /// MASK: the random address at reset, which no gear draws.
     pub const MASK: Random24 = Random24 { value: 0xFFFFFF };
 
-    /// The number, where it has at most 24 bits.
+    /// The number, if it has at most 24 bits.
     pub fn of(number: u32) -> Option<Random24>
         ensures range { IsSome result ↔ (number < 2 ^ 24) }
         ensures value { IfSome result (λ r. r ≡ number) }
@@ -252,7 +252,7 @@ impl Model for Priority {
 }
 
 impl Priority {
-    /// The priority of a transaction's first frame, where it is no direct arc power.
+    /// The priority of a transaction's first frame, unless it is direct arc power.
     pub const FIRST: Priority = Priority { number: 3 };
 
     /// The priority of each later frame of a transaction, which its sender alone may use.

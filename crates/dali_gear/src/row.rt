@@ -39,7 +39,7 @@ impl Reach {
 /// What came of a frame.
 #[derive(Clone, Copy)]
 pub struct Heard {
-    /// What is heard, where nothing disturbs the backward frames: two or more together are heard as `Damaged`
+    /// What is heard, if nothing disturbs the backward frames: two or more together are heard as `Damaged`
     /// (this project's profile).
     pub answer: Answer,
     /// How many numbers were drawn.
@@ -60,9 +60,9 @@ pub struct Row {
     short: [Option<Short>; 128],
     /// Whether there is a half pair.
     paired: [bool; 128],
-    /// The half pair, where there is one.
+    /// The half pair, if there is one.
     first: [Command; 128],
-    /// Whether some gear may have a half pair. Where none has, as at most frames, none has to be forgotten.
+    /// Whether some gear may have a half pair. If none has, as at most frames, none has to be forgotten.
     some_paired: bool,
 }
 
@@ -175,7 +175,7 @@ impl Row {
         self.put_pair(number, stays);
     }
 
-    /// Writes a gear after a command that is not send-twice. Where `paired` is false, it has no half pair, and had
+    /// Writes a gear after a command that is not send-twice. If `paired` is false, it has no half pair, and had
     /// none.
     #[inline(always)]
     fn put_taken(&mut self, number: usize, gear: &Gear, paired: bool)
@@ -304,7 +304,7 @@ impl Row {
         }
     }
 
-    /// As `take`, where no gear has a half pair. Most frames of a search have an arm of their own: with the command
+    /// As `take`, if no gear has a half pair. Most frames of a search have an arm of their own: with the command
     /// known, the compiler makes a loop for each that does no more than the command asks.
     #[inline(always)]
     fn take_by_command(&mut self, command: &Command, reach: Reach, draws: &[Random24]) -> Heard
@@ -355,7 +355,7 @@ impl Row {
         }
     }
 
-    /// As `take`, of any command. Where no gear has a half pair, and the command leaves none, none is forgotten.
+    /// As `take`, of any command. If no gear has a half pair, and the command leaves none, none is forgotten.
     fn take_command(&mut self, command: &Command, reach: Reach, draws: &[Random24]) -> Heard
         requires enough { draws_needed reach command.now 0 self.old ≤ length draws.now }
         requires below_mask { All (λ r. r < MASK24) draws.now }
@@ -383,7 +383,7 @@ impl Row {
         self.some_paired = some;
     }
 
-    /// One gear after the other. Where `paired` is false, none has a half pair, before and afterwards.
+    /// One gear after the other. If `paired` is false, none has a half pair, before and afterwards.
     #[inline(always)]
     fn take_each(
         &mut self,
@@ -476,7 +476,7 @@ fn after_one(gear: &Gear, command: &Command, taken: bool, draws: &[Random24]) ->
     if taken { after } else { *gear }
 }
 
-/// What is heard of so many answers. Where there is one, `sum` is its byte.
+/// What is heard of so many answers. If there is one, `sum` is its byte.
 #[inline(always)]
 fn heard_together(answers: u8, sum: u8) -> Answer
     ensures { result ≡ heard_by answers sum }

@@ -7,7 +7,7 @@ ghost use Rattle.dali_grammar.specs.Lines.{lines_of, is_skipped, numbered_after,
 /// The longest input that is read, in bytes.
 pub const INPUT_LIMIT: usize = 1_048_576;
 
-/// Where a byte first stands; the length where it doesn't.
+/// Where a byte first stands; the length if it doesn't.
 fn find(bytes: &[u8], byte: u8) -> usize
     ensures within { result ≤ length bytes.now }
     ensures before { (k : ℕ) → k < result → slice_index bytes.now k ≢ byte }

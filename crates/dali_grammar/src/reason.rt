@@ -30,7 +30,7 @@ use std::fmt;
 #[derive(Clone, Copy)]
 pub struct Reason {
     pub mistake: Mistake,
-    /// The word that it is said of; `None` where it is a line or a word that is missing, or spaces.
+    /// The word that it is said of; `None` if it is a line or a word that is missing, or spaces.
     pub word: Option<Quote>,
     /// Another word that does not go with it.
     pub beside: Option<Quote>,
@@ -76,7 +76,7 @@ fn line_reason(input: &[u8], number: u32, place: Place, wrong: Wrong) -> Reason
     }
 }
 
-/// Why this plan is refused; no word is named where there is no clue.
+/// Why this plan is refused; no word is named if there is no clue.
 fn plan_reason(input: &[u8], error: PlanError, clue: Option<Clue>) -> Reason
     ensures word { IfSome result.word (Quotes input.now) }
     ensures beside { IfSome result.beside (Quotes input.now) }

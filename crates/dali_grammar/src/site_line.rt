@@ -13,7 +13,7 @@ use dali_frame::Forward;
 /// A line of a site, after the two of its plan. Controllers and gear are named by their numbers, from 0.
 #[derive(Clone, Copy)]
 pub enum SiteLine {
-    /// `go c`: controller c acts on what is due; where that is its store, the commit is made first.
+    /// `go c`: controller c acts on what is due; if that is its store, the commit is made first.
     Go(u32),
     /// `store c`: the record that c ordered is committed in its store, and c is not told.
     Store(u32),

@@ -71,7 +71,7 @@ pub fn next(rest: Option<&[u8]>, missing: Wrong) -> Result<(&[u8], Option<&[u8]>
     }
 }
 
-/// What was read, where no word of this number follows.
+/// What was read, if no word of this number follows.
 #[inline(always)]
 #[tactic(auto, using(crate::proofs::LineLemmas::none_of_more))]
 pub fn ended<T: Copy>(read: T, rest: Option<&[u8]>, word: usize) -> Result<T, Wrong>
@@ -148,7 +148,7 @@ fn gear_list(rest: Option<&[u8]>) -> Result<GearSet, Wrong>
     ended(set, rest, 4)
 }
 
-/// What disturbs a frame: nothing, or a trouble by its name, with a set of gear where the name wants one.
+/// What disturbs a frame: nothing, or a trouble by its name, with a set of gear if the name wants one.
 pub fn trouble(rest: Option<&[u8]>) -> Result<Trouble, Wrong>
     ensures { result_ok result ≡ trouble_of (parts_after 32 (option_map (λ rest. rest.now) rest.entry)) }
 {

@@ -57,7 +57,7 @@ ghost use Rattle.dali_progress.specs.Spared.{HavePower, AllAskInPeace};
 ghost use Rattle.dali_progress.specs.Census.{BeginsBySurvey, AreWhole, AreSteady, frames_asked, frames_lost, WasSilent};
 ghost use Rattle.dali_progress.specs.Census.{WasSpelled, IsNamed, IsClean, HasTakenCensus};
 
-/// WHO BEGINS ALONE. On a new site with one controller it may start alone (`new`). Where it may start, it may begin by
+/// WHO BEGINS ALONE. On a new site with one controller it may start alone (`new`). If it may start, it may begin by
 /// a survey as well (`starts`). It has nothing reserved, so its records are settled: each address that is reserved is
 /// enrolled so (`settled`).
 ///
@@ -82,12 +82,12 @@ pub fn who_begins_alone()
 /// - By Start 111 n + 10: for each gear at most 25 probes of four frames, and 11 frames of visits; and the opening of
 ///   five frames, a last probe of four, and the close.
 /// - By a survey 106 n + 258, with any records. Three go to each of the 64 short addresses at the most: three
-///   questions where nobody answers, and the three queries of a random address where a gear does. Then the roll is
-///   called, in seven frames where somebody answers. A search that goes up finds the gear that drew numbers; the roll
+///   questions if no gear answers, and the three queries of a random address if a gear does. Then the roll is
+///   called, in seven frames if gear answer. A search that goes up finds the gear that drew numbers; the roll
 ///   is called again; a search in vain of nine frames tells that gear are left that never drew; they draw, in eight;
 ///   and a search finds them. For each of the n that are at most 95 frames of questions and 11 of visits, and nine more
-///   for each search. Two roll calls of eight frames where nobody answers, and the close, end it. The gear may have
-///   short addresses from before, whoever gave them, and numbers that they drew or none.
+///   for each search. Two roll calls of eight frames if no gear answers, and the close, end it. The gear may have
+///   short addresses from before, by any controller, and numbers that they drew or none.
 ///
 /// No more than 333 n + 31 or 318 n + 775 events come (`events`), so a log with room for these never fills.
 pub fn it_is_bounded()
@@ -100,28 +100,28 @@ pub fn it_is_bounded()
 /// IT GOES ON OR HAS ENDED. At each moment the controller has ended; or something is due for it that may be done, with
 /// no request waiting; or a request is next on the bus. It never halts.
 ///
-/// So `SiteState::act` adds one more event of a round, or `SiteState::pump` does, where the log has room, the queue
+/// So `SiteState::act` adds one more event of a round, or `SiteState::pump` does, if the log has room, the queue
 /// takes one request, the numbers are there that gear draw, and no order would reserve an address that used gear have.
 pub fn it_goes_on()
     ensures { (b : Beginning) (s : SiteState) (c : ℕ) (es : List Event) → BeginsAlone b s c
         → Rounds (by_survey b) s c es → GoesOn (by_survey b) (site_after s es) c }
 {}
 
-/// ITS END IS TRUE (`done`). After a start: where it ends with all-found, every gear with power has a short address;
-/// where it ends with block-full, every address of its block is reserved; and it never gives up. Its table has each
+/// ITS END IS TRUE (`done`). After a start: if it ends with all-found, every gear with power has a short address;
+/// if it ends with block-full, every address of its block is reserved; and it never gives up. Its table has each
 /// gear that has a short address, but one that had it before (`table`).
 ///
-/// After a survey: where it ends with all-found, every gear with power has a short address. Where it ends with
+/// After a survey: if it ends with all-found, every gear with power has a short address. If it ends with
 /// block-full, some gear with power has none, and each address of its block is taken: reserved, or in the table, or one
-/// under which somebody was heard whose number it does not know. It never gives up. Its table names each gear that has
-/// a short address, with its random address, whoever gave it; but one that had it before the survey, and then had no
+/// under which gear was heard whose number it does not know. It never gives up. Its table names each gear that has
+/// a short address, with its random address, by any controller; but one that had it before the survey, and then had no
 /// power or no number that gear draw.
 ///
-/// Where its records were settled, they are settled at the end. And where then so many addresses of its block are
+/// If its records were settled, they are settled at the end. And if then so many addresses of its block are
 /// vacant as gear have power and no short address, it ends with all-found (`enough`).
 ///
-/// So one survey that nothing disturbs says all this at its end. Where it committed nothing, it was the table that it
-/// began with that names them (`quiet`). That three runs in a row be quiet is asked where the bus may lose answers.
+/// So one survey that nothing disturbs says all this at its end. If it committed nothing, the earlier table already
+/// named them (`quiet`). That three runs in a row be quiet is asked if the bus may lose answers.
 pub fn its_end_is_true()
     ensures done { (b : Beginning) (s : SiteState) (c : ℕ) (es : List Event) (e : End) → BeginsAlone b s c
         → Rounds (by_survey b) s c es → HasEnded (site_after s es) c e → IsTrueEnd b s (site_after s es) c e }
@@ -136,13 +136,13 @@ pub fn its_end_is_true()
         → NamesAll true s (table_at s c) (site_after s es) }
 {}
 
-/// ONE GEAR BLOCKS NOBODY. In a survey of a controller that begins alone, with any records, let one gear g be misheard:
-/// where it answers QUERY SHORT ADDRESS, silence or a damaged frame may be heard instead, each time or never. Nothing
-/// else is disturbed.
+/// ONE GEAR BLOCKS NO OTHER. In a survey of a controller that begins alone, with any records, let one gear g be
+/// misheard: when it answers QUERY SHORT ADDRESS, silence or a damaged frame may be heard instead, each time or never.
+/// Nothing else is disturbed.
 ///
-/// Where the controller then ends with all-found, every gear with power has a short address, g too. Where it ends with
-/// block-full, each address of its block is taken. It gives up only where every gear with power but g has a short
-/// address, or where each address of its block is taken.
+/// If the controller then ends with all-found, every gear with power has a short address, g too. If it ends with
+/// block-full, each address of its block is taken. It gives up only if every gear with power but g has a short
+/// address, or each address of its block is taken.
 ///
 /// At each moment it goes on or has ended, and it never halts (`goes_on`). How long it takes is not said: a visit that
 /// fails costs frames that `it_is_bounded` does not count. Rounds that nothing disturbs are such rounds (`plain`).
@@ -158,13 +158,13 @@ pub fn one_gear_blocks_nobody()
 
 /// A RUN OF ENOUGH ROUNDS ENDS. On an installation with one controller that begins alone, with n gear that have power
 /// and no short address, a run ends with the end of the controller, which is true, or at a call that was refused
-/// (`ends`): a run of more than 333 n + 31 rounds where it starts; and, once it began by a survey (`survey 0` of a
+/// (`ends`): a run of more than 333 n + 31 rounds if it starts; and, once it began by a survey (`survey 0` of a
 /// script), one of more than 318 n + 774. A run of any length sends no more frames than `it_is_bounded` says
 /// (`frames`).
 ///
-/// Where a request may wait, and the log has room for all events to come, and used gear are left alone, the one call
-/// that may be refused is that of the bus, where the gear would draw more numbers than are left (`room`). Used gear are
-/// left alone where none has an address of the block, or where all have power and the controller surveys. So it is on a
+/// If a request may wait, and the log has room for all events to come, and used gear are left alone, the one call
+/// that may be refused is that of the bus, if the gear would draw more numbers than are left (`room`). Used gear are
+/// left alone if none has an address of the block, or all have power and the controller surveys. So it is on a
 /// new installation of a plan with one controller and at most 128 gear, also used ones, which have power there (`new`).
 pub fn a_run_ends()
     ensures frames { (b : Beginning) (limit : ℕ) (n between : Installation) (sent : ℕ) (text : List ℕ)
@@ -184,7 +184,7 @@ pub fn a_run_ends()
         → HasEndedBy b (installation_of p).site m.site 0 ⊎ IsPumpRefused m.site trouble.None refusal.DrawsSpent }
 {}
 
-/// AND WITH NUMBERS IT COMMISSIONS. Where there also is a number to be drawn for each gear with power and without short
+/// AND WITH NUMBERS IT COMMISSIONS. If there also is a number to be drawn for each gear with power and without short
 /// address, no call is refused, and the run ends with the end of the controller, which is true (`alone`). So it does on
 /// a new installation of such a plan with no fewer numbers than gear (`new`), however the controller begins.
 pub fn a_run_commissions()
@@ -201,19 +201,19 @@ pub fn a_run_commissions()
 
 /// A REPLACED GEAR GETS THE ADDRESS. Let a controller begin alone by a survey, with settled records, in which each
 /// address that is reserved is enrolled so, say with none; let one gear g alone with power have no short address; and
-/// let an address of the controller's block be vacant: no gear has it, with power or without. So it is where a
+/// let an address of the controller's block be vacant: no gear has it, with power or without. So it is if a
 /// luminaire was replaced: the new one has no address, and that of the one that is gone is vacant. The others may be
 /// used gear, and have addresses of the block or not.
 ///
 /// Then it ends with all-found, g has an address of the block that was vacant, and the table names it so (`served`). In
-/// a block of one address that is the one (`address`): so a new gear gets the address of the one that is gone where the
+/// a block of one address that is the one (`address`): so a new gear gets the address of the one that is gone if the
 /// block is this address alone.
 ///
 /// Each other gear keeps its address and its random address (`keeps`), and the table names it, unless it had no power
 /// or no number that gear draw (`named`); with any records.
 ///
 /// A run of more than 1092 rounds that begins so, with room and a number left to draw, ends so (`run`). An address of
-/// the block is vacant where the controller has nothing kept and no used gear has it (`vacant`). So a run ends of a new
+/// the block is vacant if the controller has nothing kept and no used gear has it (`vacant`). So a run ends of a new
 /// installation in which all gear but g are used, and the block is one address, which none of them has: g gets it
 /// (`new`).
 pub fn a_replaced_gear_gets_the_address()
@@ -244,9 +244,9 @@ pub fn a_replaced_gear_gets_the_address()
 
 /// A CENSUS IS BOUNDED. Of every list of inputs that are due, from a survey on, whatever bus, store and other
 /// controllers do: while a machine asks short addresses for their random addresses, at most 320 of its frames are sent
-/// and heard, five for each short address, and at most five more for each that was destroyed or not sent. Where whoever
-/// is there answers at once, so that no answer follows a silence, they are at most 192, and three more for each that
-/// was lost. So it is each time that it asks, at the start and as often as it asks again (`askings`).
+/// and heard, five for each short address, and at most five more for each that was destroyed or not sent. If the gear
+/// that are there answer at once, so that no answer follows a silence, they are at most 192, and three more for each
+/// that was lost. So it is each time that it asks, at the start and as often as it asks again (`askings`).
 ///
 /// So each census ends: after so many answers the machine asks no more. It asks again at most six times (`again`).
 pub fn a_census_is_bounded()
@@ -259,9 +259,9 @@ pub fn a_census_is_bounded()
         → IsWhole n → n.course.tally.askings ≤ 6 }
 {}
 
-/// A SURVEY GIVES NOTHING AWAY WHERE IT HEARD SOMEBODY. Where a machine that began by a survey heard somebody under a
+/// A SURVEY GIVES NO ADDRESS AT WHICH IT HEARD GEAR. If a machine that began by a survey heard gear under a
 /// short address, that address is marked, or enrolled, or about to be enrolled, from then on, or the machine has
-/// halted. So it reserves the address for nobody. And what is reserved from before it gives only to the gear that is
+/// halted. So it does not reserve the address. And what is reserved from before it gives only to the gear that is
 /// enrolled there.
 ///
 /// What it reserves was silent: it asked that address, and heard silence three times in a row (`silent`).
@@ -282,9 +282,9 @@ pub fn nothing_is_given_where_somebody_was_heard()
         → s.order ≡ Commit (Reserve a r) → HasSurveyed n → WasSilent (s ∷ earlier) a }
 {}
 
-/// WHO TELLS ITS RANDOM ADDRESS IS IN THE TABLE. Where a machine asked a short address, and heard three bytes of a
+/// GEAR THAT TELLS ITS RANDOM ADDRESS IS IN THE TABLE. If a machine asked a short address, and heard three bytes of a
 /// number that gear draw, that address is enrolled with that number from then on, or about to be, or the machine has
-/// halted; whoever gave the gear its address (`told`).
+/// halted; whichever controller gave the gear its address (`told`).
 ///
 /// Once the census of a survey is over, each short address under which every answer was a byte is in the table so, or
 /// told `FFFFFF`, which is no number that gear draw (`taken`).
@@ -297,23 +297,23 @@ pub fn who_tells_its_number_is_enrolled()
 {}
 
 /// USED GEAR THAT WERE HEARD ARE LEFT ALONE. Of a controller that has just begun, and of all that calls of the site add
-/// to its log from then on: where it surveys each time that it begins, and of each short address that used gear have in
-/// its block hears silence at most twice before it begins anew, where it asks for the first byte of the random address,
+/// to its log from then on: if it surveys each time that it begins, and of each short address that used gear have in
+/// its block hears silence at most twice before it begins anew, when it asks for the first byte of the random address,
 /// none of its acts is refused because an address is in use (`heard`). Once its questions are over, it is so whatever
 /// is heard, until it begins anew (`later`).
 ///
-/// It hears no silence where each used gear of its block that it asks so has power then, and nothing disturbs the
+/// It hears no silence if each used gear of its block that it asks so has power then, and nothing disturbs the
 /// answer (`powered`).
 ///
 /// All else may be disturbed: frames may be destroyed, the bus may lapse, other controllers may do what they want, and
 /// what is heard of other gear may be lost. So controllers need not survey one after the other. A survey of one
 /// controller alone that nothing disturbs, while all used gear have power, is such a one (`undisturbed`).
 ///
-/// Where each controller of a new site hears them so, no order reserves an address that used gear have, whether or not
-/// a site would refuse it (`run`); and so it is where each asks in peace (`peaceful`). So the promise holds on a real
-/// bus too, where nobody refuses the order (`promise`). On a new site each controller has just begun (`start`).
+/// If each controller of a new site hears them so, no order reserves an address that used gear have, whether or not
+/// a site would refuse it (`run`); and so it is if each asks in peace (`peaceful`). So the promise holds on a real
+/// bus too, which refuses no order (`promise`). On a new site each controller has just begun (`start`).
 ///
-/// A gear without power is not heard, and one whose address nobody asks is not either: two short histories of
+/// A gear without power is not heard, and one whose address no controller asks is not either: two short histories of
 /// `dali_events` show what then becomes of the promise.
 pub fn used_gear_that_were_heard_are_left_alone()
     ensures heard { (s : SiteState) (c : ℕ) (es : List Event) (i : Input) → IsPlan s.plan → HasJustBegun s c

@@ -137,7 +137,7 @@ fn is_random(random: Random24, reply: &Reply) -> bool
     }
 }
 
-/// Why a luminaire is not replaced where this is heard in place of the new one.
+/// Why a luminaire is not replaced if this is heard in place of the new one.
 pub(crate) fn refusal_of(reply: Reply) -> ReplaceRefusal {
     match reply {
         Reply::Silence => ReplaceRefusal::NewSilent,
@@ -160,7 +160,7 @@ fn is_silent_or(random: Random24, reply: &Reply) -> bool
 impl Come {
     /// How far an earlier call has come, by what the new records of a name have beside the old ones. The giver's
     /// reserve the short address first; then the gear is enrolled with it, as in those of the others; and what the old
-    /// ones reserve comes last. None where it is anything else, as of another replacement.
+    /// ones reserve comes last. None if it is anything else, as of another replacement.
     pub fn of(new: &Kept, old: &Kept, short: Short, is_giver: bool) -> Option<Come>
         ensures { result ≡ come_of is_giver short new.now old.now }
     {
@@ -189,7 +189,7 @@ impl Come {
         }
     }
 
-    /// Why a luminaire is not replaced where this is heard, and may not be.
+    /// Why a luminaire is not replaced if this is heard, and may not be.
     pub fn refusal(&self, reply: Reply) -> ReplaceRefusal {
         match *self {
             Come::Nowhere => ReplaceRefusal::Answered,

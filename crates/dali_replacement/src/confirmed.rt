@@ -29,7 +29,7 @@ pub struct Confirmed {
 impl Confirmed {
     /// Asks three times who has the short address. It must be the gear that each of the new tables has there.
     ///
-    /// `NotGiven` where they do not all have the same one, `NewSilent`, `AnotherAnswers`, `SeveralAnswer`.
+    /// `NotGiven` if they do not all have the same one, `NewSilent`, `AnotherAnswers`, `SeveralAnswer`.
     pub fn ask<R: Read, W: Write>(
         driver: &mut DriverLink<R, W>,
         others: OthersThere,

@@ -10,7 +10,7 @@ use dali_frame::Short;
 use dali_reserve::{Keep, KeepError};
 use dali_script::{Block, Kept, Pair, Record};
 
-/// Adds a gear to a table, where it is not there. Else which short address another gear has, or which other one this
+/// Adds a gear to a table, if it is not there. Else which short address another gear has, or which other one this
 /// gear has.
 #[tactic(auto, using(crate::proofs::Filled::enrolling))]
 fn add(all: &mut Kept, address: Short, pair: Pair) -> Result<(), Short>
@@ -85,7 +85,7 @@ pub fn gathered(tables: &[Kept], short: Short) -> Result<Kept, Short>
     Ok(all)
 }
 
-/// Enrols a pair in a store, where its records, as they were read, do not have it.
+/// Enrols a pair in a store, if its records, as they were read, do not have it.
 #[tactic(auto, using(crate::proofs::Every::enrolled_has, crate::proofs::Every::enrolled_keeps))]
 fn enrol<K: Keep>(store: &mut K, kept: &Kept, pair: Pair) -> Result<(), KeepError>
     requires short { pair.0 < 64 }
@@ -135,7 +135,7 @@ pub fn fill<K: Keep>(store: &mut K, table: &Kept) -> Result<(), KeepError>
     enrol_all(store, &kept, table.enrolled())
 }
 
-/// Reserves a pair in a store, where its records, as they were read, do not have it reserved.
+/// Reserves a pair in a store, if its records, as they were read, do not have it reserved.
 #[tactic(auto, using(crate::proofs::Filled::reserved_has, crate::proofs::Filled::reserved_keeps))]
 fn reserve<K: Keep>(store: &mut K, kept: &Kept, pair: Pair) -> Result<(), KeepError>
     requires short { pair.0 < 64 }

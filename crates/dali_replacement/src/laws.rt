@@ -17,7 +17,7 @@ pub fn a_step_leads_to_the_next_moment()
     ensures others_back { (n m i : ℕ) → m < n → i < n → i ≢ m → lies_at n m i ≡ lies_at n (m + 1) i }
 {}
 
-/// Where one file has no journal beside it, and so can be read, all files are old or all are new. No file is moved
+/// If one file has no journal beside it, and so can be read, all files are old or all are new. No file is moved
 /// before each journal is written, and none is left to be moved when the first journal is removed.
 pub fn no_moment_has_two_truths()
     ensures one { (n m i : ℕ) → i < n → (lies_at n m i).journal ≡ false

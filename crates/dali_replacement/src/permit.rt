@@ -27,7 +27,7 @@ use std::io::{Read, Write};
 /// How many passes in a row are to have found nothing more.
 const IDLE_PASSES: u8 = 3;
 
-/// Nobody has a short address; or the new gear has it, where an earlier call has begun to give it.
+/// No gear has a short address; or the new gear has it, if an earlier call has begun to give it.
 #[derive(Drop)]
 pub struct Vacant {
     short: Short,
@@ -51,7 +51,7 @@ pub struct Permit {
 impl Vacant {
     /// Asks three times who has a short address.
     ///
-    /// Refused where anything else was heard than may be, where an earlier call has come so far.
+    /// Refused if anything else was heard than may be, given that an earlier call has come so far.
     pub fn ask<R: Read, W: Write>(
         driver: &mut DriverLink<R, W>,
         short: Short,
@@ -172,7 +172,7 @@ impl Permit {
 
     /// Gives the new gear the short address, by surveys over a store of this block that has the gear of a table then.
     ///
-    /// `BadStore` where it is of another block.
+    /// `BadStore` if it is of another block.
     pub fn give<K: Keep, R: Read, W: Write, P: Watch>(
         &self,
         store: &mut K,

@@ -24,7 +24,7 @@ pub enum ReplaceRefusal {
     /// A new file lies there that reserves another short address.
     #[error("a new file lies there that is of another replacement: finish that first, or begin anew by --again")]
     OtherNew,
-    /// Somebody answers to the short address.
+    /// Gear answers to the short address.
     #[error("somebody answers to it: the old luminaire is still there")]
     Answered,
     /// Another gear of a table does not answer, or another one answers there.
@@ -88,7 +88,7 @@ impl ReplaceRefusal {
         }
     }
 
-    /// What can be done about it, where the text does not say so.
+    /// What can be done about it, if the text does not say so.
     pub fn advice(self) -> &'static str {
         if self.is_of_bus() {
             ": call again when the new one alone answers, or begin anew by --again"

@@ -22,7 +22,7 @@ pub struct Standing {
     places: ArrayVec<Place, 64>,
 }
 
-/// What is heard of a short address that the table has. Nobody else is asked.
+/// What is heard of a short address that the table has. No other is asked.
 fn hear<R: Read, W: Write>(
     driver: &mut DriverLink<R, W>,
     table: &Kept,
@@ -66,7 +66,7 @@ fn is_gone(gone: &[Short], number: u8) -> bool
     }
 }
 
-/// Whether nobody is missing under the short addresses from this one on, and nobody else answers, but where a gear is
+/// Whether no gear is missing at the short addresses from this one on, and no other answers, but where a gear is
 /// known to be gone.
 fn are_there(number: u8, gone: &[Short], places: &[Place]) -> bool
     requires { number + length places.now ≤ 64 }

@@ -83,7 +83,7 @@ fn are_at(count: u32, moment: u32, number: u32, files: &[Lies]) -> bool
     }
 }
 
-/// The moment of a swap at which this lies at the places of its files. None where it is none that a stop leaves.
+/// The moment of a swap at which this lies at the places of its files. None if it is none that a stop leaves.
 pub fn moment_of(files: &[Lies]) -> Option<u32>
     requires { length files.now ≤ 64 }
     ensures { MatchOption result

@@ -84,7 +84,7 @@ fn numbers_in(text: &str) -> Option<(Short, u32, &str)> {
 }
 
 impl Swap {
-    /// A swap of the files of these names, whose new tables have the gear that was heard, where it may begin: the new
+    /// A swap of the files of these names, whose new tables have the gear that was heard, if it may begin: the new
     /// tables are complete, and all others of the old ones were asked for. The old files are to be kept under this
     /// number.
     pub fn of(
@@ -135,7 +135,7 @@ impl Swap {
         &self.names
     }
 
-    /// The swap that a journal is of. None where it is none.
+    /// The swap that a journal is of. None if it is none.
     pub fn read(alloc: Global, text: &str) -> Result<Option<Swap>, AllocError> {
         let Some((short, number, names)) = numbers_in(text) else {
             return Ok(None);

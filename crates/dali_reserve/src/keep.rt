@@ -65,7 +65,7 @@ pub trait Keep {
 
     /// Adds a record as the last.
     ///
-    /// `StoreFailed` where a read is due, then `AddressTaken`, then `RandomTaken`, each among records of its kind, or
+    /// `StoreFailed` if a read is due, then `AddressTaken`, then `RandomTaken`, each among records of its kind, or
     /// `NotReserved`, of a release: these add none. A later `StoreFailed` or `NoMemory` leaves the list with the record
     /// or without it, and a read is due.
     fn commit(&mut self, added: Record) -> Result<(), KeepError>

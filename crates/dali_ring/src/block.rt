@@ -30,7 +30,7 @@ unsafe impl<T> Send for Origin<T> {}
 
 /// The places of a block, each as large as a value. The first ones hold `items`; what lies in the others is not known.
 ///
-/// It has no bytes: whoever holds it holds the block's origin too.
+/// It has no bytes: its holder has the block's origin too.
 pub(crate) struct Places<T> {
     mark: PhantomData<*const T>,
     ghost origin: { Ptr },

@@ -14,7 +14,7 @@ use std::alloc::{AllocError, Global};
 #[derive(Drop)]
 pub(crate) struct Links<T> {
     pub(crate) slots: Slots<T>,
-    /// For each list its last slot, or where it begins, where it is empty.
+    /// For each list its last slot, or where it begins, if it is empty.
     pub(crate) tails: [usize; 6],
     pub(crate) capacity: usize,
 }
@@ -142,7 +142,7 @@ impl<T: Copy> Links<T> {
         self.relocate(list, before, 5, None);
     }
 
-    /// The item behind `before`, where its list goes on there.
+    /// The item behind `before`, if its list goes on there.
     pub(crate) fn behind(&self, list: usize, before: usize) -> Option<T>
         requires linked { IsLinked self.now.slots self.now.capacity self.now.tails }
         requires list { list < 5 }

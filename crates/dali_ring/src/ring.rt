@@ -48,7 +48,7 @@ impl<T: Copy> Ring<T> {
         Ok(Ring { links, len: 0 })
     }
 
-    /// Puts an item last in the list of its priority. Where as many wait as may, it is handed back.
+    /// Puts an item last in the list of its priority. If as many wait as may, it is handed back.
     pub fn push(&mut self, priority: Priority, item: T) -> Result<(), T>
         ensures pushed { OnOk result (self.new ≡ with_list self.old priority (list_of self.old priority ++ item ∷ [])) }
         ensures full { IsErr result ↔ (total self.old ≡ self.old.capacity) }

@@ -12,7 +12,7 @@ use std_alloc::room::may_hold;
 pub struct Slot<T> {
     /// The number of the next slot, or where the list ends.
     pub link: usize,
-    /// The item, where the slot holds one.
+    /// The item, if the slot holds one.
     pub item: Option<T>,
 }
 

@@ -129,7 +129,7 @@ impl Assignments {
 
     /// Takes a pair away; the others stay in their order.
     ///
-    /// `NotReserved` where the pair is not there.
+    /// `NotReserved` if the pair is not there.
     pub fn take_out(&mut self, address: Short, random: Random24) -> Result<(), AddError>
         ensures success { IsOk result ↔ Has self.old (address, random) }
         ensures refusal { IfErr result (λ e. e ≡ AddError.NotReserved) }

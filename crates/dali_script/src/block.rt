@@ -1,6 +1,6 @@
 use dali_frame::Short;
 
-/// The short addresses that one controller may give, `first` to `last`; empty where `first` is above `last`.
+/// The short addresses that one controller may give, `first` to `last`; empty if `first` is above `last`.
 #[derive(Clone, Copy, Debug, PartialEq, Eq)]
 pub struct Block {
     pub first: Short,

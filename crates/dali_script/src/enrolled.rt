@@ -5,7 +5,7 @@ use std::marker::Model;
 
 /// A gear that was enrolled: its short address and its random address.
 ///
-/// Only `Table::card` makes one, so whoever has one has an entry of some table. It is not copied.
+/// Only `Table::card` makes one, so its holder has an entry of some table. It is not copied.
 ///
 /// Contracts see the two numbers.
 #[derive(Drop)]

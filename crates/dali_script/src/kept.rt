@@ -57,7 +57,7 @@ impl Kept {
 
     /// The records of these reservations and enrolments, each oldest first.
     ///
-    /// None where no controller keeps them: where an address or a random address stands twice in one of the lists, a
+    /// None if no controller keeps them: if an address or a random address stands twice in one of the lists, a
     /// reserved address lies outside the block, or a random address is `FFFFFF`.
     pub fn of<'a>(block: Block, reserved: &'a [Pair], enrolled: &'a [Pair]) -> Option<Kept>
         ensures kept { IsSome result

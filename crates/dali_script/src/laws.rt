@@ -10,7 +10,7 @@ ghost use Rattle.dali_script.specs.Laws.{OpeningsBeginWithTerminate, GearAreSear
 ghost use Rattle.dali_script.specs.Laws.{RecordsStayKept};
 ghost use Rattle.dali_script.specs.Names.{AreReadBack};
 
-/// A frame may follow a trace exactly where its command follows at the stage of the trace.
+/// A frame may follow a trace exactly if its command follows at the stage of the trace.
 pub fn lawful_frames_follow_at_the_stage()
     ensures { LawfulFramesFollowAtTheStage }
 {}
@@ -38,12 +38,12 @@ pub fn openings_begin_with_terminate()
 {}
 
 /// COMPARE, QUERY SHORT ADDRESS, PROGRAM SHORT ADDRESS and WITHDRAW come only after all three search commands;
-/// PROGRAM of an address only where gear without short address answered, and with what is reserved for their number.
+/// PROGRAM of an address only if gear without short address answered, and with what is reserved for their number.
 pub fn gear_are_searched_anew()
     ensures { GearAreSearchedAnew }
 {}
 
-/// No script has more than eight frames; and where the test says so, no frame may follow, else one may.
+/// No script has more than eight frames; and if the test says so, no frame may follow, else one may.
 pub fn transactions_end()
     ensures { TransactionsEnd }
 {}

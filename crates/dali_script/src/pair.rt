@@ -81,7 +81,7 @@ impl Pair {
         }
     }
 
-    /// The short address, 0 to 63 where a controller keeps the pair.
+    /// The short address, 0 to 63 if a controller keeps the pair.
     #[inline(always)]
     pub fn address(&self) -> u8
         ensures { result ≡ self.now.0 }
@@ -127,7 +127,7 @@ impl Pair {
         }
     }
 
-    /// Whether both have the same random address. The middle bytes, which differ most often where the last bits are
+    /// Whether both have the same random address. The middle bytes, which differ most often when the last bits are
     /// the same, are looked at first.
     #[inline(always)]
     pub(crate) fn shares_random(&self, other: &Pair) -> bool

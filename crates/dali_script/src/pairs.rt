@@ -88,7 +88,7 @@ impl Pairs {
 impl Pairs {
     ghost use Rattle.dali_script.specs.Records.{IsMap, without_pair};
 
-    /// Adds a pair as the last one, where no other has its short address or its random address.
+    /// Adds a pair as the last one, if no other has its short address or its random address.
     pub fn insert(&mut self, added: Pair)
         requires room { self.old.count ≤ 64 }
         requires map { IsMap (pairs_in self.old) }
@@ -187,8 +187,8 @@ pub(crate) fn marks(pairs: &[Pair]) -> [bool; ROOM]
 
 /// For each of the 64 short addresses, whether a pair may have it for a random address that none of the others has.
 ///
-/// It goes over both lists once, and looks at the one of the others that has the same short address. Where it marks
-/// nothing that is sure; it may mark more, where another address has the number there.
+/// It goes over both lists once, and looks at the one of the others that has the same short address. If it marks
+/// nothing that is sure; it may mark more, if another address has the number there.
 pub(crate) fn maybe_unmatched(pairs: &[Pair], others: &[Pair]) -> [bool; ROOM]
     requires short { AreShort pairs.now }
     requires room { length pairs.now ≤ 64 }
@@ -208,7 +208,7 @@ pub(crate) fn maybe_unmatched(pairs: &[Pair], others: &[Pair]) -> [bool; ROOM]
     marks
 }
 
-/// For each of the 64 short addresses, the place of the last pair that has it; 64 where none has.
+/// For each of the 64 short addresses, the place of the last pair that has it; 64 if none has.
 fn places(pairs: &[Pair]) -> [u8; ROOM]
     requires short { AreShort pairs.now }
     requires room { length pairs.now ≤ 64 }
@@ -279,7 +279,7 @@ pub(crate) fn are_both(pairs: &[Pair], front: &[Pair], rest: &[Pair]) -> bool
     are_same(first, front) && are_same(second, rest)
 }
 
-/// Why a pair may not be added to these; None where it may.
+/// Why a pair may not be added to these; None if it may.
 pub(crate) fn taken(pairs: &[Pair], address: Short, random: Random24) -> Option<AddError>
     requires short { AreShort pairs.now }
     requires room { length pairs.now ≤ 64 }
@@ -298,7 +298,7 @@ pub(crate) fn taken(pairs: &[Pair], address: Short, random: Random24) -> Option<
     }
 }
 
-/// Why a pair may not be taken out of these; None where it may.
+/// Why a pair may not be taken out of these; None if it may.
 pub(crate) fn not_there(pairs: &[Pair], address: Short, random: Random24) -> Option<AddError>
     ensures there { (result ≡ None) ↔ Has pairs.now (address, random) }
     ensures not_reserved { (result ≡ Some AddError.NotReserved) ↔ (Has pairs.now (address, random) → ⊥) }

@@ -12,7 +12,7 @@ use crate::records::{AddError, Record};
 use dali_frame::{Random24, Short};
 use std::marker::Model;
 
-/// The records of one controller, lent to be read: those of a `Kept`, or of memory that somebody else owns.
+/// The records of one controller, lent to be read: those of a `Kept`, or of memory that the caller owns.
 ///
 /// Contracts see what they see of a `Kept`. Nothing is copied.
 #[derive(Drop)]
@@ -43,7 +43,7 @@ impl<'a> Records<'a> {
 
     /// The records of these reservations and enrolments, each oldest first.
     ///
-    /// None where no controller keeps them: where an address or a random address stands twice in one of the lists, a
+    /// None if no controller keeps them: if an address or a random address stands twice in one of the lists, a
     /// short address is above 63, a reserved one lies outside the block, or a random address is `FFFFFF`. It goes over
     /// each list once, and over the pairs before one whose random address has a last byte that was there before.
     pub fn of(block: Block, reserved: &'a [Pair], enrolled: &'a [Pair]) -> Option<Records<'a>>
@@ -59,7 +59,7 @@ impl<'a> Records<'a> {
         Some(Records::known(own, reserved, enrolled))
     }
 
-    /// The same records, where it is known that a controller keeps them.
+    /// The same records, if it is known that a controller keeps them.
     pub fn known(block: Block, reserved: &'a [Pair], enrolled: &'a [Pair]) -> Records<'a>
         requires { IsKept (record { block = block; reserved = reserved.now; enrolled = enrolled.now }) }
         ensures { result ≡ record { block = block; reserved = reserved.now; enrolled = enrolled.now } }
@@ -97,7 +97,7 @@ impl<'a> Records<'a> {
         self.block.first <= address && address <= self.block.last
     }
 
-    /// Why a record may not be added; None where it may.
+    /// Why a record may not be added; None if it may.
     ///
     /// `AddressTaken` comes before `RandomTaken`; each speaks of records of the same kind alone, and `NotReserved` of a
     /// release.
@@ -197,7 +197,7 @@ impl<'a> Records<'a> {
 
     /// For each of the 64 short addresses, whether the gear that it is reserved for may be one that is not enrolled.
     ///
-    /// Where it is not marked, there is no such gear. It may be marked where there is none, if the gear were enrolled
+    /// If it is not marked, there is no such gear. It may be marked when there is none, if the gear were enrolled
     /// in another order than they were reserved for. It goes over both lists once.
     pub fn maybe_unfinished(&self) -> [bool; 64]
         ensures { MayBeUnmatched self.now.reserved self.now.enrolled result }

@@ -40,7 +40,7 @@ impl Record {
         }
     }
 
-    /// The record of the kind that has this code, with these addresses. None where no kind has it.
+    /// The record of the kind that has this code, with these addresses. None if no kind has it.
     pub fn of_code(code: u8, address: Short, random: Random24) -> Option<Record>
         ensures { result ≡ record_by code address random }
     {

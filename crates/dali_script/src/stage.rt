@@ -25,9 +25,9 @@ pub enum Stage {
     WokenLow(u8, u8),
     /// SEARCHADDRH and SEARCHADDRM were sent once gear were initialised, to ask once more before they draw.
     WokenMiddle(u8, u8),
-    /// COMPARE was sent before gear draw, and nobody was heard: they may draw.
+    /// COMPARE was sent before gear draw, and heard as silence: they may draw.
     DrawFree,
-    /// COMPARE was sent before gear draw, and somebody was heard: nobody draws.
+    /// COMPARE was sent before gear draw, and was answered: no gear draws.
     DrawBarred,
     /// RANDOMISE was sent once.
     RandomisedOnce,
@@ -41,7 +41,7 @@ pub enum Stage {
     NumberSent(SearchAddress),
     /// SEARCHADDRH and SEARCHADDRL were sent: the start of a hunt.
     LowSent(u8, u8),
-    /// A hunt or a roll call is under way: its search address as it is now; what was heard after COMPARE, where that
+    /// A hunt or a roll call is under way: its search address as it is now; what was heard after COMPARE, if that
     /// was sent last; and how many frames may follow.
     Hunted(SearchAddress, Option<Answer>, u8),
     /// COMPARE was sent, and this was heard.
@@ -100,7 +100,7 @@ impl Stage {
         }
     }
 
-    /// The stage that a command leads to, where it may come next in a script.
+    /// The stage that a command leads to, if it may come next in a script.
     fn next(self, command: Command, heard: Answer) -> Option<Stage>
         ensures { result ≡ leads self command heard }
     {
@@ -198,7 +198,7 @@ impl Stage {
         }
     }
 
-    /// How far it is once a command was sent and this was heard. None where it may not come next, for any sender.
+    /// How far it is once a command was sent and this was heard. None if it may not come next, for any sender.
     pub(crate) fn led_by(self, command: Command, heard: Answer) -> Option<Stage>
         ensures comes { IsSome result ↔ (may_come self command ≡ true) }
         ensures stage { IfSome result (λ s. s ≡ next_stage self command heard) }
@@ -275,7 +275,7 @@ impl Stage {
         Some(Finding::Queried(found?, number.value()))
     }
 
-    /// The stage after the question whether somebody is to be searched, before gear draw.
+    /// The stage after the question whether gear are to be searched, before gear draw.
     fn doubted(heard: Answer) -> Stage
         ensures { result ≡ doubted heard }
     {
@@ -335,7 +335,7 @@ fn is_query(command: Command, short: Short, part: Part) -> bool
     }
 }
 
-/// The stage after one more frame of a hunt, where so many may follow it.
+/// The stage after one more frame of a hunt, if so many may follow it.
 fn hunted(number: SearchAddress, left: u8, command: Command, heard: Answer) -> Option<Stage>
     ensures { result ≡ hunted number left command heard }
 {
@@ -365,7 +365,7 @@ fn byte_heard(heard: Answer) -> Option<u8>
     }
 }
 
-/// The high and the middle byte, where both were heard.
+/// The high and the middle byte, if both were heard.
 fn bytes_heard(high: Option<u8>, heard: Answer) -> Option<(u8, u8)>
     ensures { result ≡ bytes_heard high heard }
 {

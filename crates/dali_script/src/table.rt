@@ -179,7 +179,7 @@ impl Table {
         self.entries.by_random(random)
     }
 
-    /// The entry of a short address, to be handed on; `None` where there is none. Only a card takes memory.
+    /// The entry of a short address, to be handed on; `None` if there is none. Only a card takes memory.
     ///
     /// `NoMemory` is the only refusal.
     pub fn card(&self, alloc: Global, address: Short) -> Result<Option<Box<Enrolled>>, TableError>

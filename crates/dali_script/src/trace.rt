@@ -90,7 +90,7 @@ impl Trace {
 
     /// The running transaction of these frames, each with what was heard, oldest first.
     ///
-    /// None where no controller has sent them: where one of them is not lawful after those before it, for any sender.
+    /// None if no controller has sent them: if one of them is not lawful after those before it, for any sender.
     pub fn of(entries: &[Entry]) -> Option<Trace>
         ensures sent { IsSome result ↔ IsTransaction entries.now }
         ensures same { IfSome result (λ t. t ≡ entries.now) }
@@ -143,7 +143,7 @@ impl Trace {
         self.stage.advance(Command::read(frame), heard);
     }
 
-    /// Adds a frame that was sent, and what was heard after it, where some records allow it here. Else nothing changes.
+    /// Adds a frame that was sent, and what was heard after it, if some records allow it here. Else nothing changes.
     #[inline(always)]
     pub fn add(&mut self, frame: Forward, heard: Answer) -> bool
         ensures lawful { IsTrue result ↔ IsLawful self.old frame }

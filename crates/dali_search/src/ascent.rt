@@ -16,30 +16,30 @@ const NONE: u32 = 0xFFFFFF;
 /// How many steps up there are: of the mean distance of what was found, and of twice, four and eight times that.
 const STEPS: u8 = 4;
 
-/// How often nobody must have answered under the greatest number that gear draw.
+/// How often no gear must have answered under the greatest number that gear draw.
 const SILENCES: u8 = 2;
 
 /// A search for one member of a set of numbers below `FFFFFF` after the other, as the random addresses of the gear that
 /// answer COMPARE (IEC 62386-102:2014, COMPARE), each of which is taken out of the set when it was found.
 ///
-/// It goes up from the number that was found last, so it asks under `FFFFFE` only where nobody is left nearby, and says
-/// that nobody is left only after two silences there. Each of its searches takes at most 31 answers. Two numbers that
+/// It goes up from the number that was found last, so it asks under `FFFFFE` only if no gear is left nearby, and says
+/// that no gear is left only after two silences there. Each of its searches takes at most 31 answers. Two numbers that
 /// it asks one after the other mostly differ in one byte.
 #[derive(Drop)]
 pub struct Ascent {
     /// No member is below this number.
     low: u32,
-    /// Some member is at most this number; `NONE` where that is not known.
+    /// Some member is at most this number; `NONE` if that is not known.
     high: u32,
     /// How many steps up were answered no.
     steps: u8,
     /// Whether it begins anew, below members that were found.
     is_anew: bool,
-    /// How often nobody answered under `FFFFFE`.
+    /// How often no gear answered under `FFFFFE`.
     silent: u8,
     /// How many members were found, 255 for more.
     found: u8,
-    /// The greatest member that was found; 0 where none was.
+    /// The greatest member that was found; 0 if none was.
     top: u32,
 }
 
@@ -106,7 +106,7 @@ fn end_of_block(bits: u8, number: u32) -> u32
 }
 
 impl Ascent {
-    /// An ascent that has found nobody, and has asked nothing.
+    /// An ascent that has found no gear, and has asked nothing.
     pub fn new() -> Ascent
         ensures { result ≡ ascent_at_first }
     {
@@ -137,7 +137,7 @@ impl Ascent {
     }
 
     /// The ascent with these parts, as its readers give them. So an ascent is laid down as its parts, and made again.
-    /// None where no ascent has these.
+    /// None if no ascent has these.
     pub fn of(
         low: Random24,
         high: Random24,
@@ -176,7 +176,7 @@ impl Ascent {
         Random24::of(self.low).unwrap()
     }
 
-    /// Some member is at most this number; `FFFFFF` where that is not known.
+    /// Some member is at most this number; `FFFFFF` if that is not known.
     pub fn high(&self) -> Random24
         ensures { result ≡ self.now.high }
     {
@@ -197,7 +197,7 @@ impl Ascent {
         self.is_anew
     }
 
-    /// How often nobody answered under `FFFFFE`.
+    /// How often no gear answered under `FFFFFE`.
     pub fn silent(&self) -> u8
         ensures { result ≡ self.now.silent }
     {
@@ -211,7 +211,7 @@ impl Ascent {
         self.found
     }
 
-    /// The greatest member that was found; 0 where none was.
+    /// The greatest member that was found; 0 if none was.
     pub fn top(&self) -> Random24
         ensures { result ≡ self.now.top }
     {
@@ -227,7 +227,7 @@ impl Ascent {
         apart((self.top + 1) / u32::from(self.found), 0).saturating_sub(1)
     }
 
-    /// The number to ask while nobody has answered.
+    /// The number to ask while no gear has answered.
     fn step_up(&self) -> u32
         ensures value { result ≡ from_known self.now }
         ensures drawn { result < 0xFFFFFF }
@@ -368,7 +368,7 @@ impl Ascent {
         self.step()
     }
 
-    /// The member that was found is taken out of the set: the search goes on above it. Where none was found nothing
+    /// The member that was found is taken out of the set: the search goes on above it. If none was found nothing
     /// changes.
     pub fn go_above(&mut self)
         ensures changed { (r : ℕ) → leads_to self.old ≡ Found r → self.new ≡ above self.old r }
@@ -388,7 +388,7 @@ impl Ascent {
         }
     }
 
-    /// Nobody answered under the number that was found: the search begins anew, and asks first whether a member was
+    /// No gear answered under the number that was found: the search begins anew, and asks first whether a member was
     /// passed over.
     pub fn begin_anew(&mut self)
         ensures changed { self.new ≡ begun_anew self.old }
@@ -401,7 +401,7 @@ impl Ascent {
         self.silent = 0;
     }
 
-    /// Goes on after an end: above the member that was found, and anew where nobody was left. While it goes on nothing
+    /// Goes on after an end: above the member that was found, and anew if no gear was left. While it goes on nothing
     /// changes.
     pub fn go_on(&mut self)
         ensures changed { self.new ≡ gone_on self.old }

@@ -11,7 +11,7 @@ ghost use Rattle.dali_search.specs.Ascending.{Ascent, IsAscent, ascent_at_first,
 ghost use Rattle.dali_search.specs.Questions.{Asking, HasBegun, IsUnderWay, frames_asked, frames_to_ask, asking_next};
 ghost use Rattle.dali_search.specs.Questions.{thirds_left};
 
-/// A set agrees with answers and one more just where it agrees with the answers and gives the one more.
+/// A set agrees with answers and one more exactly if it agrees with the answers and gives the one more.
 pub fn answers_agree_one_by_one()
     ensures none { (has : ℕ → Bool) → Agrees has [] }
     ensures more { (has : ℕ → Bool) (answers : List (ℕ × Bool)) (probe : ℕ) (said : Bool)
@@ -21,7 +21,7 @@ pub fn answers_agree_one_by_one()
 {}
 
 /// A search narrows from its start, with each answer while it goes on. One that narrows goes on for fewer than 25
-/// answers; its end is true of each set that agrees with its answers; and nobody is left only by a no at `FFFFFE`.
+/// answers; its end is true of each set that agrees with its answers; and no gear is left only by a no at `FFFFFE`.
 pub fn searches_narrow_to_an_end()
     ensures begins { IsNarrowing at_first }
     ensures goes_on { (s : Search) (said : Bool) → IsNarrowing s → s.step ≡ Again → IsNarrowing (answered s said) }

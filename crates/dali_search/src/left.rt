@@ -98,7 +98,7 @@ impl Left {
         }
     }
 
-    /// The number to ask next, or the last that was asked where there is nothing more to ask.
+    /// The number to ask next, or the last that was asked if there is nothing more to ask.
     pub(crate) fn probe_after(self, asked: Random24) -> Random24
         requires low { self.low < 2 ^ 24 }
         requires high { self.high < 2 ^ 24 }

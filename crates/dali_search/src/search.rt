@@ -94,7 +94,7 @@ impl Search {
         self.answers
     }
 
-    /// The least number that the answers leave; `FFFFFF` where they leave none.
+    /// The least number that the answers leave; `FFFFFF` if they leave none.
     pub fn least(&self) -> Random24
         ensures value { result ≡ lowest self.now.answers }
     {
@@ -102,7 +102,7 @@ impl Search {
     }
 
     /// The search that has had so many answers, which leave this as the least number, and has this probe. So a search
-    /// is laid down as three numbers, and made again. None where no search has these.
+    /// is laid down as three numbers, and made again. None if no search has these.
     pub fn of(answers: u8, least: Random24, probe: Random24) -> Option<Search>
         ensures numbers { IfSome result (λ s. (length s.answers ≡ answers) × (lowest s.answers ≡ least)
             × (s.probe ≡ probe)) }

@@ -62,7 +62,7 @@ pub enum Command {
 impl Target {
     ghost use Rattle.dali_special.specs.Command.{target_of, target_data};
 
-    /// The gear that a data byte speaks of; `None` where INITIALISE ignores it (this project's profile).
+    /// The gear that a data byte speaks of; `None` if INITIALISE ignores it (this project's profile).
     fn read(byte: u8) -> Option<Target>
         ensures { result ≡ target_of byte }
     {
@@ -87,7 +87,7 @@ impl Target {
 impl Part {
     ghost use Rattle.dali_special.specs.Command.{part_of, part_code};
 
-    /// The byte that an opcode asks for; `None` where it is none of the three.
+    /// The byte that an opcode asks for; `None` if it is none of the three.
     fn read(byte: u8) -> Option<Part>
         ensures { result ≡ part_of byte }
     {
@@ -110,7 +110,7 @@ impl Part {
     }
 }
 
-/// `Some` where the data byte is `00`, as most special commands ask.
+/// `Some` if the data byte is `00`, as most special commands ask.
 fn without_data(byte: u8, command: Command) -> Option<Command>
     ensures { result ≡ without_data_of command byte }
 {

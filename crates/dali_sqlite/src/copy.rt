@@ -20,7 +20,7 @@ use sqlite::{Alter, Connection, Error, ErrorCode, FileStore, Files, Options, Row
 use sqlite_disk::{Disk, Memory};
 use std::alloc::Global;
 
-/// How a copy is kept: it is small, and nobody else writes its log.
+/// How a copy is kept: it is small, and no other program writes its log.
 const OPTIONS: Options = Options {
     cache_pages: 64,
     spill_pages: 64,
@@ -83,7 +83,7 @@ fn has_no_version(db: &[u8]) -> bool
     byte_at(db, 60) == 0 && byte_at(db, 61) == 0 && byte_at(db, 62) == 0 && byte_at(db, 63) == 0
 }
 
-/// Whether a file begins as one of records: a database that is written by a log, whose user version nobody has set.
+/// Whether a file begins as one of records: a database that is written by a log, whose user version was never set.
 fn is_header_of_records(db: &[u8]) -> bool
     ensures { result ≡ is_header_of_records db.now }
 {

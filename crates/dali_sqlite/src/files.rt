@@ -23,7 +23,7 @@ impl<D: Disk + Drop> SqliteKeep<FileStore<D>> {
     /// A store over two files, the log and the database's, for a controller with this block. Files that held nothing
     /// hold an empty table then.
     ///
-    /// It holds the records that the files held. The refusals are those of `over`, and 2 `StoreFailed` also where the
+    /// It holds the records that the files held. The refusals are those of `over`, and 2 `StoreFailed` also if the
     /// files hold no database that can be read. A refusal drops the files.
     pub fn open_files(
         alloc: Global,
@@ -48,7 +48,7 @@ impl<D: Disk + Drop> SqliteKeep<FileStore<D>> {
     /// Ends the store: what is committed is copied into the database's file, and the files are given back. A refusal
     /// drops them: their log has then what was not copied.
     ///
-    /// The files hold the records that the store held, as they are read now, after a loss of power, and where the
+    /// The files hold the records that the store held, as they are read now, after a loss of power, and if the
     /// database's file is taken without the log.
     pub fn close_files(self) -> Result<Files<D>, KeepError>
         ensures held { IfOk result (λ files. AreClean D.Disk files.log files.db → (xs : List Record)
@@ -72,7 +72,7 @@ impl<D: Disk + Drop> SqliteKeep<FileStore<D>> {
 
     /// The files of a store that is stopped, as they lie: nothing is copied, and what was not flushed may be lost.
     ///
-    /// What a stop leaves of them is a database that the store allows (`allowed`): the records that it held, where it
+    /// What a stop leaves of them is a database that the store allows (`allowed`): the records that it held, if it
     /// is up (`held`). After a commit that failed it is the records from before, or these with the new one (`either`):
     /// its clause `crash` says so.
     pub fn into_files(self) -> Files<D>

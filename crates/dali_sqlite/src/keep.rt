@@ -39,11 +39,11 @@ use sqlite::{Alter, Connection};
 /// `seq` counts the records from 1 on, in the order of their commits. `kind` is the code of the record
 /// (`Record::code`), `address` its short address, and `random` the random address of the gear.
 ///
-/// Contracts see what lies under the store as what its connection shows (`state` of `sqlite`): the list that is held
-/// is the rows of the table, and what is held is committed (`Holds` in `specs/Stored`). They are promised where the
+/// Contracts see what lies under the store as what its connection shows (`state` of `sqlite`): the list that is held is
+/// the rows of the table, and what is held is committed (`Holds` in `specs/Stored`). They are promised if the
 /// connection is open and its disk has returned what was written (`IsUp`). Memory does that always; a file does it
-/// while nobody else writes it. Nothing is promised of a database that has another table, index or view beside this
-/// one, or a table of this name that was made by another text.
+/// while no other program writes it. Nothing is promised of a database that has another table, index or view beside
+/// this one, or a table of this name that was made by another text.
 pub struct SqliteKeep<S: Alter> {
     conn: Connection<S>,
     /// What the records are known to be, and how many there are, unless a read is due.
@@ -64,18 +64,18 @@ impl<S: Alter + Drop> Drop for SqliteKeep<S> {
 }
 
 impl<S: Alter + Drop> SqliteKeep<S> {
-    /// A store over this connection, for a controller with this block. It makes the table where it isn't there, and
+    /// A store over this connection, for a controller with this block. It makes the table if it isn't there, and
     /// reads it, so that the first commit needs no read.
     ///
-    /// The connection is to show an empty database, or one that has this table alone (`IsOurs`). Where another table,
+    /// The connection is to show an empty database, or one that has this table alone (`IsOurs`). If another table,
     /// index or view stands beside it, nothing is promised: neither what the store holds, nor what becomes of the
     /// others, nor that it is refused. A refusal drops the connection:
     ///
-    /// - 5 `BadStore`: the table's rows are no list of records of this block. That is so where `seq` isn't 1, 2, ..
-    ///   without a gap, where a value is no whole number in the range of its column, where a kind is no record's code,
-    ///   where a reservation lies outside the block, where an address or a random address stands in two records of one
-    ///   kind, or where one is released that is not reserved so. `last` of the clause `bad` is the connection as it was
-    ///   dropped: where its disk had returned what was written to it so far, as memory always has, the database held no
+    /// - 5 `BadStore`: the table's rows are no list of records of this block. That is so if `seq` isn't 1, 2, ..
+    ///   without a gap, if a value is no whole number in the range of its column, if a kind is no record's code,
+    ///   if a reservation lies outside the block, if an address or a random address stands in two records of one
+    ///   kind, or if one is released that is not reserved so. `last` of the clause `bad` is the connection as it was
+    ///   dropped: if its disk had returned what was written to it so far, as memory always has, the database held no
     ///   such list. Of a file whose disk returned something else nothing is said.
     /// - 2 `StoreFailed`: the connection is inside a transaction, a table of this name cannot be read so, or the
     ///   disk failed.

@@ -9,7 +9,7 @@ use crate::statements::{create, has_table};
 use dali_reserve::KeepError;
 use sqlite::{Alter, Connection};
 
-/// Makes the table where it isn't there. A connection inside a transaction is refused.
+/// Makes the table if it isn't there. A connection inside a transaction is refused.
 pub fn ensure_table<S: Alter>(conn: &mut Connection<S>) -> Result<(), KeepError>
     ensures has { IsUp (state S.Store conn.new) → OnOk result (IsOurs (state S.Store conn.old)
         → HasTable (state S.Store conn.new)) }

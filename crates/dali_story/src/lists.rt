@@ -161,7 +161,7 @@ fn push_item(
     }
 }
 
-/// The gear of this number; one from the factory where there is none.
+/// The gear of this number; one from the factory if there is none.
 fn gear_at(row: &Row, number: usize) -> Gear
     ensures { result ≡ slice_index_or row.now number fresh }
 {

@@ -25,7 +25,7 @@ fn are_drawn(draws: &[Random24]) -> bool
     draws.iter().all(|draw| draw.value() < 0xFFFFFF)
 }
 
-/// Used gear stand in their places, where these are there.
+/// Used gear stand in their places, if these are there.
 fn place(gear: &mut Row, used: &[Used])
     ensures { gear.new ≡ with_used gear.old used.now }
 {
@@ -37,7 +37,7 @@ fn place(gear: &mut Row, used: &[Used])
     }
 }
 
-/// The power of a gear comes or goes, where it is there.
+/// The power of a gear comes or goes, if it is there.
 fn power(gear: &mut Row, number: u32, on: bool)
     ensures { gear.new ≡ gear_changed gear.old number (gear_powered on) }
 {
@@ -52,7 +52,7 @@ fn power(gear: &mut Row, number: u32, on: bool)
     }
 }
 
-/// The initialisation of a gear runs out, where it is there.
+/// The initialisation of a gear runs out, if it is there.
 fn expire(gear: &mut Row, number: u32)
     ensures { gear.new ≡ gear_changed gear.old number gear_expired }
 {
@@ -62,7 +62,7 @@ fn expire(gear: &mut Row, number: u32)
     }
 }
 
-/// A frame of another device comes, where it may.
+/// A frame of another device comes, if it may.
 #[tactic(auto, using(dali_events::proofs::Interrupted::row, dali_events::proofs::Interrupted::draws))]
 fn interrupt(gear: &mut Row, frame: Forward)
     ensures { gear.new ≡ after_foreign (is_foreign frame) gear.old }

@@ -59,7 +59,7 @@ fn push_outcomes(text: &mut String, outcomes: &[Outcome]) -> Result<(), AllocErr
     Ok(())
 }
 
-/// The table of a controller, where it is up.
+/// The table of a controller, if it is up.
 fn push_table_line(text: &mut String, site: &SiteState, c: u8) -> Result<(), AllocError>
     requires { c < length site.now.plan.blocks }
     ensures { OnOk result (string_bytes text.new ≡ string_bytes text.old

@@ -35,7 +35,7 @@ impl<B: Bus> Promise<(Outcome, B::Port)> for Running<B> {
 }
 
 /// A worker runs over a database in memory of its own, which is made here, in its thread, and with a pass of its own of
-/// the directory. Where one of the two is refused, the line is stopped.
+/// the directory. If one of the two is refused, the line is stopped.
 #[tactic(auto, using(crate::proofs::Running::has_run, crate::proofs::Running::has_not_begun))]
 fn works<B: Bus, R: Wait>(
     rt: &R,
@@ -78,7 +78,7 @@ pub(crate) struct Left<P, D> {
     pub(crate) driver: D,
 }
 
-/// Joins each of these threads, also where there is no memory for what they leave.
+/// Joins each of these threads, also if there is no memory for what they leave.
 fn joined<R: Threads, T: Drop, P: Promise<T>>(
     rt: &R,
     threads: Vec<PromisedHandle<T, P>>,
@@ -98,8 +98,8 @@ fn joined<R: Threads, T: Drop, P: Promise<T>>(
 }
 
 /// A worker runs for each port, with the block at its place, and a pumper, until all have ended. The workers share a
-/// directory. Where a thread cannot be made, or there is no memory for what it leaves, the bus is stopped, so that
-/// nobody waits for it. Each thread that was made is joined: the room for their handles is taken before the first one.
+/// directory. If a thread cannot be made, or there is no memory for what it leaves, the bus is stopped, so that no
+/// thread waits for it. Each thread that was made is joined: the room for their handles is taken before the first one.
 pub(crate) fn all_run<B, R>(
     rt: &R,
     alloc: Global,

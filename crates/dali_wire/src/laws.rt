@@ -1,5 +1,5 @@
 //! What the receiver tells of a bus at the resolution of half bits, each of one length that its times take: frames are
-//! read back, what is told was on the bus, and where several answers drive it together a byte is told only where each
+//! read back, what is told was on the bus, and if several answers drive it together a byte is told only if each
 //! of them sent that byte. Noise is not told, and an answer alone is.
 //!
 //! These are laws over the definitions that the contracts of this crate cite. Programs don't call them.
@@ -28,7 +28,7 @@ pub fn frames_are_read_back()
         → f.address_byte < 256 → f.opcode_byte < 256
         → Tells t Idle false since (levels_of (forward_bits f) ++ highs rest) (Forward f) }
 
-    // The same where each time between two edges is within the tolerance on its own.
+    // The same if each time between two edges is within the tolerance on its own.
     ensures backward_each { (since first byte : ℕ) (times : List ℕ) → byte < 256
         → IsHalf first → AreTimes false (bits_of 8 byte) times
         → HasRead Idle false (since ∷ first ∷ times) (Backward byte) }
@@ -44,8 +44,8 @@ pub fn what_is_told_was_on_the_bus()
         → Tells t Idle false since bus frame → (frame ≡ Damaged) ⊎ IsHeard bus frame }
 {}
 
-/// Where any number of answers drive the bus together, each begun before the stop condition is over, a byte is told
-/// only where each of them sent that byte; they then began together.
+/// If any number of answers drive the bus together, each begun before the stop condition is over, a byte is told
+/// only if each of them sent that byte; they then began together.
 ///
 /// The law of one answer takes no more than that the bus is low wherever that answer is, whatever else is on the bus.
 pub fn joint_answers_are_one_byte()
@@ -73,7 +73,7 @@ pub fn a_byte_is_heard_of_one_frame()
         → told_after (window_after_all window_at_first edges) rest ≡ Some (Byte byte) → IsOneAnswer edges rest byte }
 {}
 
-/// An answer alone that begins in its time is told as its byte, once the window is over, where each time between two
+/// An answer alone that begins in its time is told as its byte, once the window is over, if each time between two
 /// edges is within the tolerance on its own.
 pub fn answers_are_heard()
     ensures { (begin first rest byte : ℕ) (times : List ℕ) → byte < 256 → 2400 ≤ begin → begin ≤ 12400

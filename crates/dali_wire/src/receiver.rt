@@ -198,7 +198,7 @@ impl Receiver {
     }
 
     /// An edge, after which the bus is low or high, so many µs after the last one. Tells the frame that had ended
-    /// before, where `time` did not tell it.
+    /// before, if `time` did not tell it.
     ///
     /// Two edges to one level are taken as a fault: one between them was missed.
     pub fn edge(&mut self, is_low: bool, since: u32) -> Option<Told>

@@ -9,7 +9,7 @@ const STOP: u8 = 6;
 
 /// A frame that is being sent, half bit by half bit, each 416.7 µs long.
 ///
-/// Contracts see the levels that are still to be sent, true where the bus is low.
+/// Contracts see the levels that are still to be sent, true while the bus is low.
 #[derive(Drop)]
 pub struct Sender {
     /// The bits that are left, as a number of so many bits.

@@ -42,7 +42,7 @@ impl Excerpt {
     }
 }
 
-/// Writes a byte: itself where it is a printable ASCII character, else its number, so that no terminal obeys it.
+/// Writes a byte: itself if it is a printable ASCII character, else its number, so that no terminal obeys it.
 fn write_byte<W: fmt::Write>(f: &mut fmt::Formatter<W>, byte: u8) -> fmt::Result {
     match byte {
         b'\t' => f.write_str("\\t"),

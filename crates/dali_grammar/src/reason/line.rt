@@ -6,7 +6,7 @@ use super::quote::part_at;
 use super::words::word_mistake;
 use crate::words::{Wanted, Wrong};
 
-/// What is wrong, and with which word, counted from 1; 0 where it is none.
+/// What is wrong, and with which word, counted from 1; 0 if it is none.
 type Found = (Mistake, usize);
 
 /// The first byte that no line has.

@@ -36,7 +36,7 @@ pub(super) fn part_at(text: &[u8], mark: u8, index: usize) -> Option<&[u8]>
     None
 }
 
-/// The word of this number in the line of this number; `None` where it is not there.
+/// The word of this number in the line of this number; `None` if it is not there.
 pub(super) fn quoted(input: &[u8], line: u32, word: usize) -> Option<Quote>
     ensures line { IfSome result (λ quote. quote.line ≡ line) }
     ensures quotes { IfSome result (Quotes input.now) }

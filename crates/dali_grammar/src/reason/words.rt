@@ -21,7 +21,7 @@ fn has_digits(word: &[u8]) -> bool
     !word.is_empty()
 }
 
-/// What is wrong with a number: `other` where it is none at all, `large` where it is too large.
+/// What is wrong with a number: `other` if it is none at all, `large` if it is too large.
 fn number_mistake(word: &[u8], other: Mistake, large: Mistake) -> Mistake {
     match word {
         [b'+' | b'-', digits @ ..] if has_digits(digits) => Mistake::Sign,
