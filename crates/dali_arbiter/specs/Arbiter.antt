@@ -15,7 +15,7 @@ pub record Arbiter : Type 0 where
   pub owner : Option ℕ
   pub capacity : ℕ
 
--- the bus on which nothing waits, and which nobody owns
+-- the bus on which nothing waits, and which has no owner
 abbrev pub idle : ℕ → Arbiter
 idle capacity = record { lists = replicate 5 []; owner = None; capacity = capacity }
 
@@ -40,7 +40,7 @@ first_waiting [] = None
 first_waiting ([] ∷ lists) = first_waiting lists
 first_waiting ((r ∷ rs) ∷ lists) = Some r
 
--- where somebody owns the bus, the first of list 1 alone; where nobody does, the first of the first
+-- if the bus has an owner, the first of list 1 alone; if it has none, the first of the first
 -- list that is not empty
 abbrev pub next : Arbiter → Option Request
 next b = first_waiting (if is_some b.owner then take 1 b.lists else b.lists)
@@ -78,7 +78,7 @@ abbrev pub first_emptied : List (List Request) → List (List Request)
 first_emptied [] = []
 first_emptied (l ∷ lists) = [] ∷ lists
 
--- nobody owns the bus, and list 1 is empty
+-- the bus has no owner, and list 1 is empty
 abbrev pub bus_freed : Arbiter → Arbiter
 bus_freed b = record { lists = first_emptied b.lists; owner = None; capacity = b.capacity }
 
@@ -93,16 +93,16 @@ without_first [] = []
 without_first ([] ∷ lists) = [] ∷ without_first lists
 without_first ((r ∷ rs) ∷ lists) = rs ∷ lists
 
--- the bus without the request that is next; where one is next, it is the first of the first list
+-- the bus without the request that is next; if one is next, it is the first of the first list
 -- that is not empty
 abbrev pub bus_taken : Arbiter → Arbiter
 bus_taken b = record { lists = without_first b.lists; owner = b.owner; capacity = b.capacity }
 
--- the sender of the request that is next, where one is
+-- the sender of the request that is next, if one is
 abbrev pub next_sender : Arbiter → Option ℕ
 next_sender b = option_map (λ r. r.sender) (next b)
 
--- the next request was sent: it leaves, and its sender owns the bus exactly where more frames of
+-- the next request was sent: it leaves, and its sender owns the bus exactly if more frames of
 -- its transaction come
 abbrev pub bus_sent : Arbiter → Bool → Arbiter
 bus_sent b true = record {
@@ -112,11 +112,11 @@ bus_sent b true = record {
 }
 bus_sent b false = bus_freed (bus_taken b)
 
--- the next request was destroyed on the bus: it leaves, and nobody owns the bus
+-- the next request was destroyed on the bus: it leaves, and the bus has no owner
 abbrev pub bus_destroyed : Arbiter → Arbiter
 bus_destroyed b = bus_freed (bus_taken b)
 
--- the request behind r in its list, where another sender has put it there
+-- the request behind r in its list, if another sender has put it there
 abbrev pub rival : Request → List Request → Option Request
 rival r [] = None
 rival r (s ∷ rs) = if r.sender == s.sender then None else Some s

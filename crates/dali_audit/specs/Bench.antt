@@ -29,7 +29,7 @@ placed k (p ∷ ps) gs = placed (k + 1) ps (placed_one k p.random p.short gs)
 abbrev pub gear_at_first : List Place → List Gear
 gear_at_first ps = placed 0 ps (replicate (length ps) fresh)
 
--- WHAT COMES BEFORE THE CAPTURE, where gear without a short address had drawn their number before
+-- WHAT COMES BEFORE THE CAPTURE, if gear without a short address had drawn their number before
 -- it: they draw it
 abbrev pub is_early : Place → Bool
 is_early p = not (is_some p.draw) && not (is_some p.short)
@@ -61,7 +61,7 @@ is_due n (Some p) lost = nat_le p.from n && not lost
 abbrev pub woken : Bool → ℕ → List Bool → List Bool
 woken due k on = if due then slice_set on k true else on
 
--- a gear gets power, or loses it, by a step, where it has it not already
+-- a gear gets power, or loses it, by a step, if it has it not already
 abbrev pub power_steps : ℕ → ℕ → Bool → Bool → List Step
 power_steps at k true true = []
 power_steps at k false false = []

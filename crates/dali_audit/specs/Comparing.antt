@@ -21,8 +21,8 @@ use Rattle.dali_audit.specs.declared.comparing.Step.{Step}
 use Rattle.dali_audit.specs.declared.comparing.Outcome.{Outcome}
 use Rattle.dali_audit.specs.declared.comparing.Outcome.TheVariants.{Agrees, Differs, Spent}
 
--- WHAT IS HEARD AND WHAT GEAR ANSWER. Gear that a capture does not reveal may answer too. So where
--- the known ones are silent, another may have been heard; where they answer, silence is none. A
+-- WHAT IS HEARD AND WHAT GEAR ANSWER. Gear that a capture does not reveal may answer too. So if
+-- the known ones are silent, another may have been heard; if they answer, silence is none. A
 -- damaged answer may be that of several. A byte is that of a single known gear, or the equal one of
 -- several (this project's profile).
 

@@ -61,7 +61,7 @@ kinds =
     ∷ kind.NotQueried ∷ kind.NotFound ∷ kind.SeveralProgrammed ∷ kind.AddressTaken
     ∷ kind.AddressMoved ∷ kind.TwoRandomAddresses ∷ kind.TwoShortAddresses ∷ kind.NotTerminated ∷ []
 
--- THE RULES, each with the time that is told where an item breaks it.
+-- THE RULES, each with the time that is told if an item breaks it.
 
 abbrev pub at_where : Bool → ℕ → Option ℕ
 at_where holds at = if holds then Some at else None
@@ -74,7 +74,7 @@ is_broken seen.Replied = false
 is_broken seen.Stray = false
 is_broken seen.Foreign = false
 
--- nobody answers but where a question is (102, queries and special commands)
+-- no gear answers but where a question is (102, queries and special commands)
 abbrev pub is_stray : Seen → Bool
 is_stray seen.Stray = true
 is_stray (seen.Sent f heard) = false
@@ -159,8 +159,8 @@ initialisation_over b x seen.Stray = None
 initialisation_over b x seen.Foreign = None
 initialisation_over b x seen.Broken = None
 
--- whoever programs a short address asks for it next, in the same transaction (this project's
--- profile)
+-- a controller that programs a short address asks for it next, in the same transaction (this
+-- project's profile)
 abbrev pub asks_short : Command → Bool
 asks_short QueryShort = true
 asks_short (Verify a) = true
@@ -245,7 +245,7 @@ not_found k c = unfound (programs_at c) k
 abbrev pub several_programmed : Bus → Change → Bool
 several_programmed b c = is_some (programs_at c) && is_crowded b
 
--- a short address is given under which nobody else was heard
+-- a short address is given under which no other gear was heard
 abbrev pub address_taken : List Holder → Change → Bool
 address_taken hs (change.Given a r) = is_other r (holder_at hs a)
 address_taken hs change.Nothing = false
@@ -295,7 +295,7 @@ two_short hs (change.Answered a) = false
 two_short hs change.Redrawn = false
 two_short hs (change.Forgotten short) = false
 
--- whoever begins an initialisation ends it (102, TERMINATE): told when the capture ends
+-- the controller that begins an initialisation ends it (102, TERMINATE): told when the capture ends
 abbrev pub begun_at : Option Begun → Option ℕ
 begun_at None = None
 begun_at (Some begun) = Some begun.at

@@ -20,7 +20,7 @@ abbrev pub frames_of : List Step → List Step
 frames_of [] = []
 frames_of (s ∷ ss) = if is_frame_step s then s ∷ frames_of ss else frames_of ss
 
--- THE FRAMES OF A CAPTURE, in order: each with its time, and what was heard after it, where it is a
+-- THE FRAMES OF A CAPTURE, in order: each with its time, and what was heard after it, if it is a
 -- question of the command table
 abbrev pub asked : Forward → Answer → Option Answer
 asked f heard = if is_question (command_of f) then Some heard else None

@@ -48,7 +48,7 @@ short_change search answer.Silence = change.Nothing
 short_change search answer.Damaged = change.Nothing
 
 -- QUERY RANDOM ADDRESS (L), after (H) and (M) were answered under the same short address: the gear
--- there tells its random address, if it drew one. Else whoever answers is somebody. A damaged
+-- there tells its random address, if it drew one. Else an unknown gear answers. A damaged
 -- answer may be a disturbance, where no gear is.
 abbrev pub number_told : ℕ → ℕ → Change
 number_told a r = if r == MASK24 then change.Answered a else change.Told a r
@@ -131,7 +131,7 @@ heard_of (holder.Programmed r) = None
 heard_of (holder.Answered r) = Some r
 heard_of (holder.Verified r) = Some r
 
--- somebody was heard, who is not known to be the gear with this random address
+-- gear was heard that is not known to be the gear with this random address
 abbrev pub is_other : ℕ → Holder → Bool
 is_other r holder.Somebody = true
 is_other r (holder.Answered own) = not (own == r)
@@ -179,7 +179,7 @@ abbrev pub redrawn : Holder → Holder
 redrawn holder.Nobody = holder.Nobody
 redrawn _ = holder.Somebody
 
--- whoever has the short address of which a change tells
+-- the gear with the short address of which a change tells
 abbrev pub renewed : Change → Holder → Holder
 renewed (change.Given a r) h = given r h
 renewed (change.Told a r) h = told r h
@@ -190,7 +190,7 @@ renewed change.Nothing h = h
 renewed (change.Erased r) h = h
 renewed change.Redrawn h = h
 
--- whoever has any other
+-- the gear with any other
 abbrev pub swept : Change → Holder → Holder
 swept (change.Given a r) h = left_by r h
 swept (change.Erased r) h = left_by r h

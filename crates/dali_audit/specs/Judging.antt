@@ -31,7 +31,7 @@ other_in None = None
 other_in (Some b) = other_of b
 
 -- THE JUDGEMENT OF A CAPTURE: its findings, what is known after it, and the bench that takes its
--- frames; there is none where the capture reveals more than 128 gear
+-- frames; there is none if the capture reveals more than 128 gear
 abbrev pub IsBenchIn : Option Bench → List Item → Type 0
 IsBenchIn None items = 128 < length (places_in items)
 IsBenchIn (Some b) items = IsBenchOf b items

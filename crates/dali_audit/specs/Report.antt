@@ -15,7 +15,7 @@ abbrev pub findings_text : List Finding → List ℕ
 findings_text [] = []
 findings_text (f ∷ fs) = finding_text f ++ findings_text fs
 
--- WHO HAS A SHORT ADDRESS, AS A LINE, from number k on: none where nobody was heard
+-- WHICH GEAR HAS A SHORT ADDRESS, AS A LINE, from number k on: none if no gear was heard
 abbrev pub way_name : Holder → List ℕ
 way_name holder.Nobody = codes "unknown"
 way_name (holder.Programmed r) = codes "programmed"

@@ -42,7 +42,7 @@ abbrev pub draws_text : List ℕ → List ℕ
 draws_text [] = []
 draws_text (r ∷ rs) = (codes " " ++ random_text r) ++ draws_text rs
 
--- A BENCH AS A SCRIPT. A script has one gear at least: where none is known, that one has no power.
+-- A BENCH AS A SCRIPT. A script has one gear at least: if none is known, that one has no power.
 abbrev pub gear_head : List Place → List ℕ → List ℕ
 gear_head ps rs =
     codes "bench "

@@ -12,7 +12,7 @@ use Rattle.dali_capture.specs.declared.item.Item.{Item}
 use Rattle.dali_audit.specs.declared.seen.Seen.{Seen}
 use Rattle.dali_audit.specs.declared.seen.Seen.TheVariants as seen
 
--- somebody may answer a question of the command table, and a frame that is no command of it, which
+-- gear may answer a question of the command table, and a frame that is no command of it, which
 -- may be another question
 abbrev pub awaits_by : Command → Bool
 awaits_by (Other f) = true

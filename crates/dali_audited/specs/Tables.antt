@@ -10,7 +10,7 @@ abbrev pub Holds : List Gear → ℕ → ℕ → Type 0
 Holds gs g a = (g < length gs) × ((gear_of gs g).short ≡ Some a)
 
 -- A TABLE IS THAT OF THE GEAR: who stands at a short address is a gear that has it, with its random
--- address; and whoever has one stands at it.
+-- address; and each gear that has one stands at it.
 pub record IsTableOf (gs : List Gear) (hs : List Holder) : Type 0 where
   pub true_of : (a : ℕ) → holder_at hs a ≢ holder.Nobody
       → (g : ℕ) × Holds gs g a × (random_of (holder_at hs a) ≡ Some (gear_of gs g).random)

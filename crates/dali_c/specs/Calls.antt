@@ -47,7 +47,7 @@ OTHER_VERSION = 9
 abbrev pub refusal : PlainMachine → ℕ
 refusal p = if p.state.version == VERSION then NO_MACHINE else OTHER_VERSION
 
--- what is answered where a record is to be added to records
+-- what is answered if a record is to be added to records
 pub record AnswersAdd (k : Kept) (x : Record) (status : ℕ) : Type 0 where
   pub ok : (status ≡ OK) ↔ (Fits k.block x × MayAdd k x)
   pub fits : (status ≡ DOES_NOT_FIT) ↔ (Fits k.block x → ⊥)

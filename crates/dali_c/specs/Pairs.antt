@@ -11,6 +11,6 @@ random_of r = number_of r.high r.middle r.low
 abbrev pub search_of : PlainRandom → SearchAddress
 search_of r = record { high = r.high; middle = r.middle; low = r.low }
 
--- none where the short address is above 63
+-- none if the short address is above 63
 abbrev pub read_pair : Assignment → Option Assignment
 read_pair p = if nat_lt p.0 64 then Some p else None

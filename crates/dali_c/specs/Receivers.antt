@@ -39,7 +39,7 @@ receiver_with p _ _ = None
 abbrev pub receiver_of : PlainReceiver → Option Receiver
 receiver_of p = receiver_with p (reading_of p.reading (number_of p.bits)) (bool_of p.is_low)
 
--- and those of struct dali_window: what was heard has the code of an input, and 4 more where the
+-- and those of struct dali_window: what was heard has the code of an input, and 4 more if the
 -- window has passed over a pulse
 abbrev pub window_with : PlainWindow → Option Receiver → Option Answer → Bool → Option Window
 window_with p (Some receiver) (Some heard) pulse = Some (record {

@@ -5,7 +5,7 @@ use Rattle.dali_c.specs.Pairs.{random_of}
 use Rattle.dali_c.specs.declared.pairs.PlainRandom.{PlainRandom}
 use Rattle.dali_c.specs.declared.tallies.PlainTally.{PlainTally}
 
--- what a survey has counted: the number whose visit failed last is named where one did
+-- what a survey has counted: the number whose visit failed last is named if one did
 abbrev pub numbers_of : List PlainRandom → List ℕ
 numbers_of bytes = map random_of bytes
 

@@ -122,7 +122,7 @@ at_time dump word =
     (λ now. if nat_lt now dump.now then Err reason.TimeBack else Ok (record dump { now = now }))
 
 -- .. and changes: `0`, `1`, `x` or `z` before an identifier, or in two words a vector `b..`, a
--- number `r..` or a text `s..` and an identifier. The wire is low where it is 0; inverted, where it
+-- number `r..` or a text `s..` and an identifier. The wire is low while it is 0; inverted, while it
 -- is 1. What is neither 0 nor 1 says nothing of the wire: its level stays as it was.
 abbrev pub changed : Dump → Bool → List ℕ → Bool → Dump × Option Item
 changed dump inverted identifier high =
@@ -201,7 +201,7 @@ abbrev pub dump_word : Dump → Option (List ℕ) → Bool → List ℕ
     → Result (Dump × Option Item) Reason
 dump_word dump wanted inverted word = word_at dump.section dump wanted inverted word
 
--- THE END: the last item is told where the bus is at rest since, by the last time
+-- THE END: the last item is told if the bus is at rest since, by the last time
 abbrev pub told_at_end : Option Ear → ℕ → Option Item
 told_at_end None now = None
 told_at_end (Some ear) now = edge_told ear now

@@ -8,8 +8,8 @@ use Rattle.dali_capture.specs.declared.item.Item.{Item}
 use Rattle.dali_capture.specs.declared.ear.Ear.{Ear}
 use Rattle.dali_capture.specs.Items.{heard_of}
 
--- WHAT IS HEARD OF A WIRE. Before the bus was seen at rest, high for a stop condition, nobody knows
--- where a frame begins, so what comes before is not told: the receiver is spoilt at first.
+-- WHAT IS HEARD OF A WIRE. Before the bus was seen at rest, high for a stop condition, it is not
+-- known where a frame begins, so what comes before is not told: the receiver is spoilt at first.
 abbrev pub ear_at_first : Bool → ℕ → Ear
 ear_at_first low now = record {
   receiver = record { reading = Spoilt; is_low = low; lasted = 0 };

@@ -66,7 +66,7 @@ line_word line.Comment last word = Ok (record { line = line.Comment; last = last
 abbrev pub log_word : Log → List ℕ → Result (Log × Option Item) Reason
 log_word log word = line_word log.line log.last word
 
--- a line ends behind its item, or where it has none
+-- a line ends behind its item, or if it has none
 abbrev pub line_end : LogLine → ℕ → Result Log Reason
 line_end line.Fresh last = Ok (record { line = line.Fresh; last = last })
 line_end (line.Time at) last = Err BadLine

@@ -8,7 +8,7 @@ use Rattle.dali_capture.specs.Words.{after_mark}
 use Rattle.dali_capture.specs.Logs.{log_at_first, log_word, log_line_end}
 use Rattle.dali_capture.specs.Dumps.{dump_at_first, dump_word, dump_end}
 
--- A CAPTURE IS A DUMP where its first word begins with `$`, else a log.
+-- A CAPTURE IS A DUMP if its first word begins with `$`, else a log.
 abbrev pub source_of : List ℕ → Source
 source_of word = if is_some (after_mark 36 word) then Dump dump_at_first else Log log_at_first
 

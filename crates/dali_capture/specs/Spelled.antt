@@ -27,7 +27,7 @@ AreLogged last (item ∷ items) =
     (last ≤ item.at) × (item.until ≡ item.at + length_of item.what) × (item.until < 2 ^ 64)
     × AreBytes item.what × AreLogged item.at items
 
--- A DUMP OF LEVELS of one wire, true where it is 1, each since a time in µs
+-- A DUMP OF LEVELS of one wire, true while it is 1, each since a time in µs
 abbrev pub head_text : List ℕ
 head_text = codes "$timescale 1 us $end $var wire 1 ! D0 $end $enddefinitions $end "
 

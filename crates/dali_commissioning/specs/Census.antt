@@ -85,7 +85,7 @@ entries_of a (_ ∷ before) = entries_of a before
 
 -- ---------------------------------------------------------------- what it tells
 
--- what three answers spell: without any byte nobody may have answered
+-- what three answers spell: without any byte it may be that none answered
 abbrev pub is_byte : Answer → Bool
 is_byte (Byte b) = true
 is_byte _ = false
@@ -104,7 +104,7 @@ abbrev pub reply_of : Answer → Answer → Answer → Reply
 reply_of (Byte h) (Byte m) (Byte l) = reply.Random (number_of h m l)
 reply_of h m l = without_number h m l
 
--- what a question tells; none where one of its frames was lost
+-- what a question tells; none if one of its frames was lost
 abbrev pub reply_heard : Option Answer → Option Answer → Option Answer → Option Reply
 reply_heard (Some h) (Some m) (Some l) = Some (reply_of h m l)
 reply_heard _ _ _ = None
@@ -113,9 +113,9 @@ abbrev pub reply_told : List Input → Option Reply
 reply_told (l ∷ m ∷ h ∷ []) = reply_heard (answer_told h) (answer_told m) (answer_told l)
 reply_told _ = None
 
--- What two questions tell together: silence says more than noise, since noise may come from nobody;
--- a byte says more than silence, since an answer may be lost; a random address says more than what
--- spells none; and two different ones say that there are several gear.
+-- What two questions tell together: silence says more than noise, since noise may come from no
+-- gear; a byte says more than silence, since an answer may be lost; a random address says more than
+-- what spells none; and two different ones say that there are several gear.
 abbrev pub joined : Reply → Reply → Reply
 joined reply.Noise r = r
 joined r reply.Noise = r
@@ -169,7 +169,7 @@ IsAnswered a r x y =
     × (whole_of questions ≡ 3)
     × (r ≡ reply_after questions)
 
--- A SHORT ADDRESS IS GIVEN UP where eight questions in a row were lost before that.
+-- A SHORT ADDRESS IS GIVEN UP if eight questions in a row were lost before that.
 abbrev pub IsGivenUp : ℕ → Talk → Talk → Type 0
 IsGivenUp a x y =
     (questions : List (List Input))
@@ -188,8 +188,8 @@ is_named k a = list_any (λ p. p.0 == a) k.reserved || list_any (λ p. p.0 == a)
 abbrev pub is_known : Kept → List Block → ℕ → Bool
 is_known k others a = is_named k a || list_any (λ b. in_block b a) others
 
--- THE CENSUS: the short addresses from this one on, which are asked where they are not accounted
--- for, and passed over as silent where they are.
+-- THE CENSUS: the short addresses from this one on, which are asked if they are not accounted
+-- for, and passed over as silent if they are.
 abbrev pub IsCounted : Kept → List Block → ℕ → Reply → Talk → Talk → Type 0
 IsCounted k others a r x y =
     ((is_known k others a ≡ true) × (r ≡ reply.Silence) × (y ≡ x))

@@ -21,7 +21,7 @@ pub record Conducted (m n : Machine) (steps : List Step) (x y : Talk) : Type 0 w
   pub read : Consumes x.left y.left bytes
   pub told : HaveRead steps bytes
 
--- lines were read that tell this, or none where it is not of the bus
+-- lines were read that tell this, or none if it is not of the bus
 abbrev pub Hears : Talk → Talk → Input → Type 0
 Hears x y told = (bytes : List ℕ) × Consumes x.left y.left bytes × AreTold told bytes
 

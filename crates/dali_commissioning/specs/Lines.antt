@@ -19,7 +19,7 @@ abbrev pub asked_text : Bool → List ℕ
 asked_text true = codes " ask"
 asked_text false = codes " tell"
 
--- which frame of a pair it is, of a frame that is executed only where it is sent twice
+-- which frame of a pair it is, of a frame that is executed only if it is sent twice
 abbrev pub half_text : Half → List ℕ
 half_text Whole = []
 half_text First = codes " pair 1"
@@ -51,7 +51,7 @@ told_of line =
     else if bytes_eq line (codes "lapsed") then Some Lapsed
     else told_byte line
 
--- the line that tells something, without its line feed; nothing, where it is not of the bus
+-- the line that tells something, without its line feed; nothing, if it is not of the bus
 abbrev pub told_text : Input → List ℕ
 told_text (Heard Silence) = codes "silence"
 told_text (Heard (Byte byte)) = codes "byte " ++ byte_text byte

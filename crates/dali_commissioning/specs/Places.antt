@@ -61,7 +61,7 @@ places_below (suc n) k others replies =
 abbrev pub places : Kept → List Block → List Reply → List Place
 places k others replies = places_below 64 k others replies
 
--- ALL IS AS RECORDED: each gear that is enrolled is there, and nobody else answers.
+-- ALL IS AS RECORDED: each gear that is enrolled is there, and no other answers.
 abbrev pub is_as_recorded : Place → Bool
 is_as_recorded place.NotAsked = true
 is_as_recorded place.Nobody = true

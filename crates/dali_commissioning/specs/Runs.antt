@@ -27,7 +27,7 @@ use Rattle.dali_commissioning.specs.Steps.{has_committed}
 use Rattle.dali_commissioning.specs.Conducted.{Conducted, Commits, Stays, order_of}
 
 -- A RUN of a machine: the records that its store gave it, its steps, how it ended, under which
--- short addresses its survey heard somebody whom it does not know, the gear that it found last, how
+-- short addresses its survey heard gear that it does not know, the gear that it found last, how
 -- often in a row its transaction was lost, and what its survey has counted.
 pub record Run : Type 0 where
   pub start : Kept
@@ -117,7 +117,7 @@ pub record IsRead {S : Type 0} (is_up is_sound : S → Type 0) (holds : S → Li
   pub same : is_sound was → is_up keep → (xs : List Record) → holds was xs → holds keep xs
   pub stays : Stays is_up is_sound was keep
 
--- WHAT CAME OF A BEGINNING, after a census of all 64 short addresses. Where a gear answers to one
+-- WHAT CAME OF A BEGINNING, after a census of all 64 short addresses. If a gear answers to one
 -- that no record names, nothing is begun: the questions are all that was put, and the store has
 -- what it had. Else machines run, each of which begins with Start.
 abbrev pub IsBegun : {S : Type 0} (is_up is_sound : S → Type 0)

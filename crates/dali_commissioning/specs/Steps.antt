@@ -55,7 +55,7 @@ opened_by waiting (Some (Done e)) = None
 opened_by waiting (Some (Halt w)) = None
 opened_by waiting None = None
 
--- a pair is broken where its first frame was not heard
+-- a pair is broken if its first frame was not heard
 abbrev pub if_heard : Input → Option Forward → Option Forward
 if_heard (Heard h) waiting = waiting
 if_heard Start waiting = None
@@ -72,7 +72,7 @@ open_after (s ∷ before) = if_heard s.told (opened_by (open_after before) (last
 
 -- ---------------------------------------------------------------- lines and records
 
--- the line of an order, where it puts a frame
+-- the line of an order, if it puts a frame
 abbrev pub order_line : Option Forward → Option Order → List ℕ
 order_line waiting (Some (Put p f)) = put_text p f (half_of waiting f)
 order_line waiting (Some (Commit x)) = []
@@ -88,7 +88,7 @@ written_by (s ∷ before) = written_by before ++ order_line (open_after before) 
 abbrev pub IsLineOf : Input → List ℕ → Type 0
 IsLineOf told bytes = (line : List ℕ) × (bytes ≡ line ++ 10 ∷ []) × (told_of line ≡ Some told)
 
--- these bytes are the line that tells this; nothing, where it is not of the bus
+-- these bytes are the line that tells this; nothing, if it is not of the bus
 abbrev pub AreTold : Input → List ℕ → Type 0
 AreTold Start bytes = bytes ≡ []
 AreTold Survey bytes = bytes ≡ []

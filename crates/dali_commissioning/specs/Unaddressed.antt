@@ -35,7 +35,7 @@ comparing =
 abbrev pub ending : List Command
 ending = Terminate ∷ []
 
--- Gear with this number are withdrawn in between, where others are asked for (WITHDRAW): they do
+-- Gear with this number are withdrawn in between, if others are asked for (WITHDRAW): they do
 -- not answer then.
 abbrev pub withdrawing : ℕ → List Command
 withdrawing r =
@@ -85,7 +85,7 @@ ArePut (p ∷ puttings) (told ∷ more) x y =
     × ((is_sent told ≡ true) ⊎ (more ≡ []))
     × ArePut puttings more mid y
 
--- whether somebody was heard; none where a frame was lost
+-- whether gear was heard; none if a frame was lost
 abbrev pub is_yes : Bool → Answer → Bool
 is_yes asks Silence = false
 is_yes asks (Byte byte) = asks
@@ -114,7 +114,7 @@ AreTried puttings (told ∷ before) x y =
     × ArePut puttings told mid y
     × (found_by puttings told ≡ None)
 
--- ASKED TO THE END: whether somebody was heard.
+-- ASKED TO THE END: whether gear was heard.
 abbrev pub AreLeftOver : List Putting → Bool → Talk → Talk → Type 0
 AreLeftOver puttings found x y =
     (before : List (List Input))

@@ -96,7 +96,7 @@ search_turn n (HighSent high) = Some (SearchMiddle n.middle)
 search_turn n (MiddleSent high middle) = Some (SearchLow n.low)
 search_turn n _ = None
 
--- in a hunt the first search byte that is not yet that of the number, and COMPARE where all are
+-- in a hunt the first search byte that is not yet that of the number, and COMPARE once all are
 abbrev pub byte_to_send : SearchAddress → SearchAddress → Command
 byte_to_send n r =
     if r.high == n.high
@@ -111,7 +111,7 @@ bytes_to_send n r =
     one_if (not (r.high == n.high)) + one_if (not (r.low == n.low))
     + one_if (not (r.middle == n.middle))
 
--- in a roll call COMPARE, and once more where the first was silent
+-- in a roll call COMPARE, and once more if the first was silent
 abbrev pub call_turn : Option Answer → ℕ → Option Command
 call_turn None left = Some Compare
 call_turn (Some Silence) left = if left == 1 then Some Compare else None
@@ -200,11 +200,11 @@ asking c a = taking (record c { from = a + 1 }) (Asking a) c.number
 abbrev pub calling : Course → Course
 calling c = taking c Calling (sought 0xFFFFFF)
 
--- for the first time, where all short addresses were asked
+-- for the first time, once all short addresses were asked
 abbrev pub calling_first : Course → Course
 calling_first c = calling (record c { ascent = ascent_at_first; from = 64; opened = true })
 
--- gear draw random addresses, unless somebody is heard under FFFExx; xx is as it was sent last
+-- gear draw random addresses, unless gear is heard under FFFExx; xx is as it was sent last
 abbrev pub drawing : Course → Course
 drawing c = taking (record c { tally = drew c.tally }) Drawing (sought 0xFFFEFE)
 
@@ -221,7 +221,7 @@ abbrev pub passing_over : Course → Course
 passing_over c =
     taking (record c { tally = passed_over c.tally (value_of c.number) }) PassingOver c.number
 
--- nobody answered under the number that was found: the search that goes up begins anew
+-- no gear answered under the number that was found: the search that goes up begins anew
 abbrev pub missed : Course → Course
 missed c =
     hunting (record c {
@@ -285,7 +285,7 @@ next_unfinished k from = unfinished_among k (64 - from) from
 
 -- ---------------------------------------------------------------- what a survey asks
 
--- a short address is asked where the table does not name it, and where it is reserved
+-- a short address is asked if the table does not name it, and if it is reserved
 abbrev pub is_asked : Kept → ℕ → Bool
 is_asked k a = not (is_some (number_at k.enrolled a)) || is_some (number_at k.reserved a)
 
@@ -299,7 +299,7 @@ next_asked k from = asked_among k (64 - from) from
 
 -- ---------------------------------------------------------------- what a survey gives
 
--- A short address is open where it is neither reserved nor enrolled, and no other gear was heard
+-- A short address is open if it is neither reserved nor enrolled, and no other gear was heard
 -- under it.
 abbrev pub is_open : Kept → Shorts → ℕ → Bool
 is_open k heard a =
@@ -314,7 +314,7 @@ open_among k heard (suc n) a = if is_open k heard a then Some a else open_among 
 abbrev pub least_open : Kept → Shorts → Option ℕ
 least_open k heard = open_among k heard (k.block.last + 1 - k.block.first) k.block.first
 
--- What is reserved for a number is another's where some other gear was heard under it: one that
+-- What is reserved for a number is another's if some other gear was heard under it: one that
 -- told no number, or one that is enrolled.
 abbrev pub is_another : ℕ → Option ℕ → Bool
 is_another r None = false
@@ -325,8 +325,8 @@ is_anothers k heard a r = has_short heard a || is_another r (number_at k.enrolle
 
 -- ---------------------------------------------------------------- to go on
 
--- Before an opening was complete a visit to the next unfinished reservation, or the opening where
--- there is none; in a survey the next short address is asked, and where there is none the roll is
+-- Before an opening was complete a visit to the next unfinished reservation, or the opening if
+-- there is none; in a survey the next short address is asked, and if there is none the roll is
 -- called. Afterwards a new search, and in a survey the one that goes up goes on.
 abbrev pub visit_or_opening : Course → Option (ℕ × ℕ) → Course
 visit_or_opening c None = opening c

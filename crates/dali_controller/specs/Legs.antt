@@ -23,7 +23,7 @@ is_searching (Asking from silences) = false
 is_searching (Searching s) = true
 is_searching (Hunting a) = true
 
--- the first short address that was not looked at; 64 where none is looked at any more
+-- the first short address that was not looked at; 64 if none is looked at any more
 abbrev pub from_on : Leg → ℕ
 from_on (Revisiting from) = from
 from_on (Asking from silences) = from
@@ -37,7 +37,7 @@ silences_on (Asking from silences) = silences
 silences_on (Searching s) = 0
 silences_on (Hunting a) = 0
 
--- its search, and the one that goes up: where it has none, one that has asked nothing
+-- its search, and the one that goes up: if it has none, one that has asked nothing
 abbrev pub search_on : Leg → Search
 search_on (Revisiting from) = at_first
 search_on (Asking from silences) = at_first
@@ -52,7 +52,7 @@ ascent_on (Hunting a) = a
 
 -- WHAT CHANGES ON A LEG.
 
--- the count of silences, where short addresses are asked
+-- the count of silences, if short addresses are asked
 abbrev pub with_silences : Leg → ℕ → Leg
 with_silences (Asking from silences) n = Asking from n
 with_silences l n = l

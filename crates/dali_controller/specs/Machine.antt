@@ -64,11 +64,11 @@ at_first id k = record {
 
 -- WHAT AN INPUT TELLS.
 
--- a transaction is complete where no frame may follow; a close is its one frame
+-- a transaction is complete if no frame may follow; a close is its one frame
 abbrev pub is_complete : Kept → Option End → Stage → Bool
 is_complete k closing s = is_some closing || not (may_follow k.block k.reserved s)
 
--- and in a survey a transaction may end before, where nothing more is to be heard; a hunt may after
+-- and in a survey a transaction may end before, if nothing more is to be heard; a hunt may after
 -- each question, and a roll call after a yes
 abbrev pub is_front : Purpose → Bool
 is_front Hunting = true
@@ -79,7 +79,7 @@ is_front _ = false
 abbrev pub is_ended : Purpose → SearchAddress → Stage → Bool
 is_ended p n s = is_front p && not (is_some (turn_of p n s))
 
--- In a survey: whether what is reserved for a number is another's, where gear are searched. Then a
+-- In a survey: whether what is reserved for a number is another's, if gear are searched. Then a
 -- visit that found gear without short address ends before PROGRAM SHORT ADDRESS.
 abbrev pub is_withheld_by : Machine → Way → ℕ → ℕ → Bool
 is_withheld_by t Fresh a r = false
@@ -102,8 +102,8 @@ abbrev pub tries_after : Bool → ℕ → ℕ
 tries_after true n = 0
 tries_after false n = n
 
--- The silent searches: one more where QUERY SHORT ADDRESS was heard as neither the address that was
--- wanted nor MASK, but not in the visits before the opening; none in a row where a gear was found
+-- The silent searches: one more if QUERY SHORT ADDRESS was heard as neither the address that was
+-- wanted nor MASK, but not in the visits before the opening; none in a row if a gear was found
 -- and withdrawn.
 abbrev pub silent_after : Stage → Bool → ℕ → ℕ
 silent_after (Unanswered r) true n = n + 1
@@ -111,8 +111,8 @@ silent_after (Inconclusive r other) true n = n + 1
 silent_after (Withdrawn r b) opened n = 0
 silent_after _ opened n = n
 
--- A short address that is asked is marked where somebody answers, until three bytes tell a number
--- that gear draw; so it stays marked where one of them is not heard, or the number is none.
+-- A short address that is asked is marked if a gear answers, until three bytes tell a number
+-- that gear draw; so it stays marked if one of them is not heard, or the number is none.
 abbrev pub marked_at : Stage → Answer → Shorts → Shorts
 marked_at (HighAsked a None) Silence heard = heard
 marked_at (HighAsked a high) h heard = with_short heard a

@@ -80,7 +80,7 @@ FoundAt (Withdrawn r b) found = found ≡ Some (Queried b (value_of r))
 FoundAt (Spelled b (Some n)) found = found ≡ Some (Resolved b n)
 FoundAt _ found = Unit {0}
 
--- what holds where a frame was just heard
+-- what holds if a frame was just heard
 pub record IsHeard (w : Machine) (s : Stage) : Type 0 where
   pub stage : stage_of w.trace ≡ s
   pub tries : w.tries < 8
@@ -91,7 +91,7 @@ pub record IsHeard (w : Machine) (s : Stage) : Type 0 where
   pub finding : FoundAt s w.finding
   pub trace_finding : FoundAt s (finding_of w.trace)
 
--- what holds where a transaction may end without a record and without a close
+-- what holds if a transaction may end without a record and without a close
 pub record IsBetween (w : Machine) : Type 0 where
   pub tries : w.tries < 8
   pub silent : w.silent < most_silent w.course.way
@@ -100,7 +100,7 @@ pub record IsBetween (w : Machine) : Type 0 where
   pub found : (r : SearchAddress) (b : ℕ) → stage_of w.trace ≡ Withdrawn r b
       → Has w.kept.enrolled (b, value_of r)
 
--- what holds where nothing can be given to gear that answered MASK, and where a transaction begins
+-- what holds if nothing can be given to gear that answered MASK, and if a transaction begins
 -- then
 abbrev pub IsUngiven : Way → Machine → SearchAddress → Type 0
 IsUngiven Fresh w r =
@@ -112,7 +112,7 @@ IsNextTo Fresh w p n = p ≡ Closing BlockFull
 IsNextTo Surveying w p n =
     Put FIRST (frame_of (first_of p n)) ≡ beginning (next_course w)
 
--- what holds where a transaction begins, and the machine takes this course
+-- what holds if a transaction begins, and the machine takes this course
 pub record Begins (t : Machine) (c : Course) : Type 0 where
   pub tries : t.tries < 8
   pub way : c.way ≡ t.course.way
@@ -123,7 +123,7 @@ pub record Begins (t : Machine) (c : Course) : Type 0 where
   pub found : (r : SearchAddress) (b : ℕ) → stage_of t.trace ≡ Withdrawn r b
       → Has t.kept.enrolled (b, value_of r)
 
--- what holds where a gear was found, and may be enrolled
+-- what holds if a gear was found, and may be enrolled
 pub record Settles (w : Machine) (b n : ℕ) : Type 0 where
   pub ready : IsReady w
   pub going : closing_of w.course.purpose ≡ None
@@ -138,7 +138,7 @@ pub record Settles (w : Machine) (b n : ℕ) : Type 0 where
   pub withdrawn : (r : SearchAddress) (c : ℕ) → stage_of w.trace ≡ Withdrawn r c
       → (c ≡ b) × (value_of r ≡ n)
 
--- what holds where an enrolment was just kept
+-- what holds if an enrolment was just kept
 pub record Enrolled (w : Machine) (b n : ℕ) : Type 0 where
   pub between : IsBetween w
   pub ready : IsReady w
@@ -175,7 +175,7 @@ IsFirstFree Fresh k heard o =
     MatchOption o (IsFull k.block k.reserved) (IsLeastFree k.block k.reserved)
 IsFirstFree Surveying k heard o = o ≡ least_open k heard
 
--- the search that goes up asks its next question: in the transaction that runs, where that has room
+-- the search that goes up asks its next question: in the transaction that runs, if that has room
 pub record AsksNext (t : Machine) (c : Course) (sent : SearchAddress) (left : ℕ) (o : Order)
     (new : Machine) : Type 0 where
   pub order : o ≡ question c sent left

@@ -82,7 +82,7 @@ has_open t = is_some (least_open t.kept t.heard)
 abbrev pub may_draw : Machine → Bool
 may_draw t = nat_lt t.course.tally.draws 3 && has_open t
 
--- Where no address can be given: once a visit failed, the gear of a reservation that is unfinished
+-- If no address can be given: once a visit failed, the gear of a reservation that is unfinished
 -- may have got another address meanwhile. So short addresses are asked again, six times at most.
 abbrev pub asks_again : Machine → Bool
 asks_again t =
@@ -103,8 +103,8 @@ ungiven t Surveying = if may_draw t then opening_anew t.course else full t t.cou
 abbrev pub probed_in : Machine → Answer → Course
 probed_in t h = probed t.course h
 
--- In a hunt: nobody is left. Where it found somebody, the roll is called. Where it found nobody,
--- somebody never drew a random address.
+-- In a hunt: no gear is left. If it found some, the roll is called. If it found none, some gear
+-- never drew a random address.
 abbrev pub undrawn : Machine → Course → Course
 undrawn t c =
     if has_open t then (if nat_lt c.tally.draws 3 then drawing c else closing c GaveUp)
@@ -122,8 +122,8 @@ abbrev pub hunted_in : Machine → Answer → Course
 hunted_in t h =
     hunted_to t (leads_to (hunted t.course h).ascent) (hunted t.course h)
 
--- In a roll call: the second silent one in a row ends the survey. Where somebody answers, gear are
--- searched from the least number on; but at the fourth time since a visit succeeded, with somebody
+-- In a roll call: the second silent one in a row ends the survey. If any answers, gear are
+-- searched from the least number on; but at the fourth time since a visit succeeded, with some gear
 -- passed over, gear draw new random addresses for the last time, or it gives up.
 abbrev pub is_blocked : Tally → Bool
 is_blocked y = not (nat_lt y.calls 3) && is_some_passed y.passed
@@ -182,7 +182,7 @@ next_course t = begins_at t (stage_of t.trace)
 abbrev pub beginning : Course → Order
 beginning c = Put FIRST (frame_of (first_of c.purpose c.number))
 
--- A hunt goes on with the next question where it has room: for the bytes that change, and COMPARE.
+-- A hunt goes on with the next question if it has room: for the bytes that change, and COMPARE.
 abbrev pub is_hunting : Purpose → Bool
 is_hunting Hunting = true
 is_hunting p = false

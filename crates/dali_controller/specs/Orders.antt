@@ -126,8 +126,8 @@ is_left t r = is_left_by t r (address_for t.kept.reserved r) (least_open t.kept 
 
 -- THE CAUSES OF AN END.
 
--- a close is begun with all-found only where the last COMPARE, under FFFFFE, was heard as silence,
--- after a start; in a survey where that of a roll call was, under FFFFFF, after another silent one
+-- a close is begun with all-found only if the last COMPARE, under FFFFFE, was heard as silence,
+-- after a start; in a survey if that of a roll call was, under FFFFFF, after another silent one
 pub record IsSilentProbe (t : Machine) : Type 0 where
   pub number : SearchAddress
   pub stage : stage_of t.trace ≡ Probed number Silence
@@ -145,7 +145,7 @@ abbrev pub AllAreFound : Machine → Way → Type 0
 AllAreFound t Fresh = IsSilentProbe t
 AllAreFound t Surveying = IsSilentCall t
 
--- In a hunt that found nobody, nobody is left: somebody never drew a random address.
+-- In a hunt that found no gear, none is left: some gear never drew a random address.
 pub record IsUndrawn (t : Machine) : Type 0 where
   pub number : SearchAddress
   pub heard : Answer
@@ -155,7 +155,7 @@ pub record IsUndrawn (t : Machine) : Type 0 where
   pub nobody : leads_to (ascended t.course.ascent (is_yes heard)) ≡ Nobody
   pub none : (ascended t.course.ascent (is_yes heard)).found ≡ 0
 
--- no address can be given to gear that answered MASK, or none is open and somebody never drew
+-- no address can be given to gear that answered MASK, or none is open and some gear never drew
 abbrev pub IsUngivable : Machine → Type 0
 IsUngivable t =
     ((r : SearchAddress) × (stage_of t.trace ≡ Unnamed r) × (is_left t (value_of r) ≡ true)
@@ -168,9 +168,9 @@ IsBlockFull t Fresh =
     × ((HasRandom t.kept.reserved (value_of r) → ⊥) × IsFull t.kept.block t.kept.reserved)
 IsBlockFull t Surveying = IsUngivable t × (asks_again t ≡ false)
 
--- Too many searches in a row led to no gear. In a survey as well: somebody answered the fourth roll
--- call since a visit succeeded, some gear were passed over, and may draw no more; or somebody never
--- drew, and may draw no more.
+-- Too many searches in a row led to no gear. In a survey as well: gear answered the fourth roll
+-- call since a visit succeeded, some gear were passed over, and may draw no more; or some gear
+-- never drew, and may draw no more.
 pub record IsBlocked (t : Machine) : Type 0 where
   pub number : SearchAddress
   pub heard : Answer
@@ -268,8 +268,8 @@ AfterEnrolled t b n (Commit x) = (a : ℕ) × Has t.kept.reserved (a, n) × (x �
 AfterEnrolled t b n (Done e) = ⊥
 AfterEnrolled t b n (Halt w) = ⊥
 
--- What the transaction sends next, where it sends more; and what comes after the queries of a
--- random address that told the number which was visited, and after an enrolment. Where the queries
+-- What the transaction sends next, if it sends more; and what comes after the queries of a
+-- random address that told the number which was visited, and after an enrolment. If the queries
 -- told another number, or a gear that was programmed was not heard with its address, nothing is
 -- enrolled and nothing contradicts: the next transaction begins.
 --
@@ -311,7 +311,7 @@ pub record IsOrderedTo (t : Machine) (c : Course) (o : Order) : Type 0 where
 abbrev pub IsOrdered : Machine → Order → Type 0
 IsOrdered t o = IsOrderedTo t (course_by t o) o
 
--- the same for each input: where a record could not be kept, the machine halts
+-- the same for each input: if a record could not be kept, the machine halts
 abbrev pub IsAnswered : Machine → Input → Order → Type 0
 IsAnswered m input.CommitFailed o = o ≡ Halt fault.Store
 IsAnswered m input.Start o = IsOrdered (machine_told m input.Start) o

@@ -2,7 +2,7 @@ use Rattle.std.specs.Prelude.{ℕ, ◌==◌, ◌*◌, ◌%◌, ◌^◌, Bool, bi
 use Rattle.std.specs.Int.{bit_at, bit_not, w64}
 use Rattle.dali_controller.specs.declared.shorts.Shorts.{Shorts}
 
--- a short address stands in a set where its bit is 1
+-- a short address stands in a set if its bit is 1
 abbrev pub has_short : Shorts → ℕ → Bool
 has_short s a = bit_at s.bits a == 1
 

@@ -6,7 +6,7 @@ use Rattle.dali_controller.specs.declared.tally.Tally.{Tally}
 
 -- WHAT A SURVEY COUNTS.
 
--- nobody was passed over
+-- no gear was passed over
 abbrev pub none_passed : Passed
 none_passed = record {
   numbers =
@@ -40,7 +40,7 @@ uncounted = record {
 abbrev pub served : Tally → Tally
 served t = record t { calls = 0; failed = None; passed = none_passed }
 
--- a roll call was silent, or heard somebody: the second in a row ends the survey
+-- a roll call was silent, or heard gear: the second in a row ends the survey
 abbrev pub silent_call : Tally → Tally
 silent_call t = record t { is_silent = true }
 

@@ -25,7 +25,7 @@ pub record Gear : Type 0 where
   pub random : ℕ
   pub search : SearchAddress
   pub short : Option ℕ
-  -- the first frame of a send-twice pair, where it was the last frame that the gear took
+  -- the first frame of a send-twice pair, if it was the last frame that the gear took
   pub half : Option Command
 
 abbrev pub is_enabled : InitialisationState → Bool

@@ -22,7 +22,7 @@ abbrev pub next_draw : Gear → List ℕ → ℕ
 next_draw g [] = g.random
 next_draw g (draw ∷ left) = draw
 
--- one gear, where it takes the command and where it doesn't
+-- one gear, if it takes the command and if it doesn't
 abbrev pub one_after : Bool → Command → List ℕ → Gear → Gear
 one_after false c left g = g
 one_after true c left g = gear_taken c (next_draw g left) g
@@ -67,7 +67,7 @@ heard_by zero sum = Silence
 heard_by (suc zero) sum = Byte sum
 heard_by (suc (suc more)) sum = Damaged
 
--- which gear draws which number; where none is left, nothing is drawn
+-- which gear draws which number; if none is left, nothing is drawn
 abbrev pub drawn_one : Bool → ℕ → List ℕ → List (ℕ × ℕ) → List (ℕ × ℕ)
 drawn_one false k left more = more
 drawn_one true k [] more = more

@@ -50,7 +50,7 @@ abbrev pub frames_lost : List Step → ℕ
 frames_lost [] = 0
 frames_lost (s ∷ earlier) = was_lost s.told s.before.course.purpose + frames_lost earlier
 
--- Whoever is there answers at once: where a short address was silent, it is silent again.
+-- The gear that are there answer at once: if a short address was silent, it is silent again.
 abbrev pub IsSteady : Step → Type 0
 IsSteady s = (s.told ≡ input.Heard Silence) ⊎ (s.before.asked ≡ 0)
 

@@ -27,7 +27,7 @@ EndsWell AllFound k gs = OfPowered gs HasShort
 EndsWell BlockFull k gs = IsFull k.block k.reserved
 EndsWell GaveUp k gs = ⊥
 
--- of a survey: an address is taken, where it is reserved, or in the table, or somebody was heard
+-- of a survey: an address is taken, if it is reserved, or in the table, or gear was heard
 -- under it who told no number that gear draw
 abbrev pub IsTaken : Machine → ℕ → Type 0
 IsTaken m a =
@@ -48,7 +48,7 @@ abbrev pub IsSurveyDone : SiteState → ℕ → End → Type 0
 IsSurveyDone s c e =
     (m : Machine) → machine_at s c ≡ Some m → SurveyEndsWell e m (world s).gear
 
--- AN END IS TRUE, by how the controller began, where the site was once as `before`. After a survey
+-- AN END IS TRUE, by how the controller began, if the site was once as `before`. After a survey
 -- that began with settled records they are settled.
 abbrev pub IsTrueEnd : Beginning → SiteState → SiteState → ℕ → End → Type 0
 IsTrueEnd ByStart before s c e = EndsWell e (controller_at (world s) c).records (world s).gear
@@ -67,8 +67,8 @@ AreTabled before entries gs =
     (g a : ℕ) → g < length gs → (gear_of gs g).short ≡ Some a
     → ((gear_of before g).short ≡ Some a) ⊎ Has entries (a, (gear_of gs g).random)
 
--- after a survey it names each gear that has a short address, whoever gave it; but one that had it
--- at the start and was not to be seen then: it had no power, or no number that gear draw
+-- after a survey it names each gear that has a short address, by any controller; but one that had
+-- it at the start and was not to be seen then: it had no power, or no number that gear draw
 abbrev pub IsUnseen : Gear → Type 0
 IsUnseen g = (g.powered ≡ false) ⊎ (g.random ≡ MASK24)
 
@@ -78,7 +78,7 @@ AreSurveyed before entries gs =
     → Has entries (a, (gear_of gs g).random)
     ⊎ (((gear_of before g).short ≡ Some a) × IsUnseen (gear_of before g))
 
--- such a table does so, where the site was once as `before`
+-- such a table does so, if the site was once as `before`
 abbrev pub NamesAll : Bool → SiteState → List Assignment → SiteState → Type 0
 NamesAll false before entries s = AreTabled (world before).gear entries (world s).gear
 NamesAll true before entries s = AreSurveyed (world before).gear entries (world s).gear

@@ -20,7 +20,7 @@ use Rattle.dali_world.specs.Site.{SiteState, world, machine_at, next_request, si
 use Rattle.dali_progress.specs.Rounds.{IsOfRound}
 use Rattle.dali_progress.specs.Ends.{IsBlockTaken}
 
--- ONE GEAR IS MISHEARD: where gear g answers QUERY SHORT ADDRESS, silence or a damaged frame may be
+-- ONE GEAR IS MISHEARD: when gear g answers QUERY SHORT ADDRESS, silence or a damaged frame may be
 -- heard instead.
 
 abbrev pub IsNoByte : Answer → Type 0
@@ -48,7 +48,7 @@ RoundsBut g s c (e ∷ es) =
     Allowed (world s) e × IsOfRoundBut g s c e × RoundsBut g (site_logged s e) c es
 
 -- WHAT ITS END SAYS. With all-found, each gear with power has a short address. With block-full,
--- each address of the block is taken. Where it gave up, it is so as well, or each gear with power
+-- each address of the block is taken. If it gave up, it is so as well, or each gear with power
 -- but g has a short address.
 abbrev pub AreServedBut : ℕ → List Gear → Type 0
 AreServedBut g gs =

@@ -49,7 +49,7 @@ abbrev pub only : ℕ → Block
 only a = record { first = a; last = a }
 
 -- IT IS SERVED: the controller ends with all-found, the new gear has an address of the block that
--- was vacant, and the table names it so; where the site was once as `before`
+-- was vacant, and the table names it so; if the site was once as `before`
 pub record IsServed (before s : SiteState) (c g : ℕ) (e : End) : Type 0 where
   pub found : e ≡ AllFound
   pub address : ℕ

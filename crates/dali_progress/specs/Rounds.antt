@@ -33,7 +33,7 @@ by_survey ByStart = false
 by_survey BySurvey = true
 
 -- ONE CONTROLLER ALONE: it is up, and has just begun, with the records that it keeps; no request
--- waits, of whomever, and nobody owns the bus.
+-- waits, of any controller, and the bus has no owner.
 pub record IsAlone (s : SiteState) (c : ℕ) : Type 0 where
   pub run : IsRun s.plan s.queue s.log
   pub up : IsUp (world s) c
@@ -66,8 +66,8 @@ restarted s c = site_logged (site_logged s (event.Down c)) (event.Up c false)
 
 -- ---------------------------------------------------------------- rounds
 
--- WHAT A ROUND DOES, where nothing is disturbed and no other controller acts: the controller acts
--- on what is due for it, but reserves no address that used gear have; where Start is due it starts,
+-- WHAT A ROUND DOES, if nothing is disturbed and no other controller acts: the controller acts
+-- on what is due for it, but reserves no address that used gear have; if Start is due it starts,
 -- or surveys; a commit that is due succeeds; and in a survey its machine is whole afterwards. Or
 -- the request that is next is sent, every gear with power takes it, and what they answer is heard.
 abbrev pub Succeeds : Bool → Input → Type 0
@@ -125,7 +125,7 @@ frames (e ∷ es) = (if is_frame e then 1 else 0) + frames es
 abbrev pub bare : SiteState → ℕ
 bare s = count_by is_bare (world s).gear
 
--- HOW MANY FRAMES a controller sends, and how many events come, where n gear are so; at the most
+-- HOW MANY FRAMES a controller sends, and how many events come, if n gear are so; at the most
 abbrev pub most_frames : Beginning → ℕ → ℕ
 most_frames ByStart n = 111 * n + 10
 most_frames BySurvey n = 106 * n + 258

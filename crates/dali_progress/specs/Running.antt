@@ -49,7 +49,7 @@ pub record HasRoom (b : Beginning) (s : SiteState) : Type 0 where
   pub waits : 0 < s.queue
   pub fits : length s.log + most_events b (bare s) < s.room
 
--- HOW IT ENDS: by rounds alone the controller has ended, and what it says is true; where the site
+-- HOW IT ENDS: by rounds alone the controller has ended, and what it says is true; if the site
 -- was once as `before`
 pub record HasEndedBy (b : Beginning) (before s : SiteState) (c : ℕ) : Type 0 where
   pub events : List Event

@@ -49,7 +49,7 @@ abbrev pub AreOfCalls : SiteState → List Event → Type 0
 AreOfCalls s [] = Unit {0}
 AreOfCalls s (e ∷ es) = Allowed (world s) e × IsOfCall s e × AreOfCalls (site_logged s e) es
 
--- A CONTROLLER THAT HAS JUST BEGUN, as at the start of the site and where it comes up again: it is
+-- A CONTROLLER THAT HAS JUST BEGUN, as at the start of the site and when it comes up again: it is
 -- to start, and its machine knows its records alone, which are of its block.
 pub record HasJustBegun (s : SiteState) (c : ℕ) : Type 0 where
   pub told : (controller_at (world s) c).told ≡ Some input.Start
@@ -90,15 +90,15 @@ IsHeardInTime c a n [] = Unit {0}
 IsHeardInTime c a n (e ∷ es) =
     (silences_after c a n e < 3) × IsHeardInTime c a (silences_after c a n e) es
 
--- WHO HEARS THE USED GEAR of its block: where controller c begins, it does so by a survey; and of
--- its questions to each of their short addresses it hears silence at most twice before it begins
--- anew. A damaged answer is heard.
+-- A CONTROLLER THAT HEARS THE USED GEAR of its block: when controller c begins, it does so by a
+-- survey; and of its questions to each of their short addresses it hears silence at most twice
+-- before it begins anew. A damaged answer is heard.
 abbrev pub HearsUsed : Plan → ℕ → List Event → Type 0
 HearsUsed p c es =
     AllByRecursion (BeginsBySurveys c) es
     × ((a : ℕ) → IsUsedOf p c a → IsHeardInTime c a 0 es)
 
--- ITS QUESTIONS ARE OVER, where it has gone on to the gear that have no short address; and it does
+-- ITS QUESTIONS ARE OVER, if it has gone on to the gear that have no short address; and it does
 -- not begin anew.
 abbrev pub HasAsked : SiteState → ℕ → Type 0
 HasAsked s c = (m : Machine) × (machine_at s c ≡ Some m) × (m.course.opened ≡ true)

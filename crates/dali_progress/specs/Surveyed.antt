@@ -41,8 +41,8 @@ IsCourse (s ∷ earlier) n = IsCourse earlier s.before × IsTaken s n
 abbrev pub stage_told : Step → Stage
 stage_told s = stage_of (machine_told s.before s.told).trace
 
--- SOMEBODY IS HEARD under a short address that a survey asks, where its first query is heard as
--- anything but silence; also where a later one is not heard, since the first one was.
+-- GEAR IS HEARD under a short address that a survey asks, if its first query is heard as
+-- anything but silence; also if a later one is not heard, since the first one was.
 abbrev pub heard_at : Stage → Answer → Option ℕ
 heard_at (stage.HighAsked a high) Silence = None
 heard_at (stage.HighAsked a high) h = Some a

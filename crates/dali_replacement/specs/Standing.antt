@@ -15,7 +15,7 @@ abbrev pub places_of : Standing → List Place
 places_of s = s.places.items
 
 -- THE GEAR OF A TABLE ARE ASKED, one short address after the other from this one on: those that the
--- table has, each three times. Nobody else is asked, and is taken for silent.
+-- table has, each three times. No other is asked, and each is taken for silent.
 abbrev pub IsHeard : Kept → ℕ → Reply → Talk → Talk → Type 0
 IsHeard table a r x y =
     ((random_at table.enrolled a ≡ None) × (r ≡ reply.Silence) × (y ≡ x))

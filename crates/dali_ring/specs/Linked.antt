@@ -21,7 +21,7 @@ Leads link item n t a [] = a ≡ t
 Leads link item n t a (x ∷ xs) =
     (link a < n) × (item (link a) ≡ x) × Leads link item n t (link a) xs
 
--- A list that begins behind a, whose last slot is t, or a where it is empty, and leads to e.
+-- A list that begins behind a, whose last slot is t, or a if it is empty, and leads to e.
 abbrev pub IsList : {X : Type 0} → (ℕ → ℕ) → (ℕ → X) → ℕ → ℕ → ℕ → ℕ → List X → Type 0
 IsList link item n e t a xs = Leads link item n t a xs × (link t ≡ e)
 
@@ -75,7 +75,7 @@ pub record IsLinked {X : Type 0} (s : List (Slot X)) (n : ℕ) (tails : List ℕ
   pub least : 1 ≤ n
   pub most : n ≤ 1024
 
--- Slot b is the last of the items us of list p that waits, or where it begins where there are none;
+-- Slot b is the last of the items us of list p that waits, or where it begins if there are none;
 -- behind it are these.
 pub record IsAt {X : Type 0} (s : List (Slot X)) (n p b : ℕ) (us rest : List X) : Type 0 where
   pub items : slice_index_or (waiting s n) p [] ≡ us ++ rest

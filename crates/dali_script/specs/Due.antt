@@ -16,7 +16,7 @@ due_after (Some (Commit x)) = due.Store
 due_after (Some (Done e)) = due.Nothing
 due_after (Some (Halt w)) = due.Nothing
 
--- the inputs that are accepted: each one where that is due which it answers
+-- the inputs that are accepted: each one if that is due which it answers
 abbrev pub accepts : Due → Input → Bool
 accepts due.Nothing i = false
 accepts due.Start input.Start = true

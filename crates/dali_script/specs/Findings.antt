@@ -75,7 +75,7 @@ abbrev pub assigned : Finding → Assignment
 assigned (Queried a r) = (a, r)
 assigned (Resolved a r) = (a, r)
 
--- What may be enrolled by a finding: its pair; by one of the queries of a random address only where
+-- What may be enrolled by a finding: its pair; by one of the queries of a random address only if
 -- the pair is reserved.
 abbrev pub MayEnrol : List Assignment → Finding → Assignment → Type 0
 MayEnrol reserved (Queried a r) pair = pair ≡ (a, r)

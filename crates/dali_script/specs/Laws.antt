@@ -30,7 +30,7 @@ use Rattle.dali_script.specs.Stages.{IsSearched, IsAsked, IsHunting, IsBeforeDra
 -- What a front of a script says, in the words that a site and a machine use. Each is proved: see
 -- the module `laws`.
 
--- A frame may follow a trace exactly where its command follows at the stage of the trace.
+-- A frame may follow a trace exactly if its command follows at the stage of the trace.
 pub record LawfulFramesFollowAtTheStage : Type 0 where
   pub at_stage : (b : Block) (xs : List Assignment) (t : List Entry) (f : Forward) → Lawful b xs t f
       → Follows b xs (stage_of t) (command_of f)
@@ -98,7 +98,7 @@ pub record OpeningsBeginWithTerminate : Type 0 where
       → IsBeforeDraw (stage_of t) ⊎ (stage_of t ≡ RandomisedOnce)
 
 -- COMPARE, QUERY SHORT ADDRESS, PROGRAM SHORT ADDRESS and WITHDRAW come only after all three search
--- commands, but for the COMPARE before a draw; PROGRAM of an address only where gear without short
+-- commands, but for the COMPARE before a draw; PROGRAM of an address only if gear without short
 -- address answered, and with what is reserved for their number.
 pub record GearAreSearchedAnew : Type 0 where
   pub compare : (b : Block) (xs : List Assignment) (t : List Entry) (f : Forward) → Lawful b xs t f
@@ -118,7 +118,7 @@ pub record GearAreSearchedAnew : Type 0 where
       × ((stage_of t ≡ NumberSent r)
       ⊎ ((a : ℕ) × ((stage_of t ≡ Found r a) ⊎ ((stage_of t ≡ Confirmed r a) × MayGive b xs r a))))
 
--- No script has more than eight frames; and where the test says so, no frame may follow, else one
+-- No script has more than eight frames; and if the test says so, no frame may follow, else one
 -- may.
 pub record TransactionsEnd : Type 0 where
   pub room : (b : Block) (xs : List Assignment) (t : List Entry) (f : Forward) → Lawful b xs t f

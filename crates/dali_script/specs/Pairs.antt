@@ -23,7 +23,7 @@ abbrev pub random_at : List Assignment → ℕ → ℕ
 random_at xs i = (slice_index_or xs i (0, 0)).1
 
 -- One more than the place of the last of the first n pairs whose random address has these last
--- bits, or 0 where none has them.
+-- bits, or 0 if none has them.
 pub record IsLast (xs : List Assignment) (n bits at : ℕ) : Type 0 where
   pub inside : at ≤ n
   pub there : (i : ℕ) → at ≡ i + 1 → last_bits (random_at xs i) ≡ bits

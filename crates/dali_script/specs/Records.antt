@@ -47,7 +47,7 @@ pub record Marks (xs : List Assignment) (marks : List Bool) : Type 0 where
   pub all : length marks ≡ 64
   pub marked : (a : ℕ) → a < 64 → (slice_index_or marks a false ≡ true) ↔ HasAddress xs a
 
--- The same of whether a pair has it for a number that none of the others may have: where it is not
+-- The same of whether a pair has it for a number that none of the others may have: if it is not
 -- marked, they have the number.
 pub record MayBeUnmatched (xs ys : List Assignment) (marks : List Bool) : Type 0 where
   pub all : length marks ≡ 64
@@ -154,7 +154,7 @@ Shows k (Reserve a r) = Has k.reserved (a, r)
 Shows k (Enrol a r) = Has k.enrolled (a, r)
 Shows k (Release a r) = Has k.reserved (a, r) → ⊥
 
--- a record that takes a pair away, so that records show it also where it was never added
+-- a record that takes a pair away, so that records show it also if it was never added
 abbrev pub TakesAway : Record → Type 0
 TakesAway (Reserve a r) = ⊥
 TakesAway (Enrol a r) = ⊥

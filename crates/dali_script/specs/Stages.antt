@@ -59,7 +59,7 @@ abbrev pub verified : SearchAddress → ℕ → Answer → Stage
 verified r a (Byte v) = answered r a (short_of v)
 verified r a _ = Inconclusive r None
 
--- after one more frame of a hunt, where so many may follow it
+-- after one more frame of a hunt, if so many may follow it
 abbrev pub hunted : SearchAddress → ℕ → Command → Answer → Option Stage
 hunted r left (SearchHigh high) h = Some (Hunted (record r { high = high }) None left)
 hunted r left (SearchMiddle middle) h = Some (Hunted (record r { middle = middle }) None left)
@@ -67,12 +67,12 @@ hunted r left (SearchLow low) h = Some (Hunted (record r { low = low }) None lef
 hunted r left Compare h = Some (Hunted r (Some h) left)
 hunted r left _ h = None
 
--- after the question whether somebody is to be searched: gear may draw where nobody answered
+-- after the question whether gear are to be searched: gear may draw if none answered
 abbrev pub doubted : Answer → Stage
 doubted Silence = DrawFree
 doubted _ = DrawBarred
 
--- after a query of a byte of a random address: all bytes so far, where each was heard
+-- after a query of a byte of a random address: all bytes so far, if each was heard
 abbrev pub byte_heard : Answer → Option ℕ
 byte_heard (Byte v) = Some v
 byte_heard _ = None
@@ -130,7 +130,7 @@ abbrev pub stage_from : Stage → List Entry → Stage
 stage_from s [] = s
 stage_from s (e ∷ t) = stage_from (next_stage s (command_of e.frame) e.heard) t
 
--- THE STAGE of a trace: how far a transaction is. `Over` also where the trace is no front of a
+-- THE STAGE of a trace: how far a transaction is. `Over` also if the trace is no front of a
 -- script.
 unfoldable pub stage_of : List Entry → Stage
 stage_of t = stage_from Free t
@@ -140,13 +140,13 @@ abbrev pub IsHunting : Stage → Type 0
 IsHunting (Hunted r last left) = 0 < left
 IsHunting _ = ⊥
 
--- gear were initialised, and are to draw: at once, or where nobody answered before
+-- gear were initialised, and are to draw: at once, or if no gear answered before
 abbrev pub IsBeforeDraw : Stage → Type 0
 IsBeforeDraw Initialised = Unit {0}
 IsBeforeDraw DrawFree = Unit {0}
 IsBeforeDraw _ = ⊥
 
--- whether somebody is to be searched is asked once more before gear draw
+-- whether gear are to be searched is asked once more before gear draw
 abbrev pub IsDoubting : Stage → Type 0
 IsDoubting (WokenMiddle high middle) = Unit {0}
 IsDoubting _ = ⊥
@@ -159,7 +159,7 @@ given (Programmed r a) c = Some (r, a)
 given (Confirmed r a) c = Some (r, a)
 given _ _ = None
 
--- FOLLOWS: a command may come next at a stage where it leads on, and what is given, if anything,
+-- FOLLOWS: a command may come next at a stage if it leads on, and what is given, if anything,
 -- may be given.
 pub record Follows (b : Block) (reserved : List Assignment) (s : Stage) (c : Command) : Type 0 where
   pub leads_on : is_some (leads s c Silence) ≡ true

@@ -61,7 +61,7 @@ is_bounded a = nat_lt a.high 0xFFFFFF
 abbrev pub scale : Ascent → ℕ
 scale a = apart ((a.top + 1) / a.found) 0 - 1
 
--- A STEP UP, while nobody has answered: from the member that was found last to the end of a block
+-- A STEP UP, while no gear has answered: from the member that was found last to the end of a block
 -- of about the mean distance, then of blocks twice, four and eight times as large, and then FFFFFE.
 -- Before a member was found it is FFFFFE at once. Who begins anew first asks whether a member was
 -- passed over, below those that were found.
@@ -73,13 +73,13 @@ step_up a =
 abbrev pub from_known : Ascent → ℕ
 from_known a = if a.found == 0 then 0xFFFFFE else step_up a
 
--- THE NUMBER TO ASK NEXT: a step up; or, once somebody has answered, the last of the lower half of
+-- THE NUMBER TO ASK NEXT: a step up; or, once a gear has answered, the last of the lower half of
 -- the least block that has all numbers that are left.
 abbrev pub asked_next : Ascent → ℕ
 asked_next a =
     if is_bounded a then with_ones (apart a.low a.high - 1) a.low else from_known a
 
--- WHAT THE ANSWERS LEAD TO. Nobody is left only where FFFFFE was answered no twice.
+-- WHAT THE ANSWERS LEAD TO. No gear is left only if FFFFFE was answered no twice.
 abbrev pub leads_to : Ascent → Step
 leads_to a =
     if is_bounded a then (if nat_lt a.low a.high then Again else Found a.high)
@@ -115,7 +115,7 @@ ascended a false = told_no a (asked_next a)
 
 -- ---------------------------------------------------------------- where one begins
 
--- before anybody was found; above a member that was found; and anew, where nobody answered under
+-- before any gear was found; above a member that was found; and anew, if no gear answered under
 -- the number that was found
 abbrev pub ascent_at_first : Ascent
 ascent_at_first = record {
@@ -150,7 +150,7 @@ begun_anew a = record {
   top = a.top;
 }
 
--- after an end: above who was found, and anew where nobody was left
+-- after an end: above the gear that was found, and anew if none was left
 abbrev pub gone_on_from : Step → Ascent → Ascent
 gone_on_from Again a = a
 gone_on_from (Found r) a = above a r

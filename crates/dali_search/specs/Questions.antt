@@ -54,7 +54,7 @@ frames_asked a q (answer ∷ more) =
 
 -- HOW MANY FRAMES THE QUESTIONS TAKE AT MOST until it ends, in thirds of a frame: a transaction has
 -- room for three questions that change one byte each, so each of them takes eight. First what a
--- transaction has no room for any more; then one question for each bit, five more where it changes
+-- transaction has no room for any more; then one question for each bit, five more if it changes
 -- two neighbouring bytes, and five more after FFFFFE, which is no end of a block; and then a
 -- question for each step up, which may change all three bytes, but for the first one.
 abbrev pub thirds_of_room : ℕ → ℕ
@@ -81,8 +81,8 @@ thirds_left a q =
 
 -- ---------------------------------------------------------------- with true answers
 
--- THE SAME WHERE ALL ANSWERS ARE TRUE. Where some member is left, FFFFFE is answered yes; so it is
--- the last step up, and the first one where nobody was found yet.
+-- THE SAME IF ALL ANSWERS ARE TRUE. If some member is left, FFFFFE is answered yes; so it is
+-- the last step up, and the first one if no gear was found yet.
 abbrev pub steps_to_somebody : Ascent → ℕ
 steps_to_somebody a = if a.found == 0 then 1 else 5 - a.steps
 
@@ -92,7 +92,7 @@ thirds_to_somebody a q =
     + (if is_bounded a then thirds_of_bits (apart a.low a.high) + thirds_of_last q.number
     else 16 * steps_to_somebody a + 207 - (if a.steps == 0 then 8 else 0))
 
--- Where nobody is left, all answers are no. Where nobody was found yet FFFFFE alone is asked,
+-- If no gear is left, all answers are no. If none was found yet FFFFFE alone is asked,
 -- twice.
 abbrev pub thirds_to_nobody : Ascent → Asking → ℕ
 thirds_to_nobody a q =
@@ -108,7 +108,7 @@ IsOnes k n = with_ones k n ≡ n
 abbrev pub AgreeAbove : ℕ → ℕ → ℕ → Type 0
 AgreeAbove i n m = n / 2 ^ i ≡ m / 2 ^ i
 
--- Where somebody has answered, the number that was asked last is the upper bound, or just below the
+-- Once a gear has answered, the number that was asked last is the upper bound, or just below the
 -- lower one.
 pub record IsHalved (low high number : ℕ) : Type 0 where
   pub ends : IsOnes (apart low high) high ⊎ (high ≡ 0xFFFFFE)
@@ -123,7 +123,7 @@ pub record IsUnderWay (a : Ascent) (q : Asking) : Type 0 where
   pub first : a.steps ≡ 0 → is_bounded a ≡ false → q.room ≡ 0
   pub halved : is_bounded a ≡ true → IsHalved a.low a.high q.number
 
--- where nobody was found yet: nothing was asked, or FFFFFE once
+-- if no gear was found yet: nothing was asked, or FFFFFE once
 pub record IsTrueWay (a : Ascent) (q : Asking) : Type 0 where
   pub way : IsUnderWay a q
   pub fresh : a.found ≡ 0 → a.silent ≡ 0 → is_bounded a ≡ false → q.room ≡ 0

@@ -92,7 +92,7 @@ abbrev pub special_of : Option Command → Forward → Command
 special_of (Some query) f = query
 special_of None f = unwrap_or (row_of f.address_byte f.opcode_byte rows) (Other f)
 
--- The command of a frame: direct arc power where the address byte has last bit 0, else a query of
+-- The command of a frame: direct arc power if the address byte has last bit 0, else a query of
 -- one gear, else by the table of special commands, else none.
 unfoldable pub command_of : Forward → Command
 command_of f =

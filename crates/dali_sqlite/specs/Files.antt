@@ -12,7 +12,7 @@ pub record HoldRecords (image : Image) (xs : List Record) : Type 0 where
   pub found : ∥ HoldsDatabase image trees ∥₁
   pub table : IsTableOf trees xs
 
--- so do they where the log is empty, as where the database's file is taken alone
+-- so do they if the log is empty, as when the database's file is taken alone
 pub record HoldRecordsAlone (image : Image) (xs : List Record) : Type 0 where
   pub both : HoldRecords image xs
   pub alone : HoldRecords (record image { log = [] }) xs

@@ -17,7 +17,7 @@ byte_at db n = slice_index_or db n 0
 abbrev pub has_log : List ℕ → Bool
 has_log db = byte_at db 18 == 2 && byte_at db 19 == 2
 
--- nobody else has set the user version
+-- no other program has set the user version
 abbrev pub has_no_version : List ℕ → Bool
 has_no_version db =
     byte_at db 60 == 0 && (byte_at db 61 == 0 && (byte_at db 62 == 0 && byte_at db 63 == 0))

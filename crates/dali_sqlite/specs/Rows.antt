@@ -22,7 +22,7 @@ rows_after before (x ∷ xs) = row_of (before + 1) x ∷ rows_after (before + 1)
 abbrev pub shown_of : Row → Row
 shown_of row = column row 0 ∷ column row 2 ∷ column row 3 ∷ column row 4 ∷ []
 
--- the first four values of a row, NULL where there is none
+-- the first four values of a row, NULL if there is none
 abbrev pub four_of : Row → Row
 four_of row = column row 0 ∷ column row 1 ∷ column row 2 ∷ column row 3 ∷ []
 

@@ -37,7 +37,7 @@ abbrev pub moment_first : ℕ → List Used → List ℕ → Moment
 moment_first count used draws =
     record { gear = gear_first count used; left = drawable draws }
 
--- A frame reaches gear, and what they answer. Nothing comes of it where too few numbers are left
+-- A frame reaches gear, and what they answer. Nothing comes of it if too few numbers are left
 -- for those that draw, as never in a run that was played.
 abbrev pub taken : Reach → Command → Moment → Moment × Answer
 taken reach x m = (
@@ -58,7 +58,7 @@ abbrev pub after_foreign : Bool → List Gear → List Gear
 after_foreign may gear = if may then map gear_interrupted gear else gear
 
 -- WHAT AN EVENT DOES TO THE GEAR, and what they answer to its frame: a destroyed frame reaches
--- those of its set alone, and two that collide reach nobody.
+-- those of its set alone, and two that collide reach no gear.
 abbrev pub befallen : Event → Moment → Moment × Answer
 befallen (event.Sent c f h) m = after_frame Everyone (command_of f) m
 befallen (event.Destroyed c f set) m = after_frame (Only set) (command_of f) m

@@ -30,7 +30,7 @@ frames_in (event.Expired g) = 0
 frames_in (event.Down c) = 0
 frames_in (event.Up c kept) = 0
 
--- bit times of a forward frame that was sent whole, and of a backward frame where one was heard
+-- bit times of a forward frame that was sent whole, and of a backward frame if one was heard
 -- (101, frames)
 abbrev pub bits_with : Option Answer → ℕ
 bits_with None = 0

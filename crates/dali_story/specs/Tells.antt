@@ -16,7 +16,7 @@ IsTold input old new =
     (x : Played) × IsPlayedBy (setting_of input) x × (x.input.now ≡ input)
     × Appends old new (story_of x)
 
--- WHY NO STORY IS TOLD, with nothing written but where the output cannot be written
+-- WHY NO STORY IS TOLD, with nothing written but if the output cannot be written
 abbrev pub TellsNot : List ℕ → Option (List ℕ) → Option (List ℕ) → ReplayFault → Type 0
 TellsNot input old new (BadLine n) = StopsBy (setting_of input) (BadLine n) × Keeps old new
 TellsNot input old new (BadPlan e) = StopsBy (setting_of input) (BadPlan e) × Keeps old new

@@ -36,7 +36,7 @@ line_facts surveys =
 
 -- A RUN OF ALL over one line, which begins with an empty log. The line gave this site back. Each
 -- controller's worker ended so, in a run with as many steps as the log has of its controller; and
--- all that the log has of nobody was driven by the pumper.
+-- all that the log has of no controller was driven by the pumper.
 pub record HaveRun (turns : ℕ) (surveys : Bool) (outcomes : List Outcome)
     (s : SiteState) : Type 0 where
   pub given : IsGivenBack s (shares_of s) (others_of s.log)

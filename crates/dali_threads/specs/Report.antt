@@ -33,7 +33,7 @@ abbrev pub outcome_lines : ℕ → List Outcome → List ℕ
 outcome_lines c [] = []
 outcome_lines c (o ∷ os) = outcome_line c o ++ outcome_lines (c + 1) os
 
--- the table of controller c, where it is up
+-- the table of controller c, if it is up
 abbrev pub table_line : ℕ → Controller → Bool → List ℕ
 table_line c x true = table_text c x.records.enrolled
 table_line c x false = []

@@ -4,7 +4,7 @@ use Rattle.dali_wire.specs.Levels.{bits_of}
 use Rattle.dali_wire.specs.Times.{IsHalf, AreTimes}
 use Rattle.dali_wire.specs.Windows.{window_after}
 
--- ANY EDGES: of each stands the level after it, true where the bus is low, and the time before it
+-- ANY EDGES: of each stands the level after it, true if the bus is low, and the time before it
 abbrev pub window_after_all : Window → List (Bool × ℕ) → Window
 window_after_all w [] = w
 window_after_all w (edge ∷ edges) = window_after_all (window_after w edge.0 edge.1) edges

@@ -6,7 +6,7 @@ use Rattle.dali_wire.specs.declared.receiver.Frame.{Frame}
 use Rattle.dali_wire.specs.Reception.{ended, reading_after, frame_of}
 use Rattle.dali_wire.specs.Levels.{levels_of, backward_bits, highs}
 
--- A BUS AT THE RESOLUTION OF HALF BITS: its levels, each of t µs, true where it is low. Where one
+-- A BUS AT THE RESOLUTION OF HALF BITS: its levels, each of t µs, true while it is low. If one
 -- differs from the one before, the receiver is told an edge.
 
 -- what the edge tells as a level begins, so long after the last edge
@@ -58,7 +58,7 @@ Within (true ∷ levels) (true ∷ bus) = Within levels bus
 Within (true ∷ levels) (false ∷ bus) = ⊥
 Within (false ∷ levels) (low ∷ bus) = Within levels bus
 
--- THE BUS OF SEVERAL ANSWERS for so many half bits: low where any of them is. Of each stands where
+-- THE BUS OF SEVERAL ANSWERS for so many half bits: low while any of them is. Of each stands where
 -- it begins, and its byte.
 abbrev pub low_where : List Bool → List Bool → List Bool
 low_where [] bus = bus

@@ -2,7 +2,7 @@ use Rattle.std.specs.Prelude.{ℕ, zero, suc, ◌+◌, ◌-◌, ◌*◌, ◌^◌
 use Rattle.std.specs.Prelude.{List, [], ◌∷◌, ◌++◌, if◌then◌else◌}
 use Rattle.dali_frame.specs.declared.frames.Forward.{Forward}
 
--- THE LEVELS OF A FRAME, half bit by half bit: true where the bus is low.
+-- THE LEVELS OF A FRAME, half bit by half bit: true while the bus is low.
 
 -- so many bits of a number, the highest one first
 unfoldable pub bits_of : ℕ → ℕ → List Bool
@@ -34,7 +34,7 @@ backward_bits byte = bits_of 9 (0x100 + byte)
 abbrev pub sent_levels : List Bool → List Bool
 sent_levels bits = levels_of bits ++ highs 6
 
--- what a sender has still to send: the bits, where it stands in one its second half first, and then
+-- what a sender has still to send: the bits, if it stands in one its second half first, and then
 -- so many half bits of the stop condition
 abbrev pub second_half : List Bool → List Bool
 second_half [] = []

@@ -19,7 +19,7 @@ span_of micros =
     else (if nat_le micros 500 then Half
     else (if nat_lt micros 667 || nat_lt 1000 micros then Wrong else Whole))
 
--- what the time before an edge was, by the level before and after it; where these are one, an edge
+-- what the time before an edge was, by the level before and after it; if these are one, an edge
 -- between them was missed
 abbrev pub span_before : Bool → Bool → ℕ → Span
 span_before true true since = Wrong
@@ -27,7 +27,7 @@ span_before false false since = Wrong
 span_before true false since = span_of since
 span_before false true since = span_of since
 
--- EACH BIT IS TOLD BY THE EDGE IN ITS MIDDLE: 1 where the bus is high after it, 0 where it is low.
+-- EACH BIT IS TOLD BY THE EDGE IN ITS MIDDLE: 1 if the bus is high after it, 0 if it is low.
 -- A number is the bits that were read, the start bit, 1, first; 24 bits may follow it.
 abbrev pub with_bit : ℕ → Bool → Reading
 with_bit bits low =
@@ -71,7 +71,7 @@ frame_read (Middle bits) = Some (frame_of bits)
 frame_read Spoilt = Some Damaged
 
 -- A FRAME ENDS with a stop condition: the bus is high for 2,400 µs, from memory
--- (IEC 62386-101:2014, receiver bit timing). First where it is low, then where it is high.
+-- (IEC 62386-101:2014, receiver bit timing). First while it is low, then while it is high.
 abbrev pub ended : Reading → Bool → ℕ → Option Frame
 ended reading true since = None
 ended reading false since = if nat_lt since 2400 then None else frame_read reading

@@ -55,7 +55,7 @@ abbrev pub is_passed_over : Window → Bool → ℕ → Bool
 is_passed_over w low since =
     is_idle (reading_after w.receiver.reading w.receiver.is_low low since)
 
--- Where it is shorter than 100 µs it is a pulse, too short for a low that a control gear sent.
+-- If it is shorter than 100 µs it is a pulse, too short for a low that a control gear sent.
 abbrev pub is_pulse : Window → ℕ → Bool
 is_pulse w since = w.receiver.is_low && nat_lt since 100
 
