@@ -6,7 +6,7 @@ use Rattle.dali_arbiter.specs.Arbiter.{Arbiter, next, first_waiting, without_fir
 
 -- THE OTHER REQUEST OF A COLLISION has another sender, and is next once the first is taken.
 
--- where a request is next, it is the first of the first list that is not empty
+-- if a request is next, it is the first of the first list that is not empty
 pub first_of_all : (owner : Option ℕ) (lists : List (List Request)) (r : Request) → first_waiting (if is_some owner then take 1 lists else lists) ≡ Some r
     → first_waiting lists ≡ Some r
 first_of_all None lists r e = e
@@ -49,7 +49,7 @@ collision_first [] q e = absurd (cc)
 collision_first ([] ∷ lists) q e = collision_first lists q e
 collision_first ((x ∷ xs) ∷ lists) q e = rival_first x q xs lists e
 
--- where nobody owns the bus, list 1 is empty, and a collision is two losses, one after the other
+-- if the bus has no owner, list 1 is empty, and a collision is two losses, one after the other
 pub collided_is : (b : Arbiter) (q : Request) (rest : List (List Request)) → b.lists ≡ [] ∷ rest → collision b.lists ≡ Some q
     → bus_collided b ≡ bus_destroyed (bus_destroyed b)
 collided_is b q rest e both = rw both (rw e refl)

@@ -52,7 +52,7 @@ pub collision_of_first : (i : ℕ) (r : Request) (rs : List Request) (more : Lis
 collision_of_first zero r rs more = refl
 collision_of_first (suc i) r rs more = collision_of_first i r rs more
 
--- where a request waits, a list is not empty
+-- if a request waits, a list is not empty
 pub some_best : (ls : Lists) (k : ℕ) → IsSome (first_waiting ls) → IsSome (first_from k ls)
 some_best [] k some = absurd (cc)
 some_best ([] ∷ ls) k some = some_best ls (k + 1) some
@@ -122,7 +122,7 @@ module _ (ls : Lists) (p : ℕ) (is : first_from 1 ls ≡ Some p) where
     other_sender : (second : Request) → slice_get (get_or ls2 (p - 1) []) 0 ≡ Some second → (second.sender ≡ first.sender → ⊥) → collision ls ≡ Some second
     other_sender second is unlike = rivals second is false (grind (arith, nat_tests))
 
-  -- where nothing collides the first alone leaves, else the one behind it too
+  -- if nothing collides the first alone leaves, else the one behind it too
   one_left : collision ls ≡ None → ls2 ≡ without_collision ls
   one_left none = rest_is ∙ sym (ap (λ (o : Option Request). if is_some o then without_first (without_first ls) else without_first ls) none)
 
@@ -138,7 +138,7 @@ module _ (ls : Lists) (p : ℕ) (is : first_from 1 ls ≡ Some p) where
             ap (λ (ys : List Request). set ls2 (p - 1) (drop 1 ys)) list ∙ ap (λ (ys : Lists). set ys (p - 1) xs) lists
             ∙ rw index (set_first f.i (x ∷ xs) xs f.more) ∙ sym (ap without_first (sym rest_is ∙ lists) ∙ rest_first f.i x xs f.more)
 
--- what collides, and what is left, where the first was taken and this one stood behind it
+-- what collides, and what is left, if the first was taken and this one stood behind it
 module _ (q q2 : Queues Request) (b : Option ℕ) (p : ℕ) (popped next : Option Request) (first : Request) (searched : b ≡ best q) (found : b ≡ Some p)
     (pop_is : popped ≡ slice_get (list_of q p) 0) (rest : q2 ≡ with_list q p (drop 1 (list_of q p))) (taken : popped ≡ Some first)
     (behind_is : next ≡ slice_get (list_of q2 p) 0) where

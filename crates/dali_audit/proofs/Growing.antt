@@ -2,7 +2,7 @@ use Rattle.std.proofs.Common.{◌≡◌, refl, ap, List, [], ◌∷◌, ◌++◌
 use Rattle.dali_audit.specs.declared.comparing.Step.{Step}
 use Rattle.dali_audit.specs.Frames.{is_frame_step, frames_of}
 
--- one step more is one frame more, where it is one
+-- one step more is one frame more, if it is one
 pub frames_more : (xs : List Step) (s : Step) → frames_of (xs ++ s ∷ []) ≡ frames_of xs ++ frames_of (s ∷ [])
 frames_more [] s = refl
 frames_more (x ∷ xs) s = go (is_frame_step x) (frames_more xs s) where

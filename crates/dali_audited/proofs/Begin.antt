@@ -23,7 +23,7 @@ use Rattle.dali_audited.specs.Tables.{Holds, IsTableOf}
 use Rattle.dali_audited.proofs.Grammar.{Fits}
 use Rattle.dali_audited.proofs.Whole.{Agrees, Ended, Met, Any, IsToldOf, whole}
 
--- A RUN BEGINS: nobody stands in the table, and gear from the factory have no short address
+-- A RUN BEGINS: the table is empty, and gear from the factory have no short address
 
 nobody_at : (a : ℕ) → holder_at table_at_first a ≡ holder.Nobody
 nobody_at a = go (nat_lt a 64) refl where

@@ -15,7 +15,7 @@ use Rattle.dali_gear.specs.Row.{takes, option_cons, answers_of, heard_of}
 use Rattle.dali_script.proofs.Transactions.{equal, self}
 use Rattle.dali_events.proofs.Invariant.Sending.{takes_powered}
 
--- WHO ANSWERS, by what is heard where nothing is disturbed
+-- WHICH GEAR ANSWER, by what is heard if nothing is disturbed
 
 -- gear i answers
 pub record Replies (c : Command) (gs : List Gear) (i : ℕ) : Type 0 where
@@ -76,7 +76,7 @@ two_from c k (g ∷ gs) u v rest e = go (takes Everyone k g) (answer c g) refl r
         replies_too = one_later c g gs j.0 j.1;
       }
 
--- several answer where a damaged answer is heard
+-- several answer if a damaged answer is heard
 pub several : (c : Command) (gs : List Gear) → Damaged ≡ heard_of (answers_of Everyone c 0 gs) → Two c gs
 several c gs e = go (answers_of Everyone c 0 gs) refl e where
   go : (bytes : List ℕ) → answers_of Everyone c 0 gs ≡ bytes → Damaged ≡ heard_of bytes → Two c gs

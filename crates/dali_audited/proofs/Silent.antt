@@ -26,7 +26,7 @@ use Rattle.dali_audit.specs.Findings.{settling_time, at_where}
 use Rattle.dali_audited.specs.Capture.{rest_before}
 use Rattle.dali_audited.proofs.Grammar.{Drawn, IsRested, Given, Fits, Paired, alone, twice, paired, item_of, same_frames}
 
--- WHAT IS NOT TOLD OF A FRAME that follows at a stage, where the bus fits
+-- WHAT IS NOT TOLD OF A FRAME that follows at a stage, if the bus fits
 
 never : (m : Bool) → (m && false) ≡ false
 never true = refl

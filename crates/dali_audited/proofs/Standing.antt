@@ -189,7 +189,7 @@ module _ (gs : List Gear) (hs : List Holder) (table : IsTableOf gs hs) (apart : 
     go (inl e) = rw (e, self r) refl
     go (inr e) = rw (e, nowhere e (is_heard r hs) refl) refl
 
-  -- THE TABLE STAYS THAT OF THE GEAR where each place has who stood there, as far as his random address goes
+  -- THE TABLE STAYS THAT OF THE GEAR if each place has the gear that stood there, as far as its random address goes
   alike : (ht : List Gear) (hu : List Holder) → SameGear gs ht
       → ((i : ℕ) → (holder_at hu i ≡ holder_at hs i) ⊎ ((r : ℕ) × (random_of (holder_at hs i) ≡ Some r) × (random_of (holder_at hu i) ≡ Some r)))
       → IsTableOf ht hu
@@ -247,7 +247,7 @@ module _ (gs : List Gear) (hs : List Holder) (table : IsTableOf gs hs) (apart : 
         (here (change.Answered a) hs a there ∙ answered_same (holder_at hs a) (table.has g a has)))
     at i (inr other) = inl (elsewhere (change.Answered a) hs a i other)
 
-  -- PROGRAM SHORT ADDRESS a, where gear g without one has the search address r
+  -- PROGRAM SHORT ADDRESS a, if gear g without one has the search address r
   module _ (ht : List Gear) (g a r : ℕ) (there : a < length hs) (in_row : g < length gs) (none : (gear_of gs g).short ≡ None)
       (random : (gear_of gs g).random ≡ r)
       (now : Holds ht g a) (still : (gear_of ht g).random ≡ r) (later : AreApart ht)

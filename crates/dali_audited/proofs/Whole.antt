@@ -562,7 +562,7 @@ offered_agrees p plan w c f now drew since k here leaves a = record {
 }
 
 -- ---------------------------------------------------------------- items
--- a frame is followed by silence where no answer comes next
+-- a frame is followed by silence if no answer comes next
 no_answer : (x : Item) (now : ℕ) (drew : Bool) (ys : List Entry) → answer_after x (first_of (items_from now drew ys)) ≡ Silence
 no_answer x now drew [] = refl
 no_answer x now drew (y ∷ ys) = go (may_be_answered x.what && in_window x (item_at (begins_at now drew y) (heard.Forward y.frame))) where

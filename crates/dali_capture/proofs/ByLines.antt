@@ -105,7 +105,7 @@ module _ (wanted : Option (List ℕ)) (inverted : Bool) where
     told (Ok t) h = rw (append-nil cs, h) refl
     told (Err e) h = rw (append-nil cs, h) refl
 
-  -- where no word has begun, a line is its words
+  -- if no word has begun, a line is its words
   on_bare : (r : SoFar) (lines : List (List ℕ)) → r.word ≡ [] → read_on r lines ≡ read_lines wanted inverted r lines
   on_bare r [] h = refl
   on_bare r (line ∷ []) h =

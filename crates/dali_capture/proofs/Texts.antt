@@ -59,7 +59,7 @@ module _ (wanted : Option (List ℕ)) (inverted : Bool) (source : Source) (line 
   told_word [] some = absurd (omega arith)
   told_word (b ∷ bs) some = refl
 
-  -- what is read behind a word and a space, where the word tells something or nothing
+  -- what is read behind a word and a space, if the word tells something or nothing
   pub after_told : (next : Source) (told : Option Item) (word rest : List ℕ) → AllByRecursion IsInWord word → 0 < length word
       → source_word source wanted inverted word ≡ Ok (next, told)
       → read_bytes wanted inverted (record { source = source; line = line; word = []; items = items }) (word ++ (32 ∷ rest))

@@ -28,7 +28,7 @@ pub third : (a : ℕ) (h m i : Input) (w x y z : Talk) → IsPut 3 (query_at a 0
     → IsPut 1 (query_at a 2) Whole i y z → IsAsked a (i ∷ m ∷ h ∷ []) w z
 third a h m i w x y z put heard more heard_too last = (y, second a h m w x y put heard more, (heard_too, (heard, tt)), omega arith, last)
 
--- what is spelled where all three are heard, or the last one is not
+-- what is spelled if all three are heard, or the last one is not
 pub spelled : (o p q : Option Answer) (h m l : Answer) → o ≡ Some h → p ≡ Some m → q ≡ Some l
     → Some (reply_of h m l) ≡ reply_heard o p q
 spelled o p q h m l high middle low =

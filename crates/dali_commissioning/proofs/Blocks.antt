@@ -8,7 +8,7 @@ use Rattle.dali_script.specs.Records.{Assignment}
 use Rattle.dali_script.specs.Stages.{in_block}
 use Rattle.dali_commissioning.specs.Runs.{outside}
 
--- A PAIR OUTSIDE OF A BLOCK is the first one, where those before it lie in the block.
+-- A PAIR OUTSIDE OF A BLOCK is the first one, if those before it lie in the block.
 out : (b : Block) (n : ℕ) → (n < b.first) ⊎ (b.last < n) → in_block b n ≡ false
 out b n (inl below) = grind (arith, nat_tests)
 out b n (inr above) = grind (arith, nat_tests)

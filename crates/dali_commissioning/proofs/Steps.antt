@@ -121,7 +121,7 @@ at_further is_up is_sound holds was mid keep m between n x y z first waiting lat
       stays = stays_further is_up is_sound was mid keep so_far.stays stays;
     }
 
--- where nothing is written or read
+-- if nothing is written or read
 pub no_line : (a : Option (List ℕ)) → Appends a a []
 no_line = Appends-nil
 
@@ -164,7 +164,7 @@ left_at is_up is_sound holds was keep m n x y first waiting order committed coun
   ),
 )
 
--- where its last order is not done
+-- if its last order is not done
 pub left_at_fault : {S : Type 0} (is_up is_sound : S → Type 0) (holds : S → List Record → Type 0)
     (was mid keep : S) (m n : Machine) (x y : Talk) (first : Input) (waiting : Option Forward) (order : Order) (committed : Bool) (count : ℕ)
     → IsAt is_up is_sound holds was mid m n x y first waiting order committed count

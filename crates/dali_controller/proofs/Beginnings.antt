@@ -78,7 +78,7 @@ closing_calm y GaveUp i less = omega arith
 closing_calm y AllFound i less = less
 closing_calm y BlockFull i less = less
 
--- it may begin where searches did not lead to nothing too often, and no close was begun
+-- it may begin if searches did not lead to nothing too often, and no close was begun
 shut_begins : (t : Machine) (c : Course) → t.tries < 8 → t.silent < most_silent t.course.way → closing_of t.course.purpose ≡ None → IsShut t c
     → ((r : SearchAddress) → stage_of t.trace ≡ Unnamed r → IsUngiven t.course.way t r × IsNextTo t.course.way t c.purpose c.number)
     → ((r : SearchAddress) (b : ℕ) → stage_of t.trace ≡ Withdrawn r b → Has t.kept.enrolled (b, value_of r)) → Begins t c
@@ -521,7 +521,7 @@ pub undrawn_full : (t : Machine) (c : Course) (o : Order) (new : Machine) → ha
 undrawn_full t c o new is begun =
     subst (λ b. Begun t (if b then (if nat_lt c.tally.draws 3 then drawing c else closing c GaveUp) else full t c) o new) (sym is) begun
 
--- gear do not draw where no address is open
+-- gear do not draw if no address is open
 pub none_drawn : (t : Machine) → None ≡ least_open t.kept t.heard → may_draw t ≡ false
 none_drawn t none = subst (λ o. (nat_lt t.course.tally.draws 3 && is_some o) ≡ false) none (go (nat_lt t.course.tally.draws 3)) where
   go : (b : Bool) → (b && false) ≡ false
@@ -573,7 +573,7 @@ pub full_asks : (s : State) (k : Kept) (y : Tally) (o : Order) (new : Machine) �
     → Begun (machine_with s k) (full (machine_with s k) (course_of s)) o new
 full_asks s k y o new hunting is tally b = full_asked (machine_with s k) (course_of s) o new is (again_on s k s.leg y o new hunting tally b)
 
--- ---------------------------------------------------------------- nobody is left
+-- ---------------------------------------------------------------- no gear is left
 
 unasked_beginning : (c : Course) (sent : SearchAddress) (left : ℕ) → is_hunting c.purpose ≡ false → beginning c ≡ question c sent left
 unasked_beginning c sent left none =
@@ -685,7 +685,7 @@ silenced_anew t y o new more way begun =
     subst (λ b. Begun t (if b then closing t.course GaveUp else silenced_on t t.course.way) o new) (sym (ne_eqb t.silent (most_silent t.course.way) more))
     (subst (λ z. Begun t (silenced_on t z) o new) (sym way) begun)
 
--- where gear are not searched in a survey, a visit is one of a start
+-- if gear are not searched in a survey, a visit is one of a start
 pub visited_leg : (l : Leg) (k : Kept) (n : SearchAddress)
     → ((x : ℕ) × (l ≡ leg.Revisiting x)) ⊎ (((x : ℕ) × (y : ℕ) × (l ≡ leg.Asking x y)) ⊎ ((x : Search) × (l ≡ leg.Searching x)))
     → Knows (way_on l) k n (search_on l) (ascent_on l) (is_searching l) Visiting → way_on l ≡ Fresh

@@ -10,7 +10,7 @@ use Rattle.dali_controller.specs.declared.purpose.Purpose.{Purpose}
 use Rattle.dali_controller.specs.Course.{turn_of}
 use Rattle.dali_controller.specs.Whole.{IsMet, IsChosen}
 
--- At a stage past the first, but where PROGRAM SHORT ADDRESS follows, the command is that of the transaction's turn.
+-- At a stage past the first, unless PROGRAM SHORT ADDRESS follows, the command is that of the transaction's turn.
 pub chosen : (n : SearchAddress) (p : Purpose) (s : Stage) (c : Command) (b : Bool) → (s ≡ Free → ⊥) → ((r : SearchAddress) → s ≡ Unnamed r → ⊥)
     → ((r : SearchAddress) (last : Option Answer) (left : ℕ) → s ≡ Hunted r last left → ⊥)
     → IsTrue b ↔ ((turn_of p n s ≡ Some c) × IsMet s p n) → IsTrue b ↔ IsChosen n p s c

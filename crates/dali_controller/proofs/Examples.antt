@@ -65,7 +65,7 @@ a_lost_frame_is_a_try k = refl
 nothing_after_an_end : (e : End) (i : Input) → accepts (due_after (Some (Done e))) i ≡ false
 nothing_after_an_end e _ = refl
 
--- a reservation is not released before its gear is enrolled, nor twice, nor where the gear has that address
+-- a reservation is not released before its gear is enrolled, nor twice, nor if the gear has that address
 no_release_before_an_enrolment : (t : Machine) (p a n : ℕ) (f : Forward) → t.last ≡ Some (Put p f) → IsWarranted t (Release a n) → ⊥
 no_release_before_an_enrolment t p a n f last w = let other : Some (Put p f) ≡ Some (Commit (Enrol w.0 n)) = sym last ∙ w.1 in cc
 
@@ -75,7 +75,7 @@ no_second_release t a n last w = let other : Some (Commit (Release a n)) ≡ Som
 no_release_of_what_was_given : (t : Machine) (a n : ℕ) → t.last ≡ Some (Commit (Enrol a n)) → IsWarranted t (Release a n) → ⊥
 no_release_of_what_was_given t a n last w = w.2 (let same : Some (Commit (Enrol a n)) ≡ Some (Commit (Enrol w.0 n)) = sym last ∙ w.1 in cc)
 
--- A SURVEY. Its machine in a roll call: the search that goes up has found nobody, and one address of the block is open.
+-- A SURVEY. Its machine in a roll call: the search that goes up has found no gear, and one address of the block is open.
 abbrev one_open : Kept
 one_open = record { block = record { first = 0; last = 1 }; reserved = (0, 7) ∷ []; enrolled = [] }
 
@@ -111,7 +111,7 @@ an_answer_is_searched : called_in (surveyed one_open (silent_call uncounted)) Da
     ≡ hunting_first (record (surveyed one_open uncounted).course { tally = heard_call uncounted })
 an_answer_is_searched = refl
 
--- where nobody is found who answered the roll call, gear draw; where COMPARE is answered before, they don't, and are
+-- if no gear is found that answered the roll call, gear draw; if COMPARE is answered before, they don't, and are
 -- searched
 nobody_drew : nobody_left (surveyed one_open uncounted) (surveyed one_open uncounted).course ≡ drawing (surveyed one_open uncounted).course
 nobody_drew = refl
@@ -141,7 +141,7 @@ another_failure = refl
 the_number_is_known : (passing_over (visited one_open (missed_by uncounted 5)).course).tally.passed ≡ with_passed none_passed 5
 the_number_is_known = refl
 
--- the fourth roll call that hears somebody, where somebody was passed over: gear draw for the last time, and then it
+-- the fourth roll call that hears gear, if some was passed over: gear draw for the last time, and then it
 -- gives up
 abbrev hard_to_reach : ℕ → Tally
 hard_to_reach draws = record (passed_over uncounted 5) { calls = 3; draws = draws }

@@ -68,7 +68,7 @@ pub turns : (t : Machine) (o : Order) (c : Command) → IsGivenBy t o → turn_o
     → o ≡ Put LATER (frame_of c)
 turns t o c given turn = given.followed.sent c turn
 
--- A TRANSACTION THAT BEGINS. A first frame is that of the transaction that begins; it is put where no later one may be.
+-- A TRANSACTION THAT BEGINS. A first frame is that of the transaction that begins; it is put if no later one may be.
 put_first : (t : Machine) (p : ℕ) (f : Forward) → p ≡ FIRST → BeginsWith (course_by t (Put p f)) (Put p f) → Put p f ≡ beginning (next_course t)
 put_first t p f first begins =
     let here : BeginsWith (next_course t) (Put FIRST f) = subst (λ q. BeginsWith (course_by t (Put q f)) (Put q f)) first begins in
@@ -138,7 +138,7 @@ begins_after t o s given stage spent found last tries =
     begins_anew t o given (nothing_after t s stage (λ c. spent_ends s c spent))
     (λ r e. subst IsSpent (sym stage ∙ e) spent) (λ e. subst IsSpent (sym stage ∙ e) spent) found last tries
 
--- where no transaction runs
+-- if no transaction runs
 pub begins_free : (t : Machine) (o : Order) → IsGivenBy t o → t.trace ≡ [] → IsNoEnrolment t.last → (t.tries ≡ 8 → ⊥) → o ≡ beginning (next_course t)
 begins_free t o given free last tries =
     let stage : stage_of t.trace ≡ Free = ap stage_of free ∙ stage_none in
@@ -173,7 +173,7 @@ unnamed t o r fresh given stage = go o (subst (λ y. AfterMaskOn y t (course_by 
   go (Done e) is cause = elim is [ ]
   go (Halt why) is cause = elim is [ ]
 
--- A VISIT THAT FOUND ITS GEAR. It is enrolled where no entry has its address or its number.
+-- A VISIT THAT FOUND ITS GEAR. It is enrolled if no entry has its address or its number.
 has_address : (xs : List Assignment) (a n : ℕ) → Has xs (a, n) → HasAddress xs a
 has_address xs a n has = has_map (λ (q : Assignment). q.0) xs (a, n) has
 
@@ -195,12 +195,12 @@ pub withdrawn : (t : Machine) (o : Order) (r : SearchAddress) (b : ℕ) → IsGi
     → (HasAddress t.kept.enrolled b → ⊥) → (HasRandom t.kept.enrolled (value_of r) → ⊥) → o ≡ Commit (Enrol b (value_of r))
 withdrawn t o r b given stage address number = enrols_found t b (value_of r) o address number (given.ordered.found r b stage)
 
--- the same where the queries of a random address told the number that was visited
+-- the same if the queries of a random address told the number that was visited
 pub spelled : (t : Machine) (o : Order) (b n : ℕ) → IsGivenBy t o → stage_of t.trace ≡ Spelled b (Some n) → IsSought t.course.purpose t.course.number n
     → (HasAddress t.kept.enrolled b → ⊥) → (HasRandom t.kept.enrolled n → ⊥) → o ≡ Commit (Enrol b n)
 spelled t o b n given stage visited address number = enrols_found t b n o address number (given.followed.told b n stage visited)
 
--- and where it is enrolled already, a transaction begins
+-- and if it is enrolled already, a transaction begins
 agrees_with : (xs : List Assignment) (b n : ℕ) → IsMap xs → Has xs (b, n) → Contradicts xs b n → ⊥
 agrees_with xs b n map has (inl is) =
     is.2 (ap (λ (q : Assignment). q.1) (same_member (λ (q : Assignment). q.0) xs (b, is.0) (b, n) map.address_once is.1 has refl))
@@ -231,7 +231,7 @@ spelled_known t o b n given stage visited map has =
     map has
     (given.followed.told b n stage visited)
 
--- AN ENROLMENT THAT IS KEPT. A transaction begins where no other address is reserved for the number; else one is
+-- AN ENROLMENT THAT IS KEPT. A transaction begins if no other address is reserved for the number; else one is
 -- released.
 enrolled_once : (b n d m : ℕ) → Some (Commit (Enrol b n)) ≡ Some (Commit (Enrol d m)) → d ≡ b
 enrolled_once b n d m e = cc
@@ -282,7 +282,7 @@ goes_on_open t = go t.course.opened where
   go true = searches t.course.way
   go false = early t.course.way
 
--- no frame is put where a close was heard: it would be none of the close, and begin no other
+-- no frame is put if a close was heard: it would be none of the close, and begin no other
 no_put : (t : Machine) (p : ℕ) (f : Forward) (e : End) → running_close t ≡ Some e → stage_of t.trace ≡ Terminated → MayOrderPut t p f
     → IsCaused t (course_by t (Put p f)) (Put p f) → ⊥
 no_put t p f e runs stage (inl may) cause =

@@ -91,7 +91,7 @@ free_searching w r h free =
       go Fresh false may = absurd (free (may refl))
       go Surveying o may = may
 
--- The next free address is reserved; there is none where nothing is given.
+-- The next free address is reserved; there is none if nothing is given.
 free_within : (y : Way) (k : Kept) (heard : Shorts) (a : ℕ) → IsFirstFree y k heard (Some a) → InBlock k.block a × (HasAddress k.reserved a → ⊥)
 free_within Fresh k heard a is = (is.within, is.free)
 free_within Surveying k heard a is = let x = least_open_is k heard a (sym is) in (x.0, open_unreserved k heard a x.1)

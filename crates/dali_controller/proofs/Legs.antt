@@ -86,7 +86,7 @@ told_is w f h put = rw put refl
 
 -- ---------------------------------------------------------------- what is known of a leg
 
--- no silence is counted where gear are searched
+-- no silence is counted if gear are searched
 pub counted_leg : (l : Leg) → silences_on l ≡ asked_by (is_searching l) (silences_on l)
 counted_leg (leg.Revisiting from) = refl
 counted_leg (leg.Asking from silences) = refl

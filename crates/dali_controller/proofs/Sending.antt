@@ -48,7 +48,7 @@ asked_small y k n x v o p b knows (inr is) = let known = subst (Knows y k n x v 
 given_small : (k : Kept) (a : ℕ) (n : ℕ) → IsMap k.reserved → Has k.reserved (a, n) → a < 64
 given_small k a n map has = map.short a (has_map (λ q. q.0) k.reserved (a, n) has)
 
--- and what it has chosen, where it may be sent, it sends
+-- and what it has chosen, if it may be sent, it sends
 pub chosen_sends : (y : Way) (k : Kept) (n : SearchAddress) (x : Search) (v : Ascent) (o : Bool) (p : Purpose) (s : Stage) (c : Command) → IsMap k.reserved
     → Knows y k n x v o p
     → Follows k.block k.reserved s c → IsChosen n p s c

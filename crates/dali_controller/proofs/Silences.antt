@@ -95,7 +95,7 @@ blocked_takes t = go (may_draw t) where
   go true s = absurd (cc)
   go false s = s
 
--- somebody answered
+-- gear answered
 heard_takes : (t : Machine)
     → Takes (if is_blocked t.course.tally then blocked t else hunting_first (record t.course { tally = heard_call t.course.tally })) t.course
 heard_takes t = go (is_blocked t.course.tally) where
@@ -131,7 +131,7 @@ pub record IsSilent (t : Machine) : Type 0 where
   pub stage : stage_of t.trace ≡ Hunted number (Some Silence) left
   pub calling : t.course.purpose ≡ Calling
 
--- where a transaction begins
+-- if a transaction begins
 pub next_silent : (t : Machine) → (next_course t).tally.is_silent ≡ true → (t.course.tally.is_silent ≡ true) ⊎ IsSilent t
 next_silent t = go (stage_of t.trace) refl where
   on : Takes (goes_on_to t) t.course
@@ -181,7 +181,7 @@ next_silent t = go (stage_of t.trace) refl where
   go (PassedOver r) e s = inl s
   go _ e s = inl (on s)
 
--- where one goes on
+-- if one goes on
 pub later_silent : (t : Machine) (x : Stage) → Takes (course_on t x) t.course
 later_silent t (Hunted r (Some h) left) s = go t.course.purpose s where
   go : (p : Purpose) → Takes (asked_on t p h) t.course

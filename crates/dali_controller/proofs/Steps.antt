@@ -161,7 +161,7 @@ goes_hunted k n p r last left c hunting is room =
       asks d ask arrives spelled addressing =
           going (turn (rw some (leads_asking r (left - 1) d ask)) refl) spelled addressing (λ later. refl) (λ h. rw some (arrives h))
 
-      -- where a byte is sent, the others stay as they are
+      -- if a byte is sent, the others stay as they are
       byte : (m : SearchAddress) → bytes_to_send n m + 1 ≤ bytes_to_send n r → Arrived k n Hunting (Hunted m None (left - 1))
       byte m fewer = hunts_none k n m (left - 1) (omega (arith, fewer, room))
 
@@ -334,7 +334,7 @@ pub sending : (w : Machine) (l : Option Order) (f : Forward) → frame_put l ≡
 sending w (Some (Put p g)) f is e = subst (λ d. IsSending w d) (let same : g ≡ f = cc in same) e
 sending w _ f is e = absurd (cc)
 
--- also where only the bus is waited for
+-- also if only the bus is waited for
 pub waiting : (w : Machine) (l : Option Order) → due_after l ≡ due.Bus → Pending w l → IsReady w
 waiting w (Some (Put p f)) is e = e.ready
 waiting w _ is e = absurd (cc)
@@ -422,7 +422,7 @@ first_spelled y k n s v o (Resolving a) e = e.2
 first_spelled y k n s v o (Asking a) e = e.2
 first_spelled y k n s v o _ e = tt
 
--- a first frame where nothing can be given to gear that answered MASK
+-- a first frame if nothing can be given to gear that answered MASK
 left_follows : (t : Machine) (r : SearchAddress) (reserved free : Option ℕ) (o : Order) → is_left_by t (value_of r) reserved free ≡ true
     → o ≡ beginning (next_course t) → AfterMaskBy t r reserved free o
 left_follows t r (Some a) free o left is = rw left is
@@ -481,7 +481,7 @@ begin_moment t c is b knows = record {
   whole = begin_whole t c b knows;
 }
 
--- a transaction that begins with the next course, where it may begin, is a moment
+-- a transaction that begins with the next course, if it may begin, is a moment
 pub begun_moment : (t : Machine) (c : Course) (o : Order) (new : Machine) → c ≡ next_course t → Begins t c → Begun t c o new → IsMoment t o new
 begun_moment t c o new is b begun =
     subst (λ (n : Machine). IsMoment t o n) (sym begun.state)

@@ -18,7 +18,7 @@ module _ {A X : Type 0} (f : A → X) (xs : List A) (i : ℕ) (x : A) (within : 
   values_set y same =
       map-set f xs i y ∙ ap (set (map f xs) i) (same ∙ sym (value_at (f x))) ∙ set-get_or (map f xs) i (f x)
 
--- Where two lists have the same values, so have two that stand at one place.
+-- If two lists have the same values, so have two that stand at one place.
 pub same_at : {A B X : Type 0} (f : A → X) (g : B → X) (xs : List A) (ys : List B) (i : ℕ) (x : A) (y : B)
     → map f xs ≡ map g ys → i < length xs → i < length ys → x ≡ get_or xs i x → y ≡ get_or ys i y → f x ≡ g y
 same_at f g xs ys i x y same p q h k =

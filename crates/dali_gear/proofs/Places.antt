@@ -7,7 +7,7 @@ use Rattle.dali_frame.specs.declared.numbers.SearchAddress.{SearchAddress}
 use Rattle.dali_gear.specs.declared.addresses.Addresses.TheInside.{Inside}
 use Rattle.dali_gear.specs.Addresses.{address_in, all_addresses}
 
--- a list by numbers, where one place has changed, and no other has
+-- a list by numbers, if one place has changed, and no other has
 pub places_set : {A : Type 0} (f new : ℕ → A) (n i : ℕ) (g : A) → i < n → new i ≡ g → ((k : ℕ) → k ≢ i → new k ≡ f k)
     → map new (range_with_len 0 n) ≡ set (map f (range_with_len 0 n)) i g
 places_set {A} f new n i g here is others =

@@ -183,7 +183,7 @@ module _ (gs now : List Gear) (i : ℕ) (g : Gear) (here : i < length gs) (now_i
       kept (inl none) = ap (λ b. if b then (get_or gs i fresh).half else None) (is ∙ ap (λ o. is_some o) none) ∙ sym none
       kept (inr same) = ap (λ b. if b then (get_or gs i fresh).half else None) (is ∙ ap (λ o. is_some o) same) ∙ half_kept (get_or gs i fresh).half ∙ sym same
 
-  -- where it had none, it has none
+  -- if it had none, it has none
   pub put_unpaired : (get_or gs i fresh).half ≡ None → now ≡ set gs i g
   put_unpaired none = now_is ∙ ap (λ o. set gs i (record g { half = o })) (kept stays_or_goes)
     where
@@ -203,7 +203,7 @@ seen_more false paired n seen none k below = at (cases_lt k n)
         let same : k ≡ n = omega arith in
         ap (λ j. get_or paired j false) same ∙ none
 
--- where no gear may have a half pair, none has
+-- if no gear may have a half pair, none has
 pub none_paired : (r : Inside) → IsRow r → r.some_paired ≡ false → IsUnpaired (all_gear r)
 none_paired r row none k = at (cases_lt k r.count)
   where
@@ -332,7 +332,7 @@ pub byte_bound : (o : Option ℕ) → unwrap_or o 0 < 256 → unwrap_or o 0 ≤ 
 byte_bound None small = omega arith
 byte_bound (Some byte) small = omega arith
 
--- of a sum the last eight bits are known: they are the byte, where one gear answered
+-- of a sum the last eight bits are known: they are the byte, if one gear answered
 pub heard_is : (bytes : List ℕ) (sum : ℕ) → sum ≡ total bytes % 256 → total bytes ≤ 255 * length bytes → heard_by (length bytes) sum ≡ heard_of bytes
 heard_is [] sum is small = refl
 heard_is (byte ∷ []) sum is small = ap (λ b. Byte b) (omega arith)

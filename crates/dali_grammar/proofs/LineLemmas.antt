@@ -25,7 +25,7 @@ pub lines_at : (input : List ℕ) (n : ℕ) → n < length input → ((k : ℕ) 
     → lines_of input ≡ take n input ∷ lines_of (drop (n + 1) input)
 lines_at input n here before found = rw add-one (lines_at_suc input n here before found)
 
--- where no line feed is left, the rest is the last line
+-- if no line feed is left, the rest is the last line
 pub lines_none : (input : List ℕ) → 0 < length input → ((k : ℕ) → k < length input → get_or input k 0 ≢ 10) → lines_of input ≡ input ∷ []
 lines_none [] some before = absurd (omega arith)
 lines_none (b ∷ []) some before = let first : b ≢ 10 = before 0 (omega arith) in rw (is_not b 10 first) refl
@@ -47,7 +47,7 @@ pub parts_at : (mark : ℕ) (text : List ℕ) (n : ℕ) → n < length text → 
     → parts_of mark text ≡ take n text ∷ parts_of mark (drop (n + 1) text)
 parts_at mark text n here before found = rw add-one (parts_at_suc mark text n here before found)
 
--- where no mark is left, the text is one part
+-- if no mark is left, the text is one part
 pub parts_none : (mark : ℕ) (text : List ℕ) → ((k : ℕ) → k < length text → get_or text k 0 ≢ mark) → parts_of mark text ≡ text ∷ []
 parts_none mark [] before = refl
 parts_none mark (b ∷ bs) before =

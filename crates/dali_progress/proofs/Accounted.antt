@@ -307,7 +307,7 @@ unreserved s n a r taken is other counts =
     go t free (inr (inr (inl (q, last)))) = cc
     go t free (inr (inr (inr (w, last)))) = cc
 
--- and none under which somebody was heard
+-- and none under which some gear was heard
 pub never_reserved : (s : Step) (earlier : List Step) (n : Machine) (a r : ℕ) → a < 64 → IsCourse (s ∷ earlier) n → ArePlain (s ∷ earlier)
     → s.order ≡ Commit (Reserve a r) → (n.course.way ≡ Fresh → ⊥) → WasHeard (s ∷ earlier) a → ⊥
 never_reserved s earlier n a r small course plain is other heard =
@@ -349,7 +349,7 @@ pub surveyed_mask : (y : Way) (t : Machine) (c : Course) (q : SearchAddress) (o 
 surveyed_mask Fresh t c q o other is = absurd (other refl)
 surveyed_mask Surveying t c q o other is = is
 
--- so where somebody was heard, the address is the gear's own
+-- so if some gear was heard, the address is the gear's own
 gives_own : (t : Machine) (q : SearchAddress) (a : ℕ) (p : ℕ) (f : Forward) → (t.course.way ≡ Fresh → ⊥) → t.course.opened ≡ true
     → stage_of t.trace ≡ stage.Unnamed q
     → address_for t.kept.reserved (value_of q) ≡ Some a → IsOrdered t (Put p f) → p ≡ LATER → IsAccounted (machine_ordered t (Put p f)) a

@@ -35,7 +35,7 @@ use Rattle.dali_progress.proofs.Lone.{Moment, due_of, acts_by, first_input}
 use Rattle.dali_script.specs.declared.records.Record.{Record}
 use Rattle.dali_script.specs.Due.{frame_put, record_ordered}
 
--- ALONG ROUNDS, one event after the other: what the arguments for a start, for a survey, and for one where a gear is misheard have
+-- ALONG ROUNDS, one event after the other: what the arguments for a start, for a survey, and for one in which a gear is misheard have
 -- in common.
 
 -- a world, and a site, in which the controller goes on: what is known of the controller, and how far its machine is
@@ -85,7 +85,7 @@ module _ (K : Controller → Machine → Type 0) (H : Machine → Option Order �
       subst (λ n. H n last told (world s).gear) (same_some (machine_at s c) r.machine m r.there there)
       (subst (λ t. H r.machine last t (world s).gear) so (subst (λ l. H r.machine l (controller_at (world s) c).told (world s).gear) is r.goes.holds))
 
-  -- and at its end, where nothing runs any more
+  -- and at its end, if nothing runs any more
   pub ended_at : (s : SiteState) (c : ℕ) (e : End) → (r : RunsBy K H s c) → HasEnded s c e
       → H r.machine (Some (Done e)) None (world s).gear × Rests (world s) s.queue
   ended_at s c e r ended =
@@ -93,7 +93,7 @@ module _ (K : Controller → Machine → Type 0) (H : Machine → Option Order �
       let rests = ended_rests (world s) s.queue c r.machine k.outstanding k.last k.told e ended r.goes.lone.moment in
       (held_by s c r.machine (Some (Done e)) None r r.there ended rests.1, rests.0)
 
-  -- it goes on, where it has not halted
+  -- it goes on, if it has not halted
   pub goes_by : (by : Bool) (s : SiteState) (c : ℕ) → RunsBy K H s c
       → ((m : Machine) (why : Fault) → H m (Some (Halt why)) None (world s).gear → ⊥) → GoesOn by s c
   goes_by by s c r never =
@@ -177,7 +177,7 @@ module _ (First : Machine → List Gear → Type 0) (Hears : Machine → ℕ →
   holds_next m (Put p f) gs next = next
   holds_next m _ gs next = next
 
-  -- what follows where the controller acts, by what it acts on: Known of the machine that is told, and To is to be shown of it
+  -- what follows if the controller acts, by what it acts on: Known of the machine that is told, and To is to be shown of it
   pub acts_from : (by : Bool) (Known : Input → Machine → Type 0) (To : Option Order → Option Input → Machine → Type 0) (w : World) (q c : ℕ) (m : Machine)
       (i : Input) (o : Order)
       → (m.last ≡ None → IsGivenBy (machine_told m (first_input by)) o → Known (first_input by) (machine_told m (first_input by)) → First m w.gear

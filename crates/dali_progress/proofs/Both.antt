@@ -213,7 +213,7 @@ frames_reserved k a r more left enough = inl (
 
 -- ---------------------------------------------------------------- the numbers that gear draw
 
--- where none is drawn, all are left
+-- if none is drawn, all are left
 pub left_same : (reach : Reach) (c : Command) (k : ℕ) (gs : List Gear) (left : List ℕ) → draws_needed reach c k gs ≡ 0 → row_left reach c k gs left ≡ left
 left_same reach c k [] left none = refl
 left_same reach c k (g ∷ gs) left none = go (takes reach k g && draws_a_number c g) none (λ more. left_same reach c (k + 1) gs left more) where
@@ -303,7 +303,7 @@ pub is_unnamed : (s : Stage) → ((r : SearchAddress) × (s ≡ stage.Unnamed r)
 is_unnamed (stage.Unnamed r) = inl (r, refl)
 is_unnamed _ = inr (λ r e. cc)
 
--- it leaves numbers and short addresses, but where an address is programmed
+-- it leaves numbers and short addresses, unless an address is programmed
 pub names_sent : (p : Purpose) (n : SearchAddress) (k : Kept) (s : Stage) (c : Command) → IsDry p → ((r : SearchAddress) → s ≡ stage.Unnamed r → ⊥)
     → Sends p n k s c → LeavesNames c
 names_sent p n k stage.Free c dry other is = subst LeavesNames (sym is) (first_names p n)
@@ -360,7 +360,7 @@ pub draws_few : (s : Stage) (c : Command) (gs : List Gear) → DrawsOnce s c gs 
 draws_few s c gs (inl none) = omega (arith, none)
 draws_few s c gs (inr (at, is, gear)) = subst (λ d. draws_needed Everyone d 0 gs ≤ count_by is_bare gs) (sym is) (needs_bare 0 gs (still_twice gs gear))
 
--- so where the opening is still not complete, none was drawn
+-- so if the opening is still not complete, none was drawn
 pub closed_none : (s : Stage) (c : Command) (h : Answer) (gs : List Gear) → DrawsOnce s c gs → is_complete (next_stage s c h) ≡ false
     → draws_needed Everyone c 0 gs ≡ 0
 closed_none s c h gs (inl none) closed = none

@@ -26,7 +26,7 @@ use Rattle.dali_standing.specs.Standing.{machine_in}
 use Rattle.dali_standing.specs.declared.refusal.Refusal.TheVariants as refusal
 use Rattle.dali_events.specs.declared.trouble.Trouble.TheVariants as trouble
 
--- WHAT STAYS SO of machine, gear and numbers (P), in both arguments. And the numbers that gear draw are never spent: where
+-- WHAT STAYS SO of machine, gear and numbers (P), in both arguments. And the numbers that gear draw are never spent: if
 -- there is one for each gear at the start, as long as something is so.
 
 -- as the controller acts, and as its frame is sent, it stays so

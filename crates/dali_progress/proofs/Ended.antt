@@ -47,7 +47,7 @@ run_frames b limit n between sent text m r =
     let all = came_so b n between r.ran.between.site r.ran.rounds sent r.alone r.has_begun (comes_of b limit n between sent text m r) in
     subst (λ x. x ≤ most_frames b (bare n.site)) all.sent (bounded b n.site 0 all.events r.alone all.rounds)
 
--- where nobody had a turn, and no request was next, the controller has ended
+-- if no controller had a turn, and no request was next, the controller has ended
 over_ended : (b : Beginning) (s t : SiteState) (es : List Event) → BeginsAlone b s 0 → Rounds (by_survey b) s 0 es → t ≡ site_after s es
     → has_turn (controller_at (world t) 0) ≡ false → next_request t ≡ None → HasEndedBy b s t 0
 over_ended b s t es alone rounds is turn next = subst (λ x. HasEndedBy b s x 0) (sym is) (go (goes_on b s 0 es alone rounds)) where

@@ -147,7 +147,7 @@ probe_small : (answers n : ℕ) → 4 < probe_frames answers n
 probe_small answers zero = omega arith
 probe_small answers (suc n) = omega arith
 
--- the same search, where the gear are the same but for what they seek
+-- the same search, if the gear are the same but for what they seek
 probes_on : (s t : Stage) (x : Search) (n : SearchAddress) (gs hs : List Gear) (left l : ℕ) → Probes s x n gs left → SameCore gs hs → ProbeStage t hs x.probe
     → IsSearched t n
     → probe_frames (length x.answers) (count_by is_wanted gs) ≤ l + sent_at t → Probes t x n hs l
@@ -219,7 +219,7 @@ visited_on : (n : SearchAddress) (gs hs : List Gear) (more : ℕ) → IsVisited 
 visited_on n gs hs more v same count =
     record { wanted = same (value_of n) ∙ v.wanted; number = v.number; number_is = v.number_is; drawn = v.drawn; count = count ∙ v.count }
 
--- the same visit, where the gear are the same but for what they seek
+-- the same visit, if the gear are the same but for what they seek
 visits_on : (s t : Stage) (k : Kept) (n : SearchAddress) (gs hs : List Gear) (left l : ℕ) (v : Visits s k n gs left) → SameCore gs hs → VisitStage t
     → IsSearched t n → VisitFrames k n v.more (l + sent_at t)
     → Visits t k n hs l
@@ -411,7 +411,7 @@ visiting_sent s k x n gs numbers left c h v is taken seek = visits_sent s k x n 
 
 -- ---------------------------------------------------------------- the close
 
--- who has a short address keeps it where a frame gives none
+-- gear with a short address keeps it if a frame gives none
 pub short_left : (d : Command) (gs : List Gear) (numbers : List ℕ) (k : ℕ) → LeavesShort d → k < length (row_after Everyone d 0 gs numbers)
     → (gear_of (row_after Everyone d 0 gs numbers) k).powered ≡ true → (k < length gs → (gear_of gs k).powered ≡ true → HasShort (gear_of gs k))
     → HasShort (gear_of (row_after Everyone d 0 gs numbers) k)
@@ -421,7 +421,7 @@ short_left d gs numbers k leaves in_row on had =
     let short = had there (sym same.0 ∙ on) in
     (short.0, same.1 ∙ short.1)
 
--- where nobody is wanted each gear with power has one
+-- if no gear is wanted each gear with power has one
 pub nobody_short : (gs : List Gear) → IsOpened gs → ((m : ℕ) → wants gs m ≡ true → ⊥) → OfPowered gs HasShort
 nobody_short gs ready nobody k in_row on = go (gear_of gs k).short refl where
   go : (o : Option ℕ) → (gear_of gs k).short ≡ o → HasShort (gear_of gs k)

@@ -46,7 +46,7 @@ Waits w q c m p f =
     ((p ≡ LATER) × (w.bus ≡ with_later q c f) × (w.trace ≡ m.trace))
     ⊎ ((p ≡ FIRST) × (w.bus ≡ with_first q c f) × (w.trace ≡ []) × (m.trace ≡ []))
 
--- a frame was heard, and c owns the bus or nobody does
+-- a frame was heard, and c owns the bus, or the bus has no owner
 abbrev pub Heard : World → ℕ → ℕ → Machine → Forward → Answer → Type 0
 Heard w q c m f h =
     ((w.bus ≡ still q (Some c)) × (w.trace ≡ m.trace ++ entry f h ∷ []))
@@ -82,7 +82,7 @@ pub record IsLone (w : World) (q c : ℕ) (m : Machine) : Type 0 where
 
 -- ---------------------------------------------------------------- what is due
 
--- where a frame was heard no request waits
+-- if a frame was heard no request waits
 pub heard_free : (w : World) (q c : ℕ) (m : Machine) (f : Forward) (h : Answer) → Heard w q c m f h → total w.bus ≡ 0
 heard_free w q c m f h (inl own) = ap total own.0
 heard_free w q c m f h (inr free) = ap total free.0

@@ -1,4 +1,4 @@
--- One gear whose answers are misheard blocks nobody: a survey in which QUERY SHORT ADDRESS of one gear is heard as it likes.
+-- One gear whose answers are misheard blocks no other: a survey in which QUERY SHORT ADDRESS of one gear is heard as it likes.
 pub mod Gear
 pub mod Climbing
 pub mod Stands

@@ -80,7 +80,7 @@ answer_is_lost = record {
 
 -- ---------------------------------------------------------------- the initialisation expires
 
--- the same, but for the timer of the gear, which runs out before the COMPARE: nobody answers, and
+-- the same, but for the timer of the gear, which runs out before the COMPARE: no gear answers, and
 -- what is heard is what is answered
 expired_ending : Plays (world (site_logged (site_after site up_to_compare) (event.Expired 0)))
     (machines (site_logged (site_after site up_to_compare) (event.Expired 0))) 0 (compare ∷ ending)

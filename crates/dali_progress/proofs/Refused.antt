@@ -50,7 +50,7 @@ use Rattle.dali_progress.proofs.Ended.{one_begun, came_so, run_ends}
 
 -- ---------------------------------------------------------------- what is due may be done
 
--- where something is due for the controller, no request waits
+-- if something is due for the controller, no request waits
 free_by : (w : World) (q c : ℕ) (m : Machine) (out : Option Record) (last : Option Order) (told : Option Input) → Moment w q c m out last told
     → (is_some told ≡ true) ⊎ IsCommit last → total w.bus ≡ 0
 free_by w q c m out None (Some input.Start) at has = ap total at.0.0
@@ -221,7 +221,7 @@ well_after b s t k f alone room comes = subst IsWell (sym comes.is) (record {
   less : (x y n most r q : ℕ) → x ≡ y + n → n ≤ most → r ≡ q → y + most < q → x < r
   less x y n most r q log few same room = omega (arith, log, few, same, room)
 
--- the site after such rounds, where the numbers are spent
+-- the site after such rounds, if the numbers are spent
 record IsSpentOut (by : Bool) (s t : SiteState) : Type 0 where
   pub events : List Event
   pub rounds : Rounds by s 0 events
@@ -262,7 +262,7 @@ run_to b limit n between sent text m ran enough room = go (run_ends b limit n be
   go (inl ended) = inl ended
   go (inr refused) = inr (refused_so b limit n between sent text m ran room refused)
 
--- A RUN WITH ROOM ENDS, but where the numbers are spent
+-- A RUN WITH ROOM ENDS, unless the numbers are spent
 pub run_with_room : (b : Beginning) (limit : ℕ) (n between : Installation) (sent : ℕ) (text : List ℕ) (m : Installation)
     → RanAlone b limit n between sent text m → most_events b (bare n.site) < limit + begun (by_survey b) → HasRoom b n.site
     → HasEndedBy b n.site m.site 0 ⊎ IsPumpRefused m.site trouble.None refusal.DrawsSpent

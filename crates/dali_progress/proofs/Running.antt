@@ -192,7 +192,7 @@ abbrev logs_count : Report → ℕ
 logs_count report.Idle = 0
 logs_count _ = 1
 
--- where there is no trouble no frame is destroyed
+-- if there is no trouble no frame is destroyed
 undisturbed : (s : SiteState) (set : GearSet)
     → (trouble.None ≡ trouble.Destroyed set) ⊎ ((trouble.None ≡ trouble.Collision) × (set ≡ nobody_at_all) × (collision (world s).bus.lists ≡ None)) → ⊥
 undisturbed s set (inl is) = cc
@@ -264,7 +264,7 @@ due_turn by k (input.Heard h) up good due = told_turn (due_of k) k (input.Heard 
 due_turn by k input.Destroyed up good due = told_turn (due_of k) k input.Destroyed due
 due_turn by k input.Lapsed up good due = told_turn (due_of k) k input.Lapsed due
 
--- a round after which a run is over changes nothing: nobody had a turn, and no request was next
+-- a round after which a run is over changes nothing: no controller had a turn, and no request was next
 pub record IsOver (s t : SiteState) : Type 0 where
   pub same : t ≡ s
   pub turn : has_turn (controller_at (world s) 0) ≡ false

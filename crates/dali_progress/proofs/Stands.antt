@@ -24,7 +24,7 @@ use Rattle.dali_events.specs.Wanted.{is_wanted, wants, is_bare, OfPowered, IsOpe
 use Rattle.dali_events.proofs.Search.Opened.{AreOpening}
 use Rattle.dali_progress.specs.Ends.{EndsWell, AreTabled}
 
--- HOW FAR COMMISSIONING IS, where nothing is disturbed: what is true of gear, records and search at each stage of the
+-- HOW FAR COMMISSIONING IS, if nothing is disturbed: what is true of gear, records and search at each stage of the
 -- running transaction, and how many frames are left to be sent, at the most.
 
 -- so many frames of the transaction were sent
@@ -111,7 +111,7 @@ pub record IsVisited (n : SearchAddress) (gs : List Gear) (more : ℕ) : Type 0 
   pub drawn : number < MASK24
   pub count : count_by is_wanted gs ≡ suc more
 
--- before its address is programmed: where one is reserved for it, this is the last visit
+-- before its address is programmed: if one is reserved for it, this is the last visit
 abbrev pub VisitFrames : Kept → SearchAddress → ℕ → ℕ → Type 0
 VisitFrames k n more left =
     (HasRandom k.reserved (value_of n) × (7 + search_frames more ≤ left))

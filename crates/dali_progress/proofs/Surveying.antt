@@ -54,7 +54,7 @@ use Rattle.dali_progress.proofs.Survey.Woken.{low_after, leaves_short, low_sent,
 abbrev pub Tells : List Gear → ℕ → (ℕ → Type 0) → Type 0
 Tells gs a P = (g : ℕ) × Holds gs g a × P (gear_of gs g).random
 
--- what is reserved is not marked, but the one that is asked, while somebody tells a number there
+-- what is reserved is not marked, but the one that is asked, while some gear tells a number there
 abbrev pub IsClear : Kept → Shorts → Type 0
 IsClear k heard = (c q : ℕ) → Has k.reserved (c, q) → has_short heard c ≡ false
 
@@ -66,7 +66,7 @@ IsClearAt (stage.HighAsked b (Some v)) a k heard = IsClearBut k heard a
 IsClearAt (stage.MiddleAsked b x) a k heard = IsClearBut k heard a
 IsClearAt _ a k heard = IsClear k heard
 
--- the gear that told what was heard so far of the short address that is asked, or nobody
+-- the gear that told what was heard so far of the short address that is asked, or none
 abbrev pub AskedAt : Stage → ℕ → List Gear → Type 0
 AskedAt stage.Free a gs = Unit {0}
 AskedAt (stage.HighAsked b None) a gs = (b ≡ a) × Nobody gs a
@@ -104,7 +104,7 @@ clear_with k heard b a same small clear c q has apart =
 
 -- ---------------------------------------------------------------- a question
 
--- what was heard of the one gear, or of nobody
+-- what was heard of the one gear, or of none
 pub heard_high : (a : ℕ) (part : Part) (gs : List Gear) (h : Answer) → OneGear gs → h ≡ heard_of (answers_of Everyone (RandomByte a part) 0 gs)
     → ((g : ℕ) × Holds gs g a × (h ≡ Byte (byte_at part (gear_of gs g).random))) ⊎ (Nobody gs a × (h ≡ Silence))
 heard_high a part gs h one heard = go (asked_gear gs a part one) where
@@ -237,7 +237,7 @@ asked_sent a (stage.MiddleAsked b None) k marks n gs numbers c h v is hand said 
 asked_sent a (stage.Spelled b (Some m)) k marks n gs numbers c h v is hand said = absurd (cc)
 asked_sent a _ k marks n gs numbers c h v is hand said = absurd v.asked
 
--- A ROLL CALL, and what follows it: gear draw. What is true of gear and of what was heard, whoever is misheard at QUERY SHORT
+-- A ROLL CALL, and what follows it: gear draw. What is true of gear and of what was heard, whichever gear is misheard at QUERY SHORT
 -- ADDRESS, which is sent in neither.
 
 -- from INITIALISE on, what is true of each gear before it draws
@@ -251,7 +251,7 @@ woken_at s = s
 
 -- ---------------------------------------------------------------- the roll call
 
--- nobody answers only where nobody is without short address
+-- no gear answers only if none is without short address
 abbrev pub IsCalledBy : Answer → ℕ → List Gear → Type 0
 IsCalledBy h left gs =
     ((is_yes h ≡ false) × (count_by is_bare gs ≡ 0) × (left < 2)) ⊎ ((is_yes h ≡ true) × (0 < count_by is_bare gs) × (left ≡ 1))
@@ -305,7 +305,7 @@ roll_first gs = record { number = refl; stage_is = tt; gear = λ k in_row on. tt
 
 -- ---------------------------------------------------------------- gear draw
 
--- at an opening whichever number they have; else only where nobody is to be searched, since nobody has drawn
+-- at an opening whichever number they have; else only if no gear is to be searched, since none has drawn
 abbrev pub DrawStage : Purpose → Stage → SearchAddress → List Gear → Type 0
 DrawStage p stage.Free n gs = Unit {0}
 DrawStage p stage.Terminated n gs = Unit {0}
@@ -364,7 +364,7 @@ quiet_draw Opening _ n gs opened silent is v = refl
 quiet_draw Drawing _ n gs opened silent is v = refl
 quiet_draw _ s n gs opened silent is v = absurd is
 
--- ---------------------------------------------------------------- what is known where a frame is sent
+-- ---------------------------------------------------------------- what is known when a frame is sent
 
 -- what was heard of it, and the numbers that gear drew
 pub record IsTakenBut (c : Command) (gs : List Gear) (numbers : List ℕ) (h : Answer) : Type 0 where
@@ -373,9 +373,9 @@ pub record IsTakenBut (c : Command) (gs : List Gear) (numbers : List ℕ) (h : A
   pub below : (x : ℕ × ℕ) → Has (drawn_of Everyone c 0 gs numbers) x → x.1 < MASK24
   pub numbered : AreNumbered gs
 
--- ---------------------------------------------------------------- where nothing more is sent
+-- ---------------------------------------------------------------- when nothing more is sent
 
--- a roll call is over once nobody answered twice, or somebody answered
+-- a roll call is over once no gear answered twice, or some answered
 pub roll_over : (s : Stage) (n : SearchAddress) (gs : List Gear) → IsRollCall s n gs → turn_of Calling n s ≡ None → (s ≡ stage.Free → ⊥)
     → (r : SearchAddress) × (h : Answer) × (room : ℕ) × (s ≡ stage.Hunted r (Some h) room) × (call_turn (Some h) room ≡ None)
 roll_over stage.Free n gs v over running = absurd (running refl)
@@ -536,7 +536,7 @@ draws_tabled before xs gs numbers d (inr draws) tabled =
       still (inl once) = tables.still_once gs once
       still (inr twice) = tables.still_twice gs twice
 
--- and where somebody is to be searched it is one frame less
+-- and if some gear is to be searched it is one frame less
 pub record DrawsTo (p : Purpose) (s t : Stage) (n : SearchAddress) (d : Command) (gs hs : List Gear) : Type 0 where
   pub does : DrawsBy d gs
   pub one : p ≡ Drawing → draw_left s ≡ suc (draw_left t)
@@ -552,7 +552,7 @@ draw_on : (p : Purpose) (s t : Stage) (n : SearchAddress) (gs : List Gear) (numb
 draw_on p s t n gs numbers d v does byte stage drawn gear one =
     record { does = does; one = one; draw = record { stage_is = stage; drawn = drawn; gear = gear; low = low_after d gs numbers byte v.low } }
 
--- an opening that nobody is searched before
+-- an opening that no gear is searched before
 pub open_sent : (s : Stage) (n : SearchAddress) (k : Kept) (gs : List Gear) (numbers : List ℕ) (d : Command) (h : Answer) → IsDraw Opening s n gs
     → Sends Opening n k s d → IsTakenBut d gs numbers h → DrawSent Opening s n gs numbers d h
 open_sent stage.Free n k gs numbers d h v is t =

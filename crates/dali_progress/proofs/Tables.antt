@@ -65,7 +65,7 @@ tabled_left before xs gs numbers c leaves tabled =
     tabled_by before xs gs (row_after Everyone c 0 gs numbers) (row_length Everyone c 0 gs numbers)
     (after_at c KeepsName (λ g off. names_self g) (λ g x on. names_taken c g x leaves) gs numbers) tabled
 
--- RANDOMISE, where no gear with a short address draws
+-- RANDOMISE, if no gear with a short address draws
 abbrev pub StandsStill : Gear → Type 0
 StandsStill g = (a : ℕ) → g.short ≡ Some a → draws_a_number Randomise g ≡ false
 
@@ -179,7 +179,7 @@ probing_tabled before (stage.NumberSent r) k x n gs numbers left c h p is tabled
 probing_tabled before (stage.Probed r g) k x n gs numbers left c h p is tabled = absurd (cc)
 probing_tabled before _ k x n gs numbers left c h p is tabled = absurd p.stage_is
 
--- what follows PROGRAM SHORT ADDRESS is its confirmation, where the visit goes on
+-- what follows PROGRAM SHORT ADDRESS is its confirmation, if the visit goes on
 confirmed : (r : SearchAddress) (a : ℕ) (h : Answer) (k : Kept) (n : SearchAddress) (gs : List Gear) (left : ℕ) → VisitsAt (verified r a h) k n gs left
     → verified r a h ≡ stage.Confirmed r a
 confirmed r a h k n gs left = verified_by (λ q. VisitsAt q k n gs left → q ≡ stage.Confirmed r a) r a (λ at. refl) (λ o at. absurd at.stage_is) h

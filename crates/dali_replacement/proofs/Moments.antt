@@ -64,7 +64,7 @@ within n m s is = of s (due n m s is)
     of (Place i) is = is.1
     of (Forget i) is = is.1
 
--- WHAT LIES THERE is the same where each of its parts is.
+-- WHAT LIES THERE is the same if each of its parts is.
 same : (a b : Lies) → a.journal ≡ b.journal → a.new ≡ b.new → a.at ≡ b.at → a.kept ≡ b.kept → a ≡ b
 same a b journal new at kept =
     ap {B = Lies} (λ x. record { journal = x; new = a.new; at = a.at; kept = a.kept }) journal

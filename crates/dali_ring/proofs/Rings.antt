@@ -1,4 +1,4 @@
--- The lists of a ring where the oldest item leaves, and the first list that is not empty.
+-- The lists of a ring when the oldest item leaves, and the first list that is not empty.
 use Rattle.std.proofs.Common.{◌≡◌, ℕ, zero, suc, ◌+◌, ◌-◌, ◌<◌, ◌≤◌, List, [], ◌∷◌, ◌++◌, length, refl, sym, ap, ◌∙◌, arith, subst, get_or, set, drop, true}
 use Rattle.std.proofs.Common.{false}
 use Rattle.std.proofs.lemmas.List.Sums.{sum_by-set}

@@ -1,4 +1,4 @@
--- The places of a block may go to another thread where their values may, and the right to free it where its allocator may.
+-- The places of a block may go to another thread if their values may, and the right to free it if its allocator may.
 use base.Fraction.{full_share}
 use base.Shift.{Keyless}
 use Prim.Native.Nat.{ℕ, zero, suc, ◌+◌}

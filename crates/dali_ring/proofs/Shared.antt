@@ -1,4 +1,4 @@
--- A `&` to the places is made where one to a value is. Assumes `Logic`.
+-- A `&` to the places is made if one to a value is. Assumes `Logic`.
 use Prim.Native.Nat.{ℕ, zero, suc, ◌+◌}
 use Rattle.std.specs.Prelude.{List, [], ◌∷◌}
 use Rattle.std.specs.Mem.{type_size}

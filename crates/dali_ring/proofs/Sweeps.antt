@@ -125,7 +125,7 @@ module _ {X : Type 0} (from : X → ℕ) (sender : ℕ) (s0 : List (Slot X)) (n0
       passed : (y : X) (ys : List X) → (from y == sender) ≡ false → without from sender (y ∷ ys) ≡ y ∷ without from sender ys
       passed y ys test = rw test refl
 
--- there is an item behind slot b, where one was read
+-- there is an item behind slot b, if one was read
 pub swept_place : {X : Type 0} (s : List (Slot X)) (n p b : ℕ) (us rest : List X) (item : X) → IsAt s n p b us rest → Some item ≡ slice_get rest 0
     → (vs : List X) × (y : X) × (ys : List X) × IsAt s n p b vs (y ∷ ys)
 swept_place s n p b us [] item at is = absurd (cc)

@@ -93,7 +93,7 @@ module _ {X : Type 0} (s : List (Slot X)) (n : ℕ) (tails : List ℕ) (l : IsLi
   pub h : Holds s n tails (lines s n)
   h = held_lines s n tails l
 
-  -- the first free slot, where there is one
+  -- the first free slot, if there is one
   pub free_place : sum_by length (waiting s n) < n → (us : List (Option X)) × (x : Option X) × (rest : List (Option X)) × IsBefore s n 5 (n + 5) us x rest
   free_place fewer = go fs refl where
     go : (ys : List (Option X)) → ys ≡ fs → (us : List (Option X)) × (x : Option X) × (rest : List (Option X)) × IsBefore s n 5 (n + 5) us x rest

@@ -1,4 +1,4 @@
--- The ways that links lead, what is left of them where one slot is moved to the end of another list, and that
+-- The ways that links lead, what is left of them when one slot is moved to the end of another list, and that
 -- one way has one end.
 use Rattle.std.proofs.Common.{◌≡◌, ◌≢◌, ℕ, zero, suc, ◌+◌, ◌<◌, ◌≤◌, List, [], ◌∷◌, ◌++◌, length, refl, sym, ap, ◌∙◌, arith, subst, nat_lt, true, false}
 use Rattle.std.proofs.lemmas.Bool.Decides.{nat_tests}
@@ -19,7 +19,7 @@ more_is [] j = omega arith
 more_is (x ∷ xs) j = omega (arith, more_is xs j)
 
 module _ (link : ℕ → ℕ) (n : ℕ) where
-  -- where two ways begin in one slot, they are one
+  -- if two ways begin in one slot, they are one
   pub one_way : (e f k j i : ℕ) → n ≤ e → n ≤ f → Far link n e k i → Far link n f j i → (k ≡ j) × (e ≡ f)
   one_way e f zero zero i le lf p q = (refl, sym p ∙ q)
   one_way e f zero (suc j) i le lf p q = absurd (omega (arith, p, q.0))
@@ -66,7 +66,7 @@ module _ {X : Type 0} (link link' : ℕ → ℕ) (item item' : ℕ → X) (n : �
         kept f j t (link a) xs p.2 q (λ i k w l m. links i k w l (omega (arith, m))) (λ i k w l m. items i k w l (omega (arith, m))),
       )
 
--- the last slot of what is left of a list, where the slot behind b is taken out and this is behind it
+-- the last slot of what is left of a list, when the slot behind b is taken out and this is behind it
 abbrev pub last_left : {X : Type 0} → List X → ℕ → ℕ → ℕ
 last_left [] b t = b
 last_left (y ∷ ys) b t = t

@@ -13,7 +13,7 @@ pub record Searched (xs : List Assignment) (r at : ℕ) : Type 0 where
   pub there : (i : ℕ) → at ≡ i + 1 → last_bits (random_at xs i) ≡ last_bits r
   pub others : (i : ℕ) → at ≤ i → i < length xs → random_at xs i ≡ r → ⊥
 
--- the pair at a place, whatever stands where there is none
+-- the pair at a place, whatever stands if there is none
 pub random_here : (xs : List Assignment) (i : ℕ) (p : Assignment) → i < length xs → p ≡ get_or xs i p → random_at xs i ≡ p.1
 random_here [] i p inside is = absurd (omega (arith, inside))
 random_here (x ∷ xs) zero p inside is = sym (ap (λ q. q.1) is)

@@ -16,7 +16,7 @@ pub record_there : (x : Record) → record_by (record_code x) (address_of x) (ra
 record_there (Reserve a r) = refl
 record_there _ = refl
 
--- What a test of numbers chooses has what each of the choices has: the value of the number that it is compared with, where
+-- What a test of numbers chooses has what each of the choices has: the value of the number that it is compared with, if
 -- the two are equal, and the others.
 record Each {A : Type 0} (P : A → Type 0) (chosen : Option A) : Type 0 where
   each : (x : A) → chosen ≡ Some x → P x

@@ -138,6 +138,6 @@ pub first_by : (f : Forward)
     ⊎ (((g : Forward) × (command_of f ≡ Arc g)) ⊎ ((a : ℕ) × (command_of f ≡ RandomByte a High)))) → IsFirst f
 first_by f is = (record { first = 0; last = 0 }, [], begins_by (record { first = 0; last = 0 }) [] f is)
 
--- whoever sends it
+-- by any sender
 pub first_for_all : (b : Block) (xs : List Assignment) (f : Forward) → IsFirst f → Lawful b xs [] f
 first_for_all b xs f first = begins_by b xs f (first_commands f first)

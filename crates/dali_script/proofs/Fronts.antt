@@ -98,7 +98,7 @@ marks_more xs i p marks inside is small m = subst (λ ys. Marks ys (set marks p.
     go (inl k) = get_or-set_other marks p.0 a true false not_it ∙ (m.marked a below).1 k
     go (inr same) = absurd (not_it (sym same))
 
--- where a pair's short address is not marked
+-- if a pair's short address is not marked
 pub unmarked : (xs : List Assignment) (p : Assignment) (marks : List Bool) → Marks xs marks → p.0 < 64 → (HasAddress xs p.0 → ⊥)
     → get_or marks p.0 false ≡ false
 unmarked xs p marks m small none = go (get_or marks p.0 false) refl where

@@ -119,7 +119,7 @@ all_more key P xs p all one n h = go (has_cases (map key xs) (key p) n (subst (�
   go (inl k) = all n k
   go (inr e) = subst P e one
 
--- also where it may not have been added
+-- also if it may not have been added
 pub all_after : {E : Type 0} (key : Assignment → ℕ) (P : ℕ → Type 0) (old new : List Assignment) (p : Assignment) (r : Result (Unit {0}) E)
     → ((n : ℕ) → Has (map key old) n → P n)
     → P (key p) → OnOk r (new ≡ old ++ p ∷ []) → OnErr r (new ≡ old) → (n : ℕ) → Has (map key new) n → P n
@@ -166,7 +166,7 @@ pub random_found : (xs : List Assignment) (r : ℕ) (o : Option ℕ) → MatchOp
 random_found xs r None none = (λ e. absurd (cc), λ h. absurd (none h))
 random_found xs r (Some a) here = (λ e. has_map (λ p. p.1) xs (a, r) here, λ h. refl)
 
--- two pairs are equal where their parts are
+-- two pairs are equal if their parts are
 pub pairs_decide : (p q : Assignment) → Decides (nat_eq p.0 q.0 && nat_eq p.1 q.1) (p ≡ q)
 pairs_decide p q = (
   λ e. both p q (let first : p.0 ≡ q.0 = grind (arith, nat_tests) in first) (let second : p.1 ≡ q.1 = grind (arith, nat_tests) in second),
@@ -272,7 +272,7 @@ without_place x (z ∷ xs) (suc i) d o h is = go (is_pair x z) refl (without_pla
   go true same rest = absurd (o.0 (subst (λ p. Has (addresses xs) p.0) (sym ((pairs_decide z x).0 same)) (has_map (λ p. p.0) xs x there)))
   go false same rest = ap (λ ys. z ∷ ys) rest
 
--- what a search for a pair says where the pair is known to be there
+-- what a search for a pair says if the pair is known to be there
 pub has_place : (xs : List Assignment) (i : ℕ) (d x : Assignment) → i < length xs → get_or xs i d ≡ x → Has xs x
 has_place xs i d x h is = subst (λ p. Has xs p) is (has_at xs i d h)
 

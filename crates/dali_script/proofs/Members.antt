@@ -48,7 +48,7 @@ same_member key (z ∷ xs) x y o (inl d) (inr k) e = absurd (o.0 (subst (λ n. H
 same_member key (z ∷ xs) x y o (inr h) (inl f) e = absurd (o.0 (subst (λ n. Has (map key xs) n) (e ∙ ap key (sym f)) (has_map key xs x h)))
 same_member key (z ∷ xs) x y o (inr h) (inr k) e = same_member key xs x y o.1 h k e
 
--- where members with one second part have one first part, the second parts stand once
+-- if members with one second part have one first part, the second parts stand once
 pub once_seconds : (xs : List (ℕ × ℕ)) → IsOnce (map (λ p. p.0) xs) → ((g h a : ℕ) → Has xs (g, a) → Has xs (h, a) → g ≡ h) → IsOnce (map (λ p. p.1) xs)
 once_seconds [] o same = tt
 once_seconds (x ∷ xs) o same = (λ h. go (mapped_from (λ p. p.1) xs x.1 h), once_seconds xs o.1 (λ g h a m n. same g h a (inr m) (inr n))) where

@@ -54,7 +54,7 @@ may_for (Some g) e = record { drawn = below (value_of g.0) MASK24 e; within = (o
 pub comes_from : (s : Stage) (c : Command) → may_come s c ≡ true → Follows (block_for (given s c)) (reserved_for (given s c)) s c
 comes_from s c e = record { leads_on = first_of_both _ _ e; may = may_for (given s c) (second_of_both _ _ e) }
 
--- where a command leads on does not hang on what is heard after it
+-- whether a command leads on does not depend on what is heard after it
 pub leads_heard : (s : Stage) (c : Command) (h : Answer) → is_some (leads s c h) ≡ is_some (leads s c Silence)
 leads_heard (Hunted r last left) c h = go (left == 0) c where
   go : (b : Bool) (c : Command) → is_some (if b then None else hunted r (left - 1) c h) ≡ is_some (if b then None else hunted r (left - 1) c Silence)

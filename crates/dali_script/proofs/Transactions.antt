@@ -534,7 +534,7 @@ follows_from_test b xs s c e = record {
   may = may_give_if_from b xs (given s c) (second_of_both _ _ e);
 }
 
--- where no frame may follow, none is lawful
+-- if no frame may follow, none is lawful
 pub over : (b : Block) (xs : List Assignment) (s : Stage) (c : Command) → may_follow b xs s ≡ false → Follows b xs s c → ⊥
 over b xs (Hunted r last left) c e on =
     let asks = asks_hunting r last left c on.leads_on in
@@ -638,7 +638,7 @@ small_stage : (t : List Entry) → Small (stage_of t)
 unfolding stage_of
 small_stage t = small_from Free t tt
 
--- where one may follow, there is such a frame
+-- if one may follow, there is such a frame
 abbrev Next : Block → List Assignment → Stage → Type 0
 Next b xs s = (c : Command) × IsSpelled c × IsFrame (frame_of c) × Follows b xs s c
 

@@ -13,7 +13,7 @@ most_apart : (n m : ℕ) → apart n m ≤ 24
 unfolding apart
 most_apart n m = apart_most 24 n m
 
--- the number that is asked where somebody has answered
+-- the number that is asked once a gear has answered
 record IsHalf (low high asked : ℕ) : Type 0 where
   from : low ≤ asked
   below : asked < high
@@ -28,14 +28,14 @@ halved low high less small =
 
 -- ---------------------------------------------------------------- by cases
 
--- where somebody has answered, and it goes on
+-- once a gear has answered, and it goes on
 pub record IsHalving (a : Ascent) : Type 0 where
   pub less : a.low < a.high
   pub small : a.high < 0xFFFFFF
   pub asked : asked_next a ≡ with_ones (apart a.low a.high - 1) a.low
   pub left : answers_left a ≡ apart a.low a.high
 
--- where nobody has, and it goes on
+-- if none has, and it goes on
 pub record IsStepping (a : Ascent) : Type 0 where
   pub top : 0xFFFFFF ≤ a.high
   pub few : a.silent < 2

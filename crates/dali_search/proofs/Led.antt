@@ -35,7 +35,7 @@ told_left (suc k) n small =
               (subst (λ h. asked_of (left_of k n) ≤ h) (sym before.1) asked.1),
         )
 
--- after an answer FFFFFF is left only where it is the least
+-- after an answer FFFFFF is left only if it is the least
 pub left_top : (k n : ℕ) → n ≤ 0xFFFFFF → (left_of (suc k) n).1 ≡ 0xFFFFFF → (left_of (suc k) n).0 ≡ 0xFFFFFF
 left_top k n small top = go (nat_lt (asked_of (left_of k n)) n) refl (left_within k n small) top where
   go : (b : Bool) → nat_lt (asked_of (left_of k n)) n ≡ b → ((left_of k n).0 ≤ n) × (n ≤ (left_of k n).1) × ((left_of k n).1 ≤ 0xFFFFFF)

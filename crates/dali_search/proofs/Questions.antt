@@ -40,7 +40,7 @@ room_most bytes room most = grind (arith, nat_tests)
 
 -- ---------------------------------------------------------------- halving
 
--- what a question takes where the bounds have so many bits apart
+-- what a question takes if the bounds have so many bits apart
 abbrev TakesOf : ℕ → ℕ → ℕ → Type 0
 TakesOf bits number bytes =
     (bytes ≤ 1) ⊎ ((bytes ≤ 2) × ((number ≡ 0xFFFFFE) ⊎ ((bits ≡ 8) ⊎ (bits ≡ 16))))
@@ -124,7 +124,7 @@ no_leaves_last low less = go (low == 0xFFFFFE) refl where
       bits (apart_below 23 (low / 2) 0x7FFFFF) half.some
       (no_leaves 23 (low / 2) 0x7FFFFF below (omega arith) (ones_fewer (apart_below 23 (low / 2) 0x7FFFFF) 23 0x7FFFFF most last_ones))
 
--- what holds where an ascent is halved, of the number that it asks
+-- what holds if an ascent is halved, of the number that it asks
 record IsAskedIn (low high number bits asked : ℕ) : Type 0 where
   some : 0 < bits
   below : asked < high
@@ -345,7 +345,7 @@ stepping_costs a q answer here again s = go answer where
   few : a.silent < 2
   few = s.few
 
-  -- what the question takes: less where it is the first
+  -- what the question takes: less if it is the first
   takes : (b : Bool) → (a.steps == 0) ≡ b → taken bytes q.room + (if b then 8 else 0) ≤ thirds_of_room q.room + 16
   takes true is =
       let none : q.room ≡ 0 = here.first (let first : a.steps ≡ 0 = grind (arith, nat_tests) in first) unknown in

@@ -14,16 +14,16 @@ use Rattle.dali_search.proofs.Ascents.{IsHalving, IsStepping, going_on, asked_dr
 use Rattle.dali_search.proofs.Questions.{above_begun, apart_most_of, begun_is, first_begun, last_most, most_bits, question_costs}
 use Rattle.dali_search.proofs.Questions.{takes_new, takes_three, taken, Costs}
 
--- WHAT THE QUESTIONS COST WHERE ALL ANSWERS ARE TRUE.
+-- WHAT THE QUESTIONS COST IF ALL ANSWERS ARE TRUE.
 
--- where nobody was found, FFFFFE is asked
+-- if no gear was found, FFFFFE is asked
 unfound_asks : (a : Ascent) → is_bounded a ≡ false → a.found ≡ 0 → asked_next a ≡ 0xFFFFFE
 unfound_asks a unknown none = rw (unknown, none) refl
 
 unknown_of : (a : Ascent) → IsStepping a → is_bounded a ≡ false
 unknown_of a s = let top : 0xFFFFFF ≤ a.high = s.top in grind (arith, nat_tests)
 
--- a step up is taken, and what it takes is at most this, less where it is the first
+-- a step up is taken, and what it takes is at most this, less if it is the first
 step_takes : (a : Ascent) (q : Asking) → IsUnderWay a q → IsStepping a
     → taken (bytes_apart q.number (asked_next a)) q.room + (if a.steps == 0 then 8 else 0) ≤ thirds_of_room q.room + 16
 step_takes a q here s = go (a.steps == 0) refl where
@@ -76,7 +76,7 @@ somebody_costs a q answer here again none other = (
     again = λ unfound once. absurd (let still : (ascended a answer).silent ≡ 0 = unsilent a answer other none in omega (arith, once, still));
   },
 ) where
-  -- where nobody was found, FFFFFE is asked, so the answer is a yes
+  -- if no gear was found, FFFFFE is asked, so the answer is a yes
   never : (answer : Bool) → (answer ≡ false → asked_next a ≡ 0xFFFFFE → ⊥) → (ascended a answer).found ≡ 0 → is_bounded (ascended a answer) ≡ false → ⊥
   never true other unfound open_end = grind (arith, nat_tests, asked_drawn a here.way.is again)
   never false other unfound open_end = other refl (unfound_asks a open_end unfound)
@@ -167,7 +167,7 @@ somebody_costs a q answer here again none other = (
         fewer : (5 - (a.steps + 1)) + 1 ≤ 5 - a.steps
         fewer = omega (arith, early)
 
--- Nobody is left: all answers are no.
+-- No gear is left: all answers are no.
 abbrev pub CostsNobody : Ascent → Asking → Type 0
 CostsNobody a q =
     (3 * frames_to_ask q (asked_next a) + thirds_to_nobody (ascended a false) (asking_next q (asked_next a)) ≤ thirds_to_nobody a q)

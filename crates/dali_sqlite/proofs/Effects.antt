@@ -191,7 +191,7 @@ pub selects_exactly : (old new : State) (rows : List Row) → Shown select_text 
 selects_exactly old new rows shown xs held =
     ap (map four_of) (shown_in_order old.now.trees rows (answer_of old new rows held.has.table shown) xs held.rows) ∙ four_rows 0 xs
 
--- and where they are the rows of a list, the table holds it
+-- and if they are the rows of a list, the table holds it
 pub selects_found : (old new : State) (rows : List Row) → Shown select_text [] old new rows → HasTable old → (xs : List Record)
     → map four_of rows ≡ rows_after 0 xs → Holds new xs
 selects_found old new rows shown has xs is =
@@ -212,7 +212,7 @@ module _ {V : Type 0} (rows_of : V → List Row) (old new : State) where
       stays_holds old new (inl (shows_unchanged objects_text objects_plain old new (rows_of v) held.has.table ok)) up xs held
   asks_held (Err e) ok err up xs held = stays_holds old new (query_stays objects_text [] old new e err) up xs held
 
-  -- and found the database open, where it leaves it so
+  -- and found the database open, if it leaves it so
   pub asks_open : (r : Result V Error) → IfOk r (λ v. Shown objects_text [] old new (rows_of v)) → IfErr r (FailsToQuery objects_text [] old new)
       → IsTrue new.is_open → IsTrue old.is_open
   asks_open (Ok v) ok err up = shown_open objects_text [] old new (rows_of v) ok

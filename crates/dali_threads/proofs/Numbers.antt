@@ -29,7 +29,7 @@ none_large (x ∷ xs) below =
     let small : nat_lt 0xFFFFFE x ≡ false = (let first : x < MASK24 = below 0 x (omega arith) in grind (arith, nat_tests)) in
     rw (small, none_large xs (λ k d inside. below (suc k) d (omega arith))) refl
 
--- so a plan is refused with them only where it is refused without them
+-- so a plan is refused with them only if it is refused without them
 pub refused_without : (gear : ℕ) (blocks : List (ℕ × ℕ)) (most : ℕ) (numbers : List ℕ) → AreDrawn most numbers → StandOnce numbers
     → refusal_of gear blocks numbers ≡ refusal_of gear blocks []
 refused_without gear blocks most numbers drawn once = rw (none_large numbers drawn.below, once) refl

@@ -177,7 +177,7 @@ module _ (v t : ℕ) (p : Bool) (edges : List (Bool × ℕ)) (rest begin byte : 
       let same = ap (λ es. (false, t) ∷ (true, u) ∷ es) s.edges_are in
       record { bits = false ∷ s.bits; times = t ∷ u ∷ s.times; tail = s.tail; edges_are = same; are = (half, again, s.are); is = s.is }
 
--- one edge further, where no stop condition is over
+-- one edge further, if no stop condition is over
 next : (r : Reading) (was low : Bool) (t lasted begin : ℕ) (p : Bool) → is_idle r ≡ false → goes_on was t ≡ true
     → is_idle (read_edge r low (span_before was low t)) ≡ false → begin + lasted + t < 2 ^ 32
     → window_after (state r was lasted (begin + lasted) Silence p) low t

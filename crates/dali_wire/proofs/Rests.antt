@@ -56,7 +56,7 @@ pub damaged_tells : (edges : List (Bool × ℕ)) (w : Window) (rest : ℕ) (a : 
 damaged_tells [] w rest a h told = elim (told_is w rest a told) [ inl d ↦ d | inr x ↦ x.1 ∙ rw h (heard_damaged _ _) ]
 damaged_tells (e ∷ edges) w rest a h told = damaged_tells edges (window_after w e.0 e.1) rest a (after_damaged w e.0 e.1 h) told
 
--- SILENCE is told where silence was heard
+-- SILENCE is told if silence was heard
 heard_silent : (h : Answer) (told : Option Told) (now : ℕ) → heard_after h told now ≡ Silence → h ≡ Silence
 heard_silent h None now e = e
 heard_silent Silence (Some told) now e = refl
@@ -150,7 +150,7 @@ busy_read (Between v) busy = (frame_of v, refl)
 busy_read (Middle v) busy = (frame_of v, refl)
 busy_read Spoilt busy = (Broken, refl)
 
--- WHAT IS NEVER TOLD, where this was heard and a frame is being read
+-- WHAT IS NEVER TOLD, if this was heard and a frame is being read
 abbrev IsNeverOf : Answer → Answer → Type 0
 IsNeverOf a h = (a ≡ h → ⊥) × ((edges : List (Bool × ℕ)) (w : Window) (rest : ℕ) → w.heard ≡ h → TellsOf w edges rest a → ⊥)
 

@@ -14,7 +14,7 @@ use Rattle.dali_wire.proofs.Spans.{half_is, whole_is, short_is, soon, IsLong, lo
 
 -- WHAT IS TOLD WAS ON THE BUS: a frame that is not damaged is told of the levels of its bits and of a stop condition.
 
--- where nothing is told yet, the frame that is being read stays
+-- if nothing is told yet, the frame that is being read stays
 quiet_stays : (r : Reading) (g : Frame) (s : ℕ) → frame_read r ≡ Some g → ended r false s ≡ None → reading_at r false s ≡ r
 quiet_stays r g s is quiet = go (nat_lt s 2400) quiet where
   go : (b : Bool) → (if b then None else frame_read r) ≡ None → (if b then r else Idle) ≡ r

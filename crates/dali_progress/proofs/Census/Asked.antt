@@ -49,7 +49,7 @@ pub by_order : (t : Machine) (P : Order → Type 0) → ((f : Forward) → P (Pu
     → ((x : Record) → P (Commit x)) → ((e : End) → P (Done e)) → ((w : Fault) → P (Halt w)) → (o : Order) → IsAllowed t o → P o
 by_order t P first later commit = by_kind t P first later (λ x may. commit x)
 
--- WHAT IS LEFT at most, of a machine that was told something, once it has ordered: more only where short addresses are asked again
+-- WHAT IS LEFT at most, of a machine that was told something, once it has ordered: more only if short addresses are asked again
 abbrev pub Leaves : ℕ → Machine → Machine → ℕ → Type 0
 Leaves u t n most = left u n + granted u t.course.tally.askings ≤ most + granted u n.course.tally.askings
 

@@ -122,7 +122,7 @@ begins_on t f a small surveys opened low on =
 pub none_found : finding_of [] ≡ None
 none_found = refl
 
--- where nothing is found, and no gear answered MASK, no record is ordered
+-- if nothing is found, and no gear answered MASK, no record is ordered
 pub no_record : (t : Machine) (s : Stage) (x : Record) → stage_of t.trace ≡ s → ((n : _) → s ≡ stage.Unnamed n → ⊥) → finding_of t.trace ≡ None
     → ((b n : ℕ) → t.last ≡ Some (Commit (Enrol b n)) → ⊥) → MayCommit t x → ⊥
 no_record t s x at named none last may = unwarranted t x (λ n e. named n (sym at ∙ e)) none last may.warranted
@@ -236,7 +236,7 @@ ahead t a b small purpose surveys opened low unasked next =
       first f (inl same) = inr (inr (b, ap (λ c. c.purpose) same ∙ purpose, inl (subst (λ (c : Course). c.from ≤ a) (sym same) low)))
       first f (inr goes) = inr (begins_on t f a small surveys opened low goes)
 
--- the one that is asked, where the question is put again
+-- the one that is asked, if the question is put again
 pub again : (t : Machine) (a b : ℕ) (s : Stage) → t.course.purpose ≡ Asking b → b ≡ a → next_course t ≡ t.course → stage_of t.trace ≡ s
     → ((n : _) → s ≡ stage.Unnamed n → ⊥) → finding_of t.trace ≡ None → ((c n : ℕ) → t.last ≡ Some (Commit (Enrol c n)) → ⊥)
     → ((f : Forward) → (t.trace ≡ [] → ⊥) → IsWhole (machine_ordered t (Put LATER f)) → ⊥) → (o : Order) → IsAllowed t o → IsWhole (machine_ordered t o)

@@ -233,7 +233,7 @@ bounded u (s ∷ []) n one course begins are whole counted = first_bounded u s n
 bounded u (s ∷ (r ∷ earlier)) n one course begins are whole counted =
     more_bounded u s (r ∷ earlier) n one (bounded u (r ∷ earlier) s.before one course.0 begins are.1 are.0 counted.1) course.1 are.0 whole counted.0
 
--- whoever may be silent twice
+-- the gear that may be silent twice
 always_counted : (m : Machine) (i : Input) → IsCounted 3 m i
 always_counted m i h is = inr (go m.asked) where
   go : (k : ℕ) → 3 ≤ waits 3 k
@@ -252,7 +252,7 @@ any_bounded steps n course begins are whole =
     (bounded 3 steps n (omega arith) course begins are whole (all_counted steps)).frames in
     omega (arith, most)
 
--- nobody answers who was silent
+-- no gear answers that was silent
 same_answer : (h k : Answer) → input.Heard h ≡ input.Heard k → h ≡ k
 same_answer h k same = cc
 

@@ -31,12 +31,12 @@ use Rattle.dali_controller.specs.Next.{hunted_in, hunted_to}
 use Rattle.dali_controller.specs.Next.{has_open, may_draw, asks_again, full, ungiven, undrawn, is_blocked, blocked, called_to, compared_in, asked_on, course_on}
 
 -- A CENSUS IS BOUNDED: by how many of its frames may still be sent, which each of them makes fewer. What may still be sent, and
--- that a transaction that begins never makes it more. `u` is 3 where whoever is there may be silent twice and answer then, and 1
--- where nobody answers who was silent: so many frames and two more may be sent to one short address.
+-- that a transaction that begins never makes it more. `u` is 3 if the gear that is there may be silent twice and answer then, and 1
+-- if no gear answers that was silent: so many frames and two more may be sent to one short address.
 
 -- ---------------------------------------------------------------- what may still be sent
 
--- to the short address that is asked, where its first query is outstanding and was silent so often
+-- to the short address that is asked, if its first query is outstanding and was silent so often
 abbrev pub waits : ℕ → ℕ → ℕ
 waits u zero = u + 2
 waits u (suc zero) = u + 1

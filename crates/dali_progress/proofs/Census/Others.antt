@@ -38,7 +38,7 @@ use Rattle.dali_progress.proofs.Census.Left.{of_purpose, of_purpose_most, of_las
 use Rattle.dali_progress.proofs.Census.Left.{few_askings, Moves}
 use Rattle.dali_progress.proofs.Census.Asked.{by_order, moved_left, still_left, same_left, Leaves}
 
--- A CENSUS IS BOUNDED: what an order leaves at every other step, and where no survey counts.
+-- A CENSUS IS BOUNDED: what an order leaves at every other step, and if no survey counts.
 
 -- ---------------------------------------------------------------- every other step
 
@@ -73,7 +73,7 @@ any_left u t surveys =
       by n d is most (inl stays) = same n (is ∙ stays) most
       by n d is most (inr moves) = let fewer = moved_left u t n d is moves in omega (arith, fewer)
 
--- where nothing is asked
+-- if nothing is asked
 pub calm_left : (u : ℕ) (t : Machine) → t.course.way ≡ Surveying → ((k j : ℕ) (s : Stage) → of_purpose k j t.course.purpose s ≡ 0) → (o : Order) → IsAllowed t o
     → Leaves u t (machine_ordered t o) (beyond u t.course.from)
 calm_left u t surveys calm =

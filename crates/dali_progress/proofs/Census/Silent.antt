@@ -26,7 +26,7 @@ use Rattle.dali_progress.proofs.Census.Coming.{IsToCome, IsEnded, Hearing, heari
 
 -- WHAT IS GIVEN WAS SILENT: once a census is over, each short address was silent or is accounted for.
 
--- what came of a question: it was silent for the third time, or somebody was heard, or it is asked again
+-- what came of a question: it was silent for the third time, or some gear was heard, or it is asked again
 abbrev Third : Machine → Machine → Answer → ℕ → Type 0
 Third m t h a = (h ≡ Silence) × (stage_of t.trace ≡ stage.HighAsked a None) × (m.asked ≡ 2)
 

@@ -56,7 +56,7 @@ pub record Calm (g : ℕ) (m : Machine) (gs : List Gear) : Type 0 where
   pub tries : m.tries ≡ 0
   pub way : m.course.way ≡ Surveying
 
--- a record is to be kept in the census, and then the next short address is asked. Where that is done for the first time, something
+-- a record is to be kept in the census, and then the next short address is asked. If that is done for the first time, something
 -- else that is reserved for the number may be released then.
 pub record KeepsAsked (g : ℕ) (k : Kept) (heard : Shorts) (c : Course) (silent : ℕ) (gs : List Gear) : Type 0 where
   pub unopened : c.opened ≡ false
@@ -95,7 +95,7 @@ pub record KeepsReserved (g : ℕ) (k : Kept) (heard : Shorts) (c : Course) (sil
 abbrev pub IsOwn : Kept → ℕ → ℕ → Type 0
 IsOwn k b r = (a : ℕ) → Has k.reserved (a, r) → a ≡ b
 
--- each first time that short addresses are asked nobody was passed over
+-- each first time that short addresses are asked no gear was passed over
 abbrev pub IsFirst : Tally → Type 0
 IsFirst y = y.passed.count ≡ 0
 
@@ -339,7 +339,7 @@ hunts_above g t o cs v gs calm is next way opened counted few low sought_are bar
       };
     }) known
 
--- where a visit succeeded
+-- if a visit succeeded
 pub hunts_on : (g : ℕ) (t : Machine) (o : Order) (gs : List Gear) → Calm g t gs → o ≡ beginning (next_course t) → next_course t ≡ goes_on_to t
     → KeepsPast g t.kept t.heard t.course t.silent gs → IsNext g (machine_ordered t o) o gs
 hunts_on g t o gs calm is next v =

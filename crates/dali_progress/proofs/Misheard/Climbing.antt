@@ -53,7 +53,7 @@ anew_is x is = record {
   top = is.top;
 }
 
--- where it begins, nothing is known of a set
+-- when it begins, nothing is known of a set
 pub anything_first : (has : ℕ → Bool) → Knows has ascent_at_first
 anything_first has = record { above = λ m member. omega arith; below = λ small. absurd (omega (arith, small)) }
 
@@ -111,7 +111,7 @@ found_is has x r knows leads = go (is_bounded x) refl (nat_lt x.low x.high) refl
   go false unbounded c met true e = absurd (cc)
   go false unbounded c met false e = absurd (cc)
 
--- nobody is left that drew
+-- no gear is left that drew
 pub nobody_is : (has : ℕ → Bool) (x : Ascent) → IsAscent x → Knows has x → leads_to x ≡ Nobody → (m : ℕ) → has m ≡ true → MASK24 ≤ m
 nobody_is has x is knows leads m member = go (is_bounded x) (nat_lt x.low x.high) (nat_lt x.silent 2) refl leads where
   go : (b c d : Bool) → nat_lt x.silent 2 ≡ d → (if b then (if c then Again else Found x.high) else (if d then Again else Nobody)) ≡ Nobody → MASK24 ≤ m

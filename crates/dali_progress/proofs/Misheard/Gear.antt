@@ -26,7 +26,7 @@ use Rattle.dali_events.proofs.Search.Withdrawing.{after_withdraw, Withdraws, wit
 use Rattle.dali_progress.proofs.Stands.{HaveShort}
 use Rattle.dali_progress.proofs.Survey.Drawn.{DrewApart}
 
--- WHAT IS TRUE OF GEAR WHERE ONE IS MISHEARD: of each gear with power, by its number in the row.
+-- WHAT IS TRUE OF GEAR IF ONE IS MISHEARD: of each gear with power, by its number in the row.
 
 abbrev pub Each : List Gear → (ℕ → Gear → Type 0) → Type 0
 Each gs P = (k : ℕ) → k < length gs → (gear_of gs k).powered ≡ true → P k (gear_of gs k)
@@ -47,7 +47,7 @@ each_core P Q step gs hs same all k in_row on =
 
 -- ---------------------------------------------------------------- who is to be found
 
--- Each without short address that drew a number is ENABLED; but gear g once a search has found somebody.
+-- Each without short address that drew a number is ENABLED; but gear g once a search has found some gear.
 abbrev pub IsSought : ℕ → ℕ → ℕ → Gear → Type 0
 IsSought g found k y = (k ≡ g → found ≡ 0) → y.short ≡ None → y.random < MASK24 → y.state ≡ Enabled
 

@@ -66,7 +66,7 @@ use Rattle.dali_progress.proofs.Misheard.Visits.{turned}
 use Rattle.dali_progress.proofs.Along.{RunsBy, runs_first, acted_to, frame_to, sent_to, ended_at, goes_by, HoldsBy, holds_next, acts_from}
 use Rattle.dali_progress.proofs.Both.{no_enrolment_yet, reserved_begins}
 
--- A SURVEY GOES ON, event by event, where gear g is misheard.
+-- A SURVEY GOES ON, event by event, if gear g is misheard.
 
 -- ---------------------------------------------------------------- a record was kept
 

@@ -212,7 +212,7 @@ apart_of a b other e = let never : true ≡ false = sym (number_same a b e) ∙ 
 same_small : (a b : ℕ) → b ≡ a → a < 64 → b < 64
 same_small a b same small = subst (λ n. n < 64) (sym same) small
 
--- where no address of the block is left
+-- if no address of the block is left
 taken_with : (k : Kept) (heard : Shorts) (b : ℕ) → b < 64 → AreTaken k heard → AreTaken k (with_short heard b)
 taken_with k heard b small taken a within = by (taken a within) where
   by : HasAddress k.reserved a ⊎ (HasAddress k.enrolled a ⊎ (has_short heard a ≡ true))

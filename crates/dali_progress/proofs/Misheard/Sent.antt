@@ -36,7 +36,7 @@ use Rattle.dali_progress.proofs.Surveying.{IsTakenBut}
 
 -- A FRAME IS SENT, and each gear with power takes it.
 
--- what was heard, where gear g may be misheard, and what is known of the gear
+-- what was heard, if gear g may be misheard, and what is known of the gear
 pub record Taken (g : ℕ) (c : Command) (gs : List Gear) (numbers : List ℕ) (h : Answer) : Type 0 where
   pub there : g < length gs
   pub heard : IsHeardBut g gs c h

@@ -30,12 +30,12 @@ use Rattle.dali_progress.proofs.Survey.Woken.{AreLow}
 use Rattle.dali_progress.proofs.Misheard.Gear.{Each, AreSought, AreBare, AreBareBut, HaveDrawn, AreKnown, HasOne}
 use Rattle.dali_progress.proofs.Surveying.{IsRollCall, IsDraw, IsAskedOf, IsClear}
 
--- HOW FAR A SURVEY IS, where gear g is misheard and nothing else is disturbed. No frames are counted; what its end says is true.
+-- HOW FAR A SURVEY IS, if gear g is misheard and nothing else is disturbed. No frames are counted; what its end says is true.
 
 -- ---------------------------------------------------------------- what it counts
 
 -- Visits of gear g alone fail, at most twice in a hunt. So few hunts come between two visits that succeed: each begins with a
--- roll call, of which three are counted, or after a draw. Where gear draw for the last time, all is counted anew but the
+-- roll call, of which three are counted, or after a draw. If gear draw for the last time, all is counted anew but the
 -- silent searches.
 pub record IsCounted (g : ℕ) (y : Tally) (silent more : ℕ) (gs : List Gear) : Type 0 where
   pub calls : y.calls ≤ 3
@@ -45,14 +45,14 @@ pub record IsCounted (g : ℕ) (y : Tally) (silent more : ℕ) (gs : List Gear) 
   -- once gear have drawn, each without short address has a number
   pub drawn : 0 < y.draws → HaveDrawn gs
 
--- from where gear draw on, until they have
+-- from the time on at which gear draw, until they have
 pub record IsCountedFor (y : Tally) (silent : ℕ) : Type 0 where
   pub calls : y.calls ≤ 3
   pub draws : y.draws ≤ 3
   pub passed : y.passed.count ≤ y.calls + y.draws
   pub quiet : silent ≤ 2 * y.passed.count + 20 * y.draws
 
--- a hunt that passed somebody over served all others that drew; or no address can be given
+-- a hunt that passed some gear over served all others that drew; or no address can be given
 abbrev pub IsSpent : ℕ → Tally → Kept → Shorts → List Gear → Type 0
 IsSpent g y k heard gs = (0 < y.passed.count → 0 < y.draws → AreServedBut g gs) ⊎ AreTaken k heard
 
@@ -154,7 +154,7 @@ abbrev pub HuntAt : Bool → ℕ → Purpose → Stage → Ascent → SearchAddr
 HuntAt told g Hunting s x n gs = Rises told g s x n gs
 HuntAt told g p s x n gs = Visits g p s x n gs
 
--- once somebody is withdrawn the search has found somebody, though it does not know yet
+-- once some gear is withdrawn the search has found some gear, though it does not know yet
 abbrev pub found_at : Stage → Ascent → ℕ
 found_at (stage.Withdrawn r a) x = 1
 found_at (stage.PassedOver r) x = 1

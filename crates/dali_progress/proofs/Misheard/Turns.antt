@@ -59,7 +59,7 @@ pub known_as : (g : ℕ) (t : Machine) (gs : List Gear) (p : Purpose) → Mishea
     → KnownAt g p (stage_of t.trace) t.kept t.heard t.course gs
 known_as g t gs p st purpose = subst (λ q. KnownAt g q (stage_of t.trace) t.kept t.heard t.course gs) purpose st.known
 
--- the table has whoever has the short address that was asked
+-- the table has the gear that has the short address that was asked
 tabled_next : (f : ℕ) (xs ys : List Assignment) (gs : List Gear) → ((x : Assignment) → Has xs x → Has ys x) → AreTabledBelow f xs gs
     → ((i : ℕ) → Holds gs i f → (gear_of gs i).random < MASK24 → Has ys (f, (gear_of gs i).random)) → AreTabledBelow (f + 1) ys gs
 tabled_next f xs ys gs more below here i there on a low short drew = go (nat_lt a f) refl where
@@ -99,7 +99,7 @@ taken_enrolled k heard b n taken a within = go (taken a within) where
   go (inr (inl has)) = inr (inl (address_before k.enrolled (b, n) a has))
   go (inr (inr marked)) = inr (inr marked)
 
--- what is reserved for its number is its address alone, where it is known and in no table
+-- what is reserved for its number is its address alone, if it is known and in no table
 pub own_by : (k : Kept) (b n : ℕ) (gs : List Gear) → IsKept k → AreKnown k.reserved k.enrolled gs → HasOne n b gs → b < 64 → n < MASK24
     → (HasAddress k.enrolled b → ⊥) → IsOwn k b n
 own_by k b n gs kept known one small drew fresh a has =
@@ -230,7 +230,7 @@ heard_few y calls passed unblocked = go (nat_lt y.calls 3) refl (nat_lt 0 y.pass
   go false less true e none = absurd (let both : (not (nat_lt y.calls 3) && nat_lt 0 y.passed.count) ≡ true = rw (less, e) refl in
       let never : true ≡ false = sym both ∙ none in cc)
 
--- the fourth one since a visit succeeded, with somebody passed over
+-- the fourth one since a visit succeeded, with some gear passed over
 blocked_turns : (g : ℕ) (t : Machine) (o : Order) (r : SearchAddress) (h : Answer) (room : ℕ) (gs : List Gear) → MisheardStands true g t gs
     → Calls g (stage.Hunted r (Some h) room) t.course t.silent gs → AreSeen t.kept t.heard gs × IsSpent g t.course.tally t.kept t.heard gs
     → o ≡ beginning (next_course t) → next_course t ≡ blocked t

@@ -38,7 +38,7 @@ use Rattle.dali_progress.proofs.Misheard.Stands.{StageOf, IsCounted, IsReached, 
 use Rattle.dali_progress.proofs.Misheard.Sent.{Taken, counted_on, told_hunts, few_on, reached_core, own_core, hunts_core, low_byte, HuntedTo}
 use Rattle.dali_progress.proofs.Later.{queried_by, verified_by}
 
--- A FRAME OF A VISIT IS SENT. Where it is gear g that is visited, anything may be heard of it; of any other it is heard what it
+-- A FRAME OF A VISIT IS SENT. If it is gear g that is visited, anything may be heard of it; of any other it is heard what it
 -- answers.
 
 -- ---------------------------------------------------------------- gear answer

@@ -66,9 +66,9 @@ use Rattle.dali_progress.proofs.Surveying.{NoneDrawn, roll_first, IsDraws, draw_
 
 -- A CONTROLLER ACTS while gear are hunted and visited, and at its close; and in whatever transaction.
 
--- ---------------------------------------------------------------- nobody is left
+-- ---------------------------------------------------------------- no gear is left
 
--- nobody that drew is left to be found
+-- no gear that drew is left to be found
 abbrev pub NobodyLeft : List Gear → Type 0
 NobodyLeft gs = (m : ℕ) → wants gs m ≡ true → MASK24 ≤ m
 
@@ -93,7 +93,7 @@ none_drawn g found gs sought_are nothing numbered nobody k there on none = go (n
   go (inl mask) = mask
   go (inr small) = absurd (left_none gs k nobody there on (sought_are k there on (λ same. nothing) none small) small)
 
--- what is counted where gear draw once more
+-- what is counted if gear draw once more
 counted_draw : (g : ℕ) (y : Tally) (silent : ℕ) (gs : List Gear) → IsCounted g y silent 0 gs → nat_lt y.draws 3 ≡ true → IsCountedFor (drew y) silent
 counted_draw g y silent gs v few = record {
   calls = v.calls;
@@ -110,7 +110,7 @@ counted_draw g y silent gs v few = record {
   enough : (silent one count draws : ℕ) → silent + one ≤ 2 * count + 1 + 20 * draws + 0 → silent ≤ 2 * count + 20 * (draws + 1)
   enough silent one count draws quiet = omega (arith, quiet)
 
--- another transaction begins where the block is full
+-- another transaction begins if the block is full
 full_rests : (t : Machine) (c : Course) → is_hunting (full t c).purpose ≡ false
 full_rests t c = go (asks_again t) where
   by : (d : Course) (next : Option ℕ) → is_hunting (ask_or_call d next).purpose ≡ false
@@ -121,7 +121,7 @@ full_rests t c = go (asks_again t) where
   go true = by (record c { from = 0; opened = false; ascent = ascent_at_first; tally = asked_again c.tally }) (next_asked t.kept 0)
   go false = refl
 
--- what is known where a hunt is over
+-- what is known when a hunt is over
 record IsOver (g : ℕ) (t : Machine) (gs : List Gear) : Type 0 where
   stands : MisheardStands true g t gs
   opened_is : t.course.opened ≡ true
@@ -132,7 +132,7 @@ record IsOver (g : ℕ) (t : Machine) (gs : List Gear) : Type 0 where
   known : AreSeen t.kept t.heard gs
   nobody : NobodyLeft gs
 
--- nobody was found: those that never drew do, or no address is open
+-- no gear was found: those that never drew do, or no address is open
 vain_over : (g : ℕ) (t : Machine) (o : Order) (h : Answer) (r : SearchAddress) (room : ℕ) (gs : List Gear) → o ≡ question (next_course t) r room
     → next_course t ≡ undrawn t (hunted t.course h) → t.course.ascent.found ≡ 0 → IsOver g t gs → IsNext g (machine_ordered t o) o gs
 vain_over g t o h r room gs asks next none v = go (has_open t) refl (nat_lt t.course.tally.draws 3) refl where
@@ -170,7 +170,7 @@ vain_over g t o h r room gs asks next none v = go (has_open t) refl (nat_lt t.co
       begins_full : next_course t ≡ full t (hunted t.course h) → o ≡ beginning (next_course t)
       begins_full same = begins_by t o (full t (hunted t.course h)) r room asks same (full_rests t (hunted t.course h))
 
--- somebody was: the roll is called
+-- some gear was: the roll is called
 found_over : (g : ℕ) (t : Machine) (o : Order) (h : Answer) (r : SearchAddress) (room : ℕ) (gs : List Gear) → o ≡ question (next_course t) r room
     → next_course t ≡ calling (hunted t.course h) → IsOver g t gs → IsNext g (machine_ordered t o) o gs
 found_over g t o h r room gs asks next v =
@@ -441,7 +441,7 @@ failed_turns g t o s gs st apart v failed found w at known begins next = go (is_
       enough : (silent count draws : ℕ) → silent + 1 ≤ 2 * count + 1 + 20 * draws + 1 → silent + 0 ≤ 2 * count + 1 + 20 * draws + 0
       enough silent count draws quiet = omega (arith, quiet)
 
--- ---------------------------------------------------------------- a visit where MASK was answered
+-- ---------------------------------------------------------------- a visit in which MASK was answered
 
 -- no address can be given: gear draw new numbers, or the block is full
 ungiven_turns : (g : ℕ) (t : Machine) (o : Order) (r : SearchAddress) (gs : List Gear) → MisheardStands true g t gs

@@ -31,7 +31,7 @@ use Rattle.dali_progress.proofs.Survey.Stands.{Begun}
 use Rattle.dali_progress.proofs.Along.{Runs, runs_on}
 use Rattle.dali_progress.proofs.Survey.Goes.{of_survey, argument, began_at, starts}
 
--- A SURVEY THAT NOTHING DISTURBS asks in peace, where all used gear have power.
+-- A SURVEY THAT NOTHING DISTURBS asks in peace, if all used gear have power.
 
 -- ---------------------------------------------------------------- power stays
 

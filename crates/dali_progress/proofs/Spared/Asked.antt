@@ -25,7 +25,7 @@ use Rattle.dali_world.proofs.Rolls.{none_set, by_place}
 use Rattle.dali_progress.proofs.Spared.Calls.{IsLivedAt, Heeds, counts_after, heeded_on, none_yet, just_lived, lived_all, unrefused_now, some_same}
 use Rattle.dali_progress.proofs.Spared.Calls.{counts_more, counts_still}
 
--- ONCE ITS QUESTIONS ARE OVER whoever has an address is accounted for, whatever the controller hears if it asks again, until it
+-- ONCE ITS QUESTIONS ARE OVER the gear that has an address is accounted for, whatever the controller hears if it asks again, until it
 -- begins anew.
 
 abbrev HaveBegun : List (Option Machine) → ℕ → Type 0
@@ -102,7 +102,7 @@ unrefused_on s c v (e ∷ es) i plan l begun many are stay refused =
     (subst (λ ms. HaveBegun ms c) (sym (machines_logged s e)) (begun_moved (world s) (machines s) c e stay.0 begun)) (many_more c v e stay.0 many) are.2
     stay.1 refused
 
--- where its questions are over
+-- if its questions are over
 lived_many : (s : SiteState) (c : ℕ) (v : ℕ → ℕ) (n : Machine) → machine_at s c ≡ Some n → n.course.opened ≡ true → IsLivedAt s c v
     → IsLivedAt s c (λ a. v a + 3)
 lived_many s c v n has opened l = record {

@@ -62,7 +62,7 @@ heard_small : (answers : List ℕ) (v : ℕ) → AllByRecursion (λ x. x < 256) 
 heard_small [] v small heard = absurd (heard.0 refl)
 heard_small (x ∷ xs) v small heard = subst (λ y. y < 256) heard.1.0 small.0
 
--- what is heard of a query of a random address is a byte, where it is heard
+-- what is heard of a query of a random address is a byte, if it is heard
 abbrev pub IsByteOf : Command → Answer → Type 0
 IsByteOf (RandomByte a part) (Byte v) = v < 256
 IsByteOf _ h = Unit {0}

@@ -53,7 +53,7 @@ IsLived U z v w ms c = (m : Machine) → machine_in ms c ≡ Some m → Lives U 
 pub some_same : (n m : Machine) → Some n ≡ Some m → n ≡ m
 some_same n m e = cc
 
--- ---------------------------------------------------------------- somebody else's event
+-- ---------------------------------------------------------------- another controller's event
 
 elsewhere : (U : ℕ → Type 0) (z : Block) (v : ℕ → ℕ) (w w' : World) (ms ms' : List (Option Machine)) (c : ℕ) → controller_at w' c ≡ controller_at w c
     → machine_in ms' c ≡ machine_in ms c → IsLived U z v w ms c → IsLived U z v w' ms' c

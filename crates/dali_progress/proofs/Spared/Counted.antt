@@ -32,7 +32,7 @@ use Rattle.dali_progress.proofs.Census.Asked.{by_kind}
 abbrev pub IsPut : Option Order → Type 0
 IsPut last = (p : ℕ) × (f : Forward) × (last ≡ Some (Put p f))
 
--- U is whom it concerns, and n the count of each address
+-- U is the gear that it concerns, and n the count of each address
 abbrev pub IsCounted : (ℕ → Type 0) → (ℕ → ℕ) → Machine → Type 0
 IsCounted U n m =
     (m.asked ≡ 0) ⊎ (IsEnded m ⊎ ((b : ℕ) × (m.course.purpose ≡ Asking b) × IsPut m.last × (U b → m.asked ≤ n b)))
@@ -80,7 +80,7 @@ silent_next k = go (nat_lt k 2) where
   go true = inr refl
   go false = inl refl
 
--- nobody was heard, or the count in a row is none
+-- no gear was heard, or the count in a row is none
 first_asked : (b : ℕ) (h : Answer) (k : ℕ) → (h ≡ Silence) ⊎ (asked_at (stage.HighAsked b (byte_heard h)) h k ≡ 0)
 first_asked b Silence k = inl refl
 first_asked b (Byte v) k = inr refl

@@ -53,7 +53,7 @@ IsAnswered U n opened asked f h =
 abbrev pub IsWellHeard : (ℕ → Type 0) → (ℕ → ℕ) → Bool → ℕ → Forward → Answer → Type 0
 IsWellHeard U n opened asked f h = IsAnswered U n opened asked f h × IsByteOf (command_of f) h
 
--- what it was told is of the frame that it put, and it is told to start where it has ordered nothing
+-- what it was told is of the frame that it put, and it is told to start if it has ordered nothing
 abbrev pub IsFair : (ℕ → Type 0) → (ℕ → ℕ) → Bool → ℕ → Option Order → Option Input → Type 0
 IsFair U n opened asked last (Some (input.Heard h)) = (f : Forward) × (frame_put last ≡ Some f) × IsWellHeard U n opened asked f h
 IsFair U n opened asked last (Some input.Start) = last ≡ None
@@ -64,7 +64,7 @@ abbrev pub HasBegun : List Step → Machine → Type 0
 HasBegun [] m = (id : ℕ) × (k : Kept) × (m ≡ at_first id k)
 HasBegun (s ∷ earlier) m = BeginsBySurvey (s ∷ earlier) × (m.course.way ≡ Fresh → ⊥)
 
--- it has ended, or whoever has the address is accounted for: so it never reserves it
+-- it has ended, or the gear that has the address is accounted for: so it never reserves it
 abbrev pub IsSafe : Machine → ℕ → Type 0
 IsSafe m a = IsEnded m ⊎ IsAccounted m a
 
@@ -174,7 +174,7 @@ lives_more U z n n' k m more few l = record {
 
 -- ---------------------------------------------------------------- what was told and put
 
--- what was heard, where that is due
+-- what was heard, if that is due
 heard_of : (U : ℕ → Type 0) (z : Block) (n : ℕ → ℕ) (k : Controller) (m : Machine) (h : Answer) → Lives U z n k m → k.told ≡ Some (input.Heard h)
     → (f : Forward) × (frame_put m.last ≡ Some f) × IsWellHeard U n m.course.opened m.asked f h
 heard_of U z n k m h l due =
@@ -275,7 +275,7 @@ answered U z n k m h f l due put a purpose at silent used =
     heard.2.0 (counting_ready m a purpose (sending_of m last.0 heard.0 last.1 l.whole).ready).opened a used
     (question_is m last.0 heard.0 h a purpose last.1 l.whole next) silent
 
--- how often the address that is asked was silent in a row, where it is asked now
+-- how often the address that is asked was silent in a row, if it is asked now
 pub counted_asked : (U : ℕ → Type 0) (z : Block) (n : ℕ → ℕ) (k : Controller) (m : Machine) (f : Forward) (a : ℕ) → Lives U z n k m
     → frame_put m.last ≡ Some f → command_of f ≡ RandomByte a High → U a → m.asked ≤ n a
 counted_asked U z n k m f a l put asks used = go l.counted where

@@ -114,9 +114,9 @@ unrefused_in_peace s c es i begun are run peace =
     unrefused s c es i run.plan begun are
     (all_begin s c es peace, λ a used. all_in_time s c a es (subst (IsRun s.plan s.queue) (log_after s es) run) peace used)
 
--- ---------------------------------------------------------------- where all controllers do so, without the site's refusal
+-- ---------------------------------------------------------------- if all controllers do so, without the site's refusal
 
--- where nothing was counted
+-- if nothing was counted
 lived_again : (s : SiteState) (c : ℕ) (v : ℕ → ℕ) → ((a : ℕ) → IsUsedOf s.plan c a → v a ≡ 0) → IsLivedAt s c v → IsLivedAt s c none_yet
 lived_again s c v none l = record {
   block = l.block;

@@ -219,7 +219,7 @@ starts s c a =
       frames = omega arith;
     }))
 
--- what an end leaves, where the site was once as s
+-- what an end leaves, if the site was once as s
 pub ended_by : (s after : SiteState) (c left : ℕ) (e : End) → Runs (of_start (world s).gear) after c left → HasEnded after c e
     → IsTrueEnd ByStart s after c e × NamesAll false s (table_at after c) after
 ended_by s after c left e r ended =

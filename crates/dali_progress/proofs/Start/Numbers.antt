@@ -49,7 +49,7 @@ use Rattle.dali_progress.proofs.Start.Goes.{Hears, Holds, of_start}
 use Rattle.dali_progress.proofs.Both.{none_apart, never_draws, left_same, opening_none, opening_draws, draws_few, is_complete, with_kept, not_failed}
 use Rattle.dali_progress.proofs.Drawing.{Draws}
 
--- THE NUMBERS THAT GEAR DRAW: where there is one for each gear at the start, they are never spent. Gear draw once, at the
+-- THE NUMBERS THAT GEAR DRAW: if there is one for each gear at the start, they are never spent. Gear draw once, at the
 -- last frame of the one opening.
 
 -- ---------------------------------------------------------------- until they have drawn
@@ -116,7 +116,7 @@ never_hunted p s k opened x n gs left r h room at is = go p (subst (λ q. At p q
   go (Closing e) at = at.stage_is
   go _ at = at
 
--- where gear are searched, they are afterwards
+-- if gear are searched, they are afterwards
 stays_open : (t : Machine) (s : Stage) → t.course.way ≡ Fresh → t.course.opened ≡ true → ((r : SearchAddress) (h : Answer) (room : ℕ)
     → s ≡ stage.Hunted r (Some h) room → ⊥) → (begins_at t s).opened ≡ true
 stays_open t s fresh opened never = go s never where

@@ -207,7 +207,7 @@ opening_turns before t o _ gs left g st last purpose is running opens = absurd o
 
 -- ---------------------------------------------------------------- a probe that was answered
 
--- where nobody is wanted, each answer is a no
+-- if no gear is wanted, each answer is a no
 none_said : (has : ℕ → Bool) (answers : List (ℕ × Bool)) → ((m : ℕ) → has m ≡ true → ⊥) → Agrees has answers → highest answers ≡ 0xFFFFFF
 none_said has [] none agrees = refl
 none_said has ((q, true) ∷ later) none agrees = let some = agrees.0 in absurd (none some.0 some.1)
@@ -265,7 +265,7 @@ found_wanted gs x r ready narrowing agrees is =
     subst (Says (wants gs)) is (searching.says_least x narrowing (wants gs) (λ m e. wanted.wanted_below gs m ready e) agrees) in
     (says.0, subst (λ s. NumberOf s (λ m. m < 0xFFFFFF)) is (searching.finds_below x narrowing))
 
--- where nobody is left, every gear with power has a short address
+-- if no gear is left, every gear with power has a short address
 pub all_have : (gs : List Gear) (x : Search) → IsOpened gs → IsNarrowing x → Agrees (wants gs) x.answers → x.step ≡ Nobody → OfPowered gs HasShort
 all_have gs x ready narrowing agrees is =
     nobody_short gs ready

@@ -85,7 +85,7 @@ EnrolsCounted start m a r gs left = AsksCounted start m a (m.kept.enrolled ++ (a
 abbrev pub ReleasesCounted : Begun → Machine → ℕ → List Gear → ℕ → Type 0
 ReleasesCounted start m a gs left = AsksCounted start m a m.kept.enrolled gs left
 
--- an ascent goes on above who was found, where who is left is above it
+-- an ascent goes on above the gear that was found, if the gear that are left are above it
 pub record Above (x : Ascent) (r : ℕ) (gs : List Gear) : Type 0 where
   pub is : IsAscent x
   pub reached : leads_to x ≡ Found r
@@ -163,7 +163,7 @@ smooth_as c d way tally smooth = record {
 
 -- ---------------------------------------------------------------- a later frame, and a first one
 
--- where no answer in a hunt stands last, the machine that has acted stands as it did when it was told
+-- if no answer in a hunt stands last, the machine that has acted stands as it did when it was told
 rises_untold : (s : Stage) (x : Ascent) (n : SearchAddress) (gs : List Gear) (left : ℕ) → IsUnasked s Hunting → Rises true s x n gs left
     → Rises false s x n gs left
 rises_untold stage.Free x n gs left unasked v = rises_so stage.Free x n gs left v v.stage_is v.frames
@@ -277,7 +277,7 @@ begins_whole t o p s g purpose at named closed unasked never found last tries = 
     by cause = let none = cause.2 in cc
   go (Halt fault.Store) g whole = absurd g.ordered.caused
 
--- ---------------------------------------------------------------- what is reserved is nobody else's
+-- ---------------------------------------------------------------- what is reserved is no other's
 
 pub not_both : (one two : Bool) → one ≡ false → two ≡ false → (one || two) ≡ false
 not_both one two none nothing = rw (none, nothing) refl
@@ -297,7 +297,7 @@ clear_reserved k heard a r clear free c q has = go (has_cases k.reserved (a, r) 
       subst (λ n. has_short heard n ≡ false) (ap (λ (x : Assignment). x.0) same)
       (open_parts (is_some (number_at k.reserved a)) (is_some (number_at k.enrolled a)) (has_short heard a) free).2
 
--- whoever is enrolled under it has the number that it is reserved for
+-- the gear that is enrolled under it has the number that it is reserved for
 pub nobody_elses : (k : Kept) (heard : Shorts) (gs : List Gear) → IsTrue k.enrolled gs → AreOwned k.reserved gs → IsClear k heard → (a r : ℕ)
     → Has k.reserved (a, r) → is_anothers k heard a r ≡ false
 nobody_elses k heard gs holds owned clear a r has =
@@ -310,7 +310,7 @@ nobody_elses k heard gs holds owned clear a r has =
       go None none = refl
       go (Some n) entry = let who = holds a n entry in same n r (sym who.3 ∙ owned a r who.0 has who.1 who.2)
 
--- ---------------------------------------------------------------- where none is open, all are taken
+-- ---------------------------------------------------------------- if none is open, all are taken
 
 taken_at : (k : Kept) (heard : Shorts) (a : ℕ) → is_open k heard a ≡ false → HasAddress k.reserved a ⊎ (HasAddress k.enrolled a ⊎ (has_short heard a ≡ true))
 taken_at k heard a is =
@@ -374,7 +374,7 @@ roll_most silent drawn lost bare split = go (drawn + lost) refl where
       let most = hunted_most drawn lost in
       rw (roll_some silent drawn lost (omega (arith, is))) (omega (arith, most, split))
 
--- nobody is lost, or those that never drew follow
+-- no gear is lost, or those that never drew follow
 pub called_roll : (drawn lost : ℕ) → drawn ≡ 0 → roll_frames false drawn lost ≡ called_after lost + 1
 called_roll drawn zero none = roll_none false drawn zero (omega (arith, none))
 called_roll drawn (suc lost) none =

@@ -112,7 +112,7 @@ given_undrawn g o false is none some = go (g.random == MASK24) refl where
   go true mask = rw (some refl mask) refl
   go false mask = refl
 
--- an address is stored where there was none, or one is kept
+-- an address is stored if there was none, or one is kept
 stored : (g : Gear) (a : ℕ) (b : Bool) → is_undrawn g ≡ false → (g.random == MASK24) ≡ true → is_some (if b then Some a else g.short) ≡ true
 stored g a true is mask = refl
 stored g a false is mask = go (is_some g.short) refl is where
@@ -268,7 +268,7 @@ still_program g r a seek small is on = (go (is_active g.state) refl, refl) where
   go true active = rw (active, unfound g r none.0 (seek on active) small) none.1
   go false off = rw off none.1
 
--- the number that is searched, where the frame asks for it
+-- the number that is searched, if the frame asks for it
 abbrev pub IsSoughtBy : List Gear → Command → Type 0
 IsSoughtBy gs Compare = (r : SearchAddress) × Seek gs r × (value_of r < MASK24)
 IsSoughtBy gs QueryShort = (r : SearchAddress) × Seek gs r × (value_of r < MASK24)

@@ -163,14 +163,14 @@ uncontradicted w c t agree there kept found x is contradicts =
 abbrev ActsTo : Begun → Machine → Order → List Gear → ℕ → Option Order → Option Input → Type 0
 ActsTo start n o gs left last told = IsNext start n o gs left × (survey_slack (Some o) None + 1 ≤ survey_slack last told)
 
--- the first frame of a transaction finds nobody
+-- the first frame of a transaction finds no gear
 first_finds : (c : Command) (h : Answer) → finding_at (next_stage stage.Free c h) ≡ None
 first_finds (RandomByte a High) h = refl
 first_finds (RandomByte a Middle) h = refl
 first_finds (RandomByte a Low) h = refl
 first_finds _ h = refl
 
--- so whoever is enrolled was found by a later one
+-- so the gear that is enrolled was found by a later one
 enrols_late : (start : Begun) (m : Machine) (p b r : ℕ) (f : Forward) (h : Answer) (gs : List Gear) (left : ℕ) → Hears start m p f h gs left
     → IsGivenBy (machine_heard m (Some f) h) (Commit (Enrol b r)) → p ≡ LATER
 enrols_late start m p b r f h gs left hears g = go hears.put where

@@ -89,9 +89,9 @@ drawn_turns start t o gs left g st last is v =
         → 106 * count_by is_bare gs + 26 ≤ left
     frames enough = omega (arith, enough)
 
--- ---------------------------------------------------------------- nobody is left
+-- ---------------------------------------------------------------- no gear is left
 
--- where nobody is left of those that drew, gear without short address have none yet
+-- if no gear is left of those that drew, gear without short address have none yet
 none_but : (gs : List Gear) → OfPowered (those_drawn gs) HasShort → NoneDrawn gs
 none_but gs all k in_row on none = go (is_undrawn (gear_of gs k)) refl where
   go : (b : Bool) → is_undrawn (gear_of gs k) ≡ b → (gear_of gs k).random ≡ MASK24
@@ -138,7 +138,7 @@ nothing_open t e = go (least_open t.kept t.heard) e where
   go None e = refl
   go (Some a) e = absurd (cc)
 
--- what is known where a hunt is over
+-- what is known when a hunt is over
 record IsOver (start : Begun) (t : Machine) (h : Answer) (gs : List Gear) (left : ℕ) : Type 0 where
   smooth : IsSmooth t.course
   opened : t.course.opened ≡ true
@@ -153,7 +153,7 @@ record IsOver (start : Begun) (t : Machine) (h : Answer) (gs : List Gear) (left 
   tabled : AreTabled (unseen start.gear) t.kept.enrolled (those_drawn gs)
   frames : 1 + hunted_after (t.course.ascent.found + count_by is_wanted (those_drawn gs)) (count_by is_lost gs) ≤ left
 
--- what follows where nobody was found
+-- what follows if no gear was found
 pub vain_next : (t : Machine) (h : Answer) (a b : Bool) → next_course t ≡ undrawn t (hunted t.course h) → has_open t ≡ a → nat_lt t.course.tally.draws 3 ≡ b
     → next_course t ≡ (if a then (if b then drawing (hunted t.course h) else closing_by (hunted t.course h) GaveUp) else full t (hunted t.course h))
 vain_next t h a b next free few =
@@ -161,7 +161,7 @@ vain_next t h a b next free few =
     else full t (hunted t.course h)) free
     ∙ ap (λ q. if a then (if q then drawing (hunted t.course h) else closing_by (hunted t.course h) GaveUp) else full t (hunted t.course h)) few
 
--- nobody was found: those that never drew do, or no address is open
+-- no gear was found: those that never drew do, or no address is open
 vain_over : (start : Begun) (t : Machine) (o : Order) (h : Answer) (r : SearchAddress) (room : ℕ) (gs : List Gear) (left : ℕ) → Calm t
     → o ≡ question (next_course t) r room → next_course t ≡ undrawn t (hunted t.course h) → t.course.ascent.found ≡ 0 → IsOver start t h gs left
     → IsNext start (machine_ordered t o) o gs left
@@ -228,7 +228,7 @@ vain_over start t o h r room gs left calm asks next none v = go (has_open t) ref
       count : (lost : ℕ) → 106 * lost + 34 ≤ left → 1 ≤ left + 0
       count lost enough = omega (arith, enough)
 
--- somebody was: the roll is called
+-- some gear was: the roll is called
 found_over : (start : Begun) (t : Machine) (o : Order) (h : Answer) (r : SearchAddress) (room : ℕ) (gs : List Gear) (left : ℕ) → Calm t
     → o ≡ question (next_course t) r room → next_course t ≡ calling (hunted t.course h) → 0 < t.course.ascent.found → IsOver start t h gs left
     → IsNext start (machine_ordered t o) o gs left
@@ -353,7 +353,7 @@ hunting_turns start t o (stage.Hunted r (Some h) room) gs left g st purpose is r
       (ap (bytes_to_send (sought (asked_next (ascended t.course.ascent (is_yes h))))) stood
       ∙ bytes_same (asked_next (ascended t.course.ascent (is_yes h))) (asked_next t.course.ascent))
 
-  -- nobody is found by a question
+  -- no gear is found by a question
   found : (hunted t.course h).ascent.found ≡ t.course.ascent.found
   found = found_same t.course.ascent (is_yes h)
 

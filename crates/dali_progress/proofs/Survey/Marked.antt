@@ -49,7 +49,7 @@ use Rattle.dali_progress.proofs.Survey.Goes.{of_survey, sends_now, argument, one
 use Rattle.dali_progress.proofs.Gives.{Gives, frame_gives}
 use Rattle.dali_progress.proofs.Surveying.{heard_high, with_other, without_same, without_other}
 
--- WHAT A SURVEY HAS MARKED, SOMEBODY HAS, where nothing is disturbed.
+-- WHAT A SURVEY HAS MARKED, GEAR HAS, if nothing is disturbed.
 
 -- some gear has the short address, with power or without
 abbrev pub IsHeld : List Gear → ℕ → Type 0
@@ -180,7 +180,7 @@ none_marked s c alone m there =
     (same_some (machine_at s c) (at_first c (controller_at (world s) c).records) m alone.machine there)
     (λ a small has. absurd (let both : true ≡ false = sym has ∙ ap (λ n. n == 1) (bit_at-zero a) in cc)))
 
--- AT THE END somebody has each address that is marked
+-- AT THE END some gear has each address that is marked
 pub end_held : (start : Begun) (s : SiteState) (c left : ℕ) (es : List Event) (e : End) → IsAlone s c → (u : Runs (of_survey start) s c left)
     → Rounds true s c es → HasEnded (site_after s es) c e → (m : Machine) → machine_at (site_after s es) c ≡ Some m
     → AreHeld m.heard (world (site_after s es)).gear

@@ -45,8 +45,8 @@ use Rattle.dali_progress.proofs.Survey.Goes.{Hears, of_survey, sends_now}
 use Rattle.dali_progress.proofs.Surveying.{NoneDrawn, woken_at}
 use Rattle.dali_progress.proofs.Tables.{LeavesNames}
 
--- THE NUMBERS THAT GEAR DRAW in a survey: where there is one for each gear with power and without short address, they are never
--- spent. Gear draw once, where none without short address has a number; afterwards each has one.
+-- THE NUMBERS THAT GEAR DRAW in a survey: if there is one for each gear with power and without short address, they are never
+-- spent. Gear draw once, if none without short address has a number; afterwards each has one.
 
 -- THERE IS A NUMBER FOR EACH GEAR with power and without short address, while one of them has no number
 abbrev pub HasNumbers : Machine → List Gear → List ℕ → Type 0
@@ -90,7 +90,7 @@ lost_back _ g x plain lost = lost
 abbrev IsFewer : List Gear → List ℕ → Command → Type 0
 IsFewer gs numbers d = count_by is_bare (row_after Everyone d 0 gs numbers) ≤ count_by is_bare gs
 
--- what is said of a frame: there are numbers enough for it, and afterwards for those to come, where the survey goes on so
+-- what is said of a frame: there are numbers enough for it, and afterwards for those to come, if the survey goes on so
 abbrev IsEnough : Machine → List Gear → List ℕ → Command → Type 0 → Type 0
 IsEnough m gs numbers d After =
     (draws_needed Everyone d 0 gs ≤ length numbers)
@@ -114,7 +114,7 @@ plain_enough m gs numbers d After plain has = (
 
 -- ---------------------------------------------------------------- gear draw
 
--- where none without short address has a number, there are numbers
+-- if none without short address has a number, there are numbers
 enough_bare : (m : Machine) (gs : List Gear) (numbers : List ℕ) → NoneDrawn gs → HasNumbers m gs numbers
     → count_by is_bare gs ≤ length numbers
 enough_bare m gs numbers undrawn has = go (nat_le (count_by is_bare gs) (length numbers)) refl where

@@ -42,11 +42,11 @@ one_gear gs one g h a first second = one g h a first.there second.there first.sh
 abbrev pub IsTrue : List Assignment → List Gear → Type 0
 IsTrue xs gs = (a r : ℕ) → Has xs (a, r) → (g : ℕ) × (g < length gs) × ((gear_of gs g).short ≡ Some a) × ((gear_of gs g).random ≡ r)
 
--- whoever has an address that is reserved has the number that it is reserved for
+-- the gear that has an address that is reserved has the number that it is reserved for
 abbrev pub AreOwned : List Assignment → List Gear → Type 0
 AreOwned reserved gs = (a r g : ℕ) → Has reserved (a, r) → g < length gs → (gear_of gs g).short ≡ Some a → (gear_of gs g).random ≡ r
 
--- what is known of the records and of the gear, whoever is misheard
+-- what is known of the records and of the gear, whichever gear is misheard
 pub record IsAtHand (k : Kept) (gs : List Gear) : Type 0 where
   pub kept : IsKept k
   pub block : (a : ℕ) → InBlock k.block a → a < 64
@@ -240,7 +240,7 @@ passed_before start gs g a same h short passed =
     go each (inr (inl mask)) = inr (inl (sym each.same_random ∙ mask))
     go each (inr (inr large)) = inr (inr large)
 
--- and this one, where whoever has it is in the table, or drew no number
+-- and this one, if the gear that has it is in the table, or drew no number
 pub below_next : (b : ℕ) (start : List Gear) (xs ys : List Assignment) (gs : List Gear) → SameCore start gs → TabledBelow b start xs gs
     → ((x : Assignment) → Has xs x → Has ys x)
     → ((g : ℕ) → Holds gs g b → ((gear_of gs g).random ≡ MASK24) ⊎ Has ys (b, (gear_of gs g).random)) → TabledBelow (b + 1) start ys gs

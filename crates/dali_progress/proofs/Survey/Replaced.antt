@@ -25,7 +25,7 @@ use Rattle.dali_progress.proofs.Gives.{Gives}
 use Rattle.dali_progress.proofs.Survey.Given.{all_give}
 use Rattle.dali_progress.proofs.Survey.Vacant.{IsOver, over, enough_found}
 
--- A NEW GEAR IS SERVED in a survey, where an address is vacant, and the others keep what they have.
+-- A NEW GEAR IS SERVED in a survey, if an address is vacant, and the others keep what they have.
 
 -- ---------------------------------------------------------------- what is known at the end
 

@@ -47,7 +47,7 @@ pub bytes_same : (a b : ℕ) → bytes_to_send (sought a) (sought b) ≡ bytes_a
 unfolding bytes_apart
 bytes_same a b = omega arith
 
--- one byte is sent, or COMPARE where all are those of the number
+-- one byte is sent, or COMPARE if all are those of the number
 pub record ByteSent (n r : SearchAddress) (last : Option Answer) (left : ℕ) (c : Command) (h : Answer) : Type 0 where
   pub number : SearchAddress
   pub next : next_stage (stage.Hunted r last left) c h ≡ stage.Hunted number None (left - 1)
@@ -114,7 +114,7 @@ knows_same gs hs x same knows = record {
   below = λ small. let at = knows.below small in (at.0, same at.0 ∙ at.1, at.2);
 }
 
--- the same search, where the gear are the same but for what they seek
+-- the same search, if the gear are the same but for what they seek
 rises_on : (s t : Stage) (x : Ascent) (n : SearchAddress) (gs hs : List Gear) (left l : ℕ) (v : Rises false s x n gs left) → SameCore gs hs
     → RiseStage true t x n v.before hs
     → v.budget + after_rise (count_by is_wanted gs) + pending true t n ≤ l + frames_to_ask v.before (asked_next x) → Rises true t x n hs l
@@ -252,7 +252,7 @@ knows_told has x false knows gives = record {
   above m true less member = grind (arith, nat_tests)
   above m false less member = absurd (gives (m, member, let most : m ≤ asked_next x = grind (arith, nat_tests) in most))
 
--- somebody is wanted, or nobody is
+-- gear is wanted, or none is
 unbounded_where : (gs : List Gear) (x : Ascent) → Knows (wants gs) x → ((m : ℕ) → wants gs m ≡ true → ⊥) → is_bounded x ≡ false
 unbounded_where gs x knows none = go (is_bounded x) refl where
   go : (b : Bool) → is_bounded x ≡ b → is_bounded x ≡ false
@@ -395,7 +395,7 @@ rises_in x q gs left r h room v again at room_is some = record {
   costs : frames_to_ask q (asked_next x) ≡ bytes_apart q.number (asked_next x) + 1
   costs = rw some refl
 
--- somebody is found, the least who is wanted
+-- gear is found, the least that is wanted
 pub record IsReachedAt (x : Ascent) (m : ℕ) (gs : List Gear) (left : ℕ) : Type 0 where
   pub wanted_is : wants gs m ≡ true
   pub drawn : m < MASK24
@@ -420,7 +420,7 @@ rise_found x q gs left m v is = go (count_by is_wanted gs) refl v.frames where
     frames = omega (arith, frames);
   }
 
--- nobody is: each gear with power has a short address
+-- no gear is: each gear with power has a short address
 pub rise_nobody : (x : Ascent) (q : Asking) (gs : List Gear) (left : ℕ) → Answered x q gs left → leads_to x ≡ Nobody → OfPowered gs HasShort × (1 ≤ left)
 rise_nobody x q gs left v is = (
   nobody_short gs v.ready (subst (Says (wants gs)) is (says_found (wants gs) x v.way.way.is (λ k has. wanted.wanted_below gs k v.ready has) v.knows)),

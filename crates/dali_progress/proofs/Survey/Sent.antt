@@ -336,7 +336,7 @@ hunt_low Hunting s k x n gs left c hunt at is =
 hunt_low Visiting s k x n gs left c hunt at is = visiting_low s k n gs left c at.0 is
 hunt_low _ s k x n gs left c hunt at is = absurd hunt
 
--- somebody is without short address still
+-- some gear is without short address still
 hunt_called : (p : Purpose) (s : Stage) (k : Kept) (x : Ascent) (n : SearchAddress) (gs : List Gear) (numbers : List ℕ) (left : ℕ) (c : Command) → IsHunt p
     → HuntAt false p s k x n (those_drawn gs) left → Sends p n k s c → IsCalledFor p x gs → IsCalledFor p x (row_after Everyone c 0 gs numbers)
 hunt_called Hunting s k x n gs numbers left c hunt at is called =

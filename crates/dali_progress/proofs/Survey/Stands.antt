@@ -35,7 +35,7 @@ use Rattle.dali_progress.proofs.Survey.Woken.{AreLow}
 use Rattle.dali_progress.proofs.Survey.Queried.{Nobody, TabledBelow, unseen}
 use Rattle.dali_progress.proofs.Surveying.{IsRollCall, IsDraw, call_sent, draw_left, IsAskedOf, IsClear}
 
--- HOW FAR A SURVEY IS, where nothing is disturbed. `start` are the gear at its start.
+-- HOW FAR A SURVEY IS, if nothing is disturbed. `start` are the gear at its start.
 
 -- how it began: with which gear and records
 pub record Begun : Type 0 where
@@ -49,7 +49,7 @@ pub record Begun : Type 0 where
 abbrev pub survey_frames : List Gear → ℕ
 survey_frames gs = 106 * count_by is_bare gs + 66
 
--- and so many the short address that is asked: three where it is silent, and three where it tells its random address
+-- and so many the short address that is asked: three if it is silent, and three if it tells its random address
 abbrev pub silent_left : ℕ → ℕ
 silent_left zero = 0
 silent_left (suc k) = 2 - k
@@ -85,9 +85,9 @@ pub record Counts (a : ℕ) (s : Stage) (k : Kept) (heard : Shorts) (asked from 
 
 -- ---------------------------------------------------------------- the frames of the roll call, and of what follows it
 
--- After a hunt in which nobody is left, but for one frame of it, which is counted with the hunt. Where it found somebody, the
--- roll is called: twice, and the close comes; or those who never drew are heard, and draw after a hunt in vain. Where it found
--- nobody, these draw.
+-- After a hunt in which no gear is left, but for one frame of it, which is counted with the hunt. If it found some gear, the
+-- roll is called: twice, and the close comes; or those that never drew are heard, and draw after a hunt in vain. If it found
+-- no gear, these draw.
 abbrev pub called_after : ℕ → ℕ
 called_after zero = 16
 called_after (suc lost) = 106 * suc lost + 49
@@ -137,7 +137,7 @@ abbrev pub IsSettledBut : Purpose → SearchAddress → Kept → Type 0
 IsSettledBut Visiting n k = (x : Assignment) → Has k.reserved x → Has k.enrolled x ⊎ (x.1 ≡ value_of n)
 IsSettledBut p n k = IsSettled k
 
--- a hunt that found nobody yet began since somebody was heard
+-- a hunt that found no gear yet began since some gear was heard
 abbrev pub IsCalledFor : Purpose → Ascent → List Gear → Type 0
 IsCalledFor Hunting x gs = x.found ≡ 0 → 0 < count_by is_bare gs
 IsCalledFor p x gs = Unit {0}
@@ -211,7 +211,7 @@ HuntAt told Visiting s k x n gs left = VisitsAt s k n gs left × IsReached s x n
 HuntAt told _ s k x n gs left = ⊥
 
 -- The frames of visits are those of a start, so they count 111 for each gear that is still to be found. The search that goes up
--- needs 106 for each, and some more where it ends: so many gear are behind, and five frames less for each of them.
+-- needs 106 for each, and some more if it ends: so many gear are behind, and five frames less for each of them.
 abbrev pub surplus : Purpose → ℕ
 surplus Visiting = 27
 surplus p = 0
@@ -239,7 +239,7 @@ pub record Hunts (told : Bool) (p : Purpose) (s : Stage) (k : Kept) (heard : Sho
 
 -- ---------------------------------------------------------------- the close
 
--- what an end says, by records and marks; where the block is full, some gear is left without address
+-- what an end says, by records and marks; if the block is full, some gear is left without address
 abbrev pub AreTaken : Kept → Shorts → Type 0
 AreTaken k heard =
     (a : ℕ) → InBlock k.block a → HasAddress k.reserved a ⊎ (HasAddress k.enrolled a ⊎ (has_short heard a ≡ true))
@@ -270,7 +270,7 @@ SurveyAt told Probing s k heard asked c start gs left = ⊥
 SurveyAt told PassingOver s k heard asked c start gs left = ⊥
 SurveyAt told (Resolving a) s k heard asked c start gs left = ⊥
 
--- where no visit fails, nobody is passed over, and no short address is asked again
+-- if no visit fails, no gear is passed over, and no short address is asked again
 pub record IsSmooth (c : Course) : Type 0 where
   pub way : c.way ≡ Surveying
   pub passed : c.tally.passed ≡ none_passed

@@ -114,7 +114,7 @@ told_turns start t o a b n gs left g st purpose is uncalled v hand agrees = go (
   sought : n < MASK24 → IsSought t.course.purpose t.course.number n
   sought small = subst (λ p. IsSought p t.course.number n) (sym purpose) small
 
-  -- the next short address, where whoever has this one is in the table, or has no number that gear draw
+  -- the next short address, if the gear that has this one is in the table, or has no number that gear draw
   goes : (q : Order) → q ≡ beginning (next_course t)
       → ((i : ℕ) → Holds gs i a → ((gear_of gs i).random ≡ MASK24) ⊎ Has t.kept.enrolled (a, (gear_of gs i).random))
       → IsNext start (machine_ordered t q) q gs left
@@ -202,14 +202,14 @@ heard_next t r h room b is purpose said stuck =
     called_next t r h room true is purpose said
     ∙ ap (λ y. if y then blocked t else hunting_first (record t.course { tally = heard_call t.course.tally })) stuck
 
--- nobody was passed over
+-- no gear was passed over
 unblocked : (y : Tally) → y.passed ≡ none_passed → is_blocked y ≡ false
 unblocked y none = ap (λ p. not (nat_lt y.calls 3) && is_some_passed p) none ∙ both (not (nat_lt y.calls 3)) where
   both : (b : Bool) → (b && false) ≡ false
   both true = refl
   both false = refl
 
--- nobody is without short address: the roll is called once more, or the close comes
+-- no gear is without short address: the roll is called once more, or the close comes
 silent_call_turns : (start : Begun) (t : Machine) (o : Order) (r : SearchAddress) (h : Answer) (room : ℕ) (gs : List Gear) (left : ℕ)
     → SurveyStands true start t gs left → t.course.purpose ≡ Calling → stage_of t.trace ≡ stage.Hunted r (Some h) room
     → Calls (stage.Hunted r (Some h) room) t.kept t.heard t.course start gs left → o ≡ beginning (next_course t) → is_yes h ≡ false
@@ -255,7 +255,7 @@ silent_call_turns start t o r h room gs left st purpose is v begins said nobody 
         count : 17 ≤ left + (8 - room) → 9 ≤ left + 0
         count enough = omega (arith, enough)
 
--- somebody is: who drew a number is searched
+-- some gear is: if it drew a number it is searched
 heard_call_turns : (start : Begun) (t : Machine) (o : Order) (r : SearchAddress) (h : Answer) (room : ℕ) (gs : List Gear) (left : ℕ)
     → SurveyStands true start t gs left → t.course.purpose ≡ Calling → stage_of t.trace ≡ stage.Hunted r (Some h) room
     → Calls (stage.Hunted r (Some h) room) t.kept t.heard t.course start gs left → AreNumbered gs → o ≡ beginning (next_course t) → is_yes h ≡ true

@@ -31,7 +31,7 @@ use Rattle.dali_progress.proofs.Gives.{Gives, bare_before}
 use Rattle.dali_progress.proofs.Survey.Given.{all_give}
 use Rattle.dali_progress.proofs.Survey.Marked.{IsHeld, AreHeld, end_held}
 
--- WHERE AN ADDRESS IS VACANT FOR EACH GEAR WITHOUT, a survey ends with all-found.
+-- IF AN ADDRESS IS VACANT FOR EACH GEAR WITHOUT, a survey ends with all-found.
 
 -- ---------------------------------------------------------------- counts
 
@@ -45,7 +45,7 @@ two_at_most false true false m n k first second never few = absurd (let both : f
 two_at_most false false true m n k first second never few = omega (arith, few)
 two_at_most false false false m n k first second never few = omega (arith, few)
 
--- where no gear passes two tests, and each that passes one of them passed a third before
+-- if no gear passes two tests, and each that passes one of them passed a third before
 two_counts : (p q r : Gear → Bool) (gs hs : List Gear) → length hs ≡ length gs
     → ((k : ℕ) → k < length gs → p (gear_of hs k) ≡ true → r (gear_of gs k) ≡ true)
     → ((k : ℕ) → k < length gs → q (gear_of hs k) ≡ true → r (gear_of gs k) ≡ true)
@@ -92,7 +92,7 @@ or_right : (a b : Bool) → b ≡ true → (a || b) ≡ true
 or_right true b is = refl
 or_right false b is = is
 
--- as many as addresses, where somebody has each of them
+-- as many as addresses, if some gear has each of them
 all_counted : (xs : List ℕ) (gs : List Gear) → IsOnce xs → ((a : ℕ) → Has xs a → IsHeld gs a) → length xs ≤ count_by (has_one xs) gs
 all_counted [] gs once held = omega arith
 all_counted (x ∷ xs) gs once held =
@@ -116,7 +116,7 @@ all_counted (x ∷ xs) gs once held =
 
 -- ---------------------------------------------------------------- who is left
 
--- whoever has an address that was vacant had none before, so fewer are left
+-- the gear that has an address that was vacant had none before, so fewer are left
 fewer_left : (b : Block) (gs hs : List Gear) (xs : List ℕ) → Gives b gs hs → IsOnce xs
     → ((a : ℕ) → Has xs a → (k : ℕ) → k < length gs → (gear_of gs k).short ≡ Some a → ⊥) → ((a : ℕ) → Has xs a → IsHeld hs a)
     → count_by is_bare hs + length xs ≤ count_by is_bare gs
@@ -141,7 +141,7 @@ fewer_left b gs hs xs gives once vacant held =
 
 -- ---------------------------------------------------------------- the block is never full
 
--- an address that is taken somebody has
+-- an address that is taken some gear has
 taken_held : (m : Machine) (gs : List Gear) (a : ℕ) → a < 64 → IsSettled m.kept → ((b r : ℕ) → Has m.kept.enrolled (b, r) → IsHeld gs b)
     → AreHeld m.heard gs → HasAddress m.kept.reserved a ⊎ (HasAddress m.kept.enrolled a ⊎ (has_short m.heard a ≡ true)) → IsHeld gs a
 taken_held m gs a small settled entries marks (inl reserved) =

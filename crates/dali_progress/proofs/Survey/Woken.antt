@@ -76,7 +76,7 @@ count_there p [] k h is = absurd (omega (arith, h))
 count_there p (g ∷ gs) zero h is = rw (count_first p g gs, is) (omega arith)
 count_there p (g ∷ gs) (suc k) h is = let rest = count_there p gs k (omega (arith, h)) is in rw (count_first p g gs) (omega (arith, rest))
 
--- where none is bare, each has a short address
+-- if none is bare, each has a short address
 pub all_short : (gs : List Gear) → count_by is_bare gs ≡ 0 → OfPowered gs HasShort
 all_short gs none k h on = go (gear_of gs k).short refl where
   go : (o : Option ℕ) → (gear_of gs k).short ≡ o → HasShort (gear_of gs k)
@@ -120,7 +120,7 @@ stays_initialised c gs numbers is all k in_row on =
     after_at c (λ g h. (g.powered ≡ true → IsOpening stage.Initialised g) → h.powered ≡ true → IsOpening stage.Initialised h)
     (λ g off was up. absurd (off up)) (λ g x up was still. asks_initialised c g x is (was up)) gs numbers k there (all k there) on
 
--- then who has no short address is wanted, and nobody else
+-- then gear without short address is wanted, and no other
 pub woken_count : (gs : List Gear) → AreOpening stage.Initialised gs → count_by is_wanted gs ≡ count_by is_bare gs
 woken_count gs all =
     count_same is_bare is_wanted gs gs refl (λ k h. wanted.same_tests (is_wanted (gear_of gs k)) (is_bare (gear_of gs k)) (named k h) (woken k h)) where
@@ -141,7 +141,7 @@ silent_or Silence = inl (refl, refl)
 silent_or (Byte v) = inr (refl, λ e. cc)
 silent_or Damaged = inr (refl, λ e. cc)
 
--- COMPARE under FFFFFF is answered where somebody has no short address
+-- COMPARE under FFFFFF is answered if some gear has no short address
 pub called_answer : (gs : List Gear) (r : SearchAddress) (h : Answer) → AreOpening stage.Initialised gs → AreNumbered gs → Seek gs r → value_of r ≡ MASK24
     → h ≡ heard_of (answers_of Everyone Compare 0 gs)
     → ((is_yes h ≡ false) × (count_by is_bare gs ≡ 0)) ⊎ ((is_yes h ≡ true) × (0 < count_by is_bare gs))
@@ -190,7 +190,7 @@ opened_lost gs all = count_nothing is_lost gs (λ k h lost.
     let mask : (gear_of gs k).random ≡ MASK24 = none.0 in
     omega (arith, less, mask))
 
--- ---------------------------------------------------------------- nobody is to be searched
+-- ---------------------------------------------------------------- no gear is to be searched
 
 -- the low byte that was sent last is one
 abbrev pub AreLow : List Gear → Type 0
@@ -239,7 +239,7 @@ low_sent byte gs numbers small all k in_row on =
       by : (g : Gear) → IsOpening stage.Initialised g → g.short ≡ None → (search_after (SearchLow byte) g).low < 256
       by g was none = let enabled : g.state ≡ Enabled = was.1.0 none in rw enabled small
 
--- so nobody answers under FFFExx who never drew
+-- so no gear answers under FFFExx that never drew
 silent_one : (g : Gear) (high middle : ℕ) → IsOpening stage.Initialised g → (g.short ≡ None → g.random ≡ MASK24) → (g.short ≡ None → g.search.low < 256)
     → (is_active g.state ≡ true → (g.search.high ≡ high) × (g.search.middle ≡ middle)) → high < 256 → middle < 255 → answer Compare g ≡ None
 silent_one g high middle was mask low seek small less = go (is_enabled g.state) refl where
