@@ -65,7 +65,7 @@ fn looks(alloc: Global, directory: &Directory, ended: &AtomicBool) -> (u32, u64)
     (rounds, seen)
 }
 
-/// Asks the line what is due until the end, by a port that is nobody's. How often it asked, in rounds of 64.
+/// Asks the line what is due until the end, by a port of no worker. How often it asked, in rounds of 64.
 fn asks<P0: Ledger, P1: Ledger, P2: Ledger, P3: Ledger, D: Ledger, R: Wait>(
     rt: &R,
     line: &Line<P0, P1, P2, P3, D>,

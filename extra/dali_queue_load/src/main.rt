@@ -52,7 +52,7 @@ fn send(arbiter: &mut Arbiter, capacity: u32) -> u32
     capacity
 }
 
-/// Offers so many requests in all, and sends what waits. How many were sent; `None` where there is no such queue.
+/// Offers so many requests in all, and sends what waits. How many were sent; `None` if there is no such queue.
 fn load(alloc: Global, offers: u32, capacity: u32) -> Option<u64> {
     let mut arbiter = Arbiter::new(alloc, capacity as usize).ok()?;
     let mut draws = Pcg32::seed_from_u64(1);

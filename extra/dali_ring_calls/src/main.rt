@@ -66,7 +66,7 @@ fn call(ring: &mut Ring<Item>, word: u32, new: u32) -> (u8, u8, u8, u64) {
     }
 }
 
-/// Calls a ring so often. The error is 1 where there is no memory, 2 where nothing can be written.
+/// Calls a ring so often. The error is 1 if there is no memory, 2 if nothing can be written.
 fn calls<R: Print>(rt: &R, alloc: Global, capacity: usize, times: u32) -> Result<(), u8> {
     let Ok(mut ring) = Ring::new(alloc, capacity) else {
         return Err(1);
@@ -81,7 +81,7 @@ fn calls<R: Print>(rt: &R, alloc: Global, capacity: usize, times: u32) -> Result
     Ok(())
 }
 
-/// The number that the program is given; nothing, where it is given none.
+/// The number that the program is given; nothing, if it is given none.
 fn times(rt: &HostRuntime) -> Option<u32> {
     let Ok(mut words) = env::args(rt) else {
         return None;

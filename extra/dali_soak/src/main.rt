@@ -177,7 +177,7 @@ impl<P0: Ledger, P1: Ledger, P2: Ledger, P3: Ledger, D: Ledger> Gate
     }
 }
 
-/// The bus's turn, if there is one. Where all is over, and no controller is to be brought up, one goes down, and the
+/// The bus's turn, if there is one. If all is over, and no controller is to be brought up, one goes down, and the
 /// session ends. Whether it goes on.
 fn goes_on<P0: Ledger, P1: Ledger, P2: Ledger, P3: Ledger, D: Ledger, R: Wait>(
     rt: &R,
@@ -413,7 +413,7 @@ struct Played {
     turnover: Turnover,
 }
 
-/// A session. It is right only where what each thread noted is what the log has of it.
+/// A session. It is right only if what each thread noted is what the log has of it.
 fn session<P0, P1, P2, P3, D, R>(
     rt: &R,
     alloc: Global,

@@ -70,7 +70,7 @@ fn draw_gear(draws: &mut Pcg32, lows: Lows, byte: u8, begin: u32) -> Gear {
     }
 }
 
-/// When the level that comes begins, far away where a gear has sent all.
+/// When the level that comes begins, far away if a gear has sent all.
 fn next(gear: &Gear) -> u32 {
     match gear.coming {
         Some(false) if gear.is_low => gear.begin + gear.late - gear.early,
@@ -86,7 +86,7 @@ fn change(gear: &mut Gear) {
     gear.begin += gear.half;
 }
 
-/// What a window tells of a bus that is low where one of them is.
+/// What a window tells of a bus that is low while one of them is.
 fn heard(gear: &mut [Gear]) -> Option<Answer> {
     let mut window = Window::new();
     let mut last = 0;
@@ -111,7 +111,7 @@ fn heard(gear: &mut [Gear]) -> Option<Answer> {
     None
 }
 
-/// Counts what was told: a byte is right where each gear sent it, silence and nothing never.
+/// Counts what was told: a byte is right if each gear sent it, silence and nothing never.
 fn count(counts: &mut Counts, gear: &[Gear], told: Option<Answer>) {
     match told {
         Some(Answer::Byte(byte)) if gear.iter().all(|it| it.byte == byte) => counts.bytes += 1,
@@ -144,7 +144,7 @@ fn counted(draws: &mut Pcg32, lows: Lows, together: usize, times: u32) -> Counts
     counts
 }
 
-/// The number that the program is given; nothing, where it is given none.
+/// The number that the program is given; nothing, if it is given none.
 fn times(rt: &HostRuntime) -> Option<u32> {
     let Ok(mut words) = env::args(rt) else {
         return None;

@@ -1,5 +1,5 @@
 //! Captures of this project's own controllers, on simulated sites: they break no rule, and the gear may have answered
-//! so; where something is disturbed, that alone is told.
+//! so; if something is disturbed, that alone is told.
 
 use super::captures::{Capture, told};
 use dali_audit::{Judgement, Kind};

@@ -22,7 +22,7 @@ pub fn other(at: u64, until: u64, what: Heard) -> Item {
     Item { at, until, what }
 }
 
-/// Fails where the items of a text are not these. The wire of a dump is the one of this name.
+/// Fails if the items of a text are not these. The wire of a dump is the one of this name.
 pub fn tells_of<R: Abort + AllocGlobal>(
     rt: &R,
     wire: Option<&str>,
@@ -47,7 +47,7 @@ pub fn tells<R: Abort + AllocGlobal>(rt: &R, text: &str, wanted: &[Item]) {
     tells_of(rt, None, false, text, wanted);
 }
 
-/// Fails where a text has another first mistake than this one, in this line.
+/// Fails if a text has another first mistake than this one, in this line.
 pub fn is_bad_of<R: Abort + AllocGlobal>(
     rt: &R,
     wire: Option<&str>,

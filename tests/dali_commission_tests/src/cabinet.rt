@@ -16,7 +16,7 @@ enum Lying {
     Text(String),
 }
 
-/// Files in memory, of which so many more may be written, renamed or removed; all where nothing is said.
+/// Files in memory, of which so many more may be written, renamed or removed; all if nothing is said.
 #[derive(Drop)]
 pub struct Cabinet {
     alloc: Global,
@@ -70,7 +70,7 @@ impl Cabinet {
         }
     }
 
-    /// From now on so many files may be written, renamed or removed; all where nothing is said.
+    /// From now on so many files may be written, renamed or removed; all if nothing is said.
     pub fn limit(&self, left: Option<u32>) {
         if let Ok(mut now) = self.left.try_borrow_mut() {
             *now = left;
@@ -117,7 +117,7 @@ impl Cabinet {
         }
     }
 
-    /// The records of a name, none where it has none.
+    /// The records of a name, none if it has none.
     fn records(&self, name: &str) -> Result<Vec<(u8, u8, u32)>, Failure> {
         let Ok(files) = self.files.try_borrow() else {
             return Err(REFUSED);

@@ -78,7 +78,7 @@ fn found<R: Abort + AllocGlobal>(rt: &R) -> String {
 /// How many searches there are with the question for the short address behind them.
 const SEARCHES: u8 = 26;
 
-/// What it answers then, where the gear is programmed with short address 0 and withdrawn, and no other is left; and to
+/// What it answers then, if the gear is programmed with short address 0 and withdrawn, and no other is left; and to
 /// one run more.
 const GIVEN: &str = "\
 silence\nsilence\nsilence\nbyte FF\nsilence\nbyte 01\nsilence\n\
@@ -182,7 +182,7 @@ fn one_newcomer_is_told_from_none_and_from_two_and_given_nothing(rt: HostRuntime
         for number in 0..count {
             assert!(rt; matches!(bus.gear(number), Some((_, None))));
         }
-        // One is given 5. It is no newcomer any more, and a survey that has no other address to give looks for nobody.
+        // One is given 5. It is no newcomer any more, and a survey that has no other address to give looks for no gear.
         let mut keep = MemoryKeep::new(Block {
             first: five,
             last: five,

@@ -118,7 +118,7 @@ fn a_luminaire_is_replaced_in_one_file_or_two(rt: HostRuntime) {
     }
 }
 
-/// Wherever the exchange of the files is stopped, the same line goes on, also where the new luminaire has the address.
+/// Wherever the exchange of the files is stopped, the same line goes on, also if the new luminaire has the address.
 #[test]
 fn a_replacement_goes_on_after_each_step_that_fails(rt: HostRuntime) {
     for left in 0..8u32 {

@@ -112,7 +112,7 @@ fn words_that_ask_for_nothing_are_refused(rt: HostRuntime) {
     }
 }
 
-/// What is said last where no gear was heard.
+/// What is said last if no gear was heard.
 const NOBODY: &str = "nobody answered: is the interface connected, is the bus powered?\n";
 
 #[test]
@@ -128,7 +128,7 @@ fn a_bus_on_which_nobody_answers_is_told(rt: HostRuntime) {
     ends(&rt, ONCE, &Shelf::of(&FIVE), &silent, (10, 227, NOBODY));
 }
 
-/// Nobody is heard in the only pass; then the second gear of the table answers.
+/// No gear is heard in the only pass; then the second gear of the table answers.
 #[test]
 fn a_bus_whose_gear_are_all_in_the_table_is_done(rt: HostRuntime) {
     let silent = answers(&rt, "", 218);
@@ -522,7 +522,7 @@ fn a_machine_says_why_it_gave_up_or_found_a_conflict(rt: HostRuntime) {
     ends(&rt, RUN, &Shelf::of(&FIVE), &other, (8, 18, said));
 }
 
-/// Nobody is heard in the census. Then each search ends at the random address 000000, and nobody tells a short address.
+/// No gear is heard in the census. Then each search ends at the random address 000000, and none tells a short address.
 #[test]
 fn searches_that_lead_to_nobody_are_given_up(rt: HostRuntime) {
     let mut heard = answers(&rt, "", 581);

@@ -68,7 +68,7 @@ fn then_five<R: Abort + AllocGlobal>(rt: &R, first: &str) -> String {
     repeated(rt, first, "byte 22\n", 9)
 }
 
-/// What is heard where all is as the new files say: 5 is asked, then 7, then 5 once more.
+/// What is heard if all is as the new files say: 5 is asked, then 7, then 5 once more.
 fn all_there<R: Abort + AllocGlobal>(rt: &R) -> String {
     then_five(rt, then_seven(rt, then_five(rt, "").as_str()).as_str())
 }
@@ -262,7 +262,7 @@ fn a_bus_on_which_not_one_luminaire_alone_is_new_is_refused(rt: HostRuntime) {
         assert!(rt; cabinet.is("site.db", &SITE));
         assert!(rt; cabinet.count() == 1);
     }
-    // Where 7 is known to be gone, nobody else is asked for.
+    // If 7 is known to be gone, no other is asked for.
     let words = b"dali_commission replace 5 --records site.db --only --missing 7";
     let silent = silence(&rt, "", 3000);
     ends(
@@ -275,7 +275,7 @@ fn a_bus_on_which_not_one_luminaire_alone_is_new_is_refused(rt: HostRuntime) {
     );
 }
 
-/// What an earlier call left is gone on with; and where the new files do not come to have all, no file is moved.
+/// What an earlier call left is gone on with; and if the new files do not come to have all, no file is moved.
 #[test]
 fn new_files_that_are_not_complete_are_refused(rt: HostRuntime) {
     let cabinet = one(&rt);
@@ -508,7 +508,7 @@ fn what_a_replacement_came_to_is_an_object_of_json(rt: HostRuntime) {
             silence(&rt, "byte 12\n", 8).as_str(),
             "{\"end\":\"not-replaced\",\"status\":11,\"frames\":9,\"enrolled\":0,\"table\":[],",
         ),
-        // Whoever looks for a new luminaire asks all short addresses but 7, which the table has.
+        // A look for a new luminaire asks all short addresses but 7, which the table has.
         (
             nobody.as_str(),
             "{\"end\":\"not-replaced\",\"status\":11,\"frames\":224,\"enrolled\":0,\"table\":[],",
@@ -594,7 +594,7 @@ fn other_tasks_wait_for_the_end_of_a_swap(rt: HostRuntime) {
         12,
         "what lies beside the files is not what a replacement leaves",
     );
-    // What is no journal of the files that lie there is named, whoever finds it.
+    // What is no journal of the files that lie there is named, by whichever task finds it.
     let elsewhere = "\
         dali_commission: a replacement is not finished; call ./dali_commission replace again\n5 1\n/there/site.db\n";
     for journal in ["something else\n", elsewhere] {

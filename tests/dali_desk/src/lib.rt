@@ -9,7 +9,7 @@ use std::io::{BufRead, Eprint, ErrorKind, Lines, Write};
 use std::time::{Clock, Duration};
 use std::{io, str};
 
-/// A system with a command line and an input, which keeps what is written and what is said beside it. Where its output
+/// A system with a command line and an input, which keeps what is written and what is said beside it. If its output
 /// is full, that takes nothing. Its clock stands still.
 #[derive(Drop)]
 pub struct Desk<'a> {
@@ -29,7 +29,7 @@ fn keep<D: Display + Drop>(kept: &RefCell<Vec<u8>>, value: D, end: &str) -> io::
     }
 }
 
-/// Whether what is kept has this text, or is empty where the text is.
+/// Whether what is kept has this text, or is empty if the text is.
 fn has(kept: &RefCell<Vec<u8>>, text: &str) -> bool {
     let Ok(bytes) = kept.try_borrow() else {
         return false;
@@ -65,12 +65,12 @@ impl<'a> Desk<'a> {
         }
     }
 
-    /// Whether what was written has this text, or is nothing where the text is empty.
+    /// Whether what was written has this text, or is nothing if the text is empty.
     pub fn has_written(&self, text: &str) -> bool {
         has(&self.written, text)
     }
 
-    /// Whether what was said has this text, or is nothing where the text is empty.
+    /// Whether what was said has this text, or is nothing if the text is empty.
     pub fn has_said(&self, text: &str) -> bool {
         has(&self.said, text)
     }

@@ -175,7 +175,7 @@ fn does<R: Abort>(rt: &R, answer: Result<(), Refusal>, other: Result<(), Refusal
     same(rt, &[answer, other], &[Ok(()), Ok(())]);
 }
 
-/// What a line answered where a controller was to come up.
+/// What a line answered when a controller was to come up.
 pub fn comes_up<R: Abort>(rt: &R, was: Result<(), UpRefusal>, wanted: &Result<(), UpRefusal>) {
     same(rt, &was, wanted);
 }

@@ -1,4 +1,4 @@
-//! A bus of one's own: it drives itself, so that a worker runs alone. Where its controller has nothing due, or waits
+//! A bus of one's own: it drives itself, so that a worker runs alone. If its controller has nothing due, or waits
 //! for room, the bus has a turn before. It tells nothing to who looks first, so that a worker takes a turn in vain.
 
 ghost use Rattle.std.specs.Prelude.{◌≡◌};
@@ -25,7 +25,7 @@ pub struct DrivenBus<'a, B: Bus> {
 }
 
 impl<B: Bus> DrivenBus<'_, B> {
-    /// A frame comes on the bus; where none can, the bus lapses.
+    /// A frame comes on the bus; if none can, the bus lapses.
     fn drive<R: Wait>(&self, rt: &R) {
         let mut driver = self.driver.lock(rt);
         let report = self.bus.pump(rt, &mut driver, Trouble::None);

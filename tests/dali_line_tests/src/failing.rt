@@ -37,7 +37,7 @@ struct FailingKeep<'a> {
     store: MemoryKeep,
     /// What the store is known to hold, unless a read is due.
     known: Kept,
-    /// How many commits come before the one that fails, where one is to fail.
+    /// How many commits come before the one that fails, if one is to fail.
     before: Option<u8>,
     /// Whether its record is stored.
     is_stored: bool,

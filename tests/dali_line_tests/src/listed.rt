@@ -7,7 +7,7 @@ use dali_world::{Event, Receipt, Refusal, Report, Trouble};
 use std::alloc::Global;
 use std::sync::Wait;
 
-/// What a holder asked and was answered. `is_whole` is false where memory ran out for it.
+/// What a holder asked and was answered. `is_whole` is false if memory ran out for it.
 #[derive(Drop)]
 pub struct List {
     pub events: Vec<Event>,

@@ -441,7 +441,7 @@ where
     ((one, two, three, four), pumped)
 }
 
-/// The list is whole, and is what the log has of this controller; of none, what is nobody's step.
+/// The list is whole, and is what the log has of this controller; of none, what is no controller's step.
 fn is_logged<R: Abort>(rt: &R, log: &[Event], name: Option<u8>, list: &List) {
     assert!(rt; list.is_whole);
     let mut rest = list.events.iter();
@@ -471,7 +471,7 @@ fn begins_so<R: Abort>(rt: &R, name: u8, list: &List) {
     assert!(rt; *input == wanted);
 }
 
-/// What a worker left, if there was one: it ended, or it was stopped where the bus was stopped from outside; and its
+/// What a worker left, if there was one: it ended, or it was stopped when the bus was stopped from outside; and its
 /// list is what the log has of its controller.
 fn left_its_list<R: Abort>(
     rt: &R,
@@ -583,7 +583,7 @@ fn left_their_lists<R: Abort>(rt: &R, log: &[Event], left: Four<(Outcome, List)>
     left_its_list(rt, log, 3, left.3, stops);
 }
 
-/// The list of the driver and those of the workers are what the log has. The driver's is empty where the bus was
+/// The list of the driver and those of the workers are what the log has. The driver's is empty if the bus was
 /// stopped from outside.
 fn lists_are_right<R: Abort>(
     rt: &R,

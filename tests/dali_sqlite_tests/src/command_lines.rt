@@ -31,7 +31,7 @@ fn ends<R: Abort + AllocGlobal + Threads + Wait + Sync>(
     ends_at(rt, &Desk::new(rt.alloc(), words, input), end);
 }
 
-/// The program with this command line and this input ends with status 3 where its output takes nothing.
+/// The program with this command line and this input ends with status 3 if its output takes nothing.
 fn is_refused<R: Abort + AllocGlobal + Threads + Wait + Sync>(
     rt: &R,
     words: &[u8],

@@ -72,7 +72,7 @@ impl Hold {
         }
     }
 
-    /// Where this is the first flush in a commit, it waits until controller 1 has ended.
+    /// If this is the first flush in a commit, it waits until controller 1 has ended.
     fn at_flush<R: Wait + Clock>(&self, rt: &R) {
         let mut seen = self.seen.lock(rt);
         if !seen.is_begun || seen.is_held {

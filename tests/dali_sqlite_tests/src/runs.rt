@@ -158,7 +158,7 @@ fn a_report_as_json_says_what_the_text_says(rt: HostRuntime) -> Result<(), Fail>
     one_run_twice(&rt)
 }
 
-/// Gear from the factory have no short address, so a survey hears nobody, and the run leaves what it leaves without: an
+/// Gear from the factory have no short address, so a survey hears none, and the run leaves what it leaves without: an
 /// address for each of the three.
 fn surveys_nobody<R: Threads + Wait + Sync + Abort + AllocGlobal>(rt: &R) -> Result<(), Fail> {
     let plain = written(rt, setup(3, 7, &[(0, 3)]))?;
@@ -174,7 +174,7 @@ fn one_controller_surveys_gear_from_the_factory(rt: HostRuntime) -> Result<(), F
     surveys_nobody(&rt)
 }
 
-/// Whether a line says that a controller ended by itself. On a busy machine it may give up, where the others end its
+/// Whether a line says that a controller ended by itself. On a busy machine it may give up, if the others end its
 /// searches again and again.
 fn has_ended(line: &&str) -> bool {
     let end = word(line, 2);
@@ -186,7 +186,7 @@ fn is_addressed(line: &&str) -> bool {
     word(line, 0) == "gear" && word(line, 6) != "-"
 }
 
-/// The random address of the gear with this short address, where it is the only one.
+/// The random address of the gear with this short address, if it is the only one.
 fn holder<'a>(text: &'a str, address: &str) -> Option<&'a str> {
     let holds = |line: &&str| is_addressed(line) && word(line, 6) == address;
     let mut holders = text.lines().filter(holds);
@@ -225,12 +225,12 @@ fn four_named<R: Abort>(rt: &R, text: &str) -> usize {
     text.lines().filter(is_addressed).count()
 }
 
-/// What is run by four workers and eight gear, where each block has an address for each gear.
+/// What is run by four workers and eight gear, if each block has an address for each gear.
 fn wide() -> Setup {
     setup(8, 1, &[(0, 7), (8, 15), (16, 23), (24, 31)])
 }
 
-/// The same where a block has two addresses.
+/// The same if a block has two addresses.
 fn narrow() -> Setup {
     setup(8, 1, &[(0, 1), (2, 3), (4, 5), (6, 7)])
 }
@@ -258,7 +258,7 @@ fn four_controllers_name_the_same_gear(rt: HostRuntime) -> Result<(), Fail> {
 
 #[test]
 fn four_controllers_that_survey_name_the_same_gear(rt: HostRuntime) -> Result<(), Fail> {
-    // By a survey gear are left only where controllers give up. With eight addresses one that does not serves all.
+    // By a survey gear are left only if controllers give up. With eight addresses one that does not serves all.
     four_run(&rt, surveying(narrow()), 2)?;
     four_run(&rt, surveying(wide()), 8)
 }

@@ -2,7 +2,7 @@
 //!
 //! A fused disk passes so many calls on and fails each one after. A store in such files makes its table, or commits a
 //! record, once for each number of calls, from 0 until nothing is stopped. What lies in the files then is looked at
-//! twice: with all that was written, as where a program is stopped, and without what was not flushed yet, as where the
+//! twice: with all that was written, as when a program is stopped, and without what was not flushed yet, as when the
 //! power fails. A store over either reads the records from before, with the new one or without it, and goes on; and the
 //! controller of a site that went down at the commit comes up with both. With the record of the first gear it does so
 //! after each stop.
@@ -118,7 +118,7 @@ fn fills<K: Keep>(keep: &mut K, records: &[Record]) -> bool {
     true
 }
 
-/// Whether a read has the records from before with the new one, or without it; None where it has others, or where it
+/// Whether a read has the records from before with the new one, or without it; None if it has others, or if it
 /// is of the first gear and a controller that went down at the commit would not come up with them.
 fn has_added<K: Keep>(keep: &mut K, stop: &Stop<'_>) -> Option<bool> {
     match keep.read() {
@@ -137,7 +137,7 @@ fn has_added<K: Keep>(keep: &mut K, stop: &Stop<'_>) -> Option<bool> {
     }
 }
 
-/// A record that is not there yet, which it may be only where its commit failed, is committed now.
+/// A record that is not there yet, which it may be only if its commit failed, is committed now.
 fn goes_on<K: Keep>(keep: &mut K, stop: &Stop<'_>) -> bool {
     match has_added(keep, stop) {
         Some(true) => true,
@@ -166,7 +166,7 @@ fn makes_table<S: Alter + Drop>(conn: Connection<S>) -> Done<S> {
     (conn.into_store(), is_made)
 }
 
-/// None where the store is refused, which drops what lay under it.
+/// None if the store is refused, which drops what lay under it.
 fn done_over<S: Alter + Drop>(
     conn: Connection<S>,
     block: Block,
@@ -271,7 +271,7 @@ fn is_changed(left: &Files<Fuse<Memory>>, begun: &Files<Memory>) -> bool {
     left.log.inner().bytes() != begun.log.bytes() || left.db.inner().bytes() != begun.db.bytes()
 }
 
-/// Looks at what a loss of power leaves, where it is other than what was there before and than what was seen.
+/// Looks at what a loss of power leaves, if it is other than what was there before and than what was seen.
 fn looks_again(
     rt: &impl Abort,
     alloc: Global,
@@ -289,7 +289,7 @@ fn looks_again(
     Ok(())
 }
 
-/// Looks at what a stop left, in both ways, where it is other than what was there before.
+/// Looks at what a stop left, in both ways, if it is other than what was there before.
 fn looks_at(
     rt: &impl Abort,
     alloc: Global,

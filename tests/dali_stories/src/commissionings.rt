@@ -93,7 +93,7 @@ const STORIES: [(&str, &str); 14] = [
     ),
     (
         // Controller 1 opens after controller 0 has reserved address 0 for 123456: the gear draws 0ABCDE, and that
-        // reservation stays, since nobody finds who drew 123456. The one for 0ABCDE is released.
+        // reservation stays, since no controller finds the gear that drew 123456. The one for 0ABCDE is released.
         "an opening between visits leaves a reservation",
         "site 1 0-3 4-7
          draws 123456 0ABCDE
@@ -151,8 +151,8 @@ const STORIES: [(&str, &str); 14] = [
     ),
     (
         // Controller 0 has one address and closes with TERMINATE, which disables all gear. Controller 1 then hears
-        // nobody and ends with all-found, though two gear have no address. Once more alone, it finds them; its address
-        // 1 stays reserved for 200002, which nobody has any more.
+        // no gear and ends with all-found, though two gear have no address. Once more alone, it finds them; its address
+        // 1 stays reserved for 200002, which no gear has any more.
         "the first to close ends the initialisation for all",
         "site 3 0-0 1-8
          draws 100001 200001 300001 100002 200002 300002 100003 200003 300003
@@ -185,7 +185,7 @@ const STORIES: [(&str, &str); 14] = [
          > table 1: 0=100002 2=100003 3=200003",
     ),
     (
-        // Nobody owns the bus before the first frame, so arc power at 2 goes before TERMINATE at 3; then the
+        // The bus has no owner before the first frame, so arc power at 2 goes before TERMINATE at 3; then the
         // owner's frames go first.
         "arc power goes between transactions",
         "site 1 0-3

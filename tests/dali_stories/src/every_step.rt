@@ -19,14 +19,14 @@ const START: Beginning = Beginning {
     last: "0",
 };
 
-/// Whoever is heard under 0 by mistake keeps that address from the gear, which is given 1.
+/// What is heard under 0 by mistake keeps that address from the gear, which is given 1.
 const SURVEY: Beginning = Beginning {
     line: "survey 0\n",
     rounds: 302,
     last: "1",
 };
 
-/// What happens once, at each step. Where no commit is outstanding the line `fail 0` is refused, and the commissioning
+/// What happens once, at each step. If no commit is outstanding the line `fail 0` is refused, and the commissioning
 /// goes on.
 const DISTURBANCES: [&str; 7] = [
     "go 0\npump lost",
@@ -76,7 +76,7 @@ fn names(table: &str, short: &str, random: &str) -> bool {
 }
 
 /// Whether reports have one end, the gear has no short address, or 0 to the last one, and the table is empty or names
-/// the gear by it. None where they don't show the gear or the table.
+/// the gear by it. None if they don't show the gear or the table.
 fn are_true(reports: &str, last: &str) -> Option<bool> {
     let (random, short) = addresses_in(after(reports, "gear 0 on ")?)?;
     let table = after(reports, "table 0:")?;

@@ -1,4 +1,4 @@
-//! When a controller gives up: transactions that are lost and searches that lead to nobody, in a row.
+//! When a controller gives up: transactions that are lost and searches that lead to no gear, in a row.
 
 use super::story::{all_parts_play, all_play};
 use std::test::Fail;
@@ -56,7 +56,7 @@ const STORIES: [(&str, &str); 3] = [
     ),
 ];
 
-/// A search where nobody is: noise answers its first COMPARE, and it ends at FFFFFE.
+/// A search in which no gear is left: noise answers its first COMPARE, and it ends at FFFFFE.
 const SILENT_SEARCH: &str = "run 3 > ran 3
                              go 0 > 0: put 1 A900
                              pump noise > 0: sent A900 damaged
@@ -136,8 +136,9 @@ const IN_PARTS: [(&str, &[(&str, u32)]); 6] = [
             ),
         ],
     ),
-    // The restarted controller visits 123456, for which it has reserved an address, and hears nobody, nor who has that
-    // address. Were that visit counted, the commissioning would give up at the fifteenth silent search after it.
+    // The restarted controller visits 123456, for which it has reserved an address, and hears none, nor the gear that
+    // has that address. Were that visit counted, the commissioning would give up at the fifteenth silent search after
+    // it.
     (
         "visits of the start are no silent searches",
         &[

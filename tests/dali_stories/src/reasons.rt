@@ -405,7 +405,7 @@ destroyed L`",
     ),
 ];
 
-/// What is said of the end of a script; nothing where it ends well.
+/// What is said of the end of a script; nothing if it ends well.
 fn said(alloc: Global, input: &str) -> Result<String, Fail> {
     let mut reader = input.as_bytes();
     let mut writer = BufWriter::new(alloc, Vec::new(alloc))

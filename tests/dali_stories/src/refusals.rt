@@ -1,4 +1,4 @@
-//! What a site refuses: each refusal that a line can report, which comes first where two causes hold, and what is
+//! What a site refuses: each refusal that a line can report, which comes first if two causes hold, and what is
 //! left of it.
 
 use super::story::{all_parts_play, all_play};

@@ -6,7 +6,7 @@ use std::test::Fail;
 /// Stories with their names.
 const STORIES: [(&str, &str); 17] = [
     (
-        // The second survey asks three gear for their numbers, and hears nobody without address.
+        // The second survey asks three gear for their numbers, and hears none without address.
         "a survey gives addresses as a start does, and a second one commits nothing",
         "site 3 0-7
          draws 123456 0ABCDE 654321
@@ -100,7 +100,7 @@ const STORIES: [(&str, &str); 17] = [
          > table 1: 0=100001 1=200001 2=300001 3=400001",
     ),
     (
-        // Somebody is heard under 0, so the gear is given 1.
+        // Some gear is heard under 0, so the gear is given 1.
         "an address under which somebody was heard is given to nobody",
         "site 1 0-3
          draws 123456
@@ -157,7 +157,7 @@ const STORIES: [(&str, &str); 17] = [
     ),
     (
         // It is off while the other one draws, and comes on as that is visited. The next roll call hears it: it draws
-        // where nobody is to be searched any more, and is given an address.
+        // when no gear is to be searched any more, and is given an address.
         "gear that come on late draw after the next roll call",
         "site 2 0-3
          draws 123456 654321
@@ -249,7 +249,7 @@ const STORIES: [(&str, &str); 17] = [
          > ran 200",
     ),
     (
-        // So all-found says only that nobody was heard four times. The next survey finds them.
+        // So all-found says only that no gear was heard four times. The next survey finds them.
         "four lost answers leave gear, and the next survey finds them",
         "site 2 0-3
          draws 123456 654321

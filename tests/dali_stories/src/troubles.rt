@@ -149,7 +149,7 @@ const STORIES: [(&str, &str); 20] = [
     ),
     (
         // The lost answer is that to COMPARE under 123456, the last of the search, which then finds 123457 and
-        // hears nobody there. The next search ends at 123456. A gear that answered only where its number is less
+        // hears no gear there. The next search ends at 123456. A gear that answered only if its number is less
         // would not answer that COMPARE: the same reports up to here, then again 123457, sixteen times, and
         // `gave-up`.
         "compare is answered at the very number",
@@ -240,7 +240,7 @@ const STORIES: [(&str, &str); 20] = [
          > table 0:",
     ),
     (
-        // The gear has drawn no number, and FFFFFF is above FFFFFE: nobody is found.
+        // The gear has drawn no number, and FFFFFF is above FFFFFE: no gear is found.
         "a quiet bus breaks the pair of an opening",
         "site 1 0-3
          draws 123456
@@ -254,7 +254,7 @@ const STORIES: [(&str, &str); 20] = [
          > table 0:",
     ),
     (
-        // As with a quiet bus; nobody hears of it.
+        // As with a quiet bus; no controller hears of it.
         "a frame of another device breaks the pair of an opening",
         "site 1 0-3
          draws 123456

@@ -77,9 +77,9 @@ const STORIES: [(&str, &str); 8] = [
          > table 0: 0=123456",
     ),
     (
-        // Nobody hears it: 192 frames of silence. The other gear never drew: 7 frames of a roll call, 5 of a hunt, 8 in
-        // which it draws, 69 that search, and a visit of 4. Then the controller would reserve the address of the used
-        // one. With power that is heard, once the controller asks anew.
+        // No controller hears it: 192 frames of silence. The other gear never drew: 7 frames of a roll call, 5 of a
+        // hunt, 8 in which it draws, 69 that search, and a visit of 4. Then the controller would reserve the address of
+        // the used one. With power that is heard, once the controller asks anew.
         "used gear without power are not heard, and their address is refused",
         "site 2 0-3
          draws 123456 654321
@@ -103,7 +103,7 @@ const STORIES: [(&str, &str); 8] = [
          > table 0: 0=0ABCDE 1=123456",
     ),
     (
-        // 192 frames are those of a survey that hears nobody: three for each address, silent or not.
+        // 192 frames are those of a survey that hears no gear: three for each address, silent or not.
         "a gear in the place of one that is gone gets its address",
         "site 4 5-5
          draws 123456
@@ -125,7 +125,7 @@ const STORIES: [(&str, &str); 8] = [
          > table 0: 4=0ABCDE 6=0BCDEF 7=0CDEF0 5=123456",
     ),
     (
-        // Somebody has 5 already, so it is given to nobody: 192 frames of questions, 7 of a roll call, 5 of a hunt, and
+        // Some gear has 5 already, so it is not given: 192 frames of questions, 7 of a roll call, 5 of a hunt, and
         // the close.
         "and none where somebody has it",
         "site 2 5-5

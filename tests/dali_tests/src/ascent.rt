@@ -127,7 +127,7 @@ fn an_ascent_goes_up_from_member_to_member(rt: HostRuntime) -> Result<(), Fail> 
     Ok(())
 }
 
-/// The second search, where the yes to 123FFF is lost: nobody answers under the number that it finds.
+/// The second search, if the yes to 123FFF is lost: no gear answers under the number that it finds.
 const LOST: &[(u32, bool)] = &[
     (0x1FFFFF, true),
     (0x17FFFF, true),
@@ -157,7 +157,7 @@ fn an_ascent_that_begins_anew_finds_who_was_passed_over(rt: HostRuntime) -> Resu
     finds(&rt, &mut ascent, FIRST, 0x123456)?;
     asks(&rt, &mut ascent, LOST, Step::Found(random(0x124000)?));
     ascent.begin_anew();
-    // Nobody is left below 123456, who was found.
+    // No gear is left below 123456, which was found.
     asks(&rt, &mut ascent, &[(0x123456, false)], Step::Again);
     finds(&rt, &mut ascent, SECOND, 0x123460)
 }

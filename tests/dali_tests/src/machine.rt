@@ -88,7 +88,7 @@ pub fn ordered(machine: &mut Machine, told: Input) -> Ordered {
     }
 }
 
-/// The machine is told this, and orders that. The name of the story is told where it does not.
+/// The machine is told this, and orders that. The name of the story is told if it does not.
 fn steps<R: Abort>(rt: &R, name: &str, machine: &mut Machine, moment: &Moment) {
     let (told, wanted) = *moment;
     same(rt, &(name, ordered(machine, told)), &(name, wanted));
@@ -151,7 +151,7 @@ pub fn all_play<R: Abort>(rt: &R, stories: &[Story<'_>]) -> Result<(), Fail> {
     Ok(())
 }
 
-/// A transaction that begins again where one of its frames is lost: the records, what comes before it, the transaction,
+/// A transaction that begins again if one of its frames is lost: the records, what comes before it, the transaction,
 /// and how it begins.
 type Again<'a> = (&'a [InNumbers], &'a [Moment], &'a [Moment], [Ordered; 2]);
 

@@ -507,8 +507,8 @@ fn an_unclear_answer_gives_nothing(rt: HostRuntime) -> Result<(), Fail> {
 
 /// Stories of gear that is heard under another address, or with another number.
 const NAMED: [Story<'static>; 8] = [
-    // The gear of a visit does not answer, and the gear with its address is asked for its number. It is enrolled where
-    // the three bytes are the number visited. With another number the machine goes on to the opening, also where its
+    // The gear of a visit does not answer, and the gear with its address is asked for its number. It is enrolled if
+    // the three bytes are the number visited. With another number the machine goes on to the opening, also if its
     // table has that number for another address.
     (
         "the number visited is enrolled",

@@ -1,4 +1,4 @@
-//! Where there is memory, nothing is refused for want of it, whatever the size. No contract says so.
+//! If there is memory, nothing is refused for want of it, whatever the size. No contract says so.
 
 use dali_arbiter::Arbiter;
 use dali_world::{Plan, SiteState};

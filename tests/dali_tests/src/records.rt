@@ -149,7 +149,7 @@ fn pairs_of(numbers: Numbers) -> Result<[Pair; 2], Fail> {
     ])
 }
 
-/// Whether records of this block have these reservations and these enrolments; None where there are no such records.
+/// Whether records of this block have these reservations and these enrolments; None if there are no records like that.
 fn made(block: Block, reserved: &[Pair; 2], enrolled: &[Pair; 2]) -> Option<bool> {
     match Kept::of(block, reserved, enrolled) {
         Some(kept) => Some(

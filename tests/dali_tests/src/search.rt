@@ -84,7 +84,7 @@ fn an_end_comes_again(rt: HostRuntime) {
     asks(&rt, &mut Search::new(), &probes, Step::Nobody);
 }
 
-/// The search that is made of the three numbers of this one, where it is the same.
+/// The search that is made of the three numbers of this one, if it is the same.
 fn made_again(search: &Search) -> Option<Search> {
     let made = Search::of(search.answers(), search.least(), search.probe())?;
     if made.probe() == search.probe() && made.step() == search.step() {

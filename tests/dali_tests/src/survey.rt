@@ -1,4 +1,4 @@
-//! A machine that begins by a survey: what it asks, whom it enrols, what it gives and what it leaves alone.
+//! A machine that begins by a survey: what it asks, which gear it enrols, what it gives and what it leaves alone.
 
 use super::machine::{
     DAMAGED, FOUND, Moment, OPENED, SILENCE, YES, goes_on, machine_of, ordered, searches,
@@ -30,7 +30,7 @@ const CALLED: [Moment; 7] = [
 /// The first COMPARE was silent: one more, and that is silent too.
 const ONCE_MORE: [Moment; 1] = [(SILENCE, Put(1, 0xA900))];
 
-/// A hunt that finds nobody: COMPARE under FFFFFE, and once more, with no search byte again.
+/// A hunt that finds no gear: COMPARE under FFFFFE, and once more, with no search byte again.
 const NOBODY: [Moment; 5] = [
     (YES, Put(3, 0xB1FF)),
     (SILENCE, Put(1, 0xB5FE)),
@@ -39,8 +39,8 @@ const NOBODY: [Moment; 5] = [
     (SILENCE, Put(1, 0xA900)),
 ];
 
-/// Who was heard in the roll call never drew: whether somebody is to be searched is asked once more, under FFFExx, and
-/// nobody is heard.
+/// The gear heard in the roll call never drew: whether gear are to be searched is asked once more, under FFFExx, and
+/// none is heard.
 const DRAWN: [Moment; 8] = [
     (SILENCE, Put(3, 0xA100)),
     (SILENCE, Put(1, 0xA5FF)),
@@ -52,7 +52,7 @@ const DRAWN: [Moment; 8] = [
     (SILENCE, Put(1, 0xA700)),
 ];
 
-/// The hunt after a draw finds nobody.
+/// The hunt after a draw finds no gear.
 const DREW_NOBODY: [Moment; 5] = [
     (SILENCE, Put(3, 0xB1FF)),
     (SILENCE, Put(1, 0xB5FE)),
@@ -61,7 +61,7 @@ const DREW_NOBODY: [Moment; 5] = [
     (SILENCE, Put(1, 0xA900)),
 ];
 
-/// Somebody is heard before gear draw, so nobody does: gear are searched.
+/// Some gear is heard before gear draw, so none does: gear are searched.
 const BARRED: [Moment; 7] = [
     (SILENCE, Put(3, 0xA100)),
     (SILENCE, Put(1, 0xA5FF)),
@@ -161,7 +161,7 @@ const ASKED_AGAIN: [Moment; 9] = [
     (Input::Start, NotDue),
 ];
 
-/// A byte is heard, and then the question is lost and nobody answers any more.
+/// A byte is heard, and then the question is lost and no gear answers any more.
 const ANSWERED_ONCE: [Moment; 6] = [
     (Input::Survey, Put(3, 0x01C2)),
     (Input::Heard(Answer::Byte(0x12)), Put(1, 0x01C3)),
@@ -178,7 +178,7 @@ const TOLD: [Heard; 3] = [
     (0x01C4, Input::Heard(Answer::Byte(0x56))),
 ];
 
-/// With no other address in the block nobody draws a number, though somebody is there who has none.
+/// With no other address in the block no gear draws a number, though some gear there has none.
 const NOTHING_TO_GIVE: [&[Moment]; 3] = [
     &CALLED,
     &NOBODY,
@@ -298,7 +298,7 @@ fn surveys_enrol_what_is_told(rt: HostRuntime) -> Result<(), Fail> {
 }
 
 const UNTOLD: [Surveyed<'static>; 5] = [
-    // An address that is somebody's, whose number is not told, is given to nobody.
+    // An address of a gear whose number is not told is not given.
     (
         "what was damaged is not given",
         (0, 0),
@@ -355,7 +355,7 @@ fn surveys_leave_alone_what_is_not_told(rt: HostRuntime) -> Result<(), Fail> {
     all_play(&rt, &UNTOLD)
 }
 
-/// Whether somebody was heard under these addresses.
+/// Whether gear was heard under these addresses.
 fn has_heard<R: Abort>(rt: &R, machine: &Machine, wanted: &[(u8, bool)]) -> Result<(), Fail> {
     for (address, is_heard) in wanted {
         same(rt, &machine.heard().has(short(*address)?), is_heard);
@@ -363,7 +363,7 @@ fn has_heard<R: Abort>(rt: &R, machine: &Machine, wanted: &[(u8, bool)]) -> Resu
     Ok(())
 }
 
-/// Somebody was there who answered once.
+/// A gear was there that answered once.
 #[test]
 fn who_answered_once_was_heard(rt: HostRuntime) -> Result<(), Fail> {
     let story: Surveyed<'_> = ("heard", (0, 3), &[], &[], &[], 0, &[&ANSWERED_ONCE]);
@@ -434,7 +434,7 @@ const ASKS_ON: [Moment; 16] = [
     (SILENCE, Put(1, 0xB5FF)),
     (SILENCE, Put(1, 0xB3FF)),
     (SILENCE, Put(1, 0xA900)),
-    // Nobody is up to 3FFFFF, somebody is up to 5FFFFF, and nobody up to 4FFFFF.
+    // No gear is up to 3FFFFF, some is up to 5FFFFF, and none up to 4FFFFF.
     (SILENCE, Put(1, 0xB15F)),
     (SILENCE, Put(1, 0xA900)),
     (DAMAGED, Put(1, 0xB14F)),
@@ -447,14 +447,14 @@ const ASKS_ON: [Moment; 16] = [
     (Input::Survey, NotDue),
 ];
 
-/// Nobody is up to 00FFFF: two bytes change, the high one is sent before the middle one.
+/// No gear is up to 00FFFF: two bytes change, the high one is sent before the middle one.
 const HIGH_AND_MIDDLE: [Moment; 3] = [
     (SILENCE, Put(1, 0xB101)),
     (SILENCE, Put(1, 0xB37F)),
     (SILENCE, Put(1, 0xA900)),
 ];
 
-/// Somebody is up to 0101FF, and nobody up to 0100FF: the low byte is sent before the middle one.
+/// Some gear is up to 0101FF, and none up to 0100FF: the low byte is sent before the middle one.
 const LOW_AND_MIDDLE: [Moment; 7] = [
     (SILENCE, Put(1, 0xB57F)),
     (SILENCE, Put(1, 0xB301)),
@@ -488,7 +488,7 @@ const ASKED_ON: [Moment; 3] = [
     (YES, Put(1, 0xB11F)),
 ];
 
-/// The gear at 000000 has short address 0. The search goes on above it, with a step up to 000001, finds somebody there,
+/// The gear at 000000 has short address 0. The search goes on above it, with a step up to 000001, finds gear there,
 /// and the visit hears nothing.
 const HUNTED_ON: [Moment; 14] = [
     (YES, Put(3, 0xB100)),
@@ -507,8 +507,8 @@ const HUNTED_ON: [Moment; 14] = [
     (SILENCE, Put(1, 0xBB00)),
 ];
 
-/// So it begins anew: it asks first whether somebody is up to 000000, the greatest number that was found; then one,
-/// two, four and eight numbers further; and then twice under FFFFFE. It had found somebody, so the roll is called.
+/// So it begins anew: it asks first whether gear is up to 000000, the greatest number that was found; then one,
+/// two, four and eight numbers further; and then twice under FFFFFE. It had found gear, so the roll is called.
 const BEGUN_ANEW: [Moment; 20] = [
     (SILENCE, Put(3, 0xB100)),
     (SILENCE, Put(1, 0xB500)),
@@ -532,7 +532,7 @@ const BEGUN_ANEW: [Moment; 20] = [
     (SILENCE, Put(3, 0xA100)),
 ];
 
-/// Before anybody was found it begins anew as it began.
+/// Before any gear was found it begins anew as it began.
 const FIRST_VISIT: [Moment; 4] = [
     (SILENCE, Put(3, 0xB1FF)),
     (SILENCE, Put(1, 0xB5FE)),
@@ -600,7 +600,7 @@ fn hunts_ask_one_question_after_the_other(rt: HostRuntime) -> Result<(), Fail> {
     Ok(())
 }
 
-/// Each COMPARE is heard, and nobody tells a short address. A search that begins anew ends at 000000; the second visit
+/// Each COMPARE is heard, and no gear tells a short address. A search that begins anew ends at 000000; the second visit
 /// there in a row passes it over. The next one ends at 000001, and after its visit the search begins anew. So one of
 /// each three visits passes a gear over.
 #[test]

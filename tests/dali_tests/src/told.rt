@@ -54,7 +54,7 @@ fn two_drawn<R: Abort>(rt: &R) -> Result<Row, Fail> {
     Ok(row)
 }
 
-/// What the machine is told of a frame. Where both gear answer, they answer FF, and that is heard.
+/// What the machine is told of a frame. If both gear answer, they answer FF, and that is heard.
 fn told<R: Abort>(rt: &R, row: &mut Row, frame: Forward, destroyed: &mut Destroyed) -> Input {
     let command = Command::read(frame);
     if destroyed.befalls(frame) {

@@ -1,6 +1,6 @@
 //! The transactions that a controller may send, position by position.
 //!
-//! A trace is written as frames, each with what was heard after it where that is not silence: `B10A B3BC B5DE
+//! A trace is written as frames, each with what was heard after it if that is not silence: `B10A B3BC B5DE
 //! BB00=09`. A byte is two digits, and `??` is a damaged answer.
 
 use super::values::InNumbers::Reserve;
@@ -74,7 +74,7 @@ fn allows(kept: &Kept, trace: &Trace, text: &str) -> Result<bool, Fail> {
     Ok(trace.allows(kept, frame(text.as_bytes())?))
 }
 
-/// After these frames just those are allowed, of all of `FRAMES`; where none is, the transaction is complete.
+/// After these frames just those are allowed, of all of `FRAMES`; if none is, the transaction is complete.
 fn follows<R: Abort>(rt: &R, kept: &Kept, frames: &str, allowed: &str) -> Result<(), Fail> {
     let trace = trace_of(kept, frames)?;
     for text in FRAMES.split_ascii_whitespace() {
@@ -115,7 +115,7 @@ A100 A5FF A5FF B10A B3BC A900 A700 > A700
 A100 A5FF A5FF B10A B3BC A900 A700 A700 >
 FE80 >";
 
-/// Every position of the scripts that use a search address, where an address is reserved for the number.
+/// Every position of the scripts that use a search address, if an address is reserved for the number.
 const SEARCHES: &str = "B10A > B3BC B5DE
 B10A B3BC > B5DE
 B10A B3BC B5DE > A900 BB00 AB00
@@ -154,7 +154,7 @@ const QUERIES: &str = "09C2 > 09C3
 09C2=0A 09C3=BC 09C4 >
 09C2=0A 09C3=BC 09C4=DE >";
 
-/// Where nothing is reserved, an address that was heard leads to WITHDRAW, and nothing else goes on.
+/// If nothing is reserved, an address that was heard leads to WITHDRAW, and nothing else goes on.
 const UNRESERVED: &str = "B10A B3BC B5DE BB00=09 > AB00
 B10A B3BC B5DE BB00=09 AB00 >
 B10A B3BC B5DE BB00 >
@@ -184,7 +184,7 @@ enum Shown {
     Resolved(u8, u32),
 }
 
-/// The gear that was found, whether that was by the queries of a random address, and whether nobody answered.
+/// The gear that was found, whether that was by the queries of a random address, and whether no gear answered.
 type Found = (Option<(Short, Random24)>, bool, bool);
 
 fn shown_by(trace: &Trace) -> Found {

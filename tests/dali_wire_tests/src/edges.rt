@@ -4,7 +4,7 @@ use dali_wire::{Frame, Receiver, Sender, Told};
 use std::fmt::Debug;
 use std::process::Abort;
 
-/// Fails where the two are not the same.
+/// Fails if the two are not the same.
 pub fn same<T: PartialEq + Debug>(rt: &impl Abort, was: &T, wanted: &T) {
     assert_eq!(rt; was, wanted);
 }

@@ -5,7 +5,7 @@ use dali_frame::Forward;
 use dali_wire::Sender;
 use std::test::Fail;
 
-/// The half bits of a sender, `L` where the bus is low and `H` where it is high.
+/// The half bits of a sender, `L` while the bus is low and `H` while it is high.
 fn levels(sender: Sender) -> [u8; 42] {
     let mut sender = sender;
     let mut text = [b' '; 42];
