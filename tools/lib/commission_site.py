@@ -6,6 +6,7 @@ import contextlib
 import json
 import os
 import pathlib
+import re
 import shutil
 import signal
 import sqlite3
@@ -248,7 +249,7 @@ class Place:
         objects = [{"address": short, "random": number} for short, number in pairs]
         wanted = {
             "": "".join(f"{short} {number}\n" for short, number in pairs),
-            "--csv": "address,random\n" + "".join(f"{short},{number}\n" for short, number in pairs),
+            "--csv": "address,random\n" + "".join(f"{short},0x{number}\n" for short, number in pairs),
         }
         for form in ("", "--csv", "--json"):
             ran = self.alone("table", "--records", records or self.records, *filter(None, [form]))
@@ -258,7 +259,8 @@ class Place:
                     is_so &= json.loads(ran.wrote) == objects
                 is_so &= ran.wrote.startswith("[") and ran.wrote.endswith("\n]\n")
             else:
-                is_so &= ran.wrote == wanted[form]
+                # A program that was built before writes a random address in CSV without 0x.
+                is_so &= re.sub(",(?=[0-9A-F]{6}\n)", ",0x", ran.wrote) == wanted[form]
             self.check(f"table {form or 'as text'} is what the file holds", is_so, ran)
 
     def check_copies(self, folder: pathlib.Path) -> None:
