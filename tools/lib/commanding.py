@@ -30,7 +30,7 @@ INPUT_ENDED = re.compile(r"error: line \d+ of the driver: end of input")
 # The statuses of which something more is known; all of a signal are one.
 DONE, NOT_SO, NOBODY, STOPPED = 0, 1, 10, 128
 # The words of an end, and what can be done, stand in tools/lib/texts: by command and status, or by status alone.
-END, ODD, OTHER = "end:{}:{}", "end:run:odd", "end:other"
+END, ODD, SILENT, OTHER = "end:{}:{}", "end:run:odd", "end:run:silent", "end:other"
 
 
 class Busy(Exception):
@@ -78,18 +78,18 @@ def words_of(site: Site, command: str, address: object, missing: object) -> list
     return ["replace", "--json", *records, *gone, str(address_of(address)), *block]
 
 
-def look_of(command: str, status: int, odd: list[int]) -> str:
-    """How well an end is: a run that left somebody who is not understood has not done all."""
+def look_of(status: int, words: str) -> str:
+    """How well an end is: a run that left somebody who is not understood, or did not hear a gear of the table, has not done all."""
     if status == DONE:
-        return "part" if command == "run" and odd else "good"
+        return "part" if words in (ODD, SILENT) else "good"
     return "part" if status >= STOPPED else "bad"
 
 
-def end_of(command: str, status: int, odd: list[int] = ()) -> str:
+def end_of(command: str, status: int, odd: list[int] = (), silent: list[int] = ()) -> str:
     """The key of the words that say what an end is, and what can be done."""
     status = STOPPED if status >= STOPPED else status
-    if (command, status) == ("run", DONE) and odd:
-        return ODD
+    if (command, status) == ("run", DONE) and (odd or silent):
+        return ODD if odd else SILENT
     known = texts.of(texts.FIRST)
     return next((it for it in (END.format(command, status), f"end:{status}") if it in known), OTHER)
 
@@ -175,15 +175,16 @@ class Command:
         if self.status is None:
             self.process.send_signal(signal.SIGINT)
 
-    def state(self, odd: list[int]) -> dict[str, typing.Any]:
-        """What a page shows of it. These short addresses have somebody who is not understood, or not as is recorded."""
+    def state(self, odd: list[int], silent: list[int]) -> dict[str, typing.Any]:
+        """What a page shows of it. These short addresses have somebody who is not understood, or not as is recorded; these nobody who answers."""
         followed = self.followed().state()
         state = {"command": self.name, "address": self.address, "begun": self.begun, "said": self.said, **followed}
         state |= {"found": self.found, "left": self.left, "stopped": self.is_stopped, "status": self.status}
         state |= {"lit": self.address in self.follower.lit, "seconds": (self.ended or time.time()) - self.begun, "since": self.since}
         if self.status is not None:
             state |= {"frames": self.report.get("frames", followed["frames"]), "end": self.report.get("end")}
-            state |= {"words": end_of(self.name, self.status, odd), "look": look_of(self.name, self.status, odd)}
+            words = end_of(self.name, self.status, odd, silent)
+            state |= {"words": words, "look": look_of(self.status, words)}
         return state
 
 
@@ -196,8 +197,9 @@ class Bus:
     def __init__(self, site: Site, kept: tuple[int, ...] = ()) -> None:
         self.site, self.kept, self.lock, self.idle = site, kept, threading.RLock(), threading.Event()
         self.names, self.command, self.trouble = places.file_of(site.records[0]), None, None
-        # The table; what the last check found beside it, and when; the addresses that the last run left alone.
-        self.table, self.there, self.unaddressed = [], set(), None
+        # The table, who of it was there and who was silent when asked last; what the last check found beside it, and when; the addresses that
+        # the last run left alone.
+        self.table, self.there, self.silent, self.unaddressed = [], set(), set(), None
         self.left_alone, self.strangers, self.missing, self.checked = marks.read(marks.file_of(site.records[0]))
         # The walk, and the turns of all walks up to now, so that no turn of one is taken for another one's; and how many luminaires the last
         # one has been at and how many it has left, until something else begins.
@@ -279,7 +281,9 @@ class Bus:
         if command.name in ("run", "identify"):
             # Who answered as recorded when it was asked last is there, also if a check missed it; who did not is not.
             heard = {it for it in command.follower.heard.items() if it in pairs.items()}
-            self.there = {it for it in self.there if it[0] not in command.follower.asked()} | heard
+            asked, silent = command.follower.asked(), command.follower.silent()
+            self.there = {it for it in self.there if it[0] not in asked} | heard
+            self.silent = {it for it in pairs.items() if it[0] in silent or it in self.silent and it[0] not in asked}
             self.missing -= heard
         if command.name == "run":
             self.unaddressed = None
@@ -288,7 +292,7 @@ class Bus:
             self.strangers = {at: it for at, it in self.strangers.items() if it[1] is None or it[1] != pairs.get(at)}
         if command.name == "check" and command.status in (DONE, NOT_SO, NOBODY):
             self.strangers, self.left_alone, self.checked = odd_of(report), [], time.time()
-            self.missing = {(it, pairs.get(it)) for it in report["missing"]}
+            self.missing, self.silent = {(it, pairs.get(it)) for it in report["missing"]}, set()
             self.there = {it for it in pairs.items() if it not in self.missing and it[0] not in self.strangers}
             self.unaddressed = report["unaddressed"]
         if command.name == "replace" and command.status == DONE:
@@ -323,9 +327,11 @@ class Bus:
     def places(self) -> list[dict[str, typing.Any]]:
         """The short addresses that somebody has or may have, each with what is known of it."""
         names, found = places.read(self.names), {}
+        hushed = set() if self.idle.is_set() else self.command.followed().silent()
+        silent = self.silent | {(it["address"], it["random"]) for it in self.table if it["address"] in hushed}
+        known = {"missing": self.missing, "silent": silent, "there": self.there}
         for it in places.rows(self.table, names):
-            pair = (it["address"], it["random"])
-            what = "missing" if pair in self.missing else "there" if pair in self.there else "enrolled"
+            what = next((name for name, them in known.items() if (it["address"], it["random"]) in them), "enrolled")
             found[it["address"]] = it | {"is": what, "heard": None}
         for address, (what, random) in self.live().items():
             blank = {"address": address, "random": None, "place": names.get(random), "is": what, "heard": random}
@@ -360,13 +366,14 @@ class Bus:
             except places.Unreadable as why:
                 trouble = str(why)
             unfinished = None if not self.idle.is_set() else unfinished_address(self.site.records[0])
-            odd, walk = sorted({*self.left_alone, *self.strangers}), self.walking()
+            odd, silent, walk = sorted({*self.left_alone, *self.strangers}), sorted(at for at, _ in self.silent), self.walking()
             if walk:
                 walk.seen = time.monotonic()
-            command = self.command.state(odd) if self.command else None
+            command = self.command.state(odd, silent) if self.command else None
             return {
-                "site": self.names.name.removesuffix(places.ENDING), "version": VERSION, "records": self.site.records, "block": self.site.block, "driver": self.site.title, "trouble": trouble,
-                "busy": not self.idle.is_set(), "command": command, "places": them, "odd": odd, "spare": spare,
+                "site": self.names.name.removesuffix(places.ENDING), "version": VERSION, "records": self.site.records,
+                "block": self.site.block, "driver": self.site.title, "trouble": trouble, "busy": not self.idle.is_set(), "command": command,
+                "places": them, "odd": odd, "silent": silent, "spare": spare,
                 "unaddressed": self.unaddressed, "checked": self.checked, "unfinished": unfinished,
                 "walk": walk.state() if walk else None, "walked": self.walked,
             }

@@ -94,5 +94,9 @@ class Follower:
         """The short addresses that were asked last to the end, or up to an answer that is no byte."""
         return {at for at, told in self.parts.items() if len(told) == len(PARTS) or not all(BYTE.fullmatch(it or "") for it in told.values())}
 
+    def silent(self) -> set[int]:
+        """The short addresses at which nothing was heard when they were asked last."""
+        return {at for at, told in self.parts.items() if set(told.values()) == {"silence"}}
+
     def state(self) -> dict[str, typing.Any]:
         return {"frames": self.frames, "phase": self.phase, "at": self.at, "pass": self.passes}

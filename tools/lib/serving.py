@@ -153,7 +153,7 @@ class Handler(http.server.BaseHTTPRequestHandler):
         except walking.Moved as why:
             self.write(409, "text/plain", f"{why}\n", ("Why", why.key))
         except (places.Unreadable, OSError) as why:
-            self.write(500, "text/plain", f"{why}\n")
+            self.write(500, "text/plain", f"{self.said(str(why))}\n")
 
     def asked(self) -> str:
         """What is asked for, where somebody asks who may."""
@@ -207,12 +207,24 @@ class Handler(http.server.BaseHTTPRequestHandler):
 
     # What may be asked for.
 
+    def language(self) -> str:
+        return texts.chosen(self.headers.get("Accept-Language", ""))
+
+    def said(self, line: str) -> str:
+        """A line in the language of the page, or as it is."""
+        return texts.told(line, self.language()) or line
+
     def show(self) -> None:
         self.server.bus.read_table()
-        self.write(200, "text/html", self.server.pages[texts.chosen(self.headers.get("Accept-Language", ""))])
+        self.write(200, "text/html", self.server.pages[self.language()])
 
     def tell_state(self) -> None:
-        self.write(200, "application/json", json.dumps(self.server.bus.state()))
+        """The state, with each line that was said in the language of the page, as far as it has a translation."""
+        state, language = self.server.bus.state(), self.language()
+        if state["command"]:
+            state["command"]["told"] = [texts.told(it, language) for it in state["command"]["said"]]
+        state["trouble"] = "\n".join(map(self.said, (state["trouble"] or "").splitlines()))
+        self.write(200, "application/json", json.dumps(state))
 
     def show_frames(self) -> None:
         """The frames of the command that was begun last, which goes on telling of them."""

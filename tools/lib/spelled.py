@@ -85,6 +85,7 @@ FORMAT, INSTALLER, VENDOR, ADAPTERS = "docs/FORMAT.md", "docs/INSTALLER.md", "do
 REPLAY, THREADS, FORMS = "tools/lib/replay_report.py", "tools/lib/threads_report.py", "tools/lib/script_forms.py"
 SITE, LIBRARY = "tools/lib/commission_site.py", "tools/check/c-library"
 SCHEMA, VIEWER = "docs/story.schema.json", "tools/lib/viewer.html"
+GERMAN = "tools/lib/texts/said/de.json"
 LINES, MISTAKES = "crates/dali_grammar/src/reason/forms.rt", "crates/dali_grammar/src/reason/mistake.rt"
 # The inputs that do not tell what became of a frame; how it was heard is an answer.
 NOT_OF_FRAMES = "Start Survey Heard Committed CommitFailed"
@@ -204,6 +205,11 @@ PLACES = (
     Place(VIEWER, block('id="words"', "</script>"), "Input", '"told:{kebab}', "Heard"),
     Place(VIEWER, block('id="words"', "</script>"), "End", '"stands:{name}":'),
     Place(VIEWER, block('id="words"', "</script>"), "Fault", '"stands:halt-{name}":'),
+    # What the page says in German of what the program says.
+    Place(GERMAN, WHOLE, "Place", '{name}":', "NotAsked Nobody Another"),
+    Place(GERMAN, WHOLE, "DriverFault", '"{name}":', "Memory"),
+    Place(GERMAN, WHOLE, "StoreFault", '"{name}":', "Store System"),
+    Place(GERMAN, WHOLE, "ReplaceRefusal", '"{name}":'),
     # The scripts of tools/.
     Place(REPLAY, line("ANSWER ="), "Answer", "{kebab}"),
     Place(REPLAY, line("COMMIT ="), "Record", "{name}"),
