@@ -1,10 +1,10 @@
 #!/usr/bin/env python3
 """Stands for the program `dali_commission` in checks that have no kit: it takes its words and says what it says.
 
-The file of the records is JSON, a random address for each short one. The file that BUS names has the random addresses of the gear that
-are there. A frame is put for each gear; while a file `hold` lies beside that one, it waits at the second. A file `odd` there has short
-addresses at which several gear answer, a file `dark` those at which none does. A run asks those
-that a file `asked` has for their random addresses before all else.
+The file of the records is JSON, a random address for each short one. The file that BUS names, or else `bus.json` beside the records, has
+the random addresses of the gear that are there. A frame is put for each gear; while a file `hold` lies beside that one, it waits at the
+second. A file `odd` there has short addresses at which several gear answer, a file `dark` those at which none does. A run asks those that a
+file `asked` has for their random addresses before all else.
 """
 
 import contextlib
@@ -20,12 +20,16 @@ def option(name: str, words: list[str]) -> list[str]:
     return [words[at + 1] for at, it in enumerate(words) if it == name]
 
 
+def bus() -> pathlib.Path:
+    return pathlib.Path(os.environ.get("BUS") or pathlib.Path(*option("--records", sys.argv)[:1]).with_name("bus.json"))
+
+
 def put(frame: str, number: int = 2) -> None:
     """Puts a frame, and waits for what the driver tells."""
     print(f"put 3 {frame} ask", flush=True)
     if not sys.stdin.readline():
         sys.exit(4)
-    while number >= 2 and pathlib.Path(os.environ["BUS"]).with_name("hold").exists():
+    while number >= 2 and bus().with_name("hold").exists():
         time.sleep(0.02)
 
 
@@ -37,7 +41,7 @@ def say(text: str) -> None:
 
 def beside(name: str) -> list[int]:
     """The short addresses that a file beside the gear has."""
-    file = pathlib.Path(os.environ["BUS"]).with_name(name)
+    file = bus().with_name(name)
     return json.loads(file.read_text()) if file.exists() else []
 
 
@@ -102,14 +106,14 @@ def identify(address: int) -> None:
 
 
 def main(task: str, *words: str) -> None:
-    gear = json.loads(pathlib.Path(os.environ["BUS"]).read_text())
+    gear = json.loads(bus().read_text())
     file = pathlib.Path(*option("--records", words)[:1])
     records = json.loads(file.read_text()) if file.is_file() else {}
     if task == "table":
         rows = ",\n".join(json.dumps({"address": it["address"], "random": it["random"]}) for it in listed(records))
         print(f"[\n{rows}\n]")
         return
-    with open(f"{os.environ['BUS']}.lock", "a") as lock:
+    with open(f"{bus()}.lock", "a") as lock:
         try:
             fcntl.flock(lock, fcntl.LOCK_EX | fcntl.LOCK_NB)
         except BlockingIOError:

@@ -68,6 +68,14 @@ def seconds_of(given: list[str]) -> float:
     return float(given[0])
 
 
+def block_of(word: str) -> str:
+    """A block of short addresses, as the program takes it."""
+    found = re.fullmatch(r"([0-9]{1,2})-([0-9]{1,2})", word)
+    if not found or not int(found[1]) <= int(found[2]) <= 63:
+        raise argparse.ArgumentTypeError(f"'{word}' is not a block such as 0-63")
+    return word
+
+
 def file_of(name: str, given: list[str]) -> typing.BinaryIO | None:
     """The file that is given to an option, made anew, or None where none is."""
     if not given:

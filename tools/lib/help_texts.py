@@ -7,7 +7,7 @@ from lib import proving
 
 FOLDER = pathlib.Path(__file__).resolve().parent / "help"
 # Of each program the file of each text, and the words that ask for it. What only the launchers say, no program does: the files
-# of `launcher`, `page`, `audit` and `trace`, and dali_view.txt. In place of dali_commission.txt ./dali_commission says
+# of `launcher`, `page`, `building`, `audit` and `trace`, and dali_view.txt. In place of dali_commission.txt ./dali_commission says
 # dali_commission-launcher.txt, which the lint compares with the helps of its commands.
 WORDS = {
     "dali_sim": {

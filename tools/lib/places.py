@@ -107,11 +107,12 @@ def as_text(them: list[Row]) -> str:
     return "".join(f"{it['address']} {it['random']} {it['place'] or ''}".rstrip() + "\n" for it in them)
 
 
-def as_csv(them: list[Row]) -> str:
+def as_csv(them: list[Row], *before: str) -> str:
+    """A table as comma-separated values, with these columns before the others."""
     text = io.StringIO()
     writer = csv.writer(text, lineterminator="\n")
-    rows = [(it["address"], HEXADECIMAL + it["random"], safe(it["place"] or "")) for it in them]
-    writer.writerows([("address", "random", "place"), *rows])
+    rows = [(*(it[key] for key in before), it["address"], HEXADECIMAL + it["random"], safe(it["place"] or "")) for it in them]
+    writer.writerows([(*before, "address", "random", "place"), *rows])
     return text.getvalue()
 
 
