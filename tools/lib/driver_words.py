@@ -16,6 +16,7 @@ OPTIONS = ("--driver", "--driver-timeout")
 FILES = ("--story", "--trace")
 # How many seconds a driver may be given for an answer.
 MOST = 86400
+PORTS = range(65536)
 
 
 class BadWord(Exception):
@@ -74,6 +75,12 @@ def block_of(word: str) -> str:
     if not found or not int(found[1]) <= int(found[2]) <= 63:
         raise argparse.ArgumentTypeError(f"'{word}' is not a block such as 0-63")
     return word
+
+
+def port_of(word: str) -> int:
+    if not re.fullmatch(r"[0-9]{1,5}", word) or int(word) not in PORTS:
+        raise argparse.ArgumentTypeError(f"'{word}' is no port")
+    return int(word)
 
 
 def file_of(name: str, given: list[str]) -> typing.BinaryIO | None:

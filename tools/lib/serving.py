@@ -1,19 +1,25 @@
 """Serves a page on the loopback, to whom its address was told: tools/page says how."""
 
 import base64
+import collections.abc
 import contextlib
+import fcntl
 import hashlib
 import hmac
 import http.server
 import json
 import os
+import pathlib
 import re
 import secrets
+import signal
 import socket
 import threading
 import typing
+import urllib.request
+import webbrowser
 
-from lib import ROOT, commanding, places, story, texts, viewer, walking
+from lib import ROOT, commanding, joining, places, proving, story, texts, viewer, walking
 
 LOOPBACK = "127.0.0.1"
 PAGE = ROOT / "tools/lib/page.html"
@@ -70,19 +76,82 @@ def kept_of(opened: typing.TextIO) -> Kept:
     return Kept(int(found[1]), found[2]) if found and is_own and int(found[1]) < 1 << 16 else Kept()
 
 
+def is_served(address: str) -> bool:
+    """Whether a page is served there."""
+    try:
+        opener = urllib.request.build_opener(urllib.request.ProxyHandler({}))
+        return bool(address) and opener.open(address, timeout=5).status == 200
+    except (OSError, ValueError):
+        return False
+
+
+def locked(file: pathlib.Path) -> typing.TextIO | None:
+    """Opens a file that one page alone may have, and which is still at its path then; or None, if another page is served."""
+    while True:
+        opened = os.fdopen(os.open(file, os.O_RDWR | os.O_CREAT, 0o600), "r+", errors="replace")
+        try:
+            fcntl.flock(opened, fcntl.LOCK_EX | fcntl.LOCK_NB)
+        except BlockingIOError:
+            address = opened.read()
+            if is_served(address):
+                print(address, flush=True)
+                proving.say("a page is served over these records already, at this address")
+                return None
+            proving.say("a command that an earlier page began still works on the bus: this waits until it has ended")
+            fcntl.flock(opened, fcntl.LOCK_EX)
+        if os.path.exists(file) and os.path.samestat(os.fstat(opened.fileno()), os.stat(file)):
+            return opened
+        opened.close()
+
+
+def served(make: collections.abc.Callable[[int, str], "Server"], port: int, kept: Kept) -> "Server":
+    """The server at the port that is wanted; if none is, at the kept one, or at a free one if that is taken."""
+    if not port and kept.port:
+        try:
+            return make(kept.port, kept.token)
+        except OSError:
+            proving.say(f"port {kept.port}, which the page had before, is taken: its address is another one now")
+    return make(port, kept.token)
+
+
+def serve(
+    make: collections.abc.Callable[[int, str], "Server"], opened: typing.TextIO, port: int, is_opened: bool, end: collections.abc.Callable[[], None]
+) -> int:
+    """Serves until a signal comes, at an address that a file keeps; then all ends that goes on. The status."""
+    server, came = served(make, port, kept_of(opened)), []
+
+    def stop(number: int, _frame: object) -> None:
+        came.append(number)
+        threading.Thread(target=server.shutdown).start()
+
+    for number in joining.PASSED:
+        if signal.getsignal(number) != signal.SIG_IGN:
+            signal.signal(number, stop)
+    opened.seek(0)
+    opened.truncate()
+    print(server.address(), end="", file=opened, flush=True)
+    print(server.address(), flush=True)
+    proving.say("open this address in a browser; interrupt this program when you are done")
+    if is_opened:
+        threading.Thread(target=webbrowser.open, args=(server.address(),), daemon=True).start()
+    server.serve_forever()
+    end()
+    return 128 + came[0]
+
+
 class Server(http.server.ThreadingHTTPServer):
     """The server of one page."""
 
     daemon_threads, request_queue_size = True, 64
 
-    def __init__(self, bus: commanding.Bus, port: int, token: str = "") -> None:
+    def __init__(self, bus: commanding.Bus | None, port: int, token: str = "", handler: type["Handler"] | None = None) -> None:
         self.bus, self.token, self.lanes = bus, token or secrets.token_urlsafe(24), threading.BoundedSemaphore(LANES)
         # The connections whose request is not whole yet, the oldest first.
         self.half_open, self.lock = {}, threading.Lock()
         page = PAGE.read_text(encoding="utf-8")
         self.pages = {it: filled(page, it) for it in texts.languages()}
         self.policy, self.viewer_policy = policy(page), policy(story.VIEWER.read_text(encoding="utf-8"))
-        super().__init__((LOOPBACK, port), Handler)
+        super().__init__((LOOPBACK, port), handler or Handler)
         self.hosts = [f"{it}:{self.server_address[1]}" for it in (LOOPBACK, "localhost")]
 
     def address(self) -> str:
@@ -126,6 +195,11 @@ class Handler(http.server.BaseHTTPRequestHandler):
     """One request."""
 
     timeout, server_version, sys_version = PATIENCE, "page", ""
+
+    @property
+    def bus(self) -> commanding.Bus:
+        """The bus that is asked about."""
+        return self.server.bus
 
     def log_message(self, *_: typing.Any) -> None:
         """Nothing is said of requests."""
@@ -215,12 +289,12 @@ class Handler(http.server.BaseHTTPRequestHandler):
         return texts.told(line, self.language()) or line
 
     def show(self) -> None:
-        self.server.bus.read_table()
+        self.bus.read_table()
         self.write(200, "text/html", self.server.pages[self.language()])
 
     def tell_state(self) -> None:
         """The state, with each line that was said in the language of the page, as far as it has a translation."""
-        state, language = self.server.bus.state(), self.language()
+        state, language = self.bus.state(), self.language()
         if state["command"]:
             state["command"]["told"] = [texts.told(it, language) for it in state["command"]["said"]]
         state["trouble"] = "\n".join(map(self.said, (state["trouble"] or "").splitlines()))
@@ -228,7 +302,7 @@ class Handler(http.server.BaseHTTPRequestHandler):
 
     def show_frames(self) -> None:
         """The frames of the command that was begun last, which goes on telling of them."""
-        came = self.server.bus.told(None, 0)
+        came = self.bus.told(None, 0)
         if not came or not came[1]:
             raise Refused(404, "no command has told of its frames yet")
         page = viewer.fill(came[1], f"more/{came[0]}/")
@@ -236,26 +310,26 @@ class Handler(http.server.BaseHTTPRequestHandler):
 
     def tell_more(self) -> None:
         """What was told of a command since a page had so many bytes."""
-        came = self.server.bus.told(*map(int, self.numbers))
+        came = self.bus.told(*map(int, self.numbers))
         if not came:
             raise Refused(410, "the command has ended, or another one was begun")
         self.write(200, "application/x-ndjson", came[1])
 
     def tell_csv(self) -> None:
-        self.write(200, "text/csv", self.server.bus.csv(), ("Content-Disposition", 'attachment; filename="luminaires.csv"'))
+        self.write(200, "text/csv", self.bus.csv(), ("Content-Disposition", 'attachment; filename="luminaires.csv"'))
 
     def do(self) -> None:
         asked = self.body()
-        self.server.bus.begin(asked.get("command"), asked.get("address"), asked.get("missing", []))
+        self.bus.begin(asked.get("command"), asked.get("address"), asked.get("missing", []))
         self.tell_state()
 
     def walk(self) -> None:
-        walking.ask(self.server.bus, self.body())
+        walking.ask(self.bus, self.body())
         self.tell_state()
 
     def stop(self) -> None:
         self.body()
-        self.server.bus.stop()
+        self.bus.stop()
         self.tell_state()
 
     def name(self) -> None:
@@ -263,5 +337,5 @@ class Handler(http.server.BaseHTTPRequestHandler):
         random, place = asked.get("random"), asked.get("place")
         if not isinstance(random, str) or not places.RANDOM.fullmatch(random) or not isinstance(place, str):
             raise commanding.Bad("a random address and a place are wanted")
-        places.note(self.server.bus.names, random, place)
+        places.note(self.bus.names, random, place)
         self.tell_state()
