@@ -39,6 +39,7 @@ ENUMS = {
     "ReplayFault": ("crates/dali_grammar/src/fault.rt",),
     "Report": ("crates/dali_standing/src/report.rt",),
     "SiteLine": ("crates/dali_grammar/src/site_line.rt",),
+    "StoreFault": ("crates/dali_commission_program/src/stores.rt",),
     "ThreadsFault": ("crates/dali_threads/src/setup.rt",),
     "Trouble": ("crates/dali_events/src/trouble.rt",),
 }
