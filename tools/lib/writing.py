@@ -6,6 +6,7 @@ from collections.abc import Iterator
 
 DOCUMENTS = ("README.md", "CONTRIBUTING.md", "CHANGELOG.md", "docs/*.md", "tools/README.md")
 READMES = ("crates/*/README.md",)
+HELP = ("tools/lib/help/*.txt",)
 # How many words the files that match have at most, all together. If a page grows, another is to become shorter.
 MOST_WORDS = (
     (52_000, DOCUMENTS),
@@ -15,8 +16,8 @@ MOST_WORDS = (
     (1_500, ("docs/ARCHITECTURE.md",)),
 )
 LONGEST_SENTENCE = 30
-# Documents in which words to avoid are not looked for yet.
-OLDER = ("docs/FORMAT.md", "docs/INSTALLER.md", *READMES)
+# Texts in which words to avoid are not looked for yet.
+OLDER = ("docs/FORMAT.md", "docs/INSTALLER.md", *READMES, *HELP)
 # What stands for a piece of code in a text without it.
 CODE = "\N{LOZENGE}"
 # Words to avoid, and what to write. The conditions with 'where' are those that hardly ever are places.
@@ -64,9 +65,9 @@ def words(root: pathlib.Path) -> Iterator[str]:
 
 
 def plain(root: pathlib.Path) -> Iterator[str]:
-    """Documents have no words to avoid, no 'where' that begins a condition, and no numbers of decisions."""
+    """Documents and help texts have no words to avoid, no 'where' that begins a condition, and no numbers of decisions."""
     older = matching(root, OLDER)
-    for file in matching(root, (*DOCUMENTS, *READMES)):
+    for file in matching(root, (*DOCUMENTS, *READMES, *HELP)):
         for at, text in texts(file.read_text()) if file not in older else ():
             for pattern, advice in AVOIDED.items():
                 for found in re.finditer(pattern, text):
