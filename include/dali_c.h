@@ -56,7 +56,7 @@ enum dali_status {
     DALI_RANDOM_TAKEN = 7,
     /* What is released is not reserved so. */
     DALI_NOT_RESERVED = 8,
-    /* The struct is no machine of this version: another build of the library left it there, or nobody. */
+    /* The struct is no machine of this version: another build of the library left it there, or none. */
     DALI_OTHER_VERSION = 9
 };
 
@@ -79,12 +79,12 @@ enum dali_input {
     /* The record cannot be kept. */
     DALI_COMMIT_FAILED = 7,
     /* To start, in place of DALI_START, over gear that may have been used before. The machine asks under each short
-     * address that is reserved, or that its table does not name, whether somebody is there: three times where nobody
-     * answers. Who tells a random address is enrolled, whether or not the short address is of the block. Then the gear
+     * address that is reserved, or that its table does not name, whether gear are there: three times if none answers.
+     * Gear that tells a random address is enrolled, whether or not the short address is of the block. Then the gear
      * without short address are searched under the random addresses that they have, and get the address that is
-     * reserved for them, or a free one under which nobody was heard. At last, where such an address is free, those that
-     * are left draw random addresses and are searched. Use it in each run but a first one over new gear. It costs some
-     * six seconds of the bus. */
+     * reserved for them, or a free one under which no gear was heard. At last, if an address like that is free, those
+     * that are left draw random addresses and are searched. Use it in each run but a first one over new gear. It costs
+     * some six seconds of the bus. */
     DALI_SURVEY = 8
 };
 
@@ -208,7 +208,7 @@ struct dali_order {
     uint8_t priority;
     uint8_t address_byte;
     uint8_t opcode_byte;
-    /* DALI_PUT: 1 where a backward frame is awaited, else 0. */
+    /* DALI_PUT: 1 if a backward frame is awaited, else 0. */
     uint8_t asks;
     /* DALI_PUT: of enum dali_half. */
     uint8_t half;
@@ -288,8 +288,8 @@ struct dali_table {
     struct dali_pair gear[DALI_ADDRESSES];
 };
 
-/* The levels of a forward frame with its stop condition, half bit by half bit, each 416.7 microseconds long: 1 where
- * the bus is low, 0 where it is high. */
+/* The levels of a forward frame with its stop condition, half bit by half bit, each 416.7 microseconds long: 1 while
+ * the bus is low, 0 while it is high. */
 struct dali_levels {
     uint8_t is_low[DALI_HALVES];
 };
@@ -384,7 +384,7 @@ uint8_t dali_machine_records(const struct dali_machine *machine, struct dali_rec
 uint8_t dali_machine_table(const struct dali_machine *machine, struct dali_table *table);
 
 /* AT THE PINS, for a driver that sees the edges of the bus. A window tells what a machine is told; a receiver tells
- * each frame, also those of others. `is_low` is the level after an edge: 1 where the bus is low, 0 where it is high.
+ * each frame, also those of others. `is_low` is the level after an edge: 1 if the bus is low, 0 if it is high.
  * `micros` is how many microseconds have passed since the edge before, or until now since the last one. Hand each edge
  * over before a time that is later. docs/VENDOR.md says what else is the driver's. */
 
@@ -411,7 +411,7 @@ uint8_t dali_window_time(struct dali_window *window, uint32_t micros, struct dal
 /* A receiver of a bus that has been high for the time of a stop condition. */
 uint8_t dali_receiver_new(struct dali_receiver *receiver);
 
-/* An edge. Tells the frame that had ended before it, where dali_receiver_time did not tell it.
+/* An edge. Tells the frame that had ended before it, if dali_receiver_time did not tell it.
  *
  * DALI_BAD_ARGUMENT: `receiver` is none, or `is_low` is neither 0 nor 1. */
 uint8_t dali_receiver_edge(struct dali_receiver *receiver, uint8_t is_low, uint32_t micros, struct dali_told *told);

@@ -162,8 +162,8 @@ struct answers {
     int equal;
 };
 
-/* What is heard of them. Several together are damaged, or a clean byte where all are equal. An
- * answer is never turned into another byte, and where nobody answers no byte is heard. */
+/* What is heard of them. Several together are damaged, or a clean byte if all are equal. An
+ * answer is never turned into another byte, and if no gear answers no byte is heard. */
 static struct told heard(struct bus *bus, const struct answers *answers)
 {
     struct told silence = {DALI_HEARD_SILENCE, 0};

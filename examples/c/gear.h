@@ -19,7 +19,7 @@ struct gear {
     uint8_t state;
     /* As QUERY SHORT ADDRESS answers it: 2 * address + 1, or GEAR_MASK. */
     uint8_t short_byte;
-    /* The first frame of a send-twice pair, where it was the last frame that the gear took. No
+    /* The first frame of a send-twice pair, if it was the last frame that the gear took. No
      * such frame has address byte 0. */
     uint8_t half_address;
     uint8_t half_opcode;
@@ -31,11 +31,11 @@ struct troubles {
     uint32_t destroyed;
     /* The bus is lost before the frame is sent. */
     uint32_t lapsed;
-    /* No answer is heard, whoever answers. */
+    /* No answer is heard, whichever gear answers. */
     uint32_t lost;
     /* An answer is heard as damaged. */
     uint32_t damaged;
-    /* A damaged answer is heard where nobody answers. */
+    /* A damaged answer is heard if no gear answers. */
     uint32_t joined;
     /* A gear is without power for a moment. */
     uint32_t power;

@@ -56,7 +56,7 @@ static void send(struct levels *levels, uint32_t begin, uint32_t half, uint32_t 
     }
 }
 
-/* The bus is low where anybody pulls it low: lows that meet are one. */
+/* The bus is low while any device pulls it low: lows that meet are one. */
 static void join(struct levels *levels)
 {
     uint32_t count = 0;

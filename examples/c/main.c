@@ -123,7 +123,7 @@ static int read_words(struct words *words, int count, char **given)
     return 1;
 }
 
-/* The bus in a file, which keeps what the gear do also where this process is killed. NULL where it
+/* The bus in a file, which keeps what the gear do also if this process is killed. NULL if it
  * cannot be mapped. */
 static struct bus *bus_map(const char *path, int flags, int *is_new)
 {

@@ -49,7 +49,7 @@ static void course_begin(struct course *course, uint64_t seed)
     course->enrolled = 0;
 }
 
-/* Does what the step ordered. 0 where the machine has ended. */
+/* Does what the step ordered. 0 if the machine has ended. */
 static int course_follow(struct course *course)
 {
     const struct dali_order *order = &course->order;

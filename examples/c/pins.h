@@ -16,12 +16,12 @@ struct pins {
 /* The last edge of the own forward frame was at this time. The next edge is that of an answer. */
 void pins_sent(struct pins *pins, uint32_t time);
 
-/* An edge, at the time that the timer captured for it. `is_low` is 0 where the bus is high after it. */
+/* An edge, at the time that the timer captured for it. `is_low` is 0 if the bus is high after it. */
 void pins_edge(struct pins *pins, uint32_t time, uint8_t is_low);
 
 /* The time now, after each edge that was captured before it. Call it 12,401 microseconds after pins_sent, and then each
  * 100. 1 once the window is over: what the machine is told is in `heard` then. After a frame with `asks` 0 tell it
- * DALI_DESTROYED where that is no silence. */
+ * DALI_DESTROYED if that is no silence. */
 int pins_time(struct pins *pins, uint32_t now, struct dali_heard *heard);
 
 #endif

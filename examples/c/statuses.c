@@ -5,7 +5,7 @@
  *
  * Each round tries a machine, records, a window and a receiver, some as they are, some with one byte
  * changed, some with all bytes at random; and it sends an answer and a frame by their levels. It says which of the first checks were wrong, and how many were right and
- * how many wrong; the status is 1 where one was wrong. */
+ * how many wrong; the status is 1 if one was wrong. */
 #include "chance.h"
 #include "controller.h"
 #include "dali_c.h"
@@ -76,7 +76,7 @@ static struct dali_record record_of(uint8_t kind, uint8_t short_address, uint32_
     return (struct dali_record){kind, {short_address, random}};
 }
 
-/* Each call must answer so, and leave everything untouched where it refuses. */
+/* Each call must answer so, and leave everything untouched if it refuses. */
 
 static void check_records_new(uint8_t first, uint8_t last, uint8_t status)
 {
@@ -109,7 +109,7 @@ static void check_new(const struct dali_records *records, uint8_t status)
     check_written(&machine, sizeof machine, status, "what dali_machine_new writes");
 }
 
-/* A step, and where the struct holds a machine the same by dali_machine_go. */
+/* A step, and if the struct holds a machine the same by dali_machine_go. */
 static void check_step(struct dali_machine *machine, uint8_t input, uint8_t byte, uint8_t status)
 {
     struct dali_machine before = *machine;
@@ -318,7 +318,7 @@ static int is_order(const struct dali_order *order)
     return is_one && memcmp(order, &plain, sizeof plain) == 0;
 }
 
-/* What is due after an order of this kind, or NO_CODE where that is none. */
+/* What is due after an order of this kind, or NO_CODE if that is none. */
 static uint8_t due_after(enum dali_order_kind kind)
 {
     switch (kind) {
@@ -335,7 +335,7 @@ static uint8_t due_after(enum dali_order_kind kind)
     return NO_CODE;
 }
 
-/* What is due where this input may come, or NO_CODE where that is none. */
+/* What is due when this input may come, or NO_CODE if that is none. */
 static uint8_t due_for(enum dali_input input)
 {
     switch (input) {
@@ -402,7 +402,7 @@ static void try_window(const struct dali_window *given, uint8_t is_low, uint32_t
     struct dali_heard heard;
     struct dali_told told;
     int is_receiver = receiver.reading <= 4 && receiver.is_low <= 1;
-    /* What it has heard, and 4 more where it has passed over a pulse. */
+    /* What it has heard, and 4 more if it has passed over a pulse. */
     uint8_t code = window.heard >= 4 ? (uint8_t)(window.heard - 4) : window.heard;
     int is_window = is_receiver && code >= DALI_HEARD_SILENCE && code <= DALI_HEARD_DAMAGED;
     uint8_t status = is_window && is_low <= 1 ? DALI_OK : DALI_BAD_ARGUMENT;

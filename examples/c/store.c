@@ -42,7 +42,7 @@ static void write_stored(uint8_t *stored, const struct dali_record *record)
     stored[6] = (uint8_t)(check & 0xFF);
 }
 
-/* 1 where the check bytes are right. */
+/* 1 if the check bytes are right. */
 static int read_stored(struct dali_record *record, const uint8_t *stored)
 {
     record->kind = stored[0];

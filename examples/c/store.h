@@ -18,12 +18,12 @@ enum store_status {
     STORE_REFUSED = 3
 };
 
-/* Opens a file of records, which is made where it is not there, and adds all its records to
+/* Opens a file of records, which is made if it is not there, and adds all its records to
  * `records`. A last record that is not whole is cut off: the loss of power came while it was
- * written, and no machine was told of it. The store is closed again where it is not STORE_OPEN. */
+ * written, and no machine was told of it. The store is closed again if it is not STORE_OPEN. */
 enum store_status store_open(struct store *store, const char *path, struct dali_records *records);
 
-/* Appends a record. 1 where it is safe from a loss of power now, else 0: then it is there or not,
+/* Appends a record. 1 if it is safe from a loss of power now, else 0: then it is there or not,
  * and nothing may be kept before the store was opened again. */
 int store_keep(struct store *store, const struct dali_record *record);
 

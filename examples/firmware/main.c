@@ -11,7 +11,7 @@
 #define MOST_FRAMES UINT32_C(100000)
 /* More moments than a life has. */
 #define FOR_GOOD UINT32_C(0xFFFFFFFF)
-/* Fewer than addresses: one that was reserved is lost where its gear draws anew. */
+/* Fewer than addresses: one that was reserved is lost if its gear draws anew. */
 #define MOST_GEAR 48
 
 static uint8_t flash[PAGES][PAGE_SLOTS * SLOT_BYTES];
@@ -19,7 +19,7 @@ static struct bus bus;
 static struct node node;
 static struct dali_order put;
 static uint64_t chance;
-/* How many moments of flash and bus are left before the power is cut; 0 where it is cut. What happens then has no effect. */
+/* How many moments of flash and bus are left before the power is cut; 0 once it is cut. What happens then has no effect. */
 static uint32_t moments;
 static uint32_t cuts, frames, writes, erasures;
 
@@ -33,7 +33,7 @@ static void must(int is_so, const char *what)
     }
 }
 
-/* One moment passes. 2 where there is power behind it, 1 where it is cut in its midst, 0 where there is none. */
+/* One moment passes. 2 if there is power behind it, 1 if it is cut in its midst, 0 if there is none. */
 static int power(void)
 {
     if (moments == 0)
@@ -48,7 +48,7 @@ const uint8_t *flash_page(int page)
     return flash[page];
 }
 
-/* Where the power is cut meanwhile, each byte is erased, as it was, or anything between. */
+/* If the power is cut meanwhile, each byte is erased, as it was, or anything between. */
 int flash_erase(int page)
 {
     int how = power();
@@ -59,7 +59,7 @@ int flash_erase(int page)
     return how == 2;
 }
 
-/* Where the power is cut meanwhile, some of the bits are written. */
+/* If the power is cut meanwhile, some of the bits are written. */
 int flash_write(int page, int slot, const uint8_t *bytes)
 {
     int how = power();

@@ -3,7 +3,7 @@
 
 #define QUIET_RUNS 3
 
-/* A new machine with the records of the one before, which begins by a survey. 0 where nothing is left to do. */
+/* A new machine with the records of the one before, which begins by a survey. 0 if nothing is left to do. */
 static int run_again(struct node *node)
 {
     struct dali_records records;

@@ -12,7 +12,7 @@ enum node_state {
     NODE_READY = 1,
     /* A machine halted by DALI_CONFLICT: look at the site. */
     NODE_CONFLICT = 2,
-    /* The store cannot be used, or the machine refused a step: start anew, and where that comes again, stop. */
+    /* The store cannot be used, or the machine refused a step: start anew, and if that comes again, stop. */
     NODE_FAILED = 3
 };
 

@@ -102,7 +102,7 @@ static int write_anew(struct pages *pages, const struct dali_records *standing)
     return 1;
 }
 
-/* Finds the page that is the store. Without one there was none yet, where no record was ever written. */
+/* Finds the page that is the store. Without one there was none yet, if no record was ever written. */
 static enum pages_status find(struct pages *pages)
 {
     /* Ages go round. */

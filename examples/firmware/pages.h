@@ -11,7 +11,7 @@
 /* A head, and more than the 128 records that a controller can have at one time. */
 #define PAGE_SLOTS 256
 
-/* The flash, which is yours. A page is read as memory; erased bytes are FF. 1 where it was done, else 0. */
+/* The flash, which is yours. A page is read as memory; erased bytes are FF. 1 if it was done, else 0. */
 const uint8_t *flash_page(int page);
 int flash_erase(int page);
 int flash_write(int page, int slot, const uint8_t *bytes);
@@ -37,7 +37,7 @@ enum pages_status {
  * and one that was read, but may fade, is written in full. */
 enum pages_status pages_open(struct pages *pages, struct dali_records *records);
 
-/* Keeps a record beside those that stand. 1 where it is safe from a loss of power now, else 0: then it is there or not,
+/* Keeps a record beside those that stand. 1 if it is safe from a loss of power now, else 0: then it is there or not,
  * and nothing may be kept before the store was opened again. */
 int pages_keep(struct pages *pages, const struct dali_records *standing, const struct dali_record *record);
 
