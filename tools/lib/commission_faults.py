@@ -443,8 +443,9 @@ def stalls(place: Place, chance: random.Random) -> None:
     for at in (1, *sorted(chance.sample(range(2, count + 1), 7))):
         for text in (b"", b"sil"):
             ran = short_run(place, seconds=1, fault={"at": at, "kind": "stalls", "text": text.hex()})
-            begun = ", and has begun a line: 'sil'" if text else ""
-            check_relay(place, "a driver that stalls", ran, f"the driver did not answer frame {at} in 1 second{begun}")
+            check_relay(place, "a driver that stalls", ran, f"the driver did not answer frame {at} in 1 second")
+            is_right = ("the driver wrote 'sil'\n" in ran.said) == bool(text)
+            place.check("what a driver that stalls has begun to answer is said", is_right, ran)
     check_goes_on(place, "drivers that stalled")
 
 

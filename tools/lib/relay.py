@@ -1,8 +1,7 @@
-"""Passes the lines of a program to its driver, one at a time, and each answer back: tools/drive says how."""
+"""Passes the lines of a program to its driver, one at a time, and what it answers back: tools/drive says how."""
 
 import math
 import os
-import re
 import select
 import subprocess
 import time
@@ -13,9 +12,8 @@ if typing.TYPE_CHECKING:
 
 # What the lines of a program begin with that are the driver's.
 PUT = b"put "
-# What a driver may answer, and how many bytes its lines have at most before the line feed; so many are shown of one.
-ANSWER = re.compile(rb"silence|byte [0-9A-Fa-f]{2}|damaged|destroyed|lapsed")
-LONGEST = 16
+# How many bytes are shown of a line of a driver.
+SHOWN = 16
 # How much is read at once of a program, and of a driver.
 MUCH, LITTLE = 65536, 64
 # How many seconds a program has to end by itself after the first signal.
@@ -32,9 +30,8 @@ class Gone(Fault):
 
 def shown(line: bytes) -> str:
     """A line of a driver for a message: its first bytes, those that are no printable ASCII by their numbers."""
-    names = {9: r"\t", 10: r"\n", 13: r"\r", 92: r"\\"}
-    text = "".join(names.get(it, chr(it) if 32 <= it < 127 else f"\\x{it:02X}") for it in line[:LONGEST])
-    return f"'{text}'{'..' if len(line) > LONGEST else ''}"
+    text = "".join(chr(it) if 32 <= it < 127 else f"\\x{it:02X}" for it in line[:SHOWN])
+    return f"'{text}'{'..' if len(line) > SHOWN else ''}"
 
 
 def readable(files: list[typing.IO[bytes]], seconds: float) -> list[typing.IO[bytes]]:
@@ -59,7 +56,7 @@ class Relay:
         tells: "telling.Run | None" = None,
     ) -> None:
         self.program, self.driver, self.seconds, self.signals, self.tells = program, driver, seconds, signals, tells
-        # What both wrote that is not passed yet, and whether that was their last.
+        # What the program wrote that is not passed yet, what the driver has begun to answer, and whether both have written their last.
         self.wrote, self.told, self.is_ended, self.is_gone = b"", b"", False, False
         # How many frames were passed, and until when the last one is to be answered, where it is not.
         self.frames, self.until = 0, math.inf
@@ -81,7 +78,8 @@ class Relay:
         if not self.is_ended:
             return False
         is_stopped = self.program.returncode < 0 or self.signals.is_urgent()
-        return is_stopped or self.fault is not None or not self.is_awaited()
+        # The rest of an answer that has begun nobody reads.
+        return is_stopped or self.fault is not None or not self.is_awaited() or bool(self.told)
 
     def is_awaited(self) -> bool:
         """Whether a frame waits for its answer."""
@@ -120,9 +118,8 @@ class Relay:
         """What is due since somebody waited too long, or was asked to end."""
         now = time.monotonic()
         if now >= self.until:
-            begun = f", and has begun a line: {shown(self.told)}" if self.told else ""
             seconds = f"{self.seconds:g} second{'' if self.seconds == 1 else 's'}"
-            raise Fault(f"the driver did not answer frame {self.frames} in {seconds}{begun}")
+            raise Fault(f"the driver did not answer frame {self.frames} in {seconds}")
         if not self.is_awaited() and self.signals.is_to_end():
             self.close_input()
         if now >= self.patient_until():
@@ -161,11 +158,11 @@ class Relay:
         except OSError as why:
             self.unwritten = why.strerror
 
-    def answer(self, line: bytes) -> None:
-        """Passes a line of the driver to the program, if it still wants one."""
+    def answer(self, text: bytes) -> None:
+        """Passes a line of the driver to the program, or a part of one, if it still wants it."""
         try:
             if not self.program.stdin.closed:
-                os.write(self.program.stdin.fileno(), line)
+                os.write(self.program.stdin.fileno(), text)
         except OSError:
             self.close_input()
 
@@ -194,33 +191,25 @@ class Relay:
             raise Fault(f"the driver does not read its lines, of which {self.frames} were written")
 
     def hear(self) -> None:
-        """Takes what the driver wrote, and passes it to the program where it is a line, and that was asked for."""
+        """Takes what the driver wrote, and passes it on as far as it was asked for: up to a line feed. The program judges it."""
         more = os.read(self.driver.stdout.fileno(), LITTLE)
         if not more:
             self.hear_end()
             return
-        self.check_asked(b"" if self.is_awaited() else more)
-        self.told += more
-        line, feed, rest = self.told.partition(b"\n")
-        if len(line) > LONGEST:
-            self.answer(line[: LONGEST + 1])
-            raise Fault(f"the driver answered frame {self.frames} by a line of more than {LONGEST} bytes: {shown(line)}")
+        text, feed, rest = more.partition(b"\n") if self.is_awaited() else (b"", b"", more)
+        self.check_asked(rest)
+        self.told += text
+        self.answer(text + feed)
         if feed:
-            self.check_asked(rest)
-            self.told, self.until = b"", math.inf
-            self.answer(line + feed)
-            if not ANSWER.fullmatch(line):
-                raise Fault(f"the driver answered frame {self.frames} by a line that is no answer: {shown(line)}")
             if self.tells:
-                self.tells.answer(line)
+                self.tells.answer(self.told)
+            self.told, self.until = b"", math.inf
 
     def hear_end(self) -> None:
         """The driver writes no more."""
         self.is_gone = True
         if self.is_awaited():
-            self.answer(self.told)
-            torn = f"; its last line has no line feed: {shown(self.told)}" if self.told else ""
-            raise Gone(f"before it answered frame {self.frames}{torn}")
+            raise Gone(f"before it answered frame {self.frames}")
         self.close_input()
 
     def check_asked(self, text: bytes) -> None:
@@ -234,11 +223,10 @@ class Relay:
         """What the driver, which has ended, wrote after its last answer. One that nobody waited for any more is none of it."""
         os.set_blocking(self.driver.stdout.fileno(), False)
         try:
-            text = self.told + (os.read(self.driver.stdout.fileno(), MUCH) or b"")
-        except BlockingIOError:
-            text = self.told
-        try:
+            text = os.read(self.driver.stdout.fileno(), MUCH)
             self.check_asked(text.partition(b"\n")[2] if self.is_awaited() else text)
+        except BlockingIOError:
+            pass
         except Fault as fault:
             self.fault = self.fault or fault
 

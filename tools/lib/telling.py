@@ -7,8 +7,9 @@ import typing
 
 from lib import ROOT, dump
 
-# A line of a program for its driver, and what the driver may answer that was on the bus.
+# A line of a program for its driver, and the driver's line without its line feed.
 PUT = re.compile(rb"put ([1-5]) ([0-9A-F]{4}) .*\n")
+ANSWER = re.compile(rb"silence|byte [0-9A-Fa-f]{2}|damaged|destroyed|lapsed")
 # How many bit times a forward frame takes with its start and stop bits, and a backward frame.
 FORWARD, BACKWARD = 19, 11
 # The commands that have no data, and those whose data is a byte of the search address.
@@ -74,8 +75,8 @@ class Run:
         self.waiting = found and (int(found[1]), int(found[2], 16), int((time.monotonic() - self.begun) * 1_000_000))
 
     def answer(self, line: bytes) -> None:
-        """The driver answers it so."""
-        if self.waiting:
+        """The driver answers it so. Of a line that is no answer nothing is told: the program refuses it, and ends."""
+        if self.waiting and ANSWER.fullmatch(line):
             priority, frame, at = self.waiting
             event = self.event(priority, frame, at, line.decode("ascii"))
             self.dump.asked[0] = priority
