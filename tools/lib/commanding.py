@@ -192,11 +192,15 @@ class Bus:
     """What is known of a bus, and the command that goes on over it. Threads share it.
 
     kept  the descriptors that a command keeps open until it has ended
+    name  what it is called, and `building` the building that it is in, if it is in one
     """
+
+    building: str | None = None
 
     def __init__(self, site: Site, kept: tuple[int, ...] = ()) -> None:
         self.site, self.kept, self.lock, self.idle = site, kept, threading.RLock(), threading.Event()
         self.names, self.command, self.trouble = places.file_of(site.records[0]), None, None
+        self.name = self.names.name.removesuffix(places.ENDING)
         # The table, who of it was there and who was silent when asked last; what the last check found beside it, and when; the addresses that
         # the last run left alone.
         self.table, self.there, self.silent, self.unaddressed = [], set(), set(), None
@@ -371,7 +375,7 @@ class Bus:
                 walk.seen = time.monotonic()
             command = self.command.state(odd, silent) if self.command else None
             return {
-                "site": self.names.name.removesuffix(places.ENDING), "version": VERSION, "records": self.site.records,
+                "site": self.name, "building": self.building, "version": VERSION, "records": self.site.records,
                 "block": self.site.block, "driver": self.site.title, "trouble": trouble, "busy": not self.idle.is_set(), "command": command,
                 "places": them, "odd": odd, "silent": silent, "spare": spare,
                 "unaddressed": self.unaddressed, "checked": self.checked, "unfinished": unfinished,

@@ -30,7 +30,8 @@ NUMBER = re.compile("[0-9]{1,9}")
 KEPT = re.compile(r"http://127\.0\.0\.1:([0-9]{1,5})/([A-Za-z0-9_-]{32})/")
 # Who may ask: a browser says where a request comes from.
 OWN = ("same-origin", "none")
-# What is filled in the page: its language, and its texts as JSON.
+# What is put in a page: what all pages have in common, its language, and its texts as JSON.
+COMMON = {"/*STYLE*/": ROOT / "tools/lib/page.css", "/*COMMON*/": ROOT / "tools/lib/page.js"}
 LANGUAGE, TEXTS = '<html lang="en">', "/*TEXTS*/"
 
 
@@ -52,6 +53,14 @@ def policy(page: str) -> str:
     """What a page may do: run its own script, look as it says, and ask its server."""
     own = f"default-src 'none'; script-src {hashed(page, 'script')}; style-src {hashed(page, 'style')}; "
     return own + "connect-src 'self'; img-src data:; base-uri 'none'; form-action 'none'; frame-ancestors 'none'"
+
+
+def source(file: pathlib.Path) -> str:
+    """A page in no language."""
+    text = file.read_text(encoding="utf-8")
+    for mark, common in COMMON.items():
+        text = text.replace(mark, common.read_text(encoding="utf-8"), 1)
+    return text
 
 
 def filled(page: str, language: str) -> str:
@@ -148,7 +157,7 @@ class Server(http.server.ThreadingHTTPServer):
         self.bus, self.token, self.lanes = bus, token or secrets.token_urlsafe(24), threading.BoundedSemaphore(LANES)
         # The connections whose request is not whole yet, the oldest first.
         self.half_open, self.lock = {}, threading.Lock()
-        page = PAGE.read_text(encoding="utf-8")
+        page = source(PAGE)
         self.pages = {it: filled(page, it) for it in texts.languages()}
         self.policy, self.viewer_policy = policy(page), policy(story.VIEWER.read_text(encoding="utf-8"))
         super().__init__((LOOPBACK, port), handler or Handler)

@@ -80,7 +80,13 @@ class Walk:
             if self.address() is None:
                 self.begin_turn()
             else:
-                self.own = self.bus.start("identify", self.address())
+                self.blink()
+
+    def blink(self) -> None:
+        try:
+            self.own = self.bus.start("identify", self.address())
+        except commanding.Busy:
+            self.rests = "why:busy"
 
     def is_at_fault(self, command: "commanding.Command") -> bool:
         return command.status is not None and 0 < command.status < commanding.STOPPED

@@ -20,13 +20,16 @@ WAITS = "waits"
 
 
 class Taken(Exception):
-    """A page or a command has the bus."""
+    """The bus is not to be had: a page or a command has it, or its folder refuses the file of the lock."""
 
 
 @contextlib.contextmanager
 def alone(records: str) -> collections.abc.Iterator[int]:
     """Has a bus alone, by the file that a page locks, too. A command that inherits the descriptor has the bus until it has ended."""
-    number = os.open(f"{records}.page", os.O_RDWR | os.O_CREAT, 0o600)
+    try:
+        number = os.open(f"{records}.page", os.O_RDWR | os.O_CREAT, 0o600)
+    except OSError as why:
+        raise Taken(f"error: {records}.page: {why.strerror}") from why
     try:
         fcntl.flock(number, fcntl.LOCK_EX | fcntl.LOCK_NB)
         yield number
