@@ -1,4 +1,4 @@
-#!/usr/bin/env python3
+#!/usr/bin/env -S python3 -S -E
 """Stands for the program `dali_commission` in checks that have no kit: it takes its words and says what it says.
 
 The file of the records is JSON, a random address for each short one. The file that BUS names, or else `bus.json` beside the records, has
