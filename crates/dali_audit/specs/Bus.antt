@@ -234,8 +234,8 @@ bus_at_first = record {
   may_redraw = true;
 }
 
--- THE BUS AFTER AN ITEM. A frame for other devices ends a half pair; of a damaged frame nobody
--- knows what it was, so that nothing is awaited any more, and an initialisation may be in force.
+-- THE BUS AFTER AN ITEM. A frame for other devices ends a half pair; it is not known what a damaged
+-- frame was, so that nothing is awaited any more, and an initialisation may be in force.
 abbrev pub bus_heard : Item → Seen → Bus → Bus
 bus_heard x (seen.Sent f heard) b =
     sent_by (command_of f) (repeats b.half f) (completes b.half x.until f) x heard (passed x f b)
@@ -244,7 +244,7 @@ bus_heard x seen.Broken b = record b { half = None; given = None; is_closed = fa
 bus_heard x seen.Replied b = b
 bus_heard x seen.Stray b = b
 
--- when the last frame was over, from which on the bus settles; of what is damaged nobody knows
+-- when the last frame was over, from which on the bus settles; of what is damaged it is not known
 abbrev pub frame_end : Heard → ℕ → Option ℕ
 frame_end (heard.Forward f) until = Some until
 frame_end (heard.Backward byte) until = Some until

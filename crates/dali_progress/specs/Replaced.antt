@@ -28,8 +28,8 @@ pub record HasVacant (s : SiteState) (c : ℕ) : Type 0 where
   pub enough : bare s ≤ length addresses
 
 -- ONE IS NEW. Of the gear that have power, g alone has no short address; and an address of the
--- controller's block is vacant. The others may have short addresses of that block or not, whoever
--- gave them.
+-- controller's block is vacant. The others may have short addresses of that block or not, by any
+-- controller.
 pub record HasNew (s : SiteState) (c g a : ℕ) : Type 0 where
   pub there : g < length (world s).gear
   pub bare : is_bare (gear_at (world s) g) ≡ true
