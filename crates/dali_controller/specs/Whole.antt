@@ -60,9 +60,9 @@ Sends k n p s c =
     × IfSome (given s c) (λ g. MayGive k.block k.reserved g.0 g.1)
 
 -- What is known while a transaction runs: whether gear are searched, and where its number comes
--- from. In the visits before the opening it is reserved, for the gear of which a short address
--- is asked. Only a start probes. Only a survey asks short addresses, calls the roll, and opens
--- once gear are searched.
+-- from. In the visits before the opening it is reserved, and a short address is asked about the
+-- number that it is reserved for. Only a start probes. Only a survey asks short addresses, calls
+-- the roll, and opens once gear are searched.
 abbrev pub IsOpenedOn : Way → Bool → Type 0
 IsOpenedOn Fresh opened = opened ≡ false
 IsOpenedOn Surveying opened = opened ≡ true
