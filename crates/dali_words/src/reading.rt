@@ -32,7 +32,7 @@ fn named(program: &Program, name: &str) -> Option<&'static Subcommand>
 fn refused(
     alloc: Global,
     program: &Program,
-    name: &str,
+    from: &Subcommand,
     wrong: LineFault,
 ) -> Result<Error, AllocError>
     ensures kind { IfOk result (λ error. Some (kind_of error) ≡ kind_of_fault wrong) }
@@ -43,12 +43,9 @@ fn refused(
         LineFault::Conflict(message) => (ErrorKind::ArgumentConflict, message),
         LineFault::Memory => return Err(AllocError),
     };
-    let program_name = program.name;
+    let (program_name, name) = (program.name, from.name);
     let whole = format!(in alloc; "{program_name} {name}")?;
-    match named(program, name) {
-        Some(from) => command_of(alloc, &whole, from)?.error(kind, &message),
-        None => command(alloc, program)?.error(kind, &message),
-    }
+    command_of(alloc, &whole, from)?.error(kind, &message)
 }
 
 fn matches<'a>(
@@ -59,13 +56,18 @@ fn matches<'a>(
     command(alloc, program)?.try_get_matches_from(words)
 }
 
-/// What stands on the line. A subcommand that the program does not know, or none, `clap` refuses before.
-fn line(alloc: Global, program: &Program, found: &ArgMatches<'_>) -> Result<CommandLine, Error>
-    ensures { IfOk result (λ line. subcommand_name_of found.now ≡ Some (string_bytes line.subcommand)) }
+/// The subcommand that stands on the line, and what stands there of its words. One that the program does not know, or
+/// none, `clap` refuses before.
+fn line(
+    alloc: Global,
+    program: &Program,
+    found: &ArgMatches<'_>,
+) -> Result<(&'static Subcommand, CommandLine), Error>
+    ensures { IfOk result (λ r. subcommand_name_of found.now ≡ Some (string_bytes r.1.subcommand)) }
 {
     if let Some((name, found)) = found.subcommand() {
         if let Some(from) = named(program, name) {
-            return Ok(CommandLine::of(alloc, from, found)?);
+            return Ok((from, CommandLine::of(alloc, from, found)?));
         }
     }
     Err(command(alloc, program)?.error(ErrorKind::InvalidSubcommand, NO_SUBCOMMAND)?)
@@ -80,10 +82,10 @@ fn read<T, F: FnOnce(Global, &CommandLine) -> Result<T, LineFault>>(
 ) -> Result<T, Error>
     requires { F.IsAlwaysCallable task }
 {
-    let line = line(alloc, program, &matches(alloc, program, words)?)?;
+    let (from, line) = line(alloc, program, &matches(alloc, program, words)?)?;
     match task(alloc, &line) {
         Ok(task) => Ok(task),
-        Err(wrong) => Err(refused(alloc, program, &line.subcommand, wrong)?),
+        Err(wrong) => Err(refused(alloc, program, from, wrong)?),
     }
 }
 
