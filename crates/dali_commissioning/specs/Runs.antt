@@ -24,7 +24,7 @@ use Rattle.dali_commissioning.specs.Census.{AreCounted, IsLost, is_addressed}
 use Rattle.dali_commissioning.specs.Unaddressed.{asking, AreLeftOver, AreLostSo}
 use Rattle.dali_commissioning.specs.Steps.{Step, first_told, last_order, committed_by}
 use Rattle.dali_commissioning.specs.Steps.{has_committed}
-use Rattle.dali_commissioning.specs.Conducted.{Conducted, Commits, Stays, order_of}
+use Rattle.dali_commissioning.specs.Conducted.{Conducted, Commits, Stays, HasTaken, order_of}
 
 -- A RUN of a machine: the records that its store gave it, its steps, how it ended, under which
 -- short addresses its survey heard gear that it does not know, the gear that it found last, how
@@ -53,6 +53,10 @@ pub record IsRun {S : Type 0} (is_up is_sound : S → Type 0) (holds : S → Lis
       → IsReplay block xs run.start
   pub commits : Commits is_up is_sound holds was keep (committed_by run.steps)
   pub stays : Stays is_up is_sound was keep
+
+-- a machine took as many steps as one may take, and has not ended
+abbrev pub IsSpent : Type 0
+IsSpent = (k : Kept) × (n : Machine) × HasTaken (at_first 0 k) n 1000001
 
 -- RUNS that each begin so, one after the other, last first
 abbrev pub AreRuns : {S : Type 0} (is_up is_sound : S → Type 0)

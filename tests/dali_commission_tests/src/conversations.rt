@@ -3,12 +3,12 @@
 use super::broken::Broken;
 use super::bus::{Bus, Put, Told};
 use dali_commissioning::{
-    CommissionFault, DriverFault, DriverLink, Ended, Newcomers, Unwatched, commission,
+    CommissionFault, DriverFault, DriverLink, Ended, Newcomers, Unwatched, Watch, commission,
     look_for_newcomers, told_of,
 };
 use dali_frame::{Answer, Short};
 use dali_reserve::{Keep, KeepError, MemoryKeep};
-use dali_script::{Block, End, Input, Kept};
+use dali_script::{Block, End, Input, Kept, Order};
 use std::io::Write;
 use std::process::Abort;
 
@@ -98,6 +98,39 @@ fn a_gear_is_given_an_address(rt: HostRuntime) {
         Ok(kept) => assert!(rt; kept.enrolled().len() == 1 && kept.reserved().len() == 1),
         Err(_) => panic!(rt; "not read"),
     }
+}
+
+/// Counts what it sees.
+#[derive(Drop)]
+struct Counted {
+    ordered: u64,
+    told: u64,
+}
+
+impl Watch for Counted {
+    fn ordered(&mut self, _order: &Order) {
+        self.ordered += 1;
+    }
+
+    fn told(&mut self, _told: Input) {
+        self.told += 1;
+    }
+}
+
+/// Each line of the driver is told, and each of two commits; nothing is told of the last order of either machine.
+#[test]
+fn a_watch_sees_each_order_and_what_comes_of_it(rt: HostRuntime) {
+    let mut answers = found(&rt);
+    assert!(rt; answers.push_str(GIVEN).is_ok());
+    let mut keep = none_kept();
+    let mut driver = DriverLink::new(rt.alloc(), answers.as_bytes(), std::io::sink());
+    let mut watch = Counted {
+        ordered: 0,
+        told: 0,
+    };
+    assert!(rt; commission(&mut keep, &mut driver, &mut watch, Input::Start, 1).is_ok());
+    assert!(rt; watch.told == driver.lines() + 2);
+    assert!(rt; watch.ordered == watch.told + 2);
 }
 
 #[test]
