@@ -1,15 +1,14 @@
-use Rattle.std.proofs.Common.{◌≡◌, ℕ, inl, inr, List, [], ◌∷◌, ◌++◌, refl, sym, ◌∙◌, subst, ⊎_elim}
+use Rattle.std.proofs.Common.{◌≡◌, inl, inr, List, [], ◌∷◌, ◌++◌, refl, sym, ◌∙◌, subst, ⊎_elim}
 use Rattle.std.proofs.lemmas.List.{append_assoc}
 use Rattle.std.specs.declared.option.Option.{Option}
 use Rattle.std.specs.declared.option.Option.TheVariants.{None, Some}
-use Rattle.std.specs.Option.{IsSomeAnd, IfSome, IfNone}
-use Rattle.dali_script.specs.declared.block.Block.{Block}
+use Rattle.std.specs.Option.{IsSomeAnd, IfSome}
 use Rattle.dali_script.specs.declared.records.Record.{Record}
 use Rattle.dali_script.specs.declared.records.Record.TheVariants.{Enrol}
 use Rattle.dali_script.specs.Records.{Has}
 use Rattle.dali_script.specs.Table.{Enrolled}
 use Rattle.dali_enrol.specs.Directory.{Pass, Keeps, known_at}
-use Rattle.dali_line.specs.Leaves.{IsStored, Leaves, Learns, Posts, Stores}
+use Rattle.dali_line.specs.Leaves.{Leaves, Learns, Posts}
 use Rattle.dali_line.proofs.Leaving.{leaves_none, leaves_more}
 
 -- WHAT A WORKER'S PASS LEARNS, turn by turn.
@@ -36,18 +35,6 @@ learns_more was between is xs first second a = ⊎_elim
     (λ some. inr some)
     (second a)
 
--- an enrolment that is stored stands in the list
-stored_stands : (b : Block) (xs : List Record) (a r : ℕ) → IsStored b xs (Enrol a r) → Has xs (Enrol a r)
-stored_stands b xs a r (inl has) = has
-stored_stands b xs a r (inr gone) = absurd gone.0
-
--- what was learned of one record that a list has
-learns_stored : (b : Block) (was is : Pass) (xs : List Record) (x : Record) → IsStored b xs x → Learns was is (x ∷ []) → Learns was is xs
-learns_stored b was is xs x stored learned a = ⊎_elim (λ same. inl same)
-    (λ some. inr (some_then (known_at is a) _ _
-    (λ e has. ⊎_elim (λ here. stored_stands b xs e.short e.random (subst (IsStored b xs) here stored)) (λ none. elim none [ ]) has) some))
-    (learned a)
-
 -- what was known is known still, later too
 pub known_then : (o n m : Option Enrolled) → IfSome o (λ e. n ≡ Some e) → IfSome n (λ e. m ≡ Some e) → IfSome o (λ e. m ≡ Some e)
 known_then None n m one two = tt
@@ -62,31 +49,6 @@ module _ {S : Type 0} (is_up is_sound : S → Type 0) (holds : S → List Record
   posts_none old new p left = record {
     list = λ s u xs held. let l = left.list s u xs held in (l.0, l.1, λ a. inl refl);
   }
-
-  pub posts_same : (old new new' : S) (was is : Pass) → Leaves is_up is_sound holds old new → new' ≡ new → is ≡ was → Posts is_up is_sound holds old new' was is
-  posts_same old new new' was is left same it =
-      subst (λ n. Posts is_up is_sound holds old n was is) (sym same) (subst (Posts is_up is_sound holds old new was) (sym it) (posts_none old new was left))
-
-  -- where it learned of one record that the store has
-  pub posts_one : (block : S → Block) (old new : S) (was is : Pass) (x : Record) → Stores is_up is_sound holds block old new x
-      → Learns was is (x ∷ []) → Posts is_up is_sound holds old new was is
-  posts_one block old new was is x stored learned = record {
-    list = λ s u xs held.
-        let has = stored s u xs held in
-        (has.0, has.1, learns_stored (block new) was is (xs ++ has.0) x has.2 learned);
-  }
-
-  -- where it learned of the record that the store has, if there is one
-  pub posts_if : (block : S → Block) (old new new' : S) (was is is' : Pass) (kept : Option Record) → Leaves is_up is_sound holds old new
-      → IfSome kept (Stores is_up is_sound holds block old new)
-      → IfSome kept (λ x. Learns was is (x ∷ [])) → IfNone kept (is ≡ was) → new' ≡ new → is' ≡ is
-      → Posts is_up is_sound holds old new' was is'
-  posts_if block old new new' was is is' None left stored learned none same it =
-      subst (λ n. Posts is_up is_sound holds old n was is') (sym same)
-      (subst (Posts is_up is_sound holds old new was) (sym (it ∙ none)) (posts_none old new was left))
-  posts_if block old new new' was is is' (Some x) left stored learned none same it =
-      subst (λ n. Posts is_up is_sound holds old n was is') (sym same)
-      (subst (Posts is_up is_sound holds old new was) (sym it) (posts_one block old new was is x stored learned))
 
   -- and then more
   pub posts_more : (old between new : S) (was then_ is : Pass)

@@ -1,4 +1,4 @@
-use Rattle.std.proofs.Common.{◌≡◌, ℕ, ◌+◌, ◌≤◌, arith, length, ◌⊎◌, inl, inr, Bool, true, false, List, [], ◌∷◌, ◌++◌, refl, sym, ap, ◌∙◌, subst, ⊎_elim}
+use Rattle.std.proofs.Common.{◌≡◌, ℕ, ◌+◌, ◌≤◌, arith, length, ◌⊎◌, inl, inr, List, [], ◌∷◌, ◌++◌, refl, sym, ap, ◌∙◌, subst, ⊎_elim}
 use Rattle.std.specs.Prelude.{IfSome, IsSome, IsSomeAnd, MatchOption}
 use Rattle.std.proofs.lemmas.List.{append-nil, append_assoc, length-append}
 use Rattle.std.proofs.lemmas.List.Elements.{All-nil, All-cons, All-append}
@@ -27,7 +27,7 @@ use Rattle.dali_line.specs.Ends.{GoesOn, GoOn, EndsAt, IsEnd, IsLeft, IsCount, e
 use Rattle.dali_line.specs.Facts.{Facts}
 use Rattle.dali_line.specs.Posted.{IsPosted, HasPosted, ArePosted, StillStands, LearnsOf}
 use Rattle.dali_line.specs.Runs.{IsIdle, AreTaken, steps_in, IsKnownDue, Gives, Tells, Runs}
-use Rattle.dali_line.specs.Steps.{Step, step_of, last_order, due_then, TakesIn, TakeIn, IsDueFor, AreDue, IsOfBus, given_of, told_at, told_of, first_of}
+use Rattle.dali_line.specs.Steps.{Step, step_of, last_order, due_then, TakesIn, TakeIn, IsDueFor, AreDue, told_at, told_of, first_of}
 
 -- RUNS THAT FOLLOW EACH OTHER ARE ONE RUN.
 
@@ -315,37 +315,6 @@ posted_one p due input.Survey o x posted has = elim has [ ]
 posted_one p due (input.Heard h) o x posted has = elim has [ ]
 posted_one p due input.Destroyed o x posted has = elim has [ ]
 posted_one p due input.Lapsed o x posted has = elim has [ ]
-
--- what a bus tells is nothing that a store takes in, or of which it was told
-pub given_surveys : (surveys : Bool) (told i : Input) → surveys ≡ true → i ≡ given_of surveys told → i ≡ input.Start → ⊥
-given_surveys true input.Start i on is start = absurd (cc)
-given_surveys true input.Survey i on is start = absurd (cc)
-given_surveys true (input.Heard h) i on is start = absurd (cc)
-given_surveys true input.Destroyed i on is start = absurd (cc)
-given_surveys true input.Lapsed i on is start = absurd (cc)
-given_surveys true input.Committed i on is start = absurd (cc)
-given_surveys true input.CommitFailed i on is start = absurd (cc)
-given_surveys false told i on is start = absurd (cc)
-
-pub given_dues : (surveys : Bool) (told : Input) → IsOfBus told → IsDueFor None (given_of surveys told)
-given_dues true input.Start of = tt
-given_dues false input.Start of = tt
-given_dues surveys input.Survey of = tt
-given_dues surveys (input.Heard h) of = tt
-given_dues surveys input.Destroyed of = tt
-given_dues surveys input.Lapsed of = tt
-given_dues surveys input.Committed of = absurd of
-given_dues surveys input.CommitFailed of = absurd of
-
-pub takes_told : (b : Block) (xs : List Record) (surveys : Bool) (told : Input) → IsOfBus told → TakesIn b xs None (given_of surveys told) []
-takes_told b xs true input.Start of = refl
-takes_told b xs false input.Start of = refl
-takes_told b xs surveys input.Survey of = refl
-takes_told b xs surveys (input.Heard h) of = refl
-takes_told b xs surveys input.Destroyed of = refl
-takes_told b xs surveys input.Lapsed of = refl
-takes_told b xs surveys input.Committed of = absurd of
-takes_told b xs surveys input.CommitFailed of = absurd of
 
 -- what was taken in and is not told, where the controller was refused to act on it
 left_taken : (b : Block) (xs : List Record) (due : Option Record) (i : Input) (more : List Record) → TakesIn b xs due i more
@@ -775,25 +744,6 @@ module _ {S : Type 0} (is_up is_sound : S → Type 0) (holds : S → List Record
         block = runs.block;
         list = runs.list;
       }
-
-  pub runs_spent : (before after : Option Order) (p q : PortShare) (old new : S) (was is : Pass) (most : ℕ)
-      → Runs is_up is_sound holds block bus before after p q old new was is most None
-      → Runs is_up is_sound holds block bus before after p q old new was is most (Some outcome.TurnsSpent)
-  runs_spent before after p q old new was is most runs = record {
-    due = runs.due;
-    known = runs.known;
-    turns = runs.turns;
-    taken = runs.taken;
-    count = runs.count;
-    last = runs.last;
-    ends = runs.ends;
-    commits = runs.commits;
-    learned = runs.learned;
-    still = runs.still;
-    posted = λ other. runs.posted (λ is. absurd (cc));
-    block = runs.block;
-    list = λ sound up xs held. let l = runs.list sound up xs held in (l.0, l.1, l.2, l.3, l.4);
-  }
 
 -- how turns follow each other
 pub ruleset shifts = (leaves_none, leaves_more, posts_none, posts_more, runs_none, runs_more)

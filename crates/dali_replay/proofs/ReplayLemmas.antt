@@ -3,10 +3,7 @@ use mathlib.Core.List.{append_assoc}
 use Rattle.std.specs.Prelude.{IfSome, IsErrOf}
 use Rattle.std.proofs.lemmas.List.{append-nil}
 use Rattle.std.specs.Io.KnownBytes.{Appends, Keeps}
-use Rattle.dali_events.specs.declared.plan.PlanError.{PlanError}
-use Rattle.dali_events.specs.declared.plan.PlanError.TheVariants as plan_error
-use Rattle.dali_events.specs.declared.used.Used.{Used}
-use Rattle.dali_events.specs.Plan.{Plan, refusal_of, IsRefusal, used_refusal_of, IsUsedRefusal}
+use Rattle.dali_events.specs.Plan.{Plan}
 use Rattle.dali_grammar.specs.declared.fault.ReplayFault.{ReplayFault}
 use Rattle.dali_grammar.specs.declared.fault.ReplayFault.TheVariants.{BadLine, BadPlan, Memory, Read, Write}
 use Rattle.dali_grammar.specs.declared.bench_line.BenchLine.{BenchLine}
@@ -87,17 +84,6 @@ module _ (form : Form) (n u : Installation) (lines left : NumberedLines) (a b : 
   site_memory r is = subst (λ (s : Result (Unit {0}) ReplayFault). PlaysSite form n lines a b s) (sym is) (u, left, before)
 
 -- ---------------------------------------------------------------- whole inputs
-
--- what a refusal of the plan says, where it is not want of memory
-pub plan_refused : (gear : ℕ) (blocks : List (ℕ × ℕ)) (draws : List ℕ) (e : PlanError) → IsRefusal gear blocks draws e → (e ≡ plan_error.NoMemory → ⊥)
-    → refusal_of gear blocks draws ≡ Some e
-plan_refused gear blocks draws plan_error.NoMemory is not = absurd (not refl)
-plan_refused gear blocks draws _ is not = is
-
--- and of used gear
-pub used_refused : (p : Plan) (us : List Used) (e : PlanError) → IsUsedRefusal p us e → (e ≡ plan_error.NoMemory → ⊥) → used_refusal_of p us ≡ Some e
-used_refused p us plan_error.NoMemory is not = absurd (not refl)
-used_refused p us _ is not = is
 
 -- memory ran out before the first text
 setting_memory : (B : Type 0) (form : Form) (a : Option (List ℕ)) (is_bench : Bool) (p : Plan) (lines : NumberedLines)

@@ -3,15 +3,11 @@ use Rattle.std.proofs.Common.{add-one, arith}
 use Rattle.std.specs.Prelude.{if◌then◌else◌, ◌||◌}
 use mathlib.Core.List.{append_assoc}
 use Rattle.std.proofs.lemmas.List.{append-nil}
-use Rattle.dali_standing.specs.declared.refusal.Refusal.{Refusal}
-use Rattle.dali_events.specs.declared.trouble.Trouble.TheVariants as trouble
-use Rattle.dali_standing.specs.declared.report.Report.{Report}
-use Rattle.dali_standing.specs.declared.report.Report.TheVariants as report
 use Rattle.dali_replay.specs.declared.rounds.Round.{Round}
 use Rattle.dali_replay.specs.declared.rounds.Round.TheVariants as round
-use Rattle.dali_replay.specs.Installation.{Installation, PumpsOn}
-use Rattle.dali_replay.specs.Rounds.{IsTurn, Turns, controllers, AreTurns, came_of, IsRound, IsRoundOf, Rounds, Ends, Ran, Runs}
-use Rattle.dali_replay.specs.Text.{Writes, refused_text, ran_text}
+use Rattle.dali_replay.specs.Installation.{Installation}
+use Rattle.dali_replay.specs.Rounds.{IsTurn, Turns, controllers, AreTurns, IsRoundOf, Rounds, Ends, Ran}
+use Rattle.dali_replay.specs.Text.{Writes}
 use Rattle.dali_replay.proofs.InstallationLemmas.{goes_plan}
 
 -- ---------------------------------------------------------------- texts
@@ -77,51 +73,7 @@ so_far_all n m c acted old new so_far is = subst (λ (k : ℕ). Writes old new (
 
 -- ---------------------------------------------------------------- a round
 
--- what came of it is never a refusal
-never_refused : (acted : Bool) (x : Report) → round.Refused ≡ came_of acted x → ⊥
-never_refused false report.Idle is = cc
-never_refused true report.Idle is = cc
-never_refused false (report.Sent c f h) is = cc
-never_refused true (report.Sent c f h) is = cc
-never_refused false (report.Destroyed c f) is = cc
-never_refused true (report.Destroyed c f) is = cc
-never_refused false (report.Collided c f d g) is = cc
-never_refused true (report.Collided c f d g) is = cc
-
-round_of : (n m : Installation) (text : List ℕ) (acted : Bool) (x : Report) (came : Round) → came ≡ came_of acted x → IsRound n came text m
-    → IsRoundOf n came text m
-round_of n m text acted x (round.Played sent) is h = h
-round_of n m text acted x round.Over is h = h
-round_of n m text acted x round.Refused is h = absurd (never_refused acted x is)
-
-pub round_played : (n u m : Installation) (old new : List ℕ) (acted : Bool) (x : Report) (came : Round)
-    → Writes old new (λ more. AreTurns n (Some acted) more u) → PumpsOn u trouble.None (Ok x) m
-    → came ≡ came_of acted x → Writes old new (λ more. IsRoundOf n came more m)
-round_played n u m old new acted x came turns pump is =
-    (turns.0, turns.1, round_of n m turns.0 acted x came is (record { acted = acted; between = u; report = x; turns = turns.2; pump = pump; ended = is }))
-
-pub round_turn_refused : (n m : Installation) (old new : List ℕ) → Writes old new (λ more. AreTurns n None more m)
-    → Writes old new (λ more. IsRoundOf n round.Refused more m)
-round_turn_refused n m old new turns = (turns.0, turns.1, inl turns.2)
-
-pub round_bus_refused : (n u m : Installation) (old between new : List ℕ) (acted : Bool) (e : Refusal)
-    → Writes old between (λ more. AreTurns n (Some acted) more u) → PumpsOn u trouble.None (Err e) m
-    → new ≡ between ++ refused_text e → Writes old new (λ more. IsRoundOf n round.Refused more m)
-round_bus_refused n u m old between new acted e turns refused wrote =
-    writes_more old between new turns.0 (refused_text e) (λ more. IsRoundOf n round.Refused more m) turns.1 wrote (inr (record {
-      acted = acted;
-      front = turns.0;
-      between = u;
-      refusal = e;
-      turns = turns.2;
-      refused = refused;
-      whole = refl;
-    }))
-
 -- ---------------------------------------------------------------- rounds
-
-pub rounds_none : (n : Installation) (text : List ℕ) → Writes text text (λ more. Rounds n 0 0 more n)
-rounds_none n text = writes_none text (λ more. Rounds n 0 0 more n) (refl, refl, refl)
 
 pub rounds_more : (n u m : Installation) (k frames added : ℕ) (sent : Bool) (came : Round) (old between new : List ℕ)
     → Writes old between (λ more. Rounds n k frames more u)
@@ -164,15 +116,3 @@ pub ran_refused : (n u m : Installation) (limit k frames : ℕ) (came : Round) (
 ran_refused n u m limit k frames came old between new so_far below is wrote =
     ran_then n u m limit k frames old between new so_far
     (wrote.0, wrote.1, inr (below, inr (subst (λ (x : Round). IsRoundOf u x wrote.0 m) is wrote.2)))
-
-pub ran_to_limit : (n u : Installation) (limit k frames : ℕ) (old between : List ℕ) → Writes old between (λ more. Rounds n k frames more u) → k ≡ limit
-    → Writes old between (λ more. Ran limit n frames more u)
-ran_to_limit n u limit k frames old between so_far is =
-    ran_then n u u limit k frames old between between so_far (writes_none between (λ more. Ends limit k u more u) (inl (is, refl, refl)))
-
--- a run, and its report
-pub runs_of : (n m : Installation) (limit frames : ℕ) (old between new : List ℕ) → Writes old between (λ more. Ran limit n frames more m)
-    → new ≡ between ++ ran_text frames
-    → Writes old new (λ more. Runs limit n more m)
-runs_of n m limit frames old between new ran wrote =
-    writes_more old between new ran.0 (ran_text frames) (λ more. Runs limit n more m) ran.1 wrote (frames, ran.0, ran.2, refl)

@@ -1,23 +1,15 @@
-use Rattle.std.proofs.Common.{◌≡◌, ℕ, List, ◌⊎◌, inl, inr, Bool, true, false, Option, Some, None, Result, Ok, Err, refl}
+use Rattle.std.proofs.Common.{◌≡◌, ℕ, List, ◌⊎◌, inl, inr, Option, Some, None, Err, refl}
 use Rattle.std.specs.Prelude.{IfSome}
 use Rattle.dali_grammar.specs.declared.fault.ReplayFault.{ReplayFault}
-use Rattle.dali_grammar.specs.declared.fault.ReplayFault.TheVariants.{Memory, Read, Write}
+use Rattle.dali_grammar.specs.declared.fault.ReplayFault.TheVariants.{Memory, Read}
 use Rattle.dali_grammar.specs.declared.reason.Explained.{Explained}
 use Rattle.dali_grammar.specs.declared.reason.Reason.{Reason}
 use Rattle.dali_grammar.specs.Reason.{Gives}
-use Rattle.dali_grammar.specs.Setting.{NumberedLines, End, Setting, setting_of}
+use Rattle.dali_grammar.specs.Setting.{setting_of}
 use Rattle.dali_replay.specs.declared.form.Form.{Form}
-use Rattle.dali_replay.specs.Replay.{PlaysSetting, Replays}
+use Rattle.dali_replay.specs.Replay.{Replays}
 use Rattle.dali_replay.specs.Streams.{Explains}
 use Rattle.dali_replay.proofs.ReplayLemmas.{tells_of_replays, tells_fault}
-
--- nothing is said of what was written where it cannot be
-pub replays_write : (form : Form) (s : Result (Setting × NumberedLines) End) (a b : Option (List ℕ)) → Replays {A = Unit {0}} form s a b (Err Write)
-replays_write form (Err end) a b = tt
-replays_write form (Ok s) a b = go s.0.0 where
-  go : (is_bench : Bool) → PlaysSetting {A = Unit {0}} form is_bench s.0.1 s.1 a b (Err Write)
-  go true = tt
-  go false = tt
 
 -- the input was not read: then there is no reason
 unread_gives : (e : ReplayFault) (r : Option Reason) → r ≡ None → (e ≡ Memory) ⊎ (e ≡ Read) → Gives e r

@@ -8,7 +8,6 @@ use Rattle.dali_frame.specs.declared.frames.Answer.{Answer}
 use Rattle.dali_special.specs.Command.{command_of}
 use Rattle.dali_gear.specs.declared.gear_set.GearSet.{GearSet}
 use Rattle.dali_gear.specs.declared.row.Reach.TheVariants.{Everyone, Only}
-use Rattle.dali_gear.specs.Gear.{gear_expired, gear_quieted}
 use Rattle.dali_gear.specs.Row.{answers_of, draws_needed}
 use Rattle.dali_arbiter.specs.Arbiter.{owns}
 use Rattle.dali_script.specs.declared.block.Block.{Block}
@@ -20,17 +19,14 @@ use Rattle.dali_script.specs.declared.orders.Order.{Order}
 use Rattle.dali_controller.specs.Machine.{Machine, at_first}
 use Rattle.dali_controller.specs.Orders.{machine_after}
 use Rattle.dali_events.specs.declared.event.Event.TheVariants as event
-use Rattle.dali_events.specs.Foreign.{is_foreign}
-use Rattle.dali_events.specs.World.{World, Controller, nobody, controllers_changed, gear_changed, controller_begun, start}
-use Rattle.dali_events.specs.Happens.{happens, controller_informed, controller_acted, told_sent, told_destroyed, told_lapsed, owner_told, gear_powered}
-use Rattle.dali_events.specs.Happens.{gear_interrupted}
+use Rattle.dali_events.specs.World.{World, Controller, nobody, controllers_changed, controller_begun, start}
+use Rattle.dali_events.specs.Happens.{happens, controller_informed, controller_acted, told_sent, told_destroyed, told_lapsed, owner_told}
 use Rattle.dali_events.specs.Happens.{gone_down, come_up}
 use Rattle.dali_events.specs.Allowed.{Hears, IsUp, IsDue, IsArc, MaySend, MayOrder, HasOutstanding}
-use Rattle.dali_standing.specs.FittedGear.{changed_at}
 use Rattle.dali_standing.specs.Seats.{Seat, IsTied, MayAnswer, acted_at, down_at, up_at, told_at}
 use Rattle.dali_standing.specs.Standing.{Seated, empty_seat, seat_in, controllers_of, machines_of, machine_in, flat, stand_of, seats_from, machines_at}
 use Rattle.dali_standing.proofs.Seats.{seat_at, world_of, with_seat, running_in, has_acted, has_offered, has_sent, has_lost, has_collided, owner_lapsed}
-use Rattle.dali_standing.proofs.Seats.{has_lapsed, with_gear, has_gone_down, has_come_up, IsMove, seated_at}
+use Rattle.dali_standing.proofs.Seats.{has_lapsed, has_gone_down, has_come_up, IsMove, seated_at}
 use Rattle.dali_standing.specs.Settled.{IsPlaced}
 use Rattle.dali_standing.proofs.Acts.{may_order}
 
@@ -193,20 +189,6 @@ moves_lapsed s = record {
 }
 
 -- ---------------------------------------------------------------- gear
-
-pub moves_quiet : (s : Seated) → IsMove s event.Quiet (with_gear s (changed_at (map gear_quieted s.fitted.gear) s.fitted))
-moves_quiet s = record { allowed = λ drawn. tt; world = λ drawn. refl; machines = λ drawn. refl }
-
-pub moves_foreign : (s : Seated) (f : Forward) → is_foreign f ≡ true
-    → IsMove s (event.Foreign f) (with_gear s (changed_at (map gear_interrupted s.fitted.gear) s.fitted))
-moves_foreign s f is = record { allowed = λ drawn. is; world = λ drawn. refl; machines = λ drawn. refl }
-
-pub moves_power : (s : Seated) (g : ℕ) (on : Bool)
-    → IsMove s (event.Power g on) (with_gear s (changed_at (gear_changed s.fitted.gear g (gear_powered on)) s.fitted))
-moves_power s g on = record { allowed = λ drawn. tt; world = λ drawn. refl; machines = λ drawn. refl }
-
-pub moves_expired : (s : Seated) (g : ℕ) → IsMove s (event.Expired g) (with_gear s (changed_at (gear_changed s.fitted.gear g gear_expired) s.fitted))
-moves_expired s g = record { allowed = λ drawn. tt; world = λ drawn. refl; machines = λ drawn. refl }
 
 -- ---------------------------------------------------------------- controllers go down and come up
 

@@ -16,7 +16,7 @@ use Rattle.dali_controller.specs.Orders.{machine_after}
 use Rattle.dali_events.specs.World.{World, Controller}
 use Rattle.dali_events.specs.Happens.{entry, controller_informed, controller_acted, gives_up, keeps_bus, bus_acted, told_sent, is_arc}
 use Rattle.dali_events.specs.Allowed.{IsDue}
-use Rattle.dali_standing.specs.Seats.{Seat, IsTied, MayAnswer, acted_at, told_at, down_at, up_at, trace_of}
+use Rattle.dali_standing.specs.Seats.{Seat, IsTied, MayAnswer, acted_at, told_at, trace_of}
 use Rattle.dali_standing.specs.Settled.{IsOwning, IsApart, IsPlacedBy, IsPlaced}
 use Rattle.dali_standing.proofs.Acts.{IsLeft, may_order, owner_is, owner_owns, other_owns}
 
@@ -160,10 +160,3 @@ placed_told t u b p p' q f i placed last same_m same_l told which =
       go : (m : Option Machine) → (m ≡ None → ⊥) → IsPlacedBy false u p'.controller m
       go None there = absurd (there refl)
       go (Some m) there = rw (same_l, last, told) (over m which)
-
--- a controller that went down, or came up
-pub placed_down : (u : List Entry) (p : Seat) → IsPlaced false u (down_at p)
-placed_down u p = (refl, refl)
-
-pub placed_up : (u : List Entry) (c : ℕ) (kept : Bool) (p : Seat) → IsPlaced false u (up_at c kept p)
-placed_up u c kept p = refl

@@ -8,8 +8,8 @@ use Rattle.std.proofs.lemmas.List.{append-nil}
 use Rattle.dali_frame.specs.declared.frames.Forward.{Forward}
 use Rattle.dali_special.specs.Command.{command_of}
 use Rattle.dali_arbiter.specs.declared.request.Request.{Request}
-use Rattle.dali_arbiter.specs.Arbiter.{Arbiter, owns, request_of, idle, bus_offered, put_last, bus_freed, first_emptied, bus_lapsed, without_first, bus_taken}
-use Rattle.dali_arbiter.specs.Arbiter.{next, first_waiting, collision, bus_collided, bus_destroyed, bus_silenced, bus_muted, without_sender}
+use Rattle.dali_arbiter.specs.Arbiter.{Arbiter, owns, request_of, idle, bus_offered, put_last, bus_freed, first_emptied, bus_lapsed, without_first}
+use Rattle.dali_arbiter.specs.Arbiter.{next, first_waiting, collision, bus_destroyed, bus_silenced, bus_muted, without_sender}
 use Rattle.dali_arbiter.proofs.Collisions.{unequal, collision_first, first_of_all, collision_apart}
 use Rattle.dali_script.specs.declared.orders.Input.{Input}
 use Rattle.dali_script.specs.declared.orders.Order.{Order}
@@ -63,9 +63,6 @@ scripted_arc c r arc = fails_last (r.sender == c) (is_arc (command_of r.frame)) 
 owned_is : (owner : Option ℕ) (c : ℕ) → owns owner c ≡ true → owner ≡ Some c
 owned_is None c e = absurd (cc)
 owned_is (Some o) c e = ap (λ (n : ℕ). Some n) (equal o c e)
-
-owned_test : (owner : Option ℕ) (c : ℕ) → owner ≡ Some c → owns owner c ≡ true
-owned_test owner c e = subst (λ o. owns o c ≡ true) (sym e) (same_test c)
 
 -- ---------------------------------------------------------------- lists of requests
 
@@ -183,9 +180,6 @@ awaited_one c None (Some (Done x)) r rs e = absurd (cc)
 awaited_one c None (Some (Halt x)) r rs e = absurd (cc)
 awaited_one c None None r rs e = absurd (cc)
 awaited_one c (Some i) last r rs e = absurd (cc)
-
-owners_is : (owner : Option ℕ) (place : ℕ → Seat) (c : ℕ) → owner ≡ Some c → owners_request owner place ≡ awaited_requests c (place c).controller
-owners_is owner place c e = subst (λ o. owners_request o place ≡ awaited_requests c (place c).controller) (sym e) refl
 
 rest_owned : (b : Bool) (rs : List Request) → b ≡ true → (if b then [] else rs) ≡ []
 rest_owned b rs e = rw e refl
@@ -385,15 +379,6 @@ module _ (lists : List (List Request)) (place place' : ℕ → Seat) (r q : Requ
         go : (d : ℕ) → (d ≡ q.sender → ⊥) → (d ≡ r.sender) ⊎ (d ≡ r.sender → ⊥) → place' d ≡ between d
         go d other (inl is) = sym (between_own d is)
         go d other (inr apart) = elsewhere d apart other ∙ sym (between_other d apart)
-
-pub served_collided : (b : Arbiter) (place place' : ℕ → Seat) (r q : Request) → IsServed b.lists b.owner place → b.owner ≡ None
-    → next b ≡ Some r → collision b.lists ≡ Some q
-    → ((d : ℕ) → (d ≡ r.sender → ⊥) → (d ≡ q.sender → ⊥) → place' d ≡ place d) → Gone b.owner place place' r → Gone b.owner place place' q
-    → IsServed (bus_collided b).lists (bus_collided b).owner place'
-served_collided b place place' r q served free first second elsewhere gone other_gone =
-    subst (λ o. IsServed (bus_freed (if is_some o then bus_taken (bus_taken b) else bus_taken b)).lists None place') (sym second)
-    (left_both b.lists place place' r q (subst (λ o. IsServed b.lists o place) free served) (first_of_all b.owner b.lists r first) second elsewhere
-    (subst (λ o. Gone o place place' r) free gone) (subst (λ o. Gone o place place' q) free other_gone))
 
 -- ---------------------------------------------------------------- the owner loses the bus
 
@@ -618,12 +603,6 @@ pub five_sent : (b : Arbiter) (c : ℕ) (more : Bool) → length b.lists ≡ 5 �
 five_sent b c true five = without_length b.lists ∙ five
 five_sent b c false five = five_destroyed b five
 
-pub five_collided : (b : Arbiter) → length b.lists ≡ 5 → length (bus_collided b).lists ≡ 5
-five_collided b five = go (is_some (collision b.lists)) where
-  go : (t : Bool) → length (bus_freed (if t then bus_taken (bus_taken b) else bus_taken b)).lists ≡ 5
-  go true = emptied_length (without_first (without_first b.lists)) ∙ without_length (without_first b.lists) ∙ without_length b.lists ∙ five
-  go false = five_destroyed b five
-
 pub five_silenced : (b : Arbiter) (c : ℕ) → length b.lists ≡ 5 → length (bus_silenced b c).lists ≡ 5
 five_silenced b c five = go (owns b.owner c) where
   go : (t : Bool) → length (if t then bus_freed (bus_muted b c) else bus_muted b c).lists ≡ 5
@@ -719,15 +698,6 @@ pub up_sent : (b : Arbiter) (place : ℕ → Seat) (c : ℕ) (more : Bool) → A
 up_sent b place c true all = all_without (UpAt place) b.lists all
 up_sent b place c false all = up_destroyed b place all
 
-pub up_collided : (b : Arbiter) (place : ℕ → Seat) → AreUp b.lists place → AreUp (bus_collided b).lists place
-up_collided b place all = go (is_some (collision b.lists)) where
-  once : AreUp (without_first b.lists) place
-  once = all_without (UpAt place) b.lists all
-
-  go : (t : Bool) → AreUp (bus_freed (if t then bus_taken (bus_taken b) else bus_taken b)).lists place
-  go true = all_emptied (UpAt place) (without_first (without_first b.lists)) (all_without (UpAt place) (without_first b.lists) once)
-  go false = all_emptied (UpAt place) (without_first b.lists) once
-
 -- the controller whose requests left need not be up
 pub up_silenced : (b : Arbiter) (place place' : ℕ → Seat) (c : ℕ) → AreUp b.lists place → Elsewhere place place' c → AreUp (bus_silenced b c).lists place'
 up_silenced b place place' c all elsewhere = go (owns b.owner c) where
@@ -740,7 +710,3 @@ up_silenced b place place' c all elsewhere = go (owns b.owner c) where
 
 pub next_up : (b : Arbiter) (place : ℕ → Seat) (r : Request) → AreUp b.lists place → next b ≡ Some r → (place r.sender).controller.up ≡ true
 next_up b place r all first = all_first (UpAt place) b.lists r all (first_of_all b.owner b.lists r first)
-
-pub collision_up : (b : Arbiter) (place : ℕ → Seat) (q : Request) → AreUp b.lists place → collision b.lists ≡ Some q → (place q.sender).controller.up ≡ true
-collision_up b place q all second =
-    all_first (UpAt place) (without_first b.lists) q (all_without (UpAt place) b.lists all) (collision_first b.lists q second)

@@ -1,8 +1,7 @@
 use Rattle.std.proofs.Common.{◌≡◌, ℕ, ◌+◌, ◌<◌, List, [], ◌∷◌, ◌++◌, map, take, drop, length, get_or, set, refl, sym, ap, subst, ◌∙◌, arith, Option, Some, None}
 use Rattle.std.proofs.Common.{Bool, true, false, inl, inr, zero-add}
 use Rattle.std.specs.Prelude.{◌&&◌, if◌then◌else◌, zero, suc}
-use Rattle.std.proofs.lemmas.List.{drop-drop, drop_more, drop-set-lt, take_more_set, length-append, append-nil}
-use Rattle.std.proofs.Math.Seq.{take-length, drop-length}
+use Rattle.std.proofs.lemmas.List.{drop-drop, drop_more, drop-set-lt, take_more_set, length-append}
 use Rattle.dali_frame.specs.Random.{MASK24}
 use mathlib.Core.List.{append_assoc}
 use Rattle.dali_special.specs.declared.command.Command.{Command}
@@ -36,21 +35,6 @@ quiet_more gs n d whole here so_far =
     let beyond : n < n + 1 = omega arith in
     let known = rw (drop_more gs n d here) at so_far in
     rw (take_more_set gs n (gear_quieted (get_or gs n d)) here, append_assoc, drop-set-lt (n + 1) gs n (gear_quieted (get_or gs n d)) beyond) known
-
--- gear n of the row has been looked at, and stores nothing, or this
-pub nothing_noted : (reach : Reach) (x : Command) (gs : List Gear) (n : ℕ) (d : Gear) (gifts whole : List (ℕ × ℕ)) → n < length gs
-    → gift_of reach x n (get_or gs n d) ≡ None
-    → gifts ++ stored_of reach x n (drop n gs) ≡ whole
-    → gifts ++ stored_of reach x (n + 1) (drop (n + 1) gs) ≡ whole
-nothing_noted reach x gs n d gifts whole here none so_far = rw (drop_more gs n d here, none) at so_far
-
-pub one_noted : (reach : Reach) (x : Command) (gs : List Gear) (n : ℕ) (d : Gear) (gifts whole : List (ℕ × ℕ)) (a : ℕ) → n < length gs
-    → gift_of reach x n (get_or gs n d) ≡ Some a
-    → gifts ++ stored_of reach x n (drop n gs) ≡ whole
-    → (gifts ++ (n, a) ∷ []) ++ stored_of reach x (n + 1) (drop (n + 1) gs) ≡ whole
-one_noted reach x gs n d gifts whole a here some so_far =
-    let known = rw (drop_more gs n d here, some) at so_far in
-    rw (append_assoc) known
 
 pub has_room : (reach : Reach) (x : Command) (gs : List Gear) (n : ℕ) (d : Gear) (gifts whole : List (ℕ × ℕ)) (a : ℕ) → n < length gs
     → gift_of reach x n (get_or gs n d) ≡ Some a
@@ -94,10 +78,3 @@ pub taken_is : (reach : Reach) (x : Command) (was : FittedGear) (gs after : List
     → record { gear = after; left = drop (used + drawn) draws; gifts = more } ≡ taken_at reach x was
 taken_is reach x was gs after draws used drawn gifts more is count taken noted =
     rw (taken, noted, left_then reach x gs draws used drawn count) (ap (taken_at reach x) is)
-
--- a list that is written back, as long as it was, is the new one
-pub refilled : {A : Type 0} (n : ℕ) (new old : List A) → n ≡ length old → length new ≡ length old → take n (new ++ drop (length new) old) ≡ new
-refilled n new old is same =
-    let none : drop (length new) old ≡ [] = rw same (drop-length old) in
-    let all : n ≡ length new = is ∙ sym same in
-    rw (none, append-nil, all) (take-length new)

@@ -5,7 +5,6 @@ use Rattle.dali_gear.specs.Gear.{Gear, fresh}
 use Rattle.dali_gear.specs.Row.{row_after, row_left, takes, stored_short, stored_of}
 use Rattle.dali_events.specs.Used.{with_used, earlier_gift}
 use Rattle.dali_events.specs.Plan.{Plan}
-use Rattle.dali_events.specs.World.{World}
 
 -- THE GEAR OF A SITE: its gear, the numbers that are left to be drawn, and which gear stored which
 -- short address.
@@ -13,10 +12,6 @@ pub record FittedGear : Type 0 where
   pub gear : List Gear
   pub left : List ℕ
   pub gifts : List (ℕ × ℕ)
-
--- the part of a world that it is
-abbrev pub fitted_of : World → FittedGear
-fitted_of w = record { gear = w.gear; left = w.left; gifts = w.gifts }
 
 abbrev pub fitted_at : Plan → FittedGear
 fitted_at p = record {

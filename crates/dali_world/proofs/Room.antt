@@ -35,10 +35,6 @@ gifts_within p w holds =
       below : (g : ℕ) → Has (map (λ gift. gift.0) w.gifts) g → g < length w.gear
       below g h = let k = mapped_from (λ gift. gift.0) w.gifts g h in subst (λ n. n < length w.gear) k.2 (holds.gifts.there k.0.0 k.0.1 k.1)
 
--- IN EVERY RUN, and after one more event
-pub gifts_fit : (p : Plan) (capacity : ℕ) (log : List Event) → IsRun p capacity log → length (after p capacity log).gifts ≤ length (after p capacity log).gear
-gifts_fit p capacity log run = gifts_within p (after p capacity log) (holds_after p capacity log run)
-
 pub gifts_fit_after : (p : Plan) (capacity : ℕ) (log : List Event) (e : Event) → IsRun p capacity log → Allowed (after p capacity log) e → LeavesUsed p.used e
     → length (happens (after p capacity log) e).gifts ≤ length (after p capacity log).gear
 gifts_fit_after p capacity log e run here leaves =

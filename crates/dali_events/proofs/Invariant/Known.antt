@@ -15,7 +15,6 @@ use Rattle.dali_special.specs.Command.{MASK, program_data, IsSpelled}
 use Rattle.dali_special.proofs.Table.{short_of_code}
 use Rattle.dali_gear.specs.declared.state.InitialisationState.TheVariants.{Enabled}
 use Rattle.dali_gear.specs.Gear.{Gear, is_active, is_found, is_second, concerns, draws_a_number, random_after, state_after, short_after, gear_taken, answer}
-use Rattle.dali_gear.specs.Gear.{gear_quieted}
 use Rattle.dali_gear.specs.Row.{stored_short}
 use Rattle.dali_script.specs.declared.block.Block.{Block}
 use Rattle.dali_script.specs.declared.stage.Stage.{Stage}

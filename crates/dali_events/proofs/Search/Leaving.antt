@@ -1,18 +1,17 @@
-use Rattle.std.proofs.Common.{◌≡◌, ℕ, ◌<◌, Bool, true, false, List, refl, sym, ap, subst, ◌∙◌, length}
-use Rattle.std.specs.Prelude.{◌&&◌, if◌then◌else◌}
+use Rattle.std.proofs.Common.{◌≡◌, ℕ, ◌<◌, Bool, true, List, refl, sym, subst, ◌∙◌, length}
+use Rattle.std.specs.Prelude.{◌&&◌}
 use Rattle.std.specs.List.{count_by}
-use Rattle.dali_frame.specs.declared.numbers.SearchAddress.{SearchAddress}
 use Rattle.dali_frame.specs.Random.{MASK24}
 use Rattle.dali_special.specs.declared.command.Command.{Command}
-use Rattle.dali_special.specs.declared.command.Command.TheVariants.{Terminate, Initialise, Randomise, Withdraw, Program, SearchHigh, SearchMiddle, SearchLow}
+use Rattle.dali_special.specs.declared.command.Command.TheVariants.{Terminate, Initialise, Randomise, Withdraw, Program, SearchHigh, SearchMiddle}
 use Rattle.dali_gear.specs.declared.state.InitialisationState.{InitialisationState}
 use Rattle.dali_gear.specs.declared.state.InitialisationState.TheVariants.{Disabled, Enabled, Withdrawn}
 use Rattle.dali_gear.specs.declared.row.Reach.TheVariants.{Everyone}
-use Rattle.dali_gear.specs.Gear.{Gear, is_enabled, is_active, is_found, gear_taken, state_after, search_after}
+use Rattle.dali_gear.specs.Gear.{Gear, is_enabled, is_active, gear_taken}
 use Rattle.dali_gear.specs.Row.{row_after}
-use Rattle.dali_events.specs.Wanted.{is_wanted, wants, is_bare, gear_of, OfPowered, Seek, AreApart, IsOpened, NoneNamed, NoneNamedBut, AreNamed}
+use Rattle.dali_events.specs.Wanted.{is_wanted, wants, is_bare, gear_of, OfPowered, IsOpened, NoneNamed, NoneNamedBut}
 use Rattle.dali_events.proofs.Invariant.Takes.{row_length}
-use Rattle.dali_events.proofs.Search.Wanted.{Enabling, Drawing, Unnamed, UnnamedBut, Named, count_same, powered_over, wants_same, apart_over, after_at}
+use Rattle.dali_events.proofs.Search.Wanted.{Enabling, Drawing, Unnamed, UnnamedBut, count_same, powered_over, wants_same, after_at}
 
 -- GEAR BY GEAR THE SAME but for the search address and the half pair
 pub record SameGear (g h : Gear) : Type 0 where
@@ -60,17 +59,6 @@ core_none_named_but gs hs n same named =
     powered_over (UnnamedBut n) (UnnamedBut n) gs hs same.same_length (λ k h. (same.each k h).same_powered)
     (λ k h on was enabled other. (same.each k h).same_short ∙ was (sym (same.each k h).same_state ∙ enabled) (λ e. other ((same.each k h).same_random ∙ e)))
     named
-
-pub core_named : (gs hs : List Gear) (n : ℕ) → SameCore gs hs → AreNamed gs n → AreNamed hs n
-core_named gs hs n same named =
-    powered_over (Named n) (Named n) gs hs same.same_length (λ k h. (same.each k h).same_powered)
-    (λ k h on was enabled random. let short = was (sym (same.each k h).same_state ∙ enabled) (sym (same.each k h).same_random ∙ random) in
-    (short.0, (same.each k h).same_short ∙ short.1)) named
-
-pub core_apart : (gs hs : List Gear) → SameCore gs hs → AreApart gs → AreApart hs
-core_apart gs hs same apart =
-    apart_over gs hs same.same_length (λ k h. (same.each k h).same_powered) (λ k h active. subst (λ s. is_active s ≡ true) (same.each k h).same_state active)
-    (λ k h. (same.each k h).same_random) apart
 
 -- FRAMES THAT LEAVE all but search addresses and half pairs
 abbrev pub LeavesCore : Command → Type 0
@@ -122,41 +110,10 @@ count_bare_after c gs left leaves =
       bare_by : (g h : Gear) → SameShort g h → is_bare h ≡ is_bare g
       bare_by g h same = rw (same.0, same.1) refl
 
--- FRAMES THAT LEAVE search addresses, and make no gear active
-abbrev pub LeavesSearch : Command → Type 0
-LeavesSearch (Initialise target) = ⊥
-LeavesSearch (SearchHigh byte) = ⊥
-LeavesSearch (SearchMiddle byte) = ⊥
-LeavesSearch (SearchLow byte) = ⊥
-LeavesSearch _ = Unit {0}
-
-active_unless : (b : Bool) (s : InitialisationState) → (b ≡ true → is_active s ≡ true) → is_active (if b then Withdrawn else s) ≡ true → is_active s ≡ true
-active_unless true s from active = from refl
-active_unless false s from active = active
-
 enabled_active : (s : InitialisationState) (f : Bool) → (is_enabled s && f) ≡ true → is_active s ≡ true
 enabled_active Disabled f e = absurd (cc)
 enabled_active Enabled f e = refl
 enabled_active Withdrawn f e = refl
-
-active_before : (c : Command) (g : Gear) → LeavesSearch c → is_active (state_after c g) ≡ true → is_active g.state ≡ true
-active_before Terminate g leaves active = absurd (cc)
-active_before (Initialise target) g leaves active = absurd leaves
-active_before Withdraw g leaves active = active_unless (is_enabled g.state && is_found g) g.state (λ e. enabled_active g.state (is_found g) e) active
-active_before _ g leaves active = active
-
-search_left : (c : Command) (g : Gear) → LeavesSearch c → search_after c g ≡ g.search
-search_left (Initialise target) g leaves = absurd leaves
-search_left (SearchHigh byte) g leaves = absurd leaves
-search_left (SearchMiddle byte) g leaves = absurd leaves
-search_left (SearchLow byte) g leaves = absurd leaves
-search_left _ g leaves = refl
-
-pub seek_after : (c : Command) (gs : List Gear) (left : List ℕ) (r : SearchAddress) → LeavesSearch c → Seek gs r → Seek (row_after Everyone c 0 gs left) r
-seek_after c gs left r leaves seek k in_row on active =
-    let there : k < length gs = subst (λ n. k < n) (row_length Everyone c 0 gs left) in_row in
-    after_at c (λ g h. (g.powered ≡ true → is_active g.state ≡ true → g.search ≡ r) → h.powered ≡ true → is_active h.state ≡ true → h.search ≡ r)
-    (λ g off was. was) (λ g x on was up active. search_left c g leaves ∙ was up (active_before c g leaves active)) gs left k there (seek k there) on active
 
 -- THE THREE FRAMES of a search address
 abbrev pub SeekHigh : List Gear → ℕ → Type 0
@@ -177,15 +134,3 @@ seek_middle gs left high middle seek k in_row on active =
     after_at (SearchMiddle middle) (λ g h. (g.powered ≡ true → is_active g.state ≡ true → g.search.high ≡ high) → h.powered ≡ true → is_active h.state ≡ true
     → (h.search.high ≡ high) × (h.search.middle ≡ middle))
     (λ g off was on. absurd (off on)) (λ g x up was on active. rw active (was up active, refl)) gs left k there (seek k there) on active
-
-pub seek_low : (gs : List Gear) (left : List ℕ) (high middle low : ℕ) → SeekMiddle gs high middle
-    → Seek (row_after Everyone (SearchLow low) 0 gs left) (record { high = high; middle = middle; low = low })
-seek_low gs left high middle low seek k in_row on active =
-    let there : k < length gs = subst (λ n. k < n) (row_length Everyone (SearchLow low) 0 gs left) in_row in
-    after_at (SearchLow low) (λ g h. (g.powered ≡ true → is_active g.state ≡ true → (g.search.high ≡ high) × (g.search.middle ≡ middle)) → h.powered ≡ true
-    → is_active h.state ≡ true
-    → h.search ≡ record { high = high; middle = middle; low = low })
-    (λ g off was on. absurd (off on))
-    (λ g x up was on active. rw active (ap (λ n. record { high = n; middle = g.search.middle; low = low }) (was up active).0
-    ∙ ap (λ n. record { high = high; middle = n; low = low }) (was up active).1))
-    gs left k there (seek k there) on active

@@ -1,19 +1,18 @@
-use Rattle.std.proofs.Common.{◌≡◌, ◌≢◌, ℕ, ◌<◌, ◌≤◌, Bool, true, false, List, refl, sym, subst, ◌∙◌, length, Some, None}
+use Rattle.std.proofs.Common.{◌≡◌, ◌≢◌, ℕ, ◌<◌, Bool, true, false, List, refl, sym, subst, ◌∙◌, length, Some, None}
 use Rattle.std.specs.Prelude.{◌&&◌, if◌then◌else◌}
 use Rattle.std.specs.List.{count_by}
 use Rattle.dali_frame.specs.declared.numbers.SearchAddress.{SearchAddress}
 use Rattle.dali_frame.specs.Random.{value_of, MASK24}
 use Rattle.dali_special.specs.declared.command.Command.TheVariants.{Program}
-use Rattle.dali_gear.specs.declared.state.InitialisationState.TheVariants.{Enabled}
 use Rattle.dali_gear.specs.declared.row.Reach.TheVariants.{Everyone}
 use Rattle.dali_gear.specs.Gear.{Gear, is_active, is_found, gear_taken, short_after}
 use Rattle.dali_gear.specs.Row.{row_after}
-use Rattle.dali_events.specs.Wanted.{is_wanted, wants, is_bare, gear_of, Seek, AreApart, IsOpened, NoneNamedBut, AreNamed}
+use Rattle.dali_events.specs.Wanted.{is_wanted, wants, gear_of, Seek, IsOpened, NoneNamedBut}
 use Rattle.dali_events.proofs.Invariant.Takes.{row_length}
 use Rattle.dali_events.proofs.Invariant.Known.{found_random}
-use Rattle.dali_events.proofs.Search.Wanted.{wanted_powered, wanted_active, is_bare_by, bare_is, count_same, count_at_most, count_less, Enabling, Drawing}
+use Rattle.dali_events.proofs.Search.Wanted.{count_same, Enabling, Drawing}
 use Rattle.dali_events.proofs.Search.Wanted.{UnnamedBut}
-use Rattle.dali_events.proofs.Search.Wanted.{powered_over, wants_same, apart_over, after_at}
+use Rattle.dali_events.proofs.Search.Wanted.{powered_over, wants_same, after_at}
 use Rattle.dali_events.proofs.Search.Heard.{random_found}
 
 -- PROGRAM SHORT ADDRESS: the gear after it
@@ -76,32 +75,6 @@ programmed_count gs left r a seek =
 programs_bare : (n a : ℕ) (g h : Gear) → Programs n a g h → h.short ≡ None → g.short ≡ None
 programs_bare n a g h p none = sym (p.others (λ on active random. let never : None ≡ Some a = sym none ∙ p.programmed on active random in absurd (cc))) ∙ none
 
-still_bare : (n a : ℕ) (g h : Gear) → Programs n a g h → is_bare h ≡ true → is_bare g ≡ true
-still_bare n a g h p bare = is_bare_by g (sym p.same_powered ∙ (bare_is h bare).0) (programs_bare n a g h p (bare_is h bare).1)
-
-pub programmed_count_bare : (gs : List Gear) (left : List ℕ) (r : SearchAddress) (a : ℕ) → Seek gs r
-    → count_by is_bare (after_program a gs left) ≤ count_by is_bare gs
-programmed_count_bare gs left r a seek =
-    count_at_most is_bare is_bare gs (after_program a gs left) (row_length Everyone (Program (Some a)) 0 gs left)
-    (λ k h. still_bare (value_of r) a (gear_of gs k) (gear_of (after_program a gs left) k) (programs_at gs left r a seek k h))
-
--- fewer are bare where one was that is meant
-pub programmed_fewer_bare : (gs : List Gear) (left : List ℕ) (r : SearchAddress) (a k : ℕ) → Seek gs r → k < length gs → is_wanted (gear_of gs k) ≡ true
-    → (gear_of gs k).random ≡ value_of r
-    → (gear_of gs k).short ≡ None → count_by is_bare (after_program a gs left) < count_by is_bare gs
-programmed_fewer_bare gs left r a k seek h wanted random none =
-    let on : (gear_of gs k).powered ≡ true = wanted_powered (gear_of gs k) wanted in
-    let p = programs_at gs left r a seek k h in
-    let short : (gear_of (after_program a gs left) k).short ≡ Some a = p.programmed on (wanted_active (gear_of gs k) wanted) random in
-    count_less is_bare is_bare gs (after_program a gs left) k (row_length Everyone (Program (Some a)) 0 gs left)
-    (λ j i. still_bare (value_of r) a (gear_of gs j) (gear_of (after_program a gs left) j) (programs_at gs left r a seek j i)) h
-    (is_bare_by (gear_of gs k) on none) (named (gear_of (after_program a gs left) k) short) where
-      named : (g : Gear) → g.short ≡ Some a → is_bare g ≡ false
-      named g short = go g.powered refl where
-        go : (b : Bool) → g.powered ≡ b → is_bare g ≡ false
-        go true on = rw (on, short) refl
-        go false on = rw on refl
-
 -- what the search stands on
 pub programmed_opened : (gs : List Gear) (left : List ℕ) (r : SearchAddress) (a : ℕ) → Seek gs r → IsOpened gs → IsOpened (after_program a gs left)
 programmed_opened gs left r a seek opened = record {
@@ -124,18 +97,3 @@ programmed_none_named gs left r a seek named =
     let p = programs_at gs left r a seek k h in
     let elsewhere : (gear_of gs k).random ≢ value_of r = λ random. other (p.same_random ∙ random) in
     p.others (λ up active random. elsewhere random) ∙ was (sym p.same_state ∙ enabled) elsewhere) named
-
--- the gear that is meant has a short address then
-pub programmed_named : (gs : List Gear) (left : List ℕ) (r : SearchAddress) (a : ℕ) → Seek gs r → AreNamed (after_program a gs left) (value_of r)
-programmed_named gs left r a seek k in_row on enabled random =
-    let h : k < length gs = subst (λ n. k < n) (row_length Everyone (Program (Some a)) 0 gs left) in_row in
-    let p = programs_at gs left r a seek k h in
-    let was : (gear_of gs k).state ≡ Enabled = sym p.same_state ∙ enabled in
-    let active : is_active (gear_of gs k).state ≡ true = rw was refl in
-    (a, p.programmed (sym p.same_powered ∙ on) active (sym p.same_random ∙ random))
-
-pub programmed_apart : (gs : List Gear) (left : List ℕ) (r : SearchAddress) (a : ℕ) → Seek gs r → AreApart gs → AreApart (after_program a gs left)
-programmed_apart gs left r a seek apart =
-    apart_over gs (after_program a gs left) (row_length Everyone (Program (Some a)) 0 gs left) (λ k h. (programs_at gs left r a seek k h).same_powered)
-    (λ k h active. subst (λ s. is_active s ≡ true) (programs_at gs left r a seek k h).same_state active)
-    (λ k h. (programs_at gs left r a seek k h).same_random) apart

@@ -171,16 +171,6 @@ wants_same gs hs n e wanted random =
       back : (k : ℕ) → k < length hs → k < length gs
       back k h = subst (λ m. k < m) e h
 
--- gear that are apart stay apart
-pub apart_over : (gs hs : List Gear) → length hs ≡ length gs → ((k : ℕ) → k < length gs → (gear_of hs k).powered ≡ (gear_of gs k).powered)
-    → ((k : ℕ) → k < length gs → is_active (gear_of hs k).state ≡ true → is_active (gear_of gs k).state ≡ true)
-    → ((k : ℕ) → k < length gs → (gear_of hs k).random ≡ (gear_of gs k).random) → AreApart gs → AreApart hs
-apart_over gs hs e powered active random apart j k h i on up live awake same =
-    let there : j < length gs = subst (λ n. j < n) e h in
-    let here : k < length gs = subst (λ n. k < n) e i in
-    apart j k there here (sym (powered j there) ∙ on) (sym (powered k here) ∙ up) (active j there live) (active k here awake)
-    (sym (random j there) ∙ same ∙ random k here)
-
 -- WHAT IS WANTED OF GEAR THAT WERE OPENED: only numbers below FFFFFF
 pub wanted_below : (gs : List Gear) (n : ℕ) → IsOpened gs → wants gs n ≡ true → n < MASK24
 wanted_below gs n opened wants =
@@ -193,9 +183,6 @@ bare_wanted g enabling bare = let is = bare_is g bare in is_wanted_by g is.0 (en
 
 wanted_bare : (g : Gear) → (g.powered ≡ true → Unnamed g) → is_wanted g ≡ true → is_bare g ≡ true
 wanted_bare g unnamed wanted = let on = wanted_powered g wanted in is_bare_by g on (unnamed on (wanted_enabled g wanted))
-
-pub bare_count : (gs : List Gear) → IsOpened gs → count_by is_bare gs ≤ count_by is_wanted gs
-bare_count gs opened = count_at_most is_wanted is_bare gs gs refl (λ k h bare. bare_wanted (gear_of gs k) (opened.bare k h) bare)
 
 pub wanted_count : (gs : List Gear) → IsOpened gs → NoneNamed gs → count_by is_wanted gs ≡ count_by is_bare gs
 wanted_count gs opened named =

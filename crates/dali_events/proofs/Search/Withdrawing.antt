@@ -10,12 +10,12 @@ use Rattle.dali_gear.specs.declared.row.Reach.TheVariants.{Everyone}
 use Rattle.dali_gear.specs.Gear.{Gear, is_enabled, is_active, is_found, gear_taken, state_after}
 use Rattle.dali_gear.specs.Row.{row_after}
 use Rattle.dali_events.specs.Searching.{HasShort}
-use Rattle.dali_events.specs.Wanted.{is_wanted, wants, gear_of, Seek, AreApart, IsOpened, NoneNamed, NoneNamedBut, AreNamed}
+use Rattle.dali_events.specs.Wanted.{is_wanted, wants, gear_of, Seek, IsOpened, NoneNamed, NoneNamedBut, AreNamed}
 use Rattle.dali_events.proofs.Invariant.Takes.{row_length}
 use Rattle.dali_events.proofs.Invariant.Known.{found_random}
 use Rattle.dali_events.proofs.Search.Wanted.{enabled_is, wanted_powered, wanted_enabled, is_wanted_by, wants_by, wants_at, count_less, Enabling, Drawing}
 use Rattle.dali_events.proofs.Search.Wanted.{Unnamed}
-use Rattle.dali_events.proofs.Search.Wanted.{UnnamedBut, powered_over, apart_over, after_at}
+use Rattle.dali_events.proofs.Search.Wanted.{UnnamedBut, powered_over, after_at}
 use Rattle.dali_events.proofs.Search.Heard.{random_found}
 
 -- WITHDRAW: the gear after it
@@ -89,10 +89,6 @@ unwanted n g h w wanted random =
     let on : h.powered ≡ true = w.same_powered ∙ wanted_powered g wanted in
     rw (on, gone) refl
 
-stays_wanted : (n : ℕ) (g h : Gear) → Withdraws n g h → is_wanted g ≡ true → g.random ≢ n → is_wanted h ≡ true
-stays_wanted n g h w wanted other =
-    is_wanted_by h (w.same_powered ∙ wanted_powered g wanted) (w.others (λ on enabled random. other random) ∙ wanted_enabled g wanted)
-
 pub withdrawn_wants : (gs : List Gear) (left : List ℕ) (r : SearchAddress) (n : ℕ) → Seek gs r → wants (after_withdraw gs left) n ≡ true
     → (wants gs n ≡ true) × (n ≡ value_of r → ⊥)
 withdrawn_wants gs left r n seek wants =
@@ -102,16 +98,6 @@ withdrawn_wants gs left r n seek wants =
     let was = still_wanted (value_of r) (gear_of gs there.0) (gear_of (after_withdraw gs left) there.0) w there.2 in
     let random : (gear_of gs there.0).random ≡ n = sym w.same_random ∙ there.3 in
     (wants_by gs n there.0 inside was.0 random, λ e. was.1 (random ∙ e))
-
-pub wants_withdrawn : (gs : List Gear) (left : List ℕ) (r : SearchAddress) (n : ℕ) → Seek gs r → wants gs n ≡ true → (n ≡ value_of r → ⊥)
-    → wants (after_withdraw gs left) n ≡ true
-wants_withdrawn gs left r n seek wants other =
-    let there = wants_at gs n wants in
-    let w = withdraws_at gs left r seek there.0 there.1 in
-    let inside : there.0 < length (after_withdraw gs left) = subst (λ m. there.0 < m) (sym (row_length Everyone Withdraw 0 gs left)) there.1 in
-    wants_by (after_withdraw gs left) n there.0 inside
-    (stays_wanted (value_of r) (gear_of gs there.0) (gear_of (after_withdraw gs left) there.0) w there.2 (λ e. other (sym there.3 ∙ e)))
-    (w.same_random ∙ there.3)
 
 pub withdrawn_count : (gs : List Gear) (left : List ℕ) (r : SearchAddress) → Seek gs r → wants gs (value_of r) ≡ true
     → count_by is_wanted (after_withdraw gs left) < count_by is_wanted gs
@@ -160,9 +146,3 @@ withdrawn_none_named gs left r seek named =
     let w = withdraws_at gs left r seek k h in
     let still = still_enabled (value_of r) (gear_of gs k) (gear_of (after_withdraw gs left) k) w on enabled in
     w.same_short ∙ was still.0 still.1) named
-
-pub withdrawn_apart : (gs : List Gear) (left : List ℕ) (r : SearchAddress) → Seek gs r → AreApart gs → AreApart (after_withdraw gs left)
-withdrawn_apart gs left r seek apart =
-    apart_over gs (after_withdraw gs left) (row_length Everyone Withdraw 0 gs left) (λ k h. (withdraws_at gs left r seek k h).same_powered)
-    (λ k h active. withdraws_active (value_of r) (gear_of gs k) (gear_of (after_withdraw gs left) k) (withdraws_at gs left r seek k h) active)
-    (λ k h. (withdraws_at gs left r seek k h).same_random) apart
