@@ -17,17 +17,7 @@ use Rattle.dali_events.specs.Happens.{entry}
 -- no others on its bus.
 abbrev pub sent_in : Event → List Entry
 sent_in (event.Sent c f h) = entry f h ∷ []
-sent_in (event.Acted c i o) = []
-sent_in (event.Offered c f) = []
-sent_in (event.Destroyed c f set) = []
-sent_in (event.Collided c f d g) = []
-sent_in event.Lapsed = []
-sent_in event.Quiet = []
-sent_in (event.Foreign f) = []
-sent_in (event.Power g on) = []
-sent_in (event.Expired g) = []
-sent_in (event.Down c) = []
-sent_in (event.Up c kept) = []
+sent_in _ = []
 
 abbrev pub frames_of : List Event → List Entry
 frames_of [] = []

@@ -42,15 +42,7 @@ DisturbsNothing w (event.Offered c f) = Unit {0}
 DisturbsNothing w (event.Sent c f h) =
     (h ≡ heard_of (answers_of Everyone (command_of f) 0 w.gear))
     × (command_of f ≡ QueryShort → value_of (search_of (trace_running w c)) < MASK24)
-DisturbsNothing w (event.Destroyed c f set) = ⊥
-DisturbsNothing w (event.Collided c f d g) = ⊥
-DisturbsNothing w event.Lapsed = ⊥
-DisturbsNothing w event.Quiet = ⊥
-DisturbsNothing w (event.Foreign f) = ⊥
-DisturbsNothing w (event.Power g on) = ⊥
-DisturbsNothing w (event.Expired g) = ⊥
-DisturbsNothing w (event.Down c) = ⊥
-DisturbsNothing w (event.Up c kept) = ⊥
+DisturbsNothing w _ = ⊥
 
 abbrev pub DisturbNothing : World → List Event → Type 0
 DisturbNothing w [] = Unit {0}

@@ -398,13 +398,10 @@ allowed_same w hs (event.Collided c f d g) near here = record {
   first = here.first;
   second = here.second;
 }
-allowed_same w hs event.Lapsed near here = tt
-allowed_same w hs event.Quiet near here = tt
 allowed_same w hs (event.Foreign f) near here = here
-allowed_same w hs (event.Power g on) near here = tt
-allowed_same w hs (event.Expired g) near here = tt
 allowed_same w hs (event.Down c) near here = up_same w hs c here
 allowed_same w hs (event.Up c kept) near here = (record { known = here.0.known; down = here.0.down }, here.1)
+allowed_same w hs _ near here = tt
 
 -- WHAT EACH EVENT LEAVES
 pieces : (u : World) (l m : List ℕ) (d e s t : List (ℕ × ℕ)) → l ≡ m → d ≡ e → s ≡ t

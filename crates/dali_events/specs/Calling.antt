@@ -91,16 +91,7 @@ IsClosing (Halt why) = Unit {0}
 abbrev pub Orders : (Order → Type 0) → ℕ → Event → Type 0
 Orders P c (event.Acted d i o) = d ≡ c → P o
 Orders P c (event.Down d) = d ≡ c → ⊥
-Orders P c (event.Offered d f) = Unit {0}
-Orders P c (event.Sent d f h) = Unit {0}
-Orders P c (event.Destroyed d f set) = Unit {0}
-Orders P c (event.Collided d f e g) = Unit {0}
-Orders P c event.Lapsed = Unit {0}
-Orders P c event.Quiet = Unit {0}
-Orders P c (event.Foreign f) = Unit {0}
-Orders P c (event.Power g on) = Unit {0}
-Orders P c (event.Expired g) = Unit {0}
-Orders P c (event.Up d kept) = Unit {0}
+Orders P c _ = Unit {0}
 
 -- THE ROLL WAS CALLED, AND NOBODY WAS HEARD: in a log stands a roll call of controller c, with two
 -- COMPAREs that were heard as silence; since then c stayed up, and gave such orders alone. Each

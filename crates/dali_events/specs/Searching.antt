@@ -54,13 +54,7 @@ IsCalm (event.Power g on) = ⊥
 IsCalm (event.Expired g) = ⊥
 IsCalm (event.Sent c f h) = command_of f ≡ Terminate → ⊥
 IsCalm (event.Destroyed c f set) = command_of f ≡ Terminate → ⊥
-IsCalm (event.Acted c i o) = Unit {0}
-IsCalm (event.Offered c f) = Unit {0}
-IsCalm (event.Collided c f d g) = Unit {0}
-IsCalm event.Lapsed = Unit {0}
-IsCalm (event.Down c) = Unit {0}
-IsCalm (event.Up c kept) = Unit {0}
-IsCalm (event.Foreign f) = Unit {0}
+IsCalm _ = Unit {0}
 
 abbrev pub AreCalm : List Event → Type 0
 AreCalm [] = Unit {0}

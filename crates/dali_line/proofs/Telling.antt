@@ -44,11 +44,7 @@ step_tells w (event.Collided c f d g) each =
 step_tells w event.Lapsed each = owner_stands w.controllers w.bus.owner each
 step_tells w (event.Down c) each = each_changed nobody Told gone_down w.controllers c (λ there h. tt) each
 step_tells w (event.Up c kept) each = each_changed nobody Told (come_up kept) w.controllers c (λ there h. tt) each
-step_tells w (event.Offered c f) each = each
-step_tells w event.Quiet each = each
-step_tells w (event.Foreign f) each = each
-step_tells w (event.Power g on) each = each
-step_tells w (event.Expired g) each = each
+step_tells w _ each = each
 
 all_tell : (w : World) (log : List Event) → Each nobody Told w.controllers → Each nobody Told (after_all w log).controllers
 all_tell w [] each = each

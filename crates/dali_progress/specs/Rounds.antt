@@ -89,16 +89,7 @@ IsOfRound surveys s c (event.Acted d i o) =
 IsOfRound surveys s c (event.Sent d f h) =
     (r : Request) × (next_request s ≡ Some r) × (d ≡ r.sender) × (f ≡ r.frame)
     × (h ≡ heard_of (answers_of Everyone (command_of f) 0 (world s).gear))
-IsOfRound surveys s c (event.Offered d f) = ⊥
-IsOfRound surveys s c (event.Destroyed d f set) = ⊥
-IsOfRound surveys s c (event.Collided d f o g) = ⊥
-IsOfRound surveys s c event.Lapsed = ⊥
-IsOfRound surveys s c event.Quiet = ⊥
-IsOfRound surveys s c (event.Foreign f) = ⊥
-IsOfRound surveys s c (event.Power g on) = ⊥
-IsOfRound surveys s c (event.Expired g) = ⊥
-IsOfRound surveys s c (event.Down d) = ⊥
-IsOfRound surveys s c (event.Up d kept) = ⊥
+IsOfRound surveys s c _ = ⊥
 
 -- events, each of which is one that a call of the site adds to its log in a round
 abbrev pub Rounds : Bool → SiteState → ℕ → List Event → Type 0

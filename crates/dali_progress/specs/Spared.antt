@@ -33,16 +33,7 @@ abbrev pub IsOfCall : SiteState → Event → Type 0
 IsOfCall s (event.Acted c i o) =
     Waits (machine_at s c) i × MayAnswer (machine_at s c) i o × LeavesWhole (machine_at s c) i o
 IsOfCall s (event.Sent c f h) = WasOrdered s c f
-IsOfCall s (event.Offered c f) = Unit {0}
-IsOfCall s (event.Destroyed c f set) = Unit {0}
-IsOfCall s (event.Collided c f d g) = Unit {0}
-IsOfCall s event.Lapsed = Unit {0}
-IsOfCall s event.Quiet = Unit {0}
-IsOfCall s (event.Foreign f) = Unit {0}
-IsOfCall s (event.Power g on) = Unit {0}
-IsOfCall s (event.Expired g) = Unit {0}
-IsOfCall s (event.Down c) = Unit {0}
-IsOfCall s (event.Up c kept) = Unit {0}
+IsOfCall s _ = Unit {0}
 
 -- events that calls add, one after the other
 abbrev pub AreOfCalls : SiteState → List Event → Type 0

@@ -378,13 +378,6 @@ pub fn push_changed_by(
     match event {
         Event::Sent(..) | Event::Destroyed(..) | Event::Power(..) | Event::Expired(_) =>
             push_listed(text, "changed", &Listed::Changes, was, is),
-        Event::Acted(..)
-        | Event::Offered(..)
-        | Event::Collided(..)
-        | Event::Lapsed
-        | Event::Quiet
-        | Event::Foreign(_)
-        | Event::Down(_)
-        | Event::Up(..) => Ok(()),
+        _ => Ok(()),
     }
 }

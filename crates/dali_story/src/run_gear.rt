@@ -142,12 +142,7 @@ impl<'a> RunGear<'a> {
             Event::Expired(number) => expire(&mut self.gear, number),
             Event::Quiet => self.gear.quiet(),
             Event::Foreign(frame) => interrupt(&mut self.gear, frame),
-            Event::Acted(..)
-            | Event::Offered(..)
-            | Event::Collided(..)
-            | Event::Lapsed
-            | Event::Down(_)
-            | Event::Up(..) => {}
+            _ => {}
         }
         Answer::Silence
     }

@@ -19,15 +19,7 @@ fn frames_in(event: &Event) -> u64
 {
     match event {
         Event::Sent(..) | Event::Destroyed(..) | Event::Collided(..) => 1,
-        Event::Acted(..)
-        | Event::Offered(..)
-        | Event::Lapsed
-        | Event::Quiet
-        | Event::Foreign(_)
-        | Event::Power(..)
-        | Event::Expired(_)
-        | Event::Down(_)
-        | Event::Up(..) => 0,
+        _ => 0,
     }
 }
 

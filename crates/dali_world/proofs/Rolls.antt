@@ -429,16 +429,7 @@ IsKnownOf s (event.Acted d i o) =
     × IsWhole (machine_after m i o)
 IsKnownOf s (event.Sent d f h) = is_arc (command_of f) ≡ false → (frame_put (controller_at (world s) d).last ≡ Some f)
     × ((m : Machine) → machine_at s d ≡ Some m → trace_running (world s) d ≡ m.trace)
-IsKnownOf s (event.Offered d f) = Unit {0}
-IsKnownOf s (event.Destroyed d f set) = Unit {0}
-IsKnownOf s (event.Collided d f e g) = Unit {0}
-IsKnownOf s event.Lapsed = Unit {0}
-IsKnownOf s event.Quiet = Unit {0}
-IsKnownOf s (event.Foreign f) = Unit {0}
-IsKnownOf s (event.Power g on) = Unit {0}
-IsKnownOf s (event.Expired g) = Unit {0}
-IsKnownOf s (event.Down d) = Unit {0}
-IsKnownOf s (event.Up d kept) = Unit {0}
+IsKnownOf s _ = Unit {0}
 
 module _ (s : SiteState) (run : IsRun s.plan s.queue s.log) (was : Remember s (world s) (machines s)) where
   abbrev w : World
@@ -521,7 +512,6 @@ module _ (s : SiteState) (run : IsRun s.plan s.queue s.log) (was : Remember s (w
   pub remembers_more : (e : Event) → Allowed w e → IsKnownOf s e → Remember (site_logged s e) (happens w e) (machines_after w ms e)
   remembers_more (event.Acted d i o) here known = acted d i o here known
   remembers_more (event.Sent d f h) here known = sent d f h known
-  remembers_more (event.Offered d f) here known = λ c m there. grown s (event.Offered d f) (controller_at w c) c m tt (was c m there)
   remembers_more (event.Destroyed d f some) here known = λ c m there. lost_kept (site_logged s (event.Destroyed d f some)) w.controllers c d m f
       (grown s (event.Destroyed d f some) (controller_at w c) c m tt (was c m there))
   remembers_more (event.Collided d f e g) here known = λ c m there.
@@ -530,12 +520,9 @@ module _ (s : SiteState) (run : IsRun s.plan s.queue s.log) (was : Remember s (w
       (grown s (event.Collided d f e g) (controller_at w c) c m tt (was c m there)))
   remembers_more event.Lapsed here known = λ c m there. lapsed_kept (site_logged s event.Lapsed) w.controllers c w.bus.owner m
       (grown s event.Lapsed (controller_at w c) c m tt (was c m there))
-  remembers_more event.Quiet here known = λ c m there. grown s event.Quiet (controller_at w c) c m tt (was c m there)
-  remembers_more (event.Foreign f) here known = λ c m there. grown s (event.Foreign f) (controller_at w c) c m tt (was c m there)
-  remembers_more (event.Power g on) here known = λ c m there. grown s (event.Power g on) (controller_at w c) c m tt (was c m there)
-  remembers_more (event.Expired g) here known = λ c m there. grown s (event.Expired g) (controller_at w c) c m tt (was c m there)
   remembers_more (event.Down d) here known = down d
   remembers_more (event.Up d kept) here known = up d kept here
+  remembers_more e here known = λ c m there. grown s e (controller_at w c) c m tt (was c m there)
 
 -- ---------------------------------------------------------------- the start
 

@@ -132,17 +132,13 @@ tells_step : (p : Plan) (w : World) (e : Event) → Allowed w e → Holds p w �
 tells_step p w (event.Acted c i o) here k = tells_unless _ w.trace w.gear k.tells
 tells_step p w (event.Offered c f) here k = k.tells
 tells_step p w (event.Sent c f h) here k = tells_sent p w c f h here k
-tells_step p w event.Quiet here k =
-    tells_stay (IsOwned p.used w.controllers) w.gear _ w.drawn w.gifts _ _ (change_of p w event.Quiet here k) (asked_of w.trace) k.tells
-tells_step p w (event.Foreign f) here k =
-    tells_stay (IsOwned p.used w.controllers) w.gear _ w.drawn w.gifts _ _ (change_of p w (event.Foreign f) here k) (asked_of w.trace) k.tells
-tells_step p w (event.Power g on) here k =
-    tells_stay (IsOwned p.used w.controllers) w.gear _ w.drawn w.gifts _ _ (change_of p w (event.Power g on) here k) (asked_of w.trace) k.tells
-tells_step p w (event.Expired g) here k =
-    tells_stay (IsOwned p.used w.controllers) w.gear _ w.drawn w.gifts _ _ (change_of p w (event.Expired g) here k) (asked_of w.trace) k.tells
 tells_step p w (event.Down c) here k = tells_unless _ w.trace w.gear k.tells
 tells_step p w (event.Up c kept) here k = k.tells
-tells_step p w _ here k = tt
+tells_step p w (event.Destroyed c f set) here k = tt
+tells_step p w (event.Collided c f d g) here k = tt
+tells_step p w event.Lapsed here k = tt
+tells_step p w e here k =
+    tells_stay (IsOwned p.used w.controllers) w.gear _ w.drawn w.gifts _ _ (change_of p w e here k) (asked_of w.trace) k.tells
 
 module _ (p : Plan) (plan : IsPlan p) (w : World) (e : Event) (here : Allowed w e) (leaves : LeavesUsed p.used e)
     (k : Holds p w) where

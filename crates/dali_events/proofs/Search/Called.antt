@@ -230,9 +230,6 @@ is_step w (event.Sent d f h) c g here runs keeps is next = is_sent w c d f h g h
 is_step w (event.Acted d i o) c g here runs keeps is next =
     let k = is_unless (gives_up w.bus d o) w g next.begun is in record { woken = k.0; at = k.1 }
 is_step w (event.Offered d f) c g here runs keeps is next = record { woken = is.woken; at = is.at }
-is_step w (event.Destroyed d f set) c g here runs keeps is next = absurd (next.begun refl)
-is_step w (event.Collided d f e n) c g here runs keeps is next = absurd (next.begun refl)
-is_step w event.Lapsed c g here runs keeps is next = absurd (next.begun refl)
 is_step w event.Quiet c g here runs keeps is next = record {
   woken = is.woken;
   at = each_map fresh (There (stage_of w.trace) g) gear_quieted w.gear
@@ -256,6 +253,7 @@ is_step w (event.Expired h) c g here runs keeps is next = record {
 }
 is_step w (event.Down d) c g here runs keeps is next = let k = is_unless _ w g next.begun is in record { woken = k.0; at = k.1 }
 is_step w (event.Up d kept) c g here runs keeps is next = record { woken = is.woken; at = is.at }
+is_step w _ c g here runs keeps is next = absurd (next.begun refl)
 
 runs_now : (w : World) (c : ℕ) (es : List Event) → RunsOn w c es → Runs w c
 runs_now w c [] runs = runs
