@@ -30,6 +30,7 @@ ENUMS = {
     "Kind": ("crates/dali_audit/src/findings.rt",),
     "KeepError": ("crates/dali_reserve/src/error.rt",),
     "Order": (ORDERS,),
+    "Outside": ("crates/dali_events/src/event.rt",),
     "Outcome": ("crates/dali_line/src/outcome.rt", "crates/dali_threads/src/report.rt"),
     "Place": ("crates/dali_commissioning/src/verdict.rt", SAID),
     "PlanError": ("crates/dali_events/src/plan.rt",),
@@ -137,9 +138,10 @@ PLACES = (
     Place("tools/lib/help/dali_sim-audit.txt", block("Findings,", "\n\n"), "Kind", "{name}"),
     Place(FORMAT, section("Refusals"), "Refusal", "`refused {code} {name}`", "NoMemory"),
     Place(FORMAT, WHOLE, "Refusal", "{code} {name}"),
-    # The forms of lines, by which bad ones are explained. `Power` is `off` and `on`.
+    # The forms of lines, by which bad ones are explained. `Power` is `off` and `on`, and each of `Outside` is a line of its own.
     Place(LINES, block("const BENCH:", "];"), "BenchLine", 'LineForm("{kebab}",'),
-    Place(LINES, block("const SITE:", "];"), "SiteLine", 'LineForm("{kebab}",', "Power"),
+    Place(LINES, block("const SITE:", "];"), "SiteLine", 'LineForm("{kebab}",', "Outside"),
+    Place(LINES, block("const SITE:", "];"), "Outside", 'LineForm("{kebab}",', "Power"),
     Place(LINES, line('    LineForm("pump", "['), "Trouble", "{word}", "None"),
     Place(MISTAKES, line("            Mistake::NoTrouble"), "Trouble", "`{word}", "None"),
     # What programs end with.

@@ -4,6 +4,8 @@ use Rattle.dali_frame.specs.declared.frames.Forward.{Forward}
 use Rattle.dali_frame.specs.declared.frames.Answer.{Answer}
 use Rattle.dali_events.specs.declared.event.Event.{Event}
 use Rattle.dali_events.specs.declared.event.Event.TheVariants as event
+use Rattle.dali_events.specs.declared.event.Outside.{Outside}
+use Rattle.dali_events.specs.declared.event.Outside.TheVariants as outside
 use Rattle.dali_events.specs.declared.event.Sending.{Sending}
 
 -- WHAT AN EVENT SAYS OF ITSELF.
@@ -13,16 +15,7 @@ use Rattle.dali_events.specs.declared.event.Sending.{Sending}
 abbrev pub sending : Event → Option Sending
 sending (event.Sent c f h) = Some (record { sender = c; frame = f; heard = Some h })
 sending (event.Destroyed c f set) = Some (record { sender = c; frame = f; heard = None })
-sending (event.Acted c i o) = None
-sending (event.Offered c f) = None
-sending (event.Collided c f d g) = None
-sending event.Lapsed = None
-sending event.Quiet = None
-sending (event.Foreign f) = None
-sending (event.Power g on) = None
-sending (event.Expired g) = None
-sending (event.Down c) = None
-sending (event.Up c kept) = None
+sending _ = None
 
 abbrev pub frame_in : Event → Option Forward
 frame_in e = option_map (λ s. s.frame) (sending e)
@@ -35,16 +28,16 @@ heard_in e = option_and_then (λ s. s.heard) (sending e)
 abbrev pub whose_step : Event → Option ℕ
 whose_step (event.Acted c i o) = Some c
 whose_step (event.Offered c f) = Some c
-whose_step (event.Sent c f h) = None
-whose_step (event.Destroyed c f set) = None
-whose_step (event.Collided c f d g) = None
-whose_step event.Lapsed = None
-whose_step event.Quiet = None
-whose_step (event.Foreign f) = None
-whose_step (event.Power g on) = None
-whose_step (event.Expired g) = None
-whose_step (event.Down c) = None
-whose_step (event.Up c kept) = None
+whose_step _ = None
 
 abbrev pub is_step_of : ℕ → Event → Bool
 is_step_of c e = option_eq nat_eq (whose_step e) (Some c)
+
+-- THE EVENT that something from outside is
+abbrev pub event_of : Outside → Event
+event_of outside.Lapse = event.Lapsed
+event_of outside.Quiet = event.Quiet
+event_of (outside.Foreign f) = event.Foreign f
+event_of (outside.Power g on) = event.Power g on
+event_of (outside.Expire g) = event.Expired g
+event_of (outside.Down c) = event.Down c

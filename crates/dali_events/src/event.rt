@@ -35,6 +35,43 @@ pub enum Event {
     Up(u8, bool),
 }
 
+/// What happens to a site from outside: no controller's step, and no frame of a controller.
+///
+/// Gear and controllers are named as in an [`Event`].
+#[derive(Clone, Copy, Debug, PartialEq, Eq)]
+pub enum Outside {
+    /// The owner, if any, loses the bus.
+    Lapse,
+    /// The bus is quiet for so long that half pairs are forgotten.
+    Quiet,
+    /// A frame of another device comes, as of a sensor or a push button. Gear with power take it.
+    Foreign(Forward),
+    /// A gear's power comes (true) or goes.
+    Power(u32, bool),
+    /// The 15 minutes of a gear's initialisation are over.
+    Expire(u32),
+    /// A controller goes down.
+    Down(u8),
+}
+
+impl Outside {
+    ghost use Rattle.dali_events.specs.Events.{event_of};
+
+    /// The event that it is.
+    pub fn event(self) -> Event
+        ensures { result ≡ event_of self }
+    {
+        match self {
+            Outside::Lapse => Event::Lapsed,
+            Outside::Quiet => Event::Quiet,
+            Outside::Foreign(frame) => Event::Foreign(frame),
+            Outside::Power(number, on) => Event::Power(number, on),
+            Outside::Expire(number) => Event::Expired(number),
+            Outside::Down(c) => Event::Down(c),
+        }
+    }
+}
+
 /// A frame that came on the bus for gear to take, all of them or some.
 #[derive(Clone, Copy)]
 pub struct Sending {
@@ -63,16 +100,7 @@ impl Event {
                 frame,
                 heard: None,
             }),
-            Event::Acted(..)
-            | Event::Offered(..)
-            | Event::Collided(..)
-            | Event::Lapsed
-            | Event::Quiet
-            | Event::Foreign(_)
-            | Event::Power(..)
-            | Event::Expired(_)
-            | Event::Down(_)
-            | Event::Up(..) => None,
+            _ => None,
         }
     }
 
@@ -89,16 +117,7 @@ impl Event {
     {
         match self {
             Event::Acted(c, ..) | Event::Offered(c, _) => Some(c),
-            Event::Sent(..)
-            | Event::Destroyed(..)
-            | Event::Collided(..)
-            | Event::Lapsed
-            | Event::Quiet
-            | Event::Foreign(_)
-            | Event::Power(..)
-            | Event::Expired(_)
-            | Event::Down(_)
-            | Event::Up(..) => None,
+            _ => None,
         }
     }
 }

@@ -12,7 +12,7 @@ mod trouble;
 mod used;
 
 pub use dali_gear::GearSet;
-pub use event::{Event, Sending};
+pub use event::{Event, Outside, Sending};
 pub use foreign::is_foreign;
 pub use plan::{CONTROLLER_LIMIT, DRAW_LIMIT, GEAR_LIMIT, Plan, PlanError};
 pub use trouble::Trouble;

@@ -2,9 +2,9 @@ use Rattle.std.specs.Prelude.{ℕ, List, [], ◌∷◌, Option, None, bytes_eq, 
 use Rattle.std.specs.Prelude.{if◌then◌else◌, option_map}
 use Rattle.dali_grammar.specs.declared.site_line.SiteLine.{SiteLine}
 use Rattle.dali_grammar.specs.declared.site_line.SiteLine.TheVariants.{Go, Store, Fail, Pump, Lapse}
-use Rattle.dali_grammar.specs.declared.site_line.SiteLine.TheVariants.{Arc, Down, Up, Run, Power}
-use Rattle.dali_grammar.specs.declared.site_line.SiteLine.TheVariants.{Expire, Quiet, Show, Survey}
-use Rattle.dali_grammar.specs.declared.site_line.SiteLine.TheVariants.{Foreign}
+use Rattle.dali_grammar.specs.declared.site_line.SiteLine.TheVariants.{Arc, Down, Up, Run, Outside}
+use Rattle.dali_grammar.specs.declared.site_line.SiteLine.TheVariants.{Show, Survey}
+use Rattle.dali_events.specs.declared.event.Outside.TheVariants as outside
 use Rattle.dali_grammar.specs.Lines.{none_of, one_of, two_of}
 use Rattle.dali_grammar.specs.GearLine.{gear_line}
 use Rattle.dali_grammar.specs.Numbers.{number_in}
@@ -28,10 +28,12 @@ site_line name words =
     else if bytes_eq name (codes "lapse") then none_of Lapse words
     else if bytes_eq name (codes "arc")
     then option_map (λ x. Arc x.0 x.1) (two_of number_in frame_of words)
-    else if bytes_eq name (codes "foreign") then option_map (λ f. Foreign f) (one_of frame_of words)
+    else if bytes_eq name (codes "foreign")
+    then option_map (λ f. Outside (outside.Foreign f)) (one_of frame_of words)
     else if bytes_eq name (codes "run") then option_map (λ n. Run n) (one_of number_in words)
     else
-    gear_line (λ on g. Power g on) (λ g. Expire g) Quiet Show name words
+    gear_line (λ on g. Outside (outside.Power g on)) (λ g. Outside (outside.Expire g))
+    (Outside outside.Quiet) Show name words
     (controller_line name words)
 
 -- what a line of these words asks for on a site

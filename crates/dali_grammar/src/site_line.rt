@@ -7,7 +7,7 @@ ghost use Rattle.dali_grammar.specs.SiteLine.{controller_line, site_line, site_l
 
 use crate::lines::cut;
 use crate::words::{Wanted, Wrong, ended, frame, number, number_and_frame, trouble};
-use dali_events::Trouble;
+use dali_events::{Outside, Trouble};
 use dali_frame::Forward;
 
 /// A line of a site, after the two of its plan. Controllers and gear are named by their numbers, from 0.
@@ -27,20 +27,14 @@ pub enum SiteLine {
     Lapse,
     /// `arc c HHHH`: c asks to send a frame of direct arc power.
     Arc(u32, Forward),
-    /// `foreign HHHH`: a frame of another device comes.
-    Foreign(Forward),
     /// `down c`: controller c goes down.
     Down(u32),
     /// `up c`: c comes up with the records of its store.
     Up(u32),
     /// `run n`: up to n rounds, in each of which every controller goes that has something due, and then the bus.
     Run(u32),
-    /// `off g` and `on g`: the power of gear g goes (false) or comes (true).
-    Power(u32, bool),
-    /// `expire g`: the 15 minutes of gear g's initialisation are over.
-    Expire(u32),
-    /// `quiet`: half pairs are forgotten.
-    Quiet,
+    /// `foreign HHHH`, `off g`, `on g`, `expire g` and `quiet`: something happens from outside.
+    Outside(Outside),
     /// `show`: the state of all gear, and the tables of all controllers.
     Show,
 }
@@ -79,17 +73,17 @@ fn site_line(name: &[u8], rest: Option<&[u8]>) -> Result<SiteLine, Wrong>
         let (c, frame) = number_and_frame(rest)?;
         Ok(SiteLine::Arc(c, frame))
     } else if name == b"foreign".as_slice() {
-        Ok(SiteLine::Foreign(frame(rest, 2)?))
+        Ok(SiteLine::Outside(Outside::Foreign(frame(rest, 2)?)))
     } else if name == b"run".as_slice() {
         Ok(SiteLine::Run(number(rest)?))
     } else if name == b"off".as_slice() {
-        Ok(SiteLine::Power(number(rest)?, false))
+        Ok(SiteLine::Outside(Outside::Power(number(rest)?, false)))
     } else if name == b"on".as_slice() {
-        Ok(SiteLine::Power(number(rest)?, true))
+        Ok(SiteLine::Outside(Outside::Power(number(rest)?, true)))
     } else if name == b"expire".as_slice() {
-        Ok(SiteLine::Expire(number(rest)?))
+        Ok(SiteLine::Outside(Outside::Expire(number(rest)?)))
     } else if name == b"quiet".as_slice() {
-        ended(SiteLine::Quiet, rest, 2)
+        ended(SiteLine::Outside(Outside::Quiet), rest, 2)
     } else if name == b"show".as_slice() {
         ended(SiteLine::Show, rest, 2)
     } else {

@@ -1,4 +1,4 @@
-use Rattle.std.specs.Prelude.{◌≡◌, ℕ, ◌+◌, ◌<◌, Bool, false, Option, None, Some, Result, Ok, Err}
+use Rattle.std.specs.Prelude.{◌≡◌, ℕ, ◌+◌, false, Option, None, Some, Result, Ok, Err}
 use Rattle.std.specs.Prelude.{IfOk, IfErr, OnOk, OnErr}
 use Rattle.dali_frame.specs.declared.frames.Forward.{Forward}
 use Rattle.dali_script.specs.declared.orders.Input.{Input}
@@ -13,17 +13,16 @@ use Rattle.dali_standing.specs.declared.refusal.Refusal.TheVariants as refusal
 use Rattle.dali_events.specs.declared.trouble.Trouble.{Trouble}
 use Rattle.dali_standing.specs.declared.report.Report.{Report}
 use Rattle.dali_world.specs.Site.{SiteState, Receipt, world, Acts, Logs, LogsRequest, IsFull, Pumps}
-use Rattle.dali_world.specs.Site.{IsUpWith}
-use Rattle.dali_world.specs.Site.{IsArcRefused, IsPumpRefused, IsGearRefused, IsDownRefused}
-use Rattle.dali_world.specs.Site.{IsUpRefused, IsForeignRefused}
+use Rattle.dali_world.specs.Site.{IsUpWith, IsArcRefused, IsPumpRefused, IsUpRefused}
 use Rattle.dali_line.specs.Shares.{PortShare, raised_share}
 use Rattle.dali_line.specs.Found.{FromPort, FromDriver, events_in}
 use Rattle.dali_line.specs.declared.up_refusal.UpRefusal.{UpRefusal}
 use Rattle.dali_line.specs.declared.up_refusal.UpRefusal.TheVariants as up
 
 -- WHAT THE CALLS OF A SITE ANSWER, in one closed relation each: the site before, the arguments, the
--- answer, the site after. `Acts` of `dali_world` is the one of `act`. An accepted call adds its one
--- event; a refusal is the first cause that holds, and changes nothing.
+-- answer, the site after. `Acts` and `HasBefallen` of `dali_world` are those of `act` and `befall`.
+-- An accepted call adds its one event; a refusal is the first cause that holds, and changes
+-- nothing.
 
 unfoldable pub Offers : SiteState → ℕ → Forward → Result (Unit {0}) Refusal → SiteState → Type 0
 Offers s c f result new =
@@ -39,31 +38,6 @@ unfoldable pub Lapses : SiteState → Result (Option ℕ) Refusal → SiteState 
 Lapses s result new =
     IfOk result (λ owner. (owner ≡ (world s).bus.owner) × Logs s event.Lapsed new)
     × IfErr result (λ e. (e ≡ refusal.LogFull) × IsFull s) × OnErr result (new ≡ s)
-
-unfoldable pub FallsQuiet : SiteState → Result (Unit {0}) Refusal → SiteState → Type 0
-FallsQuiet s result new =
-    OnOk result (Logs s event.Quiet new) × IfErr result (λ e. (e ≡ refusal.LogFull) × IsFull s)
-    × OnErr result (new ≡ s)
-
-unfoldable pub ComesForeign : SiteState → Forward → Result (Unit {0}) Refusal → SiteState → Type 0
-ComesForeign s f result new =
-    OnOk result (Logs s (event.Foreign f) new) × IfErr result (IsForeignRefused s f)
-    × OnErr result (new ≡ s)
-
-unfoldable pub Powers : SiteState → ℕ → Bool → Result (Unit {0}) Refusal → SiteState → Type 0
-Powers s g on result new =
-    OnOk result ((g < s.plan.gear) × Logs s (event.Power g on) new)
-    × IfErr result (IsGearRefused s g) × OnErr result (new ≡ s)
-
-unfoldable pub Expires : SiteState → ℕ → Result (Unit {0}) Refusal → SiteState → Type 0
-Expires s g result new =
-    OnOk result ((g < s.plan.gear) × Logs s (event.Expired g) new)
-    × IfErr result (IsGearRefused s g) × OnErr result (new ≡ s)
-
-unfoldable pub GoesDown : SiteState → ℕ → Result (Unit {0}) Refusal → SiteState → Type 0
-GoesDown s c result new =
-    OnOk result (Logs s (event.Down c) new) × IfErr result (IsDownRefused s c)
-    × OnErr result (new ≡ s)
 
 -- why a controller does not come up at a line: the site refuses it; or it is down, with a commit
 -- open

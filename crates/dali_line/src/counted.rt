@@ -1,6 +1,6 @@
 ghost use Rattle.std.specs.Prelude.{◌≡◌, ◌+◌, ◌<◌, ◌≤◌, length, All, IfOk, OnOk, OnErr, IsTrue, true, false};
 ghost use Rattle.std.specs.Prelude.{slice_set, None, Err, IfSome, ◌↔◌, if◌then◌else◌};
-ghost use Rattle.dali_events.specs.World.{controller_at};
+ghost use Rattle.dali_events.specs.World.{controller_at, nobody};
 ghost use Rattle.dali_events.specs.Allowed.{IsDown};
 ghost use Rattle.dali_events.specs.Promise.{KeepsPromise};
 ghost use Rattle.dali_script.specs.Due.{record_ordered};
@@ -15,7 +15,7 @@ use crate::up_refusal::UpRefusal;
 use arrayvec::ArrayVec;
 use dali_frame::Forward;
 use dali_script::{Due, Input, Kept, Record};
-use dali_world::{Receipt, Refusal, Report, SiteState, Trouble};
+use dali_world::{Outside, Receipt, Refusal, Report, SiteState, Trouble};
 use std::sync::ledger::Ledger;
 
 /// A site, how many events of its log are whose, and whose workers are at a commit.
@@ -31,14 +31,13 @@ pub(crate) struct CountedSite<P0: Ledger, P1: Ledger, P2: Ledger, P3: Ledger, D:
 }
 
 impl<P0: Ledger, P1: Ledger, P2: Ledger, P3: Ledger, D: Ledger> CountedSite<P0, P1, P2, P3, D> {
-    ghost use Rattle.dali_world.specs.Site.{Acts, world, share_of, IsSound};
+    ghost use Rattle.dali_world.specs.Site.{Acts, HasBefallen, world, share_of, IsSound};
     ghost use Rattle.dali_line.specs.Shares.{raised_share, total_of};
     ghost use Rattle.dali_line.specs.Found.{IsFoundFrom, IsFoundByDriver, HasDue, MayOffer, HaveEnded, events_in};
     ghost use Rattle.dali_line.specs.Commits.{state_of, MayComeUp};
     ghost use Rattle.dali_line.specs.declared.up_refusal.UpRefusal.TheVariants.{CommitOpen};
     ghost use Rattle.dali_line.specs.declared.commits.CommitState.TheVariants as commit;
-    ghost use Rattle.dali_line.specs.Calls.{Offers, PumpsOnce, Lapses, FallsQuiet, Powers, Expires, GoesDown, ComesUp};
-    ghost use Rattle.dali_line.specs.Calls.{ComesForeign};
+    ghost use Rattle.dali_line.specs.Calls.{Offers, PumpsOnce, Lapses, ComesUp};
 
     /// A site with the tally of its log, of which nobody has begun a commit.
     pub(crate) fn new(
@@ -63,6 +62,7 @@ impl<P0: Ledger, P1: Ledger, P2: Ledger, P3: Ledger, D: Ledger> CountedSite<P0, 
         ensures port { port.new ≡ port.old }
         ensures commits { self.new.commits ≡ self.old.commits }
     {
+        // Both for the prover: what is promised of the site, and that it has at most four controllers.
         self.site.is_safe();
         let _blocks = self.site.plan().blocks();
         self.tally.audit(port);
@@ -111,52 +111,51 @@ impl<P0: Ledger, P1: Ledger, P2: Ledger, P3: Ledger, D: Ledger> CountedSite<P0, 
         Ok(())
     }
 
-    /// What a controller is told. Nothing, if it is not there.
+    /// Whether a controller is there.
     #[tactic(auto, using(crate::proofs::Counts::nobody_there))]
+    fn has(&self, c: u8) -> bool
+        ensures there { result ≡ true → c < length self.now.site.plan.blocks }
+        ensures none { result ≡ false → controller_at (world self.now.site) c ≡ nobody }
+    {
+        // For the prover: the world has the controllers of the plan.
+        self.site.is_safe();
+        (c as usize) < self.site.plan().blocks().len()
+    }
+
+    /// What a controller is told. Nothing, if it is not there.
     pub(crate) fn told(&self, c: u8) -> Option<Input>
         ensures { result ≡ (controller_at (world self.now.site) c).told }
     {
-        self.site.is_safe();
-        if (c as usize) >= self.site.plan().blocks().len() {
-            return None;
-        }
-        self.site.next(c)
+        if self.has(c) { self.site.next(c) } else { None }
     }
 
     /// What is due for a controller. Nothing, if it is not there.
-    #[tactic(auto, using(crate::proofs::Counts::nobody_there))]
     pub(crate) fn due_for(&self, c: u8) -> Due
         ensures { result ≡ due_of (controller_at (world self.now.site) c) }
     {
-        self.site.is_safe();
-        if (c as usize) >= self.site.plan().blocks().len() {
-            return Due::Nothing;
+        if self.has(c) {
+            self.site.due(c)
+        } else {
+            Due::Nothing
         }
-        self.site.due(c)
     }
 
     /// The record whose commit is due for a controller. None, if it is not there.
-    #[tactic(auto, using(crate::proofs::Counts::nobody_there))]
     fn ordered(&self, c: u8) -> Option<Record>
         ensures { result ≡ record_ordered (controller_at (world self.now.site) c).last }
     {
-        self.site.is_safe();
-        if (c as usize) >= self.site.plan().blocks().len() {
-            return None;
+        if self.has(c) {
+            self.site.ordered(c)
+        } else {
+            None
         }
-        self.site.ordered(c)
     }
 
     /// Whether a controller is down, or not there.
-    #[tactic(auto, using(crate::proofs::Counts::nobody_there))]
     pub(crate) fn is_down(&self, c: u8) -> bool
         ensures { IsTrue result ↔ ((controller_at (world self.now.site) c).up ≡ false) }
     {
-        self.site.is_safe();
-        if (c as usize) >= self.site.plan().blocks().len() {
-            return true;
-        }
-        self.site.table(c).is_none()
+        !self.has(c) || self.site.table(c).is_none()
     }
 
     /// Whether something is due for a controller: it was told something, or its commit is to be made.
@@ -215,6 +214,7 @@ impl<P0: Ledger, P1: Ledger, P2: Ledger, P3: Ledger, D: Ledger> CountedSite<P0, 
         ensures driver { driver.new ≡ driver.old }
         ensures commits { self.new.commits ≡ self.old.commits }
     {
+        // Both for the prover, as in `audit`.
         self.site.is_safe();
         let _blocks = self.site.plan().blocks();
         self.tally.audit_driver(driver);
@@ -241,8 +241,27 @@ impl<P0: Ledger, P1: Ledger, P2: Ledger, P3: Ledger, D: Ledger> CountedSite<P0, 
         Ok(report)
     }
 
-    /// The owner loses the bus.
-    #[tactic(auto, unfolding(crate::specs::Calls::Lapses))]
+    /// Something happens from outside.
+    #[tactic(auto, unfolding(dali_world::specs::Site::HasBefallen))]
+    pub(crate) fn befall(
+        &mut self,
+        driver: &mut Driver<P0, P1, P2, P3, D>,
+        what: Outside,
+    ) -> Result<(), Refusal>
+        ensures found { IsFoundByDriver driver.old self.old.site }
+        ensures answer { HasBefallen self.old.site what result self.new.site }
+        ensures accepted { OnOk result (driver.new ≡ driver.old + 1) }
+        ensures refused { OnErr result (driver.new ≡ driver.old) }
+        ensures commits { self.new.commits ≡ self.old.commits }
+    {
+        self.audit_driver(driver);
+        self.site.befall(what)?;
+        self.tally.raise_driver(driver);
+        Ok(())
+    }
+
+    /// The owner loses the bus. Answers who it was, if anybody.
+    #[tactic(auto, unfolding(crate::specs::Calls::Lapses, dali_world::specs::Site::HasBefallen))]
     pub(crate) fn lapse(
         &mut self,
         driver: &mut Driver<P0, P1, P2, P3, D>,
@@ -253,102 +272,9 @@ impl<P0: Ledger, P1: Ledger, P2: Ledger, P3: Ledger, D: Ledger> CountedSite<P0, 
         ensures refused { OnErr result (driver.new ≡ driver.old) }
         ensures commits { self.new.commits ≡ self.old.commits }
     {
-        self.audit_driver(driver);
-        let owner = self.site.lapse()?;
-        self.tally.raise_driver(driver);
+        let owner = self.site.owner();
+        self.befall(driver, Outside::Lapse)?;
         Ok(owner)
-    }
-
-    /// Half pairs are forgotten.
-    #[tactic(auto, unfolding(crate::specs::Calls::FallsQuiet))]
-    pub(crate) fn quiet(&mut self, driver: &mut Driver<P0, P1, P2, P3, D>) -> Result<(), Refusal>
-        ensures found { IsFoundByDriver driver.old self.old.site }
-        ensures answer { FallsQuiet self.old.site result self.new.site }
-        ensures accepted { OnOk result (driver.new ≡ driver.old + 1) }
-        ensures refused { OnErr result (driver.new ≡ driver.old) }
-        ensures commits { self.new.commits ≡ self.old.commits }
-    {
-        self.audit_driver(driver);
-        self.site.quiet()?;
-        self.tally.raise_driver(driver);
-        Ok(())
-    }
-
-    /// A frame of another device comes.
-    #[tactic(auto, unfolding(crate::specs::Calls::ComesForeign))]
-    pub(crate) fn foreign(
-        &mut self,
-        driver: &mut Driver<P0, P1, P2, P3, D>,
-        frame: Forward,
-    ) -> Result<(), Refusal>
-        ensures found { IsFoundByDriver driver.old self.old.site }
-        ensures answer { ComesForeign self.old.site frame result self.new.site }
-        ensures accepted { OnOk result (driver.new ≡ driver.old + 1) }
-        ensures refused { OnErr result (driver.new ≡ driver.old) }
-        ensures commits { self.new.commits ≡ self.old.commits }
-    {
-        self.audit_driver(driver);
-        self.site.foreign(frame)?;
-        self.tally.raise_driver(driver);
-        Ok(())
-    }
-
-    /// A gear's power comes or goes.
-    #[tactic(auto, unfolding(crate::specs::Calls::Powers))]
-    pub(crate) fn power(
-        &mut self,
-        driver: &mut Driver<P0, P1, P2, P3, D>,
-        number: u32,
-        on: bool,
-    ) -> Result<(), Refusal>
-        ensures found { IsFoundByDriver driver.old self.old.site }
-        ensures answer { Powers self.old.site number on result self.new.site }
-        ensures accepted { OnOk result (driver.new ≡ driver.old + 1) }
-        ensures refused { OnErr result (driver.new ≡ driver.old) }
-        ensures commits { self.new.commits ≡ self.old.commits }
-    {
-        self.audit_driver(driver);
-        self.site.power(number, on)?;
-        self.tally.raise_driver(driver);
-        Ok(())
-    }
-
-    /// A gear's initialisation is over.
-    #[tactic(auto, unfolding(crate::specs::Calls::Expires))]
-    pub(crate) fn expire(
-        &mut self,
-        driver: &mut Driver<P0, P1, P2, P3, D>,
-        number: u32,
-    ) -> Result<(), Refusal>
-        ensures found { IsFoundByDriver driver.old self.old.site }
-        ensures answer { Expires self.old.site number result self.new.site }
-        ensures accepted { OnOk result (driver.new ≡ driver.old + 1) }
-        ensures refused { OnErr result (driver.new ≡ driver.old) }
-        ensures commits { self.new.commits ≡ self.old.commits }
-    {
-        self.audit_driver(driver);
-        self.site.expire(number)?;
-        self.tally.raise_driver(driver);
-        Ok(())
-    }
-
-    /// A controller goes down.
-    #[tactic(auto, unfolding(crate::specs::Calls::GoesDown))]
-    pub(crate) fn down(
-        &mut self,
-        driver: &mut Driver<P0, P1, P2, P3, D>,
-        c: u8,
-    ) -> Result<(), Refusal>
-        ensures found { IsFoundByDriver driver.old self.old.site }
-        ensures answer { GoesDown self.old.site c result self.new.site }
-        ensures accepted { OnOk result (driver.new ≡ driver.old + 1) }
-        ensures refused { OnErr result (driver.new ≡ driver.old) }
-        ensures commits { self.new.commits ≡ self.old.commits }
-    {
-        self.audit_driver(driver);
-        self.site.down(c)?;
-        self.tally.raise_driver(driver);
-        Ok(())
     }
 
     /// Whether a controller that is down is not to come up with these records: they are behind its store, or may fall
@@ -359,6 +285,7 @@ impl<P0: Ledger, P1: Ledger, P2: Ledger, P3: Ledger, D: Ledger> CountedSite<P0, 
         ensures free { result ≡ false → IsDown (world self.now.site) c
             → MayComeUp (state_of self.now.commits c) (controller_at (world self.now.site) c).records copy.now }
     {
+        // For the prover, as in `has`.
         self.site.is_safe();
         if (c as usize) >= self.site.plan().blocks().len() || self.site.table(c).is_some() {
             return false;

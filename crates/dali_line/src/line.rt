@@ -1,15 +1,15 @@
 ghost use Rattle.std.specs.Prelude.{◌≡◌, ◌+◌, ◌<◌, ◌≤◌, Bool, [], ◌∷◌, take, IfOk, IfErr, OnOk, OnErr};
+ghost use Rattle.dali_events.specs.declared.event.Outside.TheVariants as outside;
 ghost use Rattle.dali_events.specs.World.{controller_at};
 ghost use Rattle.dali_script.specs.Due.{record_ordered};
 ghost use Rattle.dali_standing.specs.Seats.{due_of};
 ghost use Rattle.dali_events.specs.Promise.{KeepsPromise};
-ghost use Rattle.dali_world.specs.Site.{SiteState, world, Acts, IsSound};
+ghost use Rattle.dali_world.specs.Site.{SiteState, world, Acts, HasBefallen, IsSound};
 ghost use Rattle.dali_line.specs.Counts.{shares_of, others_of};
 ghost use Rattle.dali_line.specs.Shares.{raised_share, port_share};
 ghost use Rattle.dali_line.specs.Found.{FromPort, FromDriver, EndsWait, EndsWaitForRoom, IsReady, IsGivenBack};
 ghost use Rattle.dali_line.specs.Found.{events_in};
-ghost use Rattle.dali_line.specs.Calls.{Offers, PumpsOnce, Lapses, FallsQuiet, Powers, Expires, GoesDown, ComesUp};
-ghost use Rattle.dali_line.specs.Calls.{ComesForeign};
+ghost use Rattle.dali_line.specs.Calls.{Offers, PumpsOnce, Lapses, ComesUp};
 
 use crate::count::{others, steps};
 use crate::counted::CountedSite;
@@ -23,7 +23,7 @@ use crate::up_refusal::UpRefusal;
 use arrayvec::ArrayVec;
 use dali_frame::Forward;
 use dali_script::{Due, Input, Kept, Record};
-use dali_world::{Receipt, Refusal, Report, SiteState, Trouble};
+use dali_world::{Outside, Receipt, Refusal, Report, SiteState, Trouble};
 use std::sync::ledger::{Blank, Ledger};
 use std::sync::{Condvar, Mutex, MutexGuard, Wait};
 
@@ -71,6 +71,7 @@ impl<P0: Ledger, P1: Ledger, P2: Ledger, P3: Ledger, D: Ledger> Line<P0, P1, P2,
         ensures promise { KeepsPromise site.plan site.queue site.log }
         ensures sound { IsSound site }
     {
+        // For the prover: what the two clauses promise.
         site.is_safe();
         let log = site.log();
         let (first, one) = Own::open(first, steps(0, log));
@@ -263,6 +264,22 @@ impl<P0: Ledger, P1: Ledger, P2: Ledger, P3: Ledger, D: Ledger> Line<P0, P1, P2,
         self.change(rt).locked.counted.pump(driver, trouble)
     }
 
+    /// Something happens from outside, as `SiteState::befall` says.
+    ///
+    /// Refusals, in this order: 1 UnknownGear or UnknownController, 2 ControllerDown, 8 LogFull, 11 NotForeign.
+    pub fn befall<R: Wait>(
+        &self,
+        rt: &R,
+        driver: &mut Driver<P0, P1, P2, P3, D>,
+        what: Outside,
+    ) -> Result<(), Refusal>
+        ensures answer { FromDriver driver.old (λ s. (new : SiteState) × HasBefallen s what result new) }
+        ensures accepted { OnOk result (driver.new ≡ driver.old + 1) }
+        ensures refused { OnErr result (driver.new ≡ driver.old) }
+    {
+        self.change(rt).locked.counted.befall(driver, what)
+    }
+
     /// The owner loses the bus, as `SiteState::lapse` says. Answers who it was, if anybody.
     ///
     /// Refusal: 8 LogFull.
@@ -286,28 +303,11 @@ impl<P0: Ledger, P1: Ledger, P2: Ledger, P3: Ledger, D: Ledger> Line<P0, P1, P2,
         rt: &R,
         driver: &mut Driver<P0, P1, P2, P3, D>,
     ) -> Result<(), Refusal>
-        ensures answer { FromDriver driver.old (λ s. (new : SiteState) × FallsQuiet s result new) }
+        ensures answer { FromDriver driver.old (λ s. (new : SiteState) × HasBefallen s outside.Quiet result new) }
         ensures accepted { OnOk result (driver.new ≡ driver.old + 1) }
         ensures refused { OnErr result (driver.new ≡ driver.old) }
     {
-        self.locked.lock(rt).counted.quiet(driver)
-    }
-
-    /// A frame of another device comes, as of a sensor or a push button. Gear with power take it, and the owner keeps
-    /// the bus.
-    ///
-    /// Refusals, in this order: 8 LogFull, 11 NotForeign.
-    pub fn foreign<R: Wait>(
-        &self,
-        rt: &R,
-        driver: &mut Driver<P0, P1, P2, P3, D>,
-        frame: Forward,
-    ) -> Result<(), Refusal>
-        ensures answer { FromDriver driver.old (λ s. (new : SiteState) × ComesForeign s frame result new) }
-        ensures accepted { OnOk result (driver.new ≡ driver.old + 1) }
-        ensures refused { OnErr result (driver.new ≡ driver.old) }
-    {
-        self.locked.lock(rt).counted.foreign(driver, frame)
+        self.befall(rt, driver, Outside::Quiet)
     }
 
     /// The power of gear `number`, 0 to 127, comes (true) or goes.
@@ -320,11 +320,12 @@ impl<P0: Ledger, P1: Ledger, P2: Ledger, P3: Ledger, D: Ledger> Line<P0, P1, P2,
         number: u32,
         on: bool,
     ) -> Result<(), Refusal>
-        ensures answer { FromDriver driver.old (λ s. (new : SiteState) × Powers s number on result new) }
+        ensures answer { FromDriver driver.old
+            (λ s. (new : SiteState) × HasBefallen s (outside.Power number on) result new) }
         ensures accepted { OnOk result (driver.new ≡ driver.old + 1) }
         ensures refused { OnErr result (driver.new ≡ driver.old) }
     {
-        self.locked.lock(rt).counted.power(driver, number, on)
+        self.befall(rt, driver, Outside::Power(number, on))
     }
 
     /// The 15 minutes of the initialisation of gear `number`, 0 to 127, are over.
@@ -336,11 +337,12 @@ impl<P0: Ledger, P1: Ledger, P2: Ledger, P3: Ledger, D: Ledger> Line<P0, P1, P2,
         driver: &mut Driver<P0, P1, P2, P3, D>,
         number: u32,
     ) -> Result<(), Refusal>
-        ensures answer { FromDriver driver.old (λ s. (new : SiteState) × Expires s number result new) }
+        ensures answer { FromDriver driver.old
+            (λ s. (new : SiteState) × HasBefallen s (outside.Expire number) result new) }
         ensures accepted { OnOk result (driver.new ≡ driver.old + 1) }
         ensures refused { OnErr result (driver.new ≡ driver.old) }
     {
-        self.locked.lock(rt).counted.expire(driver, number)
+        self.befall(rt, driver, Outside::Expire(number))
     }
 
     /// Controller `c`, 0 to 3, goes down, as `SiteState::down` says.
@@ -352,11 +354,11 @@ impl<P0: Ledger, P1: Ledger, P2: Ledger, P3: Ledger, D: Ledger> Line<P0, P1, P2,
         driver: &mut Driver<P0, P1, P2, P3, D>,
         c: u8,
     ) -> Result<(), Refusal>
-        ensures answer { FromDriver driver.old (λ s. (new : SiteState) × GoesDown s c result new) }
+        ensures answer { FromDriver driver.old (λ s. (new : SiteState) × HasBefallen s (outside.Down c) result new) }
         ensures accepted { OnOk result (driver.new ≡ driver.old + 1) }
         ensures refused { OnErr result (driver.new ≡ driver.old) }
     {
-        self.change(rt).locked.counted.down(driver, c)
+        self.befall(rt, driver, Outside::Down(c))
     }
 
     /// Controller `c`, 0 to 3, comes up with a copy of its records: those that the site under the lock remembers, or

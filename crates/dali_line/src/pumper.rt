@@ -74,14 +74,13 @@ fn take_turn<B: Bus, R: Wait>(rt: &R, bus: &B, driver: &mut B::Driver) -> Result
     ensures ended { result ≡ Ok false → B.is_stopped bus.now ⊎ B.is_over (B.driven driver.new) }
 {
     match bus.ready(rt, driver) {
-        Ready::Stopped | Ready::Over => Ok(false),
-        Ready::Next => match bus.pump(rt, driver, Trouble::None) {
-            Ok(_) => Ok(true),
-            Err(refusal) => Err(refusal),
-        },
-        Ready::Full => match bus.lapse(rt, driver) {
-            Ok(_) => Ok(true),
-            Err(refusal) => Err(refusal),
-        },
+        Ready::Stopped | Ready::Over => return Ok(false),
+        Ready::Next => {
+            bus.pump(rt, driver, Trouble::None)?;
+        }
+        Ready::Full => {
+            bus.lapse(rt, driver)?;
+        }
     }
+    Ok(true)
 }

@@ -44,6 +44,7 @@ impl<P0: Ledger, P1: Ledger, P2: Ledger, P3: Ledger, D: Ledger> Tally<P0, P1, P2
             Kind::Second(own) => own.raise(&mut self.second),
             Kind::Third(own) => own.raise(&mut self.third),
             Kind::Fourth(own) => own.raise(&mut self.fourth),
+            // A spare port speaks for no controller.
             Kind::Spare => unreachable!(),
         }
     }

@@ -175,6 +175,7 @@ fn act_on<B: Bus, R: Wait>(
             return answer;
         }
     }
+    // Forever has no end.
     unreachable!()
 }
 

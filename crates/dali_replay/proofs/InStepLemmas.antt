@@ -14,6 +14,9 @@ use Rattle.dali_script.specs.declared.orders.Due.TheVariants as due
 use Rattle.dali_script.specs.Due.{record_ordered, due_after}
 use Rattle.dali_events.specs.declared.event.Event.{Event}
 use Rattle.dali_events.specs.declared.event.Event.TheVariants as event
+use Rattle.dali_events.specs.declared.event.Outside.{Outside}
+use Rattle.dali_events.specs.declared.event.Outside.TheVariants as outside
+use Rattle.dali_events.specs.Events.{event_of}
 use Rattle.dali_events.specs.Plan.{Plan, no_block, block_at}
 use Rattle.dali_events.specs.World.{World, Controller, controller_at, nobody, controller_begun, start}
 use Rattle.dali_events.specs.Happens.{happens, controller_informed, controller_acted, with_outstanding, trace_running, told_sent, told_destroyed, told_lapsed}
@@ -26,7 +29,7 @@ use Rattle.dali_standing.specs.declared.refusal.Refusal.{Refusal}
 use Rattle.dali_events.specs.declared.trouble.Trouble.{Trouble}
 use Rattle.dali_standing.specs.declared.report.Report.{Report}
 use Rattle.dali_standing.specs.declared.report.Report.TheVariants as report
-use Rattle.dali_world.specs.Site.{SiteState, Receipt, world, opened_site, Logs, HasActed, IsUpWith, Pumps}
+use Rattle.dali_world.specs.Site.{SiteState, Receipt, world, opened_site, Logs, Befalls, HasActed, IsUpWith, Pumps}
 use Rattle.dali_replay.specs.Installation.{Store, IsInstalled, no_store, empty_store, store_settled, IsInStepBy, IsInStep, IsMade}
 
 -- ---------------------------------------------------------------- a controller acts
@@ -185,29 +188,20 @@ set_installed s t e ss c was x logs there read same inst all = record {
 }
 
 -- a call that is refused changes nothing, and one that is accepted adds such an event
-pub event_installed : {A : Type 0} (s t : SiteState) (ss : List Store) (e : Event) (result : Result A Refusal) → IsOther e → OnOk result (Logs s e t)
-    → OnErr result (t ≡ s)
-    → IsInstalled (record { site = s; stores = ss }) → IsInstalled (record { site = t; stores = ss })
-event_installed s t ss e (Ok a) other logs same inst = others_installed s t ss e other logs inst
-event_installed s t ss e (Err f) other logs same inst = rw same inst
-
 pub asked_installed : {A : Type 0} (s t : SiteState) (ss : List Store) (e : Event) (P : Type 0) (result : Result A Refusal) → IsOther e
     → OnOk result (Logs s e t × P) → OnErr result (t ≡ s)
     → IsInstalled (record { site = s; stores = ss }) → IsInstalled (record { site = t; stores = ss })
 asked_installed s t ss e P (Ok a) other logs same inst = others_installed s t ss e other logs.0 inst
 asked_installed s t ss e P (Err f) other logs same inst = rw same inst
 
-pub gear_installed : {A : Type 0} (s t : SiteState) (ss : List Store) (e : Event) (P : Type 0) (result : Result A Refusal) → IsOther e
-    → OnOk result (P × Logs s e t) → OnErr result (t ≡ s)
+pub outside_installed : (s t : SiteState) (ss : List Store) (x : Outside) (result : Result (Unit {0}) Refusal) → OnOk result (Befalls s x t)
+    → OnErr result (t ≡ s)
     → IsInstalled (record { site = s; stores = ss }) → IsInstalled (record { site = t; stores = ss })
-gear_installed s t ss e P (Ok a) other logs same inst = others_installed s t ss e other logs.1 inst
-gear_installed s t ss e P (Err f) other logs same inst = rw same inst
-
-pub lapse_installed : (s t : SiteState) (ss : List Store) (result : Result (Option ℕ) Refusal)
-    → IfOk result (λ owner. (owner ≡ (world s).bus.owner) × Logs s event.Lapsed t) → OnErr result (t ≡ s)
-    → IsInstalled (record { site = s; stores = ss }) → IsInstalled (record { site = t; stores = ss })
-lapse_installed s t ss (Ok a) logs same inst = others_installed s t ss event.Lapsed tt logs.1 inst
-lapse_installed s t ss (Err f) logs same inst = rw same inst
+outside_installed s t ss x (Ok a) logs same inst = others_installed s t ss (event_of x) (is_other x) logs.1 inst where
+  is_other : (x : Outside) → IsOther (event_of x)
+  is_other outside.Lapse = tt
+  is_other _ = tt
+outside_installed s t ss x (Err f) logs same inst = rw same inst
 
 pumped_installed : (s t : SiteState) (ss : List Store) (x : Trouble) (r : Report) → Pumps s x r t → IsInstalled (record { site = s; stores = ss })
     → IsInstalled (record { site = t; stores = ss })

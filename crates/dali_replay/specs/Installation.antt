@@ -9,6 +9,9 @@ use Rattle.dali_script.specs.declared.orders.Order.{Order}
 use Rattle.dali_script.specs.declared.orders.Due.{Due}
 use Rattle.dali_script.specs.declared.orders.Due.TheVariants as due
 use Rattle.dali_script.specs.Due.{record_ordered}
+use Rattle.dali_events.specs.declared.event.Event.{Event}
+use Rattle.dali_events.specs.declared.event.Event.TheVariants as event
+use Rattle.dali_events.specs.declared.event.Outside.{Outside}
 use Rattle.dali_events.specs.Plan.{Plan, no_block, block_at}
 use Rattle.dali_events.specs.World.{Controller, controller_at}
 use Rattle.dali_events.specs.Happens.{with_outstanding}
@@ -19,7 +22,8 @@ use Rattle.dali_standing.specs.declared.refusal.Refusal.TheVariants as refusal
 use Rattle.dali_events.specs.declared.trouble.Trouble.{Trouble}
 use Rattle.dali_standing.specs.declared.report.Report.{Report}
 use Rattle.dali_world.specs.Site.{SiteState, Receipt, world, opened_site, IsBarred, IsActRefused}
-use Rattle.dali_world.specs.Site.{IsUpRefused, IsUpWith, HasActed, Pumps, IsPumpRefused}
+use Rattle.dali_world.specs.Site.{IsUpRefused, IsUpWith, HasActed, Pumps, IsPumpRefused, Logs}
+use Rattle.dali_world.specs.Site.{LogsRequest, Befalls, IsBefallRefused}
 
 -- A CONTROLLER'S STORE: the records that it holds, and the record that was ordered and is still to
 -- be committed in it.
@@ -49,10 +53,7 @@ installation_of p = record { site = opened_site p 64 65536; stores = map empty_s
 abbrev pub store_at : Installation → ℕ → Store
 store_at n c = slice_index_or n.stores c no_store
 
--- with another site, or with another store of controller c
-abbrev pub on_site : Installation → SiteState → Installation
-on_site n s = record { site = s; stores = n.stores }
-
+-- with another store of controller c
 abbrev pub with_store : Installation → ℕ → Store → Installation
 with_store n c x = record { site = n.site; stores = slice_set n.stores c x }
 
@@ -189,3 +190,14 @@ Calls Does IsRefused n (Err e) m = IsRefused e × (m ≡ n)
 
 abbrev pub PumpsOn : Installation → Trouble → Result Report Refusal → Installation → Type 0
 PumpsOn n t result m = Calls (Pumps n.site t) (IsPumpRefused n.site t) n result m
+
+abbrev pub BefallsOn : Installation → Outside → Result (Unit {0}) Refusal → Installation → Type 0
+BefallsOn n x result m =
+    Calls (λ _ t. Befalls n.site x t) (IsBefallRefused n.site x) n result m
+
+-- one event more, by which a request waits; and the bus lapses: who owned it
+abbrev pub Requests : SiteState → Event → Unit {0} → SiteState → Type 0
+Requests s e _ t = LogsRequest s e t
+
+abbrev pub Lapses : SiteState → Option ℕ → SiteState → Type 0
+Lapses s owner t = (owner ≡ (world s).bus.owner) × Logs s event.Lapsed t

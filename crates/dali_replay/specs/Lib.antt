@@ -3,7 +3,6 @@ pub mod Installation
 pub mod Json
 pub mod Text
 pub mod BenchReport
-pub mod Calls
 pub mod Rounds
 pub mod SiteReport
 pub mod Streams

@@ -1,15 +1,13 @@
 use Rattle.std.specs.Prelude.{◌≡◌, ℕ, zero, suc, List, [], ◌++◌, length, Result}
 use Rattle.dali_events.specs.declared.event.Event.TheVariants as event
+use Rattle.dali_events.specs.declared.event.Outside.TheVariants as outside
 use Rattle.dali_events.specs.World.{World, gear_at, controller_at}
 use Rattle.dali_standing.specs.declared.refusal.Refusal.{Refusal}
-use Rattle.dali_world.specs.Site.{SiteState, world, IsArcRefused, IsDownRefused, IsGearRefused}
-use Rattle.dali_world.specs.Site.{IsForeignRefused}
-use Rattle.dali_replay.specs.Calls.{Befalls, Requests, BefallsGear, Lapses, IsLogFull}
+use Rattle.dali_world.specs.Site.{SiteState, world, IsArcRefused, IsLogFull}
 use Rattle.dali_grammar.specs.declared.site_line.SiteLine.{SiteLine}
 use Rattle.dali_grammar.specs.declared.site_line.SiteLine.TheVariants as line
 use Rattle.dali_replay.specs.Installation.{Installation, Goes, Stores, Fails, Surveys}
-use Rattle.dali_replay.specs.Installation.{ComesUp, Calls}
-use Rattle.dali_replay.specs.Installation.{PumpsOn}
+use Rattle.dali_replay.specs.Installation.{ComesUp, Calls, PumpsOn, BefallsOn, Requests, Lapses}
 use Rattle.dali_replay.specs.Rounds.{Runs}
 use Rattle.dali_replay.specs.Text.{ok_of, offered_of, answer_or_refusal, ordered_text, report_text}
 use Rattle.dali_replay.specs.Text.{lapse_text, gear_text, table_text}
@@ -50,19 +48,8 @@ Says n line.Lapse text m =
 Says n (line.Arc c f) text m =
     Answers (λ r. Calls (Requests n.site (event.Offered c f)) (IsArcRefused n.site c f) n r m)
     (offered_of c f) text
-Says n (line.Foreign f) text m =
-    Answers (λ r. Calls (Befalls n.site (event.Foreign f)) (IsForeignRefused n.site f) n r m)
-    ok_of text
-Says n (line.Down c) text m =
-    Answers (λ r. Calls (Befalls n.site (event.Down c)) (IsDownRefused n.site c) n r m) ok_of text
+Says n (line.Outside x) text m = Answers (λ r. BefallsOn n x r m) ok_of text
+Says n (line.Down c) text m = Answers (λ r. BefallsOn n (outside.Down c) r m) ok_of text
 Says n (line.Up c) text m = Answers (λ r. ComesUp n c r m) ok_of text
 Says n (line.Run limit) text m = Runs limit n text m
-Says n (line.Power g on) text m =
-    Answers (λ r. Calls (BefallsGear n.site g (event.Power g on)) (IsGearRefused n.site g) n r m)
-    ok_of text
-Says n (line.Expire g) text m =
-    Answers (λ r. Calls (BefallsGear n.site g (event.Expired g)) (IsGearRefused n.site g) n r m)
-    ok_of text
-Says n line.Quiet text m =
-    Answers (λ r. Calls (Befalls n.site event.Quiet) (IsLogFull n.site) n r m) ok_of text
 Says n line.Show text m = (text ≡ site_text n.site) × (m ≡ n)

@@ -5,21 +5,20 @@ ghost use Rattle.std.specs.Prelude.{IfSome, IsTrue, ◌↔◌, OnErr, IfNone, is
 ghost use Rattle.dali_script.specs.Records.{Fits, MayAdd};
 ghost use Rattle.dali_script.specs.Due.{record_ordered};
 ghost use Rattle.dali_events.specs.declared.event.Event.TheVariants as event;
+ghost use Rattle.dali_events.specs.declared.event.Outside.TheVariants as outside;
 ghost use Rattle.dali_standing.specs.Seats.{due_of};
-ghost use Rattle.dali_world.specs.Site.{IsArcRefused, IsDownRefused, IsGearRefused, IsActRefused, IsBarred};
-ghost use Rattle.dali_world.specs.Site.{IsForeignRefused};
+ghost use Rattle.dali_world.specs.Site.{IsArcRefused, IsActRefused, IsBarred, IsLogFull};
 ghost use Rattle.dali_replay.specs.Installation.{installation_of, empty_store, store_settled, store_at, controller};
 ghost use Rattle.dali_replay.specs.Installation.{IsUpAt, store_committed, with_store, IsMade, IsGiven, HasNone};
 ghost use Rattle.dali_replay.specs.Installation.{HasStepped, Goes, IsPending, Stores, Fails, Surveys};
-ghost use Rattle.dali_replay.specs.Installation.{ComesUp, Calls, PumpsOn};
-ghost use Rattle.dali_replay.specs.Calls.{Befalls, Requests, Lapses, IsLogFull, BefallsGear};
+ghost use Rattle.dali_replay.specs.Installation.{ComesUp, Calls, PumpsOn, BefallsOn, Requests, Lapses};
 ghost use Rattle.dali_standing.specs.declared.refusal.Refusal.TheVariants as refusal;
 ghost use Rattle.dali_replay.specs.Rounds.{HasTurn};
 
 use dali_frame::Forward;
 use dali_reserve::{Keep, MemoryKeep};
 use dali_script::{Block, Due, Input, Kept, Order, Pair, Record};
-use dali_world::{Plan, Refusal, Report, SiteState, Trouble};
+use dali_world::{Outside, Plan, Refusal, Report, SiteState, Trouble};
 use std::alloc::{AllocError, Global};
 use std::marker::Model;
 
@@ -105,10 +104,7 @@ impl Store {
         ensures copy { result ≡ self.old.keep }
         ensures same { self.new ≡ self.old }
     {
-        match self.keep.read() {
-            Ok(copy) => copy,
-            Err(_) => unreachable!(),
-        }
+        self.keep.read().unwrap()
     }
 }
 
@@ -212,13 +208,24 @@ impl Installation {
         self.site.pump(trouble)
     }
 
+    /// `foreign HHHH`, `off g`, `on g`, `expire g`, `quiet`: something happens from outside.
+    ///
+    /// Refusals, in this order: 1 UnknownGear, 8 LogFull, 11 NotForeign.
+    pub fn befall(&mut self, what: Outside) -> Result<(), Refusal>
+        ensures { BefallsOn self.old what result self.new }
+    {
+        self.site.befall(what)
+    }
+
     /// `lapse`: the owner loses the bus.
     ///
     /// Refusal: 8 LogFull.
     pub fn lapse(&mut self) -> Result<Option<u8>, Refusal>
         ensures { Calls (Lapses self.old.site) (IsLogFull self.old.site) self.old result self.new }
     {
-        self.site.lapse()
+        let owner = self.site.owner();
+        self.befall(Outside::Lapse)?;
+        Ok(owner)
     }
 
     /// `arc c HHHH`: the controller asks to send a frame of direct arc power.
@@ -232,25 +239,14 @@ impl Installation {
         self.site.arc(c, frame)
     }
 
-    /// `foreign HHHH`: a frame of another device comes.
-    ///
-    /// Refusals, in this order: 8 LogFull, 11 NotForeign.
-    pub fn foreign(&mut self, frame: Forward) -> Result<(), Refusal>
-        ensures { Calls (Befalls self.old.site (event.Foreign frame)) (IsForeignRefused self.old.site frame)
-            self.old result self.new }
-    {
-        self.site.foreign(frame)
-    }
-
     /// `down c`: the controller goes down. Its store stays.
     ///
     /// Refusals, in this order: 1 UnknownController, 2 ControllerDown, 8 LogFull.
     pub fn down(&mut self, c: u32) -> Result<(), Refusal>
-        ensures { Calls (Befalls self.old.site (event.Down c)) (IsDownRefused self.old.site c)
-            self.old result self.new }
+        ensures { BefallsOn self.old (outside.Down c) result self.new }
     {
         let c = self.check_known(c)?;
-        self.site.down(c)
+        self.befall(Outside::Down(c))
     }
 
     /// `up c`: the controller comes up with what its store holds.
@@ -271,35 +267,6 @@ impl Installation {
             }
             Err(error) => Err(error),
         }
-    }
-
-    /// `off g`, `on g`: a gear's power comes (true) or goes.
-    ///
-    /// Refusals, in this order: 1 UnknownGear, 8 LogFull.
-    pub fn power(&mut self, number: u32, on: bool) -> Result<(), Refusal>
-        ensures { Calls (BefallsGear self.old.site number (event.Power number on)) (IsGearRefused self.old.site number)
-            self.old result self.new }
-    {
-        self.site.power(number, on)
-    }
-
-    /// `expire g`: the 15 minutes of a gear's initialisation are over.
-    ///
-    /// Refusals, in this order: 1 UnknownGear, 8 LogFull.
-    pub fn expire(&mut self, number: u32) -> Result<(), Refusal>
-        ensures { Calls (BefallsGear self.old.site number (event.Expired number)) (IsGearRefused self.old.site number)
-            self.old result self.new }
-    {
-        self.site.expire(number)
-    }
-
-    /// `quiet`: half pairs are forgotten.
-    ///
-    /// Refusal: 8 LogFull.
-    pub fn quiet(&mut self) -> Result<(), Refusal>
-        ensures { Calls (Befalls self.old.site event.Quiet) (IsLogFull self.old.site) self.old result self.new }
-    {
-        self.site.quiet()
     }
 
     /// The site.
@@ -337,6 +304,7 @@ impl Installation {
         let Some(input) = self.given(c) else {
             return Ok(None);
         };
+        // One that is down is given nothing, but no contract of the site says so.
         if !up {
             return Err(Refusal::ControllerDown);
         }

@@ -123,13 +123,10 @@ pub fn report_site(
         SiteLine::Pump(trouble) => push_pumped(text, installation.pump(trouble)),
         SiteLine::Lapse => push_lapsed(text, installation.lapse()),
         SiteLine::Arc(c, frame) => push_asked(text, c, frame, installation.arc(c, frame)),
-        SiteLine::Foreign(frame) => push_done(text, installation.foreign(frame)),
+        SiteLine::Outside(what) => push_done(text, installation.befall(what)),
         SiteLine::Down(c) => push_done(text, installation.down(c)),
         SiteLine::Up(c) => push_done(text, installation.up(c)),
         SiteLine::Run(limit) => run(text, installation, limit),
-        SiteLine::Power(g, on) => push_done(text, installation.power(g, on)),
-        SiteLine::Expire(g) => push_done(text, installation.expire(g)),
-        SiteLine::Quiet => push_done(text, installation.quiet()),
         SiteLine::Show => show(text, installation),
     }
 }

@@ -1,5 +1,5 @@
-use Rattle.std.specs.Prelude.{◌≡◌, ◌⊎◌, ℕ, ◌+◌, List, [], ◌∷◌, ◌++◌, map, slice_set, slice_index_or}
-use Rattle.std.specs.Prelude.{Option, Some, None}
+use Rattle.std.specs.Prelude.{◌≡◌, ◌⊎◌, ℕ, ◌+◌, ◌<◌, true, List, [], ◌∷◌, ◌++◌, length, map}
+use Rattle.std.specs.Prelude.{slice_set, slice_index_or, Option, Some, None}
 use Rattle.std.specs.Option.{option_map}
 use Rattle.dali_gear.specs.Gear.{Gear}
 use Rattle.dali_arbiter.specs.declared.request.Request.{Request}
@@ -16,6 +16,9 @@ use Rattle.dali_controller.specs.Machine.{Machine, at_first}
 use Rattle.dali_controller.specs.Orders.{machine_after}
 use Rattle.dali_events.specs.declared.event.Event.{Event}
 use Rattle.dali_events.specs.declared.event.Event.TheVariants as event
+use Rattle.dali_events.specs.declared.event.Outside.{Outside}
+use Rattle.dali_events.specs.declared.event.Outside.TheVariants as outside
+use Rattle.dali_events.specs.Foreign.{is_foreign}
 use Rattle.dali_events.specs.World.{World, Controller, controller_at, nobody}
 use Rattle.dali_events.specs.Happens.{happens, come_up, entry}
 use Rattle.dali_events.specs.Allowed.{Allowed, IsUp, IsArc, MaySend}
@@ -126,15 +129,7 @@ machines_after w ms (event.Acted c i o) =
 machines_after w ms (event.Down c) = slice_set ms c None
 machines_after w ms (event.Up c kept) =
     slice_set ms c (Some (at_first c (come_up kept (controller_at w c)).records))
-machines_after w ms (event.Offered c f) = ms
-machines_after w ms (event.Sent c f h) = ms
-machines_after w ms (event.Destroyed c f set) = ms
-machines_after w ms (event.Collided c f d g) = ms
-machines_after w ms event.Lapsed = ms
-machines_after w ms event.Quiet = ms
-machines_after w ms (event.Foreign f) = ms
-machines_after w ms (event.Power g on) = ms
-machines_after w ms (event.Expired g) = ms
+machines_after w ms _ = ms
 
 -- the machines of controllers that have these blocks, from controller c on, before their start
 abbrev pub machines_at : ℕ → List Block → List (Option Machine)
@@ -154,6 +149,14 @@ abbrev pub Moves : Standing → Event → Standing → Type 0
 Moves s e new =
     (w : World) (ms : List (Option Machine)) → s ≡ stand_of w ms
     → Allowed w e × (new ≡ stand_of (happens w e) (machines_after w ms e))
+
+-- what may befall what stands: gear and controllers that are there, and no addressing command
+abbrev pub MayBefall : Standing → Outside → Type 0
+MayBefall s (outside.Foreign f) = is_foreign f ≡ true
+MayBefall s (outside.Power g on) = g < length s.gear
+MayBefall s (outside.Expire g) = g < length s.gear
+MayBefall s (outside.Down c) = (controller_on s c).up ≡ true
+MayBefall s _ = Unit {0}
 
 -- a request that may be sent, in each world that stands so
 abbrev pub MayBeSent : Standing → Request → Type 0

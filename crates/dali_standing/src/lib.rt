@@ -13,4 +13,5 @@ mod standing;
 
 pub use refusal::Refusal;
 pub use report::Report;
+pub use seat::Seat;
 pub use standing::{Standing, is_arc_power};

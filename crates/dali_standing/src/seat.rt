@@ -1,5 +1,5 @@
 ghost use Rattle.std.specs.Prelude.{◌≡◌, ◌++◌, ◌∷◌, [], Bool, true, false, ◌↔◌, Some, None};
-ghost use Rattle.std.specs.Prelude.{IsTrue, IsSome, IfSome, MatchOption};
+ghost use Rattle.std.specs.Prelude.{IsTrue, MatchOption};
 ghost use Rattle.dali_special.specs.Command.{command_of};
 ghost use Rattle.dali_script.specs.Findings.{later};
 ghost use Rattle.dali_script.specs.Scripts.{IsLawful};
@@ -27,7 +27,7 @@ pub(crate) enum Place {
 
 /// A controller's place on a site, and what the bus has told the controller.
 #[derive(Drop)]
-pub(crate) struct Seat {
+pub struct Seat {
     place: Place,
     outstanding: Option<Record>,
     finding: Option<Finding>,
@@ -83,36 +83,31 @@ impl Seat {
     }
 
     /// What its machine would order at an input.
-    pub(crate) fn would_order(&self, input: Input) -> Option<Order>
+    pub(crate) fn would_order(&self, input: Input) -> Order
         requires up { self.now.controller.up ≡ true }
         requires due { IsDue self.now.controller input }
-        ensures some { IsSome result }
-        ensures answer { IfSome result (MayAnswer self.now.machine input) }
+        ensures { MayAnswer self.now.machine input result }
     {
         match &self.place {
-            Place::Up(machine) => machine.would_order(input).ok(),
-            Place::Down(_) => None,
+            Place::Up(machine) => machine.would_order(input).unwrap(),
+            // It is up.
+            Place::Down(_) => unreachable!(),
         }
     }
 
     /// Its machine acts on an input, and orders what is to be done next.
-    pub(crate) fn act(&mut self, input: Input) -> Option<Order>
+    pub(crate) fn act(&mut self, input: Input) -> Order
         requires up { self.old.controller.up ≡ true }
         requires due { IsDue self.old.controller input }
-        ensures acted { IsSome result }
-        ensures answer { IfSome result (λ order. MayAnswer self.old.machine input order) }
-        ensures whole { IfSome result (λ order. LeavesWhole self.old.machine input order) }
-        ensures state { IfSome result (λ order. self.new ≡ acted_at self.old input order) }
+        ensures answer { MayAnswer self.old.machine input result }
+        ensures whole { LeavesWhole self.old.machine input result }
+        ensures state { self.new ≡ acted_at self.old input result }
         ensures tied { IsTied self.old.controller self.old.machine }
     {
-        match stepped(&mut self.place, input) {
-            Some(order) => {
-                note(&mut self.outstanding, input, &order);
-                self.told = None;
-                Some(order)
-            }
-            None => None,
-        }
+        let order = stepped(&mut self.place, input);
+        note(&mut self.outstanding, input, &order);
+        self.told = None;
+        order
     }
 
     /// Its frame was sent, and this was heard. `reached` is how far its transaction is, with this frame.
@@ -198,21 +193,21 @@ impl Seat {
     }
 
     /// What the bus has told the controller, and it has not acted on.
-    pub(crate) fn told(&self) -> Option<Input>
+    pub fn told(&self) -> Option<Input>
         ensures { result ≡ self.now.controller.told }
     {
         self.told
     }
 
     /// Whether the controller is up.
-    pub(crate) fn is_up(&self) -> bool
+    pub fn is_up(&self) -> bool
         ensures { result ≡ self.now.controller.up }
     {
         matches!(self.place, Place::Up(_))
     }
 
     /// What is due for the controller: nothing while it is down.
-    pub(crate) fn due(&self) -> Due
+    pub fn due(&self) -> Due
         ensures { result ≡ due_of self.now.controller }
     {
         match &self.place {
@@ -222,7 +217,7 @@ impl Seat {
     }
 
     /// The gear that its machine has enrolled.
-    pub(crate) fn table(&self) -> Option<&Table>
+    pub fn table(&self) -> Option<&Table>
         ensures { MatchOption result (self.now.controller.up ≡ false)
             (λ table. (self.now.controller.up ≡ true) × (table.now ≡ table_of self.now.controller.records)) }
     {
@@ -233,7 +228,7 @@ impl Seat {
     }
 
     /// The records that the controller keeps: its machine has them while it is up.
-    pub(crate) fn kept(&self) -> &Kept
+    pub fn kept(&self) -> &Kept
         ensures { result.now ≡ self.now.controller.records }
     {
         match &self.place {
@@ -243,7 +238,7 @@ impl Seat {
     }
 
     /// The record that its machine ordered to be committed, until it is told what became of it.
-    pub(crate) fn ordered(&self) -> Option<Record>
+    pub fn ordered(&self) -> Option<Record>
         ensures { result ≡ record_ordered self.now.controller.last }
     {
         match self.last() {
@@ -264,16 +259,16 @@ impl Seat {
 }
 
 /// A machine acts on an input that it waits for.
-fn stepped(place: &mut Place, input: Input) -> Option<Order>
+fn stepped(place: &mut Place, input: Input) -> Order
     requires { Waits (machine_in place.old) input }
-    ensures acted { IsSome result }
-    ensures answer { IfSome result (λ order. MayAnswer (machine_in place.old) input order) }
-    ensures whole { IfSome result (λ order. LeavesWhole (machine_in place.old) input order) }
-    ensures state { IfSome result (λ order. place.new ≡ acted_in place.old input order) }
+    ensures answer { MayAnswer (machine_in place.old) input result }
+    ensures whole { LeavesWhole (machine_in place.old) input result }
+    ensures state { place.new ≡ acted_in place.old input result }
 {
     match place {
-        Place::Up(machine) => machine.step(input).ok(),
-        Place::Down(_) => None,
+        Place::Up(machine) => machine.step(input).unwrap(),
+        // Only a machine waits.
+        Place::Down(_) => unreachable!(),
     }
 }
 

@@ -1,22 +1,21 @@
 ghost use Rattle.std.specs.Prelude.{◌≡◌, ◌↔◌, ◌==◌, ◌++◌, [], ◌<◌, ◌≤◌, length, true, false, Some, None};
-ghost use Rattle.std.specs.Prelude.{IsSome, IfSome, IfOk, IfErr, IsTrue, Bool, MatchOption, if◌then◌else◌};
+ghost use Rattle.std.specs.Prelude.{IfSome, IfOk, IfErr, IsTrue, Bool, MatchOption, if◌then◌else◌};
 ghost use Rattle.dali_special.specs.Command.{command_of};
 ghost use Rattle.dali_gear.specs.declared.row.Reach.TheVariants.{Everyone, Only};
 ghost use Rattle.dali_gear.specs.Row.{draws_needed, answers_of, heard_of, stored_of};
 ghost use Rattle.dali_arbiter.specs.Arbiter.{next, owns, total, bus_lapsed, collision};
 ghost use Rattle.dali_script.specs.declared.orders.Order.TheVariants.{Commit};
-ghost use Rattle.dali_script.specs.Due.{frame_put, record_ordered};
-ghost use Rattle.dali_script.specs.Table.{table_of};
+ghost use Rattle.dali_script.specs.Due.{frame_put};
 ghost use Rattle.std.specs.List.{list_any};
 ghost use Rattle.dali_events.specs.declared.event.Event.TheVariants as event;
-ghost use Rattle.dali_events.specs.Foreign.{is_foreign};
+ghost use Rattle.dali_events.specs.Events.{event_of};
 ghost use Rattle.dali_events.specs.World.{start};
 ghost use Rattle.dali_events.specs.Happens.{is_arc, keeps_bus, gives_up, put_after, told_sent};
 ghost use Rattle.dali_events.specs.Happens.{told_destroyed};
 ghost use Rattle.dali_events.specs.Allowed.{IsArc, IsDue};
 ghost use Rattle.dali_standing.specs.Standing.{seats_from};
 ghost use Rattle.dali_standing.specs.Seats.{MayAnswer, LeavesWhole, ReservesUsed, MayReserveUsed, Agrees, trace_of};
-ghost use Rattle.dali_standing.specs.Seats.{told_at, due_of};
+ghost use Rattle.dali_standing.specs.Seats.{told_at};
 ghost use Rattle.dali_events.specs.Troubles.{heard_under, nobody_at_all};
 ghost use Rattle.dali_standing.specs.Settled.{IsAccepted, IsHearing, IsPlacedOn, FollowsItsMachine};
 ghost use Rattle.dali_standing.specs.declared.refusal.Refusal.TheVariants as refusal;
@@ -25,10 +24,10 @@ use crate::fitted::FittedGear;
 use crate::refusal::Refusal;
 use crate::seat::Seat;
 use dali_arbiter::{Arbiter, Request};
-use dali_events::{Plan, Trouble, Used};
+use dali_events::{Outside, Plan, Trouble, Used};
 use dali_frame::{Answer, Forward, Priority, Short};
 use dali_gear::{GearSet, Reach, Row};
-use dali_script::{Block, Due, Input, Kept, Order, Record, Stage, Table};
+use dali_script::{Block, Input, Kept, Order, Record, Stage};
 use dali_special::Command;
 use std::alloc::Global;
 use std::marker::Model;
@@ -37,8 +36,8 @@ use std::marker::Model;
 /// The frames of the running transaction are those of the machine that owns the bus.
 ///
 /// Controllers and gear are named by their numbers, which must be there. The caller tests what its call asks for:
-/// `is_up` and `may_act` before `act`, `is_crowded` before `act` and `offer`, `next_request` and `is_spent` before a
-/// request is sent, destroyed or collides, `agreement` before `up`.
+/// `Seat::is_up` and `may_act` before `act`, `is_crowded` before `act` and `offer`, `next_request` and `is_spent`
+/// before a request is sent, destroyed or collides, `agreement` before `up`.
 #[derive(Drop)]
 pub struct Standing {
     fitted: FittedGear,
@@ -59,7 +58,7 @@ impl Model for Standing {
 
 impl Standing {
     ghost use Rattle.dali_standing.specs.Standing.{Standing, stand_of, machines_at, controller_on, machine_in, Moves};
-    ghost use Rattle.dali_standing.specs.Standing.{MayBeSent, WasOrdered};
+    ghost use Rattle.dali_standing.specs.Standing.{MayBeSent, MayBefall, WasOrdered};
 
     /// What stands on a site of this plan at its start. It takes all the memory that it will need. `queue` requests may
     /// wait.
@@ -88,54 +87,12 @@ impl Standing {
         self.seats.len()
     }
 
-    /// Whether a controller is up.
-    pub fn is_up(&self, c: u8) -> bool
+    /// A controller's place.
+    pub fn seat(&self, c: u8) -> &Seat
         requires { c < length self.now.controllers }
-        ensures { result ≡ (controller_on self.now c).up }
+        ensures { result.now.controller ≡ controller_on self.now c }
     {
-        self.seats[c as usize].is_up()
-    }
-
-    /// What the bus has told a controller, and it has not acted on.
-    pub fn told(&self, c: u8) -> Option<Input>
-        requires { c < length self.now.controllers }
-        ensures { result ≡ (controller_on self.now c).told }
-    {
-        self.seats[c as usize].told()
-    }
-
-    /// What is due for a controller: nothing while it is down.
-    pub fn due(&self, c: u8) -> Due
-        requires { c < length self.now.controllers }
-        ensures { result ≡ due_of (controller_on self.now c) }
-    {
-        self.seats[c as usize].due()
-    }
-
-    /// The record whose commit is due for a controller: none while it is down.
-    pub fn ordered(&self, c: u8) -> Option<Record>
-        requires { c < length self.now.controllers }
-        ensures { result ≡ record_ordered (controller_on self.now c).last }
-    {
-        self.seats[c as usize].ordered()
-    }
-
-    /// The records that a controller keeps.
-    pub fn kept(&self, c: u8) -> &Kept
-        requires { c < length self.now.controllers }
-        ensures { result.now ≡ (controller_on self.now c).records }
-    {
-        self.seats[c as usize].kept()
-    }
-
-    /// The gear that a controller has enrolled, while it is up.
-    pub fn table(&self, c: u8) -> Option<&Table>
-        requires { c < length self.now.controllers }
-        ensures { MatchOption result ((controller_on self.now c).up ≡ false)
-            (λ table. ((controller_on self.now c).up ≡ true)
-            × (table.now ≡ table_of (controller_on self.now c).records)) }
-    {
-        self.seats[c as usize].table()
+        &self.seats[c as usize]
     }
 
     /// The gear, in order of their number.
@@ -182,32 +139,24 @@ impl Standing {
         ensures yes { result ≡ true → MayReserveUsed used.now (machine_in self.now.machines c) input }
         ensures no { result ≡ false → MayReserveUsed used.now (machine_in self.now.machines c) input → ⊥ }
     {
-        match self.seats[c as usize].would_order(input) {
-            Some(order) => reserves_used(&order, used),
-            None => false,
-        }
+        reserves_used(&self.seats[c as usize].would_order(input), used)
     }
 
     /// A controller acts on an input. What it orders on the bus waits there from now on.
-    pub fn act(&mut self, c: u8, input: Input) -> Option<Order>
+    pub fn act(&mut self, c: u8, input: Input) -> Order
         requires up { (controller_on self.old c).up ≡ true }
         requires due { IsDue (controller_on self.old c) input }
         requires room { total self.old.bus < self.old.bus.capacity }
-        ensures acted { IsSome result }
-        ensures answer { IfSome result (λ order. MayAnswer (machine_in self.old.machines c) input order) }
-        ensures whole { IfSome result (λ order. LeavesWhole (machine_in self.old.machines c) input order) }
-        ensures moves { IfSome result (λ order. Moves self.old (event.Acted c input order) self.new) }
+        ensures answer { MayAnswer (machine_in self.old.machines c) input result }
+        ensures whole { LeavesWhole (machine_in self.old.machines c) input result }
+        ensures moves { Moves self.old (event.Acted c input result) self.new }
         ensures placed { IsPlacedOn self.old c }
     {
         let seat = &mut self.seats[c as usize];
-        match seat.act(input) {
-            Some(order) => {
-                give_up(&mut self.arbiter, c, &order);
-                request(&mut self.arbiter, c, &order);
-                Some(order)
-            }
-            None => None,
-        }
+        let order = seat.act(input);
+        give_up(&mut self.arbiter, c, &order);
+        request(&mut self.arbiter, c, &order);
+        order
     }
 
     /// A controller asks to send an arc power frame.
@@ -217,10 +166,7 @@ impl Standing {
         requires room { total self.old.bus < self.old.bus.capacity }
         ensures { Moves self.old (event.Offered c frame) self.new }
     {
-        match self.arbiter.offer(c, Priority::ARC, frame) {
-            Ok(()) => {}
-            Err(_) => unreachable!(),
-        }
+        self.arbiter.offer(c, Priority::ARC, frame).unwrap();
     }
 
     /// The request that is next, if one is.
@@ -303,52 +249,34 @@ impl Standing {
         other
     }
 
-    /// The owner, if there is one, loses the bus. Answers who it was.
-    pub fn lapse(&mut self) -> Option<u8>
-        ensures owner { result ≡ self.old.bus.owner }
-        ensures moves { Moves self.old event.Lapsed self.new }
+    /// Something happens from outside.
+    pub fn befall(&mut self, what: Outside)
+        requires { MayBefall self.old what }
+        ensures { Moves self.old (event_of what) self.new }
+    {
+        match what {
+            Outside::Lapse => self.lapse(),
+            Outside::Quiet => self.fitted.quiet(),
+            Outside::Foreign(frame) => self.fitted.interrupt(frame),
+            Outside::Power(number, on) => self.fitted.power(number, on),
+            Outside::Expire(number) => self.fitted.expire(number),
+            Outside::Down(c) => self.down(c),
+        }
+    }
+
+    /// The owner, if there is one, loses the bus.
+    fn lapse(&mut self)
+        ensures { Moves self.old event.Lapsed self.new }
     {
         let owner = self.arbiter.lapse();
         if let Some(c) = owner {
             let seat = &mut self.seats[c as usize];
             seat.lapse();
         }
-        owner
-    }
-
-    /// The bus is quiet for so long that half pairs are forgotten.
-    pub fn quiet(&mut self)
-        ensures { Moves self.old event.Quiet self.new }
-    {
-        self.fitted.quiet();
-    }
-
-    /// A frame of another device comes, and gear with power take it. The owner keeps the bus.
-    pub fn foreign(&mut self, frame: Forward)
-        requires { is_foreign frame ≡ true }
-        ensures { Moves self.old (event.Foreign frame) self.new }
-    {
-        self.fitted.interrupt(frame);
-    }
-
-    /// A gear's power comes or goes.
-    pub fn power(&mut self, number: u32, on: bool)
-        requires { number < length self.old.gear }
-        ensures { Moves self.old (event.Power number on) self.new }
-    {
-        self.fitted.power(number, on);
-    }
-
-    /// The 15 minutes of a gear's initialisation are over.
-    pub fn expire(&mut self, number: u32)
-        requires { number < length self.old.gear }
-        ensures { Moves self.old (event.Expired number) self.new }
-    {
-        self.fitted.expire(number);
     }
 
     /// A controller goes down. Its requests leave, and its ownership ends.
-    pub fn down(&mut self, c: u8)
+    fn down(&mut self, c: u8)
         requires { (controller_on self.old c).up ≡ true }
         ensures { Moves self.old (event.Down c) self.new }
     {
@@ -456,10 +384,7 @@ fn request(arbiter: &mut Arbiter, c: u8, order: &Order)
     ensures { arbiter.new ≡ put_after arbiter.old c order.now }
 {
     if let Order::Put(priority, frame) = order {
-        match arbiter.offer(c, *priority, *frame) {
-            Ok(()) => {}
-            Err(_) => unreachable!(),
-        }
+        arbiter.offer(c, *priority, *frame).unwrap();
     }
 }
 

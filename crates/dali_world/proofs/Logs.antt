@@ -10,7 +10,9 @@ use Rattle.dali_script.specs.Due.{due_after, accepts}
 use Rattle.dali_controller.specs.Machine.{Machine}
 use Rattle.dali_events.specs.declared.event.Event.{Event}
 use Rattle.dali_events.specs.declared.event.Event.TheVariants as event
-use Rattle.dali_events.specs.Events.{whose_step, is_step_of}
+use Rattle.dali_events.specs.declared.event.Outside.{Outside}
+use Rattle.dali_events.specs.declared.event.Outside.TheVariants as outside
+use Rattle.dali_events.specs.Events.{whose_step, is_step_of, event_of}
 use Rattle.dali_events.specs.Plan.{Plan, IsPlan}
 use Rattle.dali_events.specs.World.{World, Controller, controller_at, start}
 use Rattle.dali_events.specs.Happens.{happens}
@@ -25,7 +27,7 @@ use Rattle.dali_events.proofs.Invariant.Safe.{safe_history, safe, holds_after}
 use Rattle.dali_events.proofs.Invariant.Agreeing.{tables_agree_in}
 use Rattle.dali_events.proofs.Invariant.Keeping.{records_kept}
 use Rattle.dali_events.specs.Laws.{TablesAgree, KeepsRecords}
-use Rattle.dali_standing.specs.Standing.{Standing, stand_of, machines_at, machines_after, machine_in, controller_on, Moves, MayBeSent}
+use Rattle.dali_standing.specs.Standing.{Standing, stand_of, machines_at, machines_after, machine_in, controller_on, Moves, MayBeSent, MayBefall}
 use Rattle.dali_world.proofs.Capacity.{capacity_kept}
 use Rattle.dali_world.proofs.Room.{gear_count, gifts_fit_after}
 use Rattle.dali_world.proofs.Rolls.{IsKnownOf, remembers_more, remembers_start, found_called}
@@ -48,7 +50,7 @@ use Rattle.dali_script.specs.declared.orders.End.TheVariants.{AllFound}
 use Rattle.dali_controller.specs.declared.way.Way.TheVariants.{Surveying}
 use Rattle.dali_script.specs.declared.orders.Fault.TheVariants as fault
 use Rattle.dali_world.specs.Site.{SiteState, world, site_logged, machines_all, machines, machine_at, share_of, IsSite, opened_site, HasRoom, Remember}
-use Rattle.dali_world.specs.Site.{IsCrowded, Logs, Receipt, HasActed, IsSpent, IsSendable, RollWasCalled}
+use Rattle.dali_world.specs.Site.{IsCrowded, IsOutside, Logs, Receipt, HasActed, IsSpent, IsSendable, RollWasCalled}
 use Rattle.dali_events.specs.Troubles.{reach_under}
 use Rattle.dali_events.specs.declared.trouble.Trouble.{Trouble}
 use Rattle.dali_events.specs.declared.trouble.Trouble.TheVariants as trouble
@@ -199,6 +201,22 @@ pub site_goes_on : (s was : SiteState) (old new : Standing) (shares : List ℕ) 
 site_goes_on s was old new shares room room' log' e view site free moves known log_is room_is nobodys =
     goes_on s old new shares shares room room' log' e site moves (nobodys_leaves s.plan.used e nobodys) known
     (subst (λ (w : SiteState). HasRoom w) (sym view) free) log_is room_is (uncounted shares e site.four nobodys)
+
+-- what befalls a site from outside may befall what stands there; nothing is to be known of it
+pub may_befall : (s was : SiteState) (old : Standing) (shares : List ℕ) (room : ℕ) (x : Outside) → s ≡ was → IsSite s old shares room → IsOutside was x
+    → MayBefall old x
+may_befall s was old shares room x view site is =
+    subst (λ (t : Standing). MayBefall t x) (sym site.stands) (go x (subst (λ (w : SiteState). IsOutside w x) (sym view) is)) where
+      go : (x : Outside) → IsOutside s x → MayBefall (stand_of (world s) (machines s)) x
+      go (outside.Foreign f) is = is
+      go (outside.Power g on) is = subst (λ n. g < n) (sym site.gear_count) is
+      go (outside.Expire g) is = subst (λ n. g < n) (sym site.gear_count) is
+      go (outside.Down c) is = is.up
+      go _ is = tt
+
+pub nothing_known : (s : SiteState) (x : Outside) → IsKnownOf s (event_of x)
+nothing_known s outside.Lapse = tt
+nothing_known s _ = tt
 
 -- a step of controller d
 pub step_goes_on : (s was : SiteState) (old new : Standing) (shares shares' : List ℕ) (room room' : ℕ) (log' : List Event) (e : Event) (d : ℕ) → s ≡ was

@@ -1,6 +1,6 @@
 use Rattle.std.specs.Prelude.{◌≡◌, ℕ, ◌+◌, ◌<◌, ◌≤◌, ◌⊎◌, Bool, true, false, List, [], ◌∷◌, ◌++◌}
 use Rattle.std.specs.Prelude.{length, slice_index_or, Option, Some, None, if◌then◌else◌, IfOk}
-use Rattle.std.specs.Prelude.{IfErr, OnErr}
+use Rattle.std.specs.Prelude.{IfErr, OnOk, OnErr}
 use Rattle.std.proofs.Common.{Result}
 use Rattle.std.specs.List.{AllByRecursion}
 use Rattle.dali_frame.specs.declared.frames.Forward.{Forward}
@@ -27,7 +27,9 @@ use Rattle.dali_controller.specs.declared.way.Way.TheVariants.{Surveying}
 use Rattle.dali_controller.specs.Machine.{Machine}
 use Rattle.dali_events.specs.declared.event.Event.{Event}
 use Rattle.dali_events.specs.declared.event.Event.TheVariants as event
-use Rattle.dali_events.specs.Events.{is_step_of}
+use Rattle.dali_events.specs.declared.event.Outside.{Outside}
+use Rattle.dali_events.specs.declared.event.Outside.TheVariants as outside
+use Rattle.dali_events.specs.Events.{event_of, is_step_of}
 use Rattle.dali_events.specs.Foreign.{is_foreign}
 use Rattle.dali_events.specs.Plan.{Plan}
 use Rattle.dali_events.specs.World.{World, Controller, controller_at, start}
@@ -216,6 +218,10 @@ IsUpRefused s c copy refusal.StoreDisagrees = IsDown (world s) c × Disagrees s 
 IsUpRefused s c copy refusal.LogFull = IsDown (world s) c × DoesAgree s c copy × IsFull s
 IsUpRefused s c copy _ = ⊥
 
+-- the one refusal of calls that ask for nothing else
+abbrev pub IsLogFull : SiteState → Refusal → Type 0
+IsLogFull s e = (e ≡ refusal.LogFull) × IsFull s
+
 -- no other device may send the frame
 abbrev pub IsForeignRefused : SiteState → Forward → Refusal → Type 0
 IsForeignRefused s f refusal.LogFull = IsFull s
@@ -227,6 +233,21 @@ IsGearRefused s g refusal.UnknownGear = s.plan.gear ≤ g
 IsGearRefused s g refusal.LogFull = (g < s.plan.gear) × IsFull s
 IsGearRefused s g _ = ⊥
 
+-- what may befall a site from outside, and why it does not
+abbrev pub IsOutside : SiteState → Outside → Type 0
+IsOutside s (outside.Foreign f) = is_foreign f ≡ true
+IsOutside s (outside.Power g on) = g < s.plan.gear
+IsOutside s (outside.Expire g) = g < s.plan.gear
+IsOutside s (outside.Down c) = IsUp (world s) c
+IsOutside s _ = Unit {0}
+
+abbrev pub IsBefallRefused : SiteState → Outside → Refusal → Type 0
+IsBefallRefused s (outside.Foreign f) e = IsForeignRefused s f e
+IsBefallRefused s (outside.Power g on) e = IsGearRefused s g e
+IsBefallRefused s (outside.Expire g) e = IsGearRefused s g e
+IsBefallRefused s (outside.Down c) e = IsDownRefused s c e
+IsBefallRefused s _ e = IsLogFull s e
+
 -- ---------------------------------------------------------------- one event more
 
 -- A CALL THAT IS ACCEPTED adds one event, which is allowed in the world of the site.
@@ -234,6 +255,16 @@ pub record Logs (s : SiteState) (e : Event) (new : SiteState) : Type 0 where
   pub allowed : Allowed (world s) e
   pub room : HasRoom s
   pub logged : new ≡ site_logged s e
+
+-- something befell it from outside
+abbrev pub Befalls : SiteState → Outside → SiteState → Type 0
+Befalls s x new = IsOutside s x × Logs s (event_of x) new
+
+-- THE ANSWERS of a site that something befalls, in one closed relation, which the layers above
+-- pass on
+unfoldable pub HasBefallen : SiteState → Outside → Result (Unit {0}) Refusal → SiteState → Type 0
+HasBefallen s x result new =
+    OnOk result (Befalls s x new) × IfErr result (IsBefallRefused s x) × OnErr result (new ≡ s)
 
 -- a controller came up with a copy that agrees with what the site remembers
 abbrev pub IsUpWith : SiteState → ℕ → Kept → SiteState → Type 0

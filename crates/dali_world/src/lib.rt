@@ -9,8 +9,8 @@ mod receipt;
 mod site;
 
 pub use dali_events::{
-    CONTROLLER_LIMIT, DRAW_LIMIT, Event, GEAR_LIMIT, GearSet, Plan, PlanError, Sending, Trouble,
-    Used, is_foreign, laws,
+    CONTROLLER_LIMIT, DRAW_LIMIT, Event, GEAR_LIMIT, GearSet, Outside, Plan, PlanError, Sending,
+    Trouble, Used, is_foreign, laws,
 };
 pub use dali_standing::{Refusal, Report};
 pub use receipt::Receipt;

@@ -3,6 +3,7 @@ ghost use Rattle.std.specs.Prelude.{IfErr, IfSome, IsTrue, ◌↔◌, ◌++◌, 
 ghost use Rattle.std.specs.Prelude.{slice_set};
 ghost use Rattle.std.specs.Vec.{vec_capacity};
 ghost use Rattle.dali_events.specs.declared.event.Event.TheVariants as event;
+ghost use Rattle.dali_events.specs.Foreign.{is_foreign};
 ghost use Rattle.dali_events.specs.World.{gear_at, controller_at};
 ghost use Rattle.dali_events.specs.Allowed.{IsUp, IsDue, MaySend};
 ghost use Rattle.dali_events.specs.Runs.{IsRun};
@@ -22,7 +23,7 @@ ghost use Rattle.dali_standing.specs.declared.refusal.Refusal.TheVariants as ref
 
 use crate::receipt::Receipt;
 use dali_arbiter::Request;
-use dali_events::{Event, Plan, Trouble, is_foreign};
+use dali_events::{Event, Outside, Plan, Trouble, is_foreign};
 use dali_frame::{Forward, Short};
 use dali_gear::{Gear, GearSet};
 use dali_script::{Due, Input, Kept, Record, Table};
@@ -32,10 +33,12 @@ use std::marker::Model;
 
 /// A site: its gear, its bus and its controllers, with a log of all that happened on it.
 ///
-/// Its calls are of four kinds. Controllers: `act`, `arc`, `down`, `up`. The bus: `pump`, `lapse`, `quiet`. Gear:
-/// `power`, `expire`. Readers change nothing: `next`, `due` and `ordered` say what a controller may act on, `idle`
-/// whether a request waits for `pump`, `is_crowded` whether none more may wait; `log`, `gear`, `kept`, `table`,
-/// `gifts`, `owner` and `plan` show what there is; `is_safe` says what is promised.
+/// Its calls are of four kinds. Controllers: `act`, `arc`, `up`. The bus: `pump`. What happens from outside: `befall`,
+/// and for each thing that does, but a foreign frame, a call of its own: `lapse`, `quiet`, `power`, `expire`, `down`.
+///
+/// Readers change nothing: `next`, `due` and `ordered` say what a controller may act on, `idle` whether a request waits
+/// for `pump`, `is_crowded` whether none more may wait; `log`, `gear`, `kept`, `table`, `gifts`, `owner` and `plan`
+/// show what there is; `is_safe` says what is promised.
 ///
 /// A site in use: each controller that has something due acts, then `pump`, and so on; where an act ordered a `Commit`,
 /// the record is stored and `Committed` acted on. Nothing promises that this ends: bound the loop.
@@ -69,7 +72,7 @@ impl SiteState {
     ghost use Rattle.dali_standing.specs.Seats.{due_of, MayReserveUsed, Waits};
     ghost use Rattle.dali_world.specs.Site.{SiteState, world, opened_site, site_logged, machine_at, share_of, IsSound};
     ghost use Rattle.dali_world.specs.Site.{Acts, IsArcRefused, IsDownRefused, IsUpRefused, IsGearRefused, IsBarred};
-    ghost use Rattle.dali_world.specs.Site.{IsForeignRefused};
+    ghost use Rattle.dali_world.specs.Site.{Befalls, IsBefallRefused, IsOutside, IsLogFull};
     ghost use Rattle.dali_world.specs.Site.{IsFull, IsCrowded, HasRoom, Pumps, IsPumpRefused, next_request, Logs};
     ghost use Rattle.dali_world.specs.Site.{LogsRequest, IsUpWith, IsSpent, IsSendable, Becomes, WasOrdered};
     ghost use Rattle.dali_world.specs.Site.{RollWasCalled};
@@ -144,15 +147,12 @@ impl SiteState {
         if self.would_reserve_used(c, input) {
             return Err(Refusal::AddressInUse);
         }
-        match self.standing.act(c, input) {
-            Some(order) => {
-                let ordered = order;
-                append(&mut self.log, &Event::Acted(c, input, ordered));
-                let number = count(&mut self.shares, c);
-                Ok(Receipt::new(c, input, order, number))
-            }
-            None => Err(Refusal::NotDue),
-        }
+        let order = self.standing.act(c, input);
+        // A copy, since the event is lent.
+        let ordered = order;
+        append(&mut self.log, &Event::Acted(c, input, ordered));
+        let number = count(&mut self.shares, c);
+        Ok(Receipt::new(c, input, order, number))
     }
 
     /// A controller asks to send a frame of direct arc power. Its machine hears nothing of it.
@@ -207,6 +207,21 @@ impl SiteState {
         }
     }
 
+    /// Something happens from outside. Nobody is told of it, but the owner that loses the bus, if there is one.
+    ///
+    /// Refusals, in this order: 1 UnknownGear or UnknownController, 2 ControllerDown, 8 LogFull; 11 NotForeign: a frame
+    /// of another device is an addressing command, or RESET or SET SHORT ADDRESS, which change addresses.
+    pub fn befall(&mut self, what: Outside) -> Result<(), Refusal>
+        ensures befell { OnOk result (Befalls self.old what self.new) }
+        ensures refused { IfErr result (IsBefallRefused self.old what) }
+        ensures unchanged { OnErr result (self.new ≡ self.old) }
+    {
+        self.check_outside(what)?;
+        self.standing.befall(what);
+        append(&mut self.log, &what.event());
+        Ok(())
+    }
+
     /// The owner loses the bus, and is told so in place of what it has not acted on. Answers who it was, if anybody.
     ///
     /// Refusal: 8 LogFull.
@@ -216,11 +231,8 @@ impl SiteState {
         ensures refused { IfErr result (λ e. (e ≡ refusal.LogFull) × IsFull self.old) }
         ensures unchanged { OnErr result (self.new ≡ self.old) }
     {
-        if self.is_full() {
-            return Err(Refusal::LogFull);
-        }
-        let owner = self.standing.lapse();
-        append(&mut self.log, &Event::Lapsed);
+        let owner = self.owner();
+        self.befall(Outside::Lapse)?;
         Ok(owner)
     }
 
@@ -232,33 +244,7 @@ impl SiteState {
         ensures refused { IfErr result (λ e. (e ≡ refusal.LogFull) × IsFull self.old) }
         ensures unchanged { OnErr result (self.new ≡ self.old) }
     {
-        if self.is_full() {
-            return Err(Refusal::LogFull);
-        }
-        self.standing.quiet();
-        append(&mut self.log, &Event::Quiet);
-        Ok(())
-    }
-
-    /// A frame of another device comes, as of a sensor or a push button: direct arc power, or what is no addressing
-    /// command. Gear with power take it. Nobody is told, and the owner keeps the bus.
-    ///
-    /// Refusals, in this order: 8 LogFull; 11 NotForeign: the frame is an addressing command, or RESET or SET SHORT
-    /// ADDRESS, which change addresses.
-    pub fn foreign(&mut self, frame: Forward) -> Result<(), Refusal>
-        ensures came { OnOk result (Logs self.old (event.Foreign frame) self.new) }
-        ensures refused { IfErr result (λ e. IsForeignRefused self.old frame e) }
-        ensures unchanged { OnErr result (self.new ≡ self.old) }
-    {
-        if self.is_full() {
-            return Err(Refusal::LogFull);
-        }
-        if !is_foreign(frame) {
-            return Err(Refusal::NotForeign);
-        }
-        self.standing.foreign(frame);
-        append(&mut self.log, &Event::Foreign(frame));
-        Ok(())
+        self.befall(Outside::Quiet)
     }
 
     /// A gear's power comes (true) or goes.
@@ -269,10 +255,7 @@ impl SiteState {
         ensures refused { IfErr result (λ e. IsGearRefused self.old number e) }
         ensures unchanged { OnErr result (self.new ≡ self.old) }
     {
-        self.check_gear(number)?;
-        self.standing.power(number, on);
-        append(&mut self.log, &Event::Power(number, on));
-        Ok(())
+        self.befall(Outside::Power(number, on))
     }
 
     /// The 15 minutes of a gear's initialisation are over.
@@ -283,10 +266,7 @@ impl SiteState {
         ensures refused { IfErr result (λ e. IsGearRefused self.old number e) }
         ensures unchanged { OnErr result (self.new ≡ self.old) }
     {
-        self.check_gear(number)?;
-        self.standing.expire(number);
-        append(&mut self.log, &Event::Expired(number));
-        Ok(())
+        self.befall(Outside::Expire(number))
     }
 
     /// A controller goes down: its machine, its requests and its ownership go. What it keeps stays remembered, and so
@@ -298,13 +278,7 @@ impl SiteState {
         ensures refused { IfErr result (λ e. IsDownRefused self.old c e) }
         ensures unchanged { OnErr result (self.new ≡ self.old) }
     {
-        self.check_up(c)?;
-        if self.is_full() {
-            return Err(Refusal::LogFull);
-        }
-        self.standing.down(c);
-        append(&mut self.log, &Event::Down(c));
-        Ok(())
+        self.befall(Outside::Down(c))
     }
 
     /// A controller comes up with a copy of its records: those that it kept, or these with the one that was
@@ -319,7 +293,7 @@ impl SiteState {
         if (c as usize) >= self.standing.controllers() {
             return Err(Refusal::UnknownController);
         }
-        if self.standing.is_up(c) {
+        if self.standing.seat(c).is_up() {
             return Err(Refusal::ControllerUp);
         }
         let Some(kept) = self.standing.agreement(c, copy) else {
@@ -353,7 +327,7 @@ impl SiteState {
         requires { c < length self.now.plan.blocks }
         ensures { result ≡ (controller_at (world self.now) c).told }
     {
-        self.standing.told(c)
+        self.standing.seat(c).told()
     }
 
     /// What is due for controller `c`, which must be there: Nothing while it is down.
@@ -361,7 +335,7 @@ impl SiteState {
         requires { c < length self.now.plan.blocks }
         ensures { result ≡ due_of (controller_at (world self.now) c) }
     {
-        self.standing.due(c)
+        self.standing.seat(c).due()
     }
 
     /// The record whose commit is due for controller `c`, which must be there: the one that it ordered last. None where
@@ -370,7 +344,7 @@ impl SiteState {
         requires { c < length self.now.plan.blocks }
         ensures { result ≡ record_ordered (controller_at (world self.now) c).last }
     {
-        self.standing.ordered(c)
+        self.standing.seat(c).ordered()
     }
 
     /// Gear `number`, which must be there.
@@ -386,7 +360,7 @@ impl SiteState {
         requires { c < length self.now.plan.blocks }
         ensures { result.now ≡ (controller_at (world self.now) c).records }
     {
-        self.standing.kept(c)
+        self.standing.seat(c).kept()
     }
 
     /// The gear that controller `c`, which must be there, has enrolled: None while it is down.
@@ -396,7 +370,7 @@ impl SiteState {
             (λ table. ((controller_at (world self.now) c).up ≡ true)
             × (table.now ≡ table_of (controller_at (world self.now) c).records)) }
     {
-        self.standing.table(c)
+        self.standing.seat(c).table()
     }
 
     /// Which gear stored which short address, in the order of the frames: a gear at most once, and an address at most
@@ -521,15 +495,41 @@ impl SiteState {
         }
     }
 
+    /// What happens from outside may befall the site, and the log has room for one more event.
+    fn check_outside(&self, what: Outside) -> Result<(), Refusal>
+        ensures ok { OnOk result (IsOutside self.now what × HasRoom self.now) }
+        ensures refused { IfErr result (IsBefallRefused self.now what) }
+    {
+        match what {
+            Outside::Lapse | Outside::Quiet => self.check_room(),
+            Outside::Foreign(frame) => {
+                self.check_room()?;
+                check_foreign(frame)
+            }
+            Outside::Power(number, _) | Outside::Expire(number) => self.check_gear(number),
+            Outside::Down(c) => {
+                self.check_up(c)?;
+                self.check_room()
+            }
+        }
+    }
+
     /// A gear of this number is there, and the log has room for one more event.
     fn check_gear(&self, number: u32) -> Result<(), Refusal>
-        ensures ok { OnOk result ((number < length (world self.now).gear) × HasRoom self.now
-            × (number < self.now.plan.gear)) }
+        ensures ok { OnOk result ((number < self.now.plan.gear) × HasRoom self.now) }
         ensures refused { IfErr result (λ e. IsGearRefused self.now number e) }
     {
         if number >= self.plan.gear() {
             return Err(Refusal::UnknownGear);
         }
+        self.check_room()
+    }
+
+    /// The log has room for one more event.
+    fn check_room(&self) -> Result<(), Refusal>
+        ensures ok { OnOk result (HasRoom self.now) }
+        ensures refused { IfErr result (IsLogFull self.now) }
+    {
         if self.is_full() {
             return Err(Refusal::LogFull);
         }
@@ -553,10 +553,22 @@ impl SiteState {
         if (c as usize) >= self.standing.controllers() {
             return Err(Refusal::UnknownController);
         }
-        if !self.standing.is_up(c) {
+        if !self.standing.seat(c).is_up() {
             return Err(Refusal::ControllerDown);
         }
         Ok(())
+    }
+}
+
+/// Another device may send the frame.
+fn check_foreign(frame: Forward) -> Result<(), Refusal>
+    ensures ok { OnOk result (is_foreign frame ≡ true) }
+    ensures refused { IfErr result (λ e. (e ≡ refusal.NotForeign) × (is_foreign frame ≡ false)) }
+{
+    if is_foreign(frame) {
+        Ok(())
+    } else {
+        Err(Refusal::NotForeign)
     }
 }
 

@@ -7,7 +7,7 @@ use super::values::Ordered::{Commit, Done, Put};
 use super::values::{ENROL, Ordered, RESERVE, forward, one_reserved, same, site_of};
 use dali_line::{Bus, Port, Ready, UpRefusal};
 use dali_script::{Due, End, Input, Kept};
-use dali_world::{Receipt, Refusal, SiteState, Trouble};
+use dali_world::{Outside, Receipt, Refusal, SiteState, Trouble};
 use std::alloc::Global;
 use std::marker::Brand;
 use std::process::Abort;
@@ -209,7 +209,11 @@ fn line_does<B: FullBus, R: Abort + Wait>(
         }
         Step::Arc => does(rt, bus.arc(rt, other, arc), site.arc(1, arc)),
         Step::Quiet => does(rt, bus.quiet(rt, driver), site.quiet()),
-        Step::Foreign => does(rt, bus.foreign(rt, driver, arc), site.foreign(arc)),
+        Step::Foreign => does(
+            rt,
+            bus.befall(rt, driver, Outside::Foreign(arc)),
+            site.befall(Outside::Foreign(arc)),
+        ),
         Step::Power => does(rt, bus.power(rt, driver, 0, false), site.power(0, false)),
         Step::Expire => does(rt, bus.expire(rt, driver, 0), site.expire(0)),
         Step::Until(..)

@@ -4,7 +4,7 @@
 use dali_frame::Forward;
 use dali_line::{Bus, Line, UpRefusal};
 use dali_script::Kept;
-use dali_world::Refusal;
+use dali_world::{Outside, Refusal};
 use std::sync::Wait;
 use std::sync::ledger::Ledger;
 
@@ -14,11 +14,11 @@ pub trait FullBus: Bus {
 
     fn quiet<R: Wait>(&self, rt: &R, driver: &mut Self::Driver) -> Result<(), Refusal>;
 
-    fn foreign<R: Wait>(
+    fn befall<R: Wait>(
         &self,
         rt: &R,
         driver: &mut Self::Driver,
-        frame: Forward,
+        what: Outside,
     ) -> Result<(), Refusal>;
 
     fn power<R: Wait>(
@@ -57,13 +57,13 @@ impl<P0: Ledger, P1: Ledger, P2: Ledger, P3: Ledger, D: Ledger> FullBus
         self.quiet(rt, driver)
     }
 
-    fn foreign<R: Wait>(
+    fn befall<R: Wait>(
         &self,
         rt: &R,
         driver: &mut Self::Driver,
-        frame: Forward,
+        what: Outside,
     ) -> Result<(), Refusal> {
-        self.foreign(rt, driver, frame)
+        self.befall(rt, driver, what)
     }
 
     fn power<R: Wait>(

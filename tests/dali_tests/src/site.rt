@@ -9,7 +9,7 @@ use super::values::Ordered::{Commit, Done, Halt, Put};
 use super::values::{InNumbers, Ordered, are_pairs, forward, kept_of, same};
 use dali_frame::{Answer, Forward};
 use dali_script::{Due, End, Fault, Input, Pair};
-use dali_world::{Event, GearSet, Plan, Receipt, Refusal, Report, SiteState, Trouble};
+use dali_world::{Event, GearSet, Outside, Plan, Receipt, Refusal, Report, SiteState, Trouble};
 use std::alloc::Global;
 use std::process::Abort;
 use std::test::Fail;
@@ -307,7 +307,11 @@ fn calls<R: Abort>(rt: &R, site: &mut SiteState, step: &Step) {
         Step::Powers(on, wanted) => does(rt, site.power(0, on), wanted),
         Step::Expires(wanted) => does(rt, site.expire(0), wanted),
         Step::Quiet(wanted) => does(rt, site.quiet(), wanted),
-        Step::Comes(bytes, wanted) => does(rt, site.foreign(forward(bytes)), wanted),
+        Step::Comes(bytes, wanted) => does(
+            rt,
+            site.befall(Outside::Foreign(forward(bytes))),
+            wanted,
+        ),
         Step::Down(wanted) => does(rt, site.down(0), wanted),
         _ => assert!(rt; false),
     }

@@ -10,10 +10,18 @@ use Rattle.dali_script.specs.declared.orders.Order.{Order}
 use Rattle.dali_script.specs.declared.orders.Order.TheVariants.{Commit}
 use Rattle.dali_events.specs.declared.event.Event.{Event}
 use Rattle.dali_events.specs.declared.event.Event.TheVariants as event
+use Rattle.dali_events.specs.declared.event.Outside.{Outside}
+use Rattle.dali_events.specs.declared.event.Outside.TheVariants as outside
+use Rattle.dali_events.specs.Events.{event_of, whose_step}
 use Rattle.dali_events.specs.World.{World, Controller, controller_at, nobody}
 use Rattle.dali_events.specs.Happens.{happens, with_outstanding, controller_informed, controller_acted, trace_running, told_sent, told_destroyed, told_lapsed}
 use Rattle.dali_events.specs.Happens.{owner_told, gone_down, come_up}
 use Rattle.dali_script.proofs.Members.{Each, each_changed}
+
+-- what happens from outside is no controller's step
+pub nobodys_step : (x : Outside) → whose_step (event_of x) ≡ None
+nobodys_step outside.Lapse = refl
+nobodys_step _ = refl
 
 -- WHAT AN EVENT DOES TO THE CONTROLLERS, for any property of what a controller keeps, its outstanding record and its
 -- finding that stands when the record is kept, when it is dropped, and when the finding is forgotten.

@@ -7,8 +7,6 @@ use Rattle.dali_standing.proofs.seat.Seat.act.Goals as goal
 pub invariant_of-self : goal.invariant_of-self
 invariant_of-self c =
     let s = c.self.inside in
-    let answer = rw c.in-Some.is at c.stepped.ensures.answer in
-    let state = rw c.in-Some.is at c.stepped.ensures.state in
-    rw (state, c.note.ensures)
-    (seat_acted s.place s.outstanding s.finding s.told c.args.input c.in-Some.order c.self.invariant
-    (subst (λ (p : Seat). IsDue p.controller c.args.input) (sym c.self.view_is) c.requires.due) answer)
+    rw (c.stepped-order.ensures.state, c.note.ensures)
+    (seat_acted s.place s.outstanding s.finding s.told c.args.input c.stepped-order.result c.self.invariant
+    (subst (λ (p : Seat). IsDue p.controller c.args.input) (sym c.self.view_is) c.requires.due) c.stepped-order.ensures.answer)

@@ -7,7 +7,7 @@ invariant_of-self c =
     (lapse_done _ _ c.in-Some.c _ _ _ c.self.view_is c.self.invariant (sym c.lapse-owner.ensures.owner ∙ c.in-Some.is)
     c.index_mut-seat.ensures.value c.lapse.ensures c.lapse-owner.ensures.bus).settled
 
-pub returns-in-Some-clause-moves : goal.returns-in-Some-clause-moves
-returns-in-Some-clause-moves c =
+pub returns-in-Some : goal.returns-in-Some
+returns-in-Some c =
     (lapse_done _ _ c.in-Some.c _ _ _ c.self.view_is c.self.invariant (sym c.lapse-owner.ensures.owner ∙ c.in-Some.is)
     c.index_mut-seat.ensures.value c.lapse.ensures c.lapse-owner.ensures.bus).moves

@@ -1,9 +1,0 @@
-use Rattle.std.proofs.Common.{refl}
-use Rattle.dali_events.specs.declared.event.Event.TheVariants as event
-use Rattle.dali_world.proofs.Logs.{site_goes_on}
-use Rattle.dali_world.proofs.site.SiteState.quiet.Goals as goal
-
-pub invariant_of-self : goal.invariant_of-self
-invariant_of-self c =
-    site_goes_on _ _ _ _ _ _ _ _ event.Quiet c.self.view_is c.self.invariant (c.if-is_full.ensures.room refl)
-    c.quiet.ensures tt c.append.ensures.items c.append.ensures.capacity refl
