@@ -68,4 +68,9 @@ befallen (event.Expired g) m = (record m { gear = gear_changed m.gear g gear_exp
 befallen event.Quiet m = (record m { gear = map gear_quieted m.gear }, Silence)
 befallen (event.Foreign f) m =
     (record m { gear = after_foreign (is_foreign f) m.gear }, Silence)
-befallen _ m = (m, Silence)
+befallen (event.Collided c f d g) m = (m, Silence)
+befallen (event.Acted c i o) m = (m, Silence)
+befallen (event.Offered c f) m = (m, Silence)
+befallen event.Lapsed m = (m, Silence)
+befallen (event.Down c) m = (m, Silence)
+befallen (event.Up c kept) m = (m, Silence)

@@ -21,7 +21,15 @@ abbrev pub stance_by : Event → Option (ℕ × Stance)
 stance_by (event.Acted c i o) = Some (c, after_order o)
 stance_by (event.Down c) = Some (c, Down)
 stance_by (event.Up c b) = Some (c, AtWork)
-stance_by _ = None
+stance_by (event.Offered c f) = None
+stance_by (event.Sent c f h) = None
+stance_by (event.Destroyed c f s) = None
+stance_by (event.Collided c f d g) = None
+stance_by event.Lapsed = None
+stance_by event.Quiet = None
+stance_by (event.Foreign f) = None
+stance_by (event.Power g b) = None
+stance_by (event.Expired g) = None
 
 -- how controller c stands after an event that says this, or nothing
 abbrev pub stands_after : ℕ → Stance → Option (ℕ × Stance) → Stance

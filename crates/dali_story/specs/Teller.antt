@@ -20,7 +20,15 @@ abbrev pub frames_in : Event → ℕ
 frames_in (event.Sent c f h) = 1
 frames_in (event.Destroyed c f set) = 1
 frames_in (event.Collided c f d g) = 1
-frames_in _ = 0
+frames_in (event.Acted c i o) = 0
+frames_in (event.Offered c f) = 0
+frames_in event.Lapsed = 0
+frames_in event.Quiet = 0
+frames_in (event.Foreign f) = 0
+frames_in (event.Power g on) = 0
+frames_in (event.Expired g) = 0
+frames_in (event.Down c) = 0
+frames_in (event.Up c kept) = 0
 
 -- bit times of a forward frame that was sent whole, and of a backward frame if one was heard
 -- (101, frames)

@@ -378,6 +378,13 @@ pub fn push_changed_by(
     match event {
         Event::Sent(..) | Event::Destroyed(..) | Event::Power(..) | Event::Expired(_) =>
             push_listed(text, "changed", &Listed::Changes, was, is),
-        _ => Ok(()),
+        Event::Acted(..)
+        | Event::Offered(..)
+        | Event::Collided(..)
+        | Event::Lapsed
+        | Event::Quiet
+        | Event::Foreign(_)
+        | Event::Down(_)
+        | Event::Up(..) => Ok(()),
     }
 }

@@ -142,7 +142,12 @@ impl<'a> RunGear<'a> {
             Event::Expired(number) => expire(&mut self.gear, number),
             Event::Quiet => self.gear.quiet(),
             Event::Foreign(frame) => interrupt(&mut self.gear, frame),
-            _ => {}
+            Event::Acted(..)
+            | Event::Offered(..)
+            | Event::Collided(..)
+            | Event::Lapsed
+            | Event::Down(_)
+            | Event::Up(..) => {}
         }
         Answer::Silence
     }

@@ -41,7 +41,15 @@ fn stance_by(event: Event) -> Option<(u8, Stance)>
         Event::Acted(c, _, order) => Some((c, after_order(order))),
         Event::Down(c) => Some((c, Stance::Down)),
         Event::Up(c, _) => Some((c, Stance::AtWork)),
-        _ => None,
+        Event::Offered(..)
+        | Event::Sent(..)
+        | Event::Destroyed(..)
+        | Event::Collided(..)
+        | Event::Lapsed
+        | Event::Quiet
+        | Event::Foreign(_)
+        | Event::Power(..)
+        | Event::Expired(_) => None,
     }
 }
 

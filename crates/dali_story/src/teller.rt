@@ -19,7 +19,15 @@ fn frames_in(event: &Event) -> u64
 {
     match event {
         Event::Sent(..) | Event::Destroyed(..) | Event::Collided(..) => 1,
-        _ => 0,
+        Event::Acted(..)
+        | Event::Offered(..)
+        | Event::Lapsed
+        | Event::Quiet
+        | Event::Foreign(_)
+        | Event::Power(..)
+        | Event::Expired(_)
+        | Event::Down(_)
+        | Event::Up(..) => 0,
     }
 }
 
