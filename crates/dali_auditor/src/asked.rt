@@ -1,7 +1,5 @@
 //! The words of the command line.
 
-use dali_console::ConsoleFault;
-
 /// What is to be written.
 #[derive(Clone, Copy)]
 pub enum Form {
@@ -25,21 +23,8 @@ pub struct Asked<'a> {
     pub form: Form,
 }
 
-/// The form that a word asks for.
-fn form_of(word: &str) -> Option<Form> {
-    if word == "--json" {
-        Some(Form::Json)
-    } else if word == "--items" {
-        Some(Form::Items)
-    } else if word == "--bench" {
-        Some(Form::Bench)
-    } else {
-        None
-    }
-}
-
 /// What the words ask for, of which the first is the program's name. Of several forms it is the last one.
-pub fn asked_of(words: &[String]) -> Result<Asked<'_>, ConsoleFault> {
+pub fn asked_of(words: &[String]) -> Option<Asked<'_>> {
     let mut asked = Asked {
         wire: None,
         is_inverted: false,
@@ -47,21 +32,16 @@ pub fn asked_of(words: &[String]) -> Result<Asked<'_>, ConsoleFault> {
     };
     let mut is_name = false;
     for word in words.iter().skip(1) {
-        let word = word.as_str();
-        if is_name {
-            asked.wire = Some(word.as_bytes());
-            is_name = false;
-        } else if word == "--wire" {
-            is_name = true;
-        } else if word == "--inverted" {
-            asked.is_inverted = true;
-        } else {
-            asked.form = form_of(word).ok_or(ConsoleFault::BadCommandLine)?;
+        match word.as_str() {
+            name if is_name => asked.wire = Some(name.as_bytes()),
+            "--wire" => {}
+            "--inverted" => asked.is_inverted = true,
+            "--json" => asked.form = Form::Json,
+            "--items" => asked.form = Form::Items,
+            "--bench" => asked.form = Form::Bench,
+            _ => return None,
         }
+        is_name = !is_name && word.as_str() == "--wire";
     }
-    if is_name {
-        Err(ConsoleFault::BadCommandLine)
-    } else {
-        Ok(asked)
-    }
+    if is_name { None } else { Some(asked) }
 }

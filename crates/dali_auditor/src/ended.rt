@@ -3,7 +3,7 @@
 use dali_audit::BenchError;
 use dali_capture::CaptureFault;
 use dali_console::Failed;
-use std::fmt;
+use std::{fmt, io};
 
 /// Why the program ends so.
 #[derive(Clone, Copy)]
@@ -26,7 +26,7 @@ impl fmt::Display for Ended {
             Ended::Unread(fault) => write!(f, "{fault}"),
             Ended::Refused => f.write_str("memory or the output is refused"),
             Ended::Broken => f.write_str("a rule was broken"),
-            Ended::TooManyGear => f.write_str("a script holds 128 gear"),
+            Ended::TooManyGear => f.write_str("a script holds at most 128 gear"),
             Ended::TooLong => f.write_str("a script has at most 1,048,576 bytes and 1,024 numbers"),
         }
     }
@@ -44,6 +44,12 @@ impl Failed for Ended {
             Ended::Broken => 4,
             Ended::TooManyGear | Ended::TooLong => 5,
         }
+    }
+}
+
+impl From<io::Error> for Ended {
+    fn from(_error: io::Error) -> Ended {
+        Ended::Refused
     }
 }
 

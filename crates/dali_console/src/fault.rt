@@ -6,7 +6,7 @@ use std::fmt;
 /// What goes wrong with the command line or the output of a program, or for want of memory.
 #[derive(Clone, Copy, PartialEq, Eq)]
 pub enum ConsoleFault {
-    /// Status 2: the command line asks for nothing that the program does. It was said why.
+    /// Status 2: the command line asks for nothing that the program does. A program with `clap` has said why.
     BadCommandLine,
     /// Status 2: a word of the command line is not UTF-8.
     NotText,
@@ -18,7 +18,9 @@ pub enum ConsoleFault {
 impl fmt::Display for ConsoleFault {
     fn fmt<W: fmt::Write>(&self, f: &mut fmt::Formatter<W>) -> fmt::Result {
         let text = match self {
-            ConsoleFault::BadCommandLine => "error: bad command line",
+            ConsoleFault::BadCommandLine => {
+                "error: bad command line: the launcher's --help has the words"
+            }
             ConsoleFault::NotText => "error: an argument is not UTF-8",
             ConsoleFault::Refused => "error: memory, the command line or the output is refused",
         };

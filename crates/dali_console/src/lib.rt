@@ -7,6 +7,6 @@ mod fault;
 mod plain;
 
 pub use command_line::words;
-pub use ended::{Failed, exit_code};
+pub use ended::{Failed, exit_code, say_and_exit};
 pub use fault::ConsoleFault;
 pub use plain::Plain;
