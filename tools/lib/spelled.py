@@ -190,9 +190,8 @@ PLACES = (
     Place("adapters/testing.py", line("                if told[-1] in"), "Input", '"{kebab}"', NOT_OF_FRAMES),
     Place("tools/measure/replay", block("words[1] in (", ")"), "Answer", '"{kebab}"'),
     # Stories: their format, the schema of a line, and the words of the viewer.
-    Place(FORMAT, line("| end | `end`,"), "End", "`{name}`"),
-    Place(FORMAT, line("| end | `end`,"), "Fault", "`halt-{name}`"),
-    Place(FORMAT, line("| `told`, `order` |"), "Input", "`{kebab}`", "Heard"),
+    Place(FORMAT, line("- **The end**"), "End", "`{name}`"),
+    Place(FORMAT, line("- **The end**"), "Fault", "`halt-{name}`"),
     Place(SCHEMA, WHOLE, "Event", '"kind": {{"const": "{kebab}"}}'),
     Place(SCHEMA, WHOLE, "Order", '"order": {{"const": "{kebab}"}}'),
     Place(SCHEMA, block('"told": {', '"frame": {'), "Input", "{kebab}", "Heard"),
