@@ -295,12 +295,16 @@ lived_moved s c v e plan here of heeds l = go e here of heeds where
   go (event.Sent d f h) here of heeds =
       sent_lived U z v (counts_after c v (event.Sent d f h)) w (machines s) c d f h here (small_now s plan) of (λ a used. counts_more c v d f h a) heeds
       (λ a same asks silent. counts_one c v d f h a same asks silent) l.lives
+  go (event.Offered d f) here of heeds = l.lives
   go (event.Destroyed d f some) here of heeds = λ m there. lost_at U z v w.controllers c d f m (l.lives m there)
   go (event.Collided d f e g) here of heeds =
       λ m there. lost_at U z v (controllers_changed w.controllers d (told_destroyed f)) c e g m (lost_at U z v w.controllers c d f m (l.lives m there))
   go event.Lapsed here of heeds = λ m there. lapsed_at U z v w.controllers c w.bus.owner m (l.lives m there)
+  go event.Quiet here of heeds = l.lives
+  go (event.Foreign f) here of heeds = l.lives
+  go (event.Power g on) here of heeds = l.lives
+  go (event.Expired g) here of heeds = l.lives
   go (event.Down d) here of heeds = down_lived U z v w (machines s) c d l.lives
-  go _ here of heeds = l.lives
   go (event.Up d kept) here of heeds =
       up_lived U z v (counts_after c v (event.Up d kept)) w (machines s) c d kept here.0 l.block (λ same a. counts_anew c v d kept a same)
       (λ other a. counts_still c v d kept a other) l.lives
