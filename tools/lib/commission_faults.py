@@ -185,13 +185,13 @@ def read_only(place: Place, _chance: random.Random) -> None:
 
 def dead_bus(place: Place, _chance: random.Random) -> None:
     """A bus on which nobody answers is told, whatever is asked of it, and also where the table has gear."""
-    records, said = place.folder / "dead.db", "nobody answered: is the interface connected, is the bus powered?\n"
+    records, said = place.folder / "dead.db", "no gear answered: is the interface connected, is the bus powered?\n"
     place.write_gear([])
     for words in (["run", "--records", records, "0-63"], ["check", "--records", records], ["check"]):
         ran = place.run(words, place.simulated())
         place.check(f"a bus without gear is told by {words[0]}", ran.status == NOBODY and ran.said.endswith(said), ran)
     ran = place.run(["identify", 5], place.simulated())
-    is_told = ran.status == NOBODY and ran.said == "nobody answers to short address 5\n"
+    is_told = ran.status == NOBODY and ran.said == "no gear answers at short address 5\n"
     place.check("an address without gear is told by identify", is_told, ran)
     place.gear_file.unlink()
     check_goes_on(place, "a dead bus", "--gear", 3)

@@ -67,7 +67,7 @@ def run(file: pathlib.Path, records: dict[str, str], gear: list[str]) -> None:
             new.replace(file)
         say(f"{number} gear found, {9 * number} frames, {64 - number} addresses left")
     for it in beside("odd"):
-        say(f"{it} - somebody answers whose random address was not heard; left alone")
+        say(f"{it} - a gear answers, but its random address was not heard; left alone")
     ended("all-found", 0, records, left_alone=beside("odd"))
 
 
@@ -87,7 +87,7 @@ def replace(file: pathlib.Path, records: dict[str, str], gear: list[str], addres
     put("A900")
     new = [it for it in gear if it not in records.values()]
     if records[address] in gear or len(new) != 1:
-        say(f"not replaced, nothing was changed: short address {address}: somebody answers to it")
+        say(f"not replaced, nothing was changed: short address {address}: a gear answers at it")
         ended("not-replaced", 11, {})
     records[address] = new[0]
     file.write_text(json.dumps(records))
@@ -97,7 +97,7 @@ def replace(file: pathlib.Path, records: dict[str, str], gear: list[str], addres
 def identify(address: int) -> None:
     put(f"{2 * address + 1:02X}C2")
     if address in beside("dark"):
-        say(f"nobody answers to short address {address}")
+        say(f"no gear answers at short address {address}")
         ended("nobody-answered", 10, {})
     for level in 5 * ("FE", "00"):
         put(f"{2 * address:02X}{level}")

@@ -49,7 +49,7 @@ ENUMS = {
 class Place(typing.NamedTuple):
     """A list. Its form names how a variant is spelled: {Name}, {UPPER}, {kebab} and {words} by its name in the code, {code},
     {name} and {word} by the number, the name and the word that functions of the code have for it. Where a name has a place
-    for something, as '{0}', a word in capitals or a number stands there."""
+    for something, as '{0}', a word in capitals, a number or a place of another name stands there."""
 
     file: str
     find: str
@@ -243,9 +243,9 @@ def code_of(text: str, of: str) -> str | None:
 
 
 def name_of(text: str, of: str) -> str | None:
-    """What code calls a variant: the text behind its arrow, or that of its `error`; or None."""
-    found = re.search(rf'\b{of}\b(?:\([^)]*\))? => (?:(?!=>|\n\n)[^"]|"")*?"([^"]+)"', text)
-    found = found or re.search(rf'#\[error\("([^"]+)"\)\]\s+{of.split("::")[1]}\b', text)
+    """What code calls a variant: the text of its `error`, or that behind its arrow; or None."""
+    found = re.search(rf'#\[error\("([^"]+)"(?:, [^\n]*)?\)\]\s+{of.split("::")[1]}\b', text)
+    found = found or re.search(rf'\b{of}\b(?:\([^)]*\))? => (?:(?!=>|\n\n)[^"]|"")*?"([^"]+)"', text)
     return found and found[1]
 
 
@@ -267,7 +267,7 @@ def spelled(form: str, text: str, of: str) -> tuple[str | None, str | None]:
 
 def pattern(wanted: str) -> str:
     """What finds a variant as a whole. Something stands for each place of its name."""
-    inner = re.sub(r"\\\{\w*\\\}", r"(?:[A-Z]+|\\d+)", re.escape(wanted))
+    inner = re.sub(r"\\\{\w*\\\}", r"(?:[A-Z]+|\\d+|{\\w+})", re.escape(wanted))
     return rf"(?<![\w-]){inner}(?![\w-])"
 
 

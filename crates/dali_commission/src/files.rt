@@ -2,7 +2,7 @@
 
 use crate::log::is_damaged;
 use crate::places::{folder_of, place};
-use dali_commission_program::{Actor, Borrower, Failure, Holder, StoreFault, Stores};
+use dali_commission_program::{Actor, Borrower, Failure, Holder, Seen, StoreFault, Stores};
 use dali_reserve::{Keep, KeepError};
 use dali_script::{Block, Kept};
 use dali_sqlite::{CopyError, SqliteKeep, open_copy};
@@ -43,13 +43,13 @@ fn system_fault(kind: ErrorKind) -> StoreFault {
         ErrorKind::StorageFull | ErrorKind::QuotaExceeded => StoreFault::Full,
         ErrorKind::NotADirectory => StoreFault::NoFolder,
         ErrorKind::IsADirectory => StoreFault::Foreign,
-        ErrorKind::OutOfMemory => StoreFault::Store(KeepError::NoMemory),
+        ErrorKind::OutOfMemory => NO_MEMORY,
         _ => StoreFault::CannotOpen,
     }
 }
 
 /// What a refusal of the system is: its own error, where it is none of these.
-fn refused_by(error: &io::Error) -> StoreFault {
+fn refused_by(error: io::Error) -> StoreFault {
     match (system_fault(error.kind()), error.raw_os_error()) {
         (StoreFault::CannotOpen, Some(number)) => StoreFault::System(number),
         (fault, _) => fault,
@@ -60,7 +60,7 @@ fn copy_fault(error: CopyError) -> StoreFault {
     match error {
         CopyError::Foreign => StoreFault::Foreign,
         CopyError::Damaged => StoreFault::Damaged,
-        CopyError::NoMemory => StoreFault::Store(KeepError::NoMemory),
+        CopyError::NoMemory => NO_MEMORY,
         CopyError::CannotOpen => StoreFault::CannotOpen,
         CopyError::Store(error) => StoreFault::Store(error),
     }
@@ -69,16 +69,10 @@ fn copy_fault(error: CopyError) -> StoreFault {
 /// The bytes of a file, none where it is not there.
 fn bytes(rt: &HostRuntime, name: &str) -> Result<Vec<u8>, StoreFault> {
     match fs::metadata(rt, name) {
-        Ok(about) if !about.is_file() || about.len() > MOST_BYTES => {
-            return Err(StoreFault::Foreign);
-        }
-        Ok(_) => {}
-        Err(error) if error.kind() == ErrorKind::NotFound => return Ok(Vec::new(rt.alloc())),
-        Err(error) => return Err(refused_by(&error)),
-    }
-    match fs::read(rt, name) {
-        Ok(bytes) => Ok(bytes),
-        Err(error) => Err(refused_by(&error)),
+        Ok(about) if !about.is_file() || about.len() > MOST_BYTES => Err(StoreFault::Foreign),
+        Ok(_) => fs::read(rt, name).map_err(refused_by),
+        Err(error) if error.kind() == ErrorKind::NotFound => Ok(Vec::new(rt.alloc())),
+        Err(error) => Err(refused_by(error)),
     }
 }
 
@@ -91,17 +85,10 @@ struct Lying {
 
 /// The name of the log of a database: it lies beside the file itself, where a link leads to that.
 fn log_of(rt: &HostRuntime, name: &str) -> Result<String, StoreFault> {
-    let made = match fs::canonicalize(rt, name) {
-        Ok(path) => {
-            let path = path.as_str();
-            format!(in rt.alloc(); "{path}-wal")
-        }
-        Err(error) if error.kind() == ErrorKind::NotFound => format!(in rt.alloc(); "{name}-wal"),
-        Err(error) => return Err(refused_by(&error)),
-    };
-    match made {
-        Ok(log) => Ok(log),
-        Err(_) => Err(StoreFault::Store(KeepError::NoMemory)),
+    match fs::canonicalize(rt, name) {
+        Ok(path) => made(rt.alloc(), path.as_str(), "-wal"),
+        Err(error) if error.kind() == ErrorKind::NotFound => made(rt.alloc(), name, "-wal"),
+        Err(error) => Err(refused_by(error)),
     }
 }
 
@@ -141,17 +128,14 @@ fn copied(
     if is_damaged(&lying.log) {
         return Err(StoreFault::DamagedLog);
     }
-    match open_copy(rt.alloc(), &lying.db, &lying.log, Block::ALL) {
-        Ok(store) => Ok(store),
-        Err(error) => Err(copy_fault(error)),
-    }
+    open_copy(rt.alloc(), &lying.db, &lying.log, Block::ALL).map_err(copy_fault)
 }
 
 /// Why a file cannot be opened that may be one of records.
 fn why_closed(rt: &HostRuntime, name: &str, error: Error) -> StoreFault {
     match error {
         Error::SqliteFailure(ErrorCode::DatabaseBusy) => StoreFault::Locked,
-        Error::SqliteFailure(ErrorCode::OutOfMemory) => StoreFault::Store(KeepError::NoMemory),
+        Error::SqliteFailure(ErrorCode::OutOfMemory) => NO_MEMORY,
         Error::SqliteFailure(ErrorCode::DiskFull) => StoreFault::Full,
         Error::SqliteFailure(ErrorCode::DatabaseCorrupt) => StoreFault::Damaged,
         Error::SqliteFailure(ErrorCode::NotADatabase) => StoreFault::Foreign,
@@ -161,26 +145,20 @@ fn why_closed(rt: &HostRuntime, name: &str, error: Error) -> StoreFault {
 
 /// Why the system does not let a file be written, which is made where it is missing.
 fn written_fault(rt: &HostRuntime, name: &str) -> StoreFault {
-    match opened_to_write(rt, name) {
-        Ok(_) => StoreFault::CannotOpen,
-        Err(error) if error.kind() == ErrorKind::NotFound => StoreFault::NoFolder,
-        Err(error) => refused_by(&error),
-    }
-}
-
-fn opened_to_write(rt: &HostRuntime, name: &str) -> io::Result<fs::File> {
-    fs::File::options()
+    let opened = fs::File::options()
         .read(true)
         .write(true)
         .create(true)
-        .open(rt, name)
+        .open(rt, name);
+    match opened {
+        Ok(_) => StoreFault::CannotOpen,
+        Err(error) if error.kind() == ErrorKind::NotFound => StoreFault::NoFolder,
+        Err(error) => refused_by(error),
+    }
 }
 
-fn opened(rt: &HostRuntime, name: &str) -> Result<Connection<FileStore<File>>, Failure> {
-    match Connection::open(rt, name) {
-        Ok(conn) => Ok(conn),
-        Err(error) => Err(failure(why_closed(rt, name, error))),
-    }
+fn opened(rt: &HostRuntime, name: &str) -> Result<Connection<FileStore<File>>, StoreFault> {
+    Connection::open(rt, name).map_err(|error| why_closed(rt, name, error))
 }
 
 /// Lends the records in a database, and answers what the borrower ended with, and the database.
@@ -190,83 +168,54 @@ fn lent<S: Alter + Drop, B: Borrower>(
     conn: Connection<S>,
     block: Block,
     borrower: B,
-) -> Result<(Connection<S>, Result<B::Out, Failure>), Failure> {
-    let mut store = match SqliteKeep::over(conn, block) {
-        Ok(store) => store,
-        Err(error) => return Err(Failure::Store(StoreFault::Store(error))),
-    };
+) -> Result<(Connection<S>, Result<B::Out, Failure>), StoreFault> {
+    let mut store = SqliteKeep::over(conn, block).map_err(StoreFault::Store)?;
     let done = borrower.take(&mut store);
     Ok((store.into_connection(), done))
 }
 
-fn failure(fault: StoreFault) -> Failure {
-    Failure::Store(fault)
-}
-
 /// What the records in a database are, and the database.
-fn noted<S: Alter + Drop>(conn: Connection<S>) -> Result<(Connection<S>, Kept), Failure> {
-    let mut store = match SqliteKeep::over(conn, Block::ALL) {
-        Ok(store) => store,
-        Err(error) => return Err(failure(StoreFault::Store(error))),
-    };
-    match store.read() {
-        Ok(kept) => Ok((store.into_connection(), kept)),
-        Err(error) => Err(failure(StoreFault::Store(error))),
-    }
+fn noted<S: Alter + Drop>(conn: Connection<S>) -> Result<(Connection<S>, Kept), StoreFault> {
+    let mut store = SqliteKeep::over(conn, Block::ALL).map_err(StoreFault::Store)?;
+    let kept = store.read().map_err(StoreFault::Store)?;
+    Ok((store.into_connection(), kept))
 }
 
 /// Closes a database, and leaves its file alone, which stays locked as long as the files are there: what is in the log
-/// is copied into it, and the log is removed. None where not all was copied.
+/// is copied into it, and the log is removed. It fails where not all was copied.
 fn shut(
     rt: &HostRuntime,
     name: &str,
     conn: Connection<FileStore<File>>,
-) -> Option<sqlite::Files<File>> {
-    match conn.close_files() {
-        Ok(files) => {
-            if let Ok(log) = log_of(rt, name) {
-                let _ = fs::remove_file(rt, &log);
-            }
-            Some(files)
-        }
-        Err(_) => None,
+) -> Result<sqlite::Files<File>, StoreFault> {
+    let files = conn.close_files().map_err(|_| STORE_FAILED)?;
+    if let Ok(log) = log_of(rt, name) {
+        let _ = fs::remove_file(rt, &log);
     }
-}
-
-/// The same, and lets go of the file. Whether all was copied.
-fn closed(rt: &HostRuntime, name: &str, conn: Connection<FileStore<File>>) -> bool {
-    shut(rt, name, conn).is_some()
+    Ok(files)
 }
 
 /// Files of records that are open, each with its name, in the order of these.
 type Open<'a> = Vec<(&'a str, Connection<FileStore<File>>)>;
-
-/// Whether nothing lies in a file, nor in its log. It would become one of records by being opened.
-fn is_empty(rt: &HostRuntime, name: &str) -> Result<bool, Failure> {
-    match Lying::read(rt, name) {
-        Ok(lying) => Ok(lying.db.is_empty() && lying.log.is_empty()),
-        Err(fault) => Err(failure(fault)),
-    }
-}
 
 fn open_one<'a>(
     rt: &HostRuntime,
     name: &'a str,
     open: &mut Open<'a>,
     all: &mut Vec<Kept>,
-) -> Result<(), Failure> {
-    if is_empty(rt, name)? {
-        return Err(failure(StoreFault::Foreign));
+) -> Result<(), StoreFault> {
+    let lying = Lying::read(rt, name)?;
+    // It would become one of records by being opened.
+    if lying.db.is_empty() && lying.log.is_empty() {
+        return Err(StoreFault::Foreign);
     }
     let (conn, kept) = noted(opened(rt, name)?)?;
-    if open.push((name, conn)).is_err() || all.push(kept).is_err() {
-        return Err(failure(StoreFault::Store(KeepError::NoMemory)));
-    }
-    Ok(())
+    open.push((name, conn)).map_err(|_| NO_MEMORY)?;
+    all.push(kept).map_err(|_| NO_MEMORY)
 }
 
 /// Opens files of records, and notes what they have.
-fn open_all<'a, H: Holder>(
+fn open_all<'a, F, H: Holder<F>>(
     rt: &HostRuntime,
     names: &'a [String],
     holder: &H,
@@ -274,8 +223,8 @@ fn open_all<'a, H: Holder>(
     all: &mut Vec<Kept>,
 ) -> Result<(), Failure> {
     for name in names {
-        if let Err(failure) = open_one(rt, name.as_str(), open, all) {
-            return Err(holder.refused(name, failure));
+        if let Err(fault) = open_one(rt, name.as_str(), open, all) {
+            return Err(holder.refused(name, Failure::Store(fault)));
         }
     }
     Ok(())
@@ -287,18 +236,12 @@ fn shut_one(
     name: &str,
     conn: Connection<FileStore<File>>,
     files: &mut Vec<sqlite::Files<File>>,
-) -> Result<(), Failure> {
-    match shut(rt, name, conn) {
-        Some(file) => match files.push(file) {
-            Ok(()) => Ok(()),
-            Err(_) => Err(failure(StoreFault::Store(KeepError::NoMemory))),
-        },
-        None => Err(failure(StoreFault::Store(KeepError::StoreFailed))),
-    }
+) -> Result<(), StoreFault> {
+    files.push(shut(rt, name, conn)?).map_err(|_| NO_MEMORY)
 }
 
 /// Closes files of records, which stay locked as long as what is answered is there.
-fn shut_all<H: Holder>(
+fn shut_all<F, H: Holder<F>>(
     rt: &HostRuntime,
     holder: &H,
     open: Open<'_>,
@@ -306,14 +249,11 @@ fn shut_all<H: Holder>(
     let mut files = Vec::new(rt.alloc());
     let mut done = Ok(());
     for (name, conn) in open {
-        if let Err(failure) = shut_one(rt, name, conn, &mut files) {
-            done = Err(holder.refused(name, failure));
+        if let Err(fault) = shut_one(rt, name, conn, &mut files) {
+            done = Err(holder.refused(name, Failure::Store(fault)));
         }
     }
-    match done {
-        Ok(()) => Ok(files),
-        Err(failure) => Err(failure),
-    }
+    done.map(|()| files)
 }
 
 /// What was done in a folder is on its disk then.
@@ -337,14 +277,16 @@ fn tried(rt: &HostRuntime, name: &str) -> io::Result<()> {
     synced
 }
 
-const STORE_FAILED: Failure = Failure::Store(StoreFault::Store(KeepError::StoreFailed));
+const STORE_FAILED: StoreFault = StoreFault::Store(KeepError::StoreFailed);
+
+const NO_MEMORY: StoreFault = StoreFault::Store(KeepError::NoMemory);
 
 /// Why a store failed, where the system says so of a file beside it: SQLite does not pass it on.
 fn why_failed(rt: &HostRuntime, name: &str, failure: Failure) -> Failure {
     if let Failure::Store(StoreFault::Store(KeepError::StoreFailed)) = failure {
         if let Ok(part) = made(rt.alloc(), name, ".part") {
             if let Err(error) = tried(rt, &part) {
-                return Failure::Store(refused_by(&error));
+                return Failure::Store(refused_by(error));
             }
         }
     }
@@ -364,60 +306,58 @@ fn renamed(rt: &HostRuntime, from: &str, to: &str) -> io::Result<()> {
 }
 
 /// What came of a call of the system.
-fn answered(done: io::Result<()>) -> Result<(), Failure> {
-    match done {
-        Ok(()) => Ok(()),
-        Err(error) => Err(failure(refused_by(&error))),
-    }
+fn answered<T>(done: io::Result<T>) -> Result<T, Failure> {
+    done.map_err(|error| Failure::Store(refused_by(error)))
 }
 
 /// A name that is made of another one.
-fn made(alloc: Global, name: &str, end: &str) -> Result<String, Failure> {
-    match format!(in alloc; "{name}{end}") {
-        Ok(name) => Ok(name),
-        Err(_) => Err(failure(StoreFault::Store(KeepError::NoMemory))),
-    }
+fn made(alloc: Global, name: &str, end: &str) -> Result<String, StoreFault> {
+    format!(in alloc; "{name}{end}").map_err(|_| NO_MEMORY)
 }
 
 impl Stores for Files<'_> {
+    ghost made = { λ _ _ _. Unit {0} };
+
     fn has(&self, name: &str) -> bool {
-        match fs::exists(self.rt, name) {
-            Ok(is_there) => is_there,
-            // What it is, the opening says.
-            Err(_) => true,
+        // What it is that cannot be told, the opening says.
+        fs::exists(self.rt, name).unwrap_or(true)
+    }
+
+    fn lend<B: Borrower>(&mut self, seen: &Seen<'_>, borrower: B) -> Result<B::Out, Failure> {
+        let (rt, name) = (self.rt, seen.name());
+        let conn = opened(rt, name)?;
+        if self.has(seen.journal()) {
+            let _ = shut(rt, name, conn);
+            return Err(Failure::Unfinished);
+        }
+        let (conn, done) = lent(conn, seen.block(), borrower)?;
+        let shut = shut(rt, name, conn);
+        let done = done.map_err(|failure| why_failed(rt, name, failure))?;
+        match shut {
+            Ok(_) => Ok(done),
+            Err(fault) => Err(why_failed(rt, name, Failure::Store(fault))),
         }
     }
 
-    fn lend<B: Borrower>(&self, name: &str, block: Block, borrower: B) -> Result<B::Out, Failure> {
-        let conn = opened(self.rt, name)?;
-        let (conn, done) = lent(conn, block, borrower)?;
-        let is_closed = closed(self.rt, name, conn);
-        match done {
-            Ok(out) => {
-                if is_closed {
-                    Ok(out)
-                } else {
-                    Err(why_failed(self.rt, name, STORE_FAILED))
-                }
-            }
-            Err(failure) => Err(why_failed(self.rt, name, failure)),
+    fn lend_copy<B: Borrower>(
+        &self,
+        name: &str,
+        journal: &str,
+        borrower: B,
+    ) -> Result<B::Out, Failure> {
+        let mut store = copied(self.rt, name)?;
+        if self.has(journal) {
+            return Err(Failure::Unfinished);
         }
-    }
-
-    fn lend_copy<B: Borrower>(&self, name: &str, borrower: B) -> Result<B::Out, Failure> {
-        let mut store = copied(self.rt, name).map_err(failure)?;
         borrower.take(&mut store)
     }
 
     fn place_of(&self, alloc: Global, name: &str) -> Result<String, Failure> {
-        match place(self.rt, alloc, name) {
-            Ok(place) => Ok(place),
-            Err(_) => Err(failure(StoreFault::Store(KeepError::NoMemory))),
-        }
+        place(self.rt, alloc, name).map_err(|_| Failure::Store(NO_MEMORY))
     }
 
-    fn hold<H: Holder>(
-        &self,
+    fn hold<H: Holder<Self>>(
+        &mut self,
         alloc: Global,
         names: &[String],
         mut holder: H,
@@ -425,56 +365,53 @@ impl Stores for Files<'_> {
         let mut open = Vec::new(alloc);
         let mut all = Vec::new(alloc);
         let due = match open_all(self.rt, names, &holder, &mut open, &mut all) {
-            Ok(()) => holder.take(&all),
+            Ok(()) => holder.take(self, &all),
             Err(failure) => Err(failure),
         };
         let shut = shut_all(self.rt, &holder, open);
         let due = due?;
         let _files = shut?;
-        holder.then(due)
+        holder.then(self, due)
     }
 
-    fn alone<A: Actor>(&self, name: &str, actor: A) -> Result<A::Out, Failure> {
-        let file = match fs::File::open(self.rt, name) {
-            Ok(file) => file,
-            Err(error) => return Err(failure(refused_by(&error))),
-        };
+    fn alone<A: Actor<Self>>(&mut self, name: &str, actor: A) -> Result<A::Out, Failure> {
+        let file = answered(fs::File::open(self.rt, name))?;
         if let Err(TryLockError::WouldBlock) = file.try_lock() {
-            return Err(failure(StoreFault::Locked));
+            return Err(Failure::Store(StoreFault::Locked));
         }
-        actor.act()
+        actor.act(self)
     }
 
     fn text(&self, _alloc: Global, name: &str) -> Result<Option<String>, Failure> {
         match fs::read_to_string(self.rt, name) {
             Ok(text) => Ok(Some(text)),
             Err(error) if error.kind() == ErrorKind::NotFound => Ok(None),
-            Err(error) if error.kind() == ErrorKind::InvalidData => Err(failure(
-                StoreFault::Foreign,
-            )),
-            Err(error) => Err(failure(refused_by(&error))),
+            Err(error) if error.kind() == ErrorKind::InvalidData => {
+                Err(Failure::Store(StoreFault::Foreign))
+            }
+            Err(error) => Err(Failure::Store(refused_by(error))),
         }
     }
 
-    fn write(&self, alloc: Global, name: &str, text: &str) -> Result<(), Failure> {
+    fn write(&mut self, alloc: Global, name: &str, text: &str) -> Result<(), Failure> {
         let part = made(alloc, name, ".part")?;
         answered(written(self.rt, &part, text))?;
         answered(renamed(self.rt, &part, name))
     }
 
-    fn rename(&self, alloc: Global, from: &str, to: &str) -> Result<(), Failure> {
+    fn rename(&mut self, alloc: Global, from: &str, to: &str) -> Result<(), Failure> {
         // A log that somebody left there would be taken for that of the file.
         answered(removed(self.rt, &made(alloc, to, "-wal")?))?;
         answered(renamed(self.rt, from, to))
     }
 
-    fn liken(&self, name: &str, to: &str) {
+    fn liken(&mut self, name: &str, to: &str) {
         if let Ok(about) = fs::metadata(self.rt, to) {
             let _ = fs::set_permissions(self.rt, name, about.permissions());
         }
     }
 
-    fn remove(&self, _alloc: Global, name: &str) -> Result<(), Failure> {
+    fn remove(&mut self, _alloc: Global, name: &str) -> Result<(), Failure> {
         answered(removed(self.rt, name))
     }
 }

@@ -14,5 +14,5 @@ use std::process::ExitCode;
 
 fn main(rt: HostRuntime) -> ExitCode {
     let is_terminal = IsTerminal::is_terminal(&rt.stderr());
-    exit_code(run_and_say(&rt, &Files::of(&rt), is_terminal))
+    exit_code(run_and_say(&rt, &mut Files::of(&rt), is_terminal))
 }

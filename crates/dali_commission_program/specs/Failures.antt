@@ -1,5 +1,7 @@
 use Rattle.std.specs.Prelude.{ℕ, Bool, true, false, not, ◌||◌, if◌then◌else◌, List, Result, Ok, Err}
-use Rattle.std.specs.Prelude.{codes}
+use Rattle.std.specs.Prelude.{codes, Option, None, option_map, slice_get, string_bytes}
+use Rattle.std.specs.declared.alloc.Global.{Global}
+use Rattle.std.specs.declared.string.String.{String}
 use Rattle.dali_script.specs.declared.orders.End.TheVariants as ends
 use Rattle.dali_script.specs.declared.orders.Fault.TheVariants as faults
 use Rattle.dali_reserve.specs.declared.error.KeepError.TheVariants.{StoreFailed}
@@ -10,6 +12,8 @@ use Rattle.dali_commissioning.specs.declared.verdict.Place.{Place}
 use Rattle.dali_commissioning.specs.Places.{are_as_recorded}
 use Rattle.dali_commissioning.specs.declared.fault.CommissionFault.{CommissionFault}
 use Rattle.dali_commissioning.specs.declared.fault.CommissionFault.TheVariants as commission
+use Rattle.dali_replacement.specs.declared.refusal.ReplaceFault.{ReplaceFault}
+use Rattle.dali_replacement.specs.declared.refusal.ReplaceFault.TheVariants as replace
 use Rattle.dali_console.specs.declared.fault.ConsoleFault.TheVariants.{BadCommandLine, NotText}
 use Rattle.dali_console.specs.declared.fault.ConsoleFault.TheVariants.{Refused}
 use Rattle.dali_console.specs.Status as console
@@ -68,30 +72,29 @@ name_of (NotReplaced a refusal) = codes "not-replaced"
 name_of (NotConfirmed a refusal) = codes "not-confirmed"
 name_of Unfinished = codes "unfinished"
 
-abbrev pub done_name : Task → List ℕ
-done_name (task.Run setup) = codes "all-found"
-done_name (task.Check bounds) = codes "as-recorded"
-done_name (task.Identify a as_json) = codes "shown"
-done_name (task.Table name form) = codes "written"
-done_name (task.Replace wanted) = codes "replaced"
-
 abbrev pub end_name : Task → Result (Unit {0}) Failure → List ℕ
-end_name asked (Ok done) = done_name asked
+end_name (task.Run setup) (Ok done) = codes "all-found"
+end_name task.Check (Ok done) = codes "as-recorded"
+end_name (task.Identify a) (Ok done) = codes "shown"
+end_name (task.Table form) (Ok done) = codes "written"
+end_name (task.Replace wanted) (Ok done) = codes "replaced"
 end_name asked (Err failure) = name_of failure
 
--- whether what it came to is to be written as an object of JSON
-abbrev pub wants_json : Task → Bool
-wants_json (task.Run setup) = setup.as_json
-wants_json (task.Check bounds) = bounds.as_json
-wants_json (task.Identify a as_json) = as_json
-wants_json (task.Table name form) = false
-wants_json (task.Replace wanted) = wanted.as_json
+-- the records that a refusal is about; which of several files it is, was said before
+abbrev pub refused_name : Task → List (String Global) → Option (List ℕ)
+refused_name (task.Replace wanted) records = None
+refused_name _ records = option_map (λ name. string_bytes name) (slice_get records 0)
 
 -- a result that cannot be written is a failure, where there was none before
 abbrev pub or_refused : Result (Unit {0}) Failure → Bool → Result (Unit {0}) Failure
 or_refused (Ok done) true = Ok done
 or_refused (Ok done) false = Err (Console Refused)
 or_refused (Err failure) told = Err failure
+
+-- an exchange of files that stopped is to be gone on with, whatever stopped it
+abbrev pub or_unfinished : {T : Type 0} → Result T Failure → Result T Failure
+or_unfinished (Ok it) = Ok it
+or_unfinished (Err failure) = Err Unfinished
 
 -- what the end of the last machine is to the program: where no gear was heard it is none
 abbrev pub ended_as : Ended → Bool → Result (Unit {0}) Failure
@@ -116,3 +119,12 @@ failure_of (commission.Store error) line = Store (store.Store error)
 failure_of commission.QuestionLost line = GaveUp
 failure_of commission.StepsSpent line = Spent
 failure_of commission.RunsSpent line = Spent
+
+-- why a luminaire is not replaced, at a line of the driver; and once its files are exchanged
+abbrev pub fault_of : ℕ → ReplaceFault → ℕ → Failure
+fault_of a (replace.Refused refusal) line = NotReplaced a refusal
+fault_of a (replace.Commission fault) line = failure_of fault line
+
+abbrev pub although_exchanged : Failure → Failure
+although_exchanged (NotReplaced a refusal) = NotConfirmed a refusal
+although_exchanged other = other

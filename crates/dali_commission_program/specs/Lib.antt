@@ -1,7 +1,11 @@
+pub mod Calls
 pub mod Came
 pub mod Failures
 pub mod Json
 pub mod Progress
+pub mod Replacing
 pub mod Reports
 pub mod Said
+pub mod Settling
 pub mod Tables
+pub mod Words

@@ -7,7 +7,8 @@ use Rattle.dali_script.specs.declared.records.Record.TheVariants.{Reserve, Enrol
 use Rattle.dali_commission_program.specs.declared.progress.Aim.{Aim}
 use Rattle.dali_commission_program.specs.declared.progress.Far.{Far}
 use Rattle.dali_commission_program.specs.declared.progress.Manner.{Manner}
-use Rattle.dali_commission_program.specs.declared.progress.Manner.TheVariants.{Plain, Rewritten}
+use Rattle.dali_commission_program.specs.declared.progress.Manner.TheVariants.{Quiet, Plain}
+use Rattle.dali_commission_program.specs.declared.progress.Manner.TheVariants.{Rewritten}
 use Rattle.dali_commission_program.specs.declared.progress.Whom.TheVariants as whom
 
 -- WHOM THE FRAMES WERE ABOUT that were put last, with the search address: first all gear
@@ -29,6 +30,12 @@ far_after (Commit (Reserve a r)) far = record far { left = far.left - 1 }
 far_after (Commit (Release a r)) far = record far { left = min (far.left + 1) (2 ^ 32 - 1) }
 far_after (Commit (Enrol a r)) far = record far { found = min (far.found + 1) (2 ^ 32 - 1) }
 far_after _ far = far
+
+-- HOW IT IS SAID: not at all, by one line on a terminal, or by lines
+abbrev pub manner_of : Bool → Bool → Manner
+manner_of true terminal = Quiet
+manner_of false true = Rewritten
+manner_of false false = Plain
 
 -- it is told at each gear, and on a terminal at every thirty-second frame
 abbrev pub is_told : Manner → Order → ℕ → Bool

@@ -1,5 +1,5 @@
 use Rattle.std.specs.Prelude.{◌≡◌, ℕ, ◌+◌, ◌==◌, nat_lt, Bool, true, false, if◌then◌else◌, List, []}
-use Rattle.std.specs.Prelude.{◌∷◌, ◌++◌, take, min, nat_le, Option, Some, None, Result, Err, ◌&&◌}
+use Rattle.std.specs.Prelude.{◌∷◌, ◌++◌, take, min, nat_le, Option, Some, None, ◌&&◌}
 use Rattle.std.specs.Borrow.{Bor}
 use Rattle.std.specs.List.{list_any}
 use Rattle.dali_controller.specs.declared.tally.Passed.{Passed}
@@ -129,10 +129,10 @@ abbrev pub WhySaid : List Said → PassEnd → Kept → Aim → List Said → Ty
 WhySaid lines pass k aim new = WhySaidAt pass.ended lines pass k aim new
 
 -- A LINE OF THE DRIVER is said where it was refused
-abbrev pub wrote_said : Result (Unit {0}) Failure → Bor (List ℕ) → Option Said
-wrote_said (Err (failure.Driver n BadLine)) line = Some (said.Wrote line)
-wrote_said (Err (failure.Driver n LongLine)) line = Some (said.Wrote line)
-wrote_said (Err (failure.Driver n TornLine)) line = Some (said.Wrote line)
+abbrev pub wrote_said : Failure → Bor (List ℕ) → Option Said
+wrote_said (failure.Driver n BadLine) line = Some (said.Wrote line)
+wrote_said (failure.Driver n LongLine) line = Some (said.Wrote line)
+wrote_said (failure.Driver n TornLine) line = Some (said.Wrote line)
 wrote_said _ line = None
 
 -- WHY THE PROGRAM ENDS: a bad command line `clap` has told; what is wrong with records has their

@@ -35,7 +35,7 @@ tail form = []
 
 abbrev pub row_text : TableForm → Assignment → List ℕ
 row_text Text p = decimal p.0 ++ (codes " " ++ (random_text p.1 ++ codes "\n"))
-row_text Csv p = decimal p.0 ++ (codes "," ++ (random_text p.1 ++ codes "\n"))
+row_text Csv p = decimal p.0 ++ (codes ",0x" ++ (random_text p.1 ++ codes "\n"))
 row_text Json p =
     codes "{\"address\":"
     ++ (decimal p.0 ++ (codes ",\"random\":\"" ++ (random_text p.1 ++ codes "\"}")))

@@ -11,7 +11,6 @@ use crate::failure::{Failure, checked, failure_of};
 use crate::records::lend_copy;
 use crate::report::{Came, Report};
 use crate::stores::{Borrower, Stores};
-use crate::tasks::Bounds;
 use dali_commissioning::{Checked, CommissionFault, DriverLink, check};
 use dali_reserve::{Keep, MemoryKeep};
 use dali_script::Block;
@@ -36,10 +35,7 @@ fn came_of(
             let ended = checked(&report.places, found.has_unaddressed, has_heard);
             Came { report, ended }
         }
-        Err(fault) => Came {
-            report: Report::new(),
-            ended: Err(failure_of(*fault, line)),
-        },
+        Err(fault) => Came::bare(Err(failure_of(*fault, line))),
     }
 }
 
@@ -64,7 +60,7 @@ fn checked_over<K: Keep, R: Read, W: Write>(
 #[derive(Drop)]
 struct Checking<'a, S> {
     system: &'a S,
-    bounds: &'a Bounds,
+    others: &'a [Block],
     report: &'a mut Report,
 }
 
@@ -74,16 +70,17 @@ impl<S: Input + Print + Eprint + AllocGlobal> Borrower for Checking<'_, S> {
     fn take<K: Keep>(self, store: &mut K) -> Result<(), Failure> {
         let system = self.system;
         let mut driver = DriverLink::new(system.alloc(), system.reader(), io::writer(system));
-        let came = checked_over(store, &mut driver, &self.bounds.others);
+        let came = checked_over(store, &mut driver, self.others);
         came.told(system, &driver, self.report)
     }
 }
 
-/// Says which gear answer, beside the records, if there are any.
+/// Says which gear answer, beside the records of this name, if there are any.
 pub(crate) fn checks<S, F>(
     system: &S,
     stores: &F,
-    bounds: &Bounds,
+    records: Option<&str>,
+    others: &[Block],
     report: &mut Report,
 ) -> Result<(), Failure>
 where
@@ -92,10 +89,10 @@ where
 {
     let checking = Checking {
         system,
-        bounds,
+        others,
         report,
     };
-    match &bounds.records {
+    match records {
         Some(name) => lend_copy(system.alloc(), stores, name, checking),
         None => checking.take(&mut MemoryKeep::new(Block::ALL)),
     }

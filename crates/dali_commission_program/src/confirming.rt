@@ -1,5 +1,14 @@
 //! `replace` asks the bus: what is there before the address is given, and before anything is said of it.
 
+ghost use Rattle.std.specs.Prelude.{◌≡◌, IfOk};
+ghost use Rattle.dali_commissioning.specs.declared.census.Reply.TheVariants as heard;
+ghost use Rattle.dali_commissioning.specs.Census.{IsAnswered};
+ghost use Rattle.dali_commissioning.specs.Drivers.{talk_of, lines_of};
+ghost use Rattle.dali_replacement.specs.Permit.{others_at, others_come, others_table};
+ghost use Rattle.dali_replacement.specs.Permit.{confirmed_at, confirmed_random, confirmed_table};
+ghost use Rattle.dali_replacement.specs.Tables.{AreGiven};
+ghost use Rattle.dali_commission_program.specs.Failures.{fault_of};
+
 use crate::failure::{Failure, failure_of};
 use crate::progress::Manner;
 use crate::report::Report;
@@ -8,41 +17,40 @@ use crate::said::{Said, say};
 use crate::tasks::Replacement;
 use arrayvec::ArrayVec;
 use dali_commissioning::{DriverLink, Reply, ask};
-use dali_frame::Short;
 use dali_replacement::{
-    Come, Confirmed, OthersThere, Permit, ReplaceFault, ReplaceRefusal, Standing, Vacant,
+    Come, Confirmed, OthersThere, ReplaceFault, ReplaceRefusal, Standing, Vacant,
 };
 use dali_script::Kept;
 use std::io::{Eprint, Read, Write};
-
-/// Why a luminaire is not replaced, at this line of the driver.
-fn not_replaced(short: Short, fault: ReplaceFault, line: u64) -> Failure {
-    match fault {
-        ReplaceFault::Refused(refusal) => Failure::NotReplaced(short, refusal),
-        ReplaceFault::Commission(fault) => failure_of(fault, line),
-    }
-}
 
 /// Who asks the bus.
 #[derive(Drop)]
 pub(crate) struct Asking<'a, S> {
     pub system: &'a S,
     pub wanted: &'a Replacement,
-    pub is_terminal: bool,
+    pub manner: Manner,
 }
 
 impl<S: Eprint> Asking<'_, S> {
-    /// How is said how far it is.
-    pub fn manner(&self) -> Manner {
-        Manner::of(self.wanted.is_quiet, self.is_terminal)
+    /// Why the luminaire is not replaced.
+    pub fn refusal(&self, refusal: ReplaceRefusal) -> Failure
+        ensures { result ≡ Failure.NotReplaced self.now.wanted.now.short refusal }
+    {
+        Failure::NotReplaced(self.wanted.short, refusal)
     }
 
-    fn refused<R: Read, W: Write>(
+    /// The same, or why not all was asked, at this line of the driver.
+    pub fn fault<R: Read, W: Write>(
         &self,
-        driver: &DriverLink<R, W>,
         fault: ReplaceFault,
-    ) -> Failure {
-        not_replaced(self.wanted.short, fault, driver.lines())
+        driver: &DriverLink<R, W>,
+    ) -> Failure
+        ensures { result ≡ fault_of self.now.wanted.now.short fault (lines_of driver.now) }
+    {
+        match fault {
+            ReplaceFault::Refused(refusal) => self.refusal(refusal),
+            ReplaceFault::Commission(fault) => failure_of(fault, driver.lines()),
+        }
     }
 
     /// Says where others than recorded stand.
@@ -53,29 +61,32 @@ impl<S: Eprint> Asking<'_, S> {
         for said in wrong.iter() {
             say(self.system, said);
         }
-        Failure::NotReplaced(self.wanted.short, ReplaceRefusal::NotThere)
+        self.refusal(ReplaceRefusal::NotThere)
     }
 
-    /// Nobody has the short address, or the new gear, where an earlier call has come so far; and all other gear of the
-    /// tables are there, but those that are known to be gone.
+    /// No gear has the short address, or the new one has it, where an earlier call has come so far; and all other gear
+    /// of the tables are there, but those that are known to be gone.
     pub fn others_there<R: Read, W: Write>(
         &self,
         driver: &mut DriverLink<R, W>,
         come: Come,
         table: Kept,
         report: &mut Report,
-    ) -> Result<OthersThere, Failure> {
-        if self.manner() != Manner::Quiet {
+    ) -> Result<OthersThere, Failure>
+        ensures short { IfOk result (λ others. others_at others ≡ self.now.wanted.now.short) }
+        ensures come { IfOk result (λ others. others_come others ≡ come) }
+        ensures table { IfOk result (λ others. others_table others ≡ table) }
+    {
+        if self.manner != Manner::Quiet {
             say(self.system, &Said::AsksTables);
         }
-        let vacant = match Vacant::ask(driver, self.wanted.short, come) {
-            Ok(vacant) => vacant,
-            Err(fault) => return Err(self.refused(driver, fault)),
-        };
-        let standing = match Standing::ask(driver, table) {
-            Ok(standing) => standing,
-            Err(fault) => return Err(failure_of(fault, driver.lines())),
-        };
+        let vacant = Vacant::ask(driver, self.wanted.short, come).map_err(|fault| self.fault(
+            fault, driver,
+        ))?;
+        let standing = Standing::ask(driver, table).map_err(|fault| failure_of(
+            fault,
+            driver.lines(),
+        ))?;
         if standing.are_there(&self.wanted.missing) {
             Ok(vacant.beside(standing, &self.wanted.missing))
         } else if driver.has_heard() {
@@ -85,27 +96,12 @@ impl<S: Eprint> Asking<'_, S> {
         }
     }
 
-    /// One gear alone has no short address, or an earlier call has begun to give it one.
-    pub fn permit<R: Read, W: Write>(
-        &self,
-        driver: &mut DriverLink<R, W>,
-        others: &OthersThere,
-    ) -> Result<Permit, Failure> {
-        match others.look(driver) {
-            Ok(permit) => Ok(permit),
-            Err(fault) => Err(self.refused(driver, fault)),
-        }
-    }
-
     /// The new gear has not got the address: who answers there is asked.
     pub fn not_given<R: Read, W: Write>(&self, driver: &mut DriverLink<R, W>) -> Failure {
-        let short = self.wanted.short;
-        match ask(driver, short) {
-            Ok(Reply::Silence | Reply::Random(_)) => {
-                Failure::NotReplaced(short, ReplaceRefusal::NotGiven)
-            }
+        match ask(driver, self.wanted.short) {
+            Ok(Reply::Silence | Reply::Random(_)) => self.refusal(ReplaceRefusal::NotGiven),
             Ok(Reply::Noise | Reply::Unclear | Reply::Several) => {
-                Failure::NotReplaced(short, ReplaceRefusal::SeveralAnswer)
+                self.refusal(ReplaceRefusal::SeveralAnswer)
             }
             Err(fault) => failure_of(fault, driver.lines()),
         }
@@ -117,18 +113,22 @@ impl<S: Eprint> Asking<'_, S> {
         driver: &mut DriverLink<R, W>,
         others: OthersThere,
         news: &[Kept],
-    ) -> Result<Confirmed, Failure> {
-        match Confirmed::ask(driver, others, news) {
-            Ok(confirmed) => Ok(confirmed),
-            Err(fault) => Err(self.refused(driver, fault)),
-        }
+    ) -> Result<Confirmed, Failure>
+        ensures heard { IfOk result (λ seen. IsAnswered (others_at others) (heard.Random (confirmed_random seen))
+            (talk_of R.remaining W.contents driver.old) (talk_of R.remaining W.contents driver.new)) }
+        ensures given { IfOk result (λ seen. AreGiven (others_at others) (confirmed_random seen) news.now) }
+        ensures short { IfOk result (λ seen. confirmed_at seen ≡ others_at others) }
+        ensures table { IfOk result (λ seen. confirmed_table seen ≡ others_table others) }
+    {
+        Confirmed::ask(driver, others, news).map_err(|fault| self.fault(fault, driver))
     }
 
     /// Says which gear has the short address, and how many are in each new table.
-    pub fn say_confirmed(&self, confirmed: &Confirmed, count: usize) {
-        say(
-            self.system,
-            &Said::Replaced(confirmed.short(), confirmed.random(), count),
-        );
+    pub fn say_confirmed(&self, confirmed: &Confirmed, news: &[Kept]) {
+        if let [new, ..] = news {
+            let (short, random) = (confirmed.short().number(), confirmed.random());
+            let said = Said::Replaced(short, random, new.enrolled().len());
+            say(self.system, &said);
+        }
     }
 }

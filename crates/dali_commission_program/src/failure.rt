@@ -1,7 +1,7 @@
 //! Why the program ends without having done what was asked for, and its exit statuses.
 
 ghost use Rattle.std.specs.Prelude.{◌≡◌, ◌++◌, ◌∷◌, [], OnOk};
-ghost use Rattle.dali_commission_program.specs.Failures.{name_of, ended_as, checked, failure_of};
+ghost use Rattle.dali_commission_program.specs.Failures.{status_of, name_of, ended_as, checked, failure_of};
 
 use crate::stores::StoreFault;
 use dali_commissioning::{CommissionFault, DriverFault, Ended, Place, are_as_recorded};
@@ -12,43 +12,69 @@ use dali_reserve::KeepError;
 use dali_script::{End, Fault};
 use std::alloc::AllocError;
 use std::fmt;
+use thiserror::Error;
 
 /// Memory, or the output, is refused.
 pub(crate) const REFUSED: Failure = Failure::Console(ConsoleFault::Refused);
 
-/// Why the program ends without having done what was asked for.
-#[derive(Clone, Copy)]
+/// Why the program ends without having done what was asked for, with what is said of it on standard error.
+#[derive(Clone, Copy, Error)]
 pub enum Failure {
-    /// Status 1: gear answer to short addresses that no record names, so nothing was begun.
+    #[error("not begun: gear answer at short addresses that the records do not name")]
     AddressedBefore,
-    /// Status 1: the gear are not as the records have them.
+    #[error("the gear are not as recorded")]
     NotAsRecorded,
-    /// Status 2 or 3: the command line or the output.
+    /// The command line or the output.
+    #[error("{0}")]
     Console(ConsoleFault),
-    /// Status 4: at this line of the driver.
+    #[error("error: line {0} of the driver: {1}")]
     Driver(u64, DriverFault),
-    /// Status 5: the records.
-    Store(StoreFault),
-    /// Status 5: this short address is reserved, and lies outside of the block.
+    #[error("error: the records: {0}")]
+    Store(#[from] StoreFault),
+    #[error("error: short address {at} is reserved, and lies outside of the block", at = .0.number())]
     Outside(Short),
-    /// Status 6: gear without short address was found, and each address of the block is reserved.
+    /// Gear without short address was found, and each address of the block is reserved.
+    #[error("ended: block-full")]
     BlockFull,
-    /// Status 7: the frames were lost, or searches led to no gear.
+    /// The frames were lost, or searches led to no gear.
+    #[error("ended: gave-up")]
     GaveUp,
-    /// Status 8: a gear was found that contradicts the records.
+    /// A gear was found that contradicts the records.
+    #[error("ended: conflict")]
     Conflict,
-    /// Status 9: the machines took as many steps, or were as many, as they may.
+    /// The machines took as many steps, or were as many, as they may.
+    #[error("ended: too many steps")]
     Spent,
-    /// Status 10: no answer was heard, from any gear.
+    #[error("no gear answered: is the interface connected, is the bus powered?")]
     NobodyAnswered,
-    /// Status 10: nobody answers to this short address.
+    #[error("no gear answers at short address {at}", at = .0.number())]
     NobodyThere(Short),
-    /// Status 11: a luminaire is not replaced, for what is so of this short address or of the site.
+    /// A luminaire is not replaced, for what is so of this short address or of the site.
+    #[error(fmt = write_not_replaced)]
     NotReplaced(Short, ReplaceRefusal),
-    /// Status 11: files are exchanged that an earlier call began to exchange, and this is so of the site.
+    /// Files are exchanged that an earlier call began to exchange, and this is so of the site.
+    #[error("the files are exchanged, but short address {at}: {1}; check says which gear answer", at = .0.number())]
     NotConfirmed(Short, ReplaceRefusal),
-    /// Status 12: the files of a site are being replaced.
+    #[error("a replacement is not finished: call ./dali_commission replace again, with the same words")]
     Unfinished,
+}
+
+impl fmt::Debug for Failure {
+    fn fmt<W: fmt::Write>(&self, f: &mut fmt::Formatter<W>) -> fmt::Result {
+        write!(f, "{self}")
+    }
+}
+
+fn write_not_replaced<W: fmt::Write>(
+    short: &Short,
+    refusal: &ReplaceRefusal,
+    f: &mut fmt::Formatter<W>,
+) -> fmt::Result {
+    let (at, what, advice) = (short.number(), refusal.what(), refusal.advice());
+    write!(
+        f,
+        "not replaced, {what}: short address {at}: {refusal}{advice}"
+    )
 }
 
 impl From<AllocError> for Failure {
@@ -62,80 +88,30 @@ impl From<AllocError> for Failure {
     }
 }
 
-/// What is said of it on standard error.
-impl fmt::Display for Failure {
-    fn fmt<W: fmt::Write>(&self, f: &mut fmt::Formatter<W>) -> fmt::Result {
-        let text = match self {
-            Failure::AddressedBefore => {
-                "not begun: gear answer to short addresses that the records do not name"
-            }
-            Failure::NotAsRecorded => "the gear are not as recorded",
-            Failure::Console(fault) => return write!(f, "{fault}"),
-            Failure::Driver(line, fault) => {
-                return write!(f, "error: line {line} of the driver: {fault}");
-            }
-            Failure::Store(fault) => return write!(f, "error: the records: {fault}"),
-            Failure::Outside(short) => {
-                let number = short.number();
-                return write!(
-                    f,
-                    "error: short address {number} is reserved, and lies outside of the block"
-                );
-            }
-            Failure::NobodyThere(short) => {
-                let number = short.number();
-                return write!(f, "nobody answers to short address {number}");
-            }
-            Failure::NotReplaced(short, refusal) => {
-                let (number, what, advice) = (short.number(), refusal.what(), refusal.advice());
-                return write!(
-                    f,
-                    "not replaced, {what}: short address {number}: {refusal}{advice}"
-                );
-            }
-            Failure::NotConfirmed(short, refusal) => {
-                let number = short.number();
-                return write!(
-                    f,
-                    "the files are exchanged, but short address {number}: {refusal}; see by check who answers"
-                );
-            }
-            Failure::Unfinished => {
-                "a replacement is not finished: call ./dali_commission replace again, with the same words"
-            }
-            Failure::NobodyAnswered => {
-                "nobody answered: is the interface connected, is the bus powered?"
-            }
-            Failure::BlockFull => "ended: block-full",
-            Failure::GaveUp => "ended: gave-up",
-            Failure::Conflict => "ended: conflict",
-            Failure::Spent => "ended: too many steps",
-        };
-        f.write_str(text)
-    }
-}
-
 impl Failure {
-    /// What it is called in an object of JSON.
-    pub(crate) fn name(&self) -> &'static str
-        ensures { result.now ≡ name_of self.now }
+    /// Its exit status, and what it is called in an object of JSON.
+    pub(crate) fn end(&self) -> (u8, &'static str)
+        ensures status { result.0 ≡ status_of self.now }
+        ensures name { result.1.now ≡ name_of self.now }
     {
         match self {
-            Failure::AddressedBefore => "not-begun",
-            Failure::NotAsRecorded => "not-as-recorded",
-            Failure::Console(ConsoleFault::BadCommandLine | ConsoleFault::NotText) =>
+            Failure::AddressedBefore => (1, "not-begun"),
+            Failure::NotAsRecorded => (1, "not-as-recorded"),
+            Failure::Console(ConsoleFault::BadCommandLine | ConsoleFault::NotText) => (
+                2,
                 "bad-command-line",
-            Failure::Console(ConsoleFault::Refused) => "refused",
-            Failure::Driver(..) => "driver",
-            Failure::Store(_) | Failure::Outside(_) => "records",
-            Failure::BlockFull => "block-full",
-            Failure::GaveUp => "gave-up",
-            Failure::Conflict => "conflict",
-            Failure::Spent => "too-many-steps",
-            Failure::NobodyAnswered | Failure::NobodyThere(_) => "nobody-answered",
-            Failure::NotReplaced(..) => "not-replaced",
-            Failure::NotConfirmed(..) => "not-confirmed",
-            Failure::Unfinished => "unfinished",
+            ),
+            Failure::Console(ConsoleFault::Refused) => (3, "refused"),
+            Failure::Driver(..) => (4, "driver"),
+            Failure::Store(_) | Failure::Outside(_) => (5, "records"),
+            Failure::BlockFull => (6, "block-full"),
+            Failure::GaveUp => (7, "gave-up"),
+            Failure::Conflict => (8, "conflict"),
+            Failure::Spent => (9, "too-many-steps"),
+            Failure::NobodyAnswered | Failure::NobodyThere(_) => (10, "nobody-answered"),
+            Failure::NotReplaced(..) => (11, "not-replaced"),
+            Failure::NotConfirmed(..) => (11, "not-confirmed"),
+            Failure::Unfinished => (12, "unfinished"),
         }
     }
 }
@@ -146,19 +122,7 @@ impl Failed for Failure {
     ghost status_of = { status_of };
 
     fn status(&self) -> u8 {
-        match self {
-            Failure::AddressedBefore | Failure::NotAsRecorded => 1,
-            Failure::Console(fault) => fault.status(),
-            Failure::Driver(..) => 4,
-            Failure::Store(_) | Failure::Outside(_) => 5,
-            Failure::BlockFull => 6,
-            Failure::GaveUp => 7,
-            Failure::Conflict => 8,
-            Failure::Spent => 9,
-            Failure::NobodyAnswered | Failure::NobodyThere(_) => 10,
-            Failure::NotReplaced(..) | Failure::NotConfirmed(..) => 11,
-            Failure::Unfinished => 12,
-        }
+        self.end().0
     }
 }
 
@@ -166,10 +130,7 @@ impl Failed for Failure {
 pub(crate) fn add<T: Drop>(list: &mut Vec<T>, item: T) -> Result<(), Failure>
     ensures { OnOk result (list.new.items ≡ list.old.items ++ item ∷ []) }
 {
-    match list.push(item) {
-        Ok(()) => Ok(()),
-        Err(_) => Err(REFUSED),
-    }
+    list.push(item).map_err(|_| REFUSED)
 }
 
 /// What the end of the last machine is to the program, where a gear was heard, or none was.

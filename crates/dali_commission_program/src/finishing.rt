@@ -1,12 +1,20 @@
 //! An exchange of files that an earlier call has begun is brought to its end, and the bus is asked what is there.
 
+ghost use Rattle.std.specs.Prelude.{◌≡◌, IfOk};
+ghost use Rattle.dali_commissioning.specs.declared.census.Reply.TheVariants as heard;
+ghost use Rattle.dali_commissioning.specs.Census.{IsAnswered};
+ghost use Rattle.dali_commissioning.specs.Drivers.{Talk, talk_of};
+ghost use Rattle.dali_replacement.specs.Permit.{confirmed_at, confirmed_random};
+ghost use Rattle.dali_replacement.specs.Tables.{AreGiven};
+ghost use Rattle.dali_commission_program.specs.Failures.{although_exchanged};
+ghost use Rattle.dali_commission_program.specs.Settling.{IsSettled};
+
 use crate::confirming::Asking;
 use crate::failure::{Failure, add};
 use crate::records::{Reading, lend_copy};
 use crate::report::Report;
-use crate::reports::wrote_said;
 use crate::said::{Said, say, say_refused};
-use crate::settling::{Settling, found};
+use crate::settling::{found, settle};
 use crate::stores::Stores;
 use dali_commissioning::DriverLink;
 use dali_frame::Short;
@@ -21,10 +29,9 @@ pub(crate) fn read<S: Eprint + AllocGlobal, F: Stores>(
     stores: &F,
     name: &str,
 ) -> Result<Kept, Failure> {
-    match lend_copy(system.alloc(), stores, name, Reading) {
-        Ok(kept) => Ok(kept),
-        Err(failure) => Err(say_refused(system, name, failure)),
-    }
+    lend_copy(system.alloc(), stores, name, Reading).map_err(|failure| say_refused(
+        system, name, failure,
+    ))
 }
 
 /// Says where the old files are kept.
@@ -40,20 +47,17 @@ pub(crate) fn say_kept<S: Eprint + AllocGlobal>(system: &S, swap: &Swap) -> Resu
 /// places of the old ones.
 fn finishes<S: Eprint + AllocGlobal, F: Stores>(
     system: &S,
-    stores: &F,
+    stores: &mut F,
     swap: &Swap,
-) -> Result<bool, Failure> {
-    let settling = Settling {
-        system,
-        stores,
-        swap,
-    };
-    let is_done = settling.settle()?;
+) -> Result<bool, Failure>
+    ensures { IfOk result (IsSettled F.made swap.now stores.old stores.new) }
+{
+    let is_done = settle(system, stores, swap)?;
     if is_done {
-        say(system, &Said::Exchanged(swap.short()));
+        say(system, &Said::Exchanged(swap.short().number()));
         let _ = say_kept(system, swap);
     } else {
-        say(system, &Said::TakenBack(swap.short()));
+        say(system, &Said::TakenBack(swap.short().number()));
     }
     Ok(is_done)
 }
@@ -61,20 +65,19 @@ fn finishes<S: Eprint + AllocGlobal, F: Stores>(
 /// Brings each swap of an earlier call to its end. That of this short address, where its files are exchanged now.
 pub(crate) fn exchanged<S: Eprint + AllocGlobal, F: Stores>(
     system: &S,
-    stores: &F,
+    stores: &mut F,
     names: &[String],
     short: Short,
 ) -> Result<Option<Swap>, Failure> {
     let mut done = None;
     for name in names {
-        match found(system.alloc(), stores, name) {
-            Ok(Some(swap)) => {
-                if finishes(system, stores, &swap)? && swap.short() == short {
-                    done = Some(swap);
-                }
+        let found = found(system.alloc(), stores, name).map_err(|failure| say_refused(
+            system, name, failure,
+        ))?;
+        if let Some(swap) = found {
+            if finishes(system, stores, &swap)? && swap.short() == short {
+                done = Some(swap);
             }
-            Ok(None) => {}
-            Err(failure) => return Err(say_refused(system, name, failure)),
         }
     }
     Ok(done)
@@ -86,25 +89,32 @@ fn heard<S: Eprint, R: Read, W: Write>(
     driver: &mut DriverLink<R, W>,
     tables: &[Kept],
     report: &mut Report,
-) -> Result<Confirmed, Failure> {
+) -> Result<Confirmed, Failure>
+    ensures heard { IfOk result (λ seen. (from : Talk) × IsAnswered asking.now.wanted.now.short
+        (heard.Random (confirmed_random seen)) from (talk_of R.remaining W.contents driver.new)) }
+    ensures given { IfOk result (λ seen. AreGiven asking.now.wanted.now.short (confirmed_random seen) tables.now) }
+    ensures short { IfOk result (λ seen. confirmed_at seen ≡ asking.now.wanted.now.short) }
+{
     let short = asking.wanted.short;
-    let random = match tables.first() {
-        Some(table) => table.enrolled_at(short),
-        None => None,
+    let random = match tables {
+        [table, ..] => table.enrolled_at(short),
+        [] => None,
     };
     let Some(random) = random else {
-        return Err(Failure::NotReplaced(short, ReplaceRefusal::NotGiven));
+        return Err(asking.refusal(ReplaceRefusal::NotGiven));
     };
-    let table = match gathered(tables, short) {
-        Ok(table) => table,
-        Err(other) => return Err(Failure::NotReplaced(other, ReplaceRefusal::Disagree)),
-    };
+    let table = gathered(tables, short).map_err(|other| Failure::NotReplaced(
+        other,
+        ReplaceRefusal::Disagree,
+    ))?;
     let others = asking.others_there(driver, Come::Given(random), table, report)?;
     asking.confirm(driver, others, tables)
 }
 
 /// What a refusal is once the files are exchanged.
-fn although_exchanged(failure: Failure) -> Failure {
+fn although_exchanged(failure: Failure) -> Failure
+    ensures { result ≡ although_exchanged failure }
+{
     match failure {
         Failure::NotReplaced(short, refusal) => Failure::NotConfirmed(short, refusal),
         _ => failure,
@@ -121,6 +131,7 @@ pub(crate) fn confirms<S, F>(
 where
     S: Input + Print + Eprint + AllocGlobal,
     F: Stores,
+    ensures { IfOk result (λ seen. confirmed_at seen ≡ asking.now.wanted.now.short) }
 {
     let system = asking.system;
     let mut tables = Vec::new(system.alloc());
@@ -129,19 +140,9 @@ where
     }
     let mut driver = DriverLink::new(system.alloc(), system.reader(), io::writer(system));
     let heard = heard(asking, &mut driver, &tables, report);
-    report.frames = driver.lines();
-    match heard {
-        Ok(confirmed) => {
-            if let Some(table) = tables.first() {
-                asking.say_confirmed(&confirmed, table.enrolled().len());
-            }
-            Ok(confirmed)
-        }
-        Err(failure) => {
-            if let Some(said) = wrote_said(Err(failure), driver.line()) {
-                say(system, &said);
-            }
-            Err(although_exchanged(failure))
-        }
-    }
+    let confirmed = report
+        .note_lines(system, &driver, heard)
+        .map_err(although_exchanged)?;
+    asking.say_confirmed(&confirmed, &tables);
+    Ok(confirmed)
 }

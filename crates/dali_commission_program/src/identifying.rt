@@ -106,10 +106,5 @@ pub(crate) fn identify<S: Input + Print + Eprint + AllocGlobal + Clock>(
 ) -> Result<(), Failure> {
     let mut driver = DriverLink::new(system.alloc(), system.reader(), io::writer(system));
     let ended = shows(system, &mut driver, short);
-    let report_of = Report::new();
-    Came {
-        report: report_of,
-        ended,
-    }
-    .told(system, &driver, report)
+    Came::bare(ended).told(system, &driver, report)
 }

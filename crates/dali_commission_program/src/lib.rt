@@ -23,6 +23,7 @@ mod words;
 
 pub use failure::Failure;
 pub use program::run_and_say;
+pub use records::Seen;
 pub use stores::{Actor, Borrower, Holder, StoreFault, Stores};
 pub use table::push_table;
 pub use tasks::TableForm;

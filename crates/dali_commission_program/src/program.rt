@@ -1,9 +1,9 @@
 //! The program: what it reads of the system, does, and says.
 
-ghost use Rattle.std.specs.Prelude.{◌≡◌, true, false, IsTrue, OnOk};
+ghost use Rattle.std.specs.Prelude.{◌≡◌, true, false, IsTrue, OnOk, option_map, slice_get, string_bytes};
 ghost use Rattle.std.specs.Io.KnownBytes.{Appends};
 ghost use Rattle.dali_console.specs.Status.{status_after};
-ghost use Rattle.dali_commission_program.specs.Failures.{status_of, done_name, end_name, or_refused, wants_json};
+ghost use Rattle.dali_commission_program.specs.Failures.{status_of, end_name, or_refused, refused_name};
 ghost use Rattle.dali_commission_program.specs.Json.{report_text};
 ghost use Rattle.dali_commission_program.specs.Tables.{table_text};
 
@@ -11,6 +11,7 @@ use crate::checking::checks;
 use crate::failure::{Failure, REFUSED};
 use crate::identifying::identify;
 use crate::json::write_report;
+use crate::progress::Manner;
 use crate::records::{kept, lend, lend_copy};
 use crate::replacing::{note_first, replaces};
 use crate::report::Report;
@@ -18,9 +19,8 @@ use crate::running::Running;
 use crate::said::{say, why_said};
 use crate::stores::{Borrower, Stores};
 use crate::table::push_table;
-use crate::tasks::{TableForm, Task};
-use crate::words::{PROGRAM, task_of};
-use dali_console::Failed;
+use crate::tasks::{Asked, TableForm, Task};
+use crate::words::{PROGRAM, asked_of};
 use dali_reserve::Keep;
 use dali_script::Kept;
 use dali_words::asked;
@@ -41,10 +41,8 @@ fn write_table<W: Write>(
         (table_text form kept.now.enrolled)) }
 {
     let mut text = String::new(alloc);
-    if push_table(&mut text, form, kept).is_err() || writer.write_all(text.as_bytes()).is_err() {
-        return Err(REFUSED);
-    }
-    Ok(())
+    push_table(&mut text, form, kept)?;
+    writer.write_all(text.as_bytes()).map_err(|_| REFUSED)
 }
 
 /// Who writes the table of the records.
@@ -66,96 +64,85 @@ impl<S: Print + AllocGlobal> Borrower for Writing<'_, S> {
 /// Does what the words of the command line ask for, and notes what it came to.
 fn does<S, F>(
     system: &S,
-    stores: &F,
-    is_terminal: bool,
-    task: &Task,
+    stores: &mut F,
+    manner: Manner,
+    asked: &Asked,
     report: &mut Report,
 ) -> Result<(), Failure>
 where
     S: Input + Print + Eprint + AllocGlobal + Clock,
     F: Stores,
 {
-    let alloc = system.alloc();
-    match task {
+    let (alloc, others) = (system.alloc(), asked.others.as_slice());
+    let name = first(&asked.records);
+    match &asked.task {
         Task::Run(setup) => {
             let running = Running {
                 system,
                 setup,
-                is_terminal,
+                others,
+                manner,
                 report,
             };
-            lend(alloc, stores, &setup.records, &setup.block, running)
+            lend(
+                alloc,
+                stores,
+                name.unwrap_or_default(),
+                setup.block,
+                running,
+            )
         }
-        Task::Check(bounds) => checks(system, stores, bounds, report),
-        Task::Identify(short, _) => identify(system, *short, report),
-        Task::Table(name, form) => {
+        Task::Check => checks(system, stores, name, others, report),
+        Task::Identify(short) => identify(system, *short, report),
+        Task::Table(form) => {
             let form = *form;
-            lend_copy(alloc, stores, name, Writing { system, form })
+            lend_copy(
+                alloc,
+                stores,
+                name.unwrap_or_default(),
+                Writing { system, form },
+            )
         }
         Task::Replace(wanted) => {
-            let _heard = replaces(system, stores, is_terminal, wanted, report)?;
-            note_first(alloc, stores, wanted, report);
+            let _heard = replaces(system, stores, manner, &asked.records, wanted, report)?;
+            note_first(alloc, stores, name, report);
             Ok(())
         }
     }
 }
 
-/// The name of the records that a task is about.
-fn records_of(task: &Task) -> Option<&str> {
-    match task {
-        Task::Run(setup) => Some(&setup.records),
-        Task::Check(bounds) => match &bounds.records {
-            Some(name) => Some(name),
-            None => None,
-        },
-        Task::Table(name, _) => Some(name),
-        // Which of several files a refusal is about, `replaces` has said.
-        Task::Identify(..) | Task::Replace(_) => None,
+/// The first name of records.
+fn first(records: &[String]) -> Option<&str>
+    ensures { option_map (λ name. name.now) result ≡ option_map string_bytes (slice_get records.now 0) }
+{
+    match records {
+        [name, ..] => Some(name),
+        [] => None,
     }
 }
 
-/// Whether what a task came to is to be written as JSON.
-fn wants_json(task: &Task) -> bool
-    ensures { result ≡ wants_json task.now }
+/// The name of the records that a refusal is about. Which of several files it is, `replaces` has said.
+fn refused_name(asked: &Asked) -> Option<&str>
+    ensures { option_map (λ name. name.now) result ≡ refused_name asked.now.task asked.now.records.items }
 {
-    match task {
-        Task::Run(setup) => setup.as_json,
-        Task::Check(bounds) => bounds.as_json,
-        Task::Identify(_, as_json) => *as_json,
-        Task::Replace(wanted) => wanted.as_json,
-        Task::Table(..) => false,
+    match &asked.task {
+        Task::Run(_) | Task::Check | Task::Identify(_) | Task::Table(_) => first(&asked.records),
+        Task::Replace(_) => None,
     }
 }
 
-/// What the end of a task is called that has done what was asked for.
-fn done_name(task: &Task) -> &'static str
-    ensures { result.now ≡ done_name task.now }
+/// The exit status of a task, and what its end is called: done, or why it ended before.
+fn end(task: &Task, ended: &Result<(), Failure>) -> (u8, &'static str)
+    ensures status { result.0 ≡ status_after status_of ended.now }
+    ensures name { result.1.now ≡ end_name task.now ended.now }
 {
-    match task {
-        Task::Run(_) => "all-found",
-        Task::Check(_) => "as-recorded",
-        Task::Identify(..) => "shown",
-        Task::Table(..) => "written",
-        Task::Replace(_) => "replaced",
-    }
-}
-
-/// What the end of a task is called: done, or why it ended before.
-fn end_name(task: &Task, ended: &Result<(), Failure>) -> &'static str
-    ensures { result.now ≡ end_name task.now ended.now }
-{
-    match ended {
-        Ok(()) => done_name(task),
-        Err(failure) => failure.name(),
-    }
-}
-
-fn status(ended: &Result<(), Failure>) -> u8
-    ensures { result ≡ status_after status_of ended.now }
-{
-    match ended {
-        Ok(()) => 0,
-        Err(failure) => failure.status(),
+    match (ended, task) {
+        (Err(failure), _) => failure.end(),
+        (Ok(()), Task::Run(_)) => (0, "all-found"),
+        (Ok(()), Task::Check) => (0, "as-recorded"),
+        (Ok(()), Task::Identify(_)) => (0, "shown"),
+        (Ok(()), Task::Table(_)) => (0, "written"),
+        (Ok(()), Task::Replace(_)) => (0, "replaced"),
     }
 }
 
@@ -163,17 +150,18 @@ fn status(ended: &Result<(), Failure>) -> u8
 fn is_told<W: Write>(
     alloc: Global,
     writer: &mut W,
-    task: &Task,
+    asked: &Asked,
     report: &Report,
     ended: &Result<(), Failure>,
 ) -> bool
-    ensures told { IsTrue result → wants_json task.now ≡ true
+    ensures told { IsTrue result → asked.now.as_json ≡ true
         → Appends (W.contents writer.old) (W.contents writer.new)
-        (report_text (end_name task.now ended.now) (status_after status_of ended.now) report.now) }
-    ensures not_told { wants_json task.now ≡ false → (result ≡ true) × (writer.new ≡ writer.old) }
+        (report_text (end_name asked.now.task ended.now) (status_after status_of ended.now) report.now) }
+    ensures not_told { asked.now.as_json ≡ false → (result ≡ true) × (writer.new ≡ writer.old) }
 {
-    if wants_json(task) {
-        write_report(alloc, writer, report, end_name(task, ended), status(ended))
+    if asked.as_json {
+        let (status, name) = end(&asked.task, ended);
+        write_report(alloc, writer, report, name, status)
     } else {
         true
     }
@@ -183,55 +171,58 @@ fn is_told<W: Write>(
 fn or_refused(ended: Result<(), Failure>, is_told: bool) -> Result<(), Failure>
     ensures { result ≡ or_refused ended is_told }
 {
-    match ended {
-        Ok(()) => { if is_told { Ok(()) } else { Err(REFUSED) } }
-        Err(failure) => Err(failure),
+    if is_told {
+        ended
+    } else {
+        ended.and(Err(REFUSED))
     }
 }
 
 /// Does a task, and says and writes what it came to.
 fn does_and_tells<S, F>(
     system: &S,
-    stores: &F,
+    stores: &mut F,
     is_terminal: bool,
-    task: &Task,
+    asked: &Asked,
 ) -> Result<(), Failure>
 where
     S: Input + Print + Eprint + AllocGlobal + Clock,
     F: Stores,
 {
     let mut report = Report::new();
-    let done = does(system, stores, is_terminal, task, &mut report);
+    let manner = Manner::of(asked.is_quiet, is_terminal);
+    let done = does(system, stores, manner, asked, &mut report);
     let (alloc, mut writer) = (system.alloc(), io::writer(system));
-    let is_told = is_told(alloc, &mut writer, task, &report, &done);
-    let ended = or_refused(done, is_told);
+    let is_told = is_told(alloc, &mut writer, asked, &report, &done);
+    ended(system, or_refused(done, is_told), refused_name(asked))
+}
+
+/// Says why the program ended, where that wants to be said.
+fn ended<S: Eprint>(
+    system: &S,
+    ended: Result<(), Failure>,
+    records: Option<&str>,
+) -> Result<(), Failure>
+    ensures { result ≡ ended }
+{
     if let Err(failure) = &ended {
-        say_why(system, failure, records_of(task));
+        if let Some(said) = why_said(*failure, records) {
+            say(system, &said);
+        }
     }
     ended
 }
 
-/// Says why the program ended, where that wants to be said.
-fn say_why<S: Eprint>(system: &S, failure: &Failure, records: Option<&str>) {
-    if let Some(said) = why_said(*failure, records) {
-        say(system, &said);
-    }
-}
-
 /// Does what the words of the command line ask for, and says on standard error why it ended before its end. The driver
 /// is the system's input and output.
-pub fn run_and_say<S, F>(system: &S, stores: &F, is_terminal: bool) -> Result<(), Failure>
+pub fn run_and_say<S, F>(system: &S, stores: &mut F, is_terminal: bool) -> Result<(), Failure>
 where
     S: Env + Input + Print + Eprint + AllocGlobal + Clock,
     F: Stores,
 {
-    match asked(system, &PROGRAM, task_of) {
-        Ok(Some(task)) => does_and_tells(system, stores, is_terminal, &task),
+    match asked(system, &PROGRAM, asked_of) {
+        Ok(Some(asked)) => does_and_tells(system, stores, is_terminal, &asked),
         Ok(None) => Ok(()),
-        Err(fault) => {
-            let failure = Failure::Console(fault);
-            say_why(system, &failure, None);
-            Err(failure)
-        }
+        Err(fault) => ended(system, Err(Failure::Console(fault)), None),
     }
 }

@@ -1,7 +1,7 @@
 //! How far the machines are, as it is said on standard error.
 
 ghost use Rattle.std.specs.Prelude.{◌≡◌};
-ghost use Rattle.dali_commission_program.specs.Progress.{aim_after, far_after, is_told, first_aim};
+ghost use Rattle.dali_commission_program.specs.Progress.{aim_after, far_after, is_told, first_aim, manner_of};
 
 use crate::said::{Said, say};
 use dali_commissioning::Watch;
@@ -24,7 +24,9 @@ pub enum Manner {
 
 impl Manner {
     /// That of a call.
-    pub fn of(is_quiet: bool, is_terminal: bool) -> Manner {
+    pub fn of(is_quiet: bool, is_terminal: bool) -> Manner
+        ensures { result ≡ manner_of is_quiet is_terminal }
+    {
         match (is_quiet, is_terminal) {
             (true, _) => Manner::Quiet,
             (false, true) => Manner::Rewritten,
@@ -66,38 +68,16 @@ impl Aim {
     fn after(self, command: Command) -> Aim
         ensures { result ≡ aim_after command self }
     {
-        let Aim {
-            whom: _,
-            high,
-            middle,
-            low,
-        } = self;
         let whom = Whom::Search;
+        let search = Aim { whom, ..self };
         match command {
-            Command::SearchHigh(high) => Aim {
-                whom,
-                high,
-                middle,
-                low,
-            },
-            Command::SearchMiddle(middle) => Aim {
-                whom,
-                high,
-                middle,
-                low,
-            },
-            Command::SearchLow(low) => Aim {
-                whom,
-                high,
-                middle,
-                low,
-            },
-            Command::RandomByte(short, _) => Aim {
-                whom: Whom::Address(short),
-                high,
-                middle,
-                low,
-            },
+            Command::SearchHigh(high) => Aim { high, ..search },
+            Command::SearchMiddle(middle) => Aim { middle, ..search },
+            Command::SearchLow(low) => Aim { low, ..search },
+            Command::RandomByte(short, _) => {
+                let whom = Whom::Address(short);
+                Aim { whom, ..self }
+            }
             Command::Terminate
             | Command::Initialise(_)
             | Command::Randomise
@@ -149,37 +129,17 @@ impl fmt::Display for Far {
 
 impl Far {
     /// Once this was ordered too.
-    fn after(self, order: &Order) -> Far
+    fn after(mut self, order: &Order) -> Far
         ensures { result ≡ far_after order.now self }
     {
-        let Far {
-            found,
-            frames,
-            left,
-        } = self;
         match *order {
-            Order::Put(..) => Far {
-                found,
-                frames: frames.saturating_add(1),
-                left,
-            },
-            Order::Commit(Record::Reserve(..)) => Far {
-                found,
-                frames,
-                left: left.saturating_sub(1),
-            },
-            Order::Commit(Record::Release(..)) => Far {
-                found,
-                frames,
-                left: left.saturating_add(1),
-            },
-            Order::Commit(Record::Enrol(..)) => Far {
-                found: found.saturating_add(1),
-                frames,
-                left,
-            },
-            Order::Done(_) | Order::Halt(_) => self,
+            Order::Put(..) => self.frames = self.frames.saturating_add(1),
+            Order::Commit(Record::Reserve(..)) => self.left = self.left.saturating_sub(1),
+            Order::Commit(Record::Release(..)) => self.left = self.left.saturating_add(1),
+            Order::Commit(Record::Enrol(..)) => self.found = self.found.saturating_add(1),
+            Order::Done(_) | Order::Halt(_) => {}
         }
+        self
     }
 }
 

@@ -4,98 +4,74 @@ use crate::failure::Failure;
 use crate::settling::found;
 use crate::stores::{Borrower, StoreFault, Stores};
 use dali_commissioning::outside;
-use dali_replacement::refill;
+use dali_replacement::{journal_of, refill};
 use dali_reserve::{Keep, KeepError};
 use dali_script::{Block, Kept};
 use std::alloc::Global;
 
-/// Who sees that records are of a block.
+/// Records that a copy has shown to be of a block, and beside which no journal of a swap lay. Only such are lent, so
+/// nothing else is opened to be written, unless somebody changes it in between.
 #[derive(Drop)]
-struct Fitting {
+pub struct Seen<'a> {
+    name: &'a str,
     block: Block,
+    journal: String,
 }
 
-impl Borrower for Fitting {
-    type Out = ();
-
-    fn take<K: Keep>(self, store: &mut K) -> Result<(), Failure> {
-        match outside(&kept(store)?, self.block) {
+impl<'a> Seen<'a> {
+    /// Looks at them.
+    fn look<F: Stores>(
+        alloc: Global,
+        stores: &F,
+        name: &'a str,
+        block: Block,
+    ) -> Result<Seen<'a>, Failure> {
+        let journal = journal_beside(alloc, stores, name)?;
+        match outside(&stores.lend_copy(name, &journal, Reading)?, block) {
             Some(short) => Err(Failure::Outside(short)),
-            None => Ok(()),
+            None => Ok(Seen {
+                name,
+                block,
+                journal,
+            }),
         }
     }
-}
 
-/// Whether a journal of a swap lies beside the records at this place.
-fn is_unfinished<F: Stores>(alloc: Global, stores: &F, place: &str) -> Result<bool, Failure> {
-    Ok(found(alloc, stores, place)?.is_some())
-}
+    /// Their name.
+    pub fn name(&self) -> &str {
+        self.name
+    }
 
-/// Who borrows records only while no journal of a swap lies beside them. It is looked for once they are open, too: it
-/// may have been written while they were opened.
-#[derive(Drop)]
-struct Undisturbed<'a, F, B> {
-    alloc: Global,
-    stores: &'a F,
-    place: &'a str,
-    borrower: B,
-}
+    /// The block of the controller to which they are lent.
+    pub fn block(&self) -> Block {
+        self.block
+    }
 
-impl<F: Stores, B: Borrower> Borrower for Undisturbed<'_, F, B> {
-    type Out = B::Out;
-
-    fn take<K: Keep>(self, store: &mut K) -> Result<B::Out, Failure> {
-        if is_unfinished(self.alloc, self.stores, self.place)? {
-            Err(Failure::Unfinished)
-        } else {
-            self.borrower.take(store)
-        }
+    /// The name of the journal, which may have been written since.
+    pub fn journal(&self) -> &str {
+        &self.journal
     }
 }
 
-/// Lends a copy of the records of a name where no journal lies beside them.
-fn lend_seen<F: Stores, B: Borrower>(
-    alloc: Global,
-    stores: &F,
-    place: &str,
-    name: &str,
-    borrower: B,
-) -> Result<B::Out, Failure> {
-    if is_unfinished(alloc, stores, place)? {
-        return Err(Failure::Unfinished);
+/// The name of the journal of a swap, where none lies beside the records of this name.
+fn journal_beside<F: Stores>(alloc: Global, stores: &F, name: &str) -> Result<String, Failure> {
+    let place = stores.place_of(alloc, name)?;
+    match found(alloc, stores, &place)? {
+        Some(_) => Err(Failure::Unfinished),
+        None => Ok(journal_of(alloc, &place)?),
     }
-    stores.lend_copy(
-        name,
-        Undisturbed {
-            alloc,
-            stores,
-            place,
-            borrower,
-        },
-    )
 }
 
-/// Lends the records of a name, for a controller with this block, where a copy of them has shown that they are records
-/// of it. So nothing else is opened to be written, unless somebody changes it in between.
+/// Lends the records of a name, for a controller with this block.
 pub(crate) fn lend<F: Stores, B: Borrower>(
     alloc: Global,
-    stores: &F,
+    stores: &mut F,
     name: &str,
-    block: &Block,
+    block: Block,
     borrower: B,
 ) -> Result<B::Out, Failure> {
-    let place = stores.place_of(alloc, name)?;
-    lend_seen(alloc, stores, &place, name, Fitting { block: *block })?;
-    stores.lend(
-        name,
-        *block,
-        Undisturbed {
-            alloc,
-            stores,
-            place: &place,
-            borrower,
-        },
-    )
+    let seen = Seen::look(alloc, stores, name, block)?;
+    stores.lend(&seen, borrower)
 }
 
 /// Lends a copy of the records of a name, if they are there.
@@ -105,24 +81,16 @@ pub(crate) fn lend_copy<F: Stores, B: Borrower>(
     name: &str,
     borrower: B,
 ) -> Result<B::Out, Failure> {
-    let place = stores.place_of(alloc, name)?;
-    if stores.has(name) || is_unfinished(alloc, stores, &place)? {
-        lend_seen(alloc, stores, &place, name, borrower)
+    let journal = journal_beside(alloc, stores, name)?;
+    if stores.has(name) {
+        stores.lend_copy(name, &journal, borrower)
     } else {
         Err(Failure::Store(StoreFault::Missing))
     }
 }
 
-/// Sees by a copy that there are records of this name.
-pub(crate) fn see<F: Stores>(alloc: Global, stores: &F, name: &str) -> Result<(), Failure> {
-    lend_copy(alloc, stores, name, Fitting { block: Block::ALL })
-}
-
 fn answered<T>(done: Result<T, KeepError>) -> Result<T, Failure> {
-    match done {
-        Ok(value) => Ok(value),
-        Err(error) => Err(Failure::Store(StoreFault::Store(error))),
-    }
+    done.map_err(|error| Failure::Store(StoreFault::Store(error)))
 }
 
 pub(crate) fn kept<K: Keep>(store: &mut K) -> Result<Kept, Failure> {
@@ -153,17 +121,5 @@ impl Borrower for Reading {
 
     fn take<K: Keep>(self, store: &mut K) -> Result<Kept, Failure> {
         kept(store)
-    }
-}
-
-/// Who does nothing with records.
-#[derive(Drop)]
-pub(crate) struct Nothing;
-
-impl Borrower for Nothing {
-    type Out = ();
-
-    fn take<K: Keep>(self, _store: &mut K) -> Result<(), Failure> {
-        Ok(())
     }
 }

@@ -1,21 +1,24 @@
 //! `replace`: a new luminaire gets the short address of one that is gone.
 
+ghost use Rattle.std.specs.Prelude.{◌≡◌, ◌↔◌, ◌⊎◌, IsTrue, IfOk};
+ghost use Rattle.dali_replacement.specs.Tables.{IsGathered, Lacks};
+ghost use Rattle.dali_commission_program.specs.Replacing.{IsGiver};
+
 use crate::confirming::Asking;
 use crate::failure::{Failure, REFUSED, add, ended_as, failure_of};
 use crate::finishing::{confirms, exchanged, read, say_kept};
-use crate::progress::{Aim, Manner, Progress};
-use crate::records::{Filling, Nothing, Reading, kept, lend, lend_copy, see};
+use crate::progress::{Manner, Progress};
+use crate::records::{Filling, Reading, kept, lend, lend_copy};
 use crate::report::{Report, ended_said};
-use crate::reports::wrote_said;
 use crate::said::{Said, say, say_refused};
-use crate::settling::{Settling, found, free_number};
+use crate::settling::{begin, found, free_aside, free_number, settle};
 use crate::stores::{Borrower, Holder, StoreFault, Stores};
 use crate::tasks::Replacement;
-use dali_commissioning::{DriverLink, Ended, PassEnd, outside};
+use dali_commissioning::{DriverLink, Ended, outside};
 use dali_frame::Short;
 use dali_replacement::{
-    Come, Confirmed, Giver, MOST_FILES, OthersThere, Permit, ReplaceRefusal, Swap, aside_of,
-    gathered, giver_from, new_of,
+    Come, Confirmed, Giver, MOST_FILES, OthersThere, Permit, ReplaceRefusal, Swap, gathered,
+    giver_from, new_of,
 };
 use dali_reserve::Keep;
 use dali_script::{Block, End, Kept};
@@ -23,19 +26,13 @@ use std::alloc::Global;
 use std::io;
 use std::io::{Eprint, Read, Write};
 
-/// How many names are tried for a new file that is put aside.
-const MOST_ASIDE: u32 = 10_000;
-
-fn refuse<T>(short: Short, refusal: ReplaceRefusal) -> Result<T, Failure> {
-    Err(Failure::NotReplaced(short, refusal))
-}
-
 /// Whether a table has this short address.
 fn is_anywhere(tables: &[Kept], short: Short) -> bool {
     tables.iter().any(|kept| kept.enrolled_at(short).is_some())
 }
 
-/// Who gives the new gear its short address, into these records.
+/// Who gives the new gear its short address, into these records, and says how the surveys ended. Whether the new gear
+/// has the address, the records say: who was heard besides has none to get here.
 #[derive(Drop)]
 struct Giving<'a, S, R, W> {
     system: &'a S,
@@ -43,18 +40,6 @@ struct Giving<'a, S, R, W> {
     permit: &'a Permit,
     table: &'a Kept,
     manner: Manner,
-}
-
-/// Says how the surveys ended. Whether the new gear has the address, the records say: who was heard besides has none to
-/// get here.
-fn say_ended<S: Eprint>(system: &S, pass: &PassEnd, kept: &Kept, aim: Aim) -> Result<(), Failure> {
-    for said in ended_said(pass, kept, aim).iter() {
-        say(system, said);
-    }
-    match pass.ended {
-        Ended::Done(End::BlockFull) => Ok(()),
-        ended => ended_as(ended, true),
-    }
 }
 
 impl<S: Eprint, R: Read, W: Write> Borrower for Giving<'_, S, R, W> {
@@ -65,9 +50,14 @@ impl<S: Eprint, R: Read, W: Write> Borrower for Giving<'_, S, R, W> {
         let mut progress = Progress::new(system, self.manner, 1);
         let came = permit.give(store, self.driver, &mut progress, table);
         progress.end();
-        match came {
-            Ok(pass) => say_ended(system, &pass, &kept(store)?, progress.aim()),
-            Err(fault) => Err(failure_of(fault, self.driver.lines())),
+        let lines = self.driver.lines();
+        let pass = came.map_err(|fault| failure_of(fault, lines))?;
+        for said in ended_said(&pass, &kept(store)?, progress.aim()).iter() {
+            say(system, said);
+        }
+        match pass.ended {
+            Ended::Done(End::BlockFull) => Ok(()),
+            ended => ended_as(ended, true),
         }
     }
 }
@@ -78,20 +68,8 @@ struct Plan {
     /// What each new table is to have beside the new gear.
     table: Kept,
     /// The number of the file from whose block the short address is given.
-    giver: u32,
+    giver: usize,
     come: Come,
-}
-
-/// Who replaces a luminaire in the records of a site.
-#[derive(Drop)]
-struct Replacing<'a, S, F> {
-    system: &'a S,
-    stores: &'a F,
-    wanted: &'a Replacement,
-    /// Where the files lie.
-    names: &'a [String],
-    asking: &'a Asking<'a, S>,
-    report: &'a mut Report,
 }
 
 /// A swap of files that may begin.
@@ -100,105 +78,142 @@ struct DueSwap {
     swap: Swap,
     /// The new gear that was heard.
     confirmed: Confirmed,
-    /// How many gear are in each new table.
-    count: usize,
+    news: Vec<Kept>,
+}
+
+/// The number of the file from whose block the short address is given.
+fn giver(wanted: &Replacement, all: &[Kept]) -> Result<usize, Failure>
+    ensures { IfOk result (λ number. IsGiver wanted.now all.now number) }
+{
+    let (short, block) = (wanted.short, wanted.block);
+    let refused = Err(Failure::NotReplaced(short, ReplaceRefusal::NoGiver));
+    if short < block.first || block.last < short || all.len() > MOST_FILES {
+        return refused;
+    }
+    if let [only] = all {
+        return match outside(only, block) {
+            Some(short) => Err(Failure::Outside(short)),
+            None => Ok(0),
+        };
+    }
+    match giver_from(0, short, all) {
+        Giver::One(number) => Ok(number as usize),
+        Giver::Nobody | Giver::Several => refused,
+    }
+}
+
+/// What is to be in each new table beside the new gear.
+fn table(wanted: &Replacement, all: &[Kept]) -> Result<Kept, Failure>
+    ensures all { IfOk result (λ table. IsGathered wanted.now.short all.now table) }
+    ensures without { IfOk result (λ table. Lacks wanted.now.short table) }
+{
+    let short = wanted.short;
+    if !is_anywhere(all, short) {
+        return Err(Failure::NotReplaced(short, ReplaceRefusal::NotInTables));
+    }
+    for gone in wanted.missing.iter() {
+        if *gone == short || !is_anywhere(all, *gone) {
+            return Err(Failure::NotReplaced(*gone, ReplaceRefusal::NotMissing));
+        }
+    }
+    gathered(all, short).map_err(|short| Failure::NotReplaced(short, ReplaceRefusal::Disagree))
+}
+
+/// Who replaces a luminaire in the records of a site.
+#[derive(Drop)]
+struct Replacing<'a, S> {
+    asking: &'a Asking<'a, S>,
+    /// Where the files lie.
+    names: &'a [String],
+    report: &'a mut Report,
 }
 
 /// Whether another one's new records have come no further than the giver's.
-fn is_behind(other: &Come, come: &Come) -> bool {
+fn is_behind(other: &Come, come: &Come) -> bool
+    ensures { IsTrue result ↔ ((other.now ≡ Come.Nowhere) ⊎ (other.now ≡ come.now)) }
+{
     matches!(other, Come::Nowhere) || other == come
 }
 
-impl<S: Input + Print + Eprint + AllocGlobal, F: Stores> Replacing<'_, S, F> {
-    fn alloc(&self) -> Global {
-        self.system.alloc()
+impl<S: Input + Print + Eprint + AllocGlobal> Replacing<'_, S> {
+    fn system(&self) -> &S {
+        self.asking.system
     }
 
-    /// The number of the file from whose block the short address is given.
-    fn giver(&self, all: &[Kept]) -> Result<u32, Failure> {
-        let (short, block) = (self.wanted.short, self.wanted.block);
-        if short < block.first || block.last < short || all.len() > MOST_FILES {
-            return refuse(short, ReplaceRefusal::NoGiver);
-        }
-        if let [only] = all {
-            return match outside(only, block) {
-                Some(short) => Err(Failure::Outside(short)),
-                None => Ok(0),
-            };
-        }
-        match giver_from(0, short, all) {
-            Giver::One(number) => Ok(number),
-            Giver::Nobody | Giver::Several => refuse(short, ReplaceRefusal::NoGiver),
-        }
+    fn alloc(&self) -> Global {
+        self.system().alloc()
     }
 
     /// How far the new file of a name has come, beside what the old one has.
-    fn come(&self, name: &str, old: &Kept, is_giver: bool) -> Result<Come, Failure> {
+    fn come<F: Stores>(
+        &self,
+        stores: &F,
+        name: &str,
+        old: &Kept,
+        is_giver: bool,
+    ) -> Result<Come, Failure> {
         let new = new_of(self.alloc(), name)?;
-        if !self.stores.has(&new) {
+        if !stores.has(&new) {
             return Ok(Come::Nowhere);
         }
-        match Come::of(
-            &read(self.system, self.stores, &new)?,
-            old,
-            self.wanted.short,
-            is_giver,
-        ) {
+        let new = read(self.system(), stores, &new)?;
+        match Come::of(&new, old, self.asking.wanted.short, is_giver) {
             Some(come) => Ok(come),
-            None => refuse(self.wanted.short, ReplaceRefusal::OtherNew),
+            None => Err(self.asking.refusal(ReplaceRefusal::OtherNew)),
         }
     }
 
     /// How far an earlier call has come. No other new file has another gear there than the giver's.
-    fn all_come(&self, all: &[Kept], giver: u32) -> Result<Come, Failure> {
-        let giver = giver as usize;
+    fn all_come<F: Stores>(&self, stores: &F, all: &[Kept], giver: usize) -> Result<Come, Failure> {
         let (Some(name), Some(old)) = (self.names.get(giver), all.get(giver)) else {
             return Err(REFUSED);
         };
-        let come = self.come(name, old, true)?;
+        let come = self.come(stores, name, old, true)?;
         for (number, (name, old)) in self.names.iter().zip(all).enumerate() {
-            if number != giver && !is_behind(&self.come(name, old, false)?, &come) {
-                return refuse(self.wanted.short, ReplaceRefusal::OtherNew);
+            if number != giver && !is_behind(&self.come(stores, name, old, false)?, &come) {
+                return Err(self.asking.refusal(ReplaceRefusal::OtherNew));
             }
         }
         Ok(come)
     }
 
     /// What is decided before the bus is asked, by what the files have.
-    fn plan(&self, all: &[Kept]) -> Result<Plan, Failure> {
-        let (short, wanted) = (self.wanted.short, self.wanted);
-        if !is_anywhere(all, short) {
-            return refuse(short, ReplaceRefusal::NotInTables);
-        }
-        for gone in wanted.missing.iter() {
-            if *gone == short || !is_anywhere(all, *gone) {
-                return refuse(*gone, ReplaceRefusal::NotMissing);
-            }
-        }
-        let table = match gathered(all, short) {
-            Ok(table) => table,
-            Err(short) => return refuse(short, ReplaceRefusal::Disagree),
-        };
-        let giver = self.giver(all)?;
-        let come = self.all_come(all, giver)?;
+    fn plan<F: Stores>(&self, stores: &F, all: &[Kept]) -> Result<Plan, Failure>
+        ensures all { IfOk result (λ plan. IsGathered self.now.asking.now.wanted.now.short all.now plan.table) }
+        ensures giver { IfOk result (λ plan. IsGiver self.now.asking.now.wanted.now all.now plan.giver) }
+    {
+        let table = table(self.asking.wanted, all)?;
+        let giver = giver(self.asking.wanted, all)?;
+        let come = self.all_come(stores, all, giver)?;
         Ok(Plan { table, giver, come })
     }
 
     /// Lends the new file of a name.
-    fn renew<B: Borrower>(&self, name: &str, block: Block, borrower: B) -> Result<Kept, Failure> {
-        let new = new_of(self.alloc(), name)?;
-        if let Err(failure) = lend(self.alloc(), self.stores, &new, &block, borrower) {
-            return Err(say_refused(self.system, &new, failure));
-        }
-        read(self.system, self.stores, &new)
+    fn renew<F: Stores, B: Borrower>(
+        &self,
+        stores: &mut F,
+        name: &str,
+        block: Block,
+        borrower: B,
+    ) -> Result<Kept, Failure> {
+        let (system, new) = (self.system(), new_of(self.alloc(), name)?);
+        lend(self.alloc(), stores, &new, block, borrower).map_err(|failure| say_refused(
+            system, &new, failure,
+        ))?;
+        read(system, stores, &new)
     }
 
     /// The new table of each file, where the giver's has been this one.
-    fn news(&self, all: &[Kept], first: &Kept) -> Result<Vec<Kept>, Failure> {
+    fn news<F: Stores>(
+        &self,
+        stores: &mut F,
+        all: &[Kept],
+        first: &Kept,
+    ) -> Result<Vec<Kept>, Failure> {
         let mut news = Vec::new(self.alloc());
         for (name, old) in self.names.iter().zip(all) {
             let filling = Filling { from: first, old };
-            add(&mut news, self.renew(name, Block::ALL, filling)?)?;
+            add(&mut news, self.renew(stores, name, Block::ALL, filling)?)?;
         }
         Ok(news)
     }
@@ -212,175 +227,139 @@ impl<S: Input + Print + Eprint + AllocGlobal, F: Stores> Replacing<'_, S, F> {
         Ok(names)
     }
 
-    /// The swap that is due, where the new tables may take the places of the old ones.
-    fn due_swap(
-        &self,
-        confirmed: Confirmed,
-        all: &[Kept],
-        news: &[Kept],
-    ) -> Result<DueSwap, Failure> {
-        let number = free_number(self.alloc(), self.stores, self.names)?;
-        let names = self.copied_names()?;
-        let count = match news.first() {
-            Some(new) => new.enrolled().len(),
-            None => 0,
-        };
-        match Swap::of(&confirmed, all, news, number, names) {
-            Ok(swap) => Ok(DueSwap {
-                swap,
-                confirmed,
-                count,
-            }),
-            Err(refusal) => refuse(self.wanted.short, refusal),
-        }
-    }
-
     /// Gives the short address in the new file of the giver.
-    fn give<R: Read, W: Write>(
+    fn give<F: Stores, R: Read, W: Write>(
         &self,
+        stores: &mut F,
         driver: &mut DriverLink<R, W>,
         name: &str,
         others: &OthersThere,
     ) -> Result<Kept, Failure> {
-        let permit = self.asking.permit(driver, others)?;
+        let asking = self.asking;
+        let permit = others
+            .look(driver)
+            .map_err(|fault| asking.fault(fault, driver))?;
         let giving = Giving {
-            system: self.system,
+            system: asking.system,
             driver,
             permit: &permit,
             table: others.table(),
-            manner: self.asking.manner(),
+            manner: asking.manner,
         };
-        self.renew(name, permit.block(), giving)
+        self.renew(stores, name, permit.block(), giving)
     }
 
     /// What the new file of the giver has, in which the short address is given where an earlier call has not done it.
-    fn first<R: Read, W: Write>(
+    fn first<F: Stores, R: Read, W: Write>(
         &self,
+        stores: &mut F,
         driver: &mut DriverLink<R, W>,
-        giver: u32,
+        giver: usize,
         others: &OthersThere,
     ) -> Result<Kept, Failure> {
-        let Some(name) = self.names.get(giver as usize) else {
+        let Some(name) = self.names.get(giver) else {
             return Err(REFUSED);
         };
         if !matches!(others.come(), Come::Nowhere) {
-            say(self.system, &Said::GoneOn);
+            say(self.system(), &Said::GoneOn);
         }
         if matches!(others.come(), Come::Given(_)) {
-            read(self.system, self.stores, &new_of(self.alloc(), name)?)
+            read(self.system(), stores, &new_of(self.alloc(), name)?)
         } else {
-            self.give(driver, name, others)
+            self.give(stores, driver, name, others)
         }
     }
 
     /// Gives the short address, and makes the new tables complete. The swap that is due then.
-    fn gives<R: Read, W: Write>(
+    fn gives<F: Stores, R: Read, W: Write>(
         &mut self,
+        stores: &mut F,
         driver: &mut DriverLink<R, W>,
         all: &[Kept],
     ) -> Result<DueSwap, Failure> {
-        if self.wanted.is_again {
-            self.put_aside()?;
+        let asking = self.asking;
+        if asking.wanted.is_again {
+            self.put_aside(stores)?;
         }
-        let plan = self.plan(all)?;
+        let plan = self.plan(stores, all)?;
         let giver = plan.giver;
-        let others = self
-            .asking
-            .others_there(driver, plan.come, plan.table, self.report)?;
-        let first = self.first(driver, giver, &others)?;
+        let others = asking.others_there(driver, plan.come, plan.table, self.report)?;
+        let first = self.first(stores, driver, giver, &others)?;
         // What the giver's new file has reserved besides says to a later call that the address is given there.
-        if first.enrolled_at(self.wanted.short).is_none() {
-            return Err(self.asking.not_given(driver));
+        if first.enrolled_at(asking.wanted.short).is_none() {
+            return Err(asking.not_given(driver));
         }
-        let news = self.news(all, &first)?;
-        let confirmed = self.asking.confirm(driver, others, &news)?;
-        self.due_swap(confirmed, all, &news)
+        let news = self.news(stores, all, &first)?;
+        let confirmed = asking.confirm(driver, others, &news)?;
+        let number = free_number(self.alloc(), stores, self.names)?;
+        let swap = Swap::of(&confirmed, all, &news, number, self.copied_names()?).map_err(
+            |refusal| asking.refusal(refusal),
+        )?;
+        Ok(DueSwap {
+            swap,
+            confirmed,
+            news,
+        })
     }
 
     /// Puts the new file of a name aside that an earlier call has left, where there is one.
-    fn put_one_aside(&self, name: &str) -> Result<(), Failure> {
-        let (alloc, stores) = (self.alloc(), self.stores);
+    fn put_one_aside<F: Stores>(&self, stores: &mut F, name: &str) -> Result<(), Failure> {
+        let (system, alloc) = (self.system(), self.alloc());
         let new = new_of(alloc, name)?;
         if !stores.has(&new) {
             return Ok(());
         }
         let aside = free_aside(alloc, stores, name)?;
         // Once it is closed, nothing of it lies in a log.
-        let done = match lend(alloc, stores, &new, &Block::ALL, Nothing) {
-            Ok(()) => stores.rename(alloc, &new, &aside),
+        let done = match lend(alloc, stores, &new, Block::ALL, Reading) {
+            Ok(_) => stores.rename(alloc, &new, &aside),
             Err(failure) => Err(failure),
         };
-        if let Err(failure) = done {
-            return Err(say_refused(self.system, &new, failure));
-        }
-        say(self.system, &Said::Aside(&new, &aside));
+        done.map_err(|failure| say_refused(system, &new, failure))?;
+        say(system, &Said::Aside(&new, &aside));
         Ok(())
     }
 
     /// Puts all new files aside. No journal lies beside their files, and all others are kept from these.
-    fn put_aside(&self) -> Result<(), Failure> {
+    fn put_aside<F: Stores>(&self, stores: &mut F) -> Result<(), Failure> {
         for name in self.names {
-            self.put_one_aside(name)?;
+            self.put_one_aside(stores, name)?;
         }
         Ok(())
     }
 }
 
-/// The first name for a new file that is put aside which nothing has.
-fn free_aside<F: Stores>(alloc: Global, stores: &F, name: &str) -> Result<String, Failure> {
-    for number in 1..MOST_ASIDE {
-        let aside = aside_of(alloc, name, number)?;
-        if !stores.has(&aside) {
-            return Ok(aside);
-        }
-    }
-    Err(Failure::Store(StoreFault::CannotOpen))
-}
-
-impl<S: Input + Print + Eprint + AllocGlobal, F: Stores> Holder for Replacing<'_, S, F> {
+impl<S: Input + Print + Eprint + AllocGlobal, F: Stores> Holder<F> for Replacing<'_, S> {
     type Due = DueSwap;
 
     type Out = Confirmed;
 
     fn refused(&self, name: &str, failure: Failure) -> Failure {
-        say_refused(self.system, name, failure)
+        say_refused(self.system(), name, failure)
     }
 
-    fn take(&mut self, all: &[Kept]) -> Result<DueSwap, Failure> {
-        let system = self.system;
+    fn take(&mut self, stores: &mut F, all: &[Kept]) -> Result<DueSwap, Failure> {
+        let system = self.asking.system;
         // They may have been announced while the files were opened.
         for name in self.names {
-            if found(self.alloc(), self.stores, name)?.is_some() {
+            if found(system.alloc(), stores, name)?.is_some() {
                 return Err(Failure::Unfinished);
             }
         }
         let mut driver = DriverLink::new(system.alloc(), system.reader(), io::writer(system));
-        let gave = self.gives(&mut driver, all);
-        self.report.frames = driver.lines();
-        match gave {
-            Ok(due) => Ok(due),
-            Err(failure) => {
-                if let Some(said) = wrote_said(Err(failure), driver.line()) {
-                    say(system, &said);
-                }
-                Err(failure)
-            }
-        }
+        let gave = self.gives(stores, &mut driver, all);
+        self.report.note_lines(system, &driver, gave)
     }
 
     /// Exchanges the files, and says which gear has the short address.
-    fn then(self, due: DueSwap) -> Result<Confirmed, Failure> {
-        let settling = Settling {
-            system: self.system,
-            stores: self.stores,
-            swap: &due.swap,
-        };
-        settling.begin()?;
-        if !settling.settle()? {
+    fn then(self, stores: &mut F, due: DueSwap) -> Result<Confirmed, Failure> {
+        let system = self.asking.system;
+        begin(system, stores, &due.swap)?;
+        if !settle(system, stores, &due.swap)? {
             return Err(Failure::Unfinished);
         }
-        self.asking.say_confirmed(&due.confirmed, due.count);
-        let _ = say_kept(self.system, &due.swap);
+        self.asking.say_confirmed(&due.confirmed, &due.news);
+        let _ = say_kept(system, &due.swap);
         Ok(due.confirmed)
     }
 }
@@ -395,10 +374,10 @@ fn places_of<S: Eprint + AllocGlobal, F: Stores>(
     for name in records {
         let place = match stores.place_of(system.alloc(), name) {
             // A journal names each file on a line.
-            Ok(place) if !place.contains("\n") => place,
-            Ok(_) => return Err(say_refused(system, name, Failure::Store(StoreFault::CannotOpen))),
-            Err(failure) => return Err(say_refused(system, name, failure)),
+            Ok(place) if place.contains("\n") => Err(Failure::Store(StoreFault::CannotOpen)),
+            place => place,
         };
+        let place = place.map_err(|failure| say_refused(system, name, failure))?;
         add(&mut names, place)?;
     }
     Ok(names)
@@ -422,10 +401,10 @@ fn are_apart(alloc: Global, names: &[String]) -> Result<bool, Failure> {
 pub(crate) fn note_first<F: Stores>(
     alloc: Global,
     stores: &F,
-    wanted: &Replacement,
+    name: Option<&str>,
     report: &mut Report,
 ) {
-    if let [name, ..] = wanted.records.as_slice() {
+    if let Some(name) = name {
         if let Ok(kept) = lend_copy(alloc, stores, name, Reading) {
             report.note_table(&kept);
         }
@@ -436,8 +415,9 @@ pub(crate) fn note_first<F: Stores>(
 /// call has begun. The new gear that was heard to have the address.
 pub(crate) fn replaces<S, F>(
     system: &S,
-    stores: &F,
-    is_terminal: bool,
+    stores: &mut F,
+    manner: Manner,
+    records: &[String],
     wanted: &Replacement,
     report: &mut Report,
 ) -> Result<Confirmed, Failure>
@@ -445,29 +425,24 @@ where
     S: Input + Print + Eprint + AllocGlobal,
     F: Stores,
 {
-    let names = places_of(system, stores, &wanted.records)?;
-    if !are_apart(system.alloc(), &names)? {
-        return refuse(wanted.short, ReplaceRefusal::SameFile);
-    }
     let asking = Asking {
         system,
         wanted,
-        is_terminal,
+        manner,
     };
+    let names = places_of(system, stores, records)?;
+    if !are_apart(system.alloc(), &names)? {
+        return Err(asking.refusal(ReplaceRefusal::SameFile));
+    }
     if let Some(swap) = exchanged(system, stores, &names, wanted.short)? {
         return confirms(&asking, stores, &swap, report);
     }
     for name in names.iter() {
-        if let Err(failure) = see(system.alloc(), stores, name) {
-            return Err(say_refused(system, name, failure));
-        }
+        let _ = read(system, stores, name)?;
     }
     let replacing = Replacing {
-        system,
-        stores,
-        wanted,
-        names: &names,
         asking: &asking,
+        names: &names,
         report,
     };
     stores.hold(system.alloc(), &names, replacing)

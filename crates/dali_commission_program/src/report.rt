@@ -1,6 +1,6 @@
 //! What a task came to: what is said of it, and what is written of it as JSON.
 
-ghost use Rattle.std.specs.Prelude.{◌≡◌, ◌++◌, ◌+◌, ◌≤◌, ◌<◌, [], None, Some, Err, length};
+ghost use Rattle.std.specs.Prelude.{◌≡◌, ◌++◌, ◌+◌, ◌≤◌, ◌<◌, [], None, Some, length};
 ghost use Rattle.dali_commissioning.specs.Drivers.{lines_of};
 ghost use Rattle.dali_commissioning.specs.Places.{places};
 ghost use Rattle.dali_commission_program.specs.Came.{RunSaid};
@@ -145,13 +145,11 @@ impl Report {
     {
         let places = places(&found.kept, others, &found.replies);
         Report {
-            frames: 0,
-            enrolled: 0,
             table: own_rows(&found.kept),
-            left_alone: ArrayVec::new(),
             has_unaddressed: Some(found.has_unaddressed),
             said: checked_said(&found.kept, &places, found.has_unaddressed),
             places,
+            ..Report::new()
         }
     }
 
@@ -165,13 +163,9 @@ impl Report {
         push_places(&mut said, Which::Strange, 0, &places);
         said.push(Said::Advice);
         Report {
-            frames: 0,
-            enrolled: 0,
-            table: ArrayVec::new(),
-            left_alone: ArrayVec::new(),
-            has_unaddressed: None,
             said,
             places,
+            ..Report::new()
         }
     }
 
@@ -186,13 +180,11 @@ impl Report {
         let mut said = ended_said(pass, after, aim);
         said.push(Said::Commissioned(enrolled, all, frames));
         Report {
-            frames: 0,
             enrolled,
             table: own_rows(after),
             left_alone: heard_of(pass),
-            places: ArrayVec::new(),
-            has_unaddressed: None,
             said,
+            ..Report::new()
         }
     }
 
@@ -202,6 +194,25 @@ impl Report {
         for place in places {
             let _ = self.places.try_push(*place);
         }
+    }
+
+    /// Notes how many lines of the driver were read. The last one is said where it was refused.
+    pub fn note_lines<T, S: Eprint, R: Read, W: Write>(
+        &mut self,
+        system: &S,
+        driver: &DriverLink<R, W>,
+        ended: Result<T, Failure>,
+    ) -> Result<T, Failure>
+        ensures ended { result ≡ ended }
+        ensures report { self.new ≡ record self.old { frames = lines_of driver.now } }
+    {
+        self.frames = driver.lines();
+        if let Err(failure) = &ended {
+            if let Some(said) = wrote_said(*failure, driver.line()) {
+                say(system, &said);
+            }
+        }
+        ended
     }
 
     /// Notes the records as they are in the end.
@@ -231,14 +242,15 @@ pub(crate) struct Came {
 }
 
 impl Came {
-    /// Nothing came of it, for this reason.
-    pub fn failed(failure: Failure) -> Came
-        ensures ended { result.ended ≡ Err failure }
+    /// How it ended, and nothing else.
+    pub fn bare(ended: Result<(), Failure>) -> Came
+        ensures ended { result.ended ≡ ended }
         ensures said { result.report.said.items ≡ [] }
+        ensures places { result.report.places.items ≡ [] }
     {
         Came {
             report: Report::new(),
-            ended: Err(failure),
+            ended,
         }
     }
 
@@ -260,15 +272,8 @@ impl Came {
         for said in self.report.said.iter() {
             say(system, said);
         }
-        if let Some(said) = wrote_said(self.ended, driver.line()) {
-            say(system, &said);
-        }
-        let Came {
-            report: came,
-            ended,
-        } = self;
-        *report = came;
-        report.frames = driver.lines();
-        ended
+        let ended = self.ended;
+        *report = self.report;
+        report.note_lines(system, driver, ended)
     }
 }

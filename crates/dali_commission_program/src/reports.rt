@@ -100,9 +100,10 @@ fn conflict(
 ) -> Option<Said<'static>>
     ensures { result ≡ conflict_said short random other place }
 {
+    let at = short.number();
     match (other, place) {
-        (Some(other), _) if other != random => Some(Said::OtherGear(short, random, other)),
-        (_, Some(place)) => Some(Said::OtherPlace(random, short, place)),
+        (Some(other), _) if other != random => Some(Said::OtherGear(at, random, other)),
+        (_, Some(place)) => Some(Said::OtherPlace(random, at, place.number())),
         (_, None) => None,
     }
 }
@@ -204,16 +205,12 @@ pub fn push_why_ended(said: &mut Saying, pass: &PassEnd, kept: &Kept, aim: Aim)
 }
 
 /// Where a task ended by a line of the driver: the line itself, as far as it was read.
-pub fn wrote_said(ended: Result<(), Failure>, line: &[u8]) -> Option<Said<'_>>
-    ensures { result ≡ wrote_said ended line.entry }
+pub fn wrote_said(failure: Failure, line: &[u8]) -> Option<Said<'_>>
+    ensures { result ≡ wrote_said failure line.entry }
 {
-    match ended {
-        Err(
-            Failure::Driver(
-                _,
-                DriverFault::BadLine | DriverFault::LongLine | DriverFault::TornLine,
-            ),
-        ) => Some(Said::Wrote(line)),
+    match failure {
+        Failure::Driver(_, DriverFault::BadLine | DriverFault::LongLine | DriverFault::TornLine) =>
+            Some(Said::Wrote(line)),
         _ => None,
     }
 }

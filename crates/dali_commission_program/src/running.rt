@@ -1,6 +1,6 @@
 //! `run`: gear are given short addresses.
 
-ghost use Rattle.std.specs.Prelude.{◌≡◌, IfOk};
+ghost use Rattle.std.specs.Prelude.{◌≡◌, ◌+◌, ◌-◌, IfOk, length};
 ghost use Rattle.dali_commissioning.specs.Drivers.{talk_of, has_heard};
 ghost use Rattle.dali_commission_program.specs.Failures.{ended_as};
 ghost use Rattle.dali_commission_program.specs.Came.{HasBegun, ComesTo, RunSaid};
@@ -22,7 +22,9 @@ use std::io;
 use std::io::{Eprint, Read, Write};
 
 /// How many short addresses of its block are not reserved.
-fn left_of(kept: &Kept) -> u32 {
+fn left_of(kept: &Kept) -> u32
+    ensures { result ≡ kept.now.block.last - kept.now.block.first + 1 - length kept.now.reserved }
+{
     let (first, last) = (kept.block().first.number(), kept.block().last.number());
     let all = u32::from(last)
         .saturating_sub(u32::from(first))
@@ -39,13 +41,14 @@ fn begun<K: Keep, R: Read, W: Write, P: Watch>(
     driver: &mut DriverLink<R, W>,
     watch: &mut P,
     setup: &Setup,
+    others: &[Block],
 ) -> Result<Begun, CommissionFault>
-    ensures { IfOk result (HasBegun K.is_up K.is_sound K.holds (K.block store.old) setup.now.others.items
+    ensures { IfOk result (HasBegun K.is_up K.is_sound K.holds (K.block store.old) others.now
         setup.now.idle_passes store.old store.new
         (talk_of R.remaining W.contents driver.old) (talk_of R.remaining W.contents driver.new) setup.now.start) }
 {
     match setup.start {
-        Start::Fresh => begin(store, driver, watch, &setup.others, setup.idle_passes),
+        Start::Fresh => begin(store, driver, watch, others, setup.idle_passes),
         Start::Survey => {
             let pass = commission(store, driver, watch, Told::Survey, setup.idle_passes)?;
             Ok(Begun::Commissioned(pass))
@@ -102,11 +105,11 @@ fn ended_so<K: Keep, R: Read, W: Write>(
     ensures { IfOk result (λ came. came.ended ≡ ended_as pass.now.ended (has_heard driver.new)) }
 {
     let after = kept(store)?;
-    let lines = match is_anybody_there(driver, &after) {
-        Ok(_) => driver.lines(),
-        Err(fault) => return Err(failure_of(fault, driver.lines())),
-    };
-    Ok(came_of(pass, before, &after, aim, driver.has_heard(), lines))
+    if let Err(fault) = is_anybody_there(driver, &after) {
+        return Err(failure_of(fault, driver.lines()));
+    }
+    let (has_heard, lines) = (driver.has_heard(), driver.lines());
+    Ok(came_of(pass, before, &after, aim, has_heard, lines))
 }
 
 /// What a run comes to that began so, or could not, with the table before it.
@@ -127,9 +130,9 @@ fn came_to<K: Keep, R: Read, W: Write>(
         },
         Ok(Begun::Commissioned(pass)) => match ended_so(store, driver, &pass, before, aim) {
             Ok(came) => came,
-            Err(failure) => Came::failed(failure),
+            Err(failure) => Came::bare(Err(failure)),
         },
-        Err(fault) => Came::failed(failure_of(fault, driver.lines())),
+        Err(fault) => Came::bare(Err(failure_of(fault, driver.lines()))),
     }
 }
 
@@ -138,7 +141,8 @@ fn came_to<K: Keep, R: Read, W: Write>(
 pub(crate) struct Running<'a, S> {
     pub system: &'a S,
     pub setup: &'a Setup,
-    pub is_terminal: bool,
+    pub others: &'a [Block],
+    pub manner: Manner,
     pub report: &'a mut Report,
 }
 
@@ -146,19 +150,15 @@ impl<S: Input + Print + Eprint + AllocGlobal> Borrower for Running<'_, S> {
     type Out = ();
 
     fn take<K: Keep>(self, store: &mut K) -> Result<(), Failure> {
-        let (system, setup) = (self.system, self.setup);
+        let (system, others) = (self.system, self.others);
         let before = kept(store)?;
         let mut driver = DriverLink::new(system.alloc(), system.reader(), io::writer(system));
-        let manner = Manner::of(setup.is_quiet, self.is_terminal);
-        let mut progress = Progress::new(system, manner, left_of(&before));
+        let mut progress = Progress::new(system, self.manner, left_of(&before));
         progress.begin(&Said::AsksAddresses);
-        let begun = begun(store, &mut driver, &mut progress, setup);
+        let begun = begun(store, &mut driver, &mut progress, self.setup, others);
         progress.end();
         let aim = progress.aim();
-        came_to(store, &mut driver, aim, &before, &setup.others, begun).told(
-            system,
-            &driver,
-            self.report,
-        )
+        let came = came_to(store, &mut driver, aim, &before, others, begun);
+        came.told(system, &driver, self.report)
     }
 }

@@ -1,173 +1,210 @@
 //! A swap of files is brought to an end: step by step by `dali_replacement`, which says what is due at which moment.
 
+ghost use Rattle.std.specs.Prelude.{◌≡◌, List, IfOk, OnOk};
+ghost use Rattle.dali_replacement.specs.declared.swap.Step.{Step};
+ghost use Rattle.dali_commission_program.specs.Failures.{or_unfinished};
+ghost use Rattle.dali_commission_program.specs.Settling.{IsNamed, IsDone, GoesOn, GoesBack, IsSettled, IsAnnounced};
+
 use crate::failure::{Failure, REFUSED};
 use crate::said::{Said, say, say_refused};
 use crate::stores::{Actor, StoreFault, Stores};
 use arrayvec::ArrayVec;
 use dali_replacement::{
-    Lies, MOST_FILES, Step, Swap, journal_of, kept_of, moment_of, new_of, step_after,
+    Lies, MOST_FILES, Step, Swap, aside_of, journal_of, kept_of, moment_of, new_of, step_after,
 };
 use std::alloc::Global;
 use std::io::Eprint;
 
 /// The name of the file with this number.
-fn name_at(swap: &Swap, number: u32) -> Result<&str, Failure> {
+fn name_at(swap: &Swap, number: u32) -> Result<&str, Failure>
+    ensures { IfOk result (λ name. IsNamed swap.now number name.now) }
+{
     match swap.names().get(number as usize) {
         Some(name) => Ok(name.as_str()),
         None => Err(Failure::Unfinished),
     }
 }
 
-/// Who brings a swap to its end.
+/// What lies at the place of a file, and beside it.
+fn lies<F: Stores>(alloc: Global, stores: &F, swap: &Swap, name: &str) -> Result<Lies, Failure> {
+    Ok(Lies {
+        journal: stores.has(&journal_of(alloc, name)?),
+        new: stores.has(&new_of(alloc, name)?),
+        at: stores.has(name),
+        kept: stores.has(&kept_of(alloc, name, swap.number())?),
+    })
+}
+
+/// The moment at which a swap is, by what lies there.
+fn moment<F: Stores>(alloc: Global, stores: &F, swap: &Swap) -> Result<Option<u32>, Failure> {
+    let mut all: ArrayVec<Lies, MOST_FILES> = ArrayVec::new();
+    for name in swap.names() {
+        if all.try_push(lies(alloc, stores, swap, name)?).is_err() {
+            return Err(Failure::Unfinished);
+        }
+    }
+    Ok(moment_of(&all))
+}
+
+/// Does a step of a swap.
+fn does<F: Stores>(alloc: Global, stores: &mut F, swap: &Swap, step: Step) -> Result<(), Failure>
+    ensures { OnOk result (IsDone F.made swap.now step stores.old stores.new) }
+{
+    match step {
+        Step::Announce(number) => {
+            let journal = journal_of(alloc, name_at(swap, number)?)?;
+            stores.write(alloc, &journal, &swap.text(alloc)?)
+        }
+        Step::SetAside(number) => {
+            let name = name_at(swap, number)?;
+            stores.rename(alloc, name, &kept_of(alloc, name, swap.number())?)
+        }
+        Step::Place(number) => {
+            let name = name_at(swap, number)?;
+            let new = new_of(alloc, name)?;
+            stores.liken(&new, &kept_of(alloc, name, swap.number())?);
+            stores.rename(alloc, &new, name)
+        }
+        Step::Forget(number) => stores.remove(alloc, &journal_of(alloc, name_at(swap, number)?)?),
+    }
+}
+
+/// Goes on from a moment of a swap up to another one.
+fn goes_on<F: Stores>(
+    alloc: Global,
+    stores: &mut F,
+    swap: &Swap,
+    from: u32,
+    to: u32,
+) -> Result<(), Failure>
+    ensures { OnOk result ((steps : List Step) × GoesOn F.made swap.now from to steps stores.old stores.new) }
+{
+    if from >= to {
+        return Ok(());
+    }
+    let Some(step) = step_after(swap.count(), from) else {
+        return Ok(());
+    };
+    does(alloc, stores, swap, step)?;
+    goes_on(alloc, stores, swap, from + 1, to)
+}
+
+/// Takes a swap back, at a moment at which nothing was moved: the journals are removed, the last one first.
+fn goes_back<F: Stores>(
+    alloc: Global,
+    stores: &mut F,
+    swap: &Swap,
+    from: u32,
+) -> Result<(), Failure>
+    ensures { OnOk result (GoesBack F.made swap.now from stores.old stores.new) }
+{
+    if from == 0 {
+        return Ok(());
+    }
+    does(alloc, stores, swap, Step::Forget(from - 1))?;
+    goes_back(alloc, stores, swap, from - 1)
+}
+
+/// Brings a swap to its end, or takes it back where not each journal was written. Whether it was brought to its end.
+fn settles<S: Eprint + AllocGlobal, F: Stores>(
+    system: &S,
+    stores: &mut F,
+    swap: &Swap,
+) -> Result<bool, Failure>
+    ensures { IfOk result (IsSettled F.made swap.now stores.old stores.new) }
+{
+    let (alloc, count) = (system.alloc(), swap.count());
+    match moment(alloc, stores, swap)? {
+        Some(moment) if moment < count => {
+            goes_back(alloc, stores, swap, moment)?;
+            Ok(false)
+        }
+        Some(moment) => {
+            goes_on(alloc, stores, swap, moment, 4 * count)?;
+            Ok(true)
+        }
+        None => {
+            say(system, &Said::NoMoment);
+            Err(Failure::Unfinished)
+        }
+    }
+}
+
+/// A swap that could not be brought to its end is unfinished, and why is said.
+fn or_stopped<T, S: Eprint>(system: &S, done: Result<T, Failure>) -> Result<T, Failure>
+    ensures { result ≡ or_unfinished done }
+{
+    match done {
+        Ok(it) => Ok(it),
+        Err(failure) => {
+            if let Failure::Store(fault) = failure {
+                say(system, &Said::NotExchanged(fault));
+            }
+            Err(Failure::Unfinished)
+        }
+    }
+}
+
+/// Who settles a swap alone.
 #[derive(Drop)]
-pub(crate) struct Settling<'a, S, F> {
-    pub system: &'a S,
-    pub stores: &'a F,
-    pub swap: &'a Swap,
+struct Settling<'a, S> {
+    system: &'a S,
+    swap: &'a Swap,
 }
 
-impl<S: Eprint + AllocGlobal, F: Stores> Settling<'_, S, F> {
-    fn alloc(&self) -> Global {
-        self.system.alloc()
-    }
-
-    /// What lies at the place of a file, and beside it.
-    fn lies(&self, name: &str) -> Result<Lies, Failure> {
-        let alloc = self.alloc();
-        Ok(Lies {
-            journal: self.stores.has(&journal_of(alloc, name)?),
-            new: self.stores.has(&new_of(alloc, name)?),
-            at: self.stores.has(name),
-            kept: self.stores.has(&kept_of(alloc, name, self.swap.number())?),
-        })
-    }
-
-    /// The same of all files.
-    fn all(&self) -> Result<ArrayVec<Lies, MOST_FILES>, Failure> {
-        let mut all = ArrayVec::new();
-        for name in self.swap.names() {
-            if all.try_push(self.lies(name)?).is_err() {
-                return Err(Failure::Unfinished);
-            }
-        }
-        Ok(all)
-    }
-
-    /// Writes the journal of a file.
-    fn announce(&self, name: &str) -> Result<(), Failure> {
-        let alloc = self.alloc();
-        self.stores
-            .write(alloc, &journal_of(alloc, name)?, &self.swap.text(alloc)?)
-    }
-
-    /// Does a step.
-    fn does(&self, step: Step) -> Result<(), Failure> {
-        let (alloc, stores) = (self.alloc(), self.stores);
-        match step {
-            Step::Announce(number) => self.announce(name_at(self.swap, number)?),
-            Step::SetAside(number) => {
-                let name = name_at(self.swap, number)?;
-                stores.rename(alloc, name, &kept_of(alloc, name, self.swap.number())?)
-            }
-            Step::Place(number) => {
-                let name = name_at(self.swap, number)?;
-                let new = new_of(alloc, name)?;
-                stores.liken(&new, &kept_of(alloc, name, self.swap.number())?);
-                stores.rename(alloc, &new, name)
-            }
-            Step::Forget(number) => {
-                let journal = journal_of(alloc, name_at(self.swap, number)?)?;
-                stores.remove(alloc, &journal)
-            }
-        }
-    }
-
-    /// Goes on from a moment of the swap up to another one.
-    fn goes_on(&self, from: u32, to: u32) -> Result<(), Failure> {
-        for moment in from..to {
-            if let Some(step) = step_after(self.swap.count(), moment) {
-                self.does(step)?;
-            }
-        }
-        Ok(())
-    }
-
-    /// Takes the swap back, at a moment at which nothing was moved: the journals are removed, the last one first.
-    fn goes_back(&self, from: u32) -> Result<(), Failure> {
-        for moment in 0..from {
-            self.does(Step::Forget(from - moment - 1))?;
-        }
-        Ok(())
-    }
-
-    /// Whether each journal was written, so that the swap goes on.
-    fn settles(&self) -> Result<bool, Failure> {
-        let all = self.all()?;
-        let count = self.swap.count();
-        match moment_of(&all) {
-            Some(moment) if moment < count => {
-                self.goes_back(moment)?;
-                Ok(false)
-            }
-            Some(moment) => {
-                self.goes_on(moment, 4 * count)?;
-                Ok(true)
-            }
-            None => {
-                say(self.system, &Said::NoMoment);
-                Err(Failure::Unfinished)
-            }
-        }
-    }
-
-    /// Writes each journal: from then on the swap goes on to its end.
-    pub fn begin(&self) -> Result<(), Failure> {
-        match self.goes_on(0, self.swap.count()) {
-            Ok(()) => Ok(()),
-            Err(failure) => Err(self.stopped(failure)),
-        }
-    }
-
-    /// A swap that could not be brought to its end.
-    fn stopped(&self, failure: Failure) -> Failure {
-        if let Failure::Store(fault) = failure {
-            say(self.system, &Said::NotExchanged(fault));
-        }
-        Failure::Unfinished
-    }
-
-    /// The first journal that lies there.
-    fn first_journal(&self) -> Result<Option<String>, Failure> {
-        for name in self.swap.names() {
-            let journal = journal_of(self.alloc(), name)?;
-            if self.stores.has(&journal) {
-                return Ok(Some(journal));
-            }
-        }
-        Ok(None)
-    }
-
-    /// Brings the swap to its end, or takes it back. Whether the new files have taken the places of the old ones.
-    pub fn settle(self) -> Result<bool, Failure> {
-        let (system, stores) = (self.system, self.stores);
-        match self.first_journal()? {
-            Some(journal) => match stores.alone(&journal, self) {
-                Ok(is_done) => Ok(is_done),
-                Err(failure) => Err(say_refused(system, &journal, failure)),
-            },
-            None => self.act(),
-        }
-    }
-}
-
-impl<S: Eprint + AllocGlobal, F: Stores> Actor for Settling<'_, S, F> {
+impl<S: Eprint + AllocGlobal, F: Stores> Actor<F> for Settling<'_, S> {
     type Out = bool;
 
-    fn act(self) -> Result<bool, Failure> {
-        match self.settles() {
-            Ok(is_done) => Ok(is_done),
-            Err(failure) => Err(self.stopped(failure)),
+    ghost acts = { λ settling. IsSettled F.made settling.swap.now };
+
+    fn act(self, stores: &mut F) -> Result<bool, Failure> {
+        or_stopped(self.system, settles(self.system, stores, self.swap))
+    }
+}
+
+/// Writes each journal: from then on the swap goes on to its end.
+pub(crate) fn begin<S: Eprint + AllocGlobal, F: Stores>(
+    system: &S,
+    stores: &mut F,
+    swap: &Swap,
+) -> Result<(), Failure>
+    ensures { OnOk result (IsAnnounced F.made swap.now stores.old stores.new) }
+{
+    or_stopped(
+        system,
+        goes_on(system.alloc(), stores, swap, 0, swap.count()),
+    )
+}
+
+/// The first journal that lies there.
+fn first_journal<F: Stores>(
+    alloc: Global,
+    stores: &F,
+    swap: &Swap,
+) -> Result<Option<String>, Failure> {
+    for name in swap.names() {
+        let journal = journal_of(alloc, name)?;
+        if stores.has(&journal) {
+            return Ok(Some(journal));
         }
+    }
+    Ok(None)
+}
+
+/// Brings a swap to its end, or takes it back. Whether the new files have taken the places of the old ones.
+pub(crate) fn settle<S: Eprint + AllocGlobal, F: Stores>(
+    system: &S,
+    stores: &mut F,
+    swap: &Swap,
+) -> Result<bool, Failure>
+    ensures { IfOk result (IsSettled F.made swap.now stores.old stores.new) }
+{
+    let settling = Settling { system, swap };
+    match first_journal(system.alloc(), stores, swap)? {
+        Some(journal) => stores
+            .alone(&journal, settling)
+            .map_err(|failure| say_refused(system, &journal, failure)),
+        None => settling.act(stores),
     }
 }
 
@@ -177,23 +214,22 @@ pub(crate) fn found<F: Stores>(
     stores: &F,
     name: &str,
 ) -> Result<Option<Swap>, Failure> {
+    const BAD: Failure = Failure::Store(StoreFault::BadJournal);
     let text = match stores.text(alloc, &journal_of(alloc, name)?) {
         Ok(Some(text)) => text,
         Ok(None) => return Ok(None),
-        Err(Failure::Store(StoreFault::Foreign)) => {
-            return Err(Failure::Store(StoreFault::BadJournal));
-        }
+        Err(Failure::Store(StoreFault::Foreign)) => return Err(BAD),
         Err(failure) => return Err(failure),
     };
     match Swap::read(alloc, &text) {
         Ok(Some(swap)) if swap.has(name) => Ok(Some(swap)),
-        Ok(_) => Err(Failure::Store(StoreFault::BadJournal)),
+        Ok(_) => Err(BAD),
         Err(_) => Err(REFUSED),
     }
 }
 
-/// How many numbers are tried for old files.
-const MOST_KEPT: u32 = 10_000;
+/// How many numbers are tried for a name.
+const MOST: u32 = 10_000;
 
 fn is_free<F: Stores>(
     alloc: Global,
@@ -215,9 +251,24 @@ pub(crate) fn free_number<F: Stores>(
     stores: &F,
     names: &[String],
 ) -> Result<u32, Failure> {
-    for number in 1..MOST_KEPT {
+    for number in 1..MOST {
         if is_free(alloc, stores, names, number)? {
             return Ok(number);
+        }
+    }
+    Err(Failure::Store(StoreFault::CannotOpen))
+}
+
+/// The first name for a new file that is put aside which nothing has.
+pub(crate) fn free_aside<F: Stores>(
+    alloc: Global,
+    stores: &F,
+    name: &str,
+) -> Result<String, Failure> {
+    for number in 1..MOST {
+        let aside = aside_of(alloc, name, number)?;
+        if !stores.has(&aside) {
+            return Ok(aside);
         }
     }
     Err(Failure::Store(StoreFault::CannotOpen))

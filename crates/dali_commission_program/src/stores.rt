@@ -1,8 +1,11 @@
 //! Where records are kept: by a name, as in a file.
 
+ghost use Rattle.std.specs.Prelude.{IfOk};
+
 use crate::failure::Failure;
+use crate::records::Seen;
 use dali_reserve::{Keep, KeepError};
-use dali_script::{Block, Kept};
+use dali_script::Kept;
 use std::alloc::Global;
 use thiserror::Error;
 
@@ -59,8 +62,8 @@ pub trait Borrower: Drop {
     fn take<K: Keep>(self, store: &mut K) -> Result<Self::Out, Failure>;
 }
 
-/// Who does something while the records of several names are held.
-pub trait Holder: Drop {
+/// Who does something while the records of several names are held, in these places.
+pub trait Holder<F>: Drop {
     /// What is to be done once their files are closed.
     type Due: Drop;
 
@@ -71,67 +74,88 @@ pub trait Holder: Drop {
     fn refused(&self, name: &str, failure: Failure) -> Failure;
 
     /// Does what is to be done with the records, in the order of their names, and with their files open.
-    fn take(&mut self, all: &[Kept]) -> Result<Self::Due, Failure>;
+    fn take(&mut self, stores: &mut F, all: &[Kept]) -> Result<Self::Due, Failure>;
 
     /// Does what is to be done then, where that ended well, with each file closed and nothing beside it.
-    fn then(self, due: Self::Due) -> Result<Self::Out, Failure>;
+    fn then(self, stores: &mut F, due: Self::Due) -> Result<Self::Out, Failure>;
 }
 
-/// Who does something alone.
-pub trait Actor: Drop {
+/// Who does something alone, in these places.
+pub trait Actor<F>: Drop {
     /// What comes of it.
     type Out: Drop;
 
+    /// What it does: from the places before to those after it, where this came of it.
+    ghost acts: { Self → F → F → Self.Out → Type 0 };
+
     /// Does it.
-    fn act(self) -> Result<Self::Out, Failure>;
+    fn act(self, stores: &mut F) -> Result<Self::Out, Failure>
+        ensures { IfOk result (acts self stores.old stores.new) };
 }
 
 /// Places where records are kept.
 ///
-/// Records are lent and not handed out, so that nothing else has to know what they are kept in.
-pub trait Stores {
+/// Records are lent and not handed out, so that nothing else has to know what they are kept in. Contracts see which
+/// calls were made that change something, with their names, from the places before a call to those after it; not what
+/// lies there, which other programs may change.
+pub trait Stores: Sized {
+    ghost use Rattle.dali_commission_program.specs.Calls.{Call, Wrote, Renamed, Likened, Removed};
+
+    ghost made: { Self → Self → Call → Type 0 };
+
     /// Whether something has this name, or that cannot be told.
     fn has(&self, name: &str) -> bool;
 
-    /// Opens the records of this name for a controller with this block, lends them, and closes them. They are made
-    /// where there are none. The caller has seen by `lend_copy` that they are records of this block. What the borrower
-    /// ends with goes before why they could not be closed.
-    fn lend<B: Borrower>(&self, name: &str, block: Block, borrower: B) -> Result<B::Out, Failure>;
+    /// Opens the records that were seen, lends them, and closes them. They are made where there are none. `Unfinished`
+    /// where the journal lies there once they are open. What the borrower ends with goes before why they could not be
+    /// closed.
+    fn lend<B: Borrower>(&mut self, seen: &Seen<'_>, borrower: B) -> Result<B::Out, Failure>;
 
     /// Lends a copy of the records of this name, as to a controller with all addresses; one with no records where they
-    /// are not there. They are only read: nothing that the borrower does to the copy changes them.
-    fn lend_copy<B: Borrower>(&self, name: &str, borrower: B) -> Result<B::Out, Failure>;
+    /// are not there. They are only read: nothing that the borrower does to the copy changes them. `Unfinished` where
+    /// this journal lies there once they are read.
+    fn lend_copy<B: Borrower>(
+        &self,
+        name: &str,
+        journal: &str,
+        borrower: B,
+    ) -> Result<B::Out, Failure>;
 
     /// The name under which what has this name lies, whatever links lead there, also where nothing lies there.
     fn place_of(&self, alloc: Global, name: &str) -> Result<String, Failure>;
 
     /// Reads the records of these names, each of another file, and keeps all others from opening them, until the holder
     /// is done. The caller has seen by `lend_copy` that they are records.
-    fn hold<H: Holder>(
-        &self,
+    fn hold<H: Holder<Self>>(
+        &mut self,
         alloc: Global,
         names: &[String],
         holder: H,
     ) -> Result<H::Out, Failure>;
 
     /// Keeps all others from acting by what has this name, until the actor is done.
-    fn alone<A: Actor>(&self, name: &str, actor: A) -> Result<A::Out, Failure>;
+    fn alone<A: Actor<Self>>(&mut self, name: &str, actor: A) -> Result<A::Out, Failure>
+        ensures { IfOk result (A.acts actor self.old self.new) };
 
     /// The text of this name. None where there is none.
     fn text(&self, alloc: Global, name: &str) -> Result<Option<String>, Failure>;
 
     /// Writes a text under this name. A stop leaves none or all of it; once it is written no stop takes it away, nor
     /// what was done in its folder before.
-    fn write(&self, alloc: Global, name: &str, text: &str) -> Result<(), Failure>;
+    fn write(&mut self, alloc: Global, name: &str, text: &str) -> Result<(), Failure>
+        ensures { made self.old self.new (Wrote name.now text.now) };
 
     /// Gives what has one name another one in the same folder, where nothing else is left then. A stop leaves it under
     /// one of the two; once it has the other one, no stop takes that away.
-    fn rename(&self, alloc: Global, from: &str, to: &str) -> Result<(), Failure>;
+    fn rename(&mut self, alloc: Global, from: &str, to: &str) -> Result<(), Failure>
+        ensures { made self.old self.new (Renamed from.now to.now) };
 
     /// Lets those read and write what has one name who may read and write what has another one, as far as the system
     /// allows that.
-    fn liken(&self, name: &str, to: &str);
+    fn liken(&mut self, name: &str, to: &str)
+        ensures { made self.old self.new (Likened name.now to.now) };
 
     /// Removes what has this name, where it is there. No stop brings it back.
-    fn remove(&self, alloc: Global, name: &str) -> Result<(), Failure>;
+    fn remove(&mut self, alloc: Global, name: &str) -> Result<(), Failure>
+        ensures { made self.old self.new (Removed name.now) };
 }

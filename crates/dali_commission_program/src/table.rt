@@ -70,7 +70,7 @@ fn push_row(text: &mut String, form: TableForm, row: (Short, Random24)) -> Resul
     let random = row.1;
     match form {
         TableForm::Text => write!(text, "{address} {random}\n"),
-        TableForm::Csv => write!(text, "{address},{random}\n"),
+        TableForm::Csv => write!(text, "{address},0x{random}\n"),
         TableForm::Json => write!(text, "{{\"address\":{address},\"random\":\"{random}\"}}"),
     }
 }

@@ -27,15 +27,29 @@ pub enum Start {
 
 /// What a command line asks for.
 #[derive(Drop)]
+pub struct Asked {
+    pub task: Task,
+    /// The names of the records: one of a run or a table, one or none of a check, one at least of a replacement.
+    pub records: Vec<String>,
+    /// The blocks of other controllers.
+    pub others: Vec<Block>,
+    /// Whether nothing is said of how far it is.
+    pub is_quiet: bool,
+    /// Whether what it came to is written as an object of JSON, too.
+    pub as_json: bool,
+}
+
+/// What is to be done.
+#[derive(Drop)]
 pub enum Task {
     /// The gear are to be given short addresses.
     Run(Setup),
     /// What is heard of each short address is to be said beside the records.
-    Check(Bounds),
-    /// The gear with a short address is to show itself; and whether what it came to is written as an object of JSON.
-    Identify(Short, bool),
-    /// The table of the records of this name is to be written.
-    Table(String, TableForm),
+    Check,
+    /// The gear with a short address is to show itself.
+    Identify(Short),
+    /// The table of the records is to be written.
+    Table(TableForm),
     /// A new luminaire is to have the short address of one that is gone.
     Replace(Replacement),
 }
@@ -43,47 +57,22 @@ pub enum Task {
 /// How gear are to be given short addresses.
 #[derive(Drop)]
 pub struct Setup {
-    /// The name of the records.
-    pub records: String,
     pub block: Block,
-    /// The blocks of other controllers.
-    pub others: Vec<Block>,
     pub start: Start,
     /// How many passes in a row, each of one machine, are to have committed nothing, at least 1.
     pub idle_passes: u8,
     ghost some: { 0 < idle_passes },
-    /// Whether nothing is said of how far it is.
-    pub is_quiet: bool,
-    /// Whether what it came to is written as an object of JSON, too.
-    pub as_json: bool,
 }
 
-/// What is to be checked.
-#[derive(Drop)]
-pub struct Bounds {
-    /// The name of the records, if there are any.
-    pub records: Option<String>,
-    /// The blocks of other controllers.
-    pub others: Vec<Block>,
-    /// Whether what was found is written as an object of JSON, too.
-    pub as_json: bool,
-}
-
-/// Which luminaire is replaced, and where the records of its site are.
+/// Which luminaire is replaced.
 #[derive(Drop)]
 pub struct Replacement {
     /// Its short address.
     pub short: Short,
-    /// The names of all records of the site, one at least.
-    pub records: Vec<String>,
     /// The short addresses of other luminaires that are known to be gone.
     pub missing: Vec<Short>,
     /// The block of the records, where they are of one name.
     pub block: Block,
     /// Whether the new files of an earlier call are put aside, and it begins anew.
     pub is_again: bool,
-    /// Whether nothing is said of how far it is.
-    pub is_quiet: bool,
-    /// Whether what it came to is written as an object of JSON, too.
-    pub as_json: bool,
 }

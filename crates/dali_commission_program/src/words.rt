@@ -1,8 +1,13 @@
 //! The command line, and what it asks for.
 
-ghost use Rattle.std.specs.Prelude.{◌<◌};
+ghost use Rattle.std.specs.Prelude.{◌≡◌, ◌<◌, ℕ, List, [], IfOk, IfSome, IsErr, OnOk, codes, string_bytes};
+ghost use Rattle.std.specs.List.{list_any};
+ghost use Rattle.dali_words.specs.Lines.{values_of};
+ghost use Rattle.dali_commission_program.specs.Words.{IsShort, IsBlock, AddsSpelled, value_of, first_of, meets};
+ghost use Rattle.dali_commission_program.specs.Words.{IsStart, IsSetup, IsForm, IsOnlyBlock, IsReplacement};
+ghost use Rattle.dali_commission_program.specs.Words.{IsTask, IsAsked};
 
-use crate::tasks::{Bounds, Replacement, Setup, Start, TableForm, Task};
+use crate::tasks::{Asked, Replacement, Setup, Start, TableForm, Task};
 use dali_frame::Short;
 use dali_replacement::MOST_FILES;
 use dali_script::Block;
@@ -32,25 +37,25 @@ const RUN: &str = "\
 Gives each gear without short address one of the block, and keeps which gear has which in the file of the records.
 
 It makes passes over the bus until three in a row have found nothing. Each pass begins with a survey: it asks each short
-address that its table does not name who is there, and enrols each gear that tells its random address. Where somebody
-answers who does not, it gives that address to nobody, and says so. With --start fresh, for new gear alone, it asks
-before it begins, begins nothing where a gear answers, and says what can be done. It may be stopped at any moment, also
-by a power cut: the next run goes on from the file.";
+address that its table does not name, and enrols each gear that tells its random address. If a gear answers but does not
+tell it, the address is given to no gear, and the end says so. With --start fresh, for new gear alone, it asks before it
+begins; if a gear answers, it begins nothing, and says what can be done. You may stop it at any moment, also by a power
+cut: the next run goes on from the file.";
 
 const CHECK: &str = "\
-Asks each short address three times for the random address of its gear, and says beside the records: who answers, who is
-missing, which gear are strangers, and where several have one address. Then it asks whether gear without short address
-are there. It gives no address and writes no record.";
+Asks each short address three times for the random address of its gear, and compares the answers with the records: which
+gear answer, which are missing, which are strangers, and which share one address. Then it asks whether there are gear
+without short address. It gives no address and writes no record.";
 
 const REPLACE: &str = "\
 Gives a new luminaire the short address of one that is gone, in all files of records of the site.
 
 The new luminaire is on and has no short address, the old one is disconnected, and all others are on. Each file is named
 by --records. A new file is made beside each; when all are complete they take the places of the old ones, which are kept
-as FILE.before-1, FILE.before-2 and so on. It refuses and changes nothing where somebody still answers to the address,
-where another luminaire of a table does not answer, or where not exactly one new luminaire is found. Before any file
-takes the place of another, and before it says that it is done, it has heard the new luminaire answer to the address.
-It may be stopped at any moment, also by a power cut: the same line goes on where it was, or with --again anew.";
+as FILE.before-1, FILE.before-2 and so on. It refuses and changes nothing if a gear still answers at the address, if
+another luminaire of a table does not answer, or if it does not find exactly one new luminaire. Before any file takes
+the place of another, and before it says that it is done, it has heard the new luminaire answer at the address. You may
+stop it at any moment, also by a power cut: the same line goes on where it was, or with --again anew.";
 
 const DRIVER: Word = Word {
     name: "driver",
@@ -104,7 +109,7 @@ const RUN_WORDS: &[Word] = &[
     Word {
         name: "start",
         value: "WAY",
-        help: "How each pass begins: with a survey of who is there, or as beside new gear alone",
+        help: "How each pass begins: with a survey of the gear that are there, or as beside new gear alone",
         kind: WordKind::Default(Value::Among(&["survey", "fresh"]), "survey"),
     },
     Word {
@@ -202,7 +207,7 @@ const REPLACE_WORDS: &[Word] = &[
     Word {
         name: "block",
         value: "BLOCK",
-        help: "The block of the records, where one file is named",
+        help: "The block of the records, if one file is named",
         kind: WordKind::LastPlace(Value::Text),
     },
 ];
@@ -254,11 +259,64 @@ pub(crate) const PROGRAM: Program = Program {
     subcommands: SUBCOMMANDS,
 };
 
+/// What a value may spell.
+trait Spelled: Drop + Sized {
+    ghost spells: { List ℕ → Self → Type 0 };
+
+    /// What this word spells.
+    fn of(alloc: Global, word: &str) -> Result<Self, LineFault>
+        ensures { IfOk result (spells word.now) };
+}
+
+impl Spelled for String {
+    ghost spells = { λ word it. string_bytes it ≡ word };
+
+    fn of(alloc: Global, word: &str) -> Result<String, LineFault> {
+        Ok(String::from_str(alloc, word)?)
+    }
+}
+
+impl Spelled for Short {
+    ghost spells = { IsShort };
+
+    fn of(alloc: Global, word: &str) -> Result<Short, LineFault> {
+        match short_of(word) {
+            Some(short) => Ok(short),
+            None => wrong(alloc, word, "not a short address, 0 to 63"),
+        }
+    }
+}
+
+impl Spelled for Block {
+    ghost spells = { IsBlock };
+
+    fn of(alloc: Global, word: &str) -> Result<Block, LineFault> {
+        match block_of(word) {
+            Some(block) => Ok(block),
+            None => wrong(alloc, word, "not a block such as 0-63"),
+        }
+    }
+}
+
+/// A value is none of its word, for this reason.
+fn wrong<T>(alloc: Global, word: &str, why: &str) -> Result<T, LineFault>
+    ensures { IsErr result }
+{
+    Err(LineFault::Value(format!(in alloc; "invalid value '{word}': {why}")?))
+}
+
+fn short_of(word: &str) -> Option<Short>
+    ensures { IfSome result (IsShort word.now) }
+{
+    Short::of(word.parse().ok()?)
+}
+
 /// A block of short addresses, as `0-63`.
-fn block_of(word: &str) -> Option<Block> {
-    let (first, last) = word.split_once("-")?;
-    let first = Short::of(first.parse().ok()?)?;
-    let last = Short::of(last.parse().ok()?)?;
+fn block_of(word: &str) -> Option<Block>
+    ensures { IfSome result (IsBlock word.now) }
+{
+    let (first, last) = word.split_once('-')?;
+    let (first, last) = (short_of(first)?, short_of(last)?);
     if first <= last {
         Some(Block { first, last })
     } else {
@@ -266,55 +324,60 @@ fn block_of(word: &str) -> Option<Block> {
     }
 }
 
-fn block(alloc: Global, word: &str) -> Result<Block, LineFault> {
-    match block_of(word) {
-        Some(block) => Ok(block),
-        None => Err(LineFault::Value(format!(in alloc;
-            "invalid value '{word}': not a block such as 0-63"
-        )?)),
+/// Adds what the values of a word spell, of these.
+fn push_all<T: Spelled>(
+    alloc: Global,
+    all: &mut Vec<T>,
+    name: &str,
+    values: &[(String, String)],
+) -> Result<(), LineFault>
+    ensures { OnOk result (AddsSpelled T.spells all.old.items (values_of name.now values.now) all.new.items) }
+{
+    let [(word, value), more @ ..] = values else {
+        return Ok(());
+    };
+    if word.as_str() == name {
+        let it = T::of(alloc, value)?;
+        all.push(it).map_err(|_| LineFault::Memory)?;
     }
+    push_all(alloc, all, name, more)
 }
 
-/// The blocks of other controllers.
-fn blocks(alloc: Global, line: &CommandLine) -> Result<Vec<Block>, LineFault> {
-    let mut blocks = Vec::new(alloc);
-    for (word, value) in line.values.iter() {
-        if word.as_str() == "others" && blocks.push(block(alloc, value)?).is_err() {
-            return Err(LineFault::Memory);
-        }
-    }
-    Ok(blocks)
+/// What all values of a word spell.
+fn all<T: Spelled>(alloc: Global, line: &CommandLine, name: &str) -> Result<Vec<T>, LineFault>
+    ensures { IfOk result (λ all. AddsSpelled T.spells [] (values_of name.now line.now.values.items) all.items) }
+{
+    let mut all = Vec::new(alloc);
+    push_all(alloc, &mut all, name, &line.values)?;
+    Ok(all)
 }
 
-fn meets_any(own: Block, others: &[Block]) -> bool {
+/// What the value of a word spells, which `clap` has seen that it is there.
+fn one<T: Spelled>(alloc: Global, line: &CommandLine, name: &str) -> Result<T, LineFault>
+    ensures { IfOk result (T.spells (value_of name.now line.now.values.items)) }
+{
+    T::of(alloc, line.value(name).unwrap_or_default())
+}
+
+fn meets_any(own: Block, others: &[Block]) -> bool
+    ensures { result ≡ list_any (meets own) others.now }
+{
     others
         .iter()
         .any(|other| own.first <= other.last && other.first <= own.last)
 }
 
-/// The blocks of other controllers, none of which may have an address in common with the own one.
-fn other_blocks(alloc: Global, line: &CommandLine, own: Block) -> Result<Vec<Block>, LineFault> {
-    let others = blocks(alloc, line)?;
-    if meets_any(own, &others) {
-        conflict(
-            alloc,
-            "the block and that of another controller have an address in common",
-        )
-    } else {
-        Ok(others)
-    }
-}
-
-fn text(alloc: Global, line: &CommandLine, name: &str) -> Result<String, LineFault> {
-    Ok(String::from_str(alloc, line.value(name).unwrap_or_default())?)
-}
-
 /// How a run starts. The table has no other word, so that a further one is told and not taken for these.
-fn start(alloc: Global, line: &CommandLine) -> Result<Start, LineFault> {
-    match line.value("start") {
-        None | Some("survey") => Ok(Start::Survey),
-        Some("fresh") => Ok(Start::Fresh),
-        Some(_) => wrong_value(alloc, "a start is neither 'survey' nor 'fresh'"),
+fn start(alloc: Global, line: &CommandLine) -> Result<Start, LineFault>
+    ensures { IfOk result (IsStart line.now.values.items) }
+{
+    let word = line.value("start");
+    if word == Some("fresh") {
+        Ok(Start::Fresh)
+    } else if word.is_none() || word == Some("survey") {
+        Ok(Start::Survey)
+    } else {
+        wrong_value(alloc, "a start is neither 'survey' nor 'fresh'")
     }
 }
 
@@ -328,90 +391,35 @@ fn idle_passes(line: &CommandLine) -> u8
     }
 }
 
-/// What is asked for by `run`.
-fn setup(alloc: Global, line: &CommandLine) -> Result<Setup, LineFault> {
-    let block = block(alloc, line.value("block").unwrap_or_default())?;
-    let others = other_blocks(alloc, line, block)?;
+/// What is asked for by `run`, beside these blocks of other controllers, none of which may have an address in common
+/// with the own one.
+fn setup(alloc: Global, line: &CommandLine, others: &[Block]) -> Result<Setup, LineFault>
+    ensures { IfOk result (IsSetup line.now.values.items others.now) }
+{
+    let block = one(alloc, line, "block")?;
+    if meets_any(block, others) {
+        return conflict(
+            alloc,
+            "the block and that of another controller have an address in common",
+        );
+    }
     Ok(Setup {
-        records: text(alloc, line, "records")?,
         block,
-        others,
         start: start(alloc, line)?,
         idle_passes: idle_passes(line),
-        is_quiet: line.has("quiet"),
-        as_json: line.has("json"),
     })
-}
-
-/// What is asked for by `check`.
-fn bounds(alloc: Global, line: &CommandLine) -> Result<Bounds, LineFault> {
-    let others = blocks(alloc, line)?;
-    let records = match line.value("records") {
-        Some(name) => Some(String::from_str(alloc, name)?),
-        None => None,
-    };
-    Ok(Bounds {
-        records,
-        others,
-        as_json: line.has("json"),
-    })
-}
-
-/// The short address that is asked for by `identify` or `replace`.
-fn short(alloc: Global, line: &CommandLine) -> Result<Short, LineFault> {
-    match Short::of(line.number("address").unwrap_or(64)) {
-        Some(short) => Ok(short),
-        None => wrong_value(alloc, "not a short address"),
-    }
-}
-
-/// The names of the records, of which there may be as many as short addresses.
-fn names(alloc: Global, line: &CommandLine) -> Result<Vec<String>, LineFault> {
-    let mut names = Vec::new(alloc);
-    for (word, value) in line.values.iter() {
-        if word.as_str() == "records" && names.push(String::from_str(alloc, value)?).is_err() {
-            return Err(LineFault::Memory);
-        }
-    }
-    if names.len() > MOST_FILES {
-        return conflict(alloc, "a site has at most 64 files of records");
-    }
-    Ok(names)
-}
-
-fn short_of(word: &str) -> Option<Short> {
-    Short::of(word.parse().ok()?)
-}
-
-/// A luminaire that is known to be gone.
-fn gone(alloc: Global, word: &str) -> Result<Short, LineFault> {
-    match short_of(word) {
-        Some(short) => Ok(short),
-        None => Err(LineFault::Value(format!(in alloc;
-            "invalid value '{word}': not a short address, 0 to 63"
-        )?)),
-    }
-}
-
-/// The short addresses of luminaires that are known to be gone.
-fn missing(alloc: Global, line: &CommandLine) -> Result<Vec<Short>, LineFault> {
-    let mut missing = Vec::new(alloc);
-    for (word, value) in line.values.iter() {
-        if word.as_str() == "missing" && missing.push(gone(alloc, value)?).is_err() {
-            return Err(LineFault::Memory);
-        }
-    }
-    Ok(missing)
 }
 
 const ONE_FILE: &str = "\
-one file is named: where other controllers have files, name each by --records; where none has, say --only, or name \
-the block, as 0-31";
+one file is named: if other controllers have files, name each by --records; if none has, say --only, or name the \
+block, as 0-31";
 
 /// The block of the only file of records.
-fn only_block(alloc: Global, line: &CommandLine, files: usize) -> Result<Block, LineFault> {
+fn only_block(alloc: Global, line: &CommandLine, files: usize) -> Result<Block, LineFault>
+    ensures { IfOk result (IsOnlyBlock line.now.values.items files (first_of (codes "block") line.now.values.items)) }
+{
     match (line.value("block"), line.has("only")) {
-        (Some(word), _) if files == 1 => block(alloc, word),
+        (Some(word), _) if files == 1 => Block::of(alloc, word),
         (Some(_), _) => conflict(alloc, "a block is that of one file, and several are named"),
         (None, false) if files == 1 => conflict(alloc, ONE_FILE),
         (None, true) if files > 1 => {
@@ -421,22 +429,24 @@ fn only_block(alloc: Global, line: &CommandLine, files: usize) -> Result<Block, 
     }
 }
 
-/// What is asked for by `replace`.
-fn replacement(alloc: Global, line: &CommandLine) -> Result<Replacement, LineFault> {
-    let records = names(alloc, line)?;
-    let block = only_block(alloc, line, records.len())?;
+/// What is asked for by `replace`, in so many files of records.
+fn replacement(alloc: Global, line: &CommandLine, files: usize) -> Result<Replacement, LineFault>
+    ensures { IfOk result (IsReplacement line.now.values.items files) }
+{
+    if files > MOST_FILES {
+        return conflict(alloc, "a site has at most 64 files of records");
+    }
     Ok(Replacement {
-        short: short(alloc, line)?,
-        records,
-        missing: missing(alloc, line)?,
-        block,
+        block: only_block(alloc, line, files)?,
+        short: one(alloc, line, "address")?,
+        missing: all(alloc, line, "missing")?,
         is_again: line.has("again"),
-        is_quiet: line.has("quiet"),
-        as_json: line.has("json"),
     })
 }
 
-fn form(line: &CommandLine) -> TableForm {
+fn form(line: &CommandLine) -> TableForm
+    ensures { IsForm line.now.values.items result }
+{
     if line.has("csv") {
         TableForm::Csv
     } else if line.has("json") {
@@ -446,20 +456,43 @@ fn form(line: &CommandLine) -> TableForm {
     }
 }
 
+/// What is to be done, with so many files of records, beside these blocks of other controllers.
+fn task_of(
+    alloc: Global,
+    line: &CommandLine,
+    files: usize,
+    others: &[Block],
+) -> Result<Task, LineFault>
+    ensures { IfOk result (IsTask (string_bytes line.now.subcommand) line.now.values.items others.now files) }
+{
+    match line.subcommand.as_str() {
+        "run" => Ok(Task::Run(setup(alloc, line, others)?)),
+        "check" => Ok(Task::Check),
+        "identify" => Ok(Task::Identify(one(alloc, line, "address")?)),
+        "table" => Ok(Task::Table(form(line))),
+        "replace" => Ok(Task::Replace(replacement(alloc, line, files)?)),
+        _ => no_task(alloc),
+    }
+}
+
 /// What a line asks for.
-pub(crate) fn task_of(alloc: Global, line: &CommandLine) -> Result<Task, LineFault> {
+pub(crate) fn asked_of(alloc: Global, line: &CommandLine) -> Result<Asked, LineFault>
+    ensures { IfOk result (IsAsked (string_bytes line.now.subcommand) line.now.values.items) }
+{
     if line.value("driver").is_some() || line.value("driver-timeout").is_some() {
         return conflict(
             alloc,
             "a driver is started by the launcher, ./dali_commission",
         );
     }
-    match line.subcommand.as_str() {
-        "run" => Ok(Task::Run(setup(alloc, line)?)),
-        "check" => Ok(Task::Check(bounds(alloc, line)?)),
-        "identify" => Ok(Task::Identify(short(alloc, line)?, line.has("json"))),
-        "table" => Ok(Task::Table(text(alloc, line, "records")?, form(line))),
-        "replace" => Ok(Task::Replace(replacement(alloc, line)?)),
-        _ => no_task(alloc),
-    }
+    let records: Vec<String> = all(alloc, line, "records")?;
+    let others: Vec<Block> = all(alloc, line, "others")?;
+    let task = task_of(alloc, line, records.len(), &others)?;
+    Ok(Asked {
+        as_json: line.has("json") && !matches!(task, Task::Table(_)),
+        is_quiet: line.has("quiet"),
+        task,
+        records,
+        others,
+    })
 }

@@ -16,19 +16,19 @@ pub enum ReplaceRefusal {
     #[error("the tables disagree about this short address")]
     Disagree,
     /// It cannot be told in whose block the short address lies.
-    #[error("whose block has this short address cannot be told: not one of the files alone has reserved it")]
+    #[error("it is not clear whose block has this short address: exactly one of the files must have reserved it")]
     NoGiver,
     /// It is said to be missing, and no table has it, or it is the one that is replaced.
-    #[error("it is said to be missing, and no table has it, or it is to be replaced")]
+    #[error("--missing names it, but no table has it, or it is the one to be replaced")]
     NotMissing,
     /// A new file lies there that reserves another short address.
-    #[error("a new file lies there that is of another replacement: finish that first, or begin anew by --again")]
+    #[error("a new file of another replacement lies there: finish that first, or begin anew with --again")]
     OtherNew,
     /// Gear answers to the short address.
-    #[error("somebody answers to it: the old luminaire is still there")]
+    #[error("a gear answers at it: the old luminaire is still there")]
     Answered,
     /// Another gear of a table does not answer, or another one answers there.
-    #[error("a luminaire of the tables is not there as recorded; one that is known to be gone is named by --missing")]
+    #[error("a luminaire of the tables is not there as recorded; if it is known to be gone, name it by --missing")]
     NotThere,
     /// No gear without short address was found.
     #[error("no luminaire without short address was found")]
@@ -40,16 +40,16 @@ pub enum ReplaceRefusal {
     #[error("it is not clear whether one luminaire alone has no short address: call again")]
     UnclearNew,
     /// The new gear did not get the short address.
-    #[error("the new luminaire has not got it")]
+    #[error("the new luminaire did not get it")]
     NotGiven,
     /// The gear that the new tables have there does not answer.
-    #[error("the new luminaire does not answer to it")]
+    #[error("the new luminaire does not answer at it")]
     NewSilent,
     /// Another one answers.
-    #[error("another luminaire answers to it than the new one")]
+    #[error("another luminaire than the new one answers at it")]
     AnotherAnswers,
     /// Several answer together, or something answers that tells no random address.
-    #[error("several luminaires answer to it, or the bus is disturbed")]
+    #[error("several luminaires answer at it, or the bus is disturbed")]
     SeveralAnswer,
     /// The new tables lack something.
     #[error("a new table would lack something that an old one has")]
@@ -91,7 +91,7 @@ impl ReplaceRefusal {
     /// What can be done about it, if the text does not say so.
     pub fn advice(self) -> &'static str {
         if self.is_of_bus() {
-            ": call again when the new one alone answers, or begin anew by --again"
+            ": call again when the new one alone answers, or begin anew with --again"
         } else {
             ""
         }

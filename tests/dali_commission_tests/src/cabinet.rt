@@ -1,6 +1,6 @@
 //! Files of records and journals in memory, for the program.
 
-use dali_commission_program::{Actor, Borrower, Failure, Holder, StoreFault, Stores};
+use dali_commission_program::{Actor, Borrower, Failure, Holder, Seen, StoreFault, Stores};
 use dali_frame::{Random24, Short};
 use dali_reserve::{Keep, KeepError, MemoryKeep};
 use dali_script::{Block, Kept, Record};
@@ -170,23 +170,25 @@ impl Cabinet {
     }
 }
 
-impl Stores for Cabinet {
+impl Stores for &Cabinet {
+    ghost made = { λ _ _ _. Unit {0} };
+
     fn has(&self, name: &str) -> bool {
         self.place(name).is_some()
     }
 
-    fn lend<B: Borrower>(&self, name: &str, block: Block, borrower: B) -> Result<B::Out, Failure> {
-        let mut store = self.opened(name, block)?;
+    fn lend<B: Borrower>(&mut self, seen: &Seen<'_>, borrower: B) -> Result<B::Out, Failure> {
+        let mut store = self.opened(seen.name(), seen.block())?;
         let done = borrower.take(&mut store);
         if let Ok(kept) = store.read() {
             if let Ok(records) = records_of(self.alloc, &kept) {
-                self.put(name, Lying::Records(records));
+                self.put(seen.name(), Lying::Records(records));
             }
         }
         done
     }
 
-    fn lend_copy<B: Borrower>(&self, name: &str, borrower: B) -> Result<B::Out, Failure> {
+    fn lend_copy<B: Borrower>(&self, name: &str, _: &str, borrower: B) -> Result<B::Out, Failure> {
         borrower.take(&mut self.opened(name, Block::ALL)?)
     }
 
@@ -194,8 +196,8 @@ impl Stores for Cabinet {
         String::from_str(alloc, name).map_err(|_| REFUSED)
     }
 
-    fn hold<H: Holder>(
-        &self,
+    fn hold<H: Holder<Self>>(
+        &mut self,
         alloc: Global,
         names: &[String],
         mut holder: H,
@@ -210,12 +212,12 @@ impl Stores for Cabinet {
                 return Err(REFUSED);
             }
         }
-        let due = holder.take(&all)?;
-        holder.then(due)
+        let due = holder.take(self, &all)?;
+        holder.then(self, due)
     }
 
-    fn alone<A: Actor>(&self, _name: &str, actor: A) -> Result<A::Out, Failure> {
-        actor.act()
+    fn alone<A: Actor<Self>>(&mut self, _name: &str, actor: A) -> Result<A::Out, Failure> {
+        actor.act(self)
     }
 
     fn text(&self, alloc: Global, name: &str) -> Result<Option<String>, Failure> {
@@ -233,7 +235,7 @@ impl Stores for Cabinet {
         Ok(None)
     }
 
-    fn write(&self, _alloc: Global, name: &str, text: &str) -> Result<(), Failure> {
+    fn write(&mut self, _alloc: Global, name: &str, text: &str) -> Result<(), Failure> {
         self.spend()?;
         if self.has_written(name, text) {
             Ok(())
@@ -242,7 +244,7 @@ impl Stores for Cabinet {
         }
     }
 
-    fn rename(&self, _alloc: Global, from: &str, to: &str) -> Result<(), Failure> {
+    fn rename(&mut self, _alloc: Global, from: &str, to: &str) -> Result<(), Failure> {
         self.spend()?;
         match self.take(from) {
             Some(lying) => self.put(to, lying).ok_or(REFUSED),
@@ -250,9 +252,9 @@ impl Stores for Cabinet {
         }
     }
 
-    fn liken(&self, _name: &str, _to: &str) {}
+    fn liken(&mut self, _name: &str, _to: &str) {}
 
-    fn remove(&self, _alloc: Global, name: &str) -> Result<(), Failure> {
+    fn remove(&mut self, _alloc: Global, name: &str) -> Result<(), Failure> {
         self.spend()?;
         self.take(name);
         Ok(())

@@ -15,13 +15,13 @@ const BOTH_AGAIN: &[u8] = b"dali_commission replace 0 --records two.db --records
 fn ends_over<R: Abort + AllocGlobal>(
     rt: &R,
     words: &[u8],
-    cabinet: &Cabinet,
+    mut cabinet: &Cabinet,
     bus: &Bus,
     wanted: u8,
     said: &str,
 ) {
     let room = Room::new(rt.alloc(), words, bus);
-    let status = match run_and_say(&room, cabinet, false) {
+    let status = match run_and_say(&room, &mut cabinet, false) {
         Ok(()) => 0,
         Err(failure) => failure.status(),
     };
@@ -134,7 +134,7 @@ fn a_replacement_goes_on_after_each_step_that_fails(rt: HostRuntime) {
         );
         cabinet.limit(None);
         let said = if left < 2 {
-            "an earlier call is gone on with\n"
+            "going on with what an earlier call began\n"
         } else {
             "short address 0: the files that an earlier call began to exchange are exchanged now\n"
         };
@@ -183,9 +183,10 @@ fn not_exactly_one_new_luminaire_is_refused(rt: HostRuntime) {
         &cabinet,
         &bus,
         11,
-        "short address 0: the new luminaire has not got it: call again when the new one alone answers, or begin anew",
+        "short address 0: the new luminaire did not get it: call again when the new one alone answers, or begin anew",
     );
-    let _ = cabinet.remove(rt.alloc(), "site.db.new");
+    let mut places = &cabinet;
+    let _ = places.remove(rt.alloc(), "site.db.new");
     bus.switch(with(&rt, &bus, 0), true);
     ends_over(
         &rt,
@@ -193,7 +194,7 @@ fn not_exactly_one_new_luminaire_is_refused(rt: HostRuntime) {
         &cabinet,
         &bus,
         11,
-        "short address 0: somebody answers to it",
+        "short address 0: a gear answers at it",
     );
     assert!(rt; cabinet.count() == 2);
 }
@@ -259,7 +260,7 @@ fn a_new_file_that_has_all_is_gone_on_with(rt: HostRuntime) {
         &cabinet,
         &bus,
         11,
-        "finish that first, or begin anew by --again",
+        "finish that first, or begin anew with --again",
     );
     cabinet.limit(None);
     ends_over(
@@ -268,7 +269,7 @@ fn a_new_file_that_has_all_is_gone_on_with(rt: HostRuntime) {
         &cabinet,
         &bus,
         0,
-        "an earlier call is gone on with\n0 ",
+        "going on with what an earlier call began\n0 ",
     );
     assert!(rt; has_first(&bus));
     ends_over(
@@ -303,21 +304,21 @@ fn what_an_earlier_call_has_given_must_answer(rt: HostRuntime) {
             false,
             false,
             false,
-            "the new luminaire does not answer to it",
+            "the new luminaire does not answer at it",
         ),
         (
             false,
             false,
             true,
-            "the new luminaire does not answer to it",
+            "the new luminaire does not answer at it",
         ),
         (
             false,
             true,
             false,
-            "another luminaire answers to it than the new one",
+            "another luminaire than the new one answers at it",
         ),
-        (true, true, false, "several luminaires answer to it"),
+        (true, true, false, "several luminaires answer at it"),
     ] {
         bus.switch(2, is_new_on);
         bus.switch(old, is_old_on);

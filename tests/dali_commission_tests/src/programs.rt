@@ -13,12 +13,12 @@ type End<'a> = (u8, usize, &'a str);
 fn ends<R: Abort + AllocGlobal>(
     rt: &R,
     words: &[u8],
-    shelf: &Shelf<'_>,
+    mut shelf: &Shelf<'_>,
     answers: &str,
     end: End<'_>,
 ) {
     let desk = Desk::new(rt.alloc(), words, answers);
-    let status = match run_and_say(&desk, shelf, false) {
+    let status = match run_and_say(&desk, &mut shelf, false) {
         Ok(()) => 0,
         Err(failure) => failure.status(),
     };
@@ -113,7 +113,7 @@ fn words_that_ask_for_nothing_are_refused(rt: HostRuntime) {
 }
 
 /// What is said last if no gear was heard.
-const NOBODY: &str = "nobody answered: is the interface connected, is the bus powered?\n";
+const NOBODY: &str = "no gear answered: is the interface connected, is the bus powered?\n";
 
 #[test]
 fn a_bus_on_which_nobody_answers_is_told(rt: HostRuntime) {
@@ -180,7 +180,7 @@ fn a_survey_leaves_alone_who_does_not_tell_its_random_address(rt: HostRuntime) {
 }
 
 const LEFT_ALONE: &str = "\
-0 - somebody answers whose random address was not heard; left alone
+0 - a gear answers, but its random address was not heard; left alone
 0 gear were enrolled, 0 are in the table; ";
 
 /// What is said of one run that found no gear.
@@ -367,7 +367,7 @@ fn a_check_tells_of_gear_without_short_address(rt: HostRuntime) {
         assert!(rt; heard.push_str(asked).is_ok());
         ends(&rt, CHECK, &Shelf::of(&five), &heard, (1, frames, said));
         let desk = Desk::new(rt.alloc(), words, &heard);
-        assert!(rt; run_and_say(&desk, &Shelf::of(&five), false).is_err());
+        assert!(rt; run_and_say(&desk, &mut &Shelf::of(&five), false).is_err());
         let put =
             "put 3 A100 tell\nput 1 A5FF tell pair 1\nput 1 A5FF tell pair 2\nput 3 B1FF tell\nput 1 B5FF tell\n\
             put 1 B3FF tell\nput 1 A900 ask\nput 1 A900 ask\nput 1 A900 ask\nput 3 A100 tell\n\
@@ -397,7 +397,7 @@ fn what_a_check_found_is_an_object_of_json(rt: HostRuntime) {
     let heard = answers(&rt, first, 576);
     let records = [(1, 0, 0x123456), (2, 0, 0x123456), (2, 5, 0xABCDEF)];
     let desk = Desk::new(rt.alloc(), words, &heard);
-    assert!(rt; run_and_say(&desk, &Shelf::of(&records), false).is_err());
+    assert!(rt; run_and_say(&desk, &mut &Shelf::of(&records), false).is_err());
     assert!(rt;
         desk.has_written(
             "{\"end\":\"not-as-recorded\",\"status\":1,\"frames\":586,\"enrolled\":0,\"table\":[\
@@ -413,7 +413,7 @@ fn what_a_run_came_to_is_an_object_of_json(rt: HostRuntime) {
     let words = b"dali_commission run --records site.db --idle-passes 1 --json 0-63";
     let heard = answers(&rt, "byte 12\nbyte 34\nbyte 56\ndamaged\n", 415);
     let desk = Desk::new(rt.alloc(), words, &heard);
-    assert!(rt; run_and_say(&desk, &Shelf::of(&[]), false).is_ok());
+    assert!(rt; run_and_say(&desk, &mut &Shelf::of(&[]), false).is_ok());
     assert!(rt;
         desk.has_written(
             "\"enrolled\":1,\"table\":[{\"address\":0,\"random\":\"123456\",\"given\":false}],\
@@ -423,7 +423,7 @@ fn what_a_run_came_to_is_an_object_of_json(rt: HostRuntime) {
     assert!(rt; desk.has_written("{\"end\":\"all-found\",\"status\":0,\"frames\":"));
     let refused = Desk::new(rt.alloc(), words, "");
     let shelf = Shelf::refused(StoreFault::Locked);
-    assert!(rt; run_and_say(&refused, &shelf, false).is_err());
+    assert!(rt; run_and_say(&refused, &mut &shelf, false).is_err());
     assert!(rt;
         refused.has_written(
             "{\"end\":\"records\",\"status\":5,\"frames\":0,\"enrolled\":0,\"table\":[],"
@@ -440,7 +440,7 @@ fn a_table_has_what_is_enrolled(rt: HostRuntime) {
         ),
         (
             b"dali_commission table --records site.db --csv".as_slice(),
-            "address,random\n5,123456\n7,ABCDEF\n",
+            "address,random\n5,0x123456\n7,0xABCDEF\n",
         ),
         (
             b"dali_commission table --records site.db --json".as_slice(),
@@ -449,7 +449,7 @@ fn a_table_has_what_is_enrolled(rt: HostRuntime) {
     ] {
         let desk = Desk::new(rt.alloc(), words, "");
         let shelf = Shelf::of(&FIVE);
-        assert!(rt; run_and_say(&desk, &shelf, false).is_ok());
+        assert!(rt; run_and_say(&desk, &mut &shelf, false).is_ok());
         assert!(rt; desk.has_written(written));
         assert!(rt; shelf.enrolled() == Some(2));
     }
@@ -463,7 +463,7 @@ fn a_gear_shows_itself(rt: HostRuntime) {
     assert!(rt; heard.push_str("silence\nlapsed\nsilence\n").is_ok());
     // The driver ends while the gear is dark: the line that makes it bright is written all the same.
     let desk = Desk::new(rt.alloc(), words, &heard);
-    assert!(rt; run_and_say(&desk, &Shelf::of(&[]), false).is_err());
+    assert!(rt; run_and_say(&desk, &mut &Shelf::of(&[]), false).is_err());
     assert!(rt;
         desk.has_written(
             "put 2 0AFE tell\nput 2 0A00 tell\nput 2 0A00 tell\nput 2 0AFE tell\nput 2 0AFE tell\n"
@@ -472,7 +472,7 @@ fn a_gear_shows_itself(rt: HostRuntime) {
     let whole = answers(&rt, "byte 12\n", 19);
     ends(&rt, words, &Shelf::of(&[]), &whole, (0, 20, ""));
     let nobody = answers(&rt, "", 9);
-    let said = "nobody answers to short address 5\n";
+    let said = "no gear answers at short address 5\n";
     ends(&rt, words, &Shelf::of(&[]), &nobody, (10, 9, said));
 }
 
@@ -495,7 +495,7 @@ fn what_a_gear_showed_is_an_object_of_json(rt: HostRuntime) {
         ),
     ] {
         let desk = Desk::new(rt.alloc(), words, heard);
-        let _ = run_and_say(&desk, &Shelf::of(&[]), false);
+        let _ = run_and_say(&desk, &mut &Shelf::of(&[]), false);
         assert!(rt; desk.has_written(text));
     }
 }
@@ -511,14 +511,13 @@ fn a_machine_says_why_it_gave_up_or_found_a_conflict(rt: HostRuntime) {
     ends(&rt, RUN, &Shelf::of(&[]), &lost, (7, 8, said));
     // The gear under short address 0 tells the random address that the table has under 5.
     let told = answers(&rt, "byte 12\nbyte 34\nbyte 56\n", 0);
-    let said =
-        "random address 123456: it answers to short address 0, and the table has it under 5\n";
+    let said = "random address 123456: it answers at short address 0, but the table has it at 5\n";
     ends(&rt, RUN, &Shelf::of(&FIVE), &told, (8, 3, said));
     // Addresses 0 to 4 are silent, and the gear under 5 tells another random address than the table has there.
     let mut other = answers(&rt, "", 15);
     assert!(rt; other.push_str("byte AA\nbyte BB\nbyte CC\n").is_ok());
     let said =
-        "short address 5: the gear with random address AABBCC answers, and the table has 123456 there\n";
+        "short address 5: a gear with random address AABBCC answers, but the table has 123456 there\n";
     ends(&rt, RUN, &Shelf::of(&FIVE), &other, (8, 18, said));
 }
 

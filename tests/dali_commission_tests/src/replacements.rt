@@ -28,13 +28,13 @@ const TWO: &[u8] = b"dali_commission replace 5 --records site.db --records two.d
 fn ends<R: Abort + AllocGlobal>(
     rt: &R,
     words: &[u8],
-    cabinet: &Cabinet,
+    mut cabinet: &Cabinet,
     answers: &str,
     wanted: u8,
     said: &str,
 ) {
     let desk = Desk::new(rt.alloc(), words, answers);
-    let status = match run_and_say(&desk, cabinet, false) {
+    let status = match run_and_say(&desk, &mut cabinet, false) {
         Ok(()) => 0,
         Err(failure) => failure.status(),
     };
@@ -105,7 +105,7 @@ fn words_that_do_not_go_together_are_refused(rt: HostRuntime) {
         ),
         (
             b"dali_commission replace 5 --records two.db".as_slice(),
-            "one file is named: where other controllers have files, name each by --records; where none has, say --only",
+            "one file is named: if other controllers have files, name each by --records; if none has, say --only",
         ),
         (
             b"dali_commission replace 5 --records site.db --records two.db --only".as_slice(),
@@ -147,23 +147,23 @@ fn files_that_do_not_fit_are_refused(rt: HostRuntime) {
         ),
         (
             b"dali_commission replace 5 --records site.db --only --missing 9".as_slice(),
-            "short address 9: it is said to be missing",
+            "short address 9: --missing names it, but no table has it",
         ),
         (
             b"dali_commission replace 5 --records site.db --only --missing 5".as_slice(),
-            "short address 5: it is said to be missing",
+            "short address 5: --missing names it, but no table has it",
         ),
         (
             b"dali_commission replace 5 --records site.db 6-9".as_slice(),
-            "short address 5: whose block",
+            "short address 5: it is not clear whose block",
         ),
         (
             b"dali_commission replace 5 --records two.db --records three.db".as_slice(),
-            "short address 5: whose block",
+            "short address 5: it is not clear whose block",
         ),
         (
             b"dali_commission replace 5 --records site.db --records four.db".as_slice(),
-            "short address 5: whose block",
+            "short address 5: it is not clear whose block",
         ),
         (
             b"dali_commission replace 5 --records site.db --records five.db".as_slice(),
@@ -214,7 +214,7 @@ fn files_that_do_not_fit_are_refused(rt: HostRuntime) {
         &cabinet,
         "",
         11,
-        "a new file lies there that is of another replacement",
+        "a new file of another replacement lies there",
     );
 }
 
@@ -230,16 +230,16 @@ fn a_bus_on_which_not_one_luminaire_alone_is_new_is_refused(rt: HostRuntime) {
         (
             "byte 12\nbyte 34\nbyte 56\nsilence\nsilence\nsilence\nsilence\nsilence\nsilence\n",
             11,
-            "somebody answers to it",
+            "a gear answers at it",
         ),
         // Once is no silence.
         (
             "silence\nsilence\nsilence\nsilence\nsilence\nsilence\nsilence\nsilence\nbyte 56\n",
             11,
-            "somebody answers to it",
+            "a gear answers at it",
         ),
         ("lapsed\n", 4, "end of input"),
-        (silence(&rt, "", 18).as_str(), 10, "nobody answered"),
+        (silence(&rt, "", 18).as_str(), 10, "no gear answered"),
         (silence(&rt, "", 9).as_str(), 4, "end of input"),
         (
             other.as_str(),
@@ -287,7 +287,7 @@ fn new_files_that_are_not_complete_are_refused(rt: HostRuntime) {
         &cabinet,
         silence(&rt, there.as_str(), 3000).as_str(),
         11,
-        "not replaced, no file of records was changed: short address 5: the new luminaire has not got it: call again",
+        "not replaced, no file of records was changed: short address 5: the new luminaire did not get it: call again",
     );
     // It has nothing but what it was given, so the next call asks again.
     assert!(rt; cabinet.is("site.db.new", &[(1, 5, 0x222222), (2, 7, 0xABCDEF)]));
@@ -399,7 +399,7 @@ fn a_swap_that_was_stopped_goes_on_or_is_taken_back(rt: HostRuntime) {
             let (status, said) = if is_seen {
                 (0, EXCHANGED)
             } else {
-                (11, "somebody answers to it")
+                (11, "a gear answers at it")
             };
             let cabinet = at(&rt, moment);
             ends(&rt, words, &cabinet, there.as_str(), status, said);
@@ -428,17 +428,17 @@ fn an_exchange_that_is_finished_says_what_the_bus_tells(rt: HostRuntime) {
         (
             silence(&rt, "", 9).as_str(),
             11,
-            "the new luminaire does not answer to it; see by check who answers",
+            "the new luminaire does not answer at it; check says which gear answer",
         ),
         (
             repeated(&rt, "", "byte 12\nbyte 34\nbyte 56\n", 3).as_str(),
             11,
-            "another luminaire answers to it than the new one; see by check",
+            "another luminaire than the new one answers at it; check says",
         ),
         (
             repeated(&rt, "", "damaged\n", 9).as_str(),
             11,
-            "several luminaires answer to it, or the bus is disturbed; see by check",
+            "several luminaires answer at it, or the bus is disturbed; check says",
         ),
         (
             silence(&rt, five.as_str(), 9).as_str(),
@@ -449,12 +449,12 @@ fn an_exchange_that_is_finished_says_what_the_bus_tells(rt: HostRuntime) {
         (
             six.as_str(),
             11,
-            "another luminaire answers to it than the new one; see by check",
+            "another luminaire than the new one answers at it; check says",
         ),
         (
             silence(&rt, then_seven(&rt, five.as_str()).as_str(), 9).as_str(),
             11,
-            "the new luminaire does not answer to it; see by check",
+            "the new luminaire does not answer at it; check says",
         ),
     ] {
         let cabinet = at(&rt, 3);
@@ -471,7 +471,7 @@ fn what_a_replacement_came_to_is_an_object_of_json(rt: HostRuntime) {
     let words = b"dali_commission replace 5 --records site.db --records two.db --json";
     let there = all_there(&rt);
     let finished = Desk::new(rt.alloc(), words, there.as_str());
-    assert!(rt; run_and_say(&finished, &at(&rt, 4), false).is_ok());
+    assert!(rt; run_and_say(&finished, &mut &at(&rt, 4), false).is_ok());
     assert!(rt;
         finished.has_written(
             "{\"end\":\"replaced\",\"status\":0,\"frames\":27,\"enrolled\":0,\"table\":[\
@@ -481,7 +481,7 @@ fn what_a_replacement_came_to_is_an_object_of_json(rt: HostRuntime) {
     );
     let gone = silence(&rt, "", 9);
     let unheard = Desk::new(rt.alloc(), words, gone.as_str());
-    assert!(rt; run_and_say(&unheard, &at(&rt, 4), false).is_err());
+    assert!(rt; run_and_say(&unheard, &mut &at(&rt, 4), false).is_err());
     assert!(rt;
         unheard.has_written(
             "{\"end\":\"not-confirmed\",\"status\":11,\"frames\":9,\"enrolled\":0,\"table\":[],"
@@ -515,7 +515,7 @@ fn what_a_replacement_came_to_is_an_object_of_json(rt: HostRuntime) {
         ),
     ] {
         let refused = Desk::new(rt.alloc(), words, heard);
-        assert!(rt; run_and_say(&refused, &two(&rt), false).is_err());
+        assert!(rt; run_and_say(&refused, &mut &two(&rt), false).is_err());
         assert!(rt; refused.has_written(text));
     }
 }
@@ -630,7 +630,7 @@ fn an_old_luminaire_that_is_back_is_seen_early(rt: HostRuntime) {
         &cabinet,
         old.as_str(),
         11,
-        "short address 5: another luminaire answers to it than the new one: call again when the new one alone",
+        "short address 5: another luminaire than the new one answers at it: call again when the new one alone",
     );
     assert!(rt; cabinet.is("site.db.new", &[(1, 5, 0x222222)]));
 }

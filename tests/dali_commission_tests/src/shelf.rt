@@ -1,6 +1,6 @@
 //! Records in memory under a name, for the program.
 
-use dali_commission_program::{Actor, Borrower, Failure, Holder, StoreFault, Stores};
+use dali_commission_program::{Actor, Borrower, Failure, Holder, Seen, StoreFault, Stores};
 use dali_frame::{Random24, Short};
 use dali_reserve::{Keep, KeepError, MemoryKeep};
 use dali_script::{Block, Record};
@@ -69,6 +69,19 @@ fn store_of(records: &[(u8, u8, u32)], block: Block) -> Option<MemoryKeep> {
 }
 
 impl Shelf<'_> {
+    /// Lends them to a controller with this block.
+    fn opened<B: Borrower>(&self, block: Block, borrower: B) -> Result<B::Out, Failure> {
+        if let Some(fault) = self.fault {
+            return Err(Failure::Store(fault));
+        }
+        let Some(mut store) = store_of(self.records, block) else {
+            return Err(Failure::Store(StoreFault::Store(KeepError::BadStore)));
+        };
+        let done = borrower.take(&mut store);
+        self.close(&mut store);
+        done
+    }
+
     /// Notes how many gear are enrolled.
     fn close(&self, store: &mut MemoryKeep) {
         if let (Ok(kept), Ok(mut enrolled)) = (store.read(), self.enrolled.try_borrow_mut()) {
@@ -77,27 +90,19 @@ impl Shelf<'_> {
     }
 }
 
-impl Stores for Shelf<'_> {
+impl Stores for &Shelf<'_> {
+    ghost made = { λ _ _ _. Unit {0} };
+
     fn has(&self, name: &str) -> bool {
         name == "site.db"
     }
 
-    fn lend<B: Borrower>(&self, _name: &str, block: Block, borrower: B) -> Result<B::Out, Failure> {
-        if let Some(fault) = self.fault {
-            return Err(Failure::Store(fault));
-        }
-        match store_of(self.records, block) {
-            Some(mut store) => {
-                let done = borrower.take(&mut store);
-                self.close(&mut store);
-                done
-            }
-            None => Err(Failure::Store(StoreFault::Store(KeepError::BadStore))),
-        }
+    fn lend<B: Borrower>(&mut self, seen: &Seen<'_>, borrower: B) -> Result<B::Out, Failure> {
+        self.opened(seen.block(), borrower)
     }
 
-    fn lend_copy<B: Borrower>(&self, name: &str, borrower: B) -> Result<B::Out, Failure> {
-        self.lend(name, Block::ALL, borrower)
+    fn lend_copy<B: Borrower>(&self, _: &str, _: &str, borrower: B) -> Result<B::Out, Failure> {
+        self.opened(Block::ALL, borrower)
     }
 
     fn place_of(&self, alloc: Global, name: &str) -> Result<String, Failure> {
@@ -106,11 +111,11 @@ impl Stores for Shelf<'_> {
 
     // Nothing is replaced here.
 
-    fn hold<H: Holder>(&self, _: Global, _: &[String], _: H) -> Result<H::Out, Failure> {
+    fn hold<H: Holder<Self>>(&mut self, _: Global, _: &[String], _: H) -> Result<H::Out, Failure> {
         Err(NONE)
     }
 
-    fn alone<A: Actor>(&self, _: &str, _: A) -> Result<A::Out, Failure> {
+    fn alone<A: Actor<Self>>(&mut self, _: &str, _: A) -> Result<A::Out, Failure> {
         Err(NONE)
     }
 
@@ -118,17 +123,17 @@ impl Stores for Shelf<'_> {
         Ok(None)
     }
 
-    fn write(&self, _: Global, _: &str, _: &str) -> Result<(), Failure> {
+    fn write(&mut self, _: Global, _: &str, _: &str) -> Result<(), Failure> {
         Err(NONE)
     }
 
-    fn rename(&self, _: Global, _: &str, _: &str) -> Result<(), Failure> {
+    fn rename(&mut self, _: Global, _: &str, _: &str) -> Result<(), Failure> {
         Err(NONE)
     }
 
-    fn liken(&self, _: &str, _: &str) {}
+    fn liken(&mut self, _: &str, _: &str) {}
 
-    fn remove(&self, _: Global, _: &str) -> Result<(), Failure> {
+    fn remove(&mut self, _: Global, _: &str) -> Result<(), Failure> {
         Err(NONE)
     }
 }

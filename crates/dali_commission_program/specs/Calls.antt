@@ -1,0 +1,15 @@
+use Rattle.std.specs.Prelude.{◌≡◌, ℕ, List, [], ◌∷◌}
+
+-- A CALL OF THE PLACES where records are kept, which changes something there, with its names: a
+-- text was written, what has one name was given another one, or the rights of another one, or was
+-- removed
+pub data Call : Type 0 where
+  Wrote : List ℕ → List ℕ → Call
+  Renamed : List ℕ → List ℕ → Call
+  Likened : List ℕ → List ℕ → Call
+  Removed : List ℕ → Call
+
+-- these calls were made, in this order and no other, by what tells that one was
+abbrev pub AreMade : {F : Type 0} → (F → F → Call → Type 0) → List Call → F → F → Type 0
+AreMade made [] x y = x ≡ y
+AreMade made (call ∷ more) x y = (z : _) × made x z call × AreMade made more z y
