@@ -30,8 +30,8 @@ pub placed : {F : Type 0} (made : F → F → Call → Type 0) (swap : Swap) (st
     → made x z (Likened new like) → made z y (Renamed from name) → IsDone made swap step x y
 placed made swap step i number name new like from x z y is named same lies kept away first second =
     let likened : made x z (Likened (new_at name) (kept_at name (number_of swap))) =
-        subst (λ (a : List ℕ). made x z (Likened (new_at name) a)) (kept ∙ ap (λ (n : ℕ). kept_at name n) same)
-        (subst (λ (a : List ℕ). made x z (Likened a like)) lies first) in
+    subst (λ (a : List ℕ). made x z (Likened (new_at name) a)) (kept ∙ ap (λ (n : ℕ). kept_at name n) same)
+    (subst (λ (a : List ℕ). made x z (Likened a like)) lies first) in
     let renamed : made z y (Renamed (new_at name) name) = subst (λ (a : List ℕ). made z y (Renamed a name)) away second in
     subst (λ (s : Step). IsDone made swap s x y) (sym is) (name, [], named, (z, likened, (y, renamed, refl)))
 

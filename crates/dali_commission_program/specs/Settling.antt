@@ -67,6 +67,9 @@ IsSettled made swap x y true =
 IsSettled made swap x y false =
     (moment : ℕ) × (moment < count_of swap) × GoesBack made swap moment x y
 
--- its beginning: each journal is written, and nothing else is done
-abbrev pub IsAnnounced : {F : Type 0} → (F → F → Call → Type 0) → Swap → F → F → Type 0
-IsAnnounced made swap x y = (steps : List Step) × GoesOn made swap 0 (count_of swap) steps x y
+-- AN EXCHANGE: first each journal is written, and then it goes on to its end
+abbrev pub IsExchanged : {F : Type 0} → (F → F → Call → Type 0) → Swap → F → F → Type 0
+IsExchanged made swap x y =
+    (z : _)
+    × ((steps : List Step) × GoesOn made swap 0 (count_of swap) steps x z)
+    × IsSettled made swap z y true

@@ -11,7 +11,7 @@ use crate::progress::{Manner, Progress};
 use crate::records::{Filling, Reading, kept, lend, lend_copy};
 use crate::report::{Report, ended_said};
 use crate::said::{Said, say, say_refused};
-use crate::settling::{begin, found, free_aside, free_number, settle};
+use crate::settling::{exchange, found, free_aside, free_number};
 use crate::stores::{Borrower, Holder, StoreFault, Stores};
 use crate::tasks::Replacement;
 use dali_commissioning::{DriverLink, Ended, outside};
@@ -354,10 +354,7 @@ impl<S: Input + Print + Eprint + AllocGlobal, F: Stores> Holder<F> for Replacing
     /// Exchanges the files, and says which gear has the short address.
     fn then(self, stores: &mut F, due: DueSwap) -> Result<Confirmed, Failure> {
         let system = self.asking.system;
-        begin(system, stores, &due.swap)?;
-        if !settle(system, stores, &due.swap)? {
-            return Err(Failure::Unfinished);
-        }
+        exchange(system, stores, &due.swap)?;
         self.asking.say_confirmed(&due.confirmed, &due.news);
         let _ = say_kept(system, &due.swap);
         Ok(due.confirmed)

@@ -114,12 +114,19 @@ fn write_line<W: fmt::Write>(line: &&[u8], f: &mut fmt::Formatter<W>) -> fmt::Re
 }
 
 /// What stands under a short address.
-fn write_place<W: fmt::Write>(address: &u8, place: &Place, f: &mut fmt::Formatter<W>) -> fmt::Result {
+fn write_place<W: fmt::Write>(
+    address: &u8,
+    place: &Place,
+    f: &mut fmt::Formatter<W>,
+) -> fmt::Result {
     match *place {
         Place::NotAsked | Place::Nobody => write!(f, "{address} - "),
         Place::There(random) => write!(f, "{address} {random} there"),
         Place::Missing(random) => write!(f, "{address} {random} missing"),
-        Place::Another(random, heard) => write!(f, "{address} {random} another gear answers: {heard}"),
+        Place::Another(random, heard) => write!(
+            f,
+            "{address} {random} another gear answers: {heard}"
+        ),
         Place::Several(random) => write!(f, "{address} {random} several gear answer"),
         Place::Unclear(random) => write!(
             f,

@@ -3,7 +3,7 @@
 ghost use Rattle.std.specs.Prelude.{◌≡◌, List, IfOk, OnOk};
 ghost use Rattle.dali_replacement.specs.declared.swap.Step.{Step};
 ghost use Rattle.dali_commission_program.specs.Failures.{or_unfinished};
-ghost use Rattle.dali_commission_program.specs.Settling.{IsNamed, IsDone, GoesOn, GoesBack, IsSettled, IsAnnounced};
+ghost use Rattle.dali_commission_program.specs.Settling.{IsNamed, IsDone, GoesOn, GoesBack, IsSettled, IsExchanged};
 
 use crate::failure::{Failure, REFUSED};
 use crate::said::{Said, say, say_refused};
@@ -162,20 +162,6 @@ impl<S: Eprint + AllocGlobal, F: Stores> Actor<F> for Settling<'_, S> {
     }
 }
 
-/// Writes each journal: from then on the swap goes on to its end.
-pub(crate) fn begin<S: Eprint + AllocGlobal, F: Stores>(
-    system: &S,
-    stores: &mut F,
-    swap: &Swap,
-) -> Result<(), Failure>
-    ensures { OnOk result (IsAnnounced F.made swap.now stores.old stores.new) }
-{
-    or_stopped(
-        system,
-        goes_on(system.alloc(), stores, swap, 0, swap.count()),
-    )
-}
-
 /// The first journal that lies there.
 fn first_journal<F: Stores>(
     alloc: Global,
@@ -205,6 +191,23 @@ pub(crate) fn settle<S: Eprint + AllocGlobal, F: Stores>(
             .alone(&journal, settling)
             .map_err(|failure| say_refused(system, &journal, failure)),
         None => settling.act(stores),
+    }
+}
+
+/// Exchanges files: each journal is written first, and from then on the swap goes on to its end.
+pub(crate) fn exchange<S: Eprint + AllocGlobal, F: Stores>(
+    system: &S,
+    stores: &mut F,
+    swap: &Swap,
+) -> Result<(), Failure>
+    ensures { OnOk result (IsExchanged F.made swap.now stores.old stores.new) }
+{
+    let announced = goes_on(system.alloc(), stores, swap, 0, swap.count());
+    or_stopped(system, announced)?;
+    if settle(system, stores, swap)? {
+        Ok(())
+    } else {
+        Err(Failure::Unfinished)
     }
 }
 
