@@ -3,6 +3,7 @@
 import base64
 import json
 import os
+import select
 import subprocess
 import time
 import typing
@@ -54,6 +55,8 @@ class Browser:
 
     def message(self) -> dict[str, typing.Any]:
         while END not in self.heard:
+            if not select.select([self.back], [], [], PATIENCE)[0]:
+                raise Wrong(f"the browser says nothing for {PATIENCE} seconds")
             more = os.read(self.back, 1 << 20)
             if not more:
                 raise Wrong("the browser has ended")
