@@ -186,22 +186,21 @@ def work(jobs: list[Job], at_once: int, came: list[int]) -> None:
 # A night's check.
 
 
-def there_of(reports: list[dict[str, typing.Any]]) -> tuple[dict[str, int], set[int]]:
-    """Who answered to a check, by random address, and the short addresses at which it is not clear who does. Random addresses are drawn, so
-    two luminaires of a building may have one; on one bus they differ."""
-    there, unclear = {}, set()
-    for report in reports:
-        odd = {it["address"]: it["random"] if it["is"] in ("another", "stranger") else None for it in report["strangers"]}
-        gone = {*report["missing"], *odd}
-        there |= {it["random"]: it["address"] for it in report["table"] if it["address"] not in gone}
-        there |= {random: at for at, random in odd.items() if random}
-        unclear |= {at for at, random in odd.items() if not random}
-    return there, unclear
+def there_of(reports: list[dict[str, typing.Any]], others: list[str]) -> tuple[dict[str, int], set[int]]:
+    """Who answered to a check of all controllers, by random address, and the short addresses at which it is not clear who does. Addresses of
+    these blocks were not asked. Random addresses are drawn, so two luminaires of a building may have one; on one bus they differ."""
+    odd = {it["address"]: it["random"] if it["is"] in ("another", "stranger") else None for one in reports for it in one["strangers"]}
+    gone = {*odd, *(it for one in reports for it in one["missing"])}
+    for block in others:
+        first, last = map(int, block.split("-"))
+        gone |= set(range(first, last + 1))
+    there = {it["random"]: it["address"] for one in reports for it in one["table"] if it["address"] not in gone}
+    return there | {random: at for at, random in odd.items() if random}, {at for at, random in odd.items() if not random}
 
 
 def changes_of(job: Job, before: dict[str, int]) -> tuple[dict[str, int], list[dict[str, typing.Any]]]:
     """Who was there at a check, and what has changed on a bus since an earlier one."""
-    there, unclear = there_of(job.reports)
+    there, unclear = there_of(job.reports, job.entry.others)
     # Who was at an address at which it is not clear who answers has not gone for sure.
     there |= {random: at for random, at in before.items() if at in unclear and random not in there}
     names, found = places.read(places.file_of(job.entry.records[0][0])), []
