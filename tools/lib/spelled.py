@@ -24,7 +24,7 @@ ENUMS = {
     "Failure": ("crates/dali_commission_program/src/failure.rt",),
     "Fault": (ORDERS,),
     "Frame": ("crates/dali_wire/src/receiver.rt", "crates/dali_c/src/receivers.rt"),
-    "Half": ("crates/dali_sending/src/sending.rt", CODES),
+    "Half": ("crates/dali_script/src/sending.rt", CODES),
     "InitialisationState": ("crates/dali_gear/src/state.rt",),
     "Input": (ORDERS, CODES),
     "Kind": ("crates/dali_audit/src/findings.rt",),

@@ -6,8 +6,8 @@ use Rattle.dali_script.specs.declared.orders.Input.{Input}
 use Rattle.dali_script.specs.declared.orders.Input.TheVariants as input
 use Rattle.dali_script.specs.declared.orders.Due.{Due}
 use Rattle.dali_script.specs.declared.orders.Due.TheVariants as due
-use Rattle.dali_sending.specs.declared.sending.Half.{Half}
-use Rattle.dali_sending.specs.declared.sending.Half.TheVariants.{Whole, First, Second}
+use Rattle.dali_script.specs.declared.sending.Half.{Half}
+use Rattle.dali_script.specs.declared.sending.Half.TheVariants.{Whole, First, Second}
 
 -- THE CODES, as the header has them.
 

@@ -9,7 +9,7 @@ use Rattle.dali_script.specs.declared.finding.Finding.TheVariants.{Queried, Reso
 use Rattle.dali_script.specs.Records.{Assignment}
 use Rattle.dali_script.specs.declared.trace.Entry.{Entry}
 use Rattle.dali_script.specs.Names.{record_by, end_by, fault_by}
-use Rattle.dali_sending.specs.Sending.{half_in}
+use Rattle.dali_script.specs.Sending.{half_in}
 use Rattle.dali_c.specs.Codes.{bool_of, half_code}
 use Rattle.dali_c.specs.Pairs.{read_pair}
 use Rattle.dali_c.specs.declared.orders.PlainRecord.{PlainRecord}

@@ -5,8 +5,7 @@ ghost use Rattle.dali_script.specs.declared.orders.Input.TheVariants.{Heard};
 ghost use Rattle.dali_c.specs.Codes.{answer_of, input_of, bool_of, due_code, half_code};
 
 use dali_frame::Answer;
-use dali_script::{Due, Input};
-use dali_sending::Half;
+use dali_script::{Due, Half, Input};
 
 /// What was heard.
 pub(crate) fn answer_of(code: u8, byte: u8) -> Option<Answer>

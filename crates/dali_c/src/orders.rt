@@ -6,8 +6,7 @@ ghost use Rattle.dali_c.specs.Orders.{record_of, order_of, finding_of, HasNoMore
 use crate::codes::{bool_code, half_code};
 use crate::pairs::read_pair;
 use dali_frame::{Forward, Priority};
-use dali_script::{End, Entry, Fault, Finding, Order, Pair, Record};
-use dali_sending::half_in;
+use dali_script::{End, Entry, Fault, Finding, Order, Pair, Record, half_in};
 use dali_special::Command;
 
 /// A record: the code of its kind (`Record::code`), and its pair.

@@ -5,7 +5,7 @@ use Rattle.dali_script.specs.declared.block.Block.{Block}
 use Rattle.dali_script.specs.Records.{Kept}
 use Rattle.dali_commissioning.specs.declared.census.Reply.{Reply}
 use Rattle.dali_commissioning.specs.declared.census.Reply.TheVariants as reply
-use Rattle.dali_sending.specs.declared.sending.Half.TheVariants.{Whole}
+use Rattle.dali_script.specs.declared.sending.Half.TheVariants.{Whole}
 use Rattle.dali_commissioning.specs.Drivers.{Talk}
 use Rattle.dali_commissioning.specs.Census.{query_at, answer_told, IsPut, IsAsked, reply_of, reply_heard, reply_told, joined_if, one_if, AreAsked, reply_after}
 use Rattle.dali_commissioning.specs.Census.{whole_of, IsAnswered, AreLost, lost_after, IsGivenUp, IsCounted, AreCounted}

@@ -12,8 +12,8 @@ use Rattle.dali_script.specs.Due.{accepts}
 use Rattle.dali_script.specs.declared.orders.Due.TheVariants as due
 use Rattle.dali_script.specs.declared.orders.Input.{Input}
 use Rattle.dali_script.specs.declared.orders.Input.TheVariants.{Start, Survey, Heard, Destroyed, Lapsed, Committed, CommitFailed}
-use Rattle.dali_sending.specs.declared.sending.Half.{Half}
-use Rattle.dali_sending.specs.declared.sending.Half.TheVariants.{Whole, First, Second}
+use Rattle.dali_script.specs.declared.sending.Half.{Half}
+use Rattle.dali_script.specs.declared.sending.Half.TheVariants.{Whole, First, Second}
 use Rattle.dali_commissioning.specs.Lines.{asked_text, half_text, put_text, Says, told_text, told_of, IsByte}
 
 -- that a frame is read back from its four digits

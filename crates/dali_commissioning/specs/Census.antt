@@ -19,8 +19,8 @@ use Rattle.dali_script.specs.declared.trace.Entry.{Entry}
 use Rattle.dali_script.specs.declared.block.Block.{Block}
 use Rattle.dali_script.specs.Records.{Kept}
 use Rattle.dali_script.specs.Stages.{in_block}
-use Rattle.dali_sending.specs.declared.sending.Half.{Half}
-use Rattle.dali_sending.specs.declared.sending.Half.TheVariants.{Whole}
+use Rattle.dali_script.specs.declared.sending.Half.{Half}
+use Rattle.dali_script.specs.declared.sending.Half.TheVariants.{Whole}
 use Rattle.dali_commissioning.specs.declared.census.Reply.{Reply}
 use Rattle.dali_commissioning.specs.declared.census.Reply.TheVariants as reply
 use Rattle.dali_commissioning.specs.Drivers.{Talk}

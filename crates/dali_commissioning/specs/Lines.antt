@@ -10,8 +10,8 @@ use Rattle.dali_script.specs.declared.orders.Input.{Input}
 use Rattle.dali_script.specs.declared.orders.Input.TheVariants.{Start, Survey, Heard}
 use Rattle.dali_script.specs.declared.orders.Input.TheVariants.{Destroyed, Lapsed, Committed}
 use Rattle.dali_script.specs.declared.orders.Input.TheVariants.{CommitFailed}
-use Rattle.dali_sending.specs.declared.sending.Half.{Half}
-use Rattle.dali_sending.specs.declared.sending.Half.TheVariants.{Whole, First, Second}
+use Rattle.dali_script.specs.declared.sending.Half.{Half}
+use Rattle.dali_script.specs.declared.sending.Half.TheVariants.{Whole, First, Second}
 
 -- THE LINES between the program and its driver, each with a line feed at its end.
 

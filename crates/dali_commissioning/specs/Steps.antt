@@ -11,7 +11,7 @@ use Rattle.dali_script.specs.declared.orders.Order.TheVariants.{Put, Commit, Don
 use Rattle.dali_script.specs.Due.{due_after, accepts, record_ordered}
 use Rattle.dali_controller.specs.Machine.{Machine}
 use Rattle.dali_controller.specs.Orders.{IsAnswered, machine_after}
-use Rattle.dali_sending.specs.Sending.{half_of, opens}
+use Rattle.dali_script.specs.Sending.{half_of, opens}
 use Rattle.dali_commissioning.specs.Lines.{put_text, told_of}
 
 -- THE STEPS of a machine: what it was told, and what it ordered then. The last step stands first.

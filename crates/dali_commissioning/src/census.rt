@@ -5,7 +5,7 @@ ghost use Rattle.std.specs.List.{list_any};
 ghost use Rattle.dali_script.specs.declared.orders.Input.{Input};
 ghost use Rattle.dali_special.specs.declared.command.Command.TheVariants.{RandomByte};
 ghost use Rattle.dali_special.specs.Command.{frame_of};
-ghost use Rattle.dali_sending.specs.declared.sending.Half.TheVariants as half;
+ghost use Rattle.dali_script.specs.declared.sending.Half.TheVariants as half;
 ghost use Rattle.dali_commissioning.specs.Drivers.{talk_of};
 ghost use Rattle.dali_commissioning.specs.Census.{IsPut, answer_told, IsAsked, reply_of, reply_told};
 ghost use Rattle.dali_commissioning.specs.Census.{is_byte, is_silence, without_number};
@@ -18,8 +18,7 @@ use crate::driver::{DriverFault, DriverLink};
 use crate::fault::CommissionFault;
 use arrayvec::ArrayVec;
 use dali_frame::{Answer, Priority, Random24, Short};
-use dali_script::{Block, Input, Kept, Pair};
-use dali_sending::Half;
+use dali_script::{Block, Half, Input, Kept, Pair};
 use dali_special::{Command, Part};
 use std::io::{Read, Write};
 

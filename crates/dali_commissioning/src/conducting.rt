@@ -8,7 +8,7 @@ ghost use Rattle.dali_script.specs.Records.{Fits};
 ghost use Rattle.dali_script.specs.Due.{due_after, accepts, record_ordered};
 ghost use Rattle.dali_script.specs.declared.orders.Due.TheVariants as due;
 ghost use Rattle.dali_script.specs.declared.orders.Order.TheVariants.{Put};
-ghost use Rattle.dali_sending.specs.Sending.{opens};
+ghost use Rattle.dali_script.specs.Sending.{opens};
 ghost use Rattle.dali_commissioning.specs.Steps.{IsStep, if_heard, opened_by};
 ghost use Rattle.dali_commissioning.specs.Drivers.{writer_of, talk_of};
 ghost use Rattle.dali_commissioning.specs.Steps.{order_line, record_told, is_kept};
@@ -21,8 +21,7 @@ use crate::watch::Watch;
 use dali_controller::{Machine, Shorts, Tally};
 use dali_frame::{Forward, Priority};
 use dali_reserve::{Keep, KeepError};
-use dali_script::{End, Fault, Finding, Input, Order, Record};
-use dali_sending::{Half, half_of, opens};
+use dali_script::{End, Fault, Finding, Half, Input, Order, Record, half_of, opens};
 use std::io::{Read, Write};
 
 /// How a machine ended that was conducted.

@@ -10,7 +10,7 @@ ghost use Rattle.dali_script.specs.declared.records.Record.{Record};
 ghost use Rattle.dali_script.specs.Records.{Assignment, Kept};
 ghost use Rattle.dali_script.specs.Scripts.{Lawful};
 ghost use Rattle.dali_reserve.specs.Store.{IsReplay};
-ghost use Rattle.dali_sending.specs.declared.sending.Half.{Half};
+ghost use Rattle.dali_script.specs.declared.sending.Half.{Half};
 ghost use Rattle.dali_commissioning.specs.Lines.{put_text, Says, told_text, told_of, IsByte};
 ghost use Rattle.dali_commissioning.specs.Census.{AreHeard, entries_of, query_at};
 ghost use Rattle.dali_commissioning.specs.Unaddressed.{waking, withdrawing, comparing, ending, AreLawful};

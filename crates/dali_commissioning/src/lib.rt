@@ -20,7 +20,7 @@ pub use beginning::{Begun, Checked, begin, check, outside};
 pub use census::{Reply, ask, is_known, take_census};
 pub use conducting::{Ended, PassEnd, conduct};
 pub use dali_controller::{Passed, Tally};
-pub use dali_sending::Half;
+pub use dali_script::Half;
 pub use driver::{DriverFault, DriverLink};
 pub use fault::CommissionFault;
 pub use lighting::{light, light_at_last};

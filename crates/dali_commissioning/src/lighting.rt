@@ -2,15 +2,14 @@ ghost use Rattle.std.specs.Prelude.{◌≡◌, ◌*◌, IfOk, OnOk};
 ghost use Rattle.std.specs.Io.KnownBytes.{Appends};
 ghost use Rattle.dali_script.specs.declared.orders.Input.{Input};
 ghost use Rattle.dali_special.specs.Command.{frame};
-ghost use Rattle.dali_sending.specs.declared.sending.Half.TheVariants as half;
+ghost use Rattle.dali_script.specs.declared.sending.Half.TheVariants as half;
 ghost use Rattle.dali_commissioning.specs.Drivers.{talk_of, writer_of};
 ghost use Rattle.dali_commissioning.specs.Lines.{put_text};
 ghost use Rattle.dali_commissioning.specs.Census.{IsPut, is_sent};
 
 use crate::driver::{DriverFault, DriverLink};
 use dali_frame::{Forward, Priority, Short};
-use dali_script::Input;
-use dali_sending::Half;
+use dali_script::{Half, Input};
 use std::io::{Read, Write};
 
 /// Whether this tells that a frame was sent whole.

@@ -8,8 +8,7 @@ ghost use Rattle.dali_frame.specs.Hex.{byte_of};
 ghost use Rattle.dali_commissioning.specs.Lines.{asked_text, half_text, put_text, told_byte, told_of};
 
 use dali_frame::{Answer, Forward, Priority};
-use dali_script::Input;
-use dali_sending::Half;
+use dali_script::{Half, Input};
 use dali_special::Command;
 use std::alloc::AllocError;
 

@@ -10,8 +10,7 @@ ghost use Rattle.dali_commissioning.specs.Unaddressed.{asking, asking_beside, Ar
 use crate::driver::{DriverFault, DriverLink};
 use crate::fault::CommissionFault;
 use dali_frame::{Answer, Forward, Priority, Random24};
-use dali_script::Input;
-use dali_sending::Half;
+use dali_script::{Half, Input};
 use dali_special::{Command, Target};
 use std::io::{Read, Write};
 

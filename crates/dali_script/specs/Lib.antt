@@ -8,4 +8,5 @@ pub mod Findings
 pub mod Stages
 pub mod Laws
 pub mod Due
+pub mod Sending
 pub mod Names

@@ -3,8 +3,8 @@ use Rattle.std.specs.Prelude.{◌==◌, ◌&&◌, if◌then◌else◌}
 use Rattle.dali_frame.specs.declared.frames.Forward.{Forward}
 use Rattle.dali_special.specs.Command.{command_of, is_send_twice}
 use Rattle.dali_script.specs.declared.trace.Entry.{Entry}
-use Rattle.dali_sending.specs.declared.sending.Half.{Half}
-use Rattle.dali_sending.specs.declared.sending.Half.TheVariants.{Whole, First, Second}
+use Rattle.dali_script.specs.declared.sending.Half.{Half}
+use Rattle.dali_script.specs.declared.sending.Half.TheVariants.{Whole, First, Second}
 
 -- whether this frame is the one that waits for its second one
 abbrev pub is_open : Option Forward → Forward → Bool

@@ -1,8 +1,8 @@
 ghost use Rattle.std.specs.Prelude.{◌≡◌};
-ghost use Rattle.dali_sending.specs.Sending.{is_open, half_of, opens, half_in};
+ghost use Rattle.dali_script.specs.Sending.{is_open, half_of, opens, half_in};
 
+use crate::trace::Entry;
 use dali_frame::Forward;
-use dali_script::Entry;
 use dali_special::Command;
 
 /// Which frame of a pair a frame is. INITIALISE and RANDOMISE are executed only where they are sent twice within
