@@ -3,12 +3,16 @@
 ghost use Rattle.std.specs.Prelude.{◌≡◌, ◌↔◌, Some, Ok, codes, slice_get, IsErr, IsTrue, IfOk, MatchOption};
 ghost use Rattle.dali_grammar.specs.Numbers.{block_of, blocks_of};
 ghost use Rattle.dali_words.specs.Lines.{values_of};
+ghost use Rattle.dali_command_line.specs.declared.words.Task.TheVariants.{Replay};
+ghost use Rattle.dali_replay.specs.declared.form.Form.TheVariants.{Json, Text};
 
 use arrayvec::ArrayVec;
 use dali_events::PlanError;
 use dali_replay::{Form, block_of, plan_limit};
 use dali_threads::Setup;
-use dali_words::{CommandLine, LineFault, Program, Subcommand, Value, Word, WordKind, no_task};
+use dali_words::{
+    CommandLine, LineFault, Program, Subcommand, Value, Word, WordKind, no_task, wrong_value,
+};
 use std::alloc::Global;
 use std::str::FromStr;
 
@@ -22,7 +26,7 @@ pub enum Task {
 }
 
 const REPLAY: &str = "\
-Plays a script of what happens on a bench of gear or on a whole site, and reports what comes of each line.
+Plays a script of what happens on a bench of control gear or on a whole site, and reports what comes of each line.
 
 The script is read from standard input. Its first two lines set up the gear, the controllers and the numbers that gear
 draw; each further line is one event. The reports are written to standard output.";
@@ -40,15 +44,15 @@ Examples:
 The manual is README.md of the repository, and docs/FORMAT.md for each line that is read or written.";
 
 const THREADS: &str = "\
-Runs application controllers in threads of their own over one bus, and reports what became of the gear.
+Runs application controllers in threads of their own over one bus, and reports what became of the control gear.
 
 The gear come from the factory. Each controller searches them and gives them addresses of its block, until it ends or
 has had its turns. Standard input is not read. The report is written when all have ended, a line for
   controller C: END                        how each controller ended
-  gear G POWER STATE RANDOM SEARCH SHORT   each gear with its short address, or - where it has none
+  gear G POWER STATE RANDOM SEARCH SHORT   each gear with its short address, or - if it has none
   table C: A=RANDOM ..                     the gear that each controller enrolled, by address
   addressed K of N                         how many gear have a short address
-What the threads do when is open, so two runs of one command line may give different addresses.";
+The order in which the threads act is open, so two runs of one command line may give different addresses.";
 
 const AFTER_THREADS: &str = "\
 Example: dali_sim threads --gear 8 --seed 1 --turns 100000 0-15 16-31
@@ -67,7 +71,7 @@ const THREADS_WORDS: &[Word] = &[
         name: "gear",
         value: "N",
         help: "How many gear there are, 1 to 128",
-        kind: WordKind::Needed(Value::Text),
+        kind: WordKind::Needed(Value::Number32),
     },
     Word {
         name: "seed",
@@ -84,7 +88,7 @@ const THREADS_WORDS: &[Word] = &[
     Word {
         name: "survey",
         value: "",
-        help: "Each controller begins by a survey: it asks first who has a short address",
+        help: "Each controller begins by a survey: it first asks which gear have a short address",
         kind: WordKind::Flag,
     },
     Word {
@@ -96,7 +100,7 @@ const THREADS_WORDS: &[Word] = &[
     Word {
         name: "story",
         value: "",
-        help: "Writes the story of the run in the place of the report",
+        help: "Writes the story of the run instead of the report",
         kind: WordKind::Flag,
     },
     Word {
@@ -130,19 +134,6 @@ pub const PROGRAM: Program = Program {
         },
     ],
 };
-
-/// How many gear there are, as far as it is a number: a plan refuses one that is out of range, in the same words.
-fn gear_count(alloc: Global, line: &CommandLine) -> Result<u32, LineFault> {
-    match line.number("gear") {
-        Some(gear) => Ok(gear),
-        None => {
-            let text = line.value("gear").unwrap_or_default();
-            let limit = plan_limit(PlanError::GearCount);
-            let message = format!(in alloc; "invalid value '{text}' for '--gear <N>': {limit}")?;
-            Err(LineFault::Value(message))
-        }
-    }
-}
 
 fn not_a_block(alloc: Global, word: &str) -> Result<(u8, u8), LineFault>
     ensures { IsErr result }
@@ -188,12 +179,18 @@ where
 {
     match line.number(name) {
         Some(number) => Ok(number),
-        None => Err(LineFault::Value(format!(in alloc; "a number is required for '--{name}'")?)),
+        None => wrong_value(alloc, "a number is required"),
     }
 }
 
 /// What is to be run.
 fn setup(alloc: Global, line: &CommandLine) -> Result<Setup, LineFault>
+    ensures gear { IfOk result (λ setup. MatchOption (slice_get (values_of (codes "gear") line.now.values.items) 0) ⊥
+        (λ value. ⟦<u32 as FromStr>⟧.from_str_gives value (Ok setup.gear))) }
+    ensures seed { IfOk result (λ setup. MatchOption (slice_get (values_of (codes "seed") line.now.values.items) 0) ⊥
+        (λ value. ⟦<u64 as FromStr>⟧.from_str_gives value (Ok setup.seed))) }
+    ensures turns { IfOk result (λ setup. MatchOption (slice_get (values_of (codes "turns") line.now.values.items) 0) ⊥
+        (λ value. ⟦<u32 as FromStr>⟧.from_str_gives value (Ok setup.turns))) }
     ensures surveys { IfOk result (λ setup. IsTrue setup.surveys
         ↔ (slice_get (values_of (codes "survey") line.now.values.items) 0 ≡ Some (codes "true"))) }
     ensures blocks { IfOk result (λ setup.
@@ -204,7 +201,7 @@ fn setup(alloc: Global, line: &CommandLine) -> Result<Setup, LineFault>
         ↔ (slice_get (values_of (codes "story") line.now.values.items) 0 ≡ Some (codes "true"))) }
 {
     Ok(Setup {
-        gear: gear_count(alloc, line)?,
+        gear: number(alloc, line, "gear")?,
         seed: number(alloc, line, "seed")?,
         turns: number(alloc, line, "turns")?,
         surveys: line.has("survey"),
@@ -215,7 +212,12 @@ fn setup(alloc: Global, line: &CommandLine) -> Result<Setup, LineFault>
 }
 
 /// What a line asks for.
-pub fn task_of(alloc: Global, line: &CommandLine) -> Result<Task, LineFault> {
+pub fn task_of(alloc: Global, line: &CommandLine) -> Result<Task, LineFault>
+    ensures json { result ≡ Ok (Replay Json)
+        → slice_get (values_of (codes "json") line.now.values.items) 0 ≡ Some (codes "true") }
+    ensures text { result ≡ Ok (Replay Text)
+        → slice_get (values_of (codes "json") line.now.values.items) 0 ≡ Some (codes "true") → ⊥ }
+{
     match line.subcommand.as_str() {
         "replay" => Ok(Task::Replay(if line.has("json") {
             Form::Json

@@ -4,9 +4,8 @@
 #![tactic(auto)]
 
 use dali_command_line::run_and_say;
-use dali_console::exit_code;
 use std::process::ExitCode;
 
 fn main(rt: HostRuntime) -> ExitCode {
-    exit_code(run_and_say(&rt, &rt))
+    run_and_say(&rt, &rt)
 }

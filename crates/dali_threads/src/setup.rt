@@ -3,9 +3,11 @@
 ghost use Rattle.std.specs.Prelude.{◌≡◌};
 
 use arrayvec::ArrayVec;
+use dali_console::Failed;
+use dali_replay::plan_limit;
 use dali_world::PlanError;
 use std::alloc::AllocError;
-use thiserror::Error;
+use std::fmt;
 
 /// What is run: control gear, and application controllers, each with a block of short addresses.
 #[derive(Drop)]
@@ -27,26 +29,36 @@ pub struct Setup {
 }
 
 /// Why a run did not come to its report.
-#[derive(Clone, Copy, Debug, PartialEq, Eq, Error)]
+#[derive(Clone, Copy, Debug, PartialEq, Eq)]
 pub enum ThreadsFault {
     /// Status 2: the plan is refused. Nothing was drawn, run or written.
-    #[error("plan refused: {0}")]
     BadPlan(PlanError),
     /// Status 3: there is too little memory, or a thread cannot be made.
-    #[error("out of memory, or of threads")]
     Memory,
     /// Status 3: the output cannot be written.
-    #[error("the output cannot be written")]
     Write,
 }
 
-impl ThreadsFault {
+/// What is said of it on standard error: of a refused plan its limit too.
+impl fmt::Display for ThreadsFault {
+    fn fmt<W: fmt::Write>(&self, f: &mut fmt::Formatter<W>) -> fmt::Result {
+        match self {
+            ThreadsFault::BadPlan(error) => {
+                let limit = plan_limit(*error);
+                write!(f, "plan refused: {error}: {limit}")
+            }
+            ThreadsFault::Memory => f.write_str("out of memory, or of threads"),
+            ThreadsFault::Write => f.write_str("the output cannot be written"),
+        }
+    }
+}
+
+impl Failed for ThreadsFault {
     ghost use Rattle.dali_threads.specs.Setup.{status_of};
 
-    /// The exit status of the program: 2 for a refused plan, 3 for memory, threads or output that is refused.
-    pub fn status(&self) -> u8
-        ensures { result ≡ status_of self.now }
-    {
+    ghost status_of = { status_of };
+
+    fn status(&self) -> u8 {
         match self {
             ThreadsFault::BadPlan(_) => 2,
             ThreadsFault::Memory | ThreadsFault::Write => 3,

@@ -1,9 +1,8 @@
 //! `dali_sim`, played whole by its command line.
 
 use dali_command_line::run_and_say;
-use dali_console::Failed;
 use dali_desk::Desk;
-use std::process::Abort;
+use std::process::{Abort, ExitCode};
 use std::sync::Wait;
 use std::thread::Threads;
 
@@ -12,11 +11,7 @@ type End<'a> = (u8, &'a str, &'a str);
 
 /// The program at this desk ends so. Its threads run in the runtime of the test.
 fn ends_at<R: Abort + Threads + Wait + Sync>(rt: &R, desk: &Desk<'_>, end: End<'_>) {
-    let status = match run_and_say(desk, rt) {
-        Ok(()) => 0,
-        Err(failure) => failure.status(),
-    };
-    assert!(rt; status == end.0);
+    assert!(rt; run_and_say(desk, rt) == ExitCode::from(end.0));
     assert!(rt; desk.has_written(end.1));
     assert!(rt; desk.has_said(end.2));
 }
@@ -98,7 +93,7 @@ const BAD: [(&[u8], &str); 14] = [
     (b"dali_sim threads --gear -1 --seed 1 --turns 9 0-3", "'-1'"),
     (
         b"dali_sim threads --gear 4294967296 --seed 1 --turns 9 0-3",
-        "'4294967296' for '--gear <N>': a bus has 1 to 128 gear\n",
+        "'4294967296' for '--gear <N>'",
     ),
     (
         b"dali_sim threads --gear 1 --seed 18446744073709551616 --turns 9 0-3",
@@ -203,6 +198,27 @@ the form is `frame HHHH`\n",
             "replay: plan refused: GearCount: line 1, word 2: `0`: a bus has 1 to 128 gear\n",
         ),
     );
+}
+
+#[test]
+fn what_is_asked_for_is_written(rt: HostRuntime) {
+    let script = "bench 1\ndraws\nshow\n";
+    let text = "gear 0 on disabled FFFFFF FFFFFF -\n";
+    ends(&rt, b"dali_sim replay", script, (0, text, ""));
+    let json = "{\"line\":3,\"gear\":[{\"gear\":0,";
+    ends(&rt, b"dali_sim replay --json", script, (0, json, ""));
+    for (words, written) in [
+        (
+            b"dali_sim threads --gear 1 --seed 1 --turns 9 --json 0-3".as_slice(),
+            "],\"addressed\":",
+        ),
+        (
+            b"dali_sim threads --gear 1 --seed 1 --turns 9 --story 0-3".as_slice(),
+            "{\"story\":1,",
+        ),
+    ] {
+        ends(&rt, words, "", (0, written, ""));
+    }
 }
 
 #[test]
