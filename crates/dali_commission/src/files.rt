@@ -315,7 +315,7 @@ fn made(alloc: Global, name: &str, end: &str) -> Result<String, StoreFault> {
     format!(in alloc; "{name}{end}").map_err(|_| NO_MEMORY)
 }
 
-impl Stores for Files<'_> {
+impl<'a> Stores for Files<'a> {
     ghost made = { λ _ _ _. Unit {0} };
 
     fn has(&self, name: &str) -> bool {
