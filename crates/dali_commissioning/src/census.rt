@@ -75,8 +75,8 @@ fn without_number(high: Answer, middle: Answer, low: Answer) -> Reply
     }
 }
 
-/// What three answers spell.
-fn reply_of(high: Answer, middle: Answer, low: Answer) -> Reply
+/// What the answers to one question spell: of the high, the middle and the low byte.
+pub fn reply_of(high: Answer, middle: Answer, low: Answer) -> Reply
     ensures { result ≡ reply_of high middle low }
 {
     match (high, middle, low) {
@@ -233,7 +233,7 @@ fn is_in(block: Block, short: Short) -> bool
 }
 
 /// Whether a short address lies in one of some blocks.
-pub(crate) fn has_block(blocks: &[Block], short: Short) -> bool
+pub fn has_block(blocks: &[Block], short: Short) -> bool
     ensures { result ≡ list_any (λ b. in_block b short) blocks.now }
 {
     blocks.iter().any(|block| is_in(*block, short))

@@ -17,7 +17,7 @@ mod verdict;
 mod watch;
 
 pub use beginning::{Begun, Checked, begin, check, outside};
-pub use census::{Reply, ask, is_known, take_census};
+pub use census::{Reply, ask, has_block, is_known, reply_of, take_census};
 pub use conducting::{Ended, PassEnd, conduct};
 pub use dali_controller::{Passed, Tally};
 pub use dali_script::Half;
