@@ -1,0 +1,5 @@
+mod Sent
+mod Sparing
+mod Tabled
+mod Histories
+mod Kept

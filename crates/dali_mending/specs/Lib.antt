@@ -1,0 +1,4 @@
+pub mod Transactions
+pub mod Course
+pub mod Mending
+pub mod Rows

@@ -1,0 +1,342 @@
+//! The machine that mends one short address.
+
+ghost use Rattle.std.specs.Prelude.{◌≡◌, true, Some, MatchOption};
+ghost use Rattle.std.specs.List.{list_any};
+ghost use Rattle.dali_script.specs.Due.{accepts};
+ghost use Rattle.dali_script.specs.Stages.{in_block};
+ghost use Rattle.dali_script.specs.declared.orders.Due.TheVariants as due;
+ghost use Rattle.dali_commissioning.specs.Places.{random_at};
+ghost use Rattle.dali_mending.specs.Course.{IsCourse};
+ghost use Rattle.dali_mending.specs.Transactions.{frame_next};
+ghost use Rattle.dali_mending.specs.Mending.{is_heard, outcome_at, tells_apart, ascent_after, course_after};
+ghost use Rattle.dali_mending.specs.Mending.{IsSought, with_apart, is_added, left_after, spent_if};
+
+use crate::course::{Course, Outcome};
+use crate::stage::{Stage, answer_at};
+use arrayvec::ArrayVec;
+use dali_commissioning::{has_block, random_at, reply_of};
+use dali_frame::{Answer, Forward, Priority, Random24, Short};
+use dali_script::{Block, Entry, Half, Input, Kept, half_in};
+use dali_search::Ascent;
+use std::marker::Model;
+
+/// How many transactions may pass until a gear is told apart.
+const PATIENCE: u16 = 256;
+
+/// How often in a row a transaction may be lost.
+const LOST: u8 = 8;
+
+/// A frame that is to be put.
+#[derive(Clone, Copy)]
+pub struct Put {
+    /// 3 for the first frame of a transaction, 1 for each later one.
+    pub priority: Priority,
+    pub frame: Forward,
+    pub half: Half,
+}
+
+/// Whether a backward frame came, clean or damaged.
+fn is_heard(heard: Answer) -> bool
+    ensures { result ≡ is_heard heard }
+{
+    match heard {
+        Answer::Silence => false,
+        Answer::Byte(_) | Answer::Damaged => true,
+    }
+}
+
+/// The gear that a transaction has told apart from the one that keeps the short address, and which has lost it.
+fn tells_apart(stage: &Stage, entries: &[Entry]) -> Option<Random24>
+    ensures { result ≡ tells_apart stage.now entries.now }
+{
+    match *stage {
+        Stage::Erasing(random) => {
+            if is_heard(answer_at(entries, 7)) {
+                Some(random)
+            } else {
+                None
+            }
+        }
+        Stage::Asking(..)
+        | Stage::Drawing
+        | Stage::Beginning
+        | Stage::Left
+        | Stage::Searching(_)
+        | Stage::Keeping(..)
+        | Stage::Closing
+        | Stage::Ending(_)
+        | Stage::Ended(_) => None,
+    }
+}
+
+/// The search after a transaction.
+fn ascent_after(stage: &Stage, entries: &[Entry], ascent: &Ascent) -> Ascent
+    requires { IsSought stage.now ascent.now }
+    ensures { result ≡ ascent_after stage.now entries.now ascent.now }
+{
+    match *stage {
+        Stage::Left => Ascent::new(),
+        Stage::Searching(_) => {
+            let mut next = ascent.copy();
+            next.answer(is_heard(answer_at(entries, 3)));
+            next
+        }
+        Stage::Asking(..)
+        | Stage::Drawing
+        | Stage::Beginning
+        | Stage::Keeping(..)
+        | Stage::Erasing(_)
+        | Stage::Closing
+        | Stage::Ending(_)
+        | Stage::Ended(_) => ascent.copy(),
+    }
+}
+
+/// The course after a transaction; `ascent` is the search after it.
+fn course_after(short: Short, course: &Course, entries: &[Entry], ascent: &Ascent) -> Course
+    ensures { result ≡ course_after short course.now.stage course.now entries.now ascent.now }
+{
+    match course.stage {
+        Stage::Asking(last, times) => {
+            let (high, middle) = (answer_at(entries, 0), answer_at(entries, 1));
+            course.asked(last, times, reply_of(high, middle, answer_at(entries, 2)))
+        }
+        Stage::Drawing => course.at(Stage::Closing),
+        Stage::Beginning => course.at(Stage::Left),
+        Stage::Left => course.left(is_heard(answer_at(entries, 3)), ascent.probe()),
+        Stage::Searching(_) => course.searched(ascent.step(), ascent.probe()),
+        Stage::Keeping(random, times) => {
+            course.queried(short, random, times, answer_at(entries, 6))
+        }
+        Stage::Erasing(_) => course.erased(),
+        Stage::Closing => course.asked_anew(),
+        Stage::Ending(outcome) => course.at(Stage::Ended(outcome)),
+        Stage::Ended(_) => *course,
+    }
+}
+
+/// A gear that was told apart is added to those that were, if there is room. Whether one was.
+fn add(erased: &mut ArrayVec<Random24, 64>, apart: Option<Random24>) -> bool
+    ensures erased { erased.new.items ≡ with_apart erased.old.items apart }
+    ensures added { result ≡ is_added erased.old.items apart }
+{
+    match apart {
+        Some(random) => erased.try_push(random).is_ok(),
+        None => false,
+    }
+}
+
+/// How many transactions are left until a gear is told apart.
+fn left_after(left: u16, is_added: bool) -> u16
+    ensures { result ≡ left_after left is_added }
+{
+    if is_added {
+        PATIENCE
+    } else {
+        left.saturating_sub(1)
+    }
+}
+
+/// It ends if none is left.
+fn spent_if(left: u16, course: &Course) -> Course
+    ensures { result ≡ spent_if left course.now }
+{
+    if left == 0 { course.spent() } else { *course }
+}
+
+/// What mends one short address that several gear share.
+///
+/// How to drive it: put the frame that `put` says, and tell with `told` what came of it, until `outcome` says how it
+/// has ended. The frames from one at priority 3 to the last one before the next such are a transaction: no other
+/// controller's frame may come between.
+///
+/// Contracts see the short address, the course, the search, the frames of the running transaction, how often in a row
+/// it was lost, how many transactions are left until a gear is told apart, and those that were.
+#[derive(Drop)]
+pub struct Mending {
+    short: Short,
+    course: Course,
+    ascent: Ascent,
+    entries: ArrayVec<Entry, 8>,
+    lost: u8,
+    left: u16,
+    erased: ArrayVec<Random24, 64>,
+}
+
+impl Model for Mending {
+    ghost use Rattle.dali_mending.specs.Mending.{Mending, IsMending};
+
+    ghost Value = { Mending };
+
+    ghost view = { λ m. record {
+      short = m.short;
+      course = m.course;
+      ascent = m.ascent;
+      entries = m.entries.items;
+      lost = m.lost;
+      left = m.left;
+      erased = m.erased.items;
+    } };
+
+    ghost invariant = { λ m. IsMending (record {
+      short = m.short;
+      course = m.course;
+      ascent = m.ascent;
+      entries = m.entries.items;
+      lost = m.lost;
+      left = m.left;
+      erased = m.erased.items;
+    }) };
+}
+
+impl Mending {
+    ghost use Rattle.dali_mending.specs.Mending.{Mending, mending_begun, IsMending, put_next, told_to, finished};
+    ghost use Rattle.dali_mending.specs.Mending.{lost_once, heard_once};
+
+    /// The mending of a short address, for which a table has the gear with this random address, if it has one.
+    pub fn new(short: Short, table: Option<Random24>) -> Mending
+        ensures { result ≡ mending_begun short table }
+    {
+        Mending {
+            short,
+            course: Course::begun(table),
+            ascent: Ascent::new(),
+            entries: ArrayVec::new(),
+            lost: 0,
+            left: PATIENCE,
+            erased: ArrayVec::new(),
+        }
+    }
+
+    /// The mending of a short address by the table of all controllers. None if it lies in a block of others, whose
+    /// tables are not among them.
+    pub fn of(table: &Kept, others: &[Block], short: Short) -> Option<Mending>
+        ensures { MatchOption result (list_any (λ b. in_block b short) others.now ≡ true)
+            (λ m. m ≡ mending_begun short (random_at table.now.enrolled short)) }
+    {
+        if has_block(others, short) {
+            return None;
+        }
+        Some(Mending::new(short, random_at(table.enrolled(), short)))
+    }
+
+    /// The short address.
+    pub fn short(&self) -> Short
+        ensures { result ≡ self.now.short }
+    {
+        self.short
+    }
+
+    /// Where it is.
+    pub fn course(&self) -> Course
+        ensures value { result ≡ self.now.course }
+        ensures course { IsCourse self.now.course }
+    {
+        self.course
+    }
+
+    /// The random addresses of gear that have lost the short address, as they were told apart.
+    pub fn erased(&self) -> &[Random24]
+        ensures { result.now ≡ self.now.erased }
+    {
+        &self.erased
+    }
+
+    /// How it has ended; None as long as it goes on.
+    pub fn outcome(&self) -> Option<Outcome>
+        ensures { result ≡ outcome_at self.now.course.stage }
+    {
+        match self.course.stage {
+            Stage::Ended(outcome) => Some(outcome),
+            Stage::Asking(..)
+            | Stage::Drawing
+            | Stage::Beginning
+            | Stage::Left
+            | Stage::Searching(_)
+            | Stage::Keeping(..)
+            | Stage::Erasing(_)
+            | Stage::Closing
+            | Stage::Ending(_) => None,
+        }
+    }
+
+    fn frame_next(&self) -> Option<Forward>
+        ensures { result ≡ frame_next self.now.short self.now.course.stage self.now.entries }
+    {
+        self.course.stage.frame_next(self.short, &self.entries)
+    }
+
+    /// The frame that is to be put next; None once it has ended.
+    pub fn put(&self) -> Option<Put>
+        ensures { result ≡ put_next self.now }
+    {
+        let frame = self.frame_next()?;
+        let priority = if self.entries.is_empty() {
+            Priority::FIRST
+        } else {
+            Priority::LATER
+        };
+        Some(Put {
+            priority,
+            frame,
+            half: half_in(&self.entries, frame),
+        })
+    }
+
+    /// The transaction is over.
+    fn finish(&mut self)
+        ensures { self.new ≡ finished self.old }
+    {
+        let ascent = ascent_after(&self.course.stage, &self.entries, &self.ascent);
+        let course = course_after(self.short, &self.course, &self.entries, &ascent);
+        let apart = tells_apart(&self.course.stage, &self.entries);
+        let is_new = add(&mut self.erased, apart);
+        self.left = left_after(self.left, is_new);
+        self.course = spent_if(self.left, &course);
+        self.ascent = ascent;
+        self.entries.clear();
+        self.lost = 0;
+    }
+
+    /// A frame was sent, and this was heard after it.
+    #[tactic(auto, using(crate::proofs::Kept::next_is_few))]
+    fn heard(&mut self, frame: Forward, heard: Answer)
+        requires { frame_next self.old.short self.old.course.stage self.old.entries ≡ Some frame }
+        ensures { self.new ≡ heard_once self.old frame heard }
+    {
+        self.entries.push(Entry { frame, heard });
+        if self.frame_next().is_none() {
+            self.finish();
+        }
+    }
+
+    /// A frame was lost: the transaction begins again.
+    fn lose(&mut self)
+        ensures { self.new ≡ lost_once self.old }
+    {
+        self.entries.clear();
+        self.lost = self.lost.saturating_add(1);
+        if self.lost >= LOST {
+            self.course = self.course.at(Stage::Ended(Outcome::Lost));
+        }
+    }
+
+    /// It is told what came of the frame that was put. Once it has ended nothing changes.
+    pub fn told(&mut self, told: Input)
+        requires { accepts due.Bus told ≡ true }
+        ensures told { self.new ≡ told_to self.old told }
+    {
+        let Some(frame) = self.frame_next() else {
+            return;
+        };
+        match told {
+            Input::Heard(heard) => self.heard(frame, heard),
+            Input::Start
+            | Input::Survey
+            | Input::Destroyed
+            | Input::Lapsed
+            | Input::Committed
+            | Input::CommitFailed => self.lose(),
+        }
+    }
+}
