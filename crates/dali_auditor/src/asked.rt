@@ -18,7 +18,7 @@ pub enum Form {
 pub struct Asked<'a> {
     /// The name of the wire of a dump.
     pub wire: Option<&'a [u8]>,
-    /// Whether the bus is low where the wire is 1.
+    /// Whether the bus is low when the wire is 1.
     pub is_inverted: bool,
     pub form: Form,
 }

@@ -15,7 +15,7 @@ use std::{fs, io};
 /// How many bytes a file of records may have: some 3 million records.
 const MOST_BYTES: u64 = 64 * 1024 * 1024;
 
-/// How many bytes are tried where a store failed.
+/// How many bytes are tried when a store failed.
 const TRIED: usize = 8192;
 
 /// How often a file is read until two readings agree.
@@ -48,7 +48,7 @@ fn system_fault(kind: ErrorKind) -> StoreFault {
     }
 }
 
-/// What a refusal of the system is: its own error, where it is none of these.
+/// What a refusal of the system is: its own error, if it is none of these.
 fn refused_by(error: io::Error) -> StoreFault {
     match (system_fault(error.kind()), error.raw_os_error()) {
         (StoreFault::CannotOpen, Some(number)) => StoreFault::System(number),
@@ -66,7 +66,7 @@ fn copy_fault(error: CopyError) -> StoreFault {
     }
 }
 
-/// The bytes of a file, none where it is not there.
+/// The bytes of a file, none if it is not there.
 fn bytes(rt: &HostRuntime, name: &str) -> Result<Vec<u8>, StoreFault> {
     match fs::metadata(rt, name) {
         Ok(about) if !about.is_file() || about.len() > MOST_BYTES => Err(StoreFault::Foreign),
@@ -83,7 +83,7 @@ struct Lying {
     log: Vec<u8>,
 }
 
-/// The name of the log of a database: it lies beside the file itself, where a link leads to that.
+/// The name of the log of a database: it lies beside the file itself, if a link leads to that.
 fn log_of(rt: &HostRuntime, name: &str) -> Result<String, StoreFault> {
     match fs::canonicalize(rt, name) {
         Ok(path) => made(rt.alloc(), path.as_str(), "-wal"),
@@ -143,7 +143,7 @@ fn why_closed(rt: &HostRuntime, name: &str, error: Error) -> StoreFault {
     }
 }
 
-/// Why the system does not let a file be written, which is made where it is missing.
+/// Why the system does not let a file be written, which is made if it is missing.
 fn written_fault(rt: &HostRuntime, name: &str) -> StoreFault {
     let opened = fs::File::options()
         .read(true)
@@ -182,7 +182,7 @@ fn noted<S: Alter + Drop>(conn: Connection<S>) -> Result<(Connection<S>, Kept), 
 }
 
 /// Closes a database, and leaves its file alone, which stays locked as long as the files are there: what is in the log
-/// is copied into it, and the log is removed. It fails where not all was copied.
+/// is copied into it, and the log is removed. It fails if not all was copied.
 fn shut(
     rt: &HostRuntime,
     name: &str,
@@ -281,7 +281,7 @@ const STORE_FAILED: StoreFault = StoreFault::Store(KeepError::StoreFailed);
 
 const NO_MEMORY: StoreFault = StoreFault::Store(KeepError::NoMemory);
 
-/// Why a store failed, where the system says so of a file beside it: SQLite does not pass it on.
+/// Why a store failed, if the system says so of a file beside it: SQLite does not pass it on.
 fn why_failed(rt: &HostRuntime, name: &str, failure: Failure) -> Failure {
     if let Failure::Store(StoreFault::Store(KeepError::StoreFailed)) = failure {
         if let Ok(part) = made(rt.alloc(), name, ".part") {
@@ -319,7 +319,7 @@ impl<'a> Stores for Files<'a> {
     ghost made = { λ _ _ _. Unit {0} };
 
     fn has(&self, name: &str) -> bool {
-        // What it is that cannot be told, the opening says.
+        // The opening says what it is that cannot be told.
         fs::exists(self.rt, name).unwrap_or(true)
     }
 
@@ -400,7 +400,7 @@ impl<'a> Stores for Files<'a> {
     }
 
     fn rename(&mut self, alloc: Global, from: &str, to: &str) -> Result<(), Failure> {
-        // A log that somebody left there would be taken for that of the file.
+        // A log that was left there would be taken for that of the file.
         answered(removed(self.rt, &made(alloc, to, "-wal")?))?;
         answered(renamed(self.rt, from, to))
     }

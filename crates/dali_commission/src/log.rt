@@ -63,7 +63,7 @@ fn is_of(head: &[u8; HEAD], frame: &[u8]) -> bool
     frame[8..16] == head[16..24]
 }
 
-/// The checksum of a frame, where it holds behind that of the one before.
+/// The checksum of a frame, if it holds behind that of the one before.
 fn sum_after(head: &[u8; HEAD], before: (u32, u32), frame: &[u8]) -> Option<(u32, u32)>
     requires { 24 ≤ length frame.now }
 {

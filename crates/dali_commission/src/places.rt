@@ -38,7 +38,7 @@ fn led(alloc: Global, name: &str, to: &str) -> Result<String, AllocError> {
     }
 }
 
-/// The name under which a file lies, from the root on, whatever links lead there; it need not be there. Where its
+/// The name under which a file lies, from the root on, whatever links lead there; it need not be there. If its
 /// folder is not there, it is the name itself.
 pub(crate) fn place(rt: &HostRuntime, alloc: Global, name: &str) -> Result<String, AllocError> {
     let mut at = String::from_str(alloc, name)?;

@@ -60,8 +60,8 @@ HasBegun is_up is_sound holds block others wanted was keep x y start.Survey
     × (pass.ended ≡ Done AllFound → AreQuiet wanted runs)
 
 -- WHAT A RUN COMES TO that began so: gear that no record names are said, and nothing else is done
--- beside them; else it ends as the last machine did and by whether any gear was heard, or where
--- that cannot be told without success
+-- beside them; else it ends as the last machine did and by whether any gear was heard, or,
+-- if that cannot be told, without success
 abbrev pub ComesTo : Kept → List Block → Bool → Result Begun CommissionFault → List Said
     → Result (Unit {0}) Failure → Type 0
 ComesTo k others heard (Ok (begun.Addressed replies)) lines ended =

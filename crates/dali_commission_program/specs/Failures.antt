@@ -85,7 +85,7 @@ abbrev pub refused_name : Task → List (String Global) → Option (List ℕ)
 refused_name (task.Replace wanted) records = None
 refused_name _ records = option_map (λ name. string_bytes name) (slice_get records 0)
 
--- a result that cannot be written is a failure, where there was none before
+-- a result that cannot be written is a failure, if there was none before
 abbrev pub or_refused : Result (Unit {0}) Failure → Bool → Result (Unit {0}) Failure
 or_refused (Ok done) true = Ok done
 or_refused (Ok done) false = Err (Console Refused)
@@ -96,7 +96,7 @@ abbrev pub or_unfinished : {T : Type 0} → Result T Failure → Result T Failur
 or_unfinished (Ok it) = Ok it
 or_unfinished (Err failure) = Err Unfinished
 
--- what the end of the last machine is to the program: where no gear was heard it is none
+-- what the end of the last machine is to the program: if no gear was heard it is none
 abbrev pub ended_as : Ended → Bool → Result (Unit {0}) Failure
 ended_as (Done ends.AllFound) true = Ok tt
 ended_as (Done ends.AllFound) false = Err NobodyAnswered
@@ -105,7 +105,7 @@ ended_as (Done ends.GaveUp) heard = Err GaveUp
 ended_as (Halted faults.Conflict) heard = Err Conflict
 ended_as (Halted faults.Store) heard = Err (Store (store.Store StoreFailed))
 
--- WHAT A CHECK ENDS WITH: all is as recorded, and nobody is there who has no short address
+-- WHAT A CHECK ENDS WITH: all is as recorded, and no gear is there that has no short address
 abbrev pub checked : List Place → Bool → Bool → Result (Unit {0}) Failure
 checked places unaddressed false = Err NobodyAnswered
 checked places unaddressed true =

@@ -36,7 +36,7 @@ checked_said k places has_unaddressed =
     ++ said.Counted (length k.enrolled) (count_by (λ p. is_wanted which.Wrong p) places)
     (count_by (λ p. is_wanted which.Strange p) places) (length k.reserved) ∷ [])
 
--- of a run that was not begun: each place at which somebody answers whom no record names
+-- of a run that was not begun: each place at which a gear answers that no record names
 abbrev pub addressed_said : List Place → List Said
 addressed_said places = places_said which.Strange 0 places ++ said.Advice ∷ []
 

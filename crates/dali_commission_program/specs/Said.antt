@@ -27,7 +27,7 @@ use Rattle.dali_commission_program.specs.declared.said.Said.{Said}
 use Rattle.dali_commission_program.specs.declared.said.Said.TheVariants as said
 
 -- WHICH PLACES ARE SAID: those at which there is something; those at which a gear of the table is
--- not there, or others answer too; or those at which somebody answers whom no record names
+-- not there, or others answer too; or those at which a gear answers that no record names
 abbrev pub is_wanted : Which → Place → Bool
 is_wanted w place.NotAsked = false
 is_wanted w place.Nobody = false
@@ -100,7 +100,7 @@ with_gave_up lines tries tally aim =
     (if nat_lt tries 8 then with_passed_over lines tally.passed else lines)
     ++ gave_up_said tries tally aim ∷ []
 
--- WHY A MACHINE ENDED SO is said behind these lines, where it gave up or found a conflict
+-- WHY A MACHINE ENDED SO is said behind these lines, if it gave up or found a conflict
 abbrev pub with_line : List Said → Option Said → List Said
 with_line lines None = lines
 with_line lines (Some line) = lines ++ line ∷ []
@@ -128,7 +128,7 @@ WhySaidAt (Halted faults.Store) lines pass k aim new = new ≡ lines
 abbrev pub WhySaid : List Said → PassEnd → Kept → Aim → List Said → Type 0
 WhySaid lines pass k aim new = WhySaidAt pass.ended lines pass k aim new
 
--- A LINE OF THE DRIVER is said where it was refused
+-- A LINE OF THE DRIVER is said if it was refused
 abbrev pub wrote_said : Failure → Bor (List ℕ) → Option Said
 wrote_said (failure.Driver n BadLine) line = Some (said.Wrote line)
 wrote_said (failure.Driver n LongLine) line = Some (said.Wrote line)
@@ -136,7 +136,7 @@ wrote_said (failure.Driver n TornLine) line = Some (said.Wrote line)
 wrote_said _ line = None
 
 -- WHY THE PROGRAM ENDS: a bad command line `clap` has told; what is wrong with records has their
--- name, and where several names are in question, it was said before
+-- name, and if several names are in question, it was said before
 abbrev pub why_said : Failure → Option (Bor (List ℕ)) → Option Said
 why_said (failure.Console BadCommandLine) records = None
 why_said (failure.Store fault) (Some name) = Some (said.Refused name fault)

@@ -58,7 +58,7 @@ GoesBack made swap zero x y = x ≡ y
 GoesBack made swap (suc i) x y =
     (z : _) × IsDone made swap (Forget i) x z × GoesBack made swap i z y
 
--- ITS END: where each journal was written it goes on to the last moment, else it is taken back
+-- ITS END: if each journal was written it goes on to the last moment, else it is taken back
 abbrev pub IsSettled : {F : Type 0} → (F → F → Call → Type 0) → Swap → F → F → Bool → Type 0
 IsSettled made swap x y true =
     (moment : ℕ)

@@ -1,4 +1,4 @@
-//! `check`: it is said who answers, beside the records.
+//! `check`: it is said which gear answer, beside the records.
 
 ghost use Rattle.std.specs.Prelude.{◌≡◌, Result, IfOk};
 ghost use Rattle.dali_commissioning.specs.declared.beginning.Checked.{Checked};

@@ -64,7 +64,7 @@ impl<S: Eprint> Asking<'_, S> {
         self.refusal(ReplaceRefusal::NotThere)
     }
 
-    /// No gear has the short address, or the new one has it, where an earlier call has come so far; and all other gear
+    /// No gear has the short address, or the new one has it, if an earlier call has come so far; and all other gear
     /// of the tables are there, but those that are known to be gone.
     pub fn others_there<R: Read, W: Write>(
         &self,

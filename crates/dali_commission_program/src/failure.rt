@@ -133,7 +133,7 @@ pub(crate) fn add<T: Drop>(list: &mut Vec<T>, item: T) -> Result<(), Failure>
     list.push(item).map_err(|_| REFUSED)
 }
 
-/// What the end of the last machine is to the program, where a gear was heard, or none was.
+/// What the end of the last machine is to the program, if a gear was heard, or if none was.
 pub fn ended_as(ended: Ended, has_heard: bool) -> Result<(), Failure>
     ensures { result ≡ ended_as ended has_heard }
 {

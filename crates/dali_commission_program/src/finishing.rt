@@ -62,7 +62,7 @@ fn finishes<S: Eprint + AllocGlobal, F: Stores>(
     Ok(is_done)
 }
 
-/// Brings each swap of an earlier call to its end. That of this short address, where its files are exchanged now.
+/// Brings each swap of an earlier call to its end. That of this short address, if its files are exchanged now.
 pub(crate) fn exchanged<S: Eprint + AllocGlobal, F: Stores>(
     system: &S,
     stores: &mut F,

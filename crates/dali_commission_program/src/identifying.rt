@@ -65,7 +65,7 @@ fn is_silent(reply: Reply) -> bool
     }
 }
 
-/// Somebody answers to a short address; or why the gear is not shown.
+/// A gear answers to a short address; or why the gear is not shown.
 fn is_there<R: Read, W: Write>(driver: &mut DriverLink<R, W>, short: Short) -> Result<(), Failure>
     ensures { OnOk result ((heard : Reply) × IsAnswered short heard
         (talk_of R.remaining W.contents driver.old) (talk_of R.remaining W.contents driver.new)
@@ -83,7 +83,7 @@ fn is_there<R: Read, W: Write>(driver: &mut DriverLink<R, W>, short: Short) -> R
     }
 }
 
-/// Makes it so where somebody answers. Where that ends early, the last line is the one that makes it bright: the
+/// Makes it so if a gear answers. If that ends early, the last line is the one that makes it bright: the
 /// launcher passes it on when it was interrupted.
 fn shows<S: Clock, R: Read, W: Write>(
     system: &S,

@@ -103,8 +103,8 @@ fn push_missing(
     }
 }
 
-/// Why what stands under a short address is not as recorded, and the random address that was heard there; None where it
-/// is, or nobody answers.
+/// Why what stands under a short address is not as recorded, and the random address that was heard there; None if it
+/// is, or if no gear answers.
 fn oddity(place: Place) -> Option<(&'static str, Option<Random24>)>
     ensures { option_map (λ it. (it.0.now, it.1)) result ≡ oddity place }
 {
@@ -153,8 +153,8 @@ fn push_oddity(
     push_random(text, random)
 }
 
-/// Who answers otherwise than is recorded, from this short address on: strangers, and who answers in place of a gear of
-/// the table.
+/// The gear that answer otherwise than is recorded, from this short address on: strangers, and those that answer in
+/// place of a gear of the table.
 #[tactic(auto, using(std::proofs::lemmas::List::append_assoc))]
 fn push_strangers(
     text: &mut String,
@@ -262,8 +262,9 @@ fn push_report(text: &mut String, report: &Report, end: &str, status: u8) -> Res
     push_tail(text, report)
 }
 
-/// Writes what a task came to: how it ended and its exit status, how many frames were put and how many gear enrolled,
-/// the gear in the table, and the short addresses that want to be looked at. Whether all of it was written.
+/// Writes what a task came to: how it ended and its exit status, and how many frames were put and how many gear
+/// enrolled. It also writes the gear in the table, and the short addresses that need to be looked at.
+/// Whether all of it was written.
 #[tactic(auto, using(crate::proofs::Flushed::appends_kept))]
 pub(crate) fn write_report<W: Write>(
     alloc: Global,

@@ -121,7 +121,7 @@ fn first(records: &[String]) -> Option<&str>
     }
 }
 
-/// The name of the records that a refusal is about. Which of several files it is, `replaces` has said.
+/// The name of the records that a refusal is about. `replaces` has said which of several files it is.
 fn refused_name(asked: &Asked) -> Option<&str>
     ensures { option_map (λ name. name.now) result ≡ refused_name asked.now.task asked.now.records.items }
 {
@@ -167,7 +167,7 @@ fn is_told<W: Write>(
     }
 }
 
-/// A result that cannot be written is a failure where there was none before.
+/// A result that cannot be written is a failure if there was none before.
 fn or_refused(ended: Result<(), Failure>, is_told: bool) -> Result<(), Failure>
     ensures { result ≡ or_refused ended is_told }
 {
@@ -197,7 +197,7 @@ where
     ended(system, or_refused(done, is_told), refused_name(asked))
 }
 
-/// Says why the program ended, where that wants to be said.
+/// Says why the program ended, if that needs to be said.
 fn ended<S: Eprint>(
     system: &S,
     ended: Result<(), Failure>,

@@ -35,7 +35,7 @@ impl Manner {
     }
 }
 
-/// Whom a frame is about.
+/// Which gear a frame is about.
 #[derive(Clone, Copy)]
 pub enum Whom {
     /// All gear.
@@ -46,7 +46,7 @@ pub enum Whom {
     Search,
 }
 
-/// Whom the frames were about that were put last, with the search address.
+/// Which gear the frames that were put last were about, with the search address.
 #[derive(Clone, Copy)]
 pub struct Aim {
     pub whom: Whom,
@@ -192,7 +192,7 @@ impl<'a, S: Eprint> Progress<'a, S> {
         }
     }
 
-    /// What is said. Where it cannot be said, nothing else changes.
+    /// What is said. If it cannot be said, nothing else changes.
     fn tell(&self) {
         let said = Said::Far(self.far);
         if self.manner == Manner::Rewritten {
@@ -209,7 +209,7 @@ impl<'a, S: Eprint> Progress<'a, S> {
         }
     }
 
-    /// Whom the frames were about that were put last, but for the close.
+    /// Which gear the frames that were put last were about, but for the close.
     pub fn aim(&self) -> Aim
         ensures { result ≡ self.now.aim }
     {

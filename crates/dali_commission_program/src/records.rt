@@ -10,7 +10,7 @@ use dali_script::{Block, Kept};
 use std::alloc::Global;
 
 /// Records that a copy has shown to be of a block, and beside which no journal of a swap lay. Only such are lent, so
-/// nothing else is opened to be written, unless somebody changes it in between.
+/// nothing else is opened to be written, unless it is changed in between.
 #[derive(Drop)]
 pub struct Seen<'a> {
     name: &'a str,
@@ -53,7 +53,7 @@ impl<'a> Seen<'a> {
     }
 }
 
-/// The name of the journal of a swap, where none lies beside the records of this name.
+/// The name of the journal of a swap, if none lies beside the records of this name.
 fn journal_beside<F: Stores>(alloc: Global, stores: &F, name: &str) -> Result<String, Failure> {
     let place = stores.place_of(alloc, name)?;
     match found(alloc, stores, &place)? {

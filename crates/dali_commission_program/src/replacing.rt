@@ -31,8 +31,8 @@ fn is_anywhere(tables: &[Kept], short: Short) -> bool {
     tables.iter().any(|kept| kept.enrolled_at(short).is_some())
 }
 
-/// Who gives the new gear its short address, into these records, and says how the surveys ended. Whether the new gear
-/// has the address, the records say: who was heard besides has none to get here.
+/// Who gives the new gear its short address, into these records, and says how the surveys ended. The records say
+/// whether the new gear has the address: there is none here for any other gear that was heard.
 #[derive(Drop)]
 struct Giving<'a, S, R, W> {
     system: &'a S,
@@ -203,7 +203,7 @@ impl<S: Input + Print + Eprint + AllocGlobal> Replacing<'_, S> {
         read(system, stores, &new)
     }
 
-    /// The new table of each file, where the giver's has been this one.
+    /// The new table of each file, if the giver's has been this one.
     fn news<F: Stores>(
         &self,
         stores: &mut F,
@@ -249,7 +249,7 @@ impl<S: Input + Print + Eprint + AllocGlobal> Replacing<'_, S> {
         self.renew(stores, name, permit.block(), giving)
     }
 
-    /// What the new file of the giver has, in which the short address is given where an earlier call has not done it.
+    /// What the new file of the giver has. The short address is given in it if an earlier call has not done so.
     fn first<F: Stores, R: Read, W: Write>(
         &self,
         stores: &mut F,
@@ -285,7 +285,7 @@ impl<S: Input + Print + Eprint + AllocGlobal> Replacing<'_, S> {
         let giver = plan.giver;
         let others = asking.others_there(driver, plan.come, plan.table, self.report)?;
         let first = self.first(stores, driver, giver, &others)?;
-        // What the giver's new file has reserved besides says to a later call that the address is given there.
+        // What else the giver's new file has reserved tells a later call that the address is given there.
         if first.enrolled_at(asking.wanted.short).is_none() {
             return Err(asking.not_given(driver));
         }
@@ -302,7 +302,7 @@ impl<S: Input + Print + Eprint + AllocGlobal> Replacing<'_, S> {
         })
     }
 
-    /// Puts the new file of a name aside that an earlier call has left, where there is one.
+    /// Puts aside the new file that an earlier call has left for a name, if there is one.
     fn put_one_aside<F: Stores>(&self, stores: &mut F, name: &str) -> Result<(), Failure> {
         let (system, alloc) = (self.system(), self.alloc());
         let new = new_of(alloc, name)?;
@@ -394,7 +394,7 @@ fn are_apart(alloc: Global, names: &[String]) -> Result<bool, Failure> {
     Ok(true)
 }
 
-/// Notes the table of the first file, when a luminaire is replaced. Where that cannot be read any more, none is noted.
+/// Notes the table of the first file, when a luminaire is replaced. If that cannot be read any more, none is noted.
 pub(crate) fn note_first<F: Stores>(
     alloc: Global,
     stores: &F,

@@ -37,9 +37,9 @@ pub(crate) struct Report {
     pub table: ArrayVec<Row, 64>,
     /// The short addresses that were left alone.
     pub left_alone: ArrayVec<u8, 64>,
-    /// What stands under each short address, from 0 on; empty where not all were asked.
+    /// What stands under each short address, from 0 on; empty if not all were asked.
     pub places: ArrayVec<Place, 64>,
-    /// Whether gear without short address are there, where that was asked.
+    /// Whether gear without short address are there, if that was asked.
     pub has_unaddressed: Option<bool>,
     /// What is to be said of it.
     pub said: Saying,
@@ -82,7 +82,7 @@ fn add_heard(numbers: &mut ArrayVec<u8, 64>, number: u8, is_heard: bool)
     }
 }
 
-/// The short addresses under which the survey of the last machine heard somebody whom it left alone.
+/// The short addresses under which the survey of the last machine heard gear that it left alone.
 #[tactic(auto, using(crate::proofs::Heard::none, crate::proofs::Heard::one_more))]
 fn heard_of(pass: &PassEnd) -> ArrayVec<u8, 64>
     ensures { result.items ≡ heard_of pass.now.heard }
@@ -196,7 +196,7 @@ impl Report {
         }
     }
 
-    /// Notes how many lines of the driver were read. The last one is said where it was refused.
+    /// Notes how many lines of the driver were read. The last one is said if it was refused.
     pub fn note_lines<T, S: Eprint, R: Read, W: Write>(
         &mut self,
         system: &S,
@@ -223,7 +223,7 @@ impl Report {
     }
 }
 
-/// What is said of the end of the last machine: whom its survey left alone, and why it ended so.
+/// What is said of the end of the last machine: which gear its survey left alone, and why it ended so.
 pub(crate) fn ended_said(pass: &PassEnd, kept: &Kept, aim: Aim) -> Saying
     ensures said { WhySaid (heard_said (heard_of pass.now.heard)) pass.now kept.now aim result.items }
     ensures room { length result.items < 80 }

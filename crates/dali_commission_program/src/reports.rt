@@ -24,7 +24,7 @@ pub enum Which {
     All,
     /// Those whose gear of the table are not there, or at which others answer.
     Wrong,
-    /// Those at which somebody answers whom no record names.
+    /// Those at which a gear answers that no record names.
     Strange,
 }
 
@@ -145,7 +145,7 @@ fn push_one_passed(said: &mut Saying, number: Random24)
     }
 }
 
-/// Who was passed over, each by its random address once: it may have been so after several roll calls.
+/// The gear that were passed over, each by its random address once: it may have been so after several roll calls.
 fn push_passed(said: &mut Saying, numbers: &[Random24])
     requires { length said.old.items + length numbers.now ≤ 80 }
     ensures said { said.new.items ≡ with_all_passed said.old.items numbers.now }
@@ -157,7 +157,7 @@ fn push_passed(said: &mut Saying, numbers: &[Random24])
     }
 }
 
-/// Who was passed over. Of more than eight times the machine does not know whom.
+/// The gear that were passed over. Of more than eight times the machine does not know which.
 fn push_passed_over(said: &mut Saying, passed: &Passed)
     requires { length said.old.items + 9 ≤ 80 }
     ensures said { said.new.items ≡ with_passed_over said.old.items passed.now }
@@ -186,7 +186,7 @@ fn gave_up(tries: u8, tally: &Tally, aim: Aim) -> Said<'static>
     }
 }
 
-/// Why the last machine ended so, where that wants to be said.
+/// Why the last machine ended so, if that needs to be said.
 pub fn push_why_ended(said: &mut Saying, pass: &PassEnd, kept: &Kept, aim: Aim)
     requires { length said.old.items + 10 ≤ 80 }
     ensures said { WhySaid said.old.items pass.now kept.now aim said.new.items }
@@ -204,7 +204,7 @@ pub fn push_why_ended(said: &mut Saying, pass: &PassEnd, kept: &Kept, aim: Aim)
     }
 }
 
-/// Where a task ended by a line of the driver: the line itself, as far as it was read.
+/// If a task ended by a line of the driver: the line itself, as far as it was read.
 pub fn wrote_said(failure: Failure, line: &[u8]) -> Option<Said<'_>>
     ensures { result ≡ wrote_said failure line.entry }
 {

@@ -56,8 +56,8 @@ fn begun<K: Keep, R: Read, W: Write, P: Watch>(
     }
 }
 
-/// Whether any gear was heard. Where none was, the gear of the table are asked one after the other until one answers:
-/// a bus on which nobody answers at all is told from one whose gear are all in the table.
+/// Whether any gear was heard. If none was, the gear of the table are asked one after the other until one answers:
+/// a bus on which no gear answers at all is told from one whose gear are all in the table.
 fn is_anybody_there<R: Read, W: Write>(
     driver: &mut DriverLink<R, W>,
     kept: &Kept,
@@ -75,7 +75,7 @@ fn is_anybody_there<R: Read, W: Write>(
     Ok(driver.has_heard())
 }
 
-/// What a run comes to whose last machine ended so, from one table to another: by whether any gear was heard, and after
+/// What a run whose last machine ended so comes to, from one table to another: by whether any gear was heard, and after
 /// so many frames.
 fn came_of(
     pass: &PassEnd,

@@ -143,12 +143,13 @@ fn write_place<W: fmt::Write>(
     }
 }
 
-/// Says something. Where it cannot be said, nothing else changes.
+/// Says something. If it cannot be said, nothing else changes.
 pub fn say<S: Eprint>(system: &S, said: &Said<'_>) {
     let _ = eprintln!(system; "{said}");
 }
 
-/// What is said of why the program ends, where `clap` has not said it, nor where the file was found that cannot be had.
+/// What is said of why the program ends. None if `clap` has said it, or if it was said when the file was found
+/// that cannot be had.
 pub fn why_said<'a>(failure: Failure, records: Option<&'a str>) -> Option<Said<'a>>
     ensures { result ≡ why_said failure records.entry }
 {

@@ -105,7 +105,7 @@ fn goes_back<F: Stores>(
     goes_back(alloc, stores, swap, from - 1)
 }
 
-/// Brings a swap to its end, or takes it back where not each journal was written. Whether it was brought to its end.
+/// Brings a swap to its end, or takes it back if not each journal was written. Whether it was brought to its end.
 fn settles<S: Eprint + AllocGlobal, F: Stores>(
     system: &S,
     stores: &mut F,

@@ -76,7 +76,7 @@ pub trait Holder<F>: Drop {
     /// Does what is to be done with the records, in the order of their names, and with their files open.
     fn take(&mut self, stores: &mut F, all: &[Kept]) -> Result<Self::Due, Failure>;
 
-    /// Does what is to be done then, where that ended well, with each file closed and nothing beside it.
+    /// Does what is to be done then, if that ended well, with each file closed and nothing beside it.
     fn then(self, stores: &mut F, due: Self::Due) -> Result<Self::Out, Failure>;
 }
 
@@ -85,7 +85,7 @@ pub trait Actor<F>: Drop {
     /// What comes of it.
     type Out: Drop;
 
-    /// What it does: from the places before to those after it, where this came of it.
+    /// What it does: from the places before to those after it, if this came of it.
     ghost acts: { Self → F → F → Self.Out → Type 0 };
 
     /// Does it.
@@ -106,13 +106,13 @@ pub trait Stores: Sized {
     /// Whether something has this name, or that cannot be told.
     fn has(&self, name: &str) -> bool;
 
-    /// Opens the records that were seen, lends them, and closes them. They are made where there are none. `Unfinished`
-    /// where the journal lies there once they are open. What the borrower ends with goes before why they could not be
+    /// Opens the records that were seen, lends them, and closes them. They are made if there are none. `Unfinished`
+    /// if the journal lies there once they are open. What the borrower ends with goes before why they could not be
     /// closed.
     fn lend<B: Borrower>(&mut self, seen: &Seen<'_>, borrower: B) -> Result<B::Out, Failure>;
 
-    /// Lends a copy of the records of this name, as to a controller with all addresses; one with no records where they
-    /// are not there. They are only read: nothing that the borrower does to the copy changes them. `Unfinished` where
+    /// Lends a copy of the records of this name, as to a controller with all addresses; one with no records if they
+    /// are not there. They are only read: nothing that the borrower does to the copy changes them. `Unfinished` if
     /// this journal lies there once they are read.
     fn lend_copy<B: Borrower>(
         &self,
@@ -121,7 +121,7 @@ pub trait Stores: Sized {
         borrower: B,
     ) -> Result<B::Out, Failure>;
 
-    /// The name under which what has this name lies, whatever links lead there, also where nothing lies there.
+    /// The name under which lies what has this name, whatever links lead there, also if nothing lies there.
     fn place_of(&self, alloc: Global, name: &str) -> Result<String, Failure>;
 
     /// Reads the records of these names, each of another file, and keeps all others from opening them, until the holder
@@ -137,7 +137,7 @@ pub trait Stores: Sized {
     fn alone<A: Actor<Self>>(&mut self, name: &str, actor: A) -> Result<A::Out, Failure>
         ensures { IfOk result (A.acts actor self.old self.new) };
 
-    /// The text of this name. None where there is none.
+    /// The text of this name. None if there is none.
     fn text(&self, alloc: Global, name: &str) -> Result<Option<String>, Failure>;
 
     /// Writes a text under this name. A stop leaves none or all of it; once it is written no stop takes it away, nor
@@ -155,7 +155,7 @@ pub trait Stores: Sized {
     fn liken(&mut self, name: &str, to: &str)
         ensures { made self.old self.new (Likened name.now to.now) };
 
-    /// Removes what has this name, where it is there. No stop brings it back.
+    /// Removes what has this name, if it is there. No stop brings it back.
     fn remove(&mut self, alloc: Global, name: &str) -> Result<(), Failure>
         ensures { made self.old self.new (Removed name.now) };
 }

@@ -19,9 +19,9 @@ pub enum TableForm {
 /// How a run begins.
 #[derive(Clone, Copy, PartialEq, Eq)]
 pub enum Start {
-    /// It asks who has which short address, and enrols who tells its random address.
+    /// It asks which gear has which short address, and enrols each that tells its random address.
     Survey,
-    /// All gear are new: where any has a short address that no record names, nothing is begun.
+    /// All gear are new: if any has a short address that no record names, nothing is begun.
     Fresh,
 }
 
@@ -71,7 +71,7 @@ pub struct Replacement {
     pub short: Short,
     /// The short addresses of other luminaires that are known to be gone.
     pub missing: Vec<Short>,
-    /// The block of the records, where they are of one name.
+    /// The block of the records, if they are of one name.
     pub block: Block,
     /// Whether the new files of an earlier call are put aside, and it begins anew.
     pub is_again: bool,

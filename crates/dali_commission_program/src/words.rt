@@ -352,7 +352,7 @@ fn all<T: Spelled>(alloc: Global, line: &CommandLine, name: &str) -> Result<Vec<
     Ok(all)
 }
 
-/// What the value of a word spells, which `clap` has seen that it is there.
+/// What the value of a word spells. `clap` has seen that it is there.
 fn one<T: Spelled>(alloc: Global, line: &CommandLine, name: &str) -> Result<T, LineFault>
     ensures { IfOk result (T.spells (value_of name.now line.now.values.items)) }
 {
@@ -381,7 +381,7 @@ fn start(alloc: Global, line: &CommandLine) -> Result<Start, LineFault>
     }
 }
 
-/// How many passes must find nothing, which `clap` has seen that are some.
+/// How many passes must find nothing. `clap` has seen that they are some.
 fn idle_passes(line: &CommandLine) -> u8
     ensures { 0 < result }
 {
@@ -392,7 +392,7 @@ fn idle_passes(line: &CommandLine) -> u8
 }
 
 /// What is asked for by `run`, beside these blocks of other controllers, none of which may have an address in common
-/// with the own one.
+/// with its own one.
 fn setup(alloc: Global, line: &CommandLine, others: &[Block]) -> Result<Setup, LineFault>
     ensures { IfOk result (IsSetup line.now.values.items others.now) }
 {

@@ -1,4 +1,4 @@
-//! What goes wrong where a program reads its command line and writes its answer.
+//! What goes wrong when a program reads its command line and writes its answer.
 
 use crate::ended::Failed;
 use std::fmt;

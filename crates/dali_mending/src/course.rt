@@ -181,7 +181,7 @@ impl Course {
         }
     }
 
-    /// The search has come so far; `next` is what it asks next. If it finds nobody, who is left has `FFFFFF`.
+    /// The search has come so far; `next` is what it asks next. If it finds no gear, those that are left have `FFFFFF`.
     pub(crate) fn searched(&self, step: Step, next: Random24) -> Course
         ensures { result ≡ searched self.now step next }
     {

@@ -150,8 +150,8 @@ fn spent_if(left: u16, course: &Course) -> Course
 /// has ended. The frames from one at priority 3 to the last one before the next such are a transaction: no other
 /// controller's frame may come between.
 ///
-/// Contracts see the short address, the course, the search, the frames of the running transaction, how often in a row
-/// it was lost, how many transactions are left until a gear is told apart, and those that were.
+/// Contracts see the short address, the course, the search, the frames of the running transaction, and how often in a
+/// row it was lost. They also see how many transactions are left until a gear is told apart, and those that were.
 #[derive(Drop)]
 pub struct Mending {
     short: Short,

@@ -47,7 +47,7 @@ value_of (kind.Place v) = v
 value_of (kind.LastPlace v) = v
 value_of _ = value.Text
 
--- what stands there where a word is left out
+-- what stands there if a word is left out
 abbrev pub default_of : WordKind → List (Bor (List ℕ))
 default_of (kind.Default v is) = is ∷ []
 default_of _ = []

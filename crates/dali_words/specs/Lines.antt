@@ -29,7 +29,7 @@ found_under m name =
 abbrev pub all_found : ArgMatches → List Word → List (List ℕ × List ℕ)
 all_found m words = flat_map (λ w. found_under m w.name.now) words
 
--- a fault of one kind says this, where memory does not keep it from being said
+-- a fault of one kind says this, if memory does not keep it from being said
 abbrev pub IsWrongValue : List ℕ → LineFault → Type 0
 IsWrongValue message (Value said) = string_bytes said ≡ message
 IsWrongValue message Memory = Unit {0}

@@ -10,7 +10,7 @@ use clap::ArgMatches;
 use std::alloc::{AllocError, Global};
 use std::str::FromStr;
 
-/// What is said where no subcommand is known.
+/// What is said if no subcommand is known.
 pub(crate) const NO_SUBCOMMAND: &str = "no such subcommand";
 
 /// What stands on a command line.
@@ -18,7 +18,7 @@ pub(crate) const NO_SUBCOMMAND: &str = "no such subcommand";
 pub struct CommandLine {
     /// The name of the subcommand.
     pub subcommand: String,
-    /// The values of its words, each with the name of the word, also those of defaults. That of a flag is `true` where
+    /// The values of its words, each with the name of the word, also those of defaults. That of a flag is `true` if
     /// the flag is there.
     pub values: Vec<(String, String)>,
 }
@@ -118,7 +118,7 @@ impl CommandLine {
         None
     }
 
-    /// The first value of a word as a number, which `clap` has seen that it is.
+    /// The first value of a word as a number. `clap` has seen that it is one.
     pub fn number<T: FromStr>(&self, name: &str) -> Option<T>
     where
         T::Err: Drop,

@@ -40,7 +40,7 @@ pub enum WordKind {
     Option(Value),
     /// An option with a value that has to be there.
     Needed(Value),
-    /// An option with a value, which is this one where it is not there.
+    /// An option with a value, which is this one if it is not there.
     Default(Value, &'static str),
     /// An option with a value that may be given again.
     Again,
@@ -153,7 +153,7 @@ fn spelled<'a>(arg: Arg<'a>, word: &Word) -> Arg<'a>
     }
 }
 
-/// The same argument, with what stands there where it is left out, and how often it may stand there, and beside what.
+/// The same argument, with what stands there if it is left out, and how often it may stand there, and beside what.
 fn bounded(arg: Arg<'_>, kind: WordKind) -> Result<Arg<'_>, AllocError>
     requires { items_of arg.default_vals ≡ [] }
     ensures { IfOk result (λ made. (items_of made.default_vals ≡ default_of kind)

@@ -111,7 +111,7 @@ fn print<S: Print + Eprint + AllocGlobal>(system: &S, error: &Error) -> io::Resu
     }
 }
 
-/// What the command line asks for: what `task` makes of what stands on it. None where it asks for help or the version,
+/// What the command line asks for: what `task` makes of what stands on it. None if it asks for help or the version,
 /// which is printed. What is wrong is said on standard error, but that a word is not UTF-8, or cannot be read.
 pub fn asked<S, T, F>(system: &S, program: &Program, task: F) -> Result<Option<T>, ConsoleFault>
 where
