@@ -45,8 +45,8 @@ pub record IsUp (w : World) (c : ℕ) : Type 0 where
   pub known : c < length w.controllers
   pub up : (controller_at w c).up ≡ true
 
--- Controller c may send the frame: it owns the bus and the frame may follow its trace, or nobody
--- owns the bus and the frame may begin a transaction.
+-- Controller c may send the frame: it owns the bus and the frame may follow its trace, or no
+-- controller owns the bus and the frame may begin a transaction.
 abbrev pub MaySend : World → ℕ → Forward → Type 0
 MaySend w c f =
     ((w.bus.owner ≡ Some c)
@@ -78,7 +78,7 @@ IsDue k input.Committed = IsCommit k.last
 IsDue k input.CommitFailed = IsCommit k.last
 
 -- A record that it may commit: an address of its block and a number, neither reserved by it; or
--- its last finding, with neither enrolled by it, whether or not it is reserved so; the number is
+-- its last finding, with neither enrolled by it, whether or not it is reserved so. The number is
 -- one that gear draw. Or the release of what it has reserved for the gear of its last finding,
 -- which has another address.
 abbrev pub MayCommit : Controller → Record → Type 0
@@ -136,7 +136,7 @@ pub record IsDown (w : World) (c : ℕ) : Type 0 where
   pub known : c < length w.controllers
   pub down : (controller_at w c).up ≡ false
 
--- with the outstanding record only where one is outstanding
+-- with the outstanding record only if one is outstanding
 abbrev pub HasOutstanding : Controller → Bool → Type 0
 HasOutstanding k false = Unit {0}
 HasOutstanding k true = (x : Record) × (k.outstanding ≡ Some x)

@@ -93,8 +93,8 @@ Orders P c (event.Acted d i o) = d ≡ c → P o
 Orders P c (event.Down d) = d ≡ c → ⊥
 Orders P c _ = Unit {0}
 
--- THE ROLL WAS CALLED, AND NOBODY WAS HEARD: in a log stands a roll call of controller c, with two
--- COMPAREs that were heard as silence; since then c stayed up, and gave such orders alone. Each
+-- THE ROLL WAS CALLED, AND NO GEAR WAS HEARD: in a log stands a roll call of controller c, with two
+-- COMPAREs that were heard as silence. Since then c stayed up, and gave such orders alone. Each
 -- gear that attends had a short address when a COMPARE was sent, or answered it: then its answer
 -- was lost.
 pub record HasCalled (p : Plan) (capacity : ℕ) (P : Order → Type 0) (log : List Event)

@@ -20,7 +20,7 @@ sending _ = None
 abbrev pub frame_in : Event → Option Forward
 frame_in e = option_map (λ s. s.frame) (sending e)
 
--- what was heard after it, where it was not destroyed
+-- what was heard after it, if it was not destroyed
 abbrev pub heard_in : Event → Option Answer
 heard_in e = option_and_then (λ s. s.heard) (sending e)
 

@@ -5,8 +5,8 @@ use Rattle.dali_special.specs.declared.command.Command.TheVariants.{Arc, Other}
 use Rattle.dali_special.specs.Command.{command_of}
 
 -- FRAMES OF OTHER DEVICES, as of sensors and push buttons, that may come on the bus at any moment:
--- direct arc power, and what is no addressing command; but no command that changes addresses
--- without being one.
+-- direct arc power, and what is no addressing command. A command that changes addresses without
+-- being one may not.
 
 -- the address byte of a command: to one short address, to a group, to all gear, or to those without
 -- short address (IEC 62386-102:2014, addressing); direct arc power was told before. No gear has an

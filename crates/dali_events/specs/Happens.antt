@@ -122,7 +122,7 @@ after_offered w c f = record w { bus = bus_offered w.bus (request_of c ARC f) }
 
 -- ---------------------------------------------------------------- a frame is sent
 
--- the trace that a frame of controller c goes on with: its own where it owns the bus, else a new
+-- the trace that a frame of controller c goes on with: its own if it owns the bus, else a new
 -- one
 abbrev pub trace_running : World → ℕ → List Entry
 trace_running w c = if owns w.bus.owner c then w.trace else []
@@ -180,7 +180,7 @@ after_sent w c f h = record (taken_by w Everyone (command_of f)) {
 abbrev pub told_destroyed : Forward → Controller → Controller
 told_destroyed f k = record k { told = told_of (command_of f) input.Destroyed k.told }
 
--- the gear of the set take it, and nobody owns the bus
+-- the gear of the set take it, and no controller owns the bus
 abbrev pub after_destroyed : World → ℕ → Forward → GearSet → World
 after_destroyed w c f set = record (taken_by w (Only set) (command_of f)) {
   bus = bus_destroyed w.bus;
@@ -188,7 +188,7 @@ after_destroyed w c f set = record (taken_by w (Only set) (command_of f)) {
   controllers = controllers_changed w.controllers c (told_destroyed f);
 }
 
--- nobody takes either, and nobody owns the bus
+-- no gear takes either, and no controller owns the bus
 abbrev pub after_collided : World → ℕ → Forward → ℕ → Forward → World
 after_collided w c f d g = record w {
   bus = bus_collided w.bus;
@@ -232,7 +232,7 @@ after_quiet w = record w { gear = map gear_quieted w.gear }
 -- ---------------------------------------------------------------- a frame of another device
 
 -- Gear that have power take it: half a pair is over, and nothing else changes. It is told to
--- nobody, and the owner keeps the bus.
+-- no controller, and the owner keeps the bus.
 abbrev pub gear_interrupted : Gear → Gear
 gear_interrupted g = record g { half = if g.powered then None else g.half }
 

@@ -41,7 +41,7 @@ KeepsReserved earlier now =
 
 -- ---------------------------------------------------------------- tables of enrolled gear
 
--- two kept enrolments, of one controller or of two, are the same entry where they have one address,
+-- two kept enrolments, of one controller or of two, are the same entry if they have one address,
 -- one number or one gear
 pub record TablesAgree (w : World) : Type 0 where
   pub address : (c d : ℕ) (x y : Assignment) → IsEnrolled w c x → IsEnrolled w d y → x.0 ≡ y.0
@@ -59,8 +59,8 @@ HasFound w c found =
     (c < length w.controllers)
     × ((x : Finding) × ((controller_at w c).finding ≡ Some x) × (assigned x ≡ found))
 
--- each finding names a gear, and no kept enrolment, of whomever, has its address with another
--- number or its number with another address
+-- each finding names a gear, and no kept enrolment, of whichever controller, has its address with
+-- another number or its number with another address
 pub record FindingsAgree (w : World) : Type 0 where
   pub named : (c : ℕ) (found : Assignment) → HasFound w c found → Names w found
   pub address : (c d : ℕ) (found entry : Assignment) → HasFound w c found → IsEnrolled w d entry

@@ -16,8 +16,8 @@ use Rattle.dali_events.specs.declared.used.Used.{Used}
 use Rattle.dali_events.specs.Used.{used_gear, used_shorts, used_randoms}
 
 -- A site as it is planned: the number of its gear, a block of short addresses for each controller,
--- the numbers that the gear will draw, in the order in which they will be drawn, and those of its
--- gear that are used.
+-- the numbers that the gear will draw, and those of its gear that are used. The numbers stand in
+-- the order in which they will be drawn.
 pub record Plan : Type 0 where
   pub gear : ℕ
   pub blocks : List Block
@@ -87,8 +87,8 @@ block_at p c = slice_index_or p.blocks c no_block
 abbrev pub numbers_of : Plan → List ℕ
 numbers_of p = used_randoms p.used ++ p.draws
 
--- What used gear have: each of them is there and stands once, their short addresses are all
--- different, and so are all random addresses, those that they have and those that will be drawn.
+-- What used gear have: each of them is there and stands once, and their short addresses are all
+-- different. So are all random addresses, those that they have and those that will be drawn.
 pub record AreUsed (p : Plan) : Type 0 where
   pub gear_once : IsOnce (used_gear p.used)
   pub there : (g : ℕ) → Has (used_gear p.used) g → g < p.gear
@@ -111,7 +111,7 @@ pub record IsPlan (p : Plan) : Type 0 where
   -- and so are used gear
   pub used : AreUsed p
 
--- what a refusal says: its cause, or no cause where memory was wanting
+-- what a refusal says: its cause, or no cause if memory was wanting
 abbrev pub IsRefusal : ℕ → List (ℕ × ℕ) → List ℕ → PlanError → Type 0
 IsRefusal gear blocks draws NoMemory = refusal_of gear blocks draws ≡ None
 IsRefusal gear blocks draws e = refusal_of gear blocks draws ≡ Some e

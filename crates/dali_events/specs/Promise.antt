@@ -16,7 +16,7 @@ HoldsShort w g a = (g < length w.gear) × ((gear_at w g).short ≡ Some a)
 abbrev pub IsEnrolled : World → ℕ → Assignment → Type 0
 IsEnrolled w c entry = (c < length w.controllers) × Has (controller_at w c).records.enrolled entry
 
--- AT ONE MOMENT: two gear that hold one short address are the same gear; and for each kept
+-- AT ONE MOMENT: two gear that hold one short address are the same gear. For each kept
 -- enrolment (a, r), of whichever controller, there is the gear that holds a, and its random address
 -- is r.
 pub record KeepsPromiseNow (w : World) : Type 0 where
@@ -43,7 +43,7 @@ KeepsPromise p capacity log = KeepsPromiseFrom (start p capacity) log
 
 -- ---------------------------------------------------------------- with gifts and draws
 
--- Gear g was given the short address a where (g, a) stands in the history of gifts.
+-- Gear g was given the short address a if (g, a) stands in the history of gifts.
 
 -- the entry (a, r) names gear g: g drew r, was given a, and its random address is r
 pub record NamesGear (w : World) (entry : Assignment) (g : ℕ) : Type 0 where
@@ -60,7 +60,7 @@ pub record IsSafe (w : World) : Type 0 where
   -- each gear stands at most once among the gifts, and each address
   pub gear_once : IsOnce (map (λ gift. gift.0) w.gifts)
   pub address_once : IsOnce (map (λ gift. gift.1) w.gifts)
-  -- a gear holds an address exactly where it was given it
+  -- a gear holds an address exactly if it was given it
   pub holds : (g a : ℕ) → g < length w.gear → ((gear_at w g).short ≡ Some a) ↔ Has w.gifts (g, a)
   -- every entry of every controller's kept enrolments is true
   pub tables : (c : ℕ) (entry : Assignment) → IsEnrolled w c entry → Names w entry

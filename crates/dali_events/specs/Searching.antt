@@ -43,7 +43,7 @@ number_at (Programmed r a) = Some r
 number_at (Confirmed r a) = Some r
 number_at _ = None
 
--- ---------------------------------------------------------------- a search that finds nobody
+-- ---------------------------------------------------------------- a search that finds no gear
 
 -- Since an opening nothing befell the gear that makes them forget it: no power came or went, no
 -- initialisation expired, the bus was not quiet for long, and no TERMINATE was sent or destroyed.
@@ -74,7 +74,7 @@ abbrev pub BreakNoPair : World → List Event → Type 0
 BreakNoPair w [] = Unit {0}
 BreakNoPair w (e ∷ es) = BreaksNoPair w e × BreakNoPair (happens w e) es
 
--- and nobody was passed over: WITHDRAW was not sent where gear were not asked for their short
+-- and no gear was passed over: WITHDRAW was not sent to gear that were not asked for their short
 -- address
 abbrev pub PassesOver : World → ℕ → Forward → Type 0
 PassesOver w c f =

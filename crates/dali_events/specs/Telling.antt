@@ -16,7 +16,7 @@ use Rattle.dali_events.specs.Runs.{LeavesUsed}
 -- WHAT A SENDER IS TOLD of a question that was destroyed, by an interface that has one code for
 -- that and for a damaged answer.
 
--- WHAT HAPPENED, and what its sender was told: rightly what it was; or a question of controller c
+-- WHAT HAPPENED, and what its sender was told: rightly what it was. Or a question of controller c
 -- was destroyed, the gear of the set took it, and c was told that the answer was damaged.
 pub data Happening : Type 0 where
   rightly : Event → Happening
@@ -28,7 +28,7 @@ as_told (rightly e) = e
 as_told (as_damaged c f set) = event.Sent c f Damaged
 
 -- what it does: the gear of the set take the question; the sender goes on, and keeps the bus, as
--- where it was sent
+-- if it was sent
 abbrev pub happened : World → Happening → World
 happened w (rightly e) = happens w e
 happened w (as_damaged c f set) = record (taken_by w (Only set) (command_of f)) {
@@ -37,7 +37,7 @@ happened w (as_damaged c f set) = record (taken_by w (Only set) (command_of f)) 
   controllers = (happens w (event.Sent c f Damaged)).controllers;
 }
 
--- where it may happen: no other frame than a question is told so
+-- when it may happen: no other frame than a question is told so
 abbrev pub MayHappen : World → Happening → Type 0
 MayHappen w (rightly e) = Allowed w e
 MayHappen w (as_damaged c f set) = IsDestroyed w c f set × (is_question (command_of f) ≡ true)

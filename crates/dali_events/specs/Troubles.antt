@@ -7,7 +7,7 @@ use Rattle.dali_gear.specs.declared.row.Reach.TheVariants.{Everyone, Only}
 use Rattle.dali_events.specs.declared.trouble.Trouble.{Trouble}
 use Rattle.dali_events.specs.declared.trouble.Trouble.TheVariants as trouble
 
--- what is heard under a trouble, where this would be heard without it
+-- what is heard under a trouble, if this would be heard without it
 abbrev pub heard_under : Trouble → Answer → Answer
 heard_under trouble.None plain = plain
 heard_under trouble.AnswerLost plain = Silence
@@ -27,7 +27,7 @@ reach_under trouble.Noise = Everyone
 reach_under (trouble.Destroyed set) = Only set
 reach_under trouble.Collision = Only nobody_at_all
 
--- THE NAMES of troubles in a script. Where nothing disturbs there is none; where a frame is
+-- THE NAMES of troubles in a script. If nothing disturbs there is none; if a frame is
 -- destroyed, the set of gear that take it follows the name.
 abbrev pub trouble_name : Trouble → List ℕ
 trouble_name trouble.None = []

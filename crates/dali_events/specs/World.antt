@@ -32,7 +32,7 @@ pub record World : Type 0 where
   pub gear : List Gear
   -- the requests that wait, in five lists, and who owns the bus
   pub bus : Arbiter
-  -- the frames of the owner's transaction, with what was heard; none where nobody owns the bus
+  -- the frames of the owner's transaction, with what was heard; none if no controller owns the bus
   pub trace : List Entry
   pub controllers : List Controller
   -- the numbers that are left to be drawn

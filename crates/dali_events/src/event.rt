@@ -78,7 +78,7 @@ pub struct Sending {
     /// The controller that sent it.
     pub sender: u8,
     pub frame: Forward,
-    /// What was heard after it. None where it was destroyed.
+    /// What was heard after it. None if it was destroyed.
     pub heard: Option<Answer>,
 }
 
@@ -104,7 +104,7 @@ impl Event {
         }
     }
 
-    /// What was heard after the frame of this event. None where there was no frame, or it was destroyed.
+    /// What was heard after the frame of this event. None if there was no frame, or if it was destroyed.
     pub fn heard(self) -> Option<Answer>
         ensures { result ≡ heard_in self }
     {

@@ -4,9 +4,9 @@ ghost use Rattle.dali_events.specs.Foreign.{is_foreign, changes_addresses, selec
 use dali_frame::Forward;
 use dali_special::Command;
 
-/// Whether a frame of another device may come on the bus at any moment, as of a sensor or a push button: direct arc
-/// power, and what is no addressing command. RESET and SET SHORT ADDRESS change addresses, and PHYSICAL SELECTION is an
-/// addressing command of edition 1, so these three may not.
+/// Whether a frame of another device may come on the bus at any moment, as of a sensor or a push button. Direct arc
+/// power may, and what is no addressing command. RESET and SET SHORT ADDRESS change addresses, and PHYSICAL SELECTION
+/// is an addressing command of edition 1, so these three may not.
 pub fn is_foreign(frame: Forward) -> bool
     ensures { result ≡ is_foreign frame }
 {

@@ -52,8 +52,8 @@ pub fn plain_hearing_is_heard()
     ensures { (answers : List ℕ) → Hears answers (heard_of answers) }
 {}
 
-/// A history grows at the end: one more event moves the world by what it does, and a run goes on with what is allowed
-/// and reserves no address that used gear have.
+/// A history grows at the end. One more event moves the world by what it does. A run goes on with what is allowed and
+/// reserves no address that used gear have.
 pub fn histories_grow_at_the_end()
     ensures world { (p : Plan) (capacity : ℕ) (log : List Event) (e : Event)
         → after p capacity (log ++ e ∷ []) ≡ happens (after p capacity log) e }
@@ -71,7 +71,7 @@ pub fn numbers_are_drawn()
 /// FRAMES FIND GEAR, in every run.
 ///
 /// After a first frame that was not destroyed, and until the second one, no powered gear has a half pair, so none of
-/// INITIALISE or RANDOMISE. Wherever RANDOMISE is sent or destroyed, no powered gear that is not DISABLED has a short
+/// INITIALISE or RANDOMISE. Whenever RANDOMISE is sent or destroyed, no powered gear that is not DISABLED has a short
 /// address. After SEARCHADDRH, SEARCHADDRM and SEARCHADDRL every powered gear that is not DISABLED has the search
 /// address that they set. After QUERY SHORT ADDRESS was heard as `FF`, and until PROGRAM SHORT ADDRESS, none of them
 /// with that random address has a short address.
@@ -93,9 +93,9 @@ pub fn frames_find_gear()
         → EachActive (after p capacity log) (λ g. g.random ≡ value_of r → g.short ≡ None) }
 {}
 
-/// GIFTS STAY RESERVED. At each moment of every run, each short address that a gear was given is reserved by some
-/// controller for the gear's random address, unless the gear is used and came with it; and what a controller has
-/// reserved for a gear that was given the address, it has reserved for good.
+/// GIFTS STAY RESERVED, at each moment of every run. Each short address that a gear was given is reserved by some
+/// controller for the gear's random address, unless the gear is used and came with it. A controller that has reserved
+/// an address for the gear that was given it has reserved it for good.
 pub fn gifts_stay_reserved()
     ensures reserved { (p : Plan) (capacity : ℕ) (front rest : List Event) → IsRun p capacity (front ++ rest)
         → p.used ≡ [] → GiftsAreReserved (after p capacity front) }
@@ -106,13 +106,13 @@ pub fn gifts_stay_reserved()
         → KeepsReserved (after p capacity front) (after p capacity (front ++ later)) }
 {}
 
-/// EVERY RUN IS SAFE. In every world of every run no two gear hold one short address; a gear that holds one holds it,
-/// with its random address, in every later world; and for every kept enrolment of every controller there is the gear
-/// that holds its address and has its number.
+/// EVERY RUN IS SAFE. In every world of every run no two gear hold one short address. A gear that holds one holds it,
+/// with its random address, in every later world. For every kept enrolment of every controller there is the gear that
+/// holds its address and has its number.
 ///
-/// That follows from what was given and drawn: each gear was given at most one short address, and each short address
-/// was given to at most one gear; a gear holds an address exactly where it was given it, and from then on has one
-/// random address for good; and every kept enrolment names the gear that drew its number and was given its address.
+/// That follows from what was given and drawn. Each gear was given at most one short address, and each short address
+/// was given to at most one gear. A gear holds an address exactly if it was given it, and from then on has one
+/// random address for good. Every kept enrolment names the gear that drew its number and was given its address.
 pub fn every_run_is_safe()
     ensures promise { (p : Plan) (capacity : ℕ) (log : List Event) → IsRun p capacity log
         → KeepsPromise p capacity log }
@@ -120,14 +120,15 @@ pub fn every_run_is_safe()
         → IsSafeHistory p capacity log }
 {}
 
-/// USED GEAR KEEP THEIR ADDRESSES. Gear that come with short addresses, all different, and with random addresses of
-/// their own keep both, at each moment of every run. All else that is said of a run is said of them too.
+/// USED GEAR KEEP THEIR ADDRESSES. They come with short addresses, all different, and with random addresses that no
+/// other gear has and no gear will draw. They keep both at each moment of every run. All else that is said of a run is
+/// said of them too.
 ///
 /// A run has a premise for them: no controller reserves a short address that used gear have. A machine that surveys
-/// reserves no address under which it heard somebody
+/// reserves no address under which it heard an answer
 /// (`dali_progress::laws::nothing_is_given_where_somebody_was_heard`). What it cannot hear is a gear without power.
 ///
-/// Where all gear come from the factory each event meets the premise (`factory`), and the site begins with gear that
+/// If all gear come from the factory, each event meets the premise (`factory`), and the site begins with gear that
 /// have nothing and were given nothing (`start`).
 pub fn used_gear_keep_their_addresses()
     ensures kept { (p : Plan) (capacity : ℕ) (front rest : List Event) (u : Used) → IsRun p capacity (front ++ rest)
@@ -139,23 +140,23 @@ pub fn used_gear_keep_their_addresses()
 {}
 
 /// NO TWO TABLES DISAGREE. At each moment of every run, two kept enrolments with one short address, one number or one
-/// gear are the same entry, whosever they are.
+/// gear are the same entry, of whichever controllers they are.
 pub fn no_two_tables_disagree()
     ensures safe { (w : World) → IsSafe w → AreDrawn w → TablesAgree w }
     ensures run { (p : Plan) (capacity : ℕ) (front rest : List Event) → IsRun p capacity (front ++ rest)
         → TablesAgree (after p capacity front) }
 {}
 
-/// FINDINGS AGREE WITH TABLES. At each moment of every run a controller's last finding names a gear, and no kept
-/// enrolment, of whomever, has its short address with another number or its number with another short address.
+/// FINDINGS AGREE WITH TABLES. At each moment of every run a controller's last finding names a gear. No kept
+/// enrolment of any controller has its short address with another number or its number with another short address.
 pub fn findings_agree_with_tables()
     ensures { (p : Plan) (capacity : ℕ) (front rest : List Event) → IsRun p capacity (front ++ rest)
         → FindingsAgree (after p capacity front) }
 {}
 
-/// A RANDOM ADDRESS IS TOLD BY ITS GEAR. Where in a run the first two queries of the random address were sent to one
-/// short address and heard as bytes, and the third is sent and heard as a byte too, the gear that was given that short
-/// address has the random address of the three bytes.
+/// A RANDOM ADDRESS IS TOLD BY ITS GEAR. Suppose that in a run the first two queries of the random address were sent to
+/// one short address and heard as bytes. If the third is sent and heard as a byte too, the gear that was given that
+/// short address has the random address of the three bytes.
 pub fn random_addresses_are_told()
     ensures { (p : Plan) (capacity : ℕ) (log : List Event) (c a high middle low : ℕ) (f g h : Forward)
         → IsRun p capacity (log ++ Sent c h (Byte low) ∷ [])
@@ -164,8 +165,8 @@ pub fn random_addresses_are_told()
         → Names (after p capacity log) (a, number_of high middle low) }
 {}
 
-/// SILENCE IS NOBODY. Where no gear answers a query of a random address to a short address, no gear with power has that
-/// short address. What is heard may be silence where a gear did answer, since answers may be lost: the law speaks of
+/// SILENCE IS NO GEAR. If no gear answers a query of a random address to a short address, no gear with power has that
+/// short address. What is heard may be silence when a gear did answer, since answers may be lost: the law speaks of
 /// the answers.
 pub fn silence_is_nobody()
     ensures { (w : World) (a : ℕ) (part : Part) → answers_of Everyone (RandomByte a part) 0 w.gear ≡ []
@@ -173,28 +174,28 @@ pub fn silence_is_nobody()
 {}
 
 /// QUESTIONS LEAVE GEAR AS THEY WERE. COMPARE, VERIFY SHORT ADDRESS, QUERY SHORT ADDRESS and QUERY RANDOM ADDRESS
-/// change nothing where no gear with power has a half pair, whichever gear they reach. So what a question that was
-/// destroyed leaves of gear, of draws and of gifts is what one leaves that was sent.
+/// change nothing if no gear with power has a half pair, whichever gear they reach. So a question that was destroyed
+/// leaves the same gear, draws and gifts as one that was sent.
 pub fn questions_leave_gear()
     ensures { (w : World) (reach : Reach) (c : Command) → is_question c ≡ true → EachPowered w (λ g. g.half ≡ None)
         → taken_by w reach c ≡ w }
 {}
 
-/// FRAMES OF OTHER DEVICES END HALF PAIRS, in gear with power, and do nothing else: what all gear do that take such a
-/// frame is what its event says.
+/// FRAMES OF OTHER DEVICES END HALF PAIRS, in gear with power, and do nothing else. What all gear that take the frame
+/// do is what its event says.
 pub fn foreign_frames_end_half_pairs()
     ensures { (w : World) (f : Forward) → is_foreign f ≡ true → taken_by w Everyone (command_of f) ≡ after_foreign w }
 {}
 
-/// DESTROYED QUESTIONS MAY BE TOLD AS DAMAGED. Take every history in which some questions were destroyed, their senders
-/// were told that the answers were damaged, and went on so: each keeps the bus while a frame may follow. Then what the
-/// senders were told is a run (`run`), and what there is differs from the world of that run by half pairs alone: where
-/// half pairs are forgotten the two are equal (`world`). As that is so at each moment, no gear executes INITIALISE or
-/// RANDOMISE by a half pair that is left. So the promise holds of what there is, at each moment (`promise`) and from
+/// DESTROYED QUESTIONS MAY BE TOLD AS DAMAGED. Take every history in which some questions were destroyed, and their
+/// senders were told that the answers were damaged and went on so. Each keeps the bus while a frame may follow. Then
+/// what the senders were told is a run (`run`). What there is differs from the world of that run by half pairs alone:
+/// if half pairs are forgotten, the two are equal (`world`). As that is so at each moment, no gear executes INITIALISE
+/// or RANDOMISE by a half pair that is left. So the promise holds of what there is, at each moment (`promise`) and from
 /// each one on (`ever_after`).
 ///
-/// A sender that gives its transaction up, after whatever frame, leaves all as it is where it was told that the frame
-/// was destroyed (`given_up`).
+/// A sender that gives up its transaction, after whatever frame, leaves all as if it had been told that the frame was
+/// destroyed (`given_up`).
 pub fn destroyed_questions_may_be_told_as_damaged()
     ensures run { (p : Plan) (capacity : ℕ) (xs : List Happening) → IsHistory p capacity xs
         → IsRun p capacity (all_told xs) }
@@ -212,23 +213,25 @@ pub fn destroyed_questions_may_be_told_as_damaged()
 {}
 
 /// RECORDS ARE KEPT. At each moment of every run the records of a controller are those of its block, with each address
-/// and each number once of each kind; and its outstanding record may be added to them.
+/// and each number once of each kind. Its outstanding record may be added to them.
 pub fn records_are_kept()
     ensures { (p : Plan) (capacity : ℕ) (front rest : List Event) → IsRun p capacity (front ++ rest)
         → KeepsRecords p (after p capacity front) }
 {}
 
-/// ROLL CALLS ARE ANSWERED, gear by gear, in every run. Where a controller initialises gear, and in the same
-/// transaction asks with COMPARE who is at most `FFFFFF`, each gear that had power from the first INITIALISE on has a
-/// short address by then, or answers. Its initialisation did not run out in that time, and the bus was not quiet
-/// between the two INITIALISE. Nothing is supposed of other gear, of other controllers or of what happened before.
+/// ROLL CALLS ARE ANSWERED, gear by gear, in every run. Suppose that a controller initialises gear, and in the same
+/// transaction asks with COMPARE which gear are at most `FFFFFF`. Then each gear that had power from the first
+/// INITIALISE on has a short address by then, or answers. Its initialisation did not run out in that time, and the bus
+/// was not quiet between the two INITIALISE. Nothing is supposed of other gear, of other controllers or of what
+/// happened before.
 pub fn roll_calls_are_answered()
     ensures { (p : Plan) (capacity : ℕ) (front : List Event) (c : ℕ) (first : Entry) (es : List Event) (compare : Entry)
         → Calls p capacity front c first es compare → AreCalled p capacity front c first es }
 {}
 
-/// ALL FOUND IS TRUE. If a controller sent a whole opening, and later a COMPARE under the search address `FFFFFE` that
-/// no gear answers, every powered gear has a short address, when the COMPARE is sent and afterwards. The premises are:
+/// ALL FOUND IS TRUE. Suppose that a controller sent a whole opening, and later a COMPARE under the search address
+/// `FFFFFE` that no gear answers. Then every powered gear has a short address, when the COMPARE is sent and afterwards.
+/// The premises are:
 ///
 /// - Since the opening's first frame no gear's power came or went, no initialisation expired, the bus was not quiet for
 ///   long, and no other TERMINATE was sent or destroyed.

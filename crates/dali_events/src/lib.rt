@@ -1,7 +1,7 @@
 //! A site as definitions: its plan, the events of its log, the world that they lead to, and the laws of every run.
 //!
 //! The code here makes plans and names events. What an event does, which events are allowed and what is promised of
-//! every list of them stands in `specs/`, over the definitions of the lower crates; `laws` has what is proved.
+//! every list of them stands in `specs/`, over the definitions of the lower crates. `laws` has what is proved.
 #![tactic(auto)]
 
 mod event;

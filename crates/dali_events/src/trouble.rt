@@ -64,7 +64,7 @@ impl Trouble {
         }
     }
 
-    /// What is heard after a frame that is sent, where `plain` would be heard without trouble.
+    /// What is heard after a frame that is sent, if `plain` would be heard without trouble.
     pub fn heard(self, plain: Answer) -> Answer
         ensures { result ≡ heard_under self plain }
     {

@@ -44,8 +44,8 @@ abbrev pub IsTold : Option Order → Option Input → Type 0
 IsTold last None = Unit {0}
 IsTold last (Some i) = accepts (due_after last) i ≡ true
 
--- A record is outstanding from its Commit on, and may be kept then; none is while the machine waits
--- for something else, but one may have been left over where the machine has ended.
+-- A record is outstanding from its Commit on, and may be kept then. None is outstanding while the
+-- machine waits for something else, but one may have been left over when the machine has ended.
 abbrev pub IsOutstanding : Kept → Option Order → Option Record → Type 0
 IsOutstanding k (Some (Commit x)) outstanding =
     (outstanding ≡ Some x) × Fits k.block x × MayAdd k x
@@ -55,8 +55,8 @@ IsOutstanding k (Some (Put p f)) outstanding = outstanding ≡ None
 IsOutstanding k None outstanding = outstanding ≡ None
 
 -- The finding of the running transaction, if it has one, is the last finding of the controller. The
--- controller finds when a frame is sent, the machine when it acts on what was heard; where the bus
--- lapses between the two it never does.
+-- controller finds when a frame is sent, the machine when it acts on what was heard; if the bus
+-- lapses between the two, the machine never does.
 abbrev pub IsFound : Controller → Machine → Type 0
 IsFound k m = later k.finding (finding_of (informed_by m k.told).trace) ≡ k.finding
 
@@ -171,7 +171,7 @@ abbrev pub trace_of : Option Machine → List Entry
 trace_of None = []
 trace_of (Some m) = m.trace
 
--- those that it goes on with, where it owns the bus
+-- those that it goes on with, if it owns the bus
 abbrev pub running_if : Bool → Option Machine → List Entry
 running_if owned m = if owned then trace_of m else []
 

@@ -22,8 +22,8 @@ use Rattle.dali_events.specs.Happens.{entry, is_arc}
 use Rattle.dali_standing.specs.Seats.{Seat, trace_of, IsRunning}
 use Rattle.dali_standing.specs.Standing.{Standing, Seated, seat_in, controller_on, machine_in}
 
--- HOW BUS AND CONTROLLERS GO TOGETHER on a site. It holds at each moment of a site, where each
--- frame that is sent was next; it isn't so in every run of the definitions.
+-- HOW BUS AND CONTROLLERS GO TOGETHER on a site. It holds at each moment of a site: there each
+-- frame that is sent was next. It isn't so in every run of the definitions.
 
 -- ---------------------------------------------------------------- a controller and the bus
 

@@ -73,7 +73,7 @@ abbrev pub machines_of : List Seat → List (Option Machine)
 machines_of seats = map (λ p. p.machine) seats
 
 -- the frames of the transaction that runs: those of the owner's machine, and behind them the last
--- one, where the owner was told what was heard after it, and has not acted on that
+-- one, if the owner was told what was heard after it, and has not acted on that
 abbrev pub running_told : List Entry → Option Order → Option Input → List Entry
 running_told t (Some (Put p f)) (Some (input.Heard h)) = t ++ entry f h ∷ []
 running_told t (Some (Put p f)) (Some input.Start) = t

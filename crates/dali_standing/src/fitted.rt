@@ -70,7 +70,7 @@ impl FittedGear {
         self.draws.len() - self.used < self.gear.draws_needed(&Command::read(frame), reach)
     }
 
-    /// The gear that the frame reaches take it. Answers what is heard where nothing disturbs the backward frames.
+    /// The gear that the frame reaches take it. Answers what is heard if nothing disturbs the backward frames.
     pub(crate) fn take(&mut self, frame: Forward, reach: Reach) -> Answer
         requires draws { draws_needed reach (command_of frame) 0 self.old.gear ≤ length self.old.left }
         requires room { length (self.old.gifts

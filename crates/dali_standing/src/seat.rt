@@ -172,8 +172,8 @@ impl Seat {
         *self = Seat::begun(Machine::new(id, copy));
     }
 
-    /// How far its transaction is once its frame was sent, and this was heard: the one that its machine goes on with,
-    /// where it owns the bus, or a new one.
+    /// How far its transaction is once its frame was sent, and this was heard. It is the transaction that its machine
+    /// goes on with, if it owns the bus, or a new one.
     pub(crate) fn reached(&self, owned: bool, frame: Forward, heard: Answer) -> Stage
         requires { IsLawful (running_if owned self.now.machine) frame }
         ensures { IsReached result (running_if owned self.now.machine ++ entry frame heard ∷ []) }
@@ -184,7 +184,7 @@ impl Seat {
         }
     }
 
-    /// Whether a frame may follow, where its transaction is that far.
+    /// Whether a frame may follow, if its transaction is that far.
     pub(crate) fn goes_on(&self, reached: &Stage) -> bool
         ensures { result ≡ may_follow self.now.controller.records.block self.now.controller.records.reserved
             reached.now }
@@ -192,7 +192,7 @@ impl Seat {
         reached.goes_on(&self.kept().view())
     }
 
-    /// What the bus has told the controller, and it has not acted on.
+    /// What the bus has told the controller, if the controller has not acted on it.
     pub fn told(&self) -> Option<Input>
         ensures { result ≡ self.now.controller.told }
     {

@@ -35,9 +35,9 @@ use std::marker::Model;
 /// What stands on a site at one moment: its gear, the requests that wait for its bus, and a place for each controller.
 /// The frames of the running transaction are those of the machine that owns the bus.
 ///
-/// Controllers and gear are named by their numbers, which must be there. The caller tests what its call asks for:
-/// `Seat::is_up` and `may_act` before `act`, `is_crowded` before `act` and `offer`, `next_request` and `is_spent`
-/// before a request is sent, destroyed or collides, `agreement` before `up`.
+/// Controllers and gear are named by their numbers, which must be there. The caller tests what its call asks for.
+/// It tests `Seat::is_up` and `may_act` before `act`, and `is_crowded` before `act` and `offer`. It tests
+/// `next_request` and `is_spent` before a request is sent, destroyed or collides, and `agreement` before `up`.
 #[derive(Drop)]
 pub struct Standing {
     fitted: FittedGear,
@@ -221,8 +221,8 @@ impl Standing {
         lose(seat, request.frame);
     }
 
-    /// The request that is next collides with the one behind it in its list, where another controller has put that
-    /// there; else it is destroyed, and no gear takes its frame. Answers the other request.
+    /// The request that is next collides with the one behind it in its list, if another controller has put that
+    /// there. Else it is destroyed, and no gear takes its frame. Answers the other request.
     pub fn collide(&mut self, request: Request) -> Option<Request>
         requires next { next self.old.bus ≡ Some request }
         requires draws { draws_needed (Only nobody_at_all) (command_of request.frame)

@@ -97,11 +97,11 @@ pub record IsSound (s : SiteState) : Type 0 where
 
 -- ---------------------------------------------------------------- a survey that has found all
 
--- controller c has called the roll twice, and nobody was heard; since then it only closes
+-- controller c has called the roll twice, and no gear was heard; since then it only closes
 abbrev pub RollWasCalled : SiteState → ℕ → Type 0
 RollWasCalled s c = HasCalledTwice s.plan s.queue IsClosing s.log c
 
--- its machine's last order, where a roll call runs: the next of its frames, if a frame
+-- its machine's last order, if a roll call runs: the next of its frames, if a frame
 abbrev pub IsCalling : SearchAddress → List Entry → Option Order → Type 0
 IsCalling n t None = ⊥
 IsCalling n t (Some (Put p f)) = IsFront t f (roll_call n) × (value_of n ≡ MASK24)
@@ -130,7 +130,7 @@ pub record WasSilent (s : SiteState) (c : ℕ) : Type 0 where
   pub called : HasCalled s.plan s.queue (λ o. Unit {0}) earlier c
 
 -- WHAT THE LOG REMEMBERS of controller c and its machine: what it is told was heard of its last
--- frame; and once a survey closes with all-found, that the roll was called.
+-- frame. Once a survey closes with all-found, it remembers that the roll was called.
 pub record Remembers (s : SiteState) (k : Controller) (c : ℕ) (m : Machine) : Type 0 where
   pub unstarted : m.last ≡ None → m.course.purpose ≡ Opening
   pub calling : m.course.purpose ≡ Calling → IsCalling m.course.number m.trace m.last
@@ -317,7 +317,7 @@ next_request s = next (world s).bus
 abbrev pub WasOrdered : SiteState → ℕ → Forward → Type 0
 WasOrdered s c f = IsArc f ⊎ (frame_put (controller_at (world s) c).last ≡ Some f)
 
--- a frame is sent where nothing or its answers are disturbed
+-- a frame is sent if nothing is disturbed, or its answers alone are
 abbrev pub IsSendable : Trouble → Type 0
 IsSendable trouble.None = Unit {0}
 IsSendable trouble.AnswerLost = Unit {0}

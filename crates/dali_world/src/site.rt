@@ -34,13 +34,13 @@ use std::marker::Model;
 /// A site: its gear, its bus and its controllers, with a log of all that happened on it.
 ///
 /// Its calls are of four kinds. Controllers: `act`, `arc`, `up`. The bus: `pump`. What happens from outside: `befall`,
-/// and for each thing that does, but a foreign frame, a call of its own: `lapse`, `quiet`, `power`, `expire`, `down`.
+/// and a separate call for each kind but a foreign frame: `lapse`, `quiet`, `power`, `expire`, `down`.
 ///
-/// Readers change nothing: `next`, `due` and `ordered` say what a controller may act on, `idle` whether a request waits
-/// for `pump`, `is_crowded` whether none more may wait; `log`, `gear`, `kept`, `table`, `gifts`, `owner` and `plan`
-/// show what there is; `is_safe` says what is promised.
+/// Readers change nothing. `next`, `due` and `ordered` say what a controller may act on. `idle` says whether a request
+/// waits for `pump`, and `is_crowded` whether none more may wait. `log`, `gear`, `kept`, `table`, `gifts`, `owner` and
+/// `plan` show what there is. `is_safe` says what is promised.
 ///
-/// A site in use: each controller that has something due acts, then `pump`, and so on; where an act ordered a `Commit`,
+/// A site in use: each controller that has something due acts, then `pump`, and so on. When an act ordered a `Commit`,
 /// the record is stored and `Committed` acted on. Nothing promises that this ends: bound the loop.
 ///
 /// Contracts see the plan, the two capacities and the log, from which everything else follows. Each accepted call adds
@@ -104,15 +104,15 @@ impl SiteState {
         })
     }
 
-    /// A controller acts on an input: on what `next` says, or on the outcome of its Commit where `due` is Store. Its
+    /// A controller acts on an input: on what `next` says, or on the outcome of its Commit if `due` is Store. Its
     /// frame waits for the bus from now on.
     ///
     /// It never orders `Halt(Conflict)`: a finding and an entry of a table are both true of the gear for good. A record
     /// that it orders fits the block that the plan gives to the controller.
     ///
     /// Refusals, in this order: 1 UnknownController, 2 ControllerDown, 3 NotDue, 7 QueueFull (whatever it would order),
-    /// 8 LogFull, 10 AddressInUse: it would order to reserve a short address that used gear have. A machine that
-    /// surveys reserves no address under which it heard somebody.
+    /// 8 LogFull, 10 AddressInUse. The last means that it would order to reserve a short address that used gear have. A
+    /// machine that surveys reserves no address under which it heard an answer.
     #[tactic(auto, unfolding(crate::specs::Site::Acts))]
     pub fn act(&mut self, c: u8, input: Input) -> Result<Receipt, Refusal>
         ensures sound { IsSound self.old }
@@ -128,7 +128,7 @@ impl SiteState {
         ensures records { IfOk result (λ receipt. (m : Machine) → machine_at self.old c ≡ Some m
             → m.kept ≡ (controller_at (world self.old) c).records) }
         ensures waits { IfOk result (λ receipt. Waits (machine_at self.old c) input) }
-        // A survey that ends with all-found called the roll twice before it closed, and nobody was heard.
+        // A survey that ends with all-found called the roll twice before it closed, and no gear was heard.
         ensures found { IfOk result (λ receipt. (m : Machine) → machine_at self.old c ≡ Some m
             → m.course.way ≡ Surveying → receipt.order ≡ order.Done AllFound → RollWasCalled self.old c) }
         ensures unchanged { OnErr result (self.new ≡ self.old) }
@@ -207,10 +207,11 @@ impl SiteState {
         }
     }
 
-    /// Something happens from outside. Nobody is told of it, but the owner that loses the bus, if there is one.
+    /// Something happens from outside. No controller is told of it but the owner that loses the bus, if there is one.
     ///
-    /// Refusals, in this order: 1 UnknownGear or UnknownController, 2 ControllerDown, 8 LogFull; 11 NotForeign: a frame
-    /// of another device is an addressing command, or RESET or SET SHORT ADDRESS, which change addresses.
+    /// Refusals, in this order: 1 UnknownGear or UnknownController, 2 ControllerDown, 8 LogFull, 11 NotForeign. The
+    /// last means that a frame of another device is an addressing command, or RESET or SET SHORT ADDRESS, which change
+    /// addresses.
     pub fn befall(&mut self, what: Outside) -> Result<(), Refusal>
         ensures befell { OnOk result (Befalls self.old what self.new) }
         ensures refused { IfErr result (IsBefallRefused self.old what) }
@@ -222,7 +223,7 @@ impl SiteState {
         Ok(())
     }
 
-    /// The owner loses the bus, and is told so in place of what it has not acted on. Answers who it was, if anybody.
+    /// The owner loses the bus, and is told so in place of what it has not acted on. Answers the owner, if any.
     ///
     /// Refusal: 8 LogFull.
     pub fn lapse(&mut self) -> Result<Option<u8>, Refusal>
@@ -321,8 +322,8 @@ impl SiteState {
         &self.log
     }
 
-    /// What the bus has told controller `c`, which must be there, and it has not acted on; or Start, where it has not
-    /// started: the input that `act` takes. None while it is down.
+    /// What the bus has told controller `c`, which must be there, if `c` has not acted on it; or Start, if `c` has not
+    /// started. This is the input that `act` takes. None while it is down.
     pub fn next(&self, c: u8) -> Option<Input>
         requires { c < length self.now.plan.blocks }
         ensures { result ≡ (controller_at (world self.now) c).told }
@@ -338,7 +339,7 @@ impl SiteState {
         self.standing.seat(c).due()
     }
 
-    /// The record whose commit is due for controller `c`, which must be there: the one that it ordered last. None where
+    /// The record whose commit is due for controller `c`, which must be there: the one that it ordered last. None if
     /// `due` is not Store.
     pub fn ordered(&self, c: u8) -> Option<Record>
         requires { c < length self.now.plan.blocks }
@@ -385,8 +386,8 @@ impl SiteState {
 
     /// THE PROMISE, of this site. Calling it costs nothing; what it says is said of the whole log.
     ///
-    /// At each moment of the log no two gear hold one short address; a gear that holds one keeps it, with its random
-    /// address, ever after; and for each record of enrolment that a controller keeps there is the gear that holds that
+    /// At each moment of the log no two gear hold one short address. A gear that holds one keeps it, with its random
+    /// address, ever after. For each record of enrolment that a controller keeps there is the gear that holds that
     /// address and has that number, so no two tables disagree. `KeepsPromise` says it, in `specs/Promise` of
     /// `dali_events`; the other clauses say more, of what was given and drawn. All gear and all controllers of the plan
     /// are there, and each controller keeps records of its block.
