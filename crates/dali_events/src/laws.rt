@@ -221,9 +221,9 @@ pub fn records_are_kept()
 
 /// ROLL CALLS ARE ANSWERED, gear by gear, in every run. Suppose that a controller initialises gear, and in the same
 /// transaction asks with COMPARE which gear are at most `FFFFFF`. Then each gear that had power from the first
-/// INITIALISE on has a short address by then, or answers. Its initialisation did not run out in that time, and the bus
-/// was not quiet between the two INITIALISE. Nothing is supposed of other gear, of other controllers or of what
-/// happened before.
+/// INITIALISE on has a short address by then, or answers. Its initialisation did not run out in that time. Between the
+/// two INITIALISE the bus was not quiet, and no other device sent a frame. Nothing is supposed of other gear, of other
+/// controllers or of what happened before.
 pub fn roll_calls_are_answered()
     ensures { (p : Plan) (capacity : ℕ) (front : List Event) (c : ℕ) (first : Entry) (es : List Event) (compare : Entry)
         → Calls p capacity front c first es compare → AreCalled p capacity front c first es }
