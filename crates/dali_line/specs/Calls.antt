@@ -50,8 +50,8 @@ ComesUp s c copy result new =
     OnOk result (IsUpWith s c copy new) × IfErr result (IsRefusedUp s c copy)
     × OnErr result (new ≡ s)
 
--- WHAT THE CALLS OF A LINE SAY to whoever knows it as a `Bus`: each is one of a site found under
--- the lock, between the shares before and after it.
+-- WHAT THE CALLS OF A LINE SAY to a caller that knows it as a `Bus`. Each is a call of a site found
+-- under the lock, between the shares before and after it.
 
 abbrev pub ActsFrom : PortShare → Input → Order → PortShare → Type 0
 ActsFrom port input ordered after =

@@ -11,9 +11,9 @@ all_settled = Settled ∷ Settled ∷ Settled ∷ Settled ∷ []
 abbrev pub state_of : List CommitState → ℕ → CommitState
 state_of states c = slice_index_or states c Settled
 
--- WHETHER A CONTROLLER MAY COME UP with a copy of records, where the site remembers `kept`: not
--- while its worker is at a commit; and where the worker has made one and could not tell, not
--- without its record.
+-- WHETHER A CONTROLLER MAY COME UP with a copy of records, when the site remembers `kept`. It may
+-- not while its worker is at a commit. If the worker has made one and could not tell, it may not
+-- come up without that record.
 abbrev pub MayComeUp : CommitState → Kept → Kept → Type 0
 MayComeUp Settled kept copy = Unit {0}
 MayComeUp Begun kept copy = ⊥

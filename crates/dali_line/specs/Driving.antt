@@ -4,7 +4,7 @@ use Rattle.dali_events.specs.declared.trouble.Trouble.TheVariants as trouble
 use Rattle.dali_standing.specs.declared.report.Report.{Report}
 
 -- WHAT A PUMPER DID, one thing after the other: a report is that of a pump which nothing disturbed,
--- None that the bus lapsed, where nothing could be sent.
+-- None that the bus lapsed, when nothing could be sent.
 abbrev pub AreDriven : (ℕ → Trouble → Report → ℕ → Type 0) → (ℕ → Type 0) → (ℕ → ℕ → Type 0) → ℕ
     → List (Option Report) → ℕ → Type 0
 AreDriven pumped stuck lapsed from [] to = to ≡ from

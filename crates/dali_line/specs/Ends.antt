@@ -30,8 +30,8 @@ pub record EndsAt (o : Order) (steps : List Step) : Type 0 where
   pub whole : steps ≡ before ++ step_of input o ∷ []
   pub on : GoOn before
 
--- a refusal that ends a run where the controller was to act on this: not where the bus lapsed
--- meanwhile, the controller is down, or no request more may wait
+-- a refusal to act on this ends the run: not if the bus lapsed before the controller acted, if the
+-- controller is down, or if no request more may wait
 abbrev pub IsFinal : Refusal → Input → Type 0
 IsFinal refusal.NotDue input.Committed = Unit {0}
 IsFinal refusal.NotDue input.CommitFailed = Unit {0}
@@ -53,7 +53,7 @@ IsFinal refusal.NoMemory i = Unit {0}
 IsFinal refusal.AddressInUse i = Unit {0}
 IsFinal refusal.NotForeign i = Unit {0}
 
--- the end of a run at an order, and where its controller was refused to act on this, if it is one
+-- the end of a run at an order, and when its controller was refused to act on this, if it is one
 abbrev pub end_of : Order → Option Outcome
 end_of (order.Put p f) = None
 end_of (order.Commit r) = None
@@ -91,8 +91,7 @@ stops outcome.TurnsSpent = true
 stops outcome.Stopped = true
 stops outcome.NoMemory = true
 
--- HOW A RUN ENDS, by its steps and by what was found at a port that is so then; None where it goes
--- on.
+-- HOW A RUN ENDS, by its steps and by what was found at a port that is so then; None if it goes on.
 abbrev pub IsEnd : Facts → PortShare → Option Outcome → List Step → Type 0
 IsEnd b to None steps = GoOn steps
 IsEnd b to (Some (outcome.Ended e)) steps = EndsAt (order.Done e) steps
@@ -117,7 +116,7 @@ IsCount (Some (outcome.Refused e)) n most = n ≤ most
 IsCount (Some outcome.Stopped) n most = n ≤ most
 IsCount (Some outcome.NoMemory) n most = n ≤ most
 
--- a record that was due may be in the store and not told, where the controller could not be told
+-- a record that was due may be in the store and not told, if the controller could not be told
 abbrev pub IsLeft : Option Outcome → Option Record → List Record → Type 0
 IsLeft None due left = left ≡ []
 IsLeft (Some (outcome.Ended e)) due left = left ≡ []

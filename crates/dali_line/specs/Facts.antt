@@ -7,8 +7,8 @@ use Rattle.dali_standing.specs.declared.refusal.Refusal.{Refusal}
 use Rattle.dali_line.specs.Shares.{PortShare}
 use Rattle.dali_line.specs.Steps.{given_of}
 
--- WHAT A CONTROLLER MAY BE GIVEN to act on: what became of its commit; or what the bus told it,
--- with Survey in place of Start where it begins by a survey.
+-- WHAT A CONTROLLER MAY BE GIVEN to act on. That is what became of its commit; or what the bus told
+-- it, with Survey in place of Start if it begins by a survey.
 abbrev pub IsGiven : (PortShare → Input → Type 0) → Bool → PortShare → Input → Type 0
 IsGiven told surveys p i =
     (i ≡ input.Committed) ⊎ (i ≡ input.CommitFailed)

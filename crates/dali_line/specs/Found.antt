@@ -11,8 +11,8 @@ use Rattle.dali_line.specs.Counts.{others_of, counts_of}
 use Rattle.dali_line.specs.declared.ready.Ready.{Ready}
 use Rattle.dali_line.specs.declared.ready.Ready.TheVariants as ready
 
--- A SITE AS IT IS FOUND UNDER THE LOCK by whoever knows one share of its log: it keeps its promise,
--- and `count`, how many of its events are the finder's, is that share.
+-- A SITE AS IT IS FOUND UNDER THE LOCK by a caller that knows one share of its log. The site keeps
+-- its promise, and `count`, how many of its events are the caller's, is that share.
 pub record IsFound (s : SiteState) (count known : ℕ) : Type 0 where
   pub sound : IsSound s
   pub promise : KeepsPromise s.plan s.queue s.log
@@ -75,7 +75,7 @@ abbrev pub HaveEnded : SiteState → Type 0
 HaveEnded s =
     (c : ℕ) → c < length s.plan.blocks → due_of (controller_at (world s) c) ≡ due.Nothing
 
--- nobody owns the bus, no request waits for it, and all controllers have ended
+-- no controller owns the bus, no request waits for it, and all controllers have ended
 pub record IsOver (s : SiteState) : Type 0 where
   pub free : (world s).bus.owner ≡ None
   pub idle : next_request s ≡ None
@@ -99,8 +99,8 @@ pub record IsBusy (stopped : Bool) (s : SiteState) : Type 0 where
   pub room : IsCrowded s → ⊥
   pub more : IsOver s → ⊥
 
--- A SITE THAT A LINE GIVES BACK: it keeps its promise, each share that came back is what its log
--- has, and each event of the log is in one of the five shares, and in one alone.
+-- A SITE THAT A LINE GIVES BACK. It keeps its promise, and each share that came back is what its
+-- log has. Each event of the log is in one of the five shares, and in one alone.
 pub record IsGivenBack (s : SiteState) (ports : List PortShare) (driver : ℕ) : Type 0 where
   pub sound : IsSound s
   pub promise : KeepsPromise s.plan s.queue s.log

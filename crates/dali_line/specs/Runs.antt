@@ -18,8 +18,8 @@ use Rattle.dali_line.specs.Posted.{StillStands, HasPosted, ArePosted, LearnsOf}
 use Rattle.dali_line.specs.Facts.{Facts}
 use Rattle.dali_line.specs.Ends.{end_of, end_when_refused, IsEnd, IsCount, IsLeft}
 
--- A TURN in which the controller did not act: nothing was due for it, or what was due was gone when
--- it was to act, or the record that was due is not the one that the run's last step ordered.
+-- A TURN in which the controller did not act. Nothing was due for it, or what was due was gone when
+-- it was to act. Or the record that was due is not the one that the run's last step ordered.
 abbrev pub IsIdle : Facts → Option Order → PortShare → Type 0
 IsIdle bus before p =
     (bus.untold p × bus.unordered p) ⊎ ((i : Input) × bus.refused p i refusal.NotDue)
@@ -39,7 +39,7 @@ steps_in [] = []
 steps_in (Some s ∷ ts) = s ∷ steps_in ts
 steps_in (None ∷ ts) = steps_in ts
 
--- a record that is due: by the order before, or, where none came before, by what the bus answered
+-- a record that is due: by the order before, or, if none came before, by what the bus answered
 abbrev pub IsKnownDue : Facts → Option Order → PortShare → Option Record → Type 0
 IsKnownDue bus before from due =
     IfSome due (λ r. MatchOption before (bus.ordered from r) (λ o. o ≡ order.Commit r))
@@ -57,8 +57,9 @@ pub record Gives {S : Type 0} (is_up is_sound : S → Type 0) (holds : S → Lis
   pub list : is_sound old → is_up new → (xs : List Record) → holds old xs
       → (more : List Record) × TakesIn (block_of new) xs due i more × holds new (xs ++ more)
 
--- WHAT CAME OF GIVING IT: the controller acted, the record was posted, and the run ends as the
--- order says, or for want of memory; or it was refused, and the run ends as the refusal says.
+-- WHAT CAME OF GIVING IT. Either the controller acted, the record was posted, and the run ends as
+-- the order says, or for want of memory. Or the controller was refused, and the run ends as the
+-- refusal says.
 abbrev pub Tells : Facts → Option Order → Option Order → PortShare → PortShare → Input → Pass → Pass
     → Option Record → Option Outcome → Type 0
 Tells bus before after from to i was is kept end =
@@ -68,12 +69,12 @@ Tells bus before after from to i was is kept end =
     ⊎ ((e : Refusal) × bus.refused from i e × (to ≡ from) × (after ≡ before) × (is ≡ was)
     × (end ≡ end_when_refused e i) × (e ≡ refusal.QueueFull → bus.is_stopped))
 
--- A WORKER'S RUN of at most so many turns, with its store and its pass: the turns that were taken
--- with its port, how it ended, and what its store took in meanwhile: records that were due, each
--- once and in the order of the steps that ordered them. What the pass learned are enrolments of
--- which the controller was told, and each of these is posted. `before` is the order before the
--- first turn, where that was a step of this run too; else it is None, and the bus tells what was
--- due.
+-- A WORKER'S RUN of at most so many turns, with its store and its pass. It has the turns that were
+-- taken with its port, how it ended, and what its store took in during these turns. The store took
+-- in records that were due, each once and in the order of the steps that ordered them. What the
+-- pass learned are enrolments of which the controller was told, and each of these is posted.
+-- `before` is the order before the first turn, if that was a step of this run too; else it is None,
+-- and the bus tells what was due.
 pub record Runs {S : Type 0} (is_up is_sound : S → Type 0) (holds : S → List Record → Type 0)
     (block_of : S → Block) (bus : Facts) (before after : Option Order) (from to : PortShare)
     (old new : S) (was is : Pass) (most : ℕ) (end : Option Outcome) : Type 0 where

@@ -1,7 +1,7 @@
 use Rattle.std.specs.Prelude.{◌≡◌, ℕ, zero, suc, ◌+◌, ◌≤◌}
 
--- A PORT, as contracts see it: the controller that it speaks for, and how many events
--- of the line's log are steps of that controller, as far as its holder knows.
+-- A PORT, as contracts see it: the controller that it speaks for, and its share. The share is how
+-- many events of the line's log are steps of that controller, as far as its holder knows.
 pub record PortShare : Type 0 where
   pub controller : ℕ
   pub share : ℕ
@@ -24,7 +24,7 @@ abbrev pub no_share : PortShare
 no_share = port_share 255 0
 
 -- THE TALLY of a line: how many events of its log are steps of the controllers 0 to 3, and how many
--- are of nobody.
+-- are no controller's step.
 pub record Tally : Type 0 where
   pub first : ℕ
   pub second : ℕ
@@ -76,7 +76,7 @@ raised t (suc (suc (suc zero))) = record {
 }
 raised t (suc (suc (suc (suc c)))) = t
 
--- and one event of nobody more
+-- and one event more that is no controller's step
 abbrev pub raised_driver : Tally → Tally
 raised_driver t = record {
   first = t.first;

@@ -16,17 +16,17 @@ pub record Step : Type 0 where
 abbrev pub step_of : Input → Order → Step
 step_of i o = record { input = i; order = o }
 
--- the order of the last of these steps; where there is none, of the one before them
+-- the order of the last of these steps; if there is none, of the one before them
 abbrev pub last_order : Option Order → List Step → Option Order
 last_order before [] = before
 last_order before (s ∷ ss) = last_order (Some s.order) ss
 
--- the record whose commit is due after these steps, where this one's was due before them
+-- the record whose commit is due after these steps, if this one's was due before them
 abbrev pub due_then : Option Record → List Step → Option Record
 due_then due [] = due
 due_then due (s ∷ ss) = due_then (record_ordered (Some s.order)) ss
 
--- what became of a commit is told only where one was due
+-- what became of a commit is told only if one was due
 abbrev pub IsDueFor : Option Record → Input → Type 0
 IsDueFor due input.Committed = IsSome due
 IsDueFor due input.CommitFailed = IsSome due
@@ -40,8 +40,8 @@ abbrev pub AreDue : Option Record → List Step → Type 0
 AreDue due [] = Unit {0}
 AreDue due (s ∷ ss) = IsDueFor due s.input × AreDue (record_ordered (Some s.order)) ss
 
--- WHAT A STORE TAKES IN until its controller is told this: where that is what became of a commit,
--- the record that was due, or nothing; of all else nothing. Committed is told of a record that is
+-- WHAT A STORE TAKES IN until its controller is told this: if that is what became of a commit, the
+-- record that was due, or nothing; of all else nothing. Committed is told of a record that is
 -- stored then.
 abbrev pub TakesIn : Block → List Record → Option Record → Input → List Record → Type 0
 TakesIn b xs due input.Committed more =
@@ -89,7 +89,7 @@ IsOfBus input.Lapsed = Unit {0}
 IsOfBus input.Committed = ⊥
 IsOfBus input.CommitFailed = ⊥
 
--- what a worker gives its controller that was told this: Survey for Start, where it surveys
+-- what a worker gives its controller that was told this: Survey for Start, if it surveys
 abbrev pub given_of : Bool → Input → Input
 given_of true input.Start = input.Survey
 given_of false input.Start = input.Start

@@ -23,15 +23,16 @@ use std::sync::Wait;
 use std::sync::ledger::Ledger;
 
 /// A site that threads share: all that a worker and a pumper need of it. A [`Line`] is one; a vendor may write another,
-/// as one round a line that counts its calls.
+/// for example one around a line that counts its calls.
 ///
 /// No call hands out a lock, so none is held from one call to the next.
 ///
 /// Contracts see a port by `share`: the controller that it speaks for, and its share, how many events are steps of that
 /// controller. They see a driver by `driven`, its share: how many events are no controller's step.
 ///
-/// What a call was answered they see by relations, which say it of the shares before and after. What knows a bus by
-/// this trait alone, as a `Worker`, has them from nothing but a call: so its contract says by them what it did.
+/// Contracts see by relations what a call was answered: these say it of the shares before and after. A caller that
+/// knows a bus by this trait alone, like a `Worker`, has these relations from its calls alone. So its contract says by
+/// them what it did.
 ///
 /// - `acted`: the port's controller acted on this input, and ordered this.
 /// - `refused`: it was refused to act on this input.
@@ -81,7 +82,7 @@ pub trait Bus {
 
     ghost is_told_to_stop: { Self → Type 0 };
 
-    /// The number of the port's controller; 255 where it speaks for nobody.
+    /// The number of the port's controller; 255 if it speaks for no controller.
     fn controller(&self, port: &Self::Port) -> u8
         ensures { result ≡ (share port.now).controller };
 
@@ -105,14 +106,14 @@ pub trait Bus {
     fn due<R: Wait>(&self, rt: &R, port: &mut Self::Port) -> Due
         ensures { share port.new ≡ share port.old };
 
-    /// Waits until something is due for the port's controller (true); or all is stopped, or the controller is down
+    /// Waits until something is due for the port's controller (true), or until all is stopped or the controller is down
     /// (false).
     fn wait<R: Wait>(&self, rt: &R, port: &mut Self::Port) -> bool
         ensures same { share port.new ≡ share port.old }
         ensures ended { result ≡ false → is_stopped self.now ⊎ is_down (share port.old) };
 
-    /// The port's holder begins the commit that is due, if one is: of the record that is answered. Until the controller
-    /// was told what became of it, or `end_commit`, nobody brings the controller up.
+    /// The port's holder begins the commit that is due, if one is, and is answered its record. Until the controller is
+    /// told what became of it, or until `end_commit`, no call brings the controller up.
     fn begin_commit<R: Wait>(&self, rt: &R, port: &mut Self::Port) -> Option<Record>
         ensures same { share port.new ≡ share port.old }
         ensures ordered { IfSome result (ordered (share port.old)) }
@@ -127,7 +128,7 @@ pub trait Bus {
         ensures same { share port.new ≡ share port.old }
         ensures ended { result ≡ false → is_stopped self.now };
 
-    /// The request that is next comes on the bus; Idle where none is.
+    /// The request that is next comes on the bus; Idle if there is none.
     fn pump<R: Wait>(
         &self,
         rt: &R,
@@ -138,7 +139,7 @@ pub trait Bus {
         ensures refused { OnErr result (driven driver.new ≡ driven driver.old) }
         ensures pumped { IfOk result (λ r. pumped (driven driver.old) trouble r (driven driver.new)) };
 
-    /// The owner of the bus loses it. Answers who it was, if anybody.
+    /// The owner of the bus loses it. Answers which controller it was; None if there was no owner.
     fn lapse<R: Wait>(&self, rt: &R, driver: &mut Self::Driver) -> Result<Option<u8>, Refusal>
         ensures accepted { OnOk result (driven driver.new ≡ driven driver.old + 1) }
         ensures refused { OnErr result (driven driver.new ≡ driven driver.old) }
@@ -151,7 +152,7 @@ pub trait Bus {
         ensures over { result ≡ ready.Over → is_over (driven driver.old) }
         ensures stopped { result ≡ ready.Stopped → is_stopped self.now };
 
-    /// All is stopped, for good: who waits now or later is told so.
+    /// All is stopped, for good: a thread that waits now or later is told so.
     fn stop<R: Wait>(&self, rt: &R)
         ensures { is_told_to_stop self.now };
 

@@ -8,7 +8,7 @@ use dali_script::Record;
 /// Whether the store has a record then. It is committed, if the store answers its records and they do not show it yet,
 /// and if it fits them.
 ///
-/// They show it where a worker before committed it and could not tell.
+/// They show it if an earlier worker committed it and could not tell.
 #[tactic(auto, using(crate::proofs::Storing::there_stored))]
 pub(crate) fn try_commit<K: Keep>(keep: &mut K, added: &Record) -> bool
     ensures block { K.block keep.new ≡ K.block keep.old }

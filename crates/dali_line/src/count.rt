@@ -1,4 +1,5 @@
-//! How many events of a log are whose. A line counts once, when it is made.
+//! Counts of a log's events: the steps of a controller, and the events that are no controller's steps. A line counts
+//! once, when it is made.
 
 ghost use Rattle.std.specs.Prelude.{◌≡◌};
 ghost use Rattle.dali_world.specs.Site.{share_of};

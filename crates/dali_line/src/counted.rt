@@ -18,10 +18,10 @@ use dali_script::{Due, Input, Kept, Record};
 use dali_world::{Outside, Receipt, Refusal, Report, SiteState, Trouble};
 use std::sync::ledger::Ledger;
 
-/// A site, how many events of its log are whose, and whose workers are at a commit.
+/// A site, the counts of its log's events, and which controllers' workers are at a commit.
 ///
-/// Each call audits its caller's share and makes the site's call. Where that adds an event, the share is raised with
-/// the tally.
+/// Each call audits its caller's share and makes the site's call. If that adds an event, the share is raised with the
+/// tally.
 #[derive(Drop)]
 pub(crate) struct CountedSite<P0: Ledger, P1: Ledger, P2: Ledger, P3: Ledger, D: Ledger> {
     pub(crate) site: SiteState,
@@ -39,7 +39,7 @@ impl<P0: Ledger, P1: Ledger, P2: Ledger, P3: Ledger, D: Ledger> CountedSite<P0, 
     ghost use Rattle.dali_line.specs.declared.commits.CommitState.TheVariants as commit;
     ghost use Rattle.dali_line.specs.Calls.{Offers, PumpsOnce, Lapses, ComesUp};
 
-    /// A site with the tally of its log, of which nobody has begun a commit.
+    /// A site with the tally of its log, of which no worker has begun a commit.
     pub(crate) fn new(
         site: SiteState,
         tally: Tally<P0, P1, P2, P3, D>,
@@ -68,7 +68,7 @@ impl<P0: Ledger, P1: Ledger, P2: Ledger, P3: Ledger, D: Ledger> CountedSite<P0, 
         self.tally.audit(port);
     }
 
-    /// A controller acts. Where it was accepted, its worker is at no commit any more.
+    /// A controller acts. If that is accepted, its worker is at no commit any more.
     pub(crate) fn act(
         &mut self,
         port: &mut Port<P0, P1, P2, P3, D>,
@@ -179,8 +179,7 @@ impl<P0: Ledger, P1: Ledger, P2: Ledger, P3: Ledger, D: Ledger> CountedSite<P0, 
         ordered
     }
 
-    /// The port's holder makes no commit any more. Where it had begun one, the store has the record (true), or maybe
-    /// not.
+    /// The port's holder makes no commit any more. If it had begun one, the store has the record (true), or maybe not.
     pub(crate) fn end_commit(&mut self, port: &Port<P0, P1, P2, P3, D>, is_made: bool)
         ensures ended { state_of self.old.commits port.now.controller ≡ commit.Begun → self.new.commits
             ≡ slice_set self.old.commits port.now.controller (if is_made then commit.Made else commit.Settled) }
@@ -260,7 +259,7 @@ impl<P0: Ledger, P1: Ledger, P2: Ledger, P3: Ledger, D: Ledger> CountedSite<P0, 
         Ok(())
     }
 
-    /// The owner loses the bus. Answers who it was, if anybody.
+    /// The owner loses the bus. Answers which controller it was; None if there was no owner.
     #[tactic(auto, unfolding(crate::specs::Calls::Lapses, dali_world::specs::Site::HasBefallen))]
     pub(crate) fn lapse(
         &mut self,
@@ -341,7 +340,7 @@ impl<P0: Ledger, P1: Ledger, P2: Ledger, P3: Ledger, D: Ledger> CountedSite<P0, 
         true
     }
 
-    /// Whether nobody owns the bus, and nothing is due for any controller.
+    /// Whether no controller owns the bus, and nothing is due for any controller.
     pub(crate) fn is_over(&self) -> bool
         ensures { IsTrue result ↔ ((world self.now.site).bus.owner ≡ None) × HaveEnded self.now.site }
     {

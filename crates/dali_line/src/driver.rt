@@ -2,8 +2,8 @@ use crate::own::Own;
 use std::marker::{Model, PhantomData};
 use std::sync::ledger::Ledger;
 
-/// The right to let things happen on a line that no controller does: on the bus, to its gear, and that controllers go
-/// down and come up.
+/// The right to let things happen on a line that no controller does: on the bus, to its gear, and to its controllers,
+/// which go down and come up.
 ///
 /// `Line::new` gives one. Contracts see its share: how many events of the line's log are no controller's step.
 #[derive(Drop)]

@@ -13,7 +13,7 @@ pub enum Moment {
 
 /// What a worker or a pumper asks at some moments of its turns, without the line's lock: it may wait there, or look.
 ///
-/// The controller's number is 255 where a pumper asks.
+/// The controller's number is 255 if a pumper asks.
 pub trait Gate: Drop {
     /// The worker of this controller, or the pumper, is at this moment. It goes on when the call returns.
     fn at<R: Wait>(&self, rt: &R, controller: u8, moment: Moment);

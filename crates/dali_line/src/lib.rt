@@ -4,25 +4,25 @@
 //! calls are the site's, one for each event, and each wants the right to it: `act` and `arc` the controller's port,
 //! all others the driver. `wait` and `ready` sleep until there is something to do.
 //!
-//! A [`Worker`] runs a controller in a thread of its own, with a store of records (`Keep`), and posts what was enrolled
-//! in a directory (`dali_enrol`), which all threads read without waiting; a [`Pumper`] runs the bus. They know a line
-//! as a [`Bus`], which hands out no lock: a record is committed without it. But the line knows that a worker is at a
-//! commit (`begin_commit`), and brings no controller up meanwhile ([`UpRefusal`]). A [`Gate`] is asked at some moments
-//! of a turn. A vendor may write a `Keep`, a `Bus` or a `Gate` of their own; `dali_line_tests` has a store that fails
-//! at a commit (`failing`), buses that keep lists and that drive themselves (`listed`, `driven`) and a gate that holds
-//! a commit (`threads`).
+//! A [`Worker`] runs a controller in its own thread, with a store of records (`Keep`). It posts what was enrolled in a
+//! directory (`dali_enrol`), which all threads read without waiting. A [`Pumper`] runs the bus. They know a line as a
+//! [`Bus`], which hands out no lock: a record is committed without it. But the line knows when a worker is at a commit
+//! (`begin_commit`), and does not bring the worker's controller up until the commit is over ([`UpRefusal`]). A [`Gate`]
+//! is asked at some moments of a turn. A vendor may write another `Keep`, `Bus` or `Gate`. `dali_line_tests` has a
+//! store that fails at a commit (`failing`), buses that keep lists and that drive themselves (`listed`, `driven`) and a
+//! gate that holds a commit (`threads`).
 //!
-//! What is proved of threads: a port knows how many steps its controller has taken (its share), the driver how many
-//! events are no controller's step, and whenever the lock is taken the log has just as many. No clause can name the
-//! site under the lock, so each call says of its answer that there is a site, whose promise holds and whose log has
-//! as many of the caller's events as its share says, which answers so. `Line::close` gives the site back, of which
-//! each share is exact; each event of its log is in one share, and in one alone.
+//! What is proved of threads: a port knows how many steps its controller has taken (its share), and the driver how many
+//! events are no controller's step. Whenever the lock is taken, the log has just as many. No clause can name the site
+//! under the lock. So each call says that there is a site which gives this answer. The site's promise holds, and its
+//! log has as many of the caller's events as the caller's share says. `Line::close` gives the site back, of which each
+//! share is exact; each event of its log is in one share, and in one alone.
 //!
 //! Not proved: that a thread runs, that a wait ends, any order between threads.
 //!
-//! A line has five type parameters, the ledgers of its shares. A function over them is called with
-//! `std::marker::Brand` five times and five blanks of one part each, `Blank::new(1)`; the caller's proof says that
-//! they are of those blanks, a line each.
+//! A line has five type parameters, the ledgers of its shares. A function over them is called with `std::marker::Brand`
+//! five times and five blanks of one part each, `Blank::new(1)`. The caller's proof says that they are of those blanks,
+//! a line each.
 #![tactic(auto)]
 
 mod bus;

@@ -29,16 +29,16 @@ use std::sync::{Condvar, Mutex, MutexGuard, Wait};
 
 /// A site under a lock, which threads share by reference.
 ///
-/// Its calls are those of `SiteState`, one at a time. Whoever calls has the right to it: a controller's `act`, `arc`,
-/// `next`, `due`, `wait`, `begin_commit`, `end_commit` and `wait_for_room` want its port, and all others the driver;
-/// `stop` and `is_stopped` are anybody's.
+/// Its calls are those of `SiteState`, one at a time. The caller of each has the right to it: `act`, `arc`, `next`,
+/// `due`, `wait`, `begin_commit`, `end_commit` and `wait_for_room` of a controller want its port. The others want the
+/// driver; only `stop` and `is_stopped` want neither.
 ///
-/// Each call says of its answer: there is a site (`FromPort`, `FromDriver` in `specs/Found`) whose promise holds, whose
-/// log has as many of the caller's events as the caller's share says, and which answers so. An accepted call raises
+/// Each call says that there is a site which gives this answer (`FromPort`, `FromDriver` in `specs/Found`). The site's
+/// promise holds, and its log has as many of the caller's events as the caller's share says. An accepted call raises
 /// that share by one, a refused one leaves it.
 ///
-/// A line in use: a `Worker` for each port and a `Pumper` for the driver, each in a thread of its own. A call that
-/// waits (`wait`, `wait_for_room`, `ready`) sleeps; nothing promises that it ends.
+/// A line in use: a `Worker` for each port and a `Pumper` for the driver, each in its own thread. A call that waits
+/// (`wait`, `wait_for_room`, `ready`) sleeps; nothing promises that it ends.
 #[derive(Drop)]
 pub struct Line<P0: Ledger, P1: Ledger, P2: Ledger, P3: Ledger, D: Ledger> {
     locked: Mutex<Locked<P0, P1, P2, P3, D>>,
@@ -94,11 +94,12 @@ impl<P0: Ledger, P1: Ledger, P2: Ledger, P3: Ledger, D: Ledger> Line<P0, P1, P2,
         (line, ports(count, one, two, three, four), Driver::of(own))
     }
 
-    /// The site, out of the lock. `Ok` where all ports are handed back, in order of their controllers' numbers, as
-    /// `new` gave them; else `Err`, with the site too.
+    /// The site, out of the lock. `Ok` if all ports are handed back, in order of their controllers' numbers, as `new`
+    /// gave them; else `Err`, with the site too.
     ///
-    /// Each port's share is how many events of its log are steps of the port's controller, and the driver's share is
-    /// how many are nobody's. Each event is in one of the shares of all controllers and the driver, and in one alone.
+    /// Each port's share is how many events of its log are steps of the port's controller. The driver's share is how
+    /// many are no controller's step. Each event is in one of the shares of all controllers and the driver, and in one
+    /// alone.
     pub fn close(
         self,
         ports: ArrayVec<Port<P0, P1, P2, P3, D>, 4>,
@@ -122,7 +123,7 @@ impl<P0: Ledger, P1: Ledger, P2: Ledger, P3: Ledger, D: Ledger> Line<P0, P1, P2,
     }
 
     /// The port's controller acts on an input, as `SiteState::act` says: on what `next` says, or on the outcome of its
-    /// commit where `due` is Store. The receipt's number is the port's share with this step.
+    /// commit if `due` is Store. The receipt's number is the port's share with this step.
     ///
     /// Refusals, in this order: 1 UnknownController, 2 ControllerDown, 3 NotDue, 7 QueueFull, 8 LogFull,
     /// 10 AddressInUse.
@@ -159,8 +160,8 @@ impl<P0: Ledger, P1: Ledger, P2: Ledger, P3: Ledger, D: Ledger> Line<P0, P1, P2,
         self.change(rt).locked.counted.arc(port, frame)
     }
 
-    /// What the bus has told the port's controller, and it has not acted on, as `SiteState::next` says; None of a spare
-    /// port.
+    /// What the bus has told the port's controller and the controller has not acted on, as `SiteState::next` says; None
+    /// for a spare port.
     pub fn next<R: Wait>(&self, rt: &R, port: &mut Port<P0, P1, P2, P3, D>) -> Option<Input>
         ensures answer { FromPort port.old
             (λ s. result ≡ (controller_at (world s) port.old.controller).told) }
@@ -182,10 +183,10 @@ impl<P0: Ledger, P1: Ledger, P2: Ledger, P3: Ledger, D: Ledger> Line<P0, P1, P2,
         locked.counted.due_for(port.controller())
     }
 
-    /// Waits until something is due for the port's controller (true); or the line is stopped, or the controller is
-    /// down (false). `is_stopped` tells these two apart: a line that is stopped stays so.
+    /// Waits until something is due for the port's controller (true), or until the line is stopped or the controller is
+    /// down (false). `is_stopped` tells the last two apart: a line that is stopped stays so.
     ///
-    /// Something is due where `next` says something, or where `due` is Store. It may wait forever, as with a port whose
+    /// Something is due if `next` says something, or if `due` is Store. It may wait forever, as with a port whose
     /// controller has ended.
     pub fn wait<R: Wait>(&self, rt: &R, port: &mut Port<P0, P1, P2, P3, D>) -> bool
         ensures answer { FromPort port.old
@@ -200,12 +201,12 @@ impl<P0: Ledger, P1: Ledger, P2: Ledger, P3: Ledger, D: Ledger> Line<P0, P1, P2,
         !locked.is_stopped() && locked.counted.has_due(controller)
     }
 
-    /// The port's holder begins the commit that is due, as `SiteState::ordered` says: of the record that is answered.
-    /// None where none is due.
+    /// The port's holder begins the commit that is due, as `SiteState::ordered` says, and is answered its record. None
+    /// if none is due.
     ///
-    /// From now on `up` of this controller is refused with CommitOpen, until an `act` with this port is accepted, as
-    /// the one that tells the outcome, or until `end_commit`. So the store has what it will have before anybody goes on
-    /// from it. It may be called again, as by a new holder of the port.
+    /// From now on `up` of this controller is refused with CommitOpen. That ends when an `act` with this port is
+    /// accepted, as the one that tells the outcome, or at `end_commit`. So the store has what it will have before a
+    /// controller goes on from it. The call may be made again, as by a new holder of the port.
     pub fn begin_commit<R: Wait>(
         &self,
         rt: &R,
@@ -220,18 +221,18 @@ impl<P0: Ledger, P1: Ledger, P2: Ledger, P3: Ledger, D: Ledger> Line<P0, P1, P2,
         locked.counted.begin_commit(port.controller())
     }
 
-    /// The port's holder makes no commit any more. It tells whether it has made one whose outcome it could not tell:
-    /// then `up` of this controller wants records with that one, and else those with it or without it.
+    /// The port's holder makes no commit any more. It tells whether it has made one whose outcome it could not tell. If
+    /// so, `up` of this controller wants records with that one, and else those with it or without it.
     ///
-    /// Where the holder has begun none, or has told the outcome, this does nothing.
+    /// If the holder has begun none, or has told the outcome, this does nothing.
     pub fn end_commit<R: Wait>(&self, rt: &R, port: &mut Port<P0, P1, P2, P3, D>, is_made: bool)
         ensures { port.new ≡ port.old }
     {
         self.locked.lock(rt).counted.end_commit(port, is_made);
     }
 
-    /// Waits until the port's controller is not refused for want of room: until a request more may wait, or the
-    /// controller is down (true); or until the line is stopped (false).
+    /// Waits until the port's controller is not refused for want of room. So it waits until a request more may wait or
+    /// the controller is down (true), or until the line is stopped (false).
     pub fn wait_for_room<R: Wait>(&self, rt: &R, port: &mut Port<P0, P1, P2, P3, D>) -> bool
         ensures answer { FromPort port.old
             (λ s. (stopped : Bool) × EndsWaitForRoom stopped s port.old.controller result) }
@@ -280,7 +281,8 @@ impl<P0: Ledger, P1: Ledger, P2: Ledger, P3: Ledger, D: Ledger> Line<P0, P1, P2,
         self.change(rt).locked.counted.befall(driver, what)
     }
 
-    /// The owner loses the bus, as `SiteState::lapse` says. Answers who it was, if anybody.
+    /// The owner loses the bus, as `SiteState::lapse` says. Answers which controller it was; None if there was no
+    /// owner.
     ///
     /// Refusal: 8 LogFull.
     pub fn lapse<R: Wait>(
@@ -380,10 +382,10 @@ impl<P0: Ledger, P1: Ledger, P2: Ledger, P3: Ledger, D: Ledger> Line<P0, P1, P2,
         self.change(rt).locked.counted.up(driver, c, copy)
     }
 
-    /// Waits until there is something to say to the driver: the line is stopped, a request is next, nothing can be sent
+    /// Waits until the driver is to be told something: the line is stopped, a request is next, nothing can be sent
     /// since the queue is full, or all is over.
     ///
-    /// It may wait forever, as where a controller is due and nobody acts for it.
+    /// It may wait forever, as when something is due for a controller and no thread acts for it.
     pub fn ready<R: Wait>(&self, rt: &R, driver: &mut Driver<P0, P1, P2, P3, D>) -> Ready
         ensures answer { FromDriver driver.old (λ s. (stopped : Bool) × IsReady stopped s result) }
         ensures same { driver.new ≡ driver.old }
@@ -395,7 +397,8 @@ impl<P0: Ledger, P1: Ledger, P2: Ledger, P3: Ledger, D: Ledger> Line<P0, P1, P2,
         locked.may_do().unwrap()
     }
 
-    /// The line is stopped, for good: who waits now or later is told so. Its other calls go on as before.
+    /// The line is stopped, for good: a thread that waits now or later is told so. The line's other calls go on as
+    /// before.
     pub fn stop<R: Wait>(&self, rt: &R) {
         self.change(rt).locked.stop()
     }

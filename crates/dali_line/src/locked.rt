@@ -66,14 +66,14 @@ impl<P0: Ledger, P1: Ledger, P2: Ledger, P3: Ledger, D: Ledger> Locked<P0, P1, P
         self.may_do().is_some()
     }
 
-    /// Whether nobody waits any more.
+    /// Whether no thread waits any more.
     pub(crate) fn is_stopped(&self) -> bool
         ensures { result ≡ self.now.stopped }
     {
         self.stopped
     }
 
-    /// Nobody waits any more.
+    /// No thread waits any more.
     pub(crate) fn stop(&mut self)
         ensures stopped { self.new.stopped ≡ true }
         ensures counted { self.new.counted ≡ self.old.counted }

@@ -17,7 +17,7 @@ pub enum Outcome {
     Halted(Fault),
     /// Its controller is down. To go on, bring it up with what the store reads, and run a new worker.
     Down,
-    /// The line refused a call, as where its log is full.
+    /// The line refused a call, as when its log is full.
     Refused(Refusal),
     /// It had all its turns.
     TurnsSpent,

@@ -17,8 +17,8 @@ pub(crate) enum Kind<P0: Ledger, P1: Ledger, P2: Ledger, P3: Ledger> {
 
 /// The right to act for one controller of a line.
 ///
-/// `Line::new` gives one for each controller. It cannot be copied, so whoever has it knows what its controller did. A
-/// spare one, as `default` gives, speaks for nobody: its number is 255, and each call with it is UnknownController.
+/// `Line::new` gives one for each controller. It cannot be copied, so its holder knows what its controller did. A spare
+/// one, as `default` gives, speaks for no controller: its number is 255, and each call with it is UnknownController.
 ///
 /// Contracts see its share: the controller's number, and how many events of the line's log are its steps.
 #[derive(Drop)]

@@ -10,7 +10,7 @@ use dali_frame::{Random24, Short};
 use dali_script::{Block, Record};
 use std::alloc::Global;
 
-/// The card of an enrolment, from a table of its own.
+/// The card of an enrolment, from a table that holds this enrolment alone.
 fn card_of(
     alloc: Global,
     address: Short,
@@ -28,8 +28,7 @@ fn card_of(
     table.card(alloc, address)
 }
 
-/// Posts the record that is kept, if it is an enrolment. Where an entry of that address was posted before, that one
-/// stays.
+/// Posts the record that is kept, if it is an enrolment. If an entry of that address was posted before, that one stays.
 pub(crate) fn post(
     alloc: Global,
     directory: &Directory,

@@ -29,11 +29,11 @@ impl<D, G: Gate> Pumper<D, G> {
         Pumper { driver, gate }
     }
 
-    /// Takes turns until all is over, the line is stopped or refuses, or this many turns are taken; the last two stop
+    /// Takes turns until all is over, the line is stopped or refuses, or this many turns are taken. The last two stop
     /// the line. Gives the driver back, with the refusal, if there was one.
     ///
-    /// A turn waits until a request is next, and lets it come on the bus undisturbed. Where no request more may wait
-    /// and the owner of the bus has none among them, it lets the bus lapse. It does nothing else (`drives`).
+    /// A turn waits until a request is next, and lets it come on the bus undisturbed. If no request more may wait and
+    /// the owner of the bus has none among them, it lets the bus lapse. It does nothing else (`drives`).
     pub fn run<B: Bus<Driver = D>, R: Wait>(
         self,
         rt: &R,
@@ -43,7 +43,7 @@ impl<D, G: Gate> Pumper<D, G> {
         ensures least { B.driven self.driver ≤ B.driven result.0 }
         ensures most { B.driven result.0 ≤ B.driven self.driver + turns }
         ensures drives { Drives B.pumped B.is_stuck B.lapsed (B.driven self.driver) (B.driven result.0) turns }
-        // Nobody waits for it then.
+        // No thread waits for it then.
         ensures ended { B.is_told_to_stop bus.now
             ⊎ ((result.1 ≡ None) × (B.is_stopped bus.now ⊎ B.is_over (B.driven result.0))) }
     {
@@ -65,7 +65,7 @@ impl<D, G: Gate> Pumper<D, G> {
     }
 }
 
-/// A turn of the bus, once there is one. Whether there was one: not where all is over, or the line is stopped.
+/// A turn of the bus, once there is one. Whether there was one: none if all is over, or the line is stopped.
 #[tactic(auto, using(crate::proofs::Driving::turns))]
 fn take_turn<B: Bus, R: Wait>(rt: &R, bus: &B, driver: &mut B::Driver) -> Result<bool, Refusal>
     ensures least { B.driven driver.old ≤ B.driven driver.new }

@@ -5,8 +5,8 @@ pub enum Ready {
     Stopped,
     /// To pump: a request is next.
     Next,
-    /// To let the bus lapse: no request more may wait, and the owner of the bus has none among them. So nobody sends
-    /// anything, and each controller that acts is refused.
+    /// To let the bus lapse: no request more may wait, and the owner of the bus has none among them. So no controller
+    /// sends anything, and each controller that acts is refused.
     Full,
     /// Nothing more: each controller has ended, has halted or is down, and no request waits.
     Over,

@@ -60,16 +60,17 @@ impl<P, K: Keep, G: Gate> Worker<P, K, G> {
     /// Takes turns until the controller ends, halts or is down, the line is stopped or refuses, or this many turns are
     /// taken. All but the first three stop the line. Answers how it ended, and gives port and store back.
     ///
-    /// A turn waits until something is due, and acts on it at most once; where no request more may wait, it waits for
-    /// room before. A controller that is to start is given Survey by a worker that surveys, and else Start. Where a
-    /// commit is due, the worker tells the bus that it begins it, and learns which record it is: the run may have begun
-    /// with the commit due. Then the store is read and commits the record, between BeforeCommit and AfterCommit, unless
-    /// what is read shows the record already. The controller is told: Committed where the store has the record then;
-    /// else CommitFailed, also where the store did not answer its records, or the record does not fit them. What the
-    /// controller was told to be committed is posted in the directory, if it is an enrolment; where there is no memory
-    /// for its card, the run ends with NoMemory. The pass is given back, with what the worker has learned.
+    /// A turn waits until something is due, and acts on it at most once. If no request more may wait, it waits for room
+    /// first. A controller that is to start is given Survey by a worker that surveys, and else Start.
     ///
-    /// Where the bus lapsed before the controller acted on what it was told (NotDue), the turn ends. The outcome of a
+    /// If a commit is due, the worker tells the bus that it begins it, and learns which record it is: the run may have
+    /// begun with the commit due. Then, between BeforeCommit and AfterCommit, the store is read, and commits the record
+    /// unless what is read shows it already. The controller is told Committed if the store has the record then, and
+    /// else CommitFailed. It is told CommitFailed also if the store did not answer its records, or if the record does
+    /// not fit them. An enrolment of which the controller was told Committed is posted in the directory. If there is no
+    /// memory for its card, the run ends with NoMemory. The pass is given back, with what the worker has learned.
+    ///
+    /// If the bus lapsed before the controller acted on what it was told (NotDue), the turn ends. The outcome of a
     /// commit is told, or the run ends: with Down, Stopped or Refused.
     ///
     /// The clause `runs` says all this of the steps that were made with the port, by what the bus says of its calls.
@@ -126,7 +127,7 @@ impl<P, K: Keep, G: Gate> Worker<P, K, G> {
     }
 }
 
-/// What a controller is given that was told this: Survey where it is to start and begins by a survey.
+/// What a controller that was told this is given: Survey if it is to start and begins by a survey.
 fn begun(told: Input, surveys: bool) -> Input
     ensures { result ≡ given_of surveys told }
 {
@@ -142,7 +143,7 @@ fn begun(told: Input, surveys: bool) -> Input
     }
 }
 
-/// Whether a record may be the one that is due after this order, the last of a run; where there was none, any may be.
+/// Whether a record may be the one that is due after this order, the last of a run; if there was none, any may be.
 fn is_due(last: &Option<Order>, added: &Record) -> bool
     ensures due { IsTrue result → MatchOption last.now (Unit {0}) (λ o. o ≡ order.Commit added.now) }
     ensures other { result ≡ false → MatchOption last.now ⊥ (λ o. o ≡ order.Commit added.now → ⊥) }
@@ -154,9 +155,9 @@ fn is_due(last: &Option<Order>, added: &Record) -> bool
     }
 }
 
-/// The controller of a port acts on an input. Where no request more may wait, it waits for room before.
+/// The controller of a port acts on an input. If no request more may wait, it waits for room first.
 ///
-/// QueueFull is answered only where the line was stopped meanwhile.
+/// QueueFull is answered only if the line was stopped before the answer.
 fn act_on<B: Bus, R: Wait>(
     rt: &R,
     bus: &B,
@@ -190,7 +191,7 @@ fn end_at(order: Order) -> Option<Outcome>
     }
 }
 
-/// The end of a run whose controller was refused to act on this, if it is one: not where the bus lapsed meanwhile.
+/// The end of a run whose controller was refused to act on this, if it is one: not if the bus lapsed before it acted.
 fn end_refused(refusal: Refusal, input: Input) -> Option<Outcome>
     ensures { result ≡ end_when_refused refusal input }
 {
@@ -220,8 +221,8 @@ fn end_refused(refusal: Refusal, input: Input) -> Option<Outcome>
     }
 }
 
-/// A worker in its run: its store, its controller's last order in this run, and the record that the store is found to
-/// have in this turn, until its controller was told so.
+/// A worker in its run: its store, its controller's last order in this run, and a record. That is the record that the
+/// store is found to have in this turn, until its controller was told so.
 struct Shift<P, K, G> {
     port: P,
     keep: K,
@@ -256,8 +257,8 @@ impl<P, K: Keep, G: Gate> Shift<P, K, G> {
         }
     }
 
-    /// What its controller is given to act on: what the bus has told it, with Survey in place of Start where it begins
-    /// by a survey; or what became of its commit, which is made now. None where nothing is due.
+    /// What its controller is given to act on. That is what the bus has told it, with Survey in place of Start if it
+    /// begins by a survey; or what became of its commit, which is made now. None if nothing is due.
     #[tactic(auto, using(crate::proofs::Leaving::leaves_none))]
     fn given<B: Bus<Port = P>, R: Wait>(&mut self, rt: &R, bus: &B, surveys: bool) -> Option<Input>
         ensures keep { Leaves K.is_up K.is_sound K.holds self.old.keep self.new.keep }
@@ -352,7 +353,7 @@ impl<P, K: Keep, G: Gate> Shift<P, K, G> {
         self.tell(rt, alloc, bus, directory, pass, input)
     }
 
-    /// A turn, once there is one: not where the line is stopped, or the controller is down. The end of the run, if it
+    /// A turn, once there is one: none if the line is stopped, or the controller is down. The end of the run, if it
     /// ends.
     #[tactic(auto, using(crate::proofs::Learning::turns))]
     fn take_turn<B: Bus<Port = P>, R: Wait>(

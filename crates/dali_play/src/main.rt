@@ -1,6 +1,6 @@
 //! `dali_play` reads a script of what happens on a bench of DALI control gear, or on a site with application
-//! controllers, and reports what comes of each line. It is `dali_sim replay` without what `dali_sim threads` needs, so
-//! that whoever plays a script waits for the proofs of that alone. It takes one word, `--json`, or none.
+//! controllers, and reports what comes of each line. It is `dali_sim replay` without what `dali_sim threads` needs. So
+//! a user who plays a script waits for the proofs of that alone. It takes one word, `--json`, or none.
 #![tactic(auto)]
 
 use dali_console::{ConsoleFault, say_and_exit, words};

@@ -34,7 +34,7 @@ after_command w c =
     then record { gear = row_after Everyone c 0 w.gear w.left; left = drop (needed w c) w.left }
     else w
 
--- something befalls gear g, where there is one
+-- something befalls gear g, if there is one
 abbrev pub with_gear : BenchState → ℕ → (Gear → Gear) → BenchState
 with_gear w g change =
     if nat_lt g (length w.gear)

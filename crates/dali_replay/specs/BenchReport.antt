@@ -28,7 +28,7 @@ report w Quiet = ok_text
 report w Show = gear_texts 0 w.gear
 
 -- WHAT COMES OF A LINE OF A BENCH: one event, unless the line is refused or only shows the gear.
--- Controller 0 stands for whoever sends a frame.
+-- Controller 0 stands for the sender of a frame.
 abbrev pub if_gear : BenchState → ℕ → Event → Option Event
 if_gear w g e = if nat_lt g (length w.gear) then Some e else None
 

@@ -67,7 +67,7 @@ IsUpAt n c = (c < length n.site.plan.blocks) × ((controller n c).up ≡ true)
 
 -- A STORE IS IN STEP with its controller. A record that is still to be committed is the one that is
 -- outstanding, and the store holds what the site remembers. With none, it holds that with the
--- outstanding record, if there is one; or without it, where no commit is waited for.
+-- outstanding record, if there is one; or without it, if no commit is waited for.
 abbrev pub IsInStepBy : Option Record → Kept → Controller → Type 0
 IsInStepBy (Some x) held k = (k.outstanding ≡ Some x) × (held ≡ k.records)
 IsInStepBy None held k =
@@ -90,14 +90,14 @@ pub record IsInstalled (n : Installation) : Type 0 where
 abbrev pub store_committed : Store → Store
 store_committed s = store_settled (with_outstanding s.keep s.pending)
 
--- where a controller waits for its store, Committed is told of a commit that was made
+-- if a controller waits for its store, Committed is told of a commit that was made
 abbrev pub IsMade : Input → Due → Option Record → Type 0
 IsMade i d pending = i ≡ input.Committed → d ≡ due.Store → pending ≡ None
 
 -- ---------------------------------------------------------------- `go c`
 
--- What `go` gives controller c to act on: Committed where it waits for its commit, which is made
--- now unless it was made before; else what the bus has told it.
+-- What `go` gives controller c to act on. If c waits for its commit, that is Committed, and the
+-- commit is made now unless it was made before. Else it is what the bus has told c.
 abbrev pub IsGivenBy : Due → Installation → ℕ → Input → Installation → Type 0
 IsGivenBy due.Store n c i m =
     (i ≡ input.Committed) × (m ≡ with_store n c (store_committed (store_at n c)))
@@ -108,7 +108,7 @@ IsGivenBy due.Nothing n c i m = ((controller n c).told ≡ Some i) × (m ≡ n)
 abbrev pub IsGiven : Installation → ℕ → Input → Installation → Type 0
 IsGiven n c i m = IsGivenBy (due_of (controller n c)) n c i m
 
--- and where nothing is due
+-- and when nothing is due
 abbrev pub HasNoneBy : Due → Controller → Type 0
 HasNoneBy due.Store k = ⊥
 HasNoneBy due.Start k = k.told ≡ None
@@ -182,7 +182,7 @@ ComesUp n c (Ok _) m =
     × (m.stores ≡ slice_set n.stores c (store_settled (store_at n c).keep))
 ComesUp n c (Err e) m = IsUpRefused n.site c (store_at n c).keep e × (m ≡ n)
 
--- a call of the site, by what it does where it is accepted, and by its refusals
+-- a call of the site, by what it does if it is accepted, and by its refusals
 abbrev pub Calls : {A : Type 0} → (A → SiteState → Type 0) → (Refusal → Type 0) → Installation
     → Result A Refusal → Installation → Type 0
 Calls Does IsRefused n (Ok a) m = Does a m.site × (m.stores ≡ n.stores)

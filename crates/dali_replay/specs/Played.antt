@@ -45,8 +45,8 @@ pub record IsLine (l : ℕ × List ℕ) (from upto end : ℕ) (p : PlayedLine) :
   pub after : p.after ≡ upto
   pub report : p.report ≡ end
 
--- ALL LINES, one after the other: each was played where the lines before it led, and its report
--- stands behind theirs. On a bench what came of it is kept.
+-- ALL LINES, one after the other: each was played in the state that the lines before it left, and
+-- its report stands behind theirs. On a bench what came of it is kept.
 abbrev pub Follow : Player → NumberedLines → List Event → List ℕ → List PlayedLine → Player
     → List Event → List ℕ → Type 0
 Follow s [] kept said [] t all text = (t ≡ s) × (all ≡ kept) × (text ≡ said)
@@ -105,7 +105,7 @@ pub record IsSame (x y : Played) : Type 0 where
   pub used : y.used.items ≡ x.used.items
 
 -- A SCRIPT THAT WAS PLAYED TO ITS END: its lines and their reports, all that happened, and the gear
--- and the tables at the end, as `show` has them as JSON.
+-- and tables at the end, as `show` has them as JSON.
 abbrev pub IsPlayed : Stand → Played → Type 0
 IsPlayed p x =
     (t : Player) × (kept : List Event)

@@ -105,14 +105,14 @@ abbrev pub PlaysSetting : {A : Type 0} → Form → Bool → Plan → NumberedLi
 PlaysSetting form true p lines old new r = Plays (played form (start p) lines) old new r
 PlaysSetting form false p lines old new r = PlaysSite form (installation_of p) lines old new r
 
--- WHAT A RUN OVER BYTES SAYS, by what the first lines set up. Where they set up nothing,
--- nothing is written.
+-- WHAT A RUN OVER BYTES SAYS, by what the first lines set up. If they set up nothing, nothing is
+-- written.
 abbrev pub Replays : {A : Type 0} → Form → Result (Setting × NumberedLines) End → Option (List ℕ)
     → Option (List ℕ) → Result A ReplayFault → Type 0
 Replays form (Err end) old new r = Plays (nothing end) old new r
 Replays form (Ok s) old new r = PlaysSetting form s.0.0 s.0.1 s.1 old new r
 
--- the same where the input is read first
+-- the same if the input is read first
 abbrev pub Tells : {A : Type 0} → Form → Result (Setting × NumberedLines) End → Option (List ℕ)
     → Option (List ℕ) → Result A ReplayFault → Type 0
 Tells form s old new (Ok x) = Replays form s old new (Ok x)

@@ -36,7 +36,7 @@ HasTurn n c (Err e) m = (has_turn (controller n c) ≡ true) × Goes n c (Err e)
 
 -- ---------------------------------------------------------------- the turns of a round
 
--- The turn of controller c: it goes, if something is due. Whether it went; nothing, where it was
+-- The turn of controller c: it goes, if something is due. Whether it went; nothing, if it was
 -- refused.
 abbrev pub IsTurn : Installation → ℕ → Option Bool → List ℕ → Installation → Type 0
 IsTurn n c (Some false) text m = (has_turn (controller n c) ≡ false) × (text ≡ []) × (m ≡ n)
@@ -83,7 +83,7 @@ is_sent report.Idle = false
 is_sent (report.Destroyed c f) = false
 is_sent (report.Collided c f d g) = false
 
--- what came of a round: it is over where nobody had a turn and no request was next
+-- what came of a round: it is over if no controller had a turn and no request was next
 abbrev pub came_of : Bool → Report → Round
 came_of false report.Idle = round.Over
 came_of _ x = round.Played (is_sent x)

@@ -54,8 +54,8 @@ impl Bench {
         &self.gear
     }
 
-    /// All powered gear take a frame; what is heard. `None` where too few numbers are left to be drawn: then
-    /// no gear takes it.
+    /// All powered gear take a frame; what is heard. `None` if too few numbers are left to be drawn: then no gear takes
+    /// it.
     pub fn send(&mut self, frame: Forward) -> Option<Answer>
         ensures world { self.new ≡ after_command self.old (command_of frame) }
         ensures answer { result
@@ -72,7 +72,7 @@ impl Bench {
         Some(heard.answer)
     }
 
-    /// Gear g loses its power. False where there is no such gear.
+    /// Gear g loses its power. False if there is no such gear.
     pub fn off(&mut self, g: u32) -> bool
         ensures world { self.new ≡ with_gear self.old g without_power }
         ensures known { result ≡ nat_lt g (length self.old.gear) }
@@ -85,7 +85,7 @@ impl Bench {
         true
     }
 
-    /// The power of gear g comes back. False where there is no such gear.
+    /// The power of gear g comes back. False if there is no such gear.
     pub fn on(&mut self, g: u32) -> bool
         ensures world { self.new ≡ with_gear self.old g with_power }
         ensures known { result ≡ nat_lt g (length self.old.gear) }
@@ -98,7 +98,7 @@ impl Bench {
         true
     }
 
-    /// The initialisation of gear g ends by its timer. False where there is no such gear.
+    /// The initialisation of gear g ends by its timer. False if there is no such gear.
     pub fn expire(&mut self, g: u32) -> bool
         ensures world { self.new ≡ with_gear self.old g gear_expired }
         ensures known { result ≡ nat_lt g (length self.old.gear) }

@@ -12,7 +12,7 @@ use dali_grammar::BenchLine;
 use dali_world::{Event, Refusal};
 use std::alloc::AllocError;
 
-/// The event that befalls a gear, where the gear is known, and the text of that.
+/// The event that befalls a gear, if the gear is known, and the text of that.
 fn push_known(text: &mut String, known: bool, event: Event) -> Result<Option<Event>, AllocError>
     ensures text { OnOk result (string_bytes text.new ≡ string_bytes text.old
         ++ (if known then ok_text else refused_text UnknownGear)) }
@@ -28,7 +28,7 @@ fn push_known(text: &mut String, known: bool, event: Event) -> Result<Option<Eve
 }
 
 /// Lets a line happen on a bench, and appends the report of it. Answers the event that it is, unless it is refused or
-/// only shows the gear; controller 0 stands for whoever sends a frame.
+/// only shows the gear. Controller 0 stands for the sender of a frame.
 pub fn report_bench(
     text: &mut String,
     bench: &mut Bench,

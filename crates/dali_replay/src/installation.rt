@@ -150,8 +150,8 @@ impl Installation {
         Ok(Installation { site, stores })
     }
 
-    /// `go c`: the controller acts on what is due. Where that is its store, the commit is made first, unless it was
-    /// made before.
+    /// `go c`: the controller acts on what is due. If that is its store, the commit is made first, unless it was made
+    /// before.
     ///
     /// Refusals, in this order: 1 UnknownController, 2 ControllerDown, 3 NotDue, 7 QueueFull, 8 LogFull,
     /// 10 AddressInUse; QueueFull and LogFull leave the commit made.
@@ -167,7 +167,7 @@ impl Installation {
 
     /// `store c`: the commit that is outstanding is made, and the controller is not told.
     ///
-    /// Refusals, in this order: 1 UnknownController, 2 ControllerDown, 3 NotDue, also where it was made before.
+    /// Refusals, in this order: 1 UnknownController, 2 ControllerDown, 3 NotDue, also if it was made before.
     pub fn store(&mut self, c: u32) -> Result<(), Refusal>
         ensures { Stores self.old c result self.new }
     {
@@ -356,7 +356,7 @@ impl Installation {
         self.stores[c as usize].commit();
     }
 
-    /// What is due for a controller, if anything; where it waits for a commit, that is made.
+    /// What is due for a controller, if anything; if it waits for a commit, that is made.
     fn given(&mut self, c: u8) -> Option<Input>
         requires { c < length self.old.site.plan.blocks }
         ensures given { IfSome result (λ input. IsGiven self.old c input self.new) }

@@ -42,7 +42,7 @@ pub struct Played<'a> {
     pub lines: Vec<PlayedLine<'a>>,
     /// What all lines reported, one after the other, as `replay` writes it.
     pub reports: String,
-    /// All that happened, oldest first. On a bench controller 0 stands for whoever sends a frame.
+    /// All that happened, oldest first. On a bench controller 0 stands for the sender of a frame.
     pub log: Vec<Event>,
     /// The gear and the tables at the end, as `show` has them as JSON.
     pub state: String,
@@ -183,7 +183,7 @@ impl<'a> Played<'a> {
 
     /// Plays a script to its end.
     ///
-    /// It stops where `run_replay` does: at a bad line or plan, or for want of memory.
+    /// It stops as `run_replay` does: at a bad line or plan, or for want of memory.
     pub fn of(alloc: Global, input: &'a [u8]) -> Result<Played<'a>, Stop>
         requires { length input.now ≤ 1048576 }
         ensures played { IfOk result (λ played. IsPlayedBy (setting_of input.now) played) }

@@ -79,10 +79,10 @@ pub(crate) fn replay<W: Write>(
 
 /// Reads a script of a bench or a site, and writes the reports of its lines.
 ///
-/// What is written, where the answer is `Ok`, is exactly what the input asks for: on a bench a function of the input;
-/// on a site the text of each line, in order, of the call that the line makes. At `BadLine` the reports up to that line
-/// are written, at `Memory` the first of the reports, and at `BadPlan` and `Read` nothing. At `Write` nothing is said
-/// of what went out.
+/// If the answer is `Ok`, exactly what the input asks for is written. On a bench that is a function of the input. On a
+/// site it is the text of each line, in order, of the call that the line makes. At `BadLine` the reports up to that
+/// line are written, at `Memory` the first of the reports, and at `BadPlan` and `Read` nothing. At `Write` nothing is
+/// said of what went out.
 pub fn run_replay<R: Read, W: Write>(
     alloc: Global,
     reader: &mut R,

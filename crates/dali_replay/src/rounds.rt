@@ -1,4 +1,4 @@
-//! A run of rounds: in each of them every controller goes that has something due, and then the bus.
+//! A run of rounds: in each, every controller that has something due goes, and then the bus.
 
 ghost use Rattle.std.specs.Prelude.{◌≡◌, ◌<◌, length, true, OnOk, IfOk, string_bytes, if◌then◌else◌};
 ghost use Rattle.dali_replay.specs.Rounds.{IsTurn, AreTurns, IsRoundOf, Ran, is_sent, came_of, Runs};
@@ -14,13 +14,13 @@ use std::alloc::AllocError;
 pub enum Round {
     /// It sent a frame that was not destroyed (true), or none.
     Played(bool),
-    /// Nobody had a turn, and no request was next.
+    /// No controller had a turn, and no request was next.
     Over,
     /// A call was refused.
     Refused,
 }
 
-/// A controller's turn in a round, and whether it went; `None` where it was refused.
+/// A controller's turn in a round, and whether it went; `None` if it was refused.
 fn take_turn(
     text: &mut String,
     installation: &mut Installation,
@@ -45,8 +45,8 @@ fn take_turn(
     }
 }
 
-/// The turns of all controllers, in order of their numbers, and whether one of them went; `None` where a turn was
-/// refused, which is the last then.
+/// The turns of all controllers, in order of their numbers, and whether one of them went; `None` if a turn was refused,
+/// which is the last then.
 fn turns(text: &mut String, installation: &mut Installation) -> Result<Option<bool>, AllocError>
     ensures { IfOk result
         (λ acted. Writes (string_bytes text.old) (string_bytes text.new)

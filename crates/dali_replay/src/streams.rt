@@ -33,11 +33,11 @@ fn replay_and_pass_on<W: Write + Drop>(
     }
 }
 
-/// Reads a script, plays it, and writes what is to be written of its lines in this form, as `run_replay` does their
-/// reports. It is passed on, before a fault too: after `Ok` nothing is left in the buffer. A fault comes with its
-/// reason.
+/// Reads a script, plays it, and writes what is to be written of its lines in this form, as `run_replay` writes their
+/// reports. What is written is passed on, before a fault too: after `Ok` nothing is left in the buffer. A fault comes
+/// with its reason.
 ///
-/// The faults are those of `run_replay`; `Write` also where what was written cannot be passed on.
+/// The faults are those of `run_replay`; `Write` also if what was written cannot be passed on.
 pub fn replay_through<R: Read, W: Write + Drop>(
     alloc: Global,
     form: Form,
