@@ -8,8 +8,8 @@ import subprocess
 import time
 import typing
 
-# The end of a message. How many seconds an answer may take, and whatever is waited for.
-END, PATIENCE = b"\0", 60
+# The end of a message. How many seconds it may take until something is so, and how long the browser may say nothing on a busy machine.
+END, PATIENCE, SILENCE = b"\0", 60, 900
 WORDS = ["--headless", "--no-sandbox", "--disable-gpu", "--hide-scrollbars", "--no-first-run", "--remote-debugging-pipe"]
 
 
@@ -55,8 +55,8 @@ class Browser:
 
     def message(self) -> dict[str, typing.Any]:
         while END not in self.heard:
-            if not select.select([self.back], [], [], PATIENCE)[0]:
-                raise Wrong(f"the browser says nothing for {PATIENCE} seconds")
+            if not select.select([self.back], [], [], SILENCE)[0]:
+                raise Wrong(f"the browser says nothing for {SILENCE} seconds")
             more = os.read(self.back, 1 << 20)
             if not more:
                 raise Wrong("the browser has ended")
