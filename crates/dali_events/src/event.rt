@@ -100,7 +100,16 @@ impl Event {
                 frame,
                 heard: None,
             }),
-            _ => None,
+            Event::Acted(..)
+            | Event::Offered(..)
+            | Event::Collided(..)
+            | Event::Lapsed
+            | Event::Quiet
+            | Event::Foreign(_)
+            | Event::Power(..)
+            | Event::Expired(_)
+            | Event::Down(_)
+            | Event::Up(..) => None,
         }
     }
 
@@ -117,7 +126,16 @@ impl Event {
     {
         match self {
             Event::Acted(c, ..) | Event::Offered(c, _) => Some(c),
-            _ => None,
+            Event::Sent(..)
+            | Event::Destroyed(..)
+            | Event::Collided(..)
+            | Event::Lapsed
+            | Event::Quiet
+            | Event::Foreign(_)
+            | Event::Power(..)
+            | Event::Expired(_)
+            | Event::Down(_)
+            | Event::Up(..) => None,
         }
     }
 }

@@ -86,7 +86,12 @@ fn is_needed(kind: WordKind) -> bool
 {
     match kind {
         WordKind::Needed(_) | WordKind::NeededAgain | WordKind::Place(_) | WordKind::Places => true,
-        _ => false,
+        WordKind::Flag
+        | WordKind::NotBeside(_)
+        | WordKind::Option(_)
+        | WordKind::Default(..)
+        | WordKind::Again
+        | WordKind::LastPlace(_) => false,
     }
 }
 
@@ -97,7 +102,11 @@ fn action_of(kind: WordKind) -> ArgAction
     match kind {
         WordKind::Flag | WordKind::NotBeside(_) => ArgAction::SetTrue,
         WordKind::Again | WordKind::NeededAgain | WordKind::Places => ArgAction::Append,
-        _ => ArgAction::Set,
+        WordKind::Option(_)
+        | WordKind::Needed(_)
+        | WordKind::Default(..)
+        | WordKind::Place(_)
+        | WordKind::LastPlace(_) => ArgAction::Set,
     }
 }
 
@@ -111,7 +120,11 @@ fn value_of(kind: WordKind) -> Value
         | WordKind::Default(value, _)
         | WordKind::Place(value)
         | WordKind::LastPlace(value) => value,
-        _ => Value::Text,
+        WordKind::Flag
+        | WordKind::NotBeside(_)
+        | WordKind::Again
+        | WordKind::NeededAgain
+        | WordKind::Places => Value::Text,
     }
 }
 
@@ -149,7 +162,11 @@ fn spelled<'a>(arg: Arg<'a>, word: &Word) -> Arg<'a>
         WordKind::Place(_) | WordKind::LastPlace(_) | WordKind::Places => {
             arg.value_name(word.value)
         }
-        _ => arg.long(word.name).value_name(word.value),
+        WordKind::Option(_)
+        | WordKind::Needed(_)
+        | WordKind::Default(..)
+        | WordKind::Again
+        | WordKind::NeededAgain => arg.long(word.name).value_name(word.value),
     }
 }
 
@@ -167,7 +184,13 @@ fn bounded(arg: Arg<'_>, kind: WordKind) -> Result<Arg<'_>, AllocError>
         WordKind::Default(_, is) => Ok(arg.default_value(is)),
         WordKind::NotBeside(other) => arg.conflicts_with(other),
         WordKind::Places => Ok(arg.num_args(1..)),
-        _ => Ok(arg),
+        WordKind::Flag
+        | WordKind::Option(_)
+        | WordKind::Needed(_)
+        | WordKind::Again
+        | WordKind::NeededAgain
+        | WordKind::Place(_)
+        | WordKind::LastPlace(_) => Ok(arg),
     }
 }
 
