@@ -316,7 +316,8 @@ class Bus:
         Where it lapsed, it was not sent, so no gear takes it and half pairs stay. A gear that takes a destroyed frame takes it
         like any other.
         """
-        time.sleep(self.chosen.slow)
+        if self.chosen.slow:
+            time.sleep(self.chosen.slow)
         if self.chosen.foreign > 0 and self.happens(self.chosen.foreign):
             self.take_foreign()
         if self.happens(self.chosen.lapse):

@@ -4,7 +4,7 @@
 
 PLAN is JSON:
 
-    driver      the words of the driver
+    driver      the words of the driver. The bus of adapters/simulated is one of this process, which costs half of the time
     report      a file in which stands at the end how many lines of the program were seen, and whether it was killed
     watch       a file of records, and a folder: at each PROGRAM SHORT ADDRESS the file and its log are copied there, before the
                 driver has the frame. The copy's name has the number of the line, the short address and the search address
@@ -17,6 +17,7 @@ PLAN is JSON:
                 `ahead` or `beside`, the driver has the frame, and `text` is told before its answer, or together with it
 """
 
+import argparse
 import json
 import os
 import pathlib
@@ -25,6 +26,11 @@ import subprocess
 import sys
 import time
 import typing
+
+ADAPTERS = pathlib.Path(__file__).resolve().parents[2] / "adapters"
+sys.path.append(str(ADAPTERS))
+import gear
+import lines
 
 PROGRAM_SHORT = 0xB7
 # The bits of the search address that SEARCHADDRH, SEARCHADDRM and SEARCHADDRL set begin here.
@@ -35,23 +41,69 @@ class End(Exception):
     """Nothing is passed any more."""
 
 
+class Driver:
+    """A driver that is a process."""
+
+    def __init__(self, words: list[str]) -> None:
+        self.process = subprocess.Popen(words, stdin=subprocess.PIPE, stdout=subprocess.PIPE)
+
+    def put(self, line: bytes) -> bytes:
+        """What it tells of a frame."""
+        try:
+            self.process.stdin.write(line)
+            self.process.stdin.flush()
+        except BrokenPipeError as why:
+            raise End from why
+        told = self.process.stdout.readline()
+        if not told:
+            raise End
+        return told
+
+    def kill(self) -> None:
+        self.process.kill()
+
+    def end(self) -> int:
+        """Its status, at the end of its input."""
+        self.process.stdin.close()
+        try:
+            return self.process.wait(20)
+        except subprocess.TimeoutExpired:
+            self.process.kill()
+            return self.process.wait()
+
+
+class Simulated:
+    """The driver adapters/simulated, in this process."""
+
+    def __init__(self, words: list[str]) -> None:
+        options, self.fault = argparse.ArgumentParser(), None
+        gear.add_words(options)
+        try:
+            self.bus = gear.Bus(options.parse_args(words))
+        except lines.Fault as fault:
+            self.fault = fault
+
+    def put(self, line: bytes) -> bytes:
+        if self.fault or not (form := lines.PUT.fullmatch(line)):
+            raise End
+        _, frame, asked, _ = form.groups()
+        return f"{self.bus.put(bytes.fromhex(frame.decode()), asked == b'ask')}\n".encode()
+
+    def kill(self) -> None:
+        """Its gear's file is always whole."""
+
+    def end(self) -> int:
+        if self.fault:
+            print(f"simulated: {self.fault}", file=sys.stderr)
+        return 1 if self.fault else 0
+
+
 class Between:
     def __init__(self, plan: dict[str, typing.Any]) -> None:
         self.plan, self.lines, self.counted, self.search = plan, 0, 0, 0xFFFFFF
         self.kill, self.fault, self.was_killed = plan.get("kill"), plan.get("fault"), False
-        self.driver = subprocess.Popen(plan["driver"], stdin=subprocess.PIPE, stdout=subprocess.PIPE)
-
-    def put(self, line: bytes) -> bytes:
-        """What the driver tells of a frame."""
-        try:
-            self.driver.stdin.write(line)
-            self.driver.stdin.flush()
-        except BrokenPipeError as why:
-            raise End from why
-        told = self.driver.stdout.readline()
-        if not told:
-            raise End
-        return told
+        program, *words = plan["driver"]
+        self.driver = Simulated(words) if program == str(ADAPTERS / "simulated") else Driver(plan["driver"])
 
     def do_kill(self) -> typing.NoReturn:
         os.kill(self.kill["pid"], signal.SIGKILL)
@@ -92,9 +144,9 @@ class Between:
         text = bytes.fromhex(self.fault["text"])
         if self.fault["kind"] == "ahead":
             os.write(1, text)
-            os.write(1, self.put(line))
+            os.write(1, self.driver.put(line))
         else:
-            os.write(1, self.put(line) + text)
+            os.write(1, self.driver.put(line) + text)
 
     def take(self, line: bytes) -> None:
         """Passes a line of the program, and the answer to it."""
@@ -113,7 +165,7 @@ class Between:
         moment = self.kill["moment"] if self.is_time(address_byte) else None
         if moment == "before":
             self.do_kill()
-        told = self.put(line)
+        told = self.driver.put(line)
         if told == b"silence\n" and self.plan.get("garbled") == [address_byte, opcode_byte]:
             told = b"damaged\n"
         if moment == "unheard":
@@ -132,12 +184,7 @@ class Between:
         self.end()
 
     def end(self) -> None:
-        self.driver.stdin.close()
-        try:
-            self.driver.wait(20)
-        except subprocess.TimeoutExpired:
-            self.driver.kill()
-        report = {"lines": self.lines, "was_killed": self.was_killed, "driver": self.driver.wait()}
+        report = {"lines": self.lines, "was_killed": self.was_killed, "driver": self.driver.end()}
         pathlib.Path(self.plan["report"]).write_text(json.dumps(report))
 
 
