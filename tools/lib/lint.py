@@ -10,7 +10,7 @@ import re
 import types
 from collections.abc import Iterator
 
-from lib import line_forms, spelled, writing, wrong_bodies
+from lib import line_forms, spelled, statement, writing, wrong_bodies
 
 WIDTHS = {"src": (".rt", 120), "specs": (".antt", 100), "proofs": (".antt", 160)}
 LONGEST = 800
@@ -272,6 +272,11 @@ def forms(root: pathlib.Path) -> Iterator[str]:
     yield from line_forms.missing(root)
 
 
+def page(root: pathlib.Path) -> Iterator[str]:
+    """docs/STATEMENT.md has the sections of the promise's page as the sources have them: see statement.py."""
+    yield from statement.missing(root)
+
+
 def edits(root: pathlib.Path) -> Iterator[str]:
     """Each wrong body and each twin applies to the file that it names, where each of its old texts stands exactly once. Each twin has a wrong
     body of its name, and each wrong body that changes a shape has a twin or is named as one without."""
@@ -358,7 +363,7 @@ def public(body: list[ast.stmt], before: str = "") -> Iterator[tuple[str, ast.Fu
 
 RULES = (
     widths, lengths, imports, docs, crates, drawing, links, paths, examples, clauses, readmes, writing.words, writing.plain, kit,
-    handles, spellings, forms, edits, version, helps, annotations,
+    handles, spellings, forms, page, edits, version, helps, annotations,
 )
 # What is told, and is no offence.
 WARNINGS = (writing.sentences,)

@@ -1,0 +1,9 @@
+mod Tests
+mod One
+mod Moved
+mod Sound
+mod Steps
+mod Records
+mod Whole
+mod Histories
+mod Gear

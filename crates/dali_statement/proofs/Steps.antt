@@ -1,0 +1,129 @@
+use Rattle.std.proofs.Common.{◌≡◌, ◌⊎◌, inl, inr, ℕ, ◌<◌, Bool, true, false, refl, sym, ap, subst, ◌∙◌, arith, List, ◌∷◌, Option, Some, None}
+use Rattle.std.specs.Prelude.{◌==◌, if◌then◌else◌, option_map, unwrap_or}
+use Rattle.dali_statement.specs.Page.{Part, High, Middle, Low, same, byte, Command, QueryShort}
+use Rattle.dali_statement.specs.Page.{QueryRandom, Gear, is_found, takes, holds, answer, code, Heard, Byte, Destroyed, Sent}
+use Rattle.dali_statement.specs.Page.{Plan, Site, number_sent, is_told, tells, gear_after}
+use Rattle.dali_statement.specs.Page.{hears, may_send}
+use Rattle.dali_statement.proofs.Tests.{first_of_both, second_of_both, equal, below, holds_is, any_at, all_at}
+use Rattle.dali_statement.proofs.One.{Knows, Given, HeardOf, kept_by, new_by, knows_after, knows_missed, searched, found_live}
+use Rattle.dali_statement.proofs.One.{found_random}
+use Rattle.dali_statement.proofs.Moved.{At, Takes, taken, taking}
+use Rattle.dali_statement.proofs.Sound.{Sound, Moves, one_at, same_bytes}
+
+-- EACH MOMENT that is allowed keeps what is sound.
+
+pub record Safe (p : Plan) (s : Site) : Type 0 where
+  pub sound : Sound p s.gear s.reserved s.enrolled s.told
+  pub knows : (g : ℕ) (x : Gear) → At s.gear g x → Knows s.said x
+
+-- ---------------------------------------------------------------- a frame
+
+heard_of : (m : Command) (h : Heard) (gs : List Gear) → hears m h gs ≡ true → (g : ℕ) (x : Gear) → At gs g x → HeardOf m h x
+heard_of QueryShort (Byte v) gs e g x at = all_at (λ y. unwrap_or (answer QueryShort y) v == v) gs g x (second_of_both _ _ e) at
+heard_of _ _ gs e g x at = tt
+
+module _ (p : Plan) (s : Site) (c : ℕ) (m : Command) (reach : List (Option ℕ)) (h : Heard) (safe : Safe p s) (may : may_send s c m ≡ true) where
+  frame_to : (g a : ℕ) (x : Gear) → At s.gear g x → x.short ≡ Some a
+      → (y : Gear) × At (gear_after (Sent c m reach h) s.gear) g y × (y.short ≡ Some a) × (y.random ≡ x.random)
+  frame_to g a x at is = let now = taking c m reach h s.gear g x at in let here = go now.0 now.2 in (now.0, now.1, here.0, here.1) where
+    go : (y : Gear) → Takes m h x y → (y.short ≡ Some a) × (y.random ≡ x.random)
+    go y (inl missed) = (ap (λ z. z.short) missed.1 ∙ is, ap (λ z. z.random) missed.1)
+    go y (inr took) =
+        let kept = kept_by s c m took.0 a x (safe.knows g x at) may is in (ap (λ z. z.short) took.1 ∙ kept.0, ap (λ z. z.random) took.1 ∙ kept.1)
+
+  frame_from : (g a : ℕ) (y : Gear) → At (gear_after (Sent c m reach h) s.gear) g y → y.short ≡ Some a
+      → (x : Gear) × At s.gear g x × (y.random ≡ x.random) × ((x.short ≡ Some a) ⊎ ((d : ℕ) × (s.reserved d a ≡ Some x.random)))
+  frame_from g a y at is = let was = taken c m reach h s.gear g y at in let here = go was.0 was.1 was.2 in (was.0, was.1, here.0, here.1) where
+    go : (x : Gear) → At s.gear g x → Takes m h x y → (y.random ≡ x.random) × ((x.short ≡ Some a) ⊎ ((d : ℕ) × (s.reserved d a ≡ Some x.random)))
+    go x there (inl missed) = (ap (λ z. z.random) missed.1, inl (ap (λ z. z.short) (sym missed.1) ∙ is))
+    go x there (inr took) = by (new_by s c m took.0 a x (safe.knows g x there) may (ap (λ z. z.short) (sym took.1) ∙ is)) where
+      by : (x.short ≡ Some a) ⊎ (Given s c a x × ((takes m took.0 x).random ≡ x.random))
+          → (y.random ≡ x.random) × ((x.short ≡ Some a) ⊎ ((d : ℕ) × (s.reserved d a ≡ Some x.random)))
+      by (inl had) = (ap (λ z. z.random) took.1 ∙ (kept_by s c m took.0 a x (safe.knows g x there) may had).1, inl had)
+      by (inr new) = (ap (λ z. z.random) took.1 ∙ new.1, inr (c, new.0))
+
+  pub frame_moves : Moves s.reserved s.gear (gear_after (Sent c m reach h) s.gear)
+  frame_moves = record { to = frame_to; from = frame_from }
+
+  pub frame_knows : (h ≡ Destroyed → ⊥) → hears m h s.gear ≡ true → (g : ℕ) (y : Gear) → At (gear_after (Sent c m reach h) s.gear) g y
+      → Knows ((m, h) ∷ s.said) y
+  frame_knows whole heard g y at = let was = taken c m reach h s.gear g y at in go was.0 was.1 was.2 where
+    go : (x : Gear) → At s.gear g x → Takes m h x y → Knows ((m, h) ∷ s.said) y
+    go x there (inl missed) = subst (λ z. Knows ((m, h) ∷ s.said) z) (sym missed.1) (knows_missed s m h x missed.0 whole (safe.knows g x there))
+    go x there (inr took) = subst (λ z. Knows ((m, h) ∷ s.said) z) (sym took.1)
+        (knows_after s c m h took.0 x (safe.sound.short g x there) (safe.knows g x there) may (heard_of m h s.gear heard g x there))
+
+-- ---------------------------------------------------------------- what an answer tells
+
+code_is : (a : ℕ) (o : Option ℕ) → a < 64 → ((b : ℕ) → o ≡ Some b → b < 64) → code o ≡ code (Some a) → o ≡ Some a
+code_is a None small short e = absurd (omega arith)
+code_is a (Some b) small short e = ap (λ n. Some n) (omega arith)
+
+answered : (x : Gear) (v : ℕ) → holds v (answer QueryShort x) ≡ true → (is_found x ≡ true) × (code x.short ≡ v)
+answered x v e = go (is_found x) refl e where
+  go : (t : Bool) → is_found x ≡ t → holds v (if t then Some (code x.short) else None) ≡ true → (is_found x ≡ true) × (code x.short ≡ v)
+  go true found e = (found, equal (code x.short) v e)
+  go false found e = absurd (cc)
+
+told_byte : (q : Part) (v : ℕ) (o : Option ℕ) → holds v (option_map (byte q) o) ≡ true → (r : ℕ) × (o ≡ Some r) × (byte q r ≡ v)
+told_byte q v None e = absurd (cc)
+told_byte q v (Some r) e = (r, refl, equal (byte q r) v e)
+
+spelled : (x : Gear) (b w : ℕ) (q : Part) → holds w (answer (QueryRandom b q) x) ≡ true → (x.short ≡ Some b) × (byte q x.random ≡ w)
+spelled x b w q e = go (holds b x.short) refl e where
+  go : (t : Bool) → holds b x.short ≡ t → holds w (if t then Some (byte q x.random) else None) ≡ true → (x.short ≡ Some b) × (byte q x.random ≡ w)
+  go true has e = (holds_is b x.short has, equal (byte q x.random) w e)
+  go false has e = absurd (cc)
+
+same_is : (q r : Part) → same q r ≡ true → q ≡ r
+same_is High High e = refl
+same_is Middle Middle e = refl
+same_is Low Low e = refl
+same_is _ _ e = absurd (cc)
+
+pub told_true : (p : Plan) (s : Site) (m : Command) (h : Heard) → Safe p s → hears m h s.gear ≡ true → (q : Part) (a v : ℕ) → a < 64
+    → tells m h s.said q a v ≡ true → (g : ℕ) × (x : Gear) × At s.gear g x × (x.short ≡ Some a) × (byte q x.random ≡ v)
+told_true p s QueryShort (Byte w) safe heard q a v small e =
+    let any = any_at (λ x. holds w (answer QueryShort x)) s.gear (first_of_both _ _ heard) in
+    let sent = told_byte q v (number_sent s.said) (second_of_both _ _ e) in
+    let x = any.1 in
+    let has = answered x w any.3 in
+    let at : x.random ≡ sent.0 = found_random x has.0 ∙ searched s.said x sent.0 (safe.knows any.0 x any.2) sent.1 (found_live x has.0) in (
+      any.0,
+      x,
+      any.2,
+      code_is a x.short small (safe.sound.short any.0 x any.2) (has.1 ∙ equal w (code (Some a)) (first_of_both _ _ e)),
+      ap (byte q) at ∙ sent.2,
+    )
+told_true p s (QueryRandom b r) (Byte w) safe heard q a v small e =
+    let any = any_at (λ x. holds w (answer (QueryRandom b r) x)) s.gear heard in
+    let has = spelled any.1 b w r any.3 in
+    let rest = second_of_both _ _ e in (
+      any.0,
+      any.1,
+      any.2,
+      has.0 ∙ ap (λ n. Some n) (sym (equal a b (first_of_both _ _ e))),
+      ap (λ t. byte t any.1.random) (same_is q r (first_of_both _ _ rest)) ∙ has.1 ∙ sym (equal v w (second_of_both _ _ rest)),
+    )
+told_true p s _ _ safe heard q a v small e = absurd (cc)
+
+-- the gear that was told to have a random address
+pub told_gear : (p : Plan) (s : Site) → Safe p s → (a r : ℕ) → is_told s a r ≡ true → (g : ℕ) × (x : Gear) × At s.gear g x × (x.short ≡ Some a) × (x.random ≡ r)
+told_gear p s safe a r e =
+    let small = below a 64 (first_of_both _ _ e) in
+    let rest = second_of_both _ _ e in
+    let more = second_of_both _ _ rest in
+    let high = safe.sound.told_of High a (byte High r) small (first_of_both _ _ rest) in
+    let middle = safe.sound.told_of Middle a (byte Middle r) small (first_of_both _ _ more) in
+    let low = safe.sound.told_of Low a (byte Low r) small (second_of_both _ _ more) in
+    let x = high.1 in
+    let same_as : (g : ℕ) (y : Gear) → At s.gear g y → y.short ≡ Some a → y ≡ x =
+    λ g y at has. one_at s.gear high.0 y x (subst (λ k. At s.gear k y) (safe.sound.once g high.0 a y x at high.2 has high.3) at) high.2 in (
+      high.0,
+      x,
+      high.2,
+      high.3,
+      same_bytes x.random r high.4
+          (ap (λ y. byte Middle y.random) (sym (same_as middle.0 middle.1 middle.2 middle.3)) ∙ middle.4)
+          (ap (λ y. byte Low y.random) (sym (same_as low.0 low.1 low.2 low.3)) ∙ low.4),
+    )

@@ -1,0 +1,104 @@
+use Rattle.std.proofs.Common.{◌≡◌, ◌⊎◌, inl, inr, ℕ, ◌<◌, zero, suc, Bool, true, false, refl, sym, ap, subst, ◌∙◌, arith, List, [], ◌∷◌, map, Option, Some}
+use Rattle.std.proofs.Common.{None}
+use Rattle.std.specs.Prelude.{◌==◌, ◌&&◌, ◌||◌, not, nat_lt, slice_get}
+use Rattle.std.specs.List.{list_any, list_all}
+use Rattle.std.proofs.lemmas.Bool.Decides.{nat_tests}
+use Rattle.dali_statement.specs.Page.{same, holds, differ}
+
+-- WHAT TESTS SAY.
+
+pub first_of_both : (a b : Bool) → (a && b) ≡ true → a ≡ true
+first_of_both true b e = refl
+first_of_both false b e = e
+
+pub second_of_both : (a b : Bool) → (a && b) ≡ true → b ≡ true
+second_of_both true b e = e
+second_of_both false b e = absurd (cc)
+
+pub either : (a b : Bool) → (a || b) ≡ true → (a ≡ true) ⊎ (b ≡ true)
+either true b e = inl refl
+either false b e = inr e
+
+pub first_of_either : (a b : Bool) → a ≡ true → (a || b) ≡ true
+first_of_either true b e = refl
+first_of_either false b e = absurd (cc)
+
+pub not_true : (a : Bool) → not a ≡ true → a ≡ true → ⊥
+not_true true e is = absurd (cc)
+not_true false e is = absurd (cc)
+
+pub equal : (m n : ℕ) → (m == n) ≡ true → m ≡ n
+equal m n e = grind (arith, nat_tests)
+
+pub equals : (m n : ℕ) → m ≡ n → (m == n) ≡ true
+equals m n e = grind (arith, nat_tests)
+
+pub below : (m n : ℕ) → nat_lt m n ≡ true → m < n
+below m n e = grind (arith, nat_tests)
+
+pub some_is : {A : Type 0} {a b : A} → Some a ≡ Some b → a ≡ b
+some_is {A} {a} {b} e = cc
+
+pub holds_is : (n : ℕ) (o : Option ℕ) → holds n o ≡ true → o ≡ Some n
+holds_is n None e = absurd (cc)
+holds_is n (Some m) e = ap (λ k. Some k) (equal m n e)
+
+pub holds_by : (n : ℕ) (o : Option ℕ) → o ≡ Some n → holds n o ≡ true
+holds_by n None e = absurd (cc)
+holds_by n (Some m) e = equals m n (some_is e)
+
+pub any_at : {A : Type 0} (test : A → Bool) (xs : List A) → list_any test xs ≡ true
+    → (i : ℕ) × (x : A) × (slice_get xs i ≡ Some x) × (test x ≡ true)
+any_at {A} test [] e = absurd (cc)
+any_at {A} test (y ∷ ys) e = go (either (test y) (list_any test ys) e) (any_at test ys) where
+  go : (test y ≡ true) ⊎ (list_any test ys ≡ true)
+      → (list_any test ys ≡ true → (i : ℕ) × (x : A) × (slice_get ys i ≡ Some x) × (test x ≡ true))
+      → (i : ℕ) × (x : A) × (slice_get (y ∷ ys) i ≡ Some x) × (test x ≡ true)
+  go (inl here) later = (zero, y, refl, here)
+  go (inr more) later = let found = later more in (suc found.0, found.1, found.2, found.3)
+
+pub any_by : {A : Type 0} (test : A → Bool) (xs : List A) (i : ℕ) (x : A) → slice_get xs i ≡ Some x → test x ≡ true → list_any test xs ≡ true
+any_by {A} test [] i x at e = absurd (cc)
+any_by {A} test (y ∷ ys) zero x at e = first_of_either (test y) (list_any test ys) (ap test (some_is at) ∙ e)
+any_by {A} test (y ∷ ys) (suc i) x at e = go (test y) (any_by test ys i x at e) where
+  go : (b : Bool) → list_any test ys ≡ true → (b || list_any test ys) ≡ true
+  go true is = refl
+  go false is = is
+
+pub all_at : {A : Type 0} (test : A → Bool) (xs : List A) (i : ℕ) (x : A) → list_all test xs ≡ true → slice_get xs i ≡ Some x → test x ≡ true
+all_at {A} test [] i x e at = absurd (cc)
+all_at {A} test (y ∷ ys) zero x e at = ap test (sym (some_is at)) ∙ first_of_both (test y) (list_all test ys) e
+all_at {A} test (y ∷ ys) (suc i) x e at = all_at test ys i x (second_of_both (test y) (list_all test ys) e) at
+
+-- a number that stands in a list by places
+mapped : {A : Type 0} (key : A → Option ℕ) (xs : List A) (i n : ℕ) (x : A) → slice_get xs i ≡ Some x → key x ≡ Some n
+    → list_any (holds n) (map key xs) ≡ true
+mapped {A} key [] i n x at e = absurd (cc)
+mapped {A} key (y ∷ ys) zero n x at e = first_of_either (holds n (key y)) _ (holds_by n (key y) (ap key (some_is at) ∙ e))
+mapped {A} key (y ∷ ys) (suc i) n x at e = go (holds n (key y)) (mapped key ys i n x at e) where
+  go : (b : Bool) → list_any (holds n) (map key ys) ≡ true → (b || list_any (holds n) (map key ys)) ≡ true
+  go true is = refl
+  go false is = is
+
+-- in a list in which no number stands twice, two places of one number are one place
+pub differ_at : {A : Type 0} (key : A → Option ℕ) (xs : List A) → differ (map key xs) ≡ true → (i j n : ℕ) (x y : A)
+    → slice_get xs i ≡ Some x → slice_get xs j ≡ Some y → key x ≡ Some n → key y ≡ Some n → i ≡ j
+differ_at {A} key [] e i j n x y at there is same = absurd (cc)
+differ_at {A} key (z ∷ zs) e i j n x y at there is same = go (λ d k l first second. differ_at key zs d k l n x y first second is same) e i j at there where
+  -- the number of the first one stands in the rest, which cannot be
+  twice : (k : ℕ) (v : A) → slice_get zs k ≡ Some v → key v ≡ Some n → (o : Option ℕ) → o ≡ Some n → differ (o ∷ map key zs) ≡ true → ⊥
+  twice k v at_v is_v None o_is d = absurd (cc)
+  twice k v at_v is_v (Some m) o_is d =
+      not_true (list_any (holds m) (map key zs)) (first_of_both _ _ d)
+      (subst (λ q. list_any (holds q) (map key zs) ≡ true) (sym (some_is o_is)) (mapped key zs k n v at_v is_v))
+
+  rest : (o : Option ℕ) → differ (o ∷ map key zs) ≡ true → differ (map key zs) ≡ true
+  rest None d = d
+  rest (Some m) d = second_of_both _ _ d
+
+  go : (differ (map key zs) ≡ true → (k l : ℕ) → slice_get zs k ≡ Some x → slice_get zs l ≡ Some y → k ≡ l)
+      → differ (key z ∷ map key zs) ≡ true → (i j : ℕ) → slice_get (z ∷ zs) i ≡ Some x → slice_get (z ∷ zs) j ≡ Some y → i ≡ j
+  go later d zero zero at there = refl
+  go later d zero (suc j) at there = absurd (twice j y there same (key z) (ap key (some_is at) ∙ is) d)
+  go later d (suc i) zero at there = absurd (twice i x at is (key z) (ap key (some_is there) ∙ same) d)
+  go later d (suc i) (suc j) at there = ap suc (later (rest (key z) d) i j at there)

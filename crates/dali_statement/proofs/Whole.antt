@@ -1,0 +1,244 @@
+use Rattle.std.proofs.Common.{◌≡◌, ◌⊎◌, inl, inr, ℕ, ◌<◌, Bool, true, false, refl, sym, ap, subst, ◌∙◌, List, [], ◌∷◌, ◌++◌, map, Option}
+use Rattle.std.proofs.Common.{Some, None}
+use Rattle.std.specs.Prelude.{◌==◌, ◌&&◌, ◌||◌, not, nat_lt, if◌then◌else◌, unwrap_or}
+use Rattle.dali_statement.specs.Page.{Part, byte, Command, Gear, holds, Heard, Byte, Nothing, Destroyed, Moment, Sent, Ends, Reserves, Enrols, Releases}
+use Rattle.dali_statement.specs.Page.{Power, Expires, Plan, Site, start, tells, befalls, gear_after, happens, hears, differ, are_apart, may_send, allowed}
+use Rattle.dali_statement.specs.Page.{IsPlan, after, all_allowed, IsHistory, KeepsNow, KeepsAddresses, KeepsPromise}
+use Rattle.dali_statement.proofs.Tests.{first_of_both, second_of_both, either, equal, below, holds_is, holds_by, any_at, any_by, all_at, differ_at}
+use Rattle.dali_statement.proofs.Tests.{not_true}
+use Rattle.dali_statement.proofs.One.{Knows, knows_nothing}
+use Rattle.dali_statement.proofs.Moved.{At, Becomes, befallen, befalling}
+use Rattle.dali_statement.proofs.Sound.{Sound, Moves, sound_after}
+use Rattle.dali_statement.proofs.Steps.{Safe, frame_moves, frame_knows, told_true}
+use Rattle.dali_statement.proofs.Records.{enrols, reserves, releases}
+
+-- EVERY HISTORY KEEPS THE PROMISE.
+
+no_moves : (s : Site) → Moves s.reserved s.gear s.gear
+no_moves s = record { to = λ g a x at is. (x, at, is, refl); from = λ g a y at is. (y, at, refl, inl is) }
+
+-- ---------------------------------------------------------------- power, and the end of the initialisation
+
+-- gear that are live no more, and keep both addresses
+record Stops (change : ℕ → Gear → Gear) : Type 0 where
+  pub live : (n : ℕ) (x : Gear) → (change n x).live ≡ false
+  pub short : (n : ℕ) (x : Gear) → (change n x).short ≡ x.short
+  pub random : (n : ℕ) (x : Gear) → (change n x).random ≡ x.random
+
+abbrev key : Gear → Option ℕ
+key x = if x.random == 0xFFFFFF then None else Some x.random
+
+same_keys : (change : ℕ → Gear → Gear) → Stops change → (reach : List (Option ℕ)) (gs : List Gear) → map key (befalls change reach gs) ≡ map key gs
+same_keys change stops [] gs = refl
+same_keys change stops (None ∷ reach) [] = refl
+same_keys change stops (Some n ∷ reach) [] = refl
+same_keys change stops (None ∷ reach) (x ∷ gs) = ap (λ ks. key x ∷ ks) (same_keys change stops reach gs)
+same_keys change stops (Some n ∷ reach) (x ∷ gs) =
+    ap (λ r. (if r == 0xFFFFFF then None else Some r) ∷ map key (befalls change reach gs)) (stops.random n x)
+    ∙ ap (λ ks. key x ∷ ks) (same_keys change stops reach gs)
+
+module _ (p : Plan) (s : Site) (safe : Safe p s) (change : ℕ → Gear → Gear) (stops : Stops change) (reach : List (Option ℕ)) where
+  stop_moves : Moves s.reserved s.gear (befalls change reach s.gear)
+  stop_moves = record {
+    to = λ g a x at is. let now = befalling change reach s.gear g x at in let now_is = to x now.0 now.2 in (now.0, now.1, now_is.0 ∙ is, now_is.1);
+    from = λ g a y at is. let was = befallen change reach s.gear g y at in let now_is = to was.0 y was.2 in (was.0, was.1, now_is.1, inl (sym now_is.0 ∙ is));
+  } where
+    to : (x y : Gear) → Becomes change x y → (y.short ≡ x.short) × (y.random ≡ x.random)
+    to x y (inl same) = (ap (λ z. z.short) same, ap (λ z. z.random) same)
+    to x y (inr took) = (ap (λ z. z.short) took.1 ∙ stops.short took.0 x, ap (λ z. z.random) took.1 ∙ stops.random took.0 x)
+
+  stop_knows : (g : ℕ) (y : Gear) → At (befalls change reach s.gear) g y → Knows s.said y
+  stop_knows g y at = let was = befallen change reach s.gear g y at in go was.0 was.1 was.2 where
+    off : y.live ≡ false → Knows s.said y
+    off dark = record {
+      bytes = λ q v e live. absurd (never live);
+      vacant = λ r e sent live is. absurd (never live);
+      opened = λ e live. absurd (never live);
+    } where
+      never : y.live ≡ true → ⊥
+      never live = let no : false ≡ true = sym dark ∙ live in absurd (cc)
+
+    go : (x : Gear) → At s.gear g x → Becomes change x y → Knows s.said y
+    go x there (inl same) = subst (λ z. Knows s.said z) (sym same) (safe.knows g x there)
+    go x there (inr took) = off (ap (λ z. z.live) took.1 ∙ stops.live took.0 x)
+
+  stop_apart : are_apart (befalls change reach s.gear) ≡ true
+  stop_apart = ap differ (same_keys change stops reach s.gear) ∙ safe.sound.apart
+
+-- ---------------------------------------------------------------- each moment
+
+-- what is safe, and each gear keeps what it has
+record Goes (p : Plan) (s : Site) (t : Site) : Type 0 where
+  pub safe : Safe p t
+  pub moves : Moves s.reserved s.gear t.gear
+
+frame_goes : (p : Plan) (s : Site) (c : ℕ) (m : Command) (reach : List (Option ℕ)) (h : Heard) → (h ≡ Destroyed → ⊥) → Safe p s
+    → allowed p s (Sent c m reach h) ≡ true
+    → Goes p s (record s {
+      gear = gear_after (Sent c m reach h) s.gear;
+      owner = Some c;
+      said = (m, h) ∷ s.said;
+      told = λ q a v. s.told q a v || tells m h s.said q a v;
+    })
+frame_goes p s c m reach h whole safe allow = record {
+  safe = record {
+    sound = record {
+      apart = now.apart;
+      once = now.once;
+      short = now.short;
+      within = now.within;
+      for_gear = now.for_gear;
+      owned = now.owned;
+      told_of = λ q a v small e. go q a v small (either (s.told q a v) (tells m h s.said q a v) e);
+      tables = now.tables;
+    };
+    knows = frame_knows p s c m reach h safe may whole heard;
+  };
+  moves = moves;
+} where
+  rest : (may_send s c m && (hears m h s.gear && are_apart (gear_after (Sent c m reach h) s.gear))) ≡ true
+  rest = second_of_both (unwrap_or s.owner c == c) (may_send s c m && (hears m h s.gear && are_apart (gear_after (Sent c m reach h) s.gear))) allow
+
+  may : may_send s c m ≡ true
+  may = first_of_both (may_send s c m) (hears m h s.gear && are_apart (gear_after (Sent c m reach h) s.gear)) rest
+
+  more : (hears m h s.gear && are_apart (gear_after (Sent c m reach h) s.gear)) ≡ true
+  more = second_of_both (may_send s c m) (hears m h s.gear && are_apart (gear_after (Sent c m reach h) s.gear)) rest
+
+  heard : hears m h s.gear ≡ true
+  heard = first_of_both (hears m h s.gear) (are_apart (gear_after (Sent c m reach h) s.gear)) more
+
+  apart : are_apart (gear_after (Sent c m reach h) s.gear) ≡ true
+  apart = second_of_both (hears m h s.gear) (are_apart (gear_after (Sent c m reach h) s.gear)) more
+
+  moves : Moves s.reserved s.gear (gear_after (Sent c m reach h) s.gear)
+  moves = frame_moves p s c m reach h safe may
+
+  now : Sound p (gear_after (Sent c m reach h) s.gear) s.reserved s.enrolled s.told
+  now = sound_after p s.gear (gear_after (Sent c m reach h) s.gear) s.reserved s.enrolled s.told safe.sound moves apart
+
+  go : (q : Part) (a v : ℕ) → a < 64 → (s.told q a v ≡ true) ⊎ (tells m h s.said q a v ≡ true)
+      → (g : ℕ) × (x : Gear) × At (gear_after (Sent c m reach h) s.gear) g x × (x.short ≡ Some a) × (byte q x.random ≡ v)
+  go q a v small (inl was) = now.told_of q a v small was
+  go q a v small (inr new) =
+      let told = told_true p s m h safe heard q a v small new in
+      let to = moves.to told.0 a told.1 told.2 told.3 in
+      (told.0, to.0, to.1, to.2, ap (byte q) to.3 ∙ told.4)
+
+destroyed_goes : (p : Plan) (s : Site) (c : ℕ) (m : Command) (reach : List (Option ℕ)) → Safe p s → allowed p s (Sent c m reach Destroyed) ≡ true
+    → Goes p s (happens s (Sent c m reach Destroyed))
+destroyed_goes p s c m reach safe allow =
+    let rest =
+    second_of_both (unwrap_or s.owner c == c) (may_send s c m && (hears m Destroyed s.gear && are_apart (gear_after (Sent c m reach Destroyed) s.gear)))
+    allow in
+    let moves = frame_moves p s c m reach Destroyed safe (first_of_both _ _ rest) in
+    record {
+      safe = record {
+        sound = sound_after p s.gear (gear_after (Sent c m reach Destroyed) s.gear) s.reserved s.enrolled s.told safe.sound moves
+            (second_of_both _ _ (second_of_both _ _ rest));
+        knows = λ g x at. knows_nothing x;
+      };
+      moves = moves;
+    }
+
+stop_goes : (p : Plan) (s : Site) (change : ℕ → Gear → Gear) → Stops change → (reach : List (Option ℕ)) → Safe p s
+    → Goes p s (record s { gear = befalls change reach s.gear })
+stop_goes p s change stops reach safe = record {
+  safe = record {
+    sound = sound_after p s.gear (befalls change reach s.gear) s.reserved s.enrolled s.told safe.sound (stop_moves p s safe change stops reach)
+        (stop_apart p s safe change stops reach);
+    knows = stop_knows p s safe change stops reach;
+  };
+  moves = stop_moves p s safe change stops reach;
+}
+
+goes : (p : Plan) (s : Site) (m : Moment) → Safe p s → allowed p s m ≡ true → Goes p s (happens s m)
+goes p s (Sent c m reach Destroyed) safe allow = destroyed_goes p s c m reach safe allow
+goes p s (Sent c m reach (Byte v)) safe allow = frame_goes p s c m reach (Byte v) (λ e. absurd (cc)) safe allow
+goes p s (Sent c m reach Nothing) safe allow = frame_goes p s c m reach Nothing (λ e. absurd (cc)) safe allow
+goes p s Ends safe allow = record { safe = record { sound = safe.sound; knows = λ g x at. knows_nothing x }; moves = no_moves s }
+goes p s (Reserves c a r) safe allow = record { safe = reserves p s safe c a r allow; moves = no_moves s }
+goes p s (Enrols c a r) safe allow = record { safe = enrols p s safe c a r allow; moves = no_moves s }
+goes p s (Releases c a r b) safe allow = record { safe = releases p s safe c a r b allow; moves = no_moves s }
+goes p s (Power reach) safe allow =
+    stop_goes p s (λ n g. record g { live = false; search = λ q. 0xFF }) (record { live = λ n x. refl; short = λ n x. refl; random = λ n x. refl }) reach safe
+goes p s (Expires reach) safe allow =
+    stop_goes p s (λ n g. record g { live = false }) (record { live = λ n x. refl; short = λ n x. refl; random = λ n x. refl }) reach safe
+
+-- ---------------------------------------------------------------- the beginning
+
+starts : (p : Plan) → IsPlan p → Safe p (start p)
+starts p plan = record {
+  sound = record {
+    apart = plan.apart;
+    once = λ g h a x y at there is same. differ_at (λ z. z.short) p.gear plan.shorts g h a x y at there is same;
+    short = λ g x at a is. below a 64
+        (ap (λ o. nat_lt (unwrap_or o 0) 64) (sym is) ∙ all_at (λ z. nat_lt (unwrap_or z.short 0) 64) p.gear g x plan.short at);
+    within = λ c a r e. let has = plan.reserved c a r e in (has.0, has.1, has.2);
+    for_gear = λ c a r g x e at is. for_gear a r x is
+        (all_at (λ z. not (holds a z.short) || (z.random == r)) p.gear g x (plan.reserved c a r e).3 at);
+    owned = λ g a x at is. inl (any_by (λ z. holds a z.short) p.gear g x at (holds_by a x.short is));
+    told_of = λ q a v small e. absurd (never e);
+    tables = λ c a r e. let any = any_at (λ z. holds a z.short && (z.random == r)) p.gear (plan.enrolled c a r e) in
+        (any.0, any.1, any.2, holds_is a any.1.short (first_of_both _ _ any.3), equal any.1.random r (second_of_both _ _ any.3));
+  };
+  knows = λ g x at. knows_nothing x;
+} where
+  never : false ≡ true → ⊥
+  never e = absurd (cc)
+
+  for_gear : (a r : ℕ) (x : Gear) → x.short ≡ Some a → (not (holds a x.short) || (x.random == r)) ≡ true → x.random ≡ r
+  for_gear a r x is e = go (either (not (holds a x.short)) (x.random == r) e) where
+    go : (not (holds a x.short) ≡ true) ⊎ ((x.random == r) ≡ true) → x.random ≡ r
+    go (inl other) = absurd (not_true (holds a x.short) other (holds_by a x.short is))
+    go (inr same) = equal x.random r same
+
+-- ---------------------------------------------------------------- all moments
+
+safe_after : (p : Plan) (ms : List Moment) (s : Site) → Safe p s → all_allowed p s ms ≡ true → Safe p (after s ms)
+safe_after p [] s safe allow = safe
+safe_after p (m ∷ ms) s safe allow =
+    safe_after p ms (happens s m) (goes p s m safe (first_of_both _ _ allow)).safe (second_of_both _ _ allow)
+
+keeps : (s t : Site) → Moves s.reserved s.gear t.gear → KeepsAddresses s t
+keeps s t moves g a r held = let to = moves.to g a held.0 held.1 held.2 in (to.0, to.1, to.2, to.3 ∙ held.3)
+
+keeps_after : (p : Plan) (ms : List Moment) (s : Site) → Safe p s → all_allowed p s ms ≡ true → KeepsAddresses s (after s ms)
+keeps_after p [] s safe allow g a r held = held
+keeps_after p (m ∷ ms) s safe allow g a r held =
+    let step = goes p s m safe (first_of_both _ _ allow) in
+    keeps_after p ms (happens s m) step.safe (second_of_both _ _ allow) g a r (keeps s (happens s m) step.moves g a r held)
+
+after_both : (ms ns : List Moment) (s : Site) → after s (ms ++ ns) ≡ after (after s ms) ns
+after_both [] ns s = refl
+after_both (m ∷ ms) ns s = after_both ms ns (happens s m)
+
+allowed_front : (p : Plan) (ms ns : List Moment) (s : Site) → all_allowed p s (ms ++ ns) ≡ true → all_allowed p s ms ≡ true
+allowed_front p [] ns s allow = refl
+allowed_front p (m ∷ ms) ns s allow = both (first_of_both _ _ allow) (allowed_front p ms ns (happens s m) (second_of_both _ _ allow)) where
+  both : {a b : Bool} → a ≡ true → b ≡ true → (a && b) ≡ true
+  both {a} {b} first second = rw (first, second) refl
+
+allowed_rest : (p : Plan) (ms ns : List Moment) (s : Site) → all_allowed p s (ms ++ ns) ≡ true → all_allowed p (after s ms) ns ≡ true
+allowed_rest p [] ns s allow = allow
+allowed_rest p (m ∷ ms) ns s allow = allowed_rest p ms ns (happens s m) (second_of_both _ _ allow)
+
+keeps_now : (p : Plan) (s : Site) → Safe p s → KeepsNow s
+keeps_now p s safe = record {
+  one_gear = λ g h a r q first second. safe.sound.once g h a first.0 second.0 first.1 second.1 first.2 second.2;
+  tables = λ c a r e. let of = safe.sound.tables c a r e in (of.0, (of.1, of.2, of.3, of.4));
+}
+
+pub every_history_keeps_the_promise : (p : Plan) (ms : List Moment) → IsHistory p ms → KeepsPromise p ms
+every_history_keeps_the_promise p ms history = record {
+  always = λ earlier more is. keeps_now p (after (start p) earlier)
+      (safe_after p earlier (start p) (starts p history.0) (front earlier more is));
+  ever_after = λ earlier later rest is. subst (λ t. KeepsAddresses (after (start p) earlier) t) (sym (after_both earlier later (start p)))
+      (keeps_after p later (after (start p) earlier) (safe_after p earlier (start p) (starts p history.0) (front earlier (later ++ rest) is))
+      (allowed_front p later rest (after (start p) earlier) (allowed_rest p earlier (later ++ rest) (start p) (whole earlier (later ++ rest) is))));
+} where
+  whole : (earlier more : List Moment) → earlier ++ more ≡ ms → all_allowed p (start p) (earlier ++ more) ≡ true
+  whole earlier more is = ap (all_allowed p (start p)) is ∙ history.1
+
+  front : (earlier more : List Moment) → earlier ++ more ≡ ms → all_allowed p (start p) earlier ≡ true
+  front earlier more is = allowed_front p earlier more (start p) (whole earlier more is)

@@ -1,0 +1,4 @@
+pub mod Page
+pub mod Whole
+pub mod Weaker
+pub mod Gear

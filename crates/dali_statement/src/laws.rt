@@ -1,0 +1,104 @@
+//! What is proved of the page. Programs don't call these.
+
+ghost use Rattle.std.specs.Prelude.{◌≡◌, ◌⊎◌, ℕ, List, Some, true, false, not, ◌==◌};
+ghost use Rattle.dali_special.specs.declared.command.Part.{Part as AskedPart};
+ghost use Rattle.dali_special.specs.declared.command.Command.{Command as Read};
+ghost use Rattle.dali_special.specs.declared.command.Command.TheVariants as read;
+ghost use Rattle.dali_special.specs.Command.{is_send_twice, IsSpelled};
+ghost use Rattle.dali_gear.specs.Gear.{Gear as Real, after_frame, answer_to, with_power, without_power, gear_expired};
+ghost use Rattle.dali_gear.specs.Gear.{gear_quieted};
+ghost use Rattle.dali_statement.specs.Page.{Moment, Plan, QueryShort, QueryRandom, takes, answer, is_told, IsHistory};
+ghost use Rattle.dali_statement.specs.Page.{KeepsPromise};
+ghost use Rattle.dali_statement.specs.Gear.{part_seen, command_seen, gear_seen, HasShort};
+ghost use Rattle.dali_statement.specs.Whole.{IsKeptByAll};
+ghost use Rattle.dali_statement.specs.Weaker.{BreakUnder, BreakApart, BreakAllTheSame, with_program, unnumbered};
+ghost use Rattle.dali_statement.specs.Weaker.{initialised_since, unqueried, searched_since, programmed_since};
+ghost use Rattle.dali_statement.specs.Weaker.{unreserved};
+ghost use Rattle.dali_statement.specs.Weaker.{erasing, initialising_all, with_randomise, none_programmed};
+ghost use Rattle.dali_statement.specs.Weaker.{is_terminated};
+ghost use Rattle.dali_statement.specs.Weaker.{enrolling, with_reserve, twice, elsewhere, used, beyond, undrawn};
+ghost use Rattle.dali_statement.specs.Weaker.{with_release, mishearing, drawing_alike, anyone, the_owner};
+
+/// EVERY HISTORY KEEPS THE PROMISE. At every moment no two gear hold one short address and each table is true, and from
+/// each moment on a gear that holds a short address keeps it, with its random address: whatever senders that keep the
+/// five rules send and hear, whichever frames are destroyed, whenever power comes and goes.
+pub fn every_history_keeps_the_promise()
+    ensures { (p : Plan) (ms : List Moment) → IsHistory p ms → KeepsPromise p ms }
+{}
+
+/// THE RULES CAN BE KEPT, by a history in which two senders give addresses and enrol the gear.
+pub fn rules_can_be_kept()
+    ensures { IsKeptByAll }
+{}
+
+/// EACH CLAUSE OF PROGRAM IS NEEDED. If one is left out, some history keeps all else and breaks the promise: if no
+/// number need be sent (`number`), or INITIALISE may come after it (`initialise`); if QUERY SHORT ADDRESS need not be
+/// heard as `FF` (`query`), or search bytes (`search`) or PROGRAM (`program`) may come after it; if the address need
+/// not be reserved (`reserved`); if addresses may be erased (`erase`).
+pub fn each_clause_of_program_is_needed()
+    ensures number { BreakUnder (with_program unnumbered) }
+    ensures initialise { BreakUnder (with_program initialised_since) }
+    ensures query { BreakUnder (with_program unqueried) }
+    ensures search { BreakUnder (with_program searched_since) }
+    ensures program { BreakUnder (with_program programmed_since) }
+    ensures reserved { BreakUnder (with_program unreserved) }
+    ensures erase { BreakUnder erasing }
+{}
+
+/// EACH CLAUSE OF INITIALISE AND RANDOMISE IS NEEDED: INITIALISE to gear without short address alone (`unaddressed`);
+/// TERMINATE before RANDOMISE in its transaction (`terminate`), and no PROGRAM since (`program`).
+pub fn each_clause_of_an_opening_is_needed()
+    ensures unaddressed { BreakUnder initialising_all }
+    ensures terminate { BreakUnder (with_randomise (λ s. none_programmed s.said)) }
+    ensures program { BreakUnder (with_randomise (λ s. is_terminated s.said)) }
+{}
+
+/// EACH CLAUSE OF RECORDS IS NEEDED. What is enrolled was told (`told`). A reserved address is free (`free`), of the
+/// own block (`block`), none that a gear came with (`unused`), below 64 (`short`), for a number below `FFFFFF`
+/// (`below`). It is released only if its gear was told to have an address (`release`), and another one (`another`).
+pub fn each_clause_of_records_is_needed()
+    ensures told { BreakUnder enrolling }
+    ensures free { BreakUnder (with_reserve twice) }
+    ensures block { BreakUnder (with_reserve elsewhere) }
+    ensures unused { BreakUnder (with_reserve used) }
+    ensures short { BreakUnder (with_reserve beyond) }
+    ensures below { BreakUnder (with_reserve undrawn) }
+    ensures release { BreakUnder (with_release (λ s a r b. not (a == b))) }
+    ensures another { BreakUnder (with_release (λ s a r b. is_told s b r)) }
+{}
+
+/// EACH CLAUSE OF OWNERSHIP IS NEEDED: that the owner alone sends (`owner`); that who goes on after a transaction ended
+/// begins anew (`anew`), also after a frame was destroyed (`destroyed`).
+pub fn each_clause_of_ownership_is_needed()
+    ensures owner { BreakApart anyone }
+    ensures anew { BreakApart the_owner }
+    ensures destroyed { BreakAllTheSame }
+{}
+
+/// EACH PREMISE IS NEEDED: that no byte is heard which was not answered (`heard`), and that no two gear have one random
+/// address (`drawn`).
+pub fn each_premise_is_needed()
+    ensures heard { BreakUnder mishearing }
+    ensures drawn { BreakUnder drawing_alike }
+{}
+
+/// GEAR OF THE PAGE ARE THOSE OF `dali_gear`, of which it leaves out power, WITHDRAWN and half pairs. If a frame is for
+/// a gear that is seen so, it takes the frame as the page says (`step`). At INITIALISE and RANDOMISE it does, or stays
+/// as it is (`pair`). What it answers to QUERY SHORT ADDRESS it answers on the page (`query`), and what it answers to a
+/// query of its random address too (`random`): there a gear without power answers as well. `power_off`, `power_on`,
+/// `expired` and `quieted` say what else befalls it.
+pub fn gear_are_those_of_the_page()
+    ensures step { (c : Read) (draw n : ℕ) (g : Real) → is_send_twice c ≡ false
+        → gear_seen (after_frame c draw g) ≡ takes (command_seen c) n (gear_seen g) }
+    ensures pair { (c : Read) (draw : ℕ) (g : Real) → is_send_twice c ≡ true → IsSpelled c → HasShort g
+        → (gear_seen (after_frame c draw g) ≡ gear_seen g)
+        ⊎ (gear_seen (after_frame c draw g) ≡ takes (command_seen c) draw (gear_seen g)) }
+    ensures query { (g : Real) → answer_to read.QueryShort g ≡ answer QueryShort (gear_seen g) }
+    ensures random { (a v : ℕ) (part : AskedPart) (g : Real) → answer_to (read.RandomByte a part) g ≡ Some v
+        → answer (QueryRandom a (part_seen part)) (gear_seen g) ≡ Some v }
+    ensures power_off { (g : Real) → gear_seen (without_power g)
+        ≡ record (gear_seen g) { live = false; search = λ p. 0xFF } }
+    ensures power_on { (g : Real) → gear_seen (with_power g) ≡ gear_seen g }
+    ensures expired { (g : Real) → gear_seen (gear_expired g) ≡ record (gear_seen g) { live = false } }
+    ensures quieted { (g : Real) → gear_seen (gear_quieted g) ≡ gear_seen g }
+{}
