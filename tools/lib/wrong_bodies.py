@@ -338,6 +338,16 @@ def folders(kinds: tuple[str, ...], names: Iterable[str]) -> list[tuple[proving.
     return [it for it in found if not names or it[0].name in names]
 
 
+def shares(tried: dict[str, int]) -> list[str]:
+    """How many wrong bodies of each crate were tried, of how many there are; and the crates of which none was."""
+    kinds = ("must-fail", "attacks")
+    them = {it.name: sum(len(list(it.folder.glob(f"{kind}/*.edit"))) for kind in kinds) for it in proving.workspace().values()}
+    some = ", ".join(f"{name} {tried[name]} of {count}" for name, count in them.items() if tried.get(name))
+    none = ", ".join(f"{name} {count}" for name, count in them.items() if count and not tried.get(name))
+    lines = [f"wrong bodies: {sum(tried.values())} of {sum(them.values())} were tried: {some}"]
+    return [*lines, f"wrong bodies: none was tried of {none}"] if none else lines
+
+
 def run(title: str, tries: list[tuple[proving.Crate, str]], trial: Trial, wanted: str, is_planted_alone: bool = False) -> int:
     """Tries the edits that stand in folders of crates, many of a crate by one check, or those alone that can be planted: each by a trial that
     must come to what is wanted.
@@ -370,6 +380,8 @@ def run(title: str, tries: list[tuple[proving.Crate, str]], trial: Trial, wanted
         parts = [(crate, edits[at : at + TOGETHER]) for crate, edits in of_crates.items() for at in range(0, len(edits), TOGETHER)]
         for it in [lanes.submit(try_all, *part) for part in parts]:
             it.result()
+    if wanted == REFUSED:
+        print("\n".join(shares({crate.name: len(edits) for crate, edits in of_crates.items()})))
     if named:
         print(f"{len(named)} of them change a shape and have no twin: that these are refused says less of the contract")
     print(f"{count[True]} passed, {count[False]} failed")
