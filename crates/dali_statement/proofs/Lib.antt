@@ -7,3 +7,5 @@ mod Records
 mod Whole
 mod Histories
 mod Gear
+mod Rows
+mod Scripts

@@ -2,3 +2,4 @@ pub mod Page
 pub mod Whole
 pub mod Weaker
 pub mod Gear
+pub mod Scripts

@@ -1,14 +1,27 @@
 //! What is proved of the page. Programs don't call these.
 
-ghost use Rattle.std.specs.Prelude.{◌≡◌, ◌⊎◌, ℕ, List, Some, true, false, not, ◌==◌};
+ghost use Rattle.std.specs.Prelude.{◌≡◌, ◌≢◌, ◌⊎◌, ℕ, List, [], map, Option, Some, true, false, not, ◌==◌};
+ghost use Rattle.std.specs.List.{AllByRecursion};
 ghost use Rattle.dali_special.specs.declared.command.Part.{Part as AskedPart};
 ghost use Rattle.dali_special.specs.declared.command.Command.{Command as Read};
 ghost use Rattle.dali_special.specs.declared.command.Command.TheVariants as read;
-ghost use Rattle.dali_special.specs.Command.{is_send_twice, IsSpelled};
+ghost use Rattle.dali_special.specs.Command.{command_of, is_send_twice, IsSpelled};
+ghost use Rattle.dali_frame.specs.declared.frames.Forward.{Forward};
+ghost use Rattle.dali_frame.specs.Random.{value_of};
+ghost use Rattle.dali_frame.specs.Short.{short_of};
+ghost use Rattle.dali_script.specs.declared.block.Block.{Block};
+ghost use Rattle.dali_script.specs.declared.trace.Entry.{Entry};
+ghost use Rattle.dali_script.specs.Records.{Assignment, Has};
+ghost use Rattle.dali_script.specs.Findings.{search_of};
+ghost use Rattle.dali_script.specs.Scripts.{Lawful};
 ghost use Rattle.dali_gear.specs.Gear.{Gear as Real, after_frame, answer_to, with_power, without_power, gear_expired};
 ghost use Rattle.dali_gear.specs.Gear.{gear_quieted};
+ghost use Rattle.dali_gear.specs.declared.row.Reach.{Reach};
+ghost use Rattle.dali_gear.specs.declared.row.Reach.TheVariants.{Everyone};
+ghost use Rattle.dali_gear.specs.Row.{row_after, answers_of};
 ghost use Rattle.dali_statement.specs.Page.{Moment, Plan, QueryShort, QueryRandom, takes, answer, is_told, IsHistory};
-ghost use Rattle.dali_statement.specs.Page.{KeepsPromise};
+ghost use Rattle.dali_statement.specs.Page.{KeepsPromise, Byte, befalls, hears, Part, byte, Site, tells, may_send};
+ghost use Rattle.dali_statement.specs.Scripts.{said_of};
 ghost use Rattle.dali_statement.specs.Gear.{part_seen, command_seen, gear_seen, HasShort};
 ghost use Rattle.dali_statement.specs.Whole.{IsKeptByAll};
 ghost use Rattle.dali_statement.specs.Weaker.{BreakUnder, BreakApart, BreakAllTheSame, with_program, unnumbered};
@@ -101,4 +114,34 @@ pub fn gear_are_those_of_the_page()
     ensures power_on { (g : Real) → gear_seen (with_power g) ≡ gear_seen g }
     ensures expired { (g : Real) → gear_seen (gear_expired g) ≡ record (gear_seen g) { live = false } }
     ensures quieted { (g : Real) → gear_seen (gear_quieted g) ≡ gear_seen g }
+{}
+
+/// ROWS OF GEAR ARE THOSE OF THE PAGE. If a frame that is no half of a pair reaches all gear, all gear of the page take
+/// it (`sent`). If a frame reaches some gear, some of the page take it (`reached`). If each answer is one byte, it may
+/// be heard on the page (`heard`).
+pub fn rows_are_those_of_the_page()
+    ensures sent { (c : Read) (gs : List Real) (left : List ℕ) → is_send_twice c ≡ false
+        → map gear_seen (row_after Everyone c 0 gs left) ≡ map (takes (command_seen c) 0) (map gear_seen gs) }
+    ensures reached { (reach : Reach) (c : Read) (gs : List Real) (left : List ℕ) → IsSpelled c
+        → AllByRecursion HasShort gs → (some : List (Option ℕ))
+        × (map gear_seen (row_after reach c 0 gs left) ≡ befalls (takes (command_seen c)) some (map gear_seen gs)) }
+    ensures heard { (c : Read) (v : ℕ) (gs : List Real) → (answers_of Everyone c 0 gs ≢ [])
+        → AllByRecursion (λ u. u ≡ v) (answers_of Everyone c 0 gs)
+        → hears (command_seen c) (Byte v) (map gear_seen gs) ≡ true }
+{}
+
+/// THE SCRIPTS KEEP THE RULES. Each frame that is lawful after a trace, for a sender with these reservations, may be
+/// sent on the page by rules 1 and 2 (`rules`). If it is QUERY SHORT ADDRESS and heard as a short address, that tells
+/// which random address the gear has: the search address that the trace has set (`told`).
+pub fn scripts_keep_the_rules()
+    ensures rules { (b : Block) (records : List Assignment) (t : List Entry) (f : Forward) (s : Site) (c : ℕ)
+        → Lawful b records t f → s.said ≡ said_of t
+        → ((a r : ℕ) → Has records (a, r) → s.reserved c a ≡ Some r)
+        → may_send s c (command_seen (command_of f)) ≡ true }
+    ensures told { (b : Block) (records : List Assignment) (t : List Entry) (f : Forward) (s : Site) (c v a : ℕ)
+        (q : Part)
+        → Lawful b records t f → s.said ≡ said_of t
+        → ((d r : ℕ) → Has records (d, r) → s.reserved c d ≡ Some r)
+        → command_of f ≡ read.QueryShort → short_of v ≡ Some a
+        → tells QueryShort (Byte v) s.said q a (byte q (value_of (search_of t))) ≡ true }
 {}
