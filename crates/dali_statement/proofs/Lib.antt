@@ -9,3 +9,4 @@ mod Histories
 mod Gear
 mod Rows
 mod Scripts
+mod Sites

@@ -1,6 +1,7 @@
 use Rattle.std.proofs.Common.{◌≡◌, ◌⊎◌, inl, inr, ℕ, ◌<◌, zero, suc, Bool, true, false, refl, sym, ap, subst, ◌∙◌, arith, List, [], ◌∷◌, map, Option, Some}
+use Rattle.std.proofs.Common.{length, get_or, ◌≤◌}
 use Rattle.std.proofs.Common.{None}
-use Rattle.std.specs.Prelude.{◌==◌, ◌&&◌, ◌||◌, not, nat_lt, slice_get}
+use Rattle.std.specs.Prelude.{◌==◌, ◌&&◌, ◌||◌, not, nat_lt, slice_get, nat_le}
 use Rattle.std.specs.List.{list_any, list_all}
 use Rattle.std.proofs.lemmas.Bool.Decides.{nat_tests}
 use Rattle.dali_statement.specs.Page.{same, holds, differ}
@@ -102,3 +103,55 @@ differ_at {A} key (z ∷ zs) e i j n x y at there is same = go (λ d k l first s
   go later d zero (suc j) at there = absurd (twice j y there same (key z) (ap key (some_is at) ∙ is) d)
   go later d (suc i) zero at there = absurd (twice i x at is (key z) (ap key (some_is there) ∙ same) d)
   go later d (suc i) (suc j) at there = ap suc (later (rest (key z) d) i j at there)
+
+pub mapped_at : {A B : Type 0} (f : A → B) (xs : List A) (i : ℕ) (y : B) → slice_get (map f xs) i ≡ Some y → (x : A) × (slice_get xs i ≡ Some x) × (y ≡ f x)
+mapped_at {A} {B} f [] i y at = absurd (cc)
+mapped_at {A} {B} f (x ∷ xs) zero y at = (x, refl, sym (some_is at))
+mapped_at {A} {B} f (x ∷ xs) (suc i) y at = mapped_at f xs i y at
+
+-- a list in which no number stands at two places
+pub differ_by : {A : Type 0} (key : A → Option ℕ) (xs : List A)
+    → ((i j n : ℕ) (x y : A) → slice_get xs i ≡ Some x → slice_get xs j ≡ Some y → key x ≡ Some n → key y ≡ Some n → i ≡ j) → differ (map key xs) ≡ true
+differ_by {A} key [] one = refl
+differ_by {A} key (z ∷ zs) one =
+    go (key z) refl (differ_by key zs (λ i j n x y at there is same. shorter i j (one (suc i) (suc j) n x y at there is same))) where
+      shorter : (i j : ℕ) → suc i ≡ suc j → i ≡ j
+      shorter i j e = omega arith
+
+      apart : (i : ℕ) → zero ≡ suc i → ⊥
+      apart i e = omega arith
+
+      alone : (m : ℕ) (t : Bool) → key z ≡ Some m → list_any (holds m) (map key zs) ≡ t → not t ≡ true
+      alone m false is e = refl
+      alone m true is e =
+          let at = any_at (holds m) (map key zs) e in
+          let from = mapped_at key zs at.0 at.1 at.2 in
+          absurd (apart at.0 (one zero (suc at.0) m z from.0 refl from.1 is (sym from.2 ∙ holds_is m at.1 at.3)))
+
+      both : {a b : Bool} → a ≡ true → b ≡ true → (a && b) ≡ true
+      both {a} {b} first second = rw (first, second) refl
+
+      go : (o : Option ℕ) → key z ≡ o → differ (map key zs) ≡ true → differ (o ∷ map key zs) ≡ true
+      go None is rest = rest
+      go (Some m) is rest = both (alone m (list_any (holds m) (map key zs)) is refl) rest
+
+pub all_by : {A : Type 0} (test : A → Bool) (xs : List A) → ((i : ℕ) (x : A) → slice_get xs i ≡ Some x → test x ≡ true) → list_all test xs ≡ true
+all_by {A} test [] each = refl
+all_by {A} test (x ∷ xs) each = both (each zero x refl) (all_by test xs (λ i y at. each (suc i) y at)) where
+  both : {a b : Bool} → a ≡ true → b ≡ true → (a && b) ≡ true
+  both {a} {b} first second = rw (first, second) refl
+
+pub below_by : (m n : ℕ) → m < n → nat_lt m n ≡ true
+below_by m n e = grind (arith, nat_tests)
+
+pub within_by : (m n : ℕ) → m ≤ n → nat_le m n ≡ true
+within_by m n e = grind (arith, nat_tests)
+
+pub within_is : (m n : ℕ) → nat_le m n ≡ true → m ≤ n
+within_is m n e = grind (arith, nat_tests)
+
+-- a place of a list, in the words of the crates below
+pub at_index : {A : Type 0} (xs : List A) (i : ℕ) (x d : A) → slice_get xs i ≡ Some x → (i < length xs) × (get_or xs i d ≡ x)
+at_index {A} [] i x d at = absurd (cc)
+at_index {A} (y ∷ ys) zero x d at = (omega arith, some_is at)
+at_index {A} (y ∷ ys) (suc i) x d at = let more = at_index ys i x d at in (let small : i < length ys = more.0 in omega arith, more.1)

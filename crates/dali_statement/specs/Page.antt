@@ -277,7 +277,7 @@ allowed p s (Reserves c a r) =
 allowed p s (Releases c a r b) = holds r (s.reserved c a) && (is_told s b r && not (a == b))
 allowed p s _ = true
 
--- ---------------------------------------------------------------- the promise
+-- ---------------------------------------------------------------- histories
 
 -- A PLAN that holds: short addresses and random addresses are different, and records are true.
 pub record IsPlan (p : Plan) : Type 0 where
@@ -301,6 +301,8 @@ all_allowed p s (m ∷ ms) = allowed p s m && all_allowed p (happens s m) ms
 
 abbrev pub IsHistory : Plan → List Moment → Type 0
 IsHistory p ms = IsPlan p × (all_allowed p (start p) ms ≡ true)
+
+-- ---------------------------------------------------------------- the promise
 
 -- gear g is there, with short address a and random address r
 abbrev pub Holds : Site → ℕ → ℕ → ℕ → Type 0
