@@ -29,16 +29,16 @@ fn add(all: &mut Kept, address: Short, pair: Pair) -> Result<(), Short>
 }
 
 /// Adds a gear to a table so, unless it is the one with this short address.
-fn add_other(all: &mut Kept, pair: Pair, short: Short) -> Result<(), Short>
+fn add_other(all: &mut Kept, pair: Pair, number: u8) -> Result<(), Short>
     requires { pair.0 < 64 }
-    ensures has { OnOk result (pair.0 ≢ short → Has all.new.enrolled pair) }
+    ensures has { OnOk result (pair.0 ≢ number → Has all.new.enrolled pair) }
     ensures keeps { OnOk result (Keeps all.old all.new) }
-    ensures lacks { OnOk result (Lacks short all.old → Lacks short all.new) }
+    ensures lacks { OnOk result (Lacks number all.old → Lacks number all.new) }
 {
     let Some(address) = Short::of(pair.address()) else {
         unreachable!();
     };
-    if address == short {
+    if pair.address() == number {
         Ok(())
     } else {
         add(all, address, pair)
@@ -47,31 +47,31 @@ fn add_other(all: &mut Kept, pair: Pair, short: Short) -> Result<(), Short>
 
 /// Adds all gear of a list to a table so, but the one with this short address.
 #[tactic(auto, using(crate::proofs::Every::all_but_more))]
-fn add_all(all: &mut Kept, pairs: &[Pair], short: Short) -> Result<(), Short>
+fn add_all(all: &mut Kept, pairs: &[Pair], number: u8) -> Result<(), Short>
     requires { AreShort pairs.now }
-    ensures all { OnOk result (HasAllBut short pairs.now all.new) }
+    ensures all { OnOk result (HasAllBut number pairs.now all.new) }
     ensures keeps { OnOk result (Keeps all.old all.new) }
-    ensures lacks { OnOk result (Lacks short all.old → Lacks short all.new) }
+    ensures lacks { OnOk result (Lacks number all.old → Lacks number all.new) }
 {
     let [pair, more @ ..] = pairs else {
         return Ok(());
     };
-    add_other(all, *pair, short)?;
-    add_all(all, more, short)
+    add_other(all, *pair, number)?;
+    add_all(all, more, number)
 }
 
 /// Adds all gear of tables to another one so, but the one with this short address.
 #[tactic(auto, using(crate::proofs::Every::kept_are_short))]
-fn gather(all: &mut Kept, tables: &[Kept], short: Short) -> Result<(), Short>
-    ensures all { OnOk result (IsGathered short tables.now all.new) }
+fn gather(all: &mut Kept, tables: &[Kept], number: u8) -> Result<(), Short>
+    ensures all { OnOk result (IsGathered number tables.now all.new) }
     ensures keeps { OnOk result (Keeps all.old all.new) }
-    ensures lacks { OnOk result (Lacks short all.old → Lacks short all.new) }
+    ensures lacks { OnOk result (Lacks number all.old → Lacks number all.new) }
 {
     let [table, more @ ..] = tables else {
         return Ok(());
     };
-    add_all(all, table.enrolled(), short)?;
-    gather(all, more, short)
+    add_all(all, table.enrolled(), number)?;
+    gather(all, more, number)
 }
 
 /// A table of all gear that tables have, but the one which is replaced; or the short address about which two of them
@@ -81,7 +81,17 @@ pub fn gathered(tables: &[Kept], short: Short) -> Result<Kept, Short>
     ensures without { IfOk result (λ all. Lacks short all) }
 {
     let mut all = Kept::new(Block::ALL);
-    gather(&mut all, tables, short)?;
+    gather(&mut all, tables, short.number())?;
+    Ok(all)
+}
+
+/// A table of all gear that tables have; or the short address about which two of them disagree.
+pub fn gathered_whole(tables: &[Kept]) -> Result<Kept, Short>
+    ensures { IfOk result (λ all. IsGathered 64 tables.now all) }
+{
+    let mut all = Kept::new(Block::ALL);
+    // No short address is this number.
+    gather(&mut all, tables, 64)?;
     Ok(all)
 }
 

@@ -15,7 +15,7 @@ mod tables;
 
 pub use come::Come;
 pub use confirmed::Confirmed;
-pub use filling::{fill, gathered, refill};
+pub use filling::{fill, gathered, gathered_whole, refill};
 pub use permit::{OthersThere, Permit, Vacant};
 pub use refusal::{ReplaceFault, ReplaceRefusal};
 pub use standing::Standing;
