@@ -23,6 +23,7 @@ WORDS = {
         "dali_commission-identify.txt": ["identify", "--help"],
         "dali_commission-table.txt": ["table", "--help"],
         "dali_commission-replace.txt": ["replace", "--help"],
+        "dali_commission-mend.txt": ["mend", "--help"],
         "dali_commission-version.txt": ["--version"],
     },
 }

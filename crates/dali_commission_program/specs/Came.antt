@@ -1,5 +1,6 @@
 use Rattle.std.specs.Prelude.{◌≡◌, ◌⊎◌, ℕ, ◌-◌, Bool, List, [], ◌∷◌, ◌++◌, Result, Ok, Err}
 use Rattle.std.specs.Prelude.{length, IsErr}
+use Rattle.std.specs.List.{list_any}
 use Rattle.dali_script.specs.declared.block.Block.{Block}
 use Rattle.dali_script.specs.declared.orders.End.TheVariants.{AllFound}
 use Rattle.dali_script.specs.declared.orders.Input.TheVariants.{Survey}
@@ -25,6 +26,7 @@ use Rattle.dali_commission_program.specs.declared.tasks.Start.TheVariants as sta
 use Rattle.dali_commission_program.specs.Failures.{checked, ended_as, failure_of}
 use Rattle.dali_commission_program.specs.Reports.{checked_said, addressed_said, heard_of}
 use Rattle.dali_commission_program.specs.Said.{heard_said, WhySaid}
+use Rattle.dali_commission_program.specs.Sharing.{is_shared, has_any, or_shared}
 
 -- WHAT A CHECK COMES TO, by what it found, or why it could not be made: how it ends, what is said
 -- of it, and what stands where
@@ -40,7 +42,8 @@ check_said (Err fault) others = []
 abbrev pub check_ended : Result Checked CommissionFault → List Block → Bool → ℕ
     → Result (Unit {0}) Failure
 check_ended (Ok found) others heard line =
-    checked (places found.kept others found.replies.items) found.has_unaddressed heard
+    or_shared (checked (places found.kept others found.replies.items) found.has_unaddressed heard)
+    (list_any (λ reply. is_shared reply) found.replies.items)
 check_ended (Err fault) others heard line = Err (failure_of fault line)
 
 -- HOW A RUN BEGINS: with a census, and then machines that start, or with machines that survey
@@ -67,7 +70,7 @@ abbrev pub ComesTo : Kept → List Block → Bool → Result Begun CommissionFau
 ComesTo k others heard (Ok (begun.Addressed replies)) lines ended =
     (lines ≡ addressed_said (places k others replies.items)) × (ended ≡ Err AddressedBefore)
 ComesTo k others heard (Ok (begun.Commissioned pass)) lines ended =
-    IsErr ended ⊎ (ended ≡ ended_as pass.ended heard)
+    IsErr ended ⊎ (ended ≡ or_shared (ended_as pass.ended heard) (has_any pass.heard))
 ComesTo k others heard (Err fault) lines ended = IsErr ended
 
 -- WHAT IS SAID OF A RUN: whom its last survey left alone, why it ended so, and how many gear were

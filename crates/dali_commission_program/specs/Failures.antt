@@ -30,6 +30,7 @@ use Rattle.dali_commission_program.specs.declared.failure.Failure.TheVariants.{N
 use Rattle.dali_commission_program.specs.declared.failure.Failure.TheVariants.{NotReplaced}
 use Rattle.dali_commission_program.specs.declared.failure.Failure.TheVariants.{NotConfirmed}
 use Rattle.dali_commission_program.specs.declared.failure.Failure.TheVariants.{Unfinished}
+use Rattle.dali_commission_program.specs.declared.failure.Failure.TheVariants.{NotMended, Shared}
 use Rattle.dali_commission_program.specs.declared.stores.StoreFault.TheVariants as store
 use Rattle.dali_commission_program.specs.declared.tasks.Task.{Task}
 use Rattle.dali_commission_program.specs.declared.tasks.Task.TheVariants as task
@@ -51,6 +52,8 @@ status_of (NobodyThere a) = 10
 status_of (NotReplaced a refusal) = 11
 status_of (NotConfirmed a refusal) = 11
 status_of Unfinished = 12
+status_of (NotMended a refusal) = 11
+status_of Shared = 13
 
 -- what the end of the program is called in an object of JSON
 abbrev pub name_of : Failure → List ℕ
@@ -71,6 +74,8 @@ name_of (NobodyThere a) = codes "nobody-answered"
 name_of (NotReplaced a refusal) = codes "not-replaced"
 name_of (NotConfirmed a refusal) = codes "not-confirmed"
 name_of Unfinished = codes "unfinished"
+name_of (NotMended a refusal) = codes "not-mended"
+name_of Shared = codes "shared"
 
 abbrev pub end_name : Task → Result (Unit {0}) Failure → List ℕ
 end_name (task.Run setup) (Ok done) = codes "all-found"
@@ -78,11 +83,13 @@ end_name task.Check (Ok done) = codes "as-recorded"
 end_name (task.Identify a) (Ok done) = codes "shown"
 end_name (task.Table form) (Ok done) = codes "written"
 end_name (task.Replace wanted) (Ok done) = codes "replaced"
+end_name (task.Mend wanted) (Ok done) = codes "mended"
 end_name asked (Err failure) = name_of failure
 
 -- the records that a refusal is about; which of several files it is, was said before
 abbrev pub refused_name : Task → List (String Global) → Option (List ℕ)
 refused_name (task.Replace wanted) records = None
+refused_name (task.Mend wanted) records = None
 refused_name _ records = option_map (λ name. string_bytes name) (slice_get records 0)
 
 -- a result that cannot be written is a failure, if there was none before

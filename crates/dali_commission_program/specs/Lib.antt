@@ -2,10 +2,12 @@ pub mod Calls
 pub mod Came
 pub mod Failures
 pub mod Json
+pub mod Mends
 pub mod Progress
 pub mod Replacing
 pub mod Reports
 pub mod Said
 pub mod Settling
+pub mod Sharing
 pub mod Tables
 pub mod Words

@@ -9,6 +9,7 @@ use Rattle.std.specs.declared.string.String.{String}
 use Rattle.dali_script.specs.declared.block.Block.{Block}
 use Rattle.dali_words.specs.Lines.{values_of}
 use Rattle.dali_commission_program.specs.declared.tasks.Asked.{Asked}
+use Rattle.dali_commission_program.specs.declared.tasks.Mend.{Mend}
 use Rattle.dali_commission_program.specs.declared.tasks.Replacement.{Replacement}
 use Rattle.dali_commission_program.specs.declared.tasks.Setup.{Setup}
 use Rattle.dali_commission_program.specs.declared.tasks.Start.{Start}
@@ -72,6 +73,7 @@ IsSetup values others setup =
     IsBlock (value_of (codes "block") values) setup.block
     × (list_any (meets setup.block) others ≡ false)
     × IsStart values setup.start
+    × (IsTrue setup.mends ↔ Has (codes "mend") values)
 
 -- WHAT `table` ASKS FOR
 abbrev pub IsForm : Values → TableForm → Type 0
@@ -96,6 +98,24 @@ IsReplacement values files wanted =
     × IsOnlyBlock values files (first_of (codes "block") values) wanted.block
     × (IsTrue wanted.is_again ↔ Has (codes "again") values)
 
+-- WHAT `mend` ASKS FOR: all words but the last one are short addresses, behind those before, and
+-- the last one is the block
+abbrev pub AreNamed : List ℕ → List (String Global) → List ℕ → Block → Type 0
+AreNamed before [] after block = ⊥
+AreNamed before (last ∷ []) after block = (after ≡ before) × IsBlock (string_bytes last) block
+AreNamed before (word ∷ next ∷ more) after block =
+    (a : ℕ)
+    × IsShort (string_bytes word) a
+    × AreNamed (before ++ a ∷ []) (next ∷ more) after block
+
+abbrev pub IsMend : Values → List Block → Mend → Type 0
+IsMend values others wanted =
+    ((words : List (String Global))
+    × AddsSpelled (λ word it. string_bytes it ≡ word) [] (values_of (codes "words") values) words
+    × AreNamed [] words wanted.named.items wanted.block)
+    × AddsSpelled IsShort [] (values_of (codes "missing") values) wanted.missing.items
+    × (list_any (meets wanted.block) others ≡ false)
+
 -- WHAT IS TO BE DONE, by the subcommand
 abbrev pub IsTask : List ℕ → Values → List Block → ℕ → Task → Type 0
 IsTask name values others files (task.Run setup) =
@@ -106,6 +126,8 @@ IsTask name values others files (task.Identify a) =
 IsTask name values others files (task.Table form) = (name ≡ codes "table") × IsForm values form
 IsTask name values others files (task.Replace wanted) =
     (name ≡ codes "replace") × IsReplacement values files wanted
+IsTask name values others files (task.Mend wanted) =
+    (name ≡ codes "mend") × IsMend values others wanted
 
 -- WHAT A LINE ASKS FOR: a table has its form by `--json`, and all others write an object beside
 abbrev pub is_table : Task → Bool

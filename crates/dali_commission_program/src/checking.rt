@@ -10,6 +10,7 @@ ghost use Rattle.dali_commission_program.specs.Came.{check_ended, check_said, ch
 use crate::failure::{Failure, checked, failure_of};
 use crate::records::lend_copy;
 use crate::report::{Came, Report};
+use crate::sharing::{is_any_shared, or_shared};
 use crate::stores::{Borrower, Stores};
 use dali_commissioning::{Checked, CommissionFault, DriverLink, check};
 use dali_reserve::{Keep, MemoryKeep};
@@ -33,7 +34,10 @@ fn came_of(
         Ok(found) => {
             let report = Report::of_check(found, others);
             let ended = checked(&report.places, found.has_unaddressed, has_heard);
-            Came { report, ended }
+            Came {
+                report,
+                ended: or_shared(ended, is_any_shared(&found.replies)),
+            }
         }
         Err(fault) => Came::bare(Err(failure_of(*fault, line))),
     }

@@ -3,6 +3,7 @@
 ghost use Rattle.std.specs.Prelude.{◌≡◌, ◌++◌, ◌∷◌, [], OnOk};
 ghost use Rattle.dali_commission_program.specs.Failures.{status_of, name_of, ended_as, checked, failure_of};
 
+use crate::sharing::MendRefusal;
 use crate::stores::StoreFault;
 use dali_commissioning::{CommissionFault, DriverFault, Ended, Place, are_as_recorded};
 use dali_console::{ConsoleFault, Failed};
@@ -57,6 +58,11 @@ pub enum Failure {
     NotConfirmed(Short, ReplaceRefusal),
     #[error("a replacement is not finished: call ./dali_commission replace again, with the same words")]
     Unfinished,
+    /// No short address is mended, for what is so of this one.
+    #[error("not mended, nothing was changed: short address {at}: {1}", at = .0.number())]
+    NotMended(Short, MendRefusal),
+    #[error("gear share a short address, or have no random one: call ./dali_commission mend, with the words of run")]
+    Shared,
 }
 
 impl fmt::Debug for Failure {
@@ -112,6 +118,8 @@ impl Failure {
             Failure::NotReplaced(..) => (11, "not-replaced"),
             Failure::NotConfirmed(..) => (11, "not-confirmed"),
             Failure::Unfinished => (12, "unfinished"),
+            Failure::NotMended(..) => (11, "not-mended"),
+            Failure::Shared => (13, "shared"),
         }
     }
 }

@@ -11,6 +11,7 @@ use crate::checking::checks;
 use crate::failure::{Failure, REFUSED};
 use crate::identifying::identify;
 use crate::json::write_report;
+use crate::mending::mends;
 use crate::progress::Manner;
 use crate::records::{kept, lend, lend_copy};
 use crate::replacing::{note_first, replaces};
@@ -108,6 +109,7 @@ where
             note_first(alloc, stores, name, report);
             Ok(())
         }
+        Task::Mend(wanted) => mends(system, stores, manner, asked, wanted, report),
     }
 }
 
@@ -121,13 +123,13 @@ fn first(records: &[String]) -> Option<&str>
     }
 }
 
-/// The name of the records that a refusal is about. `replaces` has said which of several files it is.
+/// The name of the records that a refusal is about. Which of several files it is was said before.
 fn refused_name(asked: &Asked) -> Option<&str>
     ensures { option_map (λ name. name.now) result ≡ refused_name asked.now.task asked.now.records.items }
 {
     match &asked.task {
         Task::Run(_) | Task::Check | Task::Identify(_) | Task::Table(_) => first(&asked.records),
-        Task::Replace(_) => None,
+        Task::Replace(_) | Task::Mend(_) => None,
     }
 }
 
@@ -143,6 +145,7 @@ fn end(task: &Task, ended: &Result<(), Failure>) -> (u8, &'static str)
         (Ok(()), Task::Identify(_)) => (0, "shown"),
         (Ok(()), Task::Table(_)) => (0, "written"),
         (Ok(()), Task::Replace(_)) => (0, "replaced"),
+        (Ok(()), Task::Mend(_)) => (0, "mended"),
     }
 }
 

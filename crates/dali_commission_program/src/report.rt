@@ -18,6 +18,7 @@ use crate::said::{Said, say};
 use crate::table::rows;
 use arrayvec::ArrayVec;
 use dali_commissioning::{Checked, DriverLink, PassEnd, Place, Reply, places, random_at};
+use dali_controller::Shorts;
 use dali_frame::{Random24, Short};
 use dali_script::{Block, Kept};
 use std::io::{Eprint, Read, Write};
@@ -65,7 +66,7 @@ fn push_own_rows(table: &mut ArrayVec<Row, 64>, kept: &Kept, rows: &[(Short, Ran
 }
 
 /// The gear in a table, by their short addresses.
-fn own_rows(kept: &Kept) -> ArrayVec<Row, 64>
+pub(crate) fn own_rows(kept: &Kept) -> ArrayVec<Row, 64>
     ensures { result.items ≡ own_rows kept.now.reserved (rows kept.now.enrolled) }
 {
     let mut table = ArrayVec::new();
@@ -82,17 +83,17 @@ fn add_heard(numbers: &mut ArrayVec<u8, 64>, number: u8, is_heard: bool)
     }
 }
 
-/// The short addresses under which the survey of the last machine heard gear that it left alone.
+/// The short addresses of a set, as those under which the survey of the last machine heard gear that it left alone.
 #[tactic(auto, using(crate::proofs::Heard::none, crate::proofs::Heard::one_more))]
-fn heard_of(pass: &PassEnd) -> ArrayVec<u8, 64>
-    ensures { result.items ≡ heard_of pass.now.heard }
+pub(crate) fn heard_of(heard: Shorts) -> ArrayVec<u8, 64>
+    ensures { result.items ≡ heard_of heard }
 {
     let mut numbers = ArrayVec::new();
     for number in 0..64u8 {
         let Some(short) = Short::of(number) else {
             unreachable!();
         };
-        add_heard(&mut numbers, number, pass.heard.has(short));
+        add_heard(&mut numbers, number, heard.has(short));
     }
     numbers
 }
@@ -182,7 +183,7 @@ impl Report {
         Report {
             enrolled,
             table: own_rows(after),
-            left_alone: heard_of(pass),
+            left_alone: heard_of(pass.heard),
             said,
             ..Report::new()
         }
@@ -229,7 +230,7 @@ pub(crate) fn ended_said(pass: &PassEnd, kept: &Kept, aim: Aim) -> Saying
     ensures room { length result.items < 80 }
 {
     let mut said = ArrayVec::new();
-    push_left_alone(&mut said, &heard_of(pass));
+    push_left_alone(&mut said, &heard_of(pass.heard));
     push_why_ended(&mut said, pass, kept, aim);
     said
 }

@@ -3,15 +3,18 @@
 ghost use Rattle.std.specs.Prelude.{◌≡◌, ◌+◌, ◌-◌, IfOk, length};
 ghost use Rattle.dali_commissioning.specs.Drivers.{talk_of, has_heard};
 ghost use Rattle.dali_commission_program.specs.Failures.{ended_as};
+ghost use Rattle.dali_commission_program.specs.Sharing.{has_any, or_shared};
 ghost use Rattle.dali_commission_program.specs.Came.{HasBegun, ComesTo, RunSaid};
 
 use crate::failure::{Failure, ended_as, failure_of};
+use crate::mending::Mender;
 use crate::progress::{Aim, Manner, Progress};
 use crate::records::kept;
 use crate::report::{Came, Report};
 use crate::said::Said;
+use crate::sharing::{has_any, or_shared};
 use crate::stores::Borrower;
-use crate::tasks::{Setup, Start};
+use crate::tasks::{Mend, Setup, Start};
 use dali_commissioning::{
     Begun, CommissionFault, DriverLink, PassEnd, Reply, Watch, ask, begin, commission,
 };
@@ -22,7 +25,7 @@ use std::io;
 use std::io::{Eprint, Read, Write};
 
 /// How many short addresses of its block are not reserved.
-fn left_of(kept: &Kept) -> u32
+pub(crate) fn left_of(kept: &Kept) -> u32
     ensures { result ≡ kept.now.block.last - kept.now.block.first + 1 - length kept.now.reserved }
 {
     let (first, last) = (kept.block().first.number(), kept.block().last.number());
@@ -85,12 +88,12 @@ fn came_of(
     has_heard: bool,
     frames: u64,
 ) -> Came
-    ensures ended { result.ended ≡ ended_as pass.now.ended has_heard }
+    ensures ended { result.ended ≡ or_shared (ended_as pass.now.ended has_heard) (has_any pass.now.heard) }
     ensures said { RunSaid pass.now before.now after.now aim frames result.report.said.items }
 {
     Came {
         report: Report::of_run(pass, before, after, aim, frames),
-        ended: ended_as(pass.ended, has_heard),
+        ended: or_shared(ended_as(pass.ended, has_heard), has_any(pass.heard)),
     }
 }
 
@@ -102,7 +105,8 @@ fn ended_so<K: Keep, R: Read, W: Write>(
     before: &Kept,
     aim: Aim,
 ) -> Result<Came, Failure>
-    ensures { IfOk result (λ came. came.ended ≡ ended_as pass.now.ended (has_heard driver.new)) }
+    ensures { IfOk result (λ came. came.ended
+        ≡ or_shared (ended_as pass.now.ended (has_heard driver.new)) (has_any pass.now.heard)) }
 {
     let after = kept(store)?;
     if let Err(fault) = is_anybody_there(driver, &after) {
@@ -146,6 +150,34 @@ pub(crate) struct Running<'a, S> {
     pub report: &'a mut Report,
 }
 
+impl<S: Input + Print + Eprint + AllocGlobal> Running<'_, S> {
+    /// Mends the short addresses that gear share, once the run has ended.
+    fn mends<K: Keep, R: Read, W: Write>(
+        self,
+        store: &mut K,
+        driver: &mut DriverLink<R, W>,
+    ) -> Result<(), Failure> {
+        let alloc = self.system.alloc();
+        let wanted = Mend {
+            named: Vec::new(alloc),
+            missing: Vec::new(alloc),
+            block: self.setup.block,
+        };
+        let enrolled = self.report.enrolled;
+        let mender = Mender {
+            system: self.system,
+            manner: self.manner,
+            wanted: &wanted,
+            others: self.others,
+            tables: Vec::new(alloc),
+            report: &mut *self.report,
+        };
+        let ended = mender.over(store, driver);
+        self.report.enrolled = self.report.enrolled.saturating_add(enrolled);
+        ended
+    }
+}
+
 impl<S: Input + Print + Eprint + AllocGlobal> Borrower for Running<'_, S> {
     type Out = ();
 
@@ -159,6 +191,12 @@ impl<S: Input + Print + Eprint + AllocGlobal> Borrower for Running<'_, S> {
         progress.end();
         let aim = progress.aim();
         let came = came_to(store, &mut driver, aim, &before, others, begun);
-        came.told(system, &driver, self.report)
+        let mends = self.setup.mends && matches!(came.ended, Err(Failure::Shared));
+        let ended = came.told(system, &driver, self.report);
+        if mends {
+            self.mends(store, &mut driver)
+        } else {
+            ended
+        }
     }
 }

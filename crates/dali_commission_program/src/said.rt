@@ -8,7 +8,8 @@ use crate::progress::{Aim, Far};
 use crate::stores::StoreFault;
 use dali_commissioning::Place;
 use dali_console::ConsoleFault;
-use dali_frame::Random24;
+use dali_frame::{Random24, Short};
+use dali_mending::Outcome;
 use std::fmt;
 use std::io::Eprint;
 use thiserror::Error;
@@ -85,6 +86,18 @@ pub enum Said<'a> {
     NoMoment,
     #[error("error: the files cannot be exchanged: {0}")]
     NotExchanged(StoreFault),
+    #[error("asking all short addresses")]
+    AsksAll,
+    #[error("short address {0}: telling gear apart")]
+    Mends(u8),
+    /// How the mending of a short address has ended.
+    #[error(fmt = write_mended)]
+    Mended(u8, Outcome),
+    /// The gear with this random address has lost a short address, and has another one now, if it has one.
+    #[error(fmt = write_lost)]
+    HasLost(u8, Random24, Option<Short>),
+    #[error("not all gear were told apart, so none was enrolled: mend again")]
+    NotSurveyed,
     #[error("error: {0}: {1}")]
     Refused(&'a str, StoreFault),
     #[error("{0}")]
@@ -140,6 +153,54 @@ fn write_place<W: fmt::Write>(
         Place::Strangers => write!(f, "{address} - several strangers"),
         Place::Garbled => write!(f, "{address} - strangers that were not understood"),
         Place::Noise => write!(f, "{address} - several strangers, or a disturbed bus"),
+    }
+}
+
+/// How the mending of a short address has ended.
+fn write_mended<W: fmt::Write>(
+    at: &u8,
+    outcome: &Outcome,
+    f: &mut fmt::Formatter<W>,
+) -> fmt::Result {
+    match *outcome {
+        Outcome::Kept(random) => write!(f, "{at} {random} one gear alone answers, and keeps it"),
+        Outcome::Nobody => write!(f, "{at} - no gear answers any more"),
+        Outcome::Another(heard) => write!(
+            f,
+            "{at} {heard} answers alone, but the table has another gear there: replace it"
+        ),
+        Outcome::Missing(random) => write!(
+            f,
+            "{at} {random} is in the table and does not answer, but other gear do"
+        ),
+        Outcome::Twins(random) => write!(
+            f,
+            "{at} {random} several gear have this random address: take all but one from the bus"
+        ),
+        Outcome::Lost => write!(f, "{at} - given up: frames were lost eight times in a row"),
+        Outcome::Spent => write!(f, "{at} - given up: no gear was told apart any more"),
+    }
+}
+
+/// Who has lost a short address.
+fn write_lost<W: fmt::Write>(
+    at: &u8,
+    random: &Random24,
+    now: &Option<Short>,
+    f: &mut fmt::Formatter<W>,
+) -> fmt::Result {
+    if *random == Random24::MASK {
+        return write!(
+            f,
+            "{at} - gear without random address lost it, and draw one"
+        );
+    }
+    match now {
+        Some(short) => {
+            let number = short.number();
+            write!(f, "{at} {random} lost it, and has {number} now")
+        }
+        None => write!(f, "{at} {random} lost it, and has none yet"),
     }
 }
 

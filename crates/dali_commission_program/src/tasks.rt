@@ -29,7 +29,8 @@ pub enum Start {
 #[derive(Drop)]
 pub struct Asked {
     pub task: Task,
-    /// The names of the records: one of a run or a table, one or none of a check, one at least of a replacement.
+    /// The names of the records: one of a run or a table, one or none of a check, one at least of a replacement or a
+    /// mend.
     pub records: Vec<String>,
     /// The blocks of other controllers.
     pub others: Vec<Block>,
@@ -52,6 +53,8 @@ pub enum Task {
     Table(TableForm),
     /// A new luminaire is to have the short address of one that is gone.
     Replace(Replacement),
+    /// Gear that share a short address are to be told apart.
+    Mend(Mend),
 }
 
 /// How gear are to be given short addresses.
@@ -61,6 +64,8 @@ pub struct Setup {
     pub start: Start,
     /// How many passes in a row, each of one machine, are to have committed nothing, at least 1.
     pub idle_passes: u8,
+    /// Whether short addresses that gear share are mended then.
+    pub mends: bool,
     ghost some: { 0 < idle_passes },
 }
 
@@ -75,4 +80,15 @@ pub struct Replacement {
     pub block: Block,
     /// Whether the new files of an earlier call are put aside, and it begins anew.
     pub is_again: bool,
+}
+
+/// Which short addresses are mended.
+#[derive(Drop)]
+pub struct Mend {
+    /// These; or, if there are none, each one that gear share.
+    pub named: Vec<Short>,
+    /// The short addresses of luminaires that are known to be gone.
+    pub missing: Vec<Short>,
+    /// The block of the first records.
+    pub block: Block,
 }

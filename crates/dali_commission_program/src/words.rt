@@ -5,9 +5,9 @@ ghost use Rattle.std.specs.List.{list_any};
 ghost use Rattle.dali_words.specs.Lines.{values_of};
 ghost use Rattle.dali_commission_program.specs.Words.{IsShort, IsBlock, AddsSpelled, value_of, first_of, meets};
 ghost use Rattle.dali_commission_program.specs.Words.{IsStart, IsSetup, IsForm, IsOnlyBlock, IsReplacement};
-ghost use Rattle.dali_commission_program.specs.Words.{IsTask, IsAsked};
+ghost use Rattle.dali_commission_program.specs.Words.{IsTask, IsAsked, AreNamed, IsMend};
 
-use crate::tasks::{Asked, Replacement, Setup, Start, TableForm, Task};
+use crate::tasks::{Asked, Mend, Replacement, Setup, Start, TableForm, Task};
 use dali_frame::Short;
 use dali_replacement::MOST_FILES;
 use dali_script::Block;
@@ -30,6 +30,7 @@ Examples:
   ./dali_commission identify 5 --driver 'adapters/daliserver localhost 55825'
   ./dali_commission table --records site.db --csv
   ./dali_commission replace 5 --records site.db --only --driver 'adapters/daliserver localhost 55825'
+  ./dali_commission mend 5 7 --records site.db --driver 'adapters/daliserver localhost 55825' 0-63
 
 docs/INSTALLER.md of the repository says how to use it, docs/FORMAT.md has each line and the exit statuses.";
 
@@ -56,6 +57,15 @@ as FILE.before-1, FILE.before-2 and so on. It refuses and changes nothing if a g
 another luminaire of a table does not answer, or if it does not find exactly one new luminaire. Before any file takes
 the place of another, and before it says that it is done, it has heard the new luminaire answer at the address. You may
 stop it at any moment, also by a power cut: the same line goes on where it was, or with --again anew.";
+
+const MEND: &str = "\
+Tells gear apart that share a short address, and lets all but one of them lose it; then gives each of these another one.
+
+The words before the block are the short addresses; without them it takes each one that several gear have, or a gear
+without random address. It asks all short addresses first. It refuses and changes nothing if no gear answers at one of
+them, or if another luminaire of a table does not answer. The luminaire that a table has keeps its short address, and
+no luminaire with another one loses it. At the end it enrols gear in the first file of records, as a run does. You may
+stop it at any moment: the same line, or a run, goes on.";
 
 const DRIVER: Word = Word {
     name: "driver",
@@ -92,6 +102,13 @@ const OTHERS: Word = Word {
     kind: WordKind::Again,
 };
 
+const MISSING: Word = Word {
+    name: "missing",
+    value: "ADDRESS",
+    help: "The short address of another luminaire that is known to be gone; may be given again",
+    kind: WordKind::Again,
+};
+
 const RECORDS: &str = "The file of the records: one controller, one file";
 
 const NEEDED_RECORDS: Word = Word {
@@ -117,6 +134,12 @@ const RUN_WORDS: &[Word] = &[
         value: "N",
         help: "How many passes over the bus in a row must have found nothing",
         kind: WordKind::Default(Value::Count, "3"),
+    },
+    Word {
+        name: "mend",
+        value: "",
+        help: "Then mend the short addresses that gear share, as mend does",
+        kind: WordKind::Flag,
     },
     QUIET,
     JSON,
@@ -176,12 +199,7 @@ const REPLACE_WORDS: &[Word] = &[
         help: "A file of the records; each file of the site is named, by an option of its own",
         kind: WordKind::NeededAgain,
     },
-    Word {
-        name: "missing",
-        value: "ADDRESS",
-        help: "The short address of another luminaire that is known to be gone; may be given again",
-        kind: WordKind::Again,
-    },
+    MISSING,
     Word {
         name: "only",
         value: "",
@@ -209,6 +227,27 @@ const REPLACE_WORDS: &[Word] = &[
         value: "BLOCK",
         help: "The block of the records, if one file is named",
         kind: WordKind::LastPlace(Value::Text),
+    },
+];
+
+const MEND_WORDS: &[Word] = &[
+    Word {
+        name: "records",
+        value: "FILE",
+        help: "A file of the records; the first one is that of the block, and gear of the others are left alone",
+        kind: WordKind::NeededAgain,
+    },
+    MISSING,
+    OTHERS,
+    DRIVER,
+    DRIVER_TIMEOUT,
+    QUIET,
+    JSON,
+    Word {
+        name: "words",
+        value: "WORD",
+        help: "The short addresses, 0 to 63, if not all are meant; and last the block of the first file, as 0-63",
+        kind: WordKind::Places,
     },
 ];
 
@@ -247,6 +286,13 @@ const SUBCOMMANDS: &[Subcommand] = &[
         long_about: Some(REPLACE),
         after_help: None,
         words: REPLACE_WORDS,
+    },
+    Subcommand {
+        name: "mend",
+        about: "Tells gear apart that share a short address",
+        long_about: Some(MEND),
+        after_help: None,
+        words: MEND_WORDS,
     },
 ];
 
@@ -391,6 +437,8 @@ fn idle_passes(line: &CommandLine) -> u8
     }
 }
 
+const MEETS: &str = "the block and that of another controller have an address in common";
+
 /// What is asked for by `run`, beside these blocks of other controllers, none of which may have an address in common
 /// with its own one.
 fn setup(alloc: Global, line: &CommandLine, others: &[Block]) -> Result<Setup, LineFault>
@@ -398,15 +446,13 @@ fn setup(alloc: Global, line: &CommandLine, others: &[Block]) -> Result<Setup, L
 {
     let block = one(alloc, line, "block")?;
     if meets_any(block, others) {
-        return conflict(
-            alloc,
-            "the block and that of another controller have an address in common",
-        );
+        return conflict(alloc, MEETS);
     }
     Ok(Setup {
         block,
         start: start(alloc, line)?,
         idle_passes: idle_passes(line),
+        mends: line.has("mend"),
     })
 }
 
@@ -444,6 +490,38 @@ fn replacement(alloc: Global, line: &CommandLine, files: usize) -> Result<Replac
     })
 }
 
+/// Adds the short addresses that all words but the last one spell; and the block that this one spells.
+fn push_named(alloc: Global, named: &mut Vec<Short>, words: &[String]) -> Result<Block, LineFault>
+    ensures { IfOk result (AreNamed named.old.items words.now named.new.items) }
+{
+    match words {
+        [] => wrong_value(alloc, "a block is missing"),
+        [last] => Block::of(alloc, last),
+        [word, more @ ..] => {
+            let short: Short = Spelled::of(alloc, word)?;
+            named.push(short).map_err(|_| LineFault::Memory)?;
+            push_named(alloc, named, more)
+        }
+    }
+}
+
+/// What is asked for by `mend`, beside these blocks of other controllers.
+fn mend(alloc: Global, line: &CommandLine, others: &[Block]) -> Result<Mend, LineFault>
+    ensures { IfOk result (IsMend line.now.values.items others.now) }
+{
+    let words: Vec<String> = all(alloc, line, "words")?;
+    let mut named = Vec::new(alloc);
+    let block = push_named(alloc, &mut named, &words)?;
+    if meets_any(block, others) {
+        return conflict(alloc, MEETS);
+    }
+    Ok(Mend {
+        named,
+        missing: all(alloc, line, "missing")?,
+        block,
+    })
+}
+
 fn form(line: &CommandLine) -> TableForm
     ensures { IsForm line.now.values.items result }
 {
@@ -471,6 +549,7 @@ fn task_of(
         "identify" => Ok(Task::Identify(one(alloc, line, "address")?)),
         "table" => Ok(Task::Table(form(line))),
         "replace" => Ok(Task::Replace(replacement(alloc, line, files)?)),
+        "mend" => Ok(Task::Mend(mend(alloc, line, others)?)),
         _ => no_task(alloc),
     }
 }

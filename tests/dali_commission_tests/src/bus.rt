@@ -15,6 +15,9 @@ struct Wires {
     next: u32,
     answer: Vec<u8>,
     read: usize,
+    /// How many frames more the driver takes; all if nothing is said.
+    left: Option<u32>,
+    frames: u32,
 }
 
 impl Wires {
@@ -25,12 +28,18 @@ impl Wires {
 
     /// All gear take a frame.
     fn take(&mut self, frame: Forward) -> io::Result<()> {
+        self.answer.clear();
+        self.read = 0;
+        if self.left == Some(0) {
+            // The driver has ended, and answers nothing.
+            return Ok(());
+        }
+        self.left = self.left.map(|left| left.saturating_sub(1));
+        self.frames = self.frames.saturating_add(1);
         let draws = [self.draw(), self.draw(), self.draw(), self.draw()];
         let heard = self
             .row
             .take(&Command::read(frame), Reach::Everyone, &draws);
-        self.answer.clear();
-        self.read = 0;
         match heard.answer {
             Answer::Silence => write!(self.answer, "silence\n"),
             Answer::Damaged => write!(self.answer, "damaged\n"),
@@ -50,7 +59,37 @@ impl Bus {
             next: 0x400000,
             answer: Vec::new(alloc),
             read: 0,
+            left: None,
+            frames: 0,
         }))
+    }
+
+    /// Gear with these short and random addresses.
+    pub fn with(alloc: Global, gear: &[(u8, u32)]) -> Bus {
+        let bus = Bus::of(alloc, gear.len());
+        if let Ok(mut wires) = bus.0.try_borrow_mut() {
+            for (number, (address, random)) in gear.iter().enumerate() {
+                if let (Some(short), Some(random)) = (Short::of(*address), Random24::of(*random)) {
+                    wires.row.place(number, random, short);
+                }
+            }
+        }
+        bus
+    }
+
+    /// From now on the driver takes so many frames, and ends then; all if nothing is said.
+    pub fn limit(&self, left: Option<u32>) {
+        if let Ok(mut wires) = self.0.try_borrow_mut() {
+            wires.left = left;
+        }
+    }
+
+    /// How many frames were put.
+    pub fn frames(&self) -> u32 {
+        match self.0.try_borrow() {
+            Ok(wires) => wires.frames,
+            Err(_) => 0,
+        }
     }
 
     /// A gear gets its power, or loses it.

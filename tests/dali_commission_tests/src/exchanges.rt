@@ -12,7 +12,7 @@ use std::process::Abort;
 const BOTH_AGAIN: &[u8] = b"dali_commission replace 0 --records two.db --records site.db --again";
 
 /// The program over a bus ends with this status, and says this.
-fn ends_over<R: Abort + AllocGlobal>(
+pub fn ends_over<R: Abort + AllocGlobal>(
     rt: &R,
     words: &[u8],
     mut cabinet: &Cabinet,

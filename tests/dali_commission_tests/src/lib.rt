@@ -12,6 +12,8 @@ mod conversations;
 #[cfg(test)]
 mod exchanges;
 #[cfg(test)]
+mod mends;
+#[cfg(test)]
 mod programs;
 #[cfg(test)]
 mod replacements;

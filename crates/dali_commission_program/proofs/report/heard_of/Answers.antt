@@ -6,6 +6,6 @@ use Rattle.dali_commission_program.proofs.report.heard_of.Goals as goal
 pub loop-number-preserved : goal.loop-number-preserved
 loop-number-preserved c = record {
   so_far = next _ _ c.loop-number.number _ _ c.loop-number.invariant.so_far
-      (c.has.ensures ∙ ap (λ a. has_short c.args.pass.now.heard a) c.in-Some.ensures.value) c.add_heard.ensures;
+      (c.has.ensures ∙ ap (λ a. has_short c.args.heard a) c.in-Some.ensures.value) c.add_heard.ensures;
   few = few_more _ _ c.loop-number.number c.loop-number.number _ c.loop-number.invariant.few c.add_heard.ensures;
 }

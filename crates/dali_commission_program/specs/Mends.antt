@@ -1,0 +1,106 @@
+use Rattle.std.specs.Prelude.{◌≡◌, ◌⊎◌, ℕ, Bool, true, false, ◌||◌, List, [], ◌∷◌, ◌++◌}
+use Rattle.std.specs.Prelude.{Option, Some, None, Result, Ok, Err}
+use Rattle.dali_script.specs.declared.block.Block.{Block}
+use Rattle.dali_script.specs.declared.orders.End.TheVariants.{AllFound}
+use Rattle.dali_script.specs.declared.orders.Input.{Input}
+use Rattle.dali_script.specs.declared.orders.Input.TheVariants.{Survey}
+use Rattle.dali_script.specs.declared.records.Record.{Record}
+use Rattle.dali_script.specs.Records.{Kept, without_records}
+use Rattle.dali_controller.specs.declared.shorts.Shorts.{Shorts}
+use Rattle.dali_commissioning.specs.declared.census.Reply.{Reply}
+use Rattle.dali_commissioning.specs.declared.conducting.Ended.{Ended}
+use Rattle.dali_commissioning.specs.declared.conducting.Ended.TheVariants.{Done}
+use Rattle.dali_commissioning.specs.declared.conducting.PassEnd.{PassEnd}
+use Rattle.dali_commissioning.specs.Census.{IsPut, AreCounted}
+use Rattle.dali_commissioning.specs.Drivers.{Talk}
+use Rattle.dali_commissioning.specs.Places.{random_at}
+use Rattle.dali_commissioning.specs.Runs.{Run, AreRuns, EndWith, ComeTo, AreQuiet}
+use Rattle.dali_replacement.specs.Tables.{Keeps}
+use Rattle.dali_mending.specs.declared.mending.Put.{Put}
+use Rattle.dali_mending.specs.Mending.{Mending, mending_begun, put_next, told_to}
+use Rattle.dali_commission_program.specs.declared.failure.Failure.{Failure}
+use Rattle.dali_commission_program.specs.declared.failure.Failure.TheVariants.{Shared}
+use Rattle.dali_commission_program.specs.declared.tasks.Mend.{Mend}
+use Rattle.dali_commission_program.specs.Failures.{ended_as}
+use Rattle.dali_commission_program.specs.Sharing.{has_any, or_shared, meant_from, refused_from}
+use Rattle.dali_commission_program.specs.Sharing.{is_any_left, is_any_bare}
+
+-- A MENDING IS CONDUCTED: each frame that it says is put, and it is told what came of that; last
+-- first
+abbrev pub IsFrame : Mending → Input → Mending → Talk → Talk → Type 0
+IsFrame m told n x y =
+    (put : Put)
+    × (put_next m ≡ Some put)
+    × IsPut put.priority put.frame put.half told x y
+    × (n ≡ told_to m told)
+
+abbrev pub AreFrames : Mending → List Input → Mending → Talk → Talk → Type 0
+AreFrames m [] n x y = (n ≡ m) × (y ≡ x)
+AreFrames m (told ∷ before) n x y =
+    (mid : Mending) × (at : Talk) × AreFrames m before mid x at × IsFrame mid told n at y
+
+abbrev pub HasPut : Mending → Mending → Talk → Talk → Type 0
+HasPut m n x y = (told : List Input) × AreFrames m told n x y
+
+-- A SHORT ADDRESS IS MENDED from its beginning, by a table, until no frame is due
+abbrev pub IsMended : Kept → ℕ → Mending → Talk → Talk → Type 0
+IsMended table a m x y =
+    HasPut (mending_begun a (random_at table.enrolled a)) m x y × (put_next m ≡ None)
+
+-- one after the other, behind these
+abbrev pub AreMended : Kept → List ℕ → List Mending → List Mending → Talk → Talk → Type 0
+AreMended table [] before after x y = (after ≡ before) × (y ≡ x)
+AreMended table (a ∷ more) before after x y =
+    (m : Mending)
+    × (at : Talk)
+    × IsMended table a m x at
+    × AreMended table more (before ++ m ∷ []) after at y
+
+-- SURVEYS FOLLOW, until three in a row found nothing, over a store that has the gear of a table
+pub record HasSurveyed {S : Type 0} (is_up is_sound : S → Type 0)
+    (holds : S → List Record → Type 0) (kept_of : S → Kept) (block : Block) (table : Kept)
+    (keep : S) (x y : Talk) (pass : PassEnd) : Type 0 where
+  pub filled : S
+  pub has : Keeps table (kept_of filled)
+  pub runs : List Run
+  pub ran : AreRuns is_up is_sound holds block Survey filled keep x y runs
+  pub ended : EndWith pass.ended runs
+  pub come : ComeTo pass runs
+  pub quiet : pass.ended ≡ Done AllFound → AreQuiet 3 runs
+
+abbrev pub none_left : Shorts
+none_left = record { bits = 0 }
+
+-- how all ends then
+abbrev pub mended_as : Ended → Shorts → List Mending → Result (Unit {0}) Failure
+mended_as ended heard ms = or_shared (ended_as ended true) (has_any heard || is_any_left ms)
+
+-- WHAT FOLLOWS once short addresses were mended: no survey if gear were not told apart where one
+-- would enrol a gear
+abbrev pub Follows : {S : Type 0} (is_up is_sound : S → Type 0)
+    (holds : S → List Record → Type 0) (kept_of : S → Kept) → Block → Kept → List Mending → S → S
+    → Talk → Talk → Result (Unit {0}) Failure → Type 0
+Follows {S = S} is_up is_sound holds kept_of block table ms was keep x y ended =
+    ((is_any_bare ms ≡ true) × (ended ≡ Err Shared) × (keep ≡ was) × (y ≡ x))
+    ⊎ ((is_any_bare ms ≡ false)
+    × ((pass : PassEnd)
+    × (mid : S)
+    × HasSurveyed is_up is_sound holds kept_of block table mid x y pass
+    × (ended ≡ mended_as pass.ended pass.heard ms)))
+
+-- WHAT A MEND COMES TO: first each short address is asked. If what was heard lets none be mended,
+-- nothing else is put, and the records are as they were. Else each that is meant is mended, and
+-- only then surveys follow.
+abbrev pub MendsTo : {S : Type 0} (is_up is_sound : S → Type 0)
+    (holds : S → List Record → Type 0) (kept_of : S → Kept) → Block → Kept → List Block → Mend
+    → List Reply → List Mending → S → S → Talk → Talk → Result (Unit {0}) Failure → Type 0
+MendsTo is_up is_sound holds kept_of block table others wanted replies ms was keep x y ended =
+    ((failure : Failure)
+    × (refused_from table others wanted 0 replies ≡ Some failure)
+    × (ended ≡ Err failure)
+    × (keep ≡ was)
+    × (y ≡ x))
+    ⊎ ((refused_from table others wanted 0 replies ≡ None)
+    × ((at : Talk)
+    × AreMended table (meant_from wanted.named.items 0 replies) [] ms x at
+    × Follows is_up is_sound holds kept_of block table ms was keep at y ended))

@@ -1,0 +1,368 @@
+//! `mend`: gear that share a short address are told apart; then surveys enrol who has kept one, and serve who lost it.
+
+ghost use Rattle.std.specs.Prelude.{◌≡◌, ◌≤◌, [], None, Err, List, IfOk, OnOk, length};
+ghost use Rattle.dali_script.specs.Records.{without_records};
+ghost use Rattle.dali_mending.specs.Mending.{put_next};
+ghost use Rattle.dali_commissioning.specs.declared.census.Reply.{Reply};
+ghost use Rattle.dali_commissioning.specs.Census.{AreCounted};
+ghost use Rattle.dali_commissioning.specs.Drivers.{Talk, talk_of};
+ghost use Rattle.dali_commissioning.specs.Places.{places};
+ghost use Rattle.dali_commission_program.specs.Mends.{HasPut, IsMended, AreMended, HasSurveyed, Follows, MendsTo};
+ghost use Rattle.dali_commission_program.specs.Mends.{mended_as, none_left};
+ghost use Rattle.dali_commission_program.specs.Sharing.{with_left};
+ghost use Rattle.dali_commission_program.specs.Reports.{heard_of};
+
+use crate::failure::{Failure, REFUSED, add, ended_as, failure_of};
+use crate::finishing::read;
+use crate::progress::{Aim, Manner, Progress};
+use crate::records::{kept, lend};
+use crate::report::{Came, Report, heard_of, own_rows};
+use crate::reports::{Which, push_places};
+use crate::running::left_of;
+use crate::said::{Said, say, say_refused};
+use crate::sharing::{
+    MendRefusal, has_any, is_any_bare, is_any_left, meant_of, or_shared, refused_from, reserved_in,
+    with_left,
+};
+use crate::stores::{Borrower, Stores};
+use crate::tasks::{Asked, Mend};
+use arrayvec::ArrayVec;
+use dali_commissioning::{
+    CommissionFault, DriverLink, PassEnd, Reply, Watch, commission, places, random_at, take_census,
+};
+use dali_controller::Shorts;
+use dali_frame::Short;
+use dali_mending::Mending;
+use dali_replacement::{fill, gathered_whole};
+use dali_reserve::Keep;
+use dali_script::{Block, Input as Told, Kept};
+use std::io;
+use std::io::{Eprint, Read, Write};
+
+/// How many frames the mending of a short address may put: more than it puts before it gives up.
+const MOST_FRAMES: u32 = 2_000_000;
+
+/// How many surveys in a row are to have found nothing more.
+const IDLE_PASSES: u8 = 3;
+
+/// Puts what a mending says, until it has ended.
+#[tactic(auto, using(crate::proofs::Frames::none))]
+fn conduct<R: Read, W: Write>(
+    driver: &mut DriverLink<R, W>,
+    mending: &mut Mending,
+) -> Result<(), CommissionFault>
+    ensures put { OnOk result (HasPut mending.old mending.new
+        (talk_of R.remaining W.contents driver.old) (talk_of R.remaining W.contents driver.new)) }
+    ensures over { OnOk result (put_next mending.new ≡ None) }
+{
+    for _ in 0..MOST_FRAMES {
+        let Some(put) = mending.put() else {
+            return Ok(());
+        };
+        match driver.exchange(put.priority, put.frame, put.half) {
+            Ok(told) => mending.told(told),
+            Err(fault) => return Err(CommissionFault::Driver(fault)),
+        }
+    }
+    Err(CommissionFault::StepsSpent)
+}
+
+/// Mends a short address, for which this table may have a gear.
+fn mend<R: Read, W: Write>(
+    driver: &mut DriverLink<R, W>,
+    table: &Kept,
+    short: Short,
+) -> Result<Mending, CommissionFault>
+    ensures { IfOk result (λ mending. IsMended table.now short mending
+        (talk_of R.remaining W.contents driver.old) (talk_of R.remaining W.contents driver.new)) }
+{
+    let mut mending = Mending::new(short, random_at(table.enrolled(), short));
+    conduct(driver, &mut mending)?;
+    Ok(mending)
+}
+
+/// Mends short addresses, and adds what came of each to a list.
+fn mend_all<S: Eprint, R: Read, W: Write>(
+    driver: &mut DriverLink<R, W>,
+    progress: &Progress<'_, S>,
+    table: &Kept,
+    shorts: &[Short],
+    mended: &mut Vec<Mending>,
+) -> Result<(), Failure>
+    ensures { OnOk result (AreMended table.now shorts.now mended.old.items mended.new.items
+        (talk_of R.remaining W.contents driver.old) (talk_of R.remaining W.contents driver.new)) }
+{
+    let [short, more @ ..] = shorts else {
+        return Ok(());
+    };
+    progress.begin(&Said::Mends(short.number()));
+    match mend(driver, table, *short) {
+        Ok(mending) => add(mended, mending)?,
+        Err(fault) => return Err(failure_of(fault, driver.lines())),
+    }
+    mend_all(driver, progress, table, more, mended)
+}
+
+/// Surveys, over a store that has the gear of a table then.
+fn survey<K: Keep, R: Read, W: Write, P: Watch>(
+    store: &mut K,
+    driver: &mut DriverLink<R, W>,
+    watch: &mut P,
+    table: &Kept,
+) -> Result<PassEnd, CommissionFault>
+    ensures { IfOk result (HasSurveyed K.is_up K.is_sound K.holds K.kept (K.block store.old) table.now store.new
+        (talk_of R.remaining W.contents driver.old) (talk_of R.remaining W.contents driver.new)) }
+{
+    if let Err(error) = fill(store, table) {
+        return Err(CommissionFault::Store(error));
+    }
+    commission(store, driver, watch, Told::Survey, IDLE_PASSES)
+}
+
+/// What a mend comes to whose surveys ended so, from one table to another, after so many frames.
+fn came_of(
+    mended: &[Mending],
+    pass: &PassEnd,
+    before: &Kept,
+    after: &Kept,
+    aim: Aim,
+    frames: u64,
+) -> Came
+    ensures ended { result.ended ≡ mended_as pass.now.ended pass.now.heard mended.now }
+    ensures left { result.report.left_alone.items ≡ heard_of (with_left pass.now.heard mended.now) }
+{
+    Came {
+        report: Report {
+            left_alone: heard_of(with_left(pass.heard, mended)),
+            ..Report::of_run(pass, before, after, aim, frames)
+        },
+        ended: or_shared(
+            ended_as(pass.ended, true),
+            has_any(pass.heard) || is_any_left(mended),
+        ),
+    }
+}
+
+/// What a mend comes to after which no survey may enrol gear.
+fn came_unsurveyed(mended: &[Mending], before: &Kept) -> Came
+    ensures ended { result.ended ≡ Err Failure.Shared }
+    ensures left { result.report.left_alone.items ≡ heard_of (with_left none_left mended.now) }
+{
+    let mut said = ArrayVec::new();
+    said.push(Said::NotSurveyed);
+    Came {
+        report: Report {
+            table: own_rows(before),
+            left_alone: heard_of(with_left(Shorts::NONE, mended)),
+            said,
+            ..Report::new()
+        },
+        ended: Err(Failure::Shared),
+    }
+}
+
+/// What is mended: the gear of all tables, the first one before, the blocks of other controllers, and what is wanted.
+#[derive(Drop)]
+struct Site<'a> {
+    table: &'a Kept,
+    before: &'a Kept,
+    others: &'a [Block],
+    wanted: &'a Mend,
+}
+
+/// What a mend comes to that is refused, by what was heard of each short address.
+fn came_refused(site: &Site<'_>, replies: &[Reply], refusal: Failure) -> Came
+    ensures ended { result.ended ≡ Err refusal }
+    ensures places { result.report.places.items ≡ places site.now.table.now site.now.others.now replies.now }
+{
+    let places = places(site.table, site.others, replies);
+    let mut said = ArrayVec::new();
+    push_places(&mut said, Which::Wrong, 0, &places);
+    Came {
+        report: Report {
+            said,
+            places,
+            ..Report::new()
+        },
+        ended: Err(refusal),
+    }
+}
+
+/// What follows once short addresses were mended.
+fn follow<S: Eprint, K: Keep, R: Read, W: Write>(
+    store: &mut K,
+    driver: &mut DriverLink<R, W>,
+    progress: &mut Progress<'_, S>,
+    site: &Site<'_>,
+    mended: &[Mending],
+) -> Result<Came, Failure>
+    ensures { IfOk result (λ came. Follows K.is_up K.is_sound K.holds K.kept (K.block store.old) site.now.table.now
+        mended.now store.old store.new (talk_of R.remaining W.contents driver.old)
+        (talk_of R.remaining W.contents driver.new) came.ended) }
+{
+    if is_any_bare(mended) {
+        return Ok(came_unsurveyed(mended, site.before));
+    }
+    let surveyed = survey(store, driver, progress, site.table);
+    progress.end();
+    let (aim, lines) = (progress.aim(), driver.lines());
+    match surveyed {
+        Ok(pass) => Ok(came_of(mended, &pass, site.before, &kept(store)?, aim, lines)),
+        Err(fault) => Err(failure_of(fault, lines)),
+    }
+}
+
+/// What a mend comes to, by what was heard of each short address.
+fn mends_by<S: Eprint, K: Keep, R: Read, W: Write>(
+    store: &mut K,
+    driver: &mut DriverLink<R, W>,
+    progress: &mut Progress<'_, S>,
+    site: &Site<'_>,
+    replies: &[Reply],
+    mended: &mut Vec<Mending>,
+) -> Result<Came, Failure>
+    requires few { length replies.now ≤ 64 }
+    requires none { mended.old.items ≡ [] }
+    ensures { IfOk result (λ came. MendsTo K.is_up K.is_sound K.holds K.kept (K.block store.old) site.now.table.now
+        site.now.others.now site.now.wanted.now replies.now mended.new.items store.old store.new
+        (talk_of R.remaining W.contents driver.old) (talk_of R.remaining W.contents driver.new) came.ended) }
+{
+    if let Some(refusal) = refused_from(site.table, site.others, site.wanted, 0, replies) {
+        return Ok(came_refused(site, replies, refusal));
+    }
+    let meant = meant_of(&site.wanted.named, replies);
+    mend_all(driver, progress, site.table, &meant, mended)?;
+    follow(store, driver, progress, site, mended)
+}
+
+/// What a mend comes to: each short address is asked first.
+fn came_to<S: Eprint, K: Keep, R: Read, W: Write>(
+    store: &mut K,
+    driver: &mut DriverLink<R, W>,
+    progress: &mut Progress<'_, S>,
+    site: &Site<'_>,
+    mended: &mut Vec<Mending>,
+) -> Result<Came, Failure>
+    requires { mended.old.items ≡ [] }
+    ensures { IfOk result (λ came. (replies : List Reply) × (at : Talk)
+        × AreCounted (without_records site.now.table.now.block) site.now.others.now 0 replies
+        (talk_of R.remaining W.contents driver.old) at
+        × MendsTo K.is_up K.is_sound K.holds K.kept (K.block store.old) site.now.table.now
+        site.now.others.now site.now.wanted.now replies mended.new.items store.old store.new
+        at (talk_of R.remaining W.contents driver.new) came.ended) }
+{
+    progress.begin(&Said::AsksAll);
+    match take_census(driver, &Kept::new(site.table.block()), site.others) {
+        Ok(replies) => {
+            if driver.has_heard() {
+                mends_by(store, driver, progress, site, &replies, mended)
+            } else {
+                Err(Failure::NobodyAnswered)
+            }
+        }
+        Err(fault) => Err(failure_of(fault, driver.lines())),
+    }
+}
+
+/// Says what came of each short address, and who has lost it.
+fn say_mended<S: Eprint>(system: &S, mended: &[Mending], table: &Kept) {
+    for mending in mended {
+        let at = mending.short().number();
+        if let Some(outcome) = mending.outcome() {
+            say(system, &Said::Mended(at, outcome));
+        }
+        for random in mending.erased() {
+            let now = table.enrolled_for(*random);
+            say(system, &Said::HasLost(at, *random, now));
+        }
+    }
+}
+
+/// Who mends short addresses.
+#[derive(Drop)]
+pub(crate) struct Mender<'a, S> {
+    pub system: &'a S,
+    pub manner: Manner,
+    pub wanted: &'a Mend,
+    pub others: &'a [Block],
+    /// The tables of the other files.
+    pub tables: Vec<Kept>,
+    pub report: &'a mut Report,
+}
+
+impl<S: Input + Print + Eprint + AllocGlobal> Mender<'_, S> {
+    /// Mends them over a driver, with the records of the first file.
+    pub fn over<K: Keep, R: Read, W: Write>(
+        self,
+        store: &mut K,
+        driver: &mut DriverLink<R, W>,
+    ) -> Result<(), Failure> {
+        let (system, mut tables) = (self.system, self.tables);
+        let before = kept(store)?;
+        add(&mut tables, before.copy())?;
+        let table = gathered_whole(&tables).map_err(|short| Failure::NotMended(
+            short,
+            MendRefusal::Disagree,
+        ))?;
+        let site = Site {
+            table: &table,
+            before: &before,
+            others: self.others,
+            wanted: self.wanted,
+        };
+        let mut progress = Progress::new(system, self.manner, left_of(&before));
+        let mut mended = Vec::new(system.alloc());
+        let came = match came_to(store, driver, &mut progress, &site, &mut mended) {
+            Ok(came) => came,
+            Err(failure) => Came::bare(Err(failure)),
+        };
+        say_mended(system, &mended, &kept(store)?);
+        came.told(system, driver, self.report)
+    }
+}
+
+impl<S: Input + Print + Eprint + AllocGlobal> Borrower for Mender<'_, S> {
+    type Out = ();
+
+    fn take<K: Keep>(self, store: &mut K) -> Result<(), Failure> {
+        let system = self.system;
+        let mut driver = DriverLink::new(system.alloc(), system.reader(), io::writer(system));
+        self.over(store, &mut driver)
+    }
+}
+
+/// Mends short addresses, with the gear of these files, of which the first one is that of the controller.
+pub(crate) fn mends<S, F>(
+    system: &S,
+    stores: &mut F,
+    manner: Manner,
+    asked: &Asked,
+    wanted: &Mend,
+    report: &mut Report,
+) -> Result<(), Failure>
+where
+    S: Input + Print + Eprint + AllocGlobal,
+    F: Stores,
+{
+    let [name, more @ ..] = asked.records.as_slice() else {
+        return Err(REFUSED);
+    };
+    let mut tables = Vec::new(system.alloc());
+    for other in more {
+        add(&mut tables, read(system, stores, other)?)?;
+    }
+    if let Some(short) = reserved_in(&wanted.block, &tables) {
+        return Err(Failure::NotMended(short, MendRefusal::ReservedByOthers));
+    }
+    let mender = Mender {
+        system,
+        manner,
+        wanted,
+        others: &asked.others,
+        tables,
+        report,
+    };
+    lend(system.alloc(), stores, name, wanted.block, mender).map_err(|failure| say_refused(
+        system, name, failure,
+    ))
+}

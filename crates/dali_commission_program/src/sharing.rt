@@ -1,0 +1,308 @@
+//! Short addresses that gear share: which they are, which of them are mended, and what came of it.
+
+ghost use Rattle.std.specs.Prelude.{◌≡◌, ◌++◌, ◌+◌, ◌≤◌, if◌then◌else◌, Some, length};
+ghost use Rattle.dali_script.specs.Stages.{in_block};
+ghost use Rattle.std.specs.List.{list_any};
+ghost use Rattle.dali_commission_program.specs.Sharing.{is_shared, has_any, or_shared, is_named, is_meant, meant_from};
+ghost use Rattle.dali_commission_program.specs.Sharing.{why_not_meant, is_away, is_of_others, why_not, refused_from};
+ghost use Rattle.dali_commission_program.specs.Sharing.{is_apart, is_any_left, is_bare, is_any_bare, with_left};
+ghost use Rattle.dali_commission_program.specs.Sharing.{why_not_beside, inside, or_else, reserved_in};
+ghost use Rattle.dali_commission_program.specs.Reports.{heard_if};
+
+use crate::failure::Failure;
+use crate::tasks::Mend;
+use arrayvec::ArrayVec;
+use dali_commissioning::{Reply, has_block, random_at};
+use dali_controller::Shorts;
+use dali_frame::{Random24, Short};
+use dali_mending::{Mending, Outcome};
+use dali_script::{Block, Kept, Pair};
+use thiserror::Error;
+
+/// Why no short address is mended.
+#[derive(Clone, Copy, Debug, Error)]
+pub enum MendRefusal {
+    /// It lies in a block of another controller.
+    #[error("it lies in the block of another controller, which --others names")]
+    OfOthers,
+    /// No gear has it.
+    #[error("no gear answers at it")]
+    NobodyAnswers,
+    /// A gear of a table, which is not to be mended, does not answer, or another one alone does.
+    #[error("a gear of the tables is not there as recorded; if it is known to be gone, name it by --missing")]
+    NotThere,
+    /// Two tables disagree about the gear with this short address.
+    #[error("the tables disagree about it")]
+    Disagree,
+    /// The block has it, and another file than the first one has reserved it.
+    #[error("the block has it, but it is reserved in another file than the first one")]
+    ReservedByOthers,
+}
+
+/// Whether gear share a short address, or one has it and no random address, by what was heard of it.
+pub(crate) fn is_shared(reply: Reply) -> bool
+    ensures { result ≡ is_shared reply }
+{
+    match reply {
+        Reply::Silence => false,
+        Reply::Noise | Reply::Unclear | Reply::Several => true,
+        Reply::Random(random) => random == Random24::MASK,
+    }
+}
+
+/// Whether gear share any short address.
+pub(crate) fn is_any_shared(replies: &[Reply]) -> bool
+    ensures { result ≡ list_any (λ reply. is_shared reply) replies.now }
+{
+    replies.iter().any(|reply| is_shared(*reply))
+}
+
+/// Whether a survey left a short address alone.
+pub(crate) fn has_any(heard: Shorts) -> bool
+    ensures { result ≡ has_any heard }
+{
+    heard.bits != 0
+}
+
+/// How a task ends if gear share a short address.
+pub(crate) fn or_shared(ended: Result<(), Failure>, is_any: bool) -> Result<(), Failure>
+    ensures { result ≡ or_shared ended is_any }
+{
+    match ended {
+        Ok(()) | Err(Failure::NotAsRecorded) if is_any => Err(Failure::Shared),
+        // It ended otherwise.
+        _ => ended,
+    }
+}
+
+fn is_named(named: &[Short], short: Short) -> bool
+    ensures { result ≡ is_named named.now short }
+{
+    named.iter().any(|other| *other == short)
+}
+
+/// Whether a short address is to be mended, by what was heard of it.
+fn is_meant(named: &[Short], short: Short, reply: Reply) -> bool
+    ensures { result ≡ is_meant named.now short reply }
+{
+    match named {
+        [] => is_shared(reply),
+        [..] => is_named(named, short),
+    }
+}
+
+fn push_if(meant: &mut ArrayVec<Short, 64>, short: Short, is_meant: bool)
+    requires { length meant.old.items + 1 ≤ 64 }
+    ensures meant { meant.new.items ≡ meant.old.items ++ heard_if short is_meant }
+    ensures room { length meant.new.items ≤ length meant.old.items + 1 }
+{
+    if is_meant {
+        meant.push(short);
+    }
+}
+
+/// The short addresses that are to be mended, from this one on.
+#[tactic(auto, using(std::proofs::lemmas::List::append_assoc))]
+fn push_meant(meant: &mut ArrayVec<Short, 64>, number: u8, named: &[Short], replies: &[Reply])
+    requires number { number + length replies.now ≤ 64 }
+    requires room { length meant.old.items + length replies.now ≤ 64 }
+    ensures { meant.new.items ≡ meant.old.items ++ meant_from named.now number replies.now }
+{
+    if let [reply, more @ ..] = replies {
+        let Some(short) = Short::of(number) else {
+            unreachable!();
+        };
+        push_if(meant, short, is_meant(named, short, *reply));
+        push_meant(meant, number + 1, named, more);
+    }
+}
+
+/// The short addresses that are to be mended, by what was heard of each.
+pub(crate) fn meant_of(named: &[Short], replies: &[Reply]) -> ArrayVec<Short, 64>
+    requires { length replies.now ≤ 64 }
+    ensures { result.items ≡ meant_from named.now 0 replies.now }
+{
+    let mut meant = ArrayVec::new();
+    push_meant(&mut meant, 0, named, replies);
+    meant
+}
+
+/// Why a short address is not mended, by whether it is another controller's.
+fn why_not_meant(is_of_others: bool, reply: Reply) -> Option<MendRefusal>
+    ensures { result ≡ why_not_meant is_of_others reply }
+{
+    if is_of_others {
+        return Some(MendRefusal::OfOthers);
+    }
+    match reply {
+        Reply::Silence => Some(MendRefusal::NobodyAnswers),
+        Reply::Noise | Reply::Unclear | Reply::Random(_) | Reply::Several => None,
+    }
+}
+
+/// Whether the gear that a table has is away, by what was heard.
+fn is_away(table: Option<Random24>, reply: Reply) -> bool
+    ensures { result ≡ is_away table reply }
+{
+    match (table, reply) {
+        (None, _) | (Some(_), Reply::Noise | Reply::Unclear | Reply::Several) => false,
+        (Some(_), Reply::Silence) => true,
+        (Some(random), Reply::Random(heard)) => heard != random,
+    }
+}
+
+/// Why none is mended beside a short address, by whether its gear is known to be gone or was not asked, and whether it
+/// is away.
+fn why_not_beside(is_known: bool, is_away: bool) -> Option<MendRefusal>
+    ensures { result ≡ why_not_beside is_known is_away }
+{
+    if is_away && !is_known {
+        Some(MendRefusal::NotThere)
+    } else {
+        None
+    }
+}
+
+/// Why what was heard of a short address lets none be mended.
+fn why_not(
+    table: &Kept,
+    others: &[Block],
+    wanted: &Mend,
+    short: Short,
+    reply: Reply,
+) -> Option<MendRefusal>
+    ensures { result ≡ why_not table.now others.now wanted.now short reply }
+{
+    let is_of_others = has_block(others, short);
+    if is_meant(&wanted.named, short, reply) {
+        why_not_meant(is_of_others, reply)
+    } else {
+        why_not_beside(
+            is_named(&wanted.missing, short) || is_of_others,
+            is_away(random_at(table.enrolled(), short), reply),
+        )
+    }
+}
+
+/// The first reason for which none is mended, from this short address on.
+pub(crate) fn refused_from(
+    table: &Kept,
+    others: &[Block],
+    wanted: &Mend,
+    number: u8,
+    replies: &[Reply],
+) -> Option<Failure>
+    requires { number + length replies.now ≤ 64 }
+    ensures { result ≡ refused_from table.now others.now wanted.now number replies.now }
+{
+    let [reply, more @ ..] = replies else {
+        return None;
+    };
+    let Some(short) = Short::of(number) else {
+        unreachable!();
+    };
+    match why_not(table, others, wanted, short, *reply) {
+        Some(refusal) => Some(Failure::NotMended(short, refusal)),
+        None => refused_from(table, others, wanted, number + 1, more),
+    }
+}
+
+/// This short address if a block has it, or else the other one.
+fn if_inside(block: Block, address: u8, later: Option<Short>) -> Option<Short>
+    ensures { result ≡ (if in_block block address then Some address else later) }
+{
+    if block.first.number() <= address && address <= block.last.number() {
+        Short::of(address)
+    } else {
+        later
+    }
+}
+
+fn or_else(first: Option<Short>, later: Option<Short>) -> Option<Short>
+    ensures { result ≡ or_else first later }
+{
+    match first {
+        Some(short) => Some(short),
+        None => later,
+    }
+}
+
+/// The first short address of a block among those of some pairs.
+fn inside(block: &Block, pairs: &[Pair]) -> Option<Short>
+    ensures { result ≡ inside block.now pairs.now }
+{
+    match pairs {
+        [] => None,
+        [pair, more @ ..] => {
+            let later = inside(block, more);
+            if_inside(*block, pair.address(), later)
+        }
+    }
+}
+
+/// The first short address of a block that is reserved in one of these tables.
+pub(crate) fn reserved_in(block: &Block, tables: &[Kept]) -> Option<Short>
+    ensures { result ≡ reserved_in block.now tables.now }
+{
+    match tables {
+        [] => None,
+        [table, more @ ..] => {
+            let later = reserved_in(block, more);
+            or_else(inside(block, table.reserved()), later)
+        }
+    }
+}
+
+/// Whether gear were told apart: one alone has the short address, or none.
+pub(crate) fn is_apart(mending: &Mending) -> bool
+    ensures { result ≡ is_apart mending.now }
+{
+    match mending.outcome() {
+        Some(Outcome::Kept(_) | Outcome::Nobody) => true,
+        Some(
+            Outcome::Another(_)
+            | Outcome::Missing(_)
+            | Outcome::Twins(_)
+            | Outcome::Lost
+            | Outcome::Spent,
+        )
+        | None => false,
+    }
+}
+
+/// Whether gear were not told apart at any short address.
+pub(crate) fn is_any_left(mended: &[Mending]) -> bool
+    ensures { result ≡ is_any_left mended.now }
+{
+    mended.iter().any(|mending| !is_apart(mending))
+}
+
+/// Whether gear were not told apart at a short address at which a survey would enrol one.
+fn is_bare(mending: &Mending) -> bool
+    ensures { result ≡ is_bare mending.now }
+{
+    !(is_apart(mending) || mending.course().table.is_some())
+}
+
+pub(crate) fn is_any_bare(mended: &[Mending]) -> bool
+    ensures { result ≡ is_any_bare mended.now }
+{
+    mended.iter().any(is_bare)
+}
+
+/// These short addresses, and those at which gear were not told apart.
+pub(crate) fn with_left(heard: Shorts, mended: &[Mending]) -> Shorts
+    ensures { result ≡ with_left heard mended.now }
+{
+    match mended {
+        [] => heard,
+        [mending, more @ ..] => {
+            let left = if is_apart(mending) {
+                heard
+            } else {
+                heard.with(mending.short())
+            };
+            with_left(left, more)
+        }
+    }
+}
