@@ -10,3 +10,7 @@ mod Gear
 mod Rows
 mod Scripts
 mod Sites
+mod Bridge
+mod Events
+mod Frames
+mod Runs

@@ -1,10 +1,10 @@
-use Rattle.std.proofs.Common.{◌≡◌, ◌⊎◌, inl, inr, ℕ, ◌<◌, Bool, true, false, refl, sym, ap, subst, ◌∙◌, arith, List, ◌∷◌, Option, Some, None}
-use Rattle.std.specs.Prelude.{◌==◌, if◌then◌else◌, option_map, unwrap_or}
+use Rattle.std.proofs.Common.{◌≡◌, ◌⊎◌, inl, inr, ℕ, ◌<◌, ◌+◌, ◌*◌, Bool, true, false, refl, sym, ap, subst, ◌∙◌, arith, List, ◌∷◌, Option, Some, None}
+use Rattle.std.specs.Prelude.{◌==◌, ◌&&◌, if◌then◌else◌, option_map, unwrap_or}
 use Rattle.dali_statement.specs.Page.{Part, High, Middle, Low, same, byte, Command, QueryShort}
 use Rattle.dali_statement.specs.Page.{QueryRandom, Gear, is_found, takes, holds, answer, code, Heard, Byte, Destroyed, Sent}
 use Rattle.dali_statement.specs.Page.{Plan, Site, number_sent, is_told, tells, gear_after}
 use Rattle.dali_statement.specs.Page.{hears, may_send}
-use Rattle.dali_statement.proofs.Tests.{first_of_both, second_of_both, equal, below, holds_is, any_at, all_at}
+use Rattle.dali_statement.proofs.Tests.{first_of_both, second_of_both, equal, below, below_by, holds_is, any_at, all_at}
 use Rattle.dali_statement.proofs.One.{Knows, Given, HeardOf, kept_by, new_by, knows_after, knows_missed, searched, found_live}
 use Rattle.dali_statement.proofs.One.{found_random}
 use Rattle.dali_statement.proofs.Moved.{At, Takes, taken, taking}
@@ -127,3 +127,27 @@ told_gear p s safe a r e =
           (ap (λ y. byte Middle y.random) (sym (same_as middle.0 middle.1 middle.2 middle.3)) ∙ middle.4)
           (ap (λ y. byte Low y.random) (sym (same_as low.0 low.1 low.2 low.3)) ∙ low.4),
     )
+
+-- three bytes that were told of one gear are those of its random address
+pub bytes_tell : (p : Plan) (s : Site) → Safe p s → (a high middle low : ℕ) → a < 64 → s.told High a high ≡ true → s.told Middle a middle ≡ true
+    → s.told Low a low ≡ true → is_told s a (high * 65536 + middle * 256 + low) ≡ true
+bytes_tell p s safe a high middle low small told_high told_middle told_low =
+    let first = safe.sound.told_of High a high small told_high in
+    let second = safe.sound.told_of Middle a middle small told_middle in
+    let third = safe.sound.told_of Low a low small told_low in
+    let x = first.1 in
+    let same_as : (g : ℕ) (y : Gear) → At s.gear g y → y.short ≡ Some a → y ≡ x =
+    λ g y at has. one_at s.gear first.0 y x (subst (λ k. At s.gear k y) (safe.sound.once g first.0 a y x at first.2 has first.3) at) first.2 in
+    let is_middle : byte Middle x.random ≡ middle = ap (λ y. byte Middle y.random) (sym (same_as second.0 second.1 second.2 second.3)) ∙ second.4 in
+    let is_low : byte Low x.random ≡ low = ap (λ y. byte Low y.random) (sym (same_as third.0 third.1 third.2 third.3)) ∙ third.4 in
+    let is : x.random ≡ high * 65536 + middle * 256 + low = all_bytes x.random high middle low first.4 is_middle is_low in
+    subst (λ n. is_told s a n ≡ true) is (whole_told x.random first.4 is_middle is_low) where
+      both : {b c : Bool} → b ≡ true → c ≡ true → (b && c) ≡ true
+      both {b} {c} one other = rw (one, other) refl
+
+      all_bytes : (n h m l : ℕ) → byte High n ≡ h → byte Middle n ≡ m → byte Low n ≡ l → n ≡ h * 65536 + m * 256 + l
+      all_bytes n h m l is_h is_m is_l = omega (arith, is_h, is_m, is_l)
+
+      whole_told : (n : ℕ) → byte High n ≡ high → byte Middle n ≡ middle → byte Low n ≡ low → is_told s a n ≡ true
+      whole_told n is_h is_m is_l = both (below_by a 64 small) (both (ap (s.told High a) is_h ∙ told_high)
+          (both (ap (s.told Middle a) is_m ∙ told_middle) (ap (s.told Low a) is_l ∙ told_low)))

@@ -68,11 +68,11 @@ module _ (p : Plan) (s : Site) (safe : Safe p s) (change : ℕ → Gear → Gear
 -- ---------------------------------------------------------------- each moment
 
 -- what is safe, and each gear keeps what it has
-record Goes (p : Plan) (s : Site) (t : Site) : Type 0 where
+pub record Goes (p : Plan) (s : Site) (t : Site) : Type 0 where
   pub safe : Safe p t
   pub moves : Moves s.reserved s.gear t.gear
 
-frame_goes : (p : Plan) (s : Site) (c : ℕ) (m : Command) (reach : List (Option ℕ)) (h : Heard) → (h ≡ Destroyed → ⊥) → Safe p s
+pub frame_goes : (p : Plan) (s : Site) (c : ℕ) (m : Command) (reach : List (Option ℕ)) (h : Heard) → (h ≡ Destroyed → ⊥) → Safe p s
     → allowed p s (Sent c m reach h) ≡ true
     → Goes p s (record s {
       gear = gear_after (Sent c m reach h) s.gear;
@@ -152,7 +152,7 @@ stop_goes p s change stops reach safe = record {
   moves = stop_moves p s safe change stops reach;
 }
 
-goes : (p : Plan) (s : Site) (m : Moment) → Safe p s → allowed p s m ≡ true → Goes p s (happens s m)
+pub goes : (p : Plan) (s : Site) (m : Moment) → Safe p s → allowed p s m ≡ true → Goes p s (happens s m)
 goes p s (Sent c m reach Destroyed) safe allow = destroyed_goes p s c m reach safe allow
 goes p s (Sent c m reach (Byte v)) safe allow = frame_goes p s c m reach (Byte v) (λ e. absurd (cc)) safe allow
 goes p s (Sent c m reach Nothing) safe allow = frame_goes p s c m reach Nothing (λ e. absurd (cc)) safe allow
@@ -167,7 +167,7 @@ goes p s (Expires reach) safe allow =
 
 -- ---------------------------------------------------------------- the beginning
 
-starts : (p : Plan) → IsPlan p → Safe p (start p)
+pub starts : (p : Plan) → IsPlan p → Safe p (start p)
 starts p plan = record {
   sound = record {
     apart = plan.apart;
@@ -195,7 +195,7 @@ starts p plan = record {
 
 -- ---------------------------------------------------------------- all moments
 
-safe_after : (p : Plan) (ms : List Moment) (s : Site) → Safe p s → all_allowed p s ms ≡ true → Safe p (after s ms)
+pub safe_after : (p : Plan) (ms : List Moment) (s : Site) → Safe p s → all_allowed p s ms ≡ true → Safe p (after s ms)
 safe_after p [] s safe allow = safe
 safe_after p (m ∷ ms) s safe allow =
     safe_after p ms (happens s m) (goes p s m safe (first_of_both _ _ allow)).safe (second_of_both _ _ allow)
@@ -209,11 +209,11 @@ keeps_after p (m ∷ ms) s safe allow g a r held =
     let step = goes p s m safe (first_of_both _ _ allow) in
     keeps_after p ms (happens s m) step.safe (second_of_both _ _ allow) g a r (keeps s (happens s m) step.moves g a r held)
 
-after_both : (ms ns : List Moment) (s : Site) → after s (ms ++ ns) ≡ after (after s ms) ns
+pub after_both : (ms ns : List Moment) (s : Site) → after s (ms ++ ns) ≡ after (after s ms) ns
 after_both [] ns s = refl
 after_both (m ∷ ms) ns s = after_both ms ns (happens s m)
 
-allowed_front : (p : Plan) (ms ns : List Moment) (s : Site) → all_allowed p s (ms ++ ns) ≡ true → all_allowed p s ms ≡ true
+pub allowed_front : (p : Plan) (ms ns : List Moment) (s : Site) → all_allowed p s (ms ++ ns) ≡ true → all_allowed p s ms ≡ true
 allowed_front p [] ns s allow = refl
 allowed_front p (m ∷ ms) ns s allow = both (first_of_both _ _ allow) (allowed_front p ms ns (happens s m) (second_of_both _ _ allow)) where
   both : {a b : Bool} → a ≡ true → b ≡ true → (a && b) ≡ true

@@ -26,6 +26,7 @@ ghost use Rattle.dali_statement.specs.Page.{Moment, Plan, QueryShort, QueryRando
 ghost use Rattle.dali_statement.specs.Page.{KeepsPromise, Byte, befalls, hears, Part, byte, Site, tells, may_send};
 ghost use Rattle.dali_statement.specs.Scripts.{said_of};
 ghost use Rattle.dali_statement.specs.Sites.{owner_in, plan_seen};
+ghost use Rattle.dali_statement.specs.Runs.{LeadsTo};
 ghost use Rattle.dali_statement.specs.Page.{IsPlan, are_apart, allowed, Reserves, Enrols, Releases};
 ghost use Rattle.dali_events.specs.declared.event.Event.{Event};
 ghost use Rattle.dali_events.specs.Plan.{Plan as SitePlan, IsPlan as IsSitePlan, block_at};
@@ -184,4 +185,12 @@ pub fn orders_keep_the_rules()
         → ((x : Finding) → k.finding ≡ Some x → is_told s (assigned x).0 (assigned x).1 ≡ true)
         → (Has k.records.reserved (a, r) → s.reserved c a ≡ Some r)
         → (b : ℕ) × (allowed (plan_seen p) s (Releases c a r b) ≡ true) }
+{}
+
+/// EVERY RUN OF A SITE IS A HISTORY OF THE PAGE. To each moment of a run leads a history with the same gear, the same
+/// owner, the same reservations, and with each table; and later moments go on with it.
+pub fn every_run_is_a_history()
+    ensures { (p : SitePlan) (capacity : ℕ) (front rest : List Event) → IsRun p capacity (front ++ rest)
+        → (ms : List Moment) × (more : List Moment) × LeadsTo p (after_log p capacity front) ms
+        × LeadsTo p (after_log p capacity (front ++ rest)) (ms ++ more) }
 {}

@@ -1,0 +1,318 @@
+use Rattle.std.proofs.Common.{◌≡◌, ℕ, zero, suc, ◌<◌, Bool, true, false, refl, sym, ap, subst, ◌∙◌, List, [], ◌∷◌, ◌++◌, map, Option, Some, None}
+use Rattle.std.proofs.Common.{length, get_or, set, length-set}
+use Rattle.std.specs.Prelude.{◌&&◌, if◌then◌else◌}
+use Rattle.dali_frame.specs.declared.frames.Forward.{Forward}
+use Rattle.dali_gear.specs.Gear.{Gear as Real, fresh, with_power, without_power, gear_expired, gear_quieted}
+use Rattle.dali_arbiter.specs.Arbiter.{Arbiter, owns, bus_freed, bus_muted, bus_lapsed}
+use Rattle.dali_script.specs.declared.records.Record.{Record}
+use Rattle.dali_script.specs.declared.records.Record.TheVariants as record_of
+use Rattle.dali_script.specs.Records.{Kept}
+use Rattle.dali_script.specs.declared.finding.Finding.{Finding}
+use Rattle.dali_script.specs.declared.orders.Input.{Input}
+use Rattle.dali_script.specs.declared.orders.Input.TheVariants as input
+use Rattle.dali_script.specs.declared.orders.Order.{Order}
+use Rattle.dali_script.specs.declared.orders.Order.TheVariants.{Put, Commit, Done, Halt}
+use Rattle.dali_script.specs.Findings.{asked_of, assigned}
+use Rattle.dali_script.proofs.Members.{Each, each_changed}
+use Rattle.dali_events.specs.declared.event.Event.TheVariants as event
+use Rattle.dali_events.specs.declared.used.Used.{Used}
+use Rattle.dali_events.specs.Plan.{Plan as SitePlan, IsPlan as IsSitePlan}
+use Rattle.dali_events.specs.World.{World, Controller, controller_at, controllers_changed, nobody}
+use Rattle.dali_events.specs.Happens.{happens as site_after, with_outstanding, kept_after, outstanding_told, outstanding_after, controller_acted, gives_up}
+use Rattle.dali_events.specs.Happens.{put_after}
+use Rattle.dali_events.specs.Happens.{owner_told, told_lapsed, told_destroyed, gone_down, come_up, gear_interrupted, controller_informed}
+use Rattle.dali_events.specs.Allowed.{MayOrder, MayCommit}
+use Rattle.dali_events.specs.Runs.{LeavesUsed}
+use Rattle.dali_events.specs.Laws.{KeepsRecords}
+use Rattle.dali_statement.specs.Page.{Gear, Moment, Ends, Power, Expires, Site, all_allowed, allowed, befalls, after, happens as page_after}
+use Rattle.dali_statement.specs.Gear.{gear_seen}
+use Rattle.dali_statement.specs.Scripts.{said_of}
+use Rattle.dali_statement.specs.Sites.{plan_seen}
+use Rattle.dali_statement.proofs.Tests.{first_of_both, second_of_both, some_is}
+use Rattle.dali_statement.proofs.Gear.{power_on, expired}
+use Rattle.dali_statement.proofs.Bridge.{Told, told_so, Ordered, AskedSo, SeenBy, Seen, Next, Informed, each_of, uninformed, informed}
+
+-- EACH EVENT but frames, as moments of the page.
+
+both : {a b : Bool} → a ≡ true → b ≡ true → (a && b) ≡ true
+both {a} {b} first second = rw (first, second) refl
+
+-- ---------------------------------------------------------------- gear
+
+same_gear : (f : Real → Real) → ((g : Real) → gear_seen (f g) ≡ gear_seen g) → (gs : List Real) → map gear_seen (map f gs) ≡ map gear_seen gs
+same_gear f same [] = refl
+same_gear f same (g ∷ gs) = ap (λ x. x ∷ map gear_seen (map f gs)) (same g) ∙ ap (λ xs. gear_seen g ∷ xs) (same_gear f same gs)
+
+-- a list that says that something befalls one gear
+at_place : ℕ → List (Option ℕ)
+at_place zero = Some 0 ∷ []
+at_place (suc n) = None ∷ at_place n
+
+one_gear : (f : Real → Real) (change : ℕ → Gear → Gear) → ((g : Real) → gear_seen (f g) ≡ change 0 (gear_seen g)) → (gs : List Real) (n : ℕ)
+    → befalls change (at_place n) (map gear_seen gs) ≡ map gear_seen (set gs n (f (get_or gs n fresh)))
+unfolding at_place
+one_gear f change same [] zero = refl
+one_gear f change same [] (suc n) = refl
+one_gear f change same (g ∷ gs) zero = ap (λ x. x ∷ map gear_seen gs) (sym (same g))
+one_gear f change same (g ∷ gs) (suc n) = ap (λ xs. gear_seen g ∷ xs) (one_gear f change same gs n)
+
+no_gear : (f : Real → Real) → ((g : Real) → gear_seen (f g) ≡ gear_seen g) → (gs : List Real) (n : ℕ)
+    → map gear_seen gs ≡ map gear_seen (set gs n (f (get_or gs n fresh)))
+no_gear f same [] n = refl
+no_gear f same (g ∷ gs) zero = ap (λ x. x ∷ map gear_seen gs) (sym (same g))
+no_gear f same (g ∷ gs) (suc n) = ap (λ xs. gear_seen g ∷ xs) (no_gear f same gs n)
+
+-- ---------------------------------------------------------------- nothing of the page
+
+-- the world is another, of which the page sees the same
+unseen : (p : SitePlan) (w v : World) (s : Site) → Seen p w s → length v.controllers ≡ length w.controllers → map gear_seen v.gear ≡ map gear_seen w.gear
+    → v.bus.owner ≡ w.bus.owner → v.trace ≡ w.trace → Each nobody (SeenBy p.used s) v.controllers → Next p v s
+unseen p w v s seen count gear owner trace each = record {
+  moments = [];
+  allow = refl;
+  seen = record {
+    count = count ∙ seen.count;
+    gear = seen.gear ∙ sym gear;
+    owner = seen.owner ∙ sym owner;
+    said = seen.said ∙ ap said_of (sym trace);
+    free = λ e. trace ∙ seen.free (sym owner ∙ e);
+    asked = subst (λ t. AskedSo s.told (asked_of t)) (sym trace) seen.asked;
+    each = each;
+  };
+}
+
+-- the transaction ends
+ended : (p : SitePlan) (w v : World) (s : Site) → Seen p w s → length v.controllers ≡ length w.controllers → map gear_seen v.gear ≡ map gear_seen w.gear
+    → v.bus.owner ≡ None → v.trace ≡ [] → Each nobody (SeenBy p.used s) v.controllers → Next p v s
+ended p w v s seen count gear owner trace each = record {
+  moments = Ends ∷ [];
+  allow = refl;
+  seen = record {
+    count = count ∙ seen.count;
+    gear = seen.gear ∙ sym gear;
+    owner = sym owner;
+    said = ap said_of (sym trace);
+    free = λ e. trace;
+    asked = subst (λ t. AskedSo s.told (asked_of t)) (sym trace) tt;
+    each = each;
+  };
+}
+
+-- gear are live no more
+stopped : (p : SitePlan) (w v : World) (s : Site) (m : Moment) → Seen p w s → allowed (plan_seen p) s m ≡ true → v.controllers ≡ w.controllers
+    → v.bus.owner ≡ w.bus.owner → v.trace ≡ w.trace → (change : ℕ → Gear → Gear) (reach : List (Option ℕ))
+    → after s (m ∷ []) ≡ record s { gear = befalls change reach s.gear } → befalls change reach (map gear_seen w.gear) ≡ map gear_seen v.gear → Next p v s
+stopped p w v s m seen allow controllers owner trace change reach is gear = record {
+  moments = m ∷ [];
+  allow = ap (λ b. b && true) allow;
+  seen = subst (λ t. Seen p v t) (sym is) (record {
+    count = ap length controllers ∙ seen.count;
+    gear = ap (befalls change reach) seen.gear ∙ gear;
+    owner = seen.owner ∙ sym owner;
+    said = seen.said ∙ ap said_of (sym trace);
+    free = λ e. trace ∙ seen.free (sym owner ∙ e);
+    asked = subst (λ t. AskedSo s.told (asked_of t)) (sym trace) seen.asked;
+    each = subst (λ ks. Each nobody (SeenBy p.used s) ks) (sym controllers) seen.each;
+  });
+}
+
+-- ---------------------------------------------------------------- controllers
+
+none_found : {x : Finding} → None ≡ Some x → ⊥
+none_found e = absurd (cc)
+
+-- what it does not keep is gone
+gone : (us : List Used) (s : Site) (c : ℕ) (k : Controller) → SeenBy us s c k → SeenBy us s c (gone_down k)
+gone us s c k one = record { to = one.to; from = one.from; tables = one.tables; found = λ x e. absurd (none_found e); ordered = one.ordered }
+
+module _ (p : SitePlan) (plan : IsSitePlan p) (w : World) (s : Site) (seen : Seen p w s) where
+  abbrev All : List Controller → Type 0
+  All ks = Each nobody (SeenBy p.used s) ks
+
+  pub lapsed : Next p (site_after w event.Lapsed) s
+  lapsed = ended p w (site_after w event.Lapsed) s seen (counted w.bus.owner) refl refl refl (told w.bus.owner) where
+    told : (o : Option ℕ) → Each nobody (SeenBy p.used s) (owner_told w.controllers o)
+    told None = seen.each
+    told (Some c) = each_changed nobody (SeenBy p.used s) told_lapsed w.controllers c (λ h x. x) seen.each
+
+    counted : (o : Option ℕ) → length (owner_told w.controllers o) ≡ length w.controllers
+    counted None = refl
+    counted (Some c) = length-set w.controllers c (told_lapsed (controller_at w c))
+
+  pub down : (c : ℕ) → Next p (site_after w (event.Down c)) s
+  down c = go (owns w.bus.owner c) where
+    ks : Each nobody (SeenBy p.used s) (controllers_changed w.controllers c gone_down)
+    ks = each_changed nobody (SeenBy p.used s) gone_down w.controllers c (λ h x. gone p.used s c (controller_at w c) x) seen.each
+
+    go : (t : Bool) → Next p (record w {
+      bus = (if t then bus_freed (bus_muted w.bus c) else bus_muted w.bus c);
+      trace = (if t then [] else w.trace);
+      controllers = controllers_changed w.controllers c gone_down;
+    }) s
+    go true = ended p w (record w { bus = bus_freed (bus_muted w.bus c); trace = []; controllers = controllers_changed w.controllers c gone_down }) s seen
+        (length-set w.controllers c (gone_down (controller_at w c))) refl refl refl ks
+    go false = unseen p w (record w { bus = bus_muted w.bus c; controllers = controllers_changed w.controllers c gone_down }) s seen
+        (length-set w.controllers c (gone_down (controller_at w c))) refl refl refl ks
+
+  pub power : (g : ℕ) (on : Bool) → Next p (site_after w (event.Power g on)) s
+  power g true = unseen p w (site_after w (event.Power g true)) s seen refl (sym (no_gear with_power power_on w.gear g)) refl refl seen.each
+  power g false =
+      stopped p w (site_after w (event.Power g false)) s (Power (at_place g)) seen refl refl refl refl (λ n x. record x { live = false; search = λ q. 0xFF })
+      (at_place g) refl (one_gear without_power (λ n x. record x { live = false; search = λ q. 0xFF }) (λ x. refl) w.gear g)
+
+  pub expires : (g : ℕ) → Next p (site_after w (event.Expired g)) s
+  expires g =
+      stopped p w (site_after w (event.Expired g)) s (Expires (at_place g)) seen refl refl refl refl (λ n x. record x { live = false })
+      (at_place g) refl (one_gear gear_expired (λ n x. record x { live = false }) expired w.gear g)
+
+  -- ---------------------------------------------------------------- what is kept
+
+  module _ (records : KeepsRecords p w) (c : ℕ) (there : c < length w.controllers) where
+    outstanding_kept : (o : Option Record) → (controller_at w c).outstanding ≡ o
+        → Informed p w s c (with_outstanding (controller_at w c).records o) None
+    outstanding_kept (Some x) is = informed p plan w s c seen records there x is
+    outstanding_kept None is = let nothing = uninformed p w s c seen there in record {
+      moments = nothing.moments;
+      allow = nothing.allow;
+      gear = nothing.gear;
+      owner = nothing.owner;
+      said = nothing.said;
+      asked = nothing.asked;
+      own = record { to = nothing.own.to; from = nothing.own.from; tables = nothing.own.tables; found = nothing.own.found; ordered = λ x e. absurd (cc) };
+      others = nothing.others;
+    }
+
+    -- a controller whose records are what the page has, in a world that differs by it alone
+    goes_on : (v : World) (k : Controller) (kept : Kept) (o : Option Record) (one : Informed p w s c kept o) → v.controllers ≡ set w.controllers c k
+        → map gear_seen v.gear ≡ map gear_seen w.gear → v.bus.owner ≡ w.bus.owner → v.trace ≡ w.trace → SeenBy p.used (after s one.moments) c k → Next p v s
+    goes_on v k kept o one controllers gear owner trace new = record {
+      moments = one.moments;
+      allow = one.allow;
+      seen = record {
+        count = ap length controllers ∙ length-set w.controllers c k ∙ seen.count;
+        gear = one.gear ∙ sym gear;
+        owner = one.owner ∙ sym owner;
+        said = one.said ∙ ap said_of (sym trace);
+        free = λ e. trace ∙ seen.free (sym owner ∙ e);
+        asked = subst (λ t. AskedSo (after s one.moments).told (asked_of t)) (sym trace) one.asked;
+        each = subst (λ ks. Each nobody (SeenBy p.used (after s one.moments)) ks) (sym controllers)
+            (each_of (SeenBy p.used (after s one.moments)) w.controllers c k one.others (λ h. new));
+      };
+    }
+
+    pub up : (kept : Bool) → Next p (site_after w (event.Up c kept)) s
+    up true =
+        let one = outstanding_kept (controller_at w c).outstanding refl in
+        goes_on (site_after w (event.Up c true)) (come_up true (controller_at w c))
+        (with_outstanding (controller_at w c).records (controller_at w c).outstanding)
+        None one refl refl refl refl
+        (record { to = one.own.to; from = one.own.from; tables = one.own.tables; found = λ x e. absurd (none_found e); ordered = one.own.ordered })
+    up false =
+        let one = uninformed p w s c seen there in
+        goes_on (site_after w (event.Up c false)) (come_up false (controller_at w c)) (controller_at w c).records (controller_at w c).outstanding
+        one refl refl refl refl
+        (record { to = one.own.to; from = one.own.from; tables = one.own.tables; found = λ x e. absurd (none_found e); ordered = λ x e. absurd (cc) })
+
+    -- ---------------------------------------------------------------- an order
+
+    after_ends : (ms : List Moment) (t : Site) → after t (ms ++ Ends ∷ []) ≡ record (after t ms) { owner = None; said = [] }
+    after_ends [] t = refl
+    after_ends (m ∷ ms) t = after_ends ms (page_after t m)
+
+    allow_ends : (ms : List Moment) (t : Site) → all_allowed (plan_seen p) t ms ≡ true → all_allowed (plan_seen p) t (ms ++ Ends ∷ []) ≡ true
+    allow_ends [] t e = refl
+    allow_ends (m ∷ ms) t e = both (first_of_both _ _ e) (allow_ends ms (page_after t m) (second_of_both _ _ e))
+
+    ends_on : (v : World) (k : Controller) (kept : Kept) (o : Option Record) (one : Informed p w s c kept o) → v.controllers ≡ set w.controllers c k
+        → map gear_seen v.gear ≡ map gear_seen w.gear → v.bus.owner ≡ None → v.trace ≡ [] → SeenBy p.used (after s one.moments) c k → Next p v s
+    ends_on v k kept o one controllers gear owner trace new = record {
+      moments = one.moments ++ Ends ∷ [];
+      allow = allow_ends one.moments s one.allow;
+      seen = subst (λ t. Seen p v t) (sym (after_ends one.moments s)) (record {
+        count = ap length controllers ∙ length-set w.controllers c k ∙ seen.count;
+        gear = one.gear ∙ sym gear;
+        owner = sym owner;
+        said = ap said_of (sym trace);
+        free = λ e. trace;
+        asked = subst (λ t. AskedSo (after s one.moments).told (asked_of t)) (sym trace) tt;
+        each = subst (λ ks. Each nobody (SeenBy p.used (after s one.moments)) ks) (sym controllers)
+            (each_of (SeenBy p.used (after s one.moments)) w.controllers c k one.others (λ h. new));
+      });
+    }
+
+    put_owner : (b : Arbiter) (o : Order) → (put_after b c o).owner ≡ b.owner
+    put_owner b (Put n f) = refl
+    put_owner b (Commit x) = refl
+    put_owner b (Done e) = refl
+    put_owner b (Halt e) = refl
+
+    input_kept : (i : Input) → Informed p w s c (kept_after (controller_at w c) i) (outstanding_told (controller_at w c).outstanding i)
+    input_kept input.Committed = outstanding_kept (controller_at w c).outstanding refl
+    input_kept input.Start = uninformed p w s c seen there
+    input_kept input.Survey = uninformed p w s c seen there
+    input_kept (input.Heard h) = uninformed p w s c seen there
+    input_kept input.Destroyed = uninformed p w s c seen there
+    input_kept input.Lapsed = uninformed p w s c seen there
+    input_kept input.CommitFailed = uninformed p w s c seen there
+
+    -- what is ordered to be kept
+    committed : (told : Told) (i : Input) (x : Record)
+        → ((y : Finding) → (controller_at w c).finding ≡ Some y → told_so told (assigned y).0 (assigned y).1 ≡ true)
+        → MayCommit (controller_informed (controller_at w c) i) x → LeavesUsed p.used (event.Acted c i (Commit x)) → Ordered p.used told x
+    committed told i (record_of.Reserve a r) found may leaves = leaves c i a r refl
+    committed told i (record_of.Enrol a r) found may leaves = subst (λ y. told_so told y.0 y.1 ≡ true) may.0.2 (found may.0.0 may.0.1)
+    committed told i (record_of.Release a r) found may leaves =
+        let other = may.1 in (other.2, subst (λ y. told_so told y.0 y.1 ≡ true) other.3 (found other.0 other.1), other.4)
+
+    ordered : (told : Told) (i : Input) (o : Order) (was : Option Record) → ((y : Finding) → (controller_at w c).finding ≡ Some y
+        → told_so told (assigned y).0 (assigned y).1 ≡ true) → ((x : Record) → was ≡ Some x → Ordered p.used told x)
+        → MayOrder w c (controller_informed (controller_at w c) i) o → LeavesUsed p.used (event.Acted c i o)
+        → (x : Record) → outstanding_after was o ≡ Some x → Ordered p.used told x
+    ordered told i (Put n f) was found old may leaves x is = old x is
+    ordered told i (Commit y) was found old may leaves x is = subst (Ordered p.used told) (some_is is) (committed told i y found may.1 leaves)
+    ordered told i (Done e) was found old may leaves x is = old x is
+    ordered told i (Halt e) was found old may leaves x is = old x is
+
+    pub acted : (i : Input) (o : Order) → MayOrder w c (controller_informed (controller_at w c) i) o → LeavesUsed p.used (event.Acted c i o)
+        → Next p (site_after w (event.Acted c i o)) s
+    acted i o may leaves = go (gives_up w.bus c o) where
+      one : Informed p w s c (kept_after (controller_at w c) i) (outstanding_told (controller_at w c).outstanding i)
+      one = input_kept i
+
+      new : SeenBy p.used (after s (input_kept i).moments) c (controller_acted (controller_at w c) i o)
+      new = let own = (input_kept i).own in record {
+        to = own.to;
+        from = own.from;
+        tables = own.tables;
+        found = own.found;
+        ordered = ordered (after s (input_kept i).moments).told i o (outstanding_told (controller_at w c).outstanding i) own.found own.ordered may leaves;
+      }
+
+      go : (t : Bool) → Next p (record {
+        gear = w.gear;
+        bus = put_after (if t then bus_lapsed w.bus else w.bus) c o;
+        trace = (if t then [] else w.trace);
+        controllers = controllers_changed w.controllers c (λ k. controller_acted k i o);
+        left = w.left;
+        drawn = w.drawn;
+        gifts = w.gifts;
+      }) s
+      go true = ends_on _ (controller_acted (controller_at w c) i o) _ _ (input_kept i) refl refl (put_owner (bus_lapsed w.bus) o) refl new
+      go false = goes_on _ (controller_acted (controller_at w c) i o) _ _ (input_kept i) refl refl (put_owner w.bus o) refl new
+
+  pub collided : (c d : ℕ) (f g : Forward) → Next p (site_after w (event.Collided c f d g)) s
+  collided c d f g = ended p w (site_after w (event.Collided c f d g)) s seen (length-set first d (told_destroyed g (get_or first d nobody))
+      ∙ length-set w.controllers c (told_destroyed f (controller_at w c))) refl refl refl
+      (each_changed nobody (SeenBy p.used s) (told_destroyed g) first d (λ h x. x)
+      (each_changed nobody (SeenBy p.used s) (told_destroyed f) w.controllers c (λ h x. x) seen.each)) where
+        first : List Controller
+        first = controllers_changed w.controllers c (told_destroyed f)
+
+  pub quiet : Next p (site_after w event.Quiet) s
+  quiet = unseen p w (site_after w event.Quiet) s seen refl (same_gear gear_quieted (λ g. refl) w.gear) refl refl seen.each
+
+  pub foreign : (f : Forward) → Next p (site_after w (event.Foreign f)) s
+  foreign f = unseen p w (site_after w (event.Foreign f)) s seen refl (same_gear gear_interrupted (λ g. refl) w.gear) refl refl seen.each
+
+  pub offered : (c : ℕ) (f : Forward) → Next p (site_after w (event.Offered c f)) s
+  offered c f = unseen p w (site_after w (event.Offered c f)) s seen refl refl refl refl seen.each

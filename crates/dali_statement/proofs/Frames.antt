@@ -1,0 +1,379 @@
+use Rattle.std.proofs.Common.{◌≡◌, inl, inr, ℕ, zero, suc, ◌<◌, Bool, true, false, refl, sym, ap, subst, ◌∙◌, List, [], ◌∷◌, ◌++◌, map, Option, Some, None}
+use Rattle.std.proofs.Common.{length-set}
+use Rattle.std.specs.Prelude.{◌==◌, ◌&&◌, ◌||◌, if◌then◌else◌, option_map, unwrap_or, IfSome}
+use Rattle.std.specs.List.{AllByRecursion}
+use Rattle.dali_frame.specs.declared.frames.Forward.{Forward}
+use Rattle.dali_frame.specs.declared.frames.Answer.{Answer}
+use Rattle.dali_frame.specs.declared.frames.Answer.TheVariants as answer
+use Rattle.dali_frame.specs.Random.{value_of, number_of}
+use Rattle.dali_frame.specs.Short.{short_of}
+use Rattle.dali_special.specs.declared.command.Part.TheVariants as asked
+use Rattle.dali_special.specs.declared.command.Command.{Command as Read}
+use Rattle.dali_special.specs.declared.command.Command.TheVariants as read
+use Rattle.dali_special.specs.Command.{command_of, is_send_twice, IsSpelled}
+use Rattle.dali_special.proofs.Table.{read_spelled, short_small}
+use Rattle.dali_gear.specs.declared.gear_set.GearSet.{GearSet}
+use Rattle.dali_gear.specs.declared.row.Reach.TheVariants.{Everyone, Only}
+use Rattle.dali_gear.specs.Gear.{Gear as Real}
+use Rattle.dali_gear.specs.Row.{row_after, answers_of}
+use Rattle.dali_arbiter.specs.Arbiter.{owns, bus_sent}
+use Rattle.dali_script.specs.declared.block.Block.{Block}
+use Rattle.dali_script.specs.declared.finding.Finding.{Finding}
+use Rattle.dali_script.specs.declared.finding.Finding.TheVariants.{Queried, Resolved}
+use Rattle.dali_script.specs.declared.trace.Entry.{Entry}
+use Rattle.dali_script.specs.Records.{Assignment, Has}
+use Rattle.dali_script.specs.Findings.{Asked, nothing, high_byte, two_bytes, asked_of, asked_after, search_of, found_by, spelled_by, assigned, later}
+use Rattle.dali_script.specs.Scripts.{Script, Open, Call, Draw, Probe, Hunt, Look, Give, PassOver, Resolve, Close, ArcPower, steps, IsFront, Lawful, IsFirst}
+use Rattle.dali_script.proofs.Found.{asked_more}
+use Rattle.dali_script.proofs.Members.{Each, each_changed}
+use Rattle.dali_events.specs.declared.event.Event.TheVariants as event
+use Rattle.dali_events.specs.Plan.{Plan as SitePlan}
+use Rattle.dali_events.specs.World.{World, controller_at, controllers_changed, nobody}
+use Rattle.dali_events.specs.Happens.{happens as site_after, trace_running, entry, goes_on, taken_by, told_sent, told_destroyed}
+use Rattle.dali_events.specs.Allowed.{IsUp, MaySend, Hears}
+use Rattle.dali_statement.specs.Page.{Part, High, Middle, Low, same, byte, Command, Terminate, Initialise, Randomise, Search, Program, QueryShort, QueryRandom}
+use Rattle.dali_statement.specs.Page.{Other, Gear, takes, Heard, Byte, Nothing, Destroyed, Moment, Sent, Ends}
+use Rattle.dali_statement.specs.Page.{Site, allowed, befalls, gear_after, may_miss, may_send, hears, are_apart, tells, happens}
+use Rattle.dali_statement.specs.Gear.{command_seen, gear_seen, HasShort}
+use Rattle.dali_statement.specs.Scripts.{heard_seen, entry_seen, said_on, said_of}
+use Rattle.dali_statement.specs.Sites.{plan_seen}
+use Rattle.dali_statement.proofs.Tests.{first_of_either, equal, equals, below_by, some_is}
+use Rattle.dali_statement.proofs.One.{IsShort}
+use Rattle.dali_statement.proofs.Moved.{At}
+use Rattle.dali_statement.proofs.Steps.{Safe, bytes_tell}
+use Rattle.dali_statement.proofs.Whole.{frame_goes}
+use Rattle.dali_statement.proofs.Rows.{sent_to_all, reached, heard}
+use Rattle.dali_statement.proofs.Scripts.{rules_kept, query_tells}
+use Rattle.dali_statement.proofs.Sites.{turn_kept}
+use Rattle.dali_statement.proofs.Bridge.{Told, told_so, More, by_more, AskedSo, SeenBy, Seen, Next, each_of}
+
+-- FRAMES OF A SITE, as moments of the page.
+
+both : {a b : Bool} → a ≡ true → b ≡ true → (a && b) ≡ true
+both {a} {b} first second = rw (first, second) refl
+
+second_of_either : {b : Bool} (a : Bool) → b ≡ true → (a || b) ≡ true
+second_of_either {b} true e = refl
+second_of_either {b} false e = e
+
+-- ---------------------------------------------------------------- which frames
+
+first_lawful : (b : Block) (xs : List Assignment) (f : Forward) → IsFirst f → Lawful b xs [] f
+first_lawful b xs f first = go first.2.0 first.2.2 where
+  go : (s : Script) → IsFront [] f (steps s) → Lawful b xs [] f
+  go Open front = (Open, tt, front)
+  go (Call r cs) front = (Open, tt, front)
+  go (Draw high middle) front = (Open, tt, front)
+  go (Probe r) front = (Probe r, tt, front)
+  go (Hunt r cs) front = (Probe r, tt, front)
+  go (Look r) front = (Probe r, tt, front)
+  go (Give r a) front = (Probe r, tt, front)
+  go (PassOver r) front = (Probe r, tt, front)
+  go (Resolve a) front = (Resolve a, tt, front)
+  go Close front = (Close, tt, front)
+  go (ArcPower g) front = (ArcPower g, tt, front)
+
+running_is : (w : World) (c : ℕ) (f : Forward) → MaySend w c f → (w.bus.owner ≡ None → w.trace ≡ []) → trace_running w c ≡ w.trace
+running_is w c f (inl owner) free =
+    ap (λ o. if owns o c then w.trace else []) owner.0 ∙ ap (λ t. if t then w.trace else []) (equals c c refl)
+running_is w c f (inr none) free = ap (λ o. if owns o c then w.trace else []) none.0 ∙ sym (free none.0)
+
+lawful_now : (w : World) (c : ℕ) (f : Forward) → MaySend w c f → (w.bus.owner ≡ None → w.trace ≡ [])
+    → Lawful (controller_at w c).records.block (controller_at w c).records.reserved w.trace f
+lawful_now w c f (inl owner) free = owner.1
+lawful_now w c f (inr none) free =
+    subst (λ t. Lawful (controller_at w c).records.block (controller_at w c).records.reserved t f) (sym (free none.0))
+    (first_lawful (controller_at w c).records.block (controller_at w c).records.reserved f none.1)
+
+-- ---------------------------------------------------------------- what the page asks
+
+seen_miss : (x : Read) (h : Answer) → may_miss (command_seen x) (heard_seen h) ≡ is_send_twice x
+seen_miss (read.Initialise t) h = refl
+seen_miss read.Randomise h = refl
+seen_miss _ answer.Silence = refl
+seen_miss _ (answer.Byte v) = refl
+seen_miss _ answer.Damaged = refl
+
+miss_destroyed : (m : Command) → may_miss m Destroyed ≡ true
+miss_destroyed Terminate = refl
+miss_destroyed (Initialise d) = refl
+miss_destroyed Randomise = refl
+miss_destroyed (Search q v) = refl
+miss_destroyed (Program a) = refl
+miss_destroyed QueryShort = refl
+miss_destroyed (QueryRandom a q) = refl
+miss_destroyed Other = refl
+
+hears_nothing : (m : Command) (gs : List Gear) → hears m Nothing gs ≡ true
+hears_nothing Terminate gs = refl
+hears_nothing (Initialise d) gs = refl
+hears_nothing Randomise gs = refl
+hears_nothing (Search q v) gs = refl
+hears_nothing (Program a) gs = refl
+hears_nothing QueryShort gs = refl
+hears_nothing (QueryRandom a q) gs = refl
+hears_nothing Other gs = refl
+
+hears_destroyed : (m : Command) (gs : List Gear) → hears m Destroyed gs ≡ true
+hears_destroyed Terminate gs = refl
+hears_destroyed (Initialise d) gs = refl
+hears_destroyed Randomise gs = refl
+hears_destroyed (Search q v) gs = refl
+hears_destroyed (Program a) gs = refl
+hears_destroyed QueryShort gs = refl
+hears_destroyed (QueryRandom a q) gs = refl
+hears_destroyed Other gs = refl
+
+hears_seen : (x : Read) (h : Answer) (gs : List Real) → Hears (answers_of Everyone x 0 gs) h → hears (command_seen x) (heard_seen h) (map gear_seen gs) ≡ true
+hears_seen x answer.Silence gs is = hears_nothing (command_seen x) (map gear_seen gs)
+hears_seen x answer.Damaged gs is = hears_nothing (command_seen x) (map gear_seen gs)
+hears_seen x (answer.Byte v) gs is = heard x v gs is.0 is.1
+
+shorts_of : (gs : List Real) → ((g : ℕ) (x : Gear) → At (map gear_seen gs) g x → IsShort x) → AllByRecursion HasShort gs
+shorts_of [] each = tt
+shorts_of (g ∷ gs) each = (go g.short refl, shorts_of gs (λ n x at. each (suc n) x at)) where
+  go : (o : Option ℕ) → g.short ≡ o → IfSome o (λ a. a < 64)
+  go None is = tt
+  go (Some a) is = each zero (gear_seen g) refl a is
+
+said_more : (said : List (Command × Heard)) (t : List Entry) (e : Entry) → said_on said (t ++ e ∷ []) ≡ entry_seen e ∷ said_on said t
+said_more said [] e = refl
+said_more said (d ∷ t) e = said_more (entry_seen d ∷ said) t e
+
+-- ---------------------------------------------------------------- what is told
+
+asked_next : (told : Told) (said : List (Command × Heard)) (x : Read) (h : Answer) (q : Asked) → AskedSo told q
+    → AskedSo (λ r a v. told r a v || tells (command_seen x) (heard_seen h) said r a v) (asked_after x h q)
+asked_next told said (read.RandomByte a asked.High) (answer.Byte v) q old = second_of_either (told High a v) (both (equals a a refl) (equals v v refl))
+asked_next told said (read.RandomByte a asked.Middle) (answer.Byte v) nothing old = tt
+asked_next told said (read.RandomByte a asked.Middle) (answer.Byte v) (two_bytes b high middle) old = tt
+asked_next told said (read.RandomByte a asked.Middle) (answer.Byte v) (high_byte b high) old = go (b == a) refl where
+  go : (t : Bool) → (b == a) ≡ t → AskedSo (λ r d u. told r d u || tells (QueryRandom a Middle) (Byte v) said r d u) (if t then two_bytes a high v else nothing)
+  go false e = tt
+  go true e = (
+    first_of_either _ _ (ap (λ d. told High d high) (sym (equal b a e)) ∙ old),
+    second_of_either (told Middle a v) (both (equals a a refl) (equals v v refl)),
+  )
+asked_next told said _ _ q old = tt
+
+module _ (p : SitePlan) (w : World) (s : Site) (seen : Seen p w s) (safe : Safe (plan_seen p) s) (c : ℕ) (f : Forward) (up : IsUp w c)
+    (may : MaySend w c f) where
+  lawful : Lawful (controller_at w c).records.block (controller_at w c).records.reserved w.trace f
+  lawful = lawful_now w c f may seen.free
+
+  reserved_so : (a r : ℕ) → Has (controller_at w c).records.reserved (a, r) → s.reserved c a ≡ Some r
+  reserved_so a r h = (seen.each c up.known).to a r h
+
+  turn : (unwrap_or s.owner c == c) ≡ true
+  turn = ap (λ o. unwrap_or o c == c) seen.owner ∙ turn_kept w c f may
+
+  may_page : may_send s c (command_seen (command_of f)) ≡ true
+  may_page = rules_kept (controller_at w c).records.block (controller_at w c).records.reserved w.trace f s c lawful seen.said reserved_so
+
+  shorts : AllByRecursion HasShort w.gear
+  shorts = shorts_of w.gear (λ g x at. safe.sound.short g x (subst (λ gs. At gs g x) (sym seen.gear) at))
+
+  -- ---------------------------------------------------------------- a frame that was destroyed
+
+  pub destroyed : (group : GearSet) → are_apart (map gear_seen (row_after (Only group) (command_of f) 0 w.gear w.left)) ≡ true
+      → Next p (site_after w (event.Destroyed c f group)) s
+  destroyed group numbers = record {
+    moments = Sent c (command_seen (command_of f)) to.0 Destroyed ∷ [];
+    allow = both (both turn (both may_page (both (hears_destroyed (command_seen (command_of f)) s.gear) (ap are_apart gear ∙ numbers)))) refl;
+    seen = record {
+      count = length-set w.controllers c (told_destroyed f (controller_at w c)) ∙ seen.count;
+      gear = gear;
+      owner = refl;
+      said = refl;
+      free = λ e. refl;
+      asked = tt;
+      each = each_changed nobody (SeenBy p.used s) (told_destroyed f) w.controllers c (λ h x. x) seen.each;
+    };
+  } where
+    to : (some : List (Option ℕ)) × (map gear_seen (row_after (Only group) (command_of f) 0 w.gear w.left)
+        ≡ befalls (takes (command_seen (command_of f))) some (map gear_seen w.gear))
+    to = reached (Only group) (command_of f) 0 w.gear w.left (read_spelled f) shorts
+
+    gear : gear_after (Sent c (command_seen (command_of f)) to.0 Destroyed) s.gear ≡ map gear_seen (row_after (Only group) (command_of f) 0 w.gear w.left)
+    gear =
+        ap (λ t. if t then befalls (takes (command_seen (command_of f))) to.0 s.gear else map (takes (command_seen (command_of f)) 0) s.gear)
+        (miss_destroyed (command_seen (command_of f))) ∙ ap (befalls (takes (command_seen (command_of f))) to.0) seen.gear ∙ sym to.1
+
+  -- ---------------------------------------------------------------- a frame that was sent
+
+  module _ (h : Answer) (hearing : Hears (answers_of Everyone (command_of f) 0 w.gear) h)
+      (numbers : are_apart (map gear_seen (row_after Everyone (command_of f) 0 w.gear w.left)) ≡ true) where
+    some : (them : List (Option ℕ)) × (map gear_seen (row_after Everyone (command_of f) 0 w.gear w.left)
+        ≡ befalls (takes (command_seen (command_of f))) them (map gear_seen w.gear))
+    some = reached Everyone (command_of f) 0 w.gear w.left (read_spelled f) shorts
+
+    abbrev moment : Moment
+    moment = Sent c (command_seen (command_of f)) some.0 (heard_seen h)
+
+    row : gear_after moment s.gear ≡ map gear_seen (row_after Everyone (command_of f) 0 w.gear w.left)
+    row = ap (gear_after moment) seen.gear ∙ go (is_send_twice (command_of f)) refl where
+      go : (t : Bool) → is_send_twice (command_of f) ≡ t
+          → (if may_miss (command_seen (command_of f)) (heard_seen h) then befalls (takes (command_seen (command_of f))) some.0 (map gear_seen w.gear)
+          else map (takes (command_seen (command_of f)) 0) (map gear_seen w.gear)) ≡ map gear_seen (row_after Everyone (command_of f) 0 w.gear w.left)
+      go true e = ap (λ t. if t then befalls (takes (command_seen (command_of f))) some.0 (map gear_seen w.gear)
+          else map (takes (command_seen (command_of f)) 0) (map gear_seen w.gear)) (seen_miss (command_of f) h ∙ e) ∙ sym some.1
+      go false e = ap (λ t. if t then befalls (takes (command_seen (command_of f))) some.0 (map gear_seen w.gear)
+          else map (takes (command_seen (command_of f)) 0) (map gear_seen w.gear)) (seen_miss (command_of f) h ∙ e)
+          ∙ sym (sent_to_all (command_of f) 0 w.gear w.left e)
+
+    allow : allowed (plan_seen p) s moment ≡ true
+    allow = both turn (both may_page (both (subst (λ gs. hears (command_seen (command_of f)) (heard_seen h) gs ≡ true) (sym seen.gear)
+        (hears_seen (command_of f) h w.gear hearing)) (ap are_apart row ∙ numbers)))
+
+    abbrev told_now : Told
+    told_now = λ q a v. s.told q a v || tells (command_seen (command_of f)) (heard_seen h) s.said q a v
+
+    abbrev next : Site
+    next = record s {
+      gear = gear_after moment s.gear;
+      owner = Some c;
+      said = (command_seen (command_of f), heard_seen h) ∷ s.said;
+      told = told_now;
+    }
+
+    next_is : (g : Answer) → happens s (Sent c (command_seen (command_of f)) some.0 (heard_seen g)) ≡ record s {
+      gear = gear_after (Sent c (command_seen (command_of f)) some.0 (heard_seen g)) s.gear;
+      owner = Some c;
+      said = (command_seen (command_of f), heard_seen g) ∷ s.said;
+      told = λ q a v. s.told q a v || tells (command_seen (command_of f)) (heard_seen g) s.said q a v;
+    }
+    next_is answer.Silence = refl
+    next_is (answer.Byte v) = refl
+    next_is answer.Damaged = refl
+
+    whole : (g : Answer) → heard_seen g ≡ Destroyed → ⊥
+    whole answer.Silence e = absurd (cc)
+    whole (answer.Byte v) e = absurd (cc)
+    whole answer.Damaged e = absurd (cc)
+
+    safe_now : Safe (plan_seen p) next
+    safe_now = (frame_goes (plan_seen p) s c (command_seen (command_of f)) some.0 (heard_seen h) (whole h) safe allow).safe
+
+    more : More s.told told_now
+    more q a v e = first_of_either (s.told q a v) _ e
+
+    asked_was : AskedSo s.told (asked_of w.trace)
+    asked_was = seen.asked
+
+    -- what a finding says was told
+    found_told : (x : Read) → command_of f ≡ x → (g : Answer) → h ≡ g → (y : Finding) → found_by (search_of w.trace) (asked_of w.trace) x g ≡ Some y
+        → told_so told_now (assigned y).0 (assigned y).1 ≡ true
+    found_told read.QueryShort is (answer.Byte v) heard_is y e = go (short_of v) refl e where
+      go : (o : Option ℕ) → short_of v ≡ o → option_map (λ b. Queried b (value_of (search_of w.trace))) o ≡ Some y
+          → told_so told_now (assigned y).0 (assigned y).1 ≡ true
+      go None short e = absurd (cc)
+      go (Some b) short e = subst (λ z. told_so told_now (assigned z).0 (assigned z).1 ≡ true) (some_is e)
+          (both (below_by b 64 (short_small v b short)) (both (each High) (both (each Middle) (each Low)))) where
+            each : (q : Part) → told_now q b (byte q (value_of (search_of w.trace))) ≡ true
+            each q = second_of_either (s.told q b (byte q (value_of (search_of w.trace))))
+                (subst (λ x. tells (command_seen x) (heard_seen h) s.said q b (byte q (value_of (search_of w.trace))) ≡ true) (sym is)
+                (subst (λ g. tells QueryShort (heard_seen g) s.said q b (byte q (value_of (search_of w.trace))) ≡ true) (sym heard_is)
+                (query_tells (controller_at w c).records.block (controller_at w c).records.reserved w.trace f s c v b q lawful seen.said reserved_so is short)))
+    found_told (read.RandomByte a asked.Low) is (answer.Byte v) heard_is y e = go (asked_of w.trace) seen.asked e where
+      small : a < 64
+      small = subst IsSpelled is (read_spelled f)
+
+      low : told_now Low a v ≡ true
+      low = second_of_either (s.told Low a v)
+          (subst (λ x. tells (command_seen x) (heard_seen h) s.said Low a v ≡ true) (sym is)
+          (subst (λ g. tells (QueryRandom a Low) (heard_seen g) s.said Low a v ≡ true) (sym heard_is) (both (equals a a refl) (equals v v refl))))
+
+      go : (q : Asked) → AskedSo s.told q → spelled_by a v q ≡ Some y → told_so told_now (assigned y).0 (assigned y).1 ≡ true
+      go nothing old e = absurd (cc)
+      go (high_byte b high) old e = absurd (cc)
+      go (two_bytes b high middle) old e = by (b == a) refl e where
+        by : (t : Bool) → (b == a) ≡ t → (if t then Some (Resolved a (number_of high middle v)) else None) ≡ Some y
+            → told_so told_now (assigned y).0 (assigned y).1 ≡ true
+        by false is e = absurd (cc)
+        by true same e = subst (λ z. told_so told_now (assigned z).0 (assigned z).1 ≡ true) (some_is e)
+            (bytes_tell (plan_seen p) next safe_now a high middle v small
+            (more High a high (ap (λ d. s.told High d high) (sym (equal b a same)) ∙ old.0))
+            (more Middle a middle (ap (λ d. s.told Middle d middle) (sym (equal b a same)) ∙ old.1)) low)
+    found_told _ is _ heard_is y e = absurd (cc)
+
+    run : trace_running w c ≡ w.trace
+    run = running_is w c f may seen.free
+
+    -- the sender, after it was told what was heard
+    sender : SeenBy p.used next c (told_sent (trace_running w c) f h (controller_at w c))
+    sender = record {
+      to = old.to;
+      from = old.from;
+      tables = old.tables;
+      found = λ y e. go (found_by (search_of (trace_running w c)) (asked_of (trace_running w c)) (command_of f) h) refl y e;
+      ordered = old.ordered;
+    } where
+      old : SeenBy p.used next c (controller_at w c)
+      old = by_more p.used (s.reserved c) (s.enrolled c) s.told told_now (controller_at w c).records (controller_at w c).outstanding (controller_at w c).finding
+          more (seen.each c up.known)
+
+      go : (o : Option Finding) → found_by (search_of (trace_running w c)) (asked_of (trace_running w c)) (command_of f) h ≡ o → (y : Finding)
+          → later (controller_at w c).finding o ≡ Some y → told_so told_now (assigned y).0 (assigned y).1 ≡ true
+      go None is y e = old.found y e
+      go (Some z) is y e =
+          found_told (command_of f) refl h refl y (sym (ap (λ t. found_by (search_of t) (asked_of t) (command_of f) h) run) ∙ is ∙ e)
+
+    each_now : Each nobody (SeenBy p.used next) (controllers_changed w.controllers c (told_sent (trace_running w c) f h))
+    each_now = each_of (SeenBy p.used next) w.controllers c (told_sent (trace_running w c) f h (controller_at w c))
+        (λ d here other. by_more p.used (s.reserved d) (s.enrolled d) s.told told_now (controller_at w d).records (controller_at w d).outstanding
+        (controller_at w d).finding more (seen.each d here)) (λ there. sender)
+
+    abbrev trace_now : List Entry
+    trace_now = trace_running w c ++ entry f h ∷ []
+
+    said_now : next.said ≡ said_of trace_now
+    said_now = ap (λ said. (command_seen (command_of f), heard_seen h) ∷ said) (seen.said ∙ ap said_of (sym run))
+        ∙ sym (said_more [] (trace_running w c) (entry f h))
+
+    asked_now : AskedSo told_now (asked_of trace_now)
+    asked_now = subst (AskedSo told_now) (sym (asked_more (trace_running w c) (entry f h)))
+        (asked_next s.told s.said (command_of f) h (asked_of (trace_running w c)) (subst (λ t. AskedSo s.told (asked_of t)) (sym run) seen.asked))
+
+    -- the world afterwards, if more frames come and if not
+    abbrev world_now : Bool → World
+    world_now more_come = record (taken_by w Everyone (command_of f)) {
+      bus = record { lists = (bus_sent w.bus more_come).lists; owner = (if more_come then Some c else None); capacity = w.bus.capacity };
+      trace = (if more_come then trace_now else []);
+      controllers = controllers_changed w.controllers c (told_sent (trace_running w c) f h);
+    }
+
+    owned : Some c ≡ None → ⊥
+    owned e = absurd (cc)
+
+    abbrev over : Site → Site
+    over t = record t { owner = None; said = [] }
+
+    pub sent : Next p (site_after w (event.Sent c f h)) s
+    sent = go (goes_on w c trace_now) where
+      go : (more_come : Bool) → Next p (world_now more_come) s
+      go true = record {
+        moments = moment ∷ [];
+        allow = both allow refl;
+        seen = subst (λ t. Seen p (world_now true) t) (sym (next_is h)) (record {
+          count = length-set w.controllers c (told_sent (trace_running w c) f h (controller_at w c)) ∙ seen.count;
+          gear = row;
+          owner = refl;
+          said = said_now;
+          free = λ e. absurd (owned e);
+          asked = asked_now;
+          each = each_now;
+        });
+      }
+      go false = record {
+        moments = moment ∷ Ends ∷ [];
+        allow = both allow refl;
+        seen = subst (λ t. Seen p (world_now false) t) (sym (ap over (next_is h))) (record {
+          count = length-set w.controllers c (told_sent (trace_running w c) f h (controller_at w c)) ∙ seen.count;
+          gear = row;
+          owner = refl;
+          said = refl;
+          free = λ e. refl;
+          asked = tt;
+          each = each_now;
+        });
+      }
