@@ -115,7 +115,7 @@ fn gear_that_share_an_address_are_told_apart(rt: HostRuntime) {
 #[test]
 fn a_run_may_mend_at_its_end(rt: HostRuntime) {
     let (cabinet, bus) = (Cabinet::new(rt.alloc()), Bus::with(rt.alloc(), &THREE));
-    let words = b"dali_commission run --mend --records site.db --json 0-63";
+    let words = b"dali_commission run --mend --records site.db 0-63";
     let room = Room::new(rt.alloc(), words, &bus);
     assert!(rt; run_and_say(&room, &mut &cabinet, false).is_ok());
     assert!(rt; room.has_said("left alone\n1 gear were enrolled, 1 are in the table"));
@@ -262,7 +262,7 @@ fn twins_of_the_table_stay(rt: HostRuntime) {
     let gear = [(5, 0x123456), (5, 0x123456), (7, 0xABCDEF), (7, 0x111111)];
     let (cabinet, bus) = (Cabinet::new(rt.alloc()), Bus::with(rt.alloc(), &gear));
     assert!(rt; cabinet.has_put("site.db", &[(2, 5, 0x123456)]));
-    let words = b"dali_commission mend --records site.db --json 0-63";
+    let words = b"dali_commission mend --records site.db 0-63";
     let room = Room::new(rt.alloc(), words, &bus);
     assert!(rt; run_and_say(&room, &mut &cabinet, false).is_err());
     let said = "5 123456 several gear have this random address: take all but one from the bus\n\

@@ -174,7 +174,7 @@ fn a_survey_leaves_alone_who_does_not_tell_its_random_address(rt: HostRuntime) {
     ] {
         let shelf = Shelf::of(&[]);
         let heard = answers(&rt, first, silent);
-        ends(&rt, ONCE, &shelf, &heard, (0, lines, LEFT_ALONE));
+        ends(&rt, ONCE, &shelf, &heard, (13, lines, LEFT_ALONE));
         assert!(rt; shelf.enrolled() == Some(0));
     }
 }
@@ -400,7 +400,7 @@ fn what_a_check_found_is_an_object_of_json(rt: HostRuntime) {
     assert!(rt; run_and_say(&desk, &mut &Shelf::of(&records), false).is_err());
     assert!(rt;
         desk.has_written(
-            "{\"end\":\"not-as-recorded\",\"status\":1,\"frames\":586,\"enrolled\":0,\"table\":[\
+            "{\"end\":\"shared\",\"status\":13,\"frames\":586,\"enrolled\":0,\"table\":[\
         {\"address\":0,\"random\":\"123456\",\"given\":true},{\"address\":5,\"random\":\"ABCDEF\",\"given\":false}],\
         \"left_alone\":[],\"missing\":[5],\"strangers\":[{\"address\":0,\"is\":\"another\",\"random\":\"123457\"},\
         {\"address\":1,\"is\":\"unclear-strangers\",\"random\":null}],\"unaddressed\":false}\n"
