@@ -1,7 +1,7 @@
 """Simulated control gear on a bus. They behave as docs/RULES.md says; a file keeps what gear keep over a loss of power.
 
-Three commands more are theirs, by which a tool brings used gear back: DTR0, SET SHORT ADDRESS (DTR0) and RESET
-(IEC 62386-102:2014). The program never sends them.
+Five commands more are theirs, which the program never sends (IEC 62386-102:2014, from memory): DTR0, SET SHORT ADDRESS (DTR0) and
+RESET, by which a tool brings used gear back; DTR1 and READ MEMORY LOCATION (DTR1, DTR0), by which memory bank 0 is read.
 """
 
 import argparse
@@ -28,9 +28,13 @@ INITIALISE, RANDOMISE, COMPARE, VERIFY, QUERY_SHORT = 0xA5, 0xA7, 0xA9, 0xB9, 0x
 RANDOM_BYTES = {0xC2: 16, 0xC3: 8, 0xC4: 0}
 # The address bytes of commands to all gear, and to those without short address.
 ALL, UNADDRESSED = 0xFF, 0xFD
-RESET, SET_SHORT = 0x20, 0x80
-# What gives the next random address.
-Draw = collections.abc.Callable[[], int]
+RESET, SET_SHORT, READ_MEMORY = 0x20, 0x80, 0xC5
+# Memory bank 0: its last location, and where the GTIN and the identification number stand, each with its first byte first. Location 1 is none.
+LAST_LOCATION, GTIN, IDENTIFICATION = 0x1A, range(0x03, 0x09), range(0x0B, 0x13)
+# The GTIN of all gear that a new file has: one of GS1's for internal use.
+OWN_GTIN = 2_000_000_000_008
+# What gives the next random address of a gear that has this one.
+Draw = collections.abc.Callable[[int], int]
 
 
 def short_of(byte: int) -> int | None:
@@ -54,15 +58,17 @@ def is_question(frame: bytes) -> bool:
         return data == 0
     if address_byte == VERIFY:
         return short_of(data) is not None
-    return short_of(address_byte) is not None and data in RANDOM_BYTES
+    return short_of(address_byte) is not None and (data in RANDOM_BYTES or data == READ_MEMORY)
 
 
 class Gear:
     """One control gear. What it forgets at a loss of power begins anew with it."""
 
-    def __init__(self, short: int | None, random_address: int, level: int) -> None:
+    def __init__(self, short: int | None, random_address: int, level: int, serial: tuple[int, int] | None = None) -> None:
         self.short, self.random, self.level = short, random_address, level
-        self.state, self.search, self.half, self.dtr0 = DISABLED, MASK24, None, 0
+        # What memory bank 0 has of it, its GTIN and its identification number; None if it has no such bank.
+        self.serial = serial
+        self.state, self.search, self.half, self.dtr0, self.dtr1 = DISABLED, MASK24, None, 0, 0
 
     def kept(self) -> tuple[int | None, int, int]:
         return self.short, self.random, self.level
@@ -77,7 +83,7 @@ class Gear:
         return self.is_active() and self.random == self.search
 
     def take(self, frame: bytes, draw: Draw) -> int | None:
-        """Takes a frame, and returns the byte that it answers, or None. `draw` gives the next random address.
+        """Takes a frame, and returns the byte that it answers, or None. `draw` gives its next random address.
 
         Any frame that is taken makes an end of a half pair, and a send-twice command is executed at its second frame.
         """
@@ -93,7 +99,19 @@ class Gear:
         is_own = self.short is not None and short_of(address_byte) == self.short
         if is_own or address_byte == ALL or address_byte == UNADDRESSED and self.short is None:
             self.obey(data)
+        if is_own and data == READ_MEMORY:
+            return self.read_memory()
         return self.random >> RANDOM_BYTES[data] & 0xFF if is_own and data in RANDOM_BYTES else None
+
+    def read_memory(self) -> int | None:
+        """The byte at DTR0 of memory bank DTR1, if there is one. Then DTR0 goes on to the next one."""
+        if self.serial is None or self.dtr1 != 0:
+            return None
+        at, self.dtr0 = self.dtr0, min(self.dtr0 + 1, 0xFF)
+        for number, places in zip(self.serial, (GTIN, IDENTIFICATION)):
+            if at in places:
+                return number.to_bytes(len(places))[at - places[0]]
+        return None if at == 1 or at > LAST_LOCATION else LAST_LOCATION if at == 0 else 0
 
     def obey(self, opcode: int) -> None:
         """Does what a command that is addressed to this gear asks for. RESET leaves the short address, and the initialisation."""
@@ -115,13 +133,16 @@ class Gear:
     def set_dtr0(self, data: int, _draw: Draw) -> None:
         self.dtr0 = data
 
+    def set_dtr1(self, data: int, _draw: Draw) -> None:
+        self.dtr1 = data
+
     def initialise(self, data: int, _draw: Draw) -> None:
         if data in (0, self.short_byte()):
             self.state = ENABLED
 
     def randomise(self, data: int, draw: Draw) -> None:
         if data == 0 and self.is_active():
-            self.random = draw()
+            self.random = draw(self.random)
 
     def compare(self, data: int, _draw: Draw) -> int | None:
         return YES if data == 0 and self.state == ENABLED and self.random <= self.search else None
@@ -166,6 +187,7 @@ COMMANDS: dict[int, collections.abc.Callable[[Gear, int, Draw], int | None]] = {
     0xB5: Gear.search_low,
     0xB7: Gear.program,
     VERIFY: Gear.verify,
+    0xC3: Gear.set_dtr1,
     QUERY_SHORT: Gear.query_short,
 }
 
@@ -175,8 +197,10 @@ def check(holds: object, what: str) -> None:
         raise lines.Fault(what)
 
 
-def number_of(text: typing.Any, what: str) -> int:
-    check(isinstance(text, str) and re.fullmatch("[0-9A-Fa-f]{6}", text), f"{what} is not six hexadecimal digits in quotes")
+def number_of(text: typing.Any, what: str, digits: int = 6) -> int:
+    named = {6: "six", 16: "sixteen"}[digits]
+    is_so = isinstance(text, str) and re.fullmatch(f"[0-9A-Fa-f]{{{digits}}}", text)
+    check(is_so, f"{what} is not {named} hexadecimal digits in quotes")
     return int(text, 16)
 
 
@@ -190,13 +214,23 @@ def has_keys(value: object, *keys: str) -> bool:
 
 
 def gear_of(value: typing.Any, what: str) -> Gear:
-    """A gear as its file has it."""
-    keys = ("short_address", "random_address", "level")
-    check(has_keys(value, *keys), f"{what} is not {{{', '.join(keys)}}}")
+    """A gear as its file has it; the keys of its serial number may both be left out."""
+    keys, more = ("short_address", "random_address", "level"), ("gtin", "identification")
+    check(has_keys(value, *keys) or has_keys(value, *keys, *more), f"{what} is not {{{', '.join(keys)}}}, with {' and '.join(more)} or without")
     short, level = value["short_address"], value["level"]
     check(short is None or is_whole(short, 63), f"{what}: short_address is neither null nor a number from 0 to 63")
     check(is_whole(level, FULL), f"{what}: level is not a number from 0 to {FULL}")
-    return Gear(short, number_of(value["random_address"], f"{what}: random_address"), level)
+    serial = None
+    if "gtin" in value:
+        check(is_whole(value["gtin"], 0xFFFFFFFFFFFF), f"{what}: gtin is not a number from 0 to {0xFFFFFFFFFFFF}")
+        serial = value["gtin"], number_of(value["identification"], f"{what}: identification", 16)
+    return Gear(short, number_of(value["random_address"], f"{what}: random_address"), level, serial)
+
+
+def row_of(gear: Gear) -> dict[str, typing.Any]:
+    """A gear as its file is to have it."""
+    row = {"short_address": gear.short, "random_address": f"{gear.random:06X}", "level": gear.level}
+    return row | ({"gtin": gear.serial[0], "identification": f"{gear.serial[1]:016X}"} if gear.serial else {})
 
 
 def read_site(text: str, what: str, may_be_alike: bool = False) -> tuple[list[Gear], int]:
@@ -220,8 +254,7 @@ def read_site(text: str, what: str, may_be_alike: bool = False) -> tuple[list[Ge
 
 def site_text(gear: list[Gear], last_drawn: int) -> str:
     """The text of a file, a line for each gear."""
-    rows = [{"short_address": it.short, "random_address": f"{it.random:06X}", "level": it.level} for it in gear]
-    them = ",\n".join(f"  {json.dumps(it)}" for it in rows)
+    them = ",\n".join(f"  {json.dumps(row_of(it))}" for it in gear)
     return f'{{\n "last_drawn": "{last_drawn:06X}",\n "gear": [\n{them}\n ]\n}}\n'
 
 
@@ -278,13 +311,17 @@ class Bus:
         self.chosen, self.chance, self.file = chosen, random.Random(chosen.seed), SiteFile(chosen.file)
         text = self.file.read()
         if text is None:
-            self.gear = [Gear(None, MASK24, FULL) for _ in range(chosen.gear)]
+            # Numbers of their own, so that what else happens by chance is as it is without them.
+            serials = random.Random(None if chosen.seed is None else f"serials {chosen.seed}")
+            self.gear = [Gear(None, MASK24, FULL, (OWN_GTIN, serials.randrange(1 << 64))) for _ in range(chosen.gear)]
             self.last_drawn = self.chance.randrange(MASK24)
             self.kept = None
         else:
             self.gear, self.last_drawn = read_site(text, chosen.file, chosen.alike)
             self.kept = self.keeps()
         self.mute = [it for number, it in enumerate(self.gear) if number in chosen.mute]
+        # What gear have drawn at the frame that is sent, by the random address that they had.
+        self.drawn: dict[int, int] = {}
         self.keep()
 
     def keeps(self) -> list[tuple[int | None, int, int]]:
@@ -296,12 +333,17 @@ class Bus:
             self.kept = self.keeps()
             self.file.write(site_text(self.gear, self.last_drawn))
 
-    def draw(self) -> int:
-        """The next random address. A congruential generator of full period gives each number of 24 bits once."""
+    def draw(self, before: int) -> int:
+        """The next random address. A congruential generator of full period gives each number of 24 bits once. Gear that have one random
+        address draw the same one, if that is asked for."""
+        if self.chosen.same_draws and before in self.drawn:
+            return self.drawn[before]
         taken = {MASK24, *(it.random for it in self.gear)}
         self.last_drawn = self.next_drawn()
         while self.last_drawn in taken:
             self.last_drawn = self.next_drawn()
+        if before != MASK24:
+            self.drawn[before] = self.last_drawn
         return self.last_drawn
 
     def next_drawn(self) -> int:
@@ -322,6 +364,7 @@ class Bus:
             self.take_foreign()
         if self.happens(self.chosen.lapse):
             return lines.LAPSED
+        self.drawn.clear()
         is_destroyed = self.happens(self.chosen.destroy)
         takers = [it for it in self.gear if not is_destroyed or self.happens(0.5)]
         answers = [byte for it in takers if (byte := it.take(frame, self.draw)) is not None and not self.is_mute(it, frame)]
@@ -381,4 +424,5 @@ def add_words(options: argparse.ArgumentParser) -> None:
     mute = "gear N, counted from 0, never answers QUERY SHORT ADDRESS; may be given again"
     options.add_argument("--mute", type=count, action="append", default=[], metavar="N", help=mute)
     options.add_argument("--alike", action="store_true", help="let gear of FILE have one random address, as after equal draws")
+    options.add_argument("--same-draws", action="store_true", help="let gear that have one random address draw the same one anew")
     options.add_argument("--slow", type=measure(60), default=0, metavar="SECONDS", help="how long each frame takes")
