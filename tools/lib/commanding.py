@@ -10,7 +10,7 @@ import threading
 import time
 import typing
 
-from lib import ROOT, following, joining, marks, places, texts
+from lib import ROOT, following, joining, marks, places, serials, texts
 
 if typing.TYPE_CHECKING:
     from lib import walking
@@ -349,6 +349,9 @@ class Bus:
         for address, (what, heard) in odd.items():
             blank = {"address": address, "random": None, "place": names.get(heard)}
             found[address] = found.get(address, blank) | {"is": what, "heard": heard}
+        numbers = self.numbers()
+        for it in found.values():
+            it["serial"] = numbers.get(it["random"] or it["heard"])
         return [found[it] for it in sorted(found)]
 
     def live(self) -> dict[int, tuple[str, str | None]]:
@@ -382,11 +385,15 @@ class Bus:
                 "walk": walk.state() if walk else None, "walked": self.walked,
             }
 
+    def numbers(self) -> dict[str, serials.Serial]:
+        """The serial numbers that were read, by random address."""
+        return serials.read(serials.file_of(self.site.records[0]))
+
     def csv(self) -> str:
         """The table with the places, as comma-separated values."""
         with self.lock:
             self.read_table()
-            return places.as_csv(places.rows(self.table, places.read(self.names)))
+            return places.as_csv(places.rows(self.table, places.read(self.names), self.numbers()))
 
 
 def odd_of(report: dict[str, typing.Any]) -> dict[int, tuple[str, str | None]]:

@@ -98,21 +98,30 @@ def hand_over(file: pathlib.Path, old: str, new: str) -> None:
             write(file, them, folder)
 
 
-def rows(table: list[Row], places: dict[str, str]) -> list[Row]:
-    """The gear of a table, as the program writes it with --json, each with its place."""
-    return [{"address": it["address"], "random": it["random"], "place": places.get(it["random"])} for it in table]
+def rows(table: list[Row], places: dict[str, str], numbers: dict[str, Row] | None = None) -> list[Row]:
+    """The gear of a table, as the program writes it with --json, each with its place; and with its serial number, if any is known."""
+    more = [numbers.get(it["random"], {"gtin": None, "identification": None}) if numbers else {} for it in table]
+    return [{"address": it["address"], "random": it["random"], "place": places.get(it["random"]), **serial} for it, serial in zip(table, more)]
 
 
 def as_text(them: list[Row]) -> str:
-    return "".join(f"{it['address']} {it['random']} {it['place'] or ''}".rstrip() + "\n" for it in them)
+    return "".join(f"{it['address']} {it['random']} {it['place'] or ''}".rstrip() + f" ({serial_text(it)})".replace(" ()", "") + "\n" for it in them)
+
+
+def serial_text(serial: Row) -> str:
+    """A serial number as it is said, and nothing if none is known."""
+    known = [f"GTIN {serial['gtin']}"] if serial.get("gtin") is not None else []
+    return ", ".join(known + ([f"identification number {serial['identification']}"] if serial.get("identification") else []))
 
 
 def as_csv(them: list[Row], *before: str) -> str:
-    """A table as comma-separated values, with these columns before the others."""
-    text = io.StringIO()
+    """A table as comma-separated values, with these columns before the others, and serial numbers behind them if any are known."""
+    text, more = io.StringIO(), ("gtin", "identification") if any("gtin" in it for it in them) else ()
     writer = csv.writer(text, lineterminator="\n")
-    rows = [(*(it[key] for key in before), it["address"], HEXADECIMAL + it["random"], safe(it["place"] or "")) for it in them]
-    writer.writerows([(*before, "address", "random", "place"), *rows])
+    writer.writerow((*before, "address", "random", "place", *more))
+    for it in them:
+        serial = (it["gtin"], it["identification"] and HEXADECIMAL + it["identification"]) if more else ()
+        writer.writerow((*(it[key] for key in before), it["address"], HEXADECIMAL + it["random"], safe(it["place"] or ""), *serial))
     return text.getvalue()
 
 
