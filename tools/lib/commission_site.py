@@ -28,6 +28,7 @@ MASK24 = 0xFFFFFF
 # The exit statuses of the program.
 DONE, NOT_SO, DRIVER, STORE, BLOCK_FULL, GAVE_UP, NOBODY, KILLED = 0, 1, 4, 5, 6, 7, 10, -signal.SIGKILL
 NOT_REPLACED, UNFINISHED, SHARED = 11, 12, 13
+NOT_MENDED = NOT_REPLACED
 # The first and the last short address.
 ALL_SHORTS = (0, 63)
 ENDS = {KILLED: "killed", DONE: "all-found", NOT_SO: "not begun", BLOCK_FULL: "block-full", GAVE_UP: "gave-up", SHARED: "shared"}
