@@ -68,7 +68,7 @@ class Bus(commanding.Bus):
             if not self.idle.is_set():
                 told = command.followed().state()
                 return found | {"is": "busy", "command": command.name, "address": command.address, "found": command.found, **told}
-            is_ill = command and command.status not in (commanding.DONE, commanding.NOT_SO)
+            is_ill = command and command.status not in commanding.WHOLE
             if is_ill:
                 found |= {"words": commanding.end_of(command.name, command.status), "status": command.status}
             if is_ill or odd or silent or missing or self.unaddressed or self.trouble:

@@ -1,4 +1,4 @@
-"""The commands of a page: the five of `dali_commission`, one at a time over one driver, and what is known of the bus by them."""
+"""The commands of a page: six of `dali_commission`, one at a time over one driver, and what is known of the bus by them."""
 
 import json
 import os
@@ -16,7 +16,7 @@ if typing.TYPE_CHECKING:
     from lib import walking
 
 # The commands that a page may ask for, and whether each leaves the light of a luminaire as it is to be when it is stopped.
-COMMANDS = {"run": False, "check": False, "identify": True, "replace": False}
+COMMANDS = {"run": False, "check": False, "identify": True, "replace": False, "mend": False}
 ADDRESSES = range(64)
 # The program, as it calls itself.
 VERSION = (ROOT / "tools/lib/help/dali_commission-version.txt").read_text().strip()
@@ -28,9 +28,15 @@ PATIENCE = 8
 PROGRESS = re.compile(r"(\d+) gear found, \d+ frames, (\d+) addresses left")
 INPUT_ENDED = re.compile(r"error: line \d+ of the driver: end of input")
 # The statuses of which something more is known; all of a signal are one.
-DONE, NOT_SO, NOBODY, STOPPED = 0, 1, 10, 128
+DONE, NOT_SO, NOBODY, SHARED, STOPPED = 0, 1, 10, 13, 128
+# Those of a command that has done all of its asking, whatever it found.
+WHOLE = (DONE, NOT_SO, SHARED)
+# What is known of a short address that `mend` is for.
+MENDS = ("left-alone", "several", "unclear", "strangers", "unclear-strangers")
 # The words of an end, and what can be done, stand in tools/lib/texts: by command and status, or by status alone.
 END, ODD, SILENT, OTHER = "end:{}:{}", "end:run:odd", "end:run:silent", "end:other"
+# The words of ends that leave something to be mended, which are not as bad as others.
+OPEN = ("end:13", "end:mend:13")
 
 
 class Busy(Exception):
@@ -70,6 +76,9 @@ def words_of(site: Site, command: str, address: object, missing: object) -> list
         return ["check", *records, *others, "--json"]
     if command == "identify":
         return ["identify", "--json", str(address_of(address))]
+    if command == "mend":
+        records = [word for it in site.records for word in ("--records", it)]
+        return ["mend", "--json", *records, *others, *([] if address is None else [str(address_of(address))]), site.block]
     if command != "replace" or not isinstance(missing, list):
         raise Bad("this is none of the commands")
     records = [word for it in site.records for word in ("--records", it)]
@@ -79,10 +88,10 @@ def words_of(site: Site, command: str, address: object, missing: object) -> list
 
 
 def look_of(status: int, words: str) -> str:
-    """How well an end is: a run that left somebody who is not understood, or did not hear a gear of the table, has not done all."""
+    """How well an end is: what left a gear that is not understood, or did not hear one of the table, has not done all."""
     if status == DONE:
         return "part" if words in (ODD, SILENT) else "good"
-    return "part" if status >= STOPPED else "bad"
+    return "part" if status >= STOPPED or words in OPEN else "bad"
 
 
 def end_of(command: str, status: int, odd: list[int] = (), silent: list[int] = ()) -> str:
@@ -282,19 +291,24 @@ class Bus:
     def learn(self, command: Command, report: dict[str, typing.Any], old: str | None) -> None:
         """Takes what a command found. What is odd stays so until a check finds otherwise, or a replacement has heard the new luminaire there."""
         pairs = {it["address"]: it["random"] for it in self.table}
-        if command.name in ("run", "identify"):
+        if command.name in ("run", "identify", "mend"):
             # Who answered as recorded when it was asked last is there, also if a check missed it; who did not is not.
             heard = {it for it in command.follower.heard.items() if it in pairs.items()}
             asked, silent = command.follower.asked(), command.follower.silent()
             self.there = {it for it in self.there if it[0] not in asked} | heard
             self.silent = {it for it in pairs.items() if it[0] in silent or it in self.silent and it[0] not in asked}
             self.missing -= heard
-        if command.name == "run":
+        if command.name in ("run", "mend"):
             self.unaddressed = None
             self.left_alone = sorted({*self.left_alone, *report.get("left_alone", [])})
             # Who was heard under an address alone, and is enrolled with it now, is odd no more.
             self.strangers = {at: it for at, it in self.strangers.items() if it[1] is None or it[1] != pairs.get(at)}
-        if command.name == "check" and command.status in (DONE, NOT_SO, NOBODY):
+        if command.name == "mend" and command.status in (DONE, SHARED):
+            them = [command.address] if command.address is not None else [*self.left_alone, *(at for at, it in self.strangers.items() if it[0] in MENDS)]
+            for at in {*them} - {*report["left_alone"]}:
+                self.left_alone = [it for it in self.left_alone if it != at]
+                self.strangers.pop(at, None)
+        if command.name == "check" and command.status in (*WHOLE, NOBODY):
             self.strangers, self.left_alone, self.checked = odd_of(report), [], time.time()
             self.missing, self.silent = {(it, pairs.get(it)) for it in report["missing"]}, set()
             self.there = {it for it in pairs.items() if it not in self.missing and it[0] not in self.strangers}

@@ -3,8 +3,8 @@
 
 The file of the records is JSON, a random address for each short one. The file that BUS names, or else `bus.json` beside the records, has
 the random addresses of the gear that are there. A frame is put for each gear; while a file `hold` lies beside that one, it waits at the
-second. A file `odd` there has short addresses at which several gear answer, a file `dark` those at which none does. A run asks those that a
-file `asked` has for their random addresses before all else.
+second. A file `odd` there has short addresses at which several gear answer, of which `mend` leaves those that a file `stuck` has; a file
+`dark` has those at which none does. A run asks those that a file `asked` has for their random addresses before all else.
 """
 
 import contextlib
@@ -68,7 +68,7 @@ def run(file: pathlib.Path, records: dict[str, str], gear: list[str]) -> None:
         say(f"{number} gear found, {9 * number} frames, {64 - number} addresses left")
     for it in beside("odd"):
         say(f"{it} - a gear answers, but its random address was not heard; left alone")
-    ended("all-found", 0, records, left_alone=beside("odd"))
+    ended("shared" if beside("odd") else "all-found", 13 if beside("odd") else 0, records, left_alone=beside("odd"))
 
 
 def check(records: dict[str, str], gear: list[str]) -> None:
@@ -79,8 +79,23 @@ def check(records: dict[str, str], gear: list[str]) -> None:
     strangers = [it for it in gear if it not in records.values()]
     others = [{"address": 63 - at, "is": "stranger", "random": it} for at, it in enumerate(strangers)]
     others += [{"address": it, "is": "unclear" if str(it) in records else "unclear-strangers", "random": None} for it in beside("odd")]
-    is_well = not missing and not others
-    ended("as-recorded" if is_well else "not-as-recorded", int(not is_well), records, missing=missing, strangers=others, unaddressed=False)
+    end, status = ("shared", 13) if beside("odd") else ("not-as-recorded", 1) if missing or others else ("as-recorded", 0)
+    ended(end, status, records, missing=missing, strangers=others, unaddressed=False)
+
+
+def mend(records: dict[str, str], words: tuple[str, ...]) -> None:
+    named = [int(it) for it in words if it.isdigit()]
+    put("A900")
+    for it in named:
+        if it not in beside("odd") and str(it) not in records:
+            say(f"not mended, nothing was changed: short address {it}: no gear answers at it")
+            ended("not-mended", 11, {})
+    left = [it for it in beside("odd") if it in beside("stuck") or named and it not in named]
+    stuck = [it for it in left if it in beside("stuck")]
+    bus().with_name("odd").write_text(json.dumps(left))
+    for it in stuck:
+        say(f"{it} - given up: no gear was told apart any more")
+    ended("shared" if stuck else "mended", 13 if stuck else 0, records, left_alone=stuck)
 
 
 def replace(file: pathlib.Path, records: dict[str, str], gear: list[str], address: str) -> None:
@@ -125,6 +140,8 @@ def main(task: str, *words: str) -> None:
             check(records, gear)
         elif task == "identify":
             identify(int(words[-1]))
+        elif task == "mend":
+            mend(records, words)
         elif task == "replace":
             replace(file, records, gear, next(it for it in words if it.isdigit()))
         else:

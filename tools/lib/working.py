@@ -126,7 +126,7 @@ class Job:
             parts += [f"{word}: {' '.join(map(str, them))}"] if them else []
         parts += ["gear without short address are there"] if any(it.get("unaddressed") for it in self.reports) else []
         parts += [f"status {self.status()}"] if self.status() else []
-        parts += [self.said] if self.status() > commanding.NOT_SO and self.said else []
+        parts += [self.said] if self.status() not in commanding.WHOLE and self.said else []
         return "; ".join(parts)
 
 
