@@ -1,7 +1,7 @@
 """Simulated control gear on a bus. They behave as docs/RULES.md says; a file keeps what gear keep over a loss of power.
 
-Five commands more are theirs, which the program never sends (IEC 62386-102:2014, from memory): DTR0, SET SHORT ADDRESS (DTR0) and
-RESET, by which a tool brings used gear back; DTR1 and READ MEMORY LOCATION (DTR1, DTR0), by which memory bank 0 is read.
+Six commands more are theirs, which the program never sends (IEC 62386-102:2014, from memory): DTR0, SET SHORT ADDRESS (DTR0) and RESET,
+by which a tool brings used gear back; DTR1 and READ MEMORY LOCATION (DTR1, DTR0), by which memory bank 0 is read; QUERY CONTROL GEAR PRESENT.
 """
 
 import argparse
@@ -28,7 +28,7 @@ INITIALISE, RANDOMISE, COMPARE, VERIFY, QUERY_SHORT = 0xA5, 0xA7, 0xA9, 0xB9, 0x
 RANDOM_BYTES = {0xC2: 16, 0xC3: 8, 0xC4: 0}
 # The address bytes of commands to all gear, and to those without short address.
 ALL, UNADDRESSED = 0xFF, 0xFD
-RESET, SET_SHORT, READ_MEMORY = 0x20, 0x80, 0xC5
+RESET, SET_SHORT, QUERY_PRESENT, READ_MEMORY = 0x20, 0x80, 0x91, 0xC5
 # Memory bank 0: its last location, and where the GTIN and the identification number stand, each with its first byte first. Location 1 is none.
 LAST_LOCATION, GTIN, IDENTIFICATION = 0x1A, range(0x03, 0x09), range(0x0B, 0x13)
 # The GTIN of all gear that a new file has: one of GS1's for internal use.
@@ -58,7 +58,9 @@ def is_question(frame: bytes) -> bool:
         return data == 0
     if address_byte == VERIFY:
         return short_of(data) is not None
-    return short_of(address_byte) is not None and (data in RANDOM_BYTES or data == READ_MEMORY)
+    if data == QUERY_PRESENT and address_byte in (ALL, UNADDRESSED):
+        return True
+    return short_of(address_byte) is not None and data in (QUERY_PRESENT, READ_MEMORY, *RANDOM_BYTES)
 
 
 class Gear:
@@ -98,6 +100,8 @@ class Gear:
             return COMMANDS[address_byte](self, data, draw)
         is_own = self.short is not None and short_of(address_byte) == self.short
         if is_own or address_byte == ALL or address_byte == UNADDRESSED and self.short is None:
+            if data == QUERY_PRESENT:
+                return YES
             self.obey(data)
         if is_own and data == READ_MEMORY:
             return self.read_memory()
@@ -367,7 +371,7 @@ class Bus:
         self.drawn.clear()
         is_destroyed = self.happens(self.chosen.destroy)
         takers = [it for it in self.gear if not is_destroyed or self.happens(0.5)]
-        answers = [byte for it in takers if (byte := it.take(frame, self.draw)) is not None and not self.is_mute(it, frame)]
+        answers = [byte for it in takers if (byte := self.answer(it, frame)) is not None]
         self.keep()
         if is_destroyed:
             return lines.DAMAGED if awaits and self.chosen.one_code else lines.DESTROYED
@@ -379,6 +383,11 @@ class Bus:
         for it in self.gear:
             it.take(frame, self.draw)
         self.keep()
+
+    def answer(self, gear: Gear, frame: bytes) -> int | None:
+        """Lets a gear take a frame. The byte that it answers, or None."""
+        byte = gear.take(frame, self.draw)
+        return None if self.is_mute(gear, frame) else byte
 
     def is_mute(self, gear: Gear, frame: bytes) -> bool:
         """Whether this gear tells no short address under its random address."""
