@@ -1,0 +1,202 @@
+"""A driver over a port that samples the bus: when it sends, what it tells, and what it finds of the port and the wiring.
+
+All times are microseconds; those of the bus are from memory, as docs/VENDOR.md has them.
+"""
+
+import typing
+
+import lines
+from samples import HALF, Samples, at_least, micros
+
+RANDOMISE, PRESENT = b"\xA7\x00", b"\xFF\x91"
+# How long the bus is at rest before a frame of each priority. The later frames of a transaction have priority 1.
+SETTLING, LATER = {1: 13_500, 2: 14_900, 3: 16_300, 4: 17_900, 5: 19_500}, 1
+# From the beginning of a pair's first frame to the end of its second; how long gear draw; how long a frame is.
+PAIR, DRAW, FRAME, HALVES = 100_000, 100_000, 34 * HALF, 40
+# How many samples stand before a frame, and how long is listened after it: until no answer may begin any more, and until one has ended.
+LEAD, WINDOW, ANSWER = 8, 12_500, 24_000
+# Any frame is low once in so long a time. It takes longer than the other, in which the driver does not listen.
+NOTICE, DEAF = 1_250, 10_000
+# A transfer that takes so much longer than the shortest of its length may have been paused: up to 80 gear read the same frame.
+LATE = 60
+# A first frame waits so long for the bus. A bus without power is low for so long.
+PATIENCE, DEAD = 2_000_000, 500_000
+# How many transfers a test of the port makes.
+MANY = 50
+# The lengths in bytes by which the clock is measured, and by which part it may be wrong.
+SHORT, LONG, TRIES, PART = 32, 1056, 3, 100
+
+
+class Port(typing.Protocol):
+    """What is asked of a port, as port.Port has it."""
+
+    device: str
+
+    def now(self) -> int: ...
+
+    def transfer(self, out: bytes) -> tuple[bytes, int, int]: ...
+
+
+class Reader(typing.Protocol):
+    """What is asked of the library, as library.Library has it."""
+
+    def levels(self, frame: bytes) -> list[bool]: ...
+
+    def heard(self, edges: list[tuple[bool, int]], last: int) -> tuple[str, int]: ...
+
+
+class First(typing.NamedTuple):
+    """The first frame of a pair, and when it was begun at the earliest."""
+
+    frame: bytes
+    begun: int
+
+
+def framed(halves: list[bool], is_question: bool, speed: int) -> Samples:
+    """A frame as it is sent, of its first half bits, with the time after it in which is listened."""
+    tail = (ANSWER if is_question else WINDOW) - HALF
+    return Samples.of(halves[: FRAME // HALF + 1], LEAD, at_least(tail, speed), speed)
+
+
+class Ear:
+    """Transfers, and what is known by them of the bus.
+
+    until    until when was listened, at the earliest
+    ended    when the last transfer ended, at the latest
+    rest     how long the bus was high then, as far as was heard
+    is_lost  whether another device sent since the last frame, or may have
+    least    by how much transfers of each length took longer than their bits at least
+    """
+
+    def __init__(self, port: Port, speed: int, is_out_inverted: bool, is_in_inverted: bool) -> None:
+        self.port, self.speed, self.inverted = port, speed, (is_out_inverted, is_in_inverted)
+        self.until = self.ended = port.now() - DEAF
+        self.rest, self.is_lost, self.dead, self.least, self.is_measured = 0, True, None, {}, False
+
+    def exchange(self, out: Samples) -> tuple[Samples, int]:
+        """What is heard while these samples are sent, and by how much that took longer than it ever took."""
+        raw, begun, ended = self.port.transfer(out.packed(self.inverted[0]))
+        heard, length = Samples.read(raw, self.inverted[1]), micros(out.count, self.speed)
+        if self.is_measured and (ended - begun) * PART < length * (PART - 1):
+            self.refuse_clock(out.count * 1_000_000 / max(ended - begun, 1))
+        is_deaf = ended - length - self.until > DEAF
+        self.is_lost |= is_deaf
+        known = 0 if is_deaf else self.rest + max(begun - self.ended, 0)
+        self.rest = known + length if heard.is_quiet else micros(heard.rest, self.speed)
+        self.until, self.ended = begun + length, ended
+        over = ended - begun - length
+        self.least[out.count] = min(over, self.least.get(out.count, over))
+        self.check_power(heard, begun)
+        return heard, over - self.least[out.count]
+
+    def check_power(self, heard: Samples, begun: int) -> None:
+        if not heard.is_dead:
+            self.dead = None
+            return
+        self.dead = begun if self.dead is None else self.dead
+        if self.ended - self.dead > DEAD:
+            raise lines.Fault("the bus has no power: it is low all the time. Or --inverted-in is wrong")
+
+    def refuse_clock(self, found: float) -> typing.NoReturn:
+        raise lines.Fault(f"the clock of {self.port.device} is {found:.0f} Hz, and not {self.speed}: fix it, or take another --speed")
+
+    def idle(self, time: int) -> Samples:
+        """A bus that is left at rest for so long."""
+        return Samples.of([], 0, at_least(time, self.speed), self.speed)
+
+    def listen(self, time: int) -> Samples:
+        """What is heard in a transfer of so long a time."""
+        heard, _ = self.exchange(self.idle(time))
+        self.is_lost |= not heard.is_quiet
+        return heard
+
+    def clock(self) -> float:
+        """How many samples the port takes in a second, by transfers of unlike length."""
+        took = []
+        for count in (8 * SHORT, 8 * LONG):
+            for _ in range(TRIES):
+                self.exchange(Samples(count, False, []))
+            took.append(micros(count, self.speed) + self.least[count])
+        return 8 * (LONG - SHORT) * 1_000_000 / (took[1] - took[0])
+
+    def measure(self) -> float:
+        """Measures the clock, and how long a transfer with a frame takes. It refuses a wrong clock."""
+        found = self.clock()
+        if abs(found - self.speed) * PART > self.speed:
+            self.refuse_clock(found)
+        self.is_measured = True
+        for is_question in (False, True):
+            for _ in range(TRIES):
+                self.exchange(framed([False] * HALVES, is_question, self.speed))
+        return found
+
+    def settle(self, priority: int, not_before: int) -> bool:
+        """Waits for the bus, by listening. Whether it is free for a frame of this priority."""
+        wanted, end = SETTLING[priority] + HALF, self.port.now() + PATIENCE
+        while True:
+            now = self.port.now()
+            is_deaf = now - self.until > DEAF
+            if now > end or priority == LATER and (self.is_lost or is_deaf):
+                return False
+            rest = 0 if is_deaf else self.rest + now - self.ended
+            self.listen(max(wanted - rest, not_before - now, NOTICE))
+            if self.rest >= wanted and not (priority == LATER and self.is_lost):
+                return True
+
+
+class Driver:
+    """Sends frames, and tells what came of them."""
+
+    def __init__(self, ear: Ear, reader: Reader) -> None:
+        self.ear, self.reader, self.first, self.not_before = ear, reader, None, 0
+
+    def wave(self, frame: bytes, is_question: bool) -> Samples:
+        return framed(self.reader.levels(frame), is_question, self.ear.speed)
+
+    def send(self, priority: int, frame: bytes, is_question: bool, half: int) -> str:
+        """Sends a frame, and tells what came of it, as docs/ADAPTERS.md has it."""
+        ear, first, self.first = self.ear, self.first, None
+        if half == 2 and (not first or first.frame != frame) or not ear.settle(priority, self.not_before):
+            return lines.LAPSED
+        begun, wave = ear.port.now(), self.wave(frame, is_question)
+        if half == 2 and begun + FRAME + micros(LEAD, ear.speed) - first.begun > PAIR:
+            return lines.LAPSED
+        heard, late = ear.exchange(wave)
+        ear.is_lost = False
+        over = ear.ended - micros(wave.count - LEAD, ear.speed) + FRAME
+        if half == 2 and frame == RANDOMISE:
+            self.not_before = over + DRAW
+        if late > LATE or not heard.has(wave, ear.speed) or half == 2 and over - first.begun > PAIR:
+            return lines.DESTROYED
+        told = self.told(heard, len(wave.edges), is_question)
+        if half == 1 and told == lines.SILENCE:
+            self.first = First(frame, begun)
+        return told
+
+    def told(self, heard: Samples, own: int, is_question: bool) -> str:
+        """What is told of the edges after so many that are the own frame's. Those after the time of an answer are of another device."""
+        edges, last = heard.times(own, self.ear.speed)
+        told, count = self.reader.heard(edges, last)
+        self.ear.is_lost = count < len(edges)
+        return told if is_question or told == lines.SILENCE else lines.DESTROYED
+
+
+def rows(found: float, ear: Ear, driver: Driver) -> typing.Iterator[tuple[bool, str]]:
+    """What a test of the wiring finds, each with whether it is right: the port, the bus at rest, one QUERY CONTROL GEAR PRESENT."""
+    yield True, f"the clock is {found:.0f} Hz, and {ear.speed} were asked for"
+    late = sum(ear.exchange(ear.idle(ANSWER))[1] > LATE for _ in range(MANY))
+    yield late * 10 <= MANY, f"{late} of {MANY} transfers took {LATE} us more than the shortest: each is told as destroyed"
+    heard = ear.listen(PAIR)
+    yield heard.is_quiet, "the bus is at rest" if heard.is_quiet else f"the bus is not at rest: {len(heard.edges)} edges in 100 ms"
+    if not ear.settle(max(SETTLING), 0):
+        yield False, "the bus does not become free"
+        return
+    wave = driver.wave(PRESENT, True)
+    heard, _ = ear.exchange(wave)
+    is_whole = heard.has(wave, ear.speed)
+    yield is_whole, "the own frame is read back" if is_whole else f"the own frame is not read back: sent {wave.edges}, heard {heard.edges}"
+    if is_whole:
+        longer = [one - other for one, other in zip(heard.runs(wave), wave.runs(wave))]
+        for what, them in (("low", longer[::2]), ("high", longer[1::2])):
+            yield True, f"each {what} is {min(them)} to {max(them)} samples longer than it was sent"
+        yield True, f"QUERY CONTROL GEAR PRESENT hears {driver.told(heard, len(wave.edges), True)}"
