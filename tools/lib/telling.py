@@ -5,7 +5,10 @@ import re
 import time
 import typing
 
-from lib import ROOT, dump
+from lib import ROOT
+
+if typing.TYPE_CHECKING:
+    from lib import dump
 
 # A line of a program for its driver, and the driver's line without its line feed.
 PUT = re.compile(rb"put ([1-5]) ([0-9A-F]{4}) .*\n")
@@ -54,6 +57,13 @@ def line_of(members: dict[str, typing.Any]) -> str:
     return json.dumps(members, separators=(",", ":")) + "\n"
 
 
+def dumped() -> "dump.Dump":
+    """A dump of a bus. No run that wants none waits until what draws it is loaded."""
+    from lib import dump
+
+    return dump.Dump("bus")
+
+
 class Run:
     """What a driver tells of a run of one controller, as a story that is written to a file, and as a dump to another one, event by event.
 
@@ -63,11 +73,11 @@ class Run:
 
     def __init__(self, story: typing.BinaryIO | None = None, trace: typing.BinaryIO | None = None) -> None:
         self.story, self.trace, self.faults = story, trace, {}
-        self.dump, self.begun, self.waiting = dump.Dump("bus"), time.monotonic(), None
+        self.dump, self.begun, self.waiting = dumped() if trace else None, time.monotonic(), None
         # How many events, transactions and frames there were, how many frames the running transaction has, and the bit times of all.
         self.events, self.transactions, self.frames, self.place, self.bits = 0, 0, 0, 0, 0
         self.write("story", line_of({"story": 1, "source": "bus", "controllers": 1, "gear": []}))
-        self.write("trace", self.dump.taken())
+        self.write_trace()
 
     def put(self, line: bytes) -> None:
         """A program puts this line to its driver."""
@@ -79,10 +89,11 @@ class Run:
         if self.waiting and ANSWER.fullmatch(line):
             priority, frame, at = self.waiting
             event = self.event(priority, frame, at, line.decode("ascii"))
-            self.dump.asked[0] = priority
-            self.dump.take(event)
             self.write("story", line_of(event))
-            self.write("trace", self.dump.taken())
+            if self.dump:
+                self.dump.asked[0] = priority
+                self.dump.take(event)
+            self.write_trace()
 
     def event(self, priority: int, frame: int, at: int, answer: str) -> dict[str, typing.Any]:
         """The event that an answer tells of."""
@@ -103,10 +114,15 @@ class Run:
 
     def end(self, status: int | None) -> None:
         """Nothing more comes: a `run` has ended with this status, or something else."""
-        self.dump.end()
-        self.write("trace", self.dump.taken())
+        if self.dump:
+            self.dump.end()
+        self.write_trace()
         stands = {"stands": [STANDS[status]]} if status in STANDS else {}
         self.write("story", line_of({"end": True, **stands, "frames": self.frames, "bits": self.bits}))
+
+    def write_trace(self) -> None:
+        if self.dump:
+            self.write("trace", self.dump.taken())
 
     def write(self, name: str, text: str) -> None:
         """Writes to a file, if it is wanted and can be written."""
