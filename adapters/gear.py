@@ -33,6 +33,8 @@ RESET, SET_SHORT, QUERY_PRESENT, READ_MEMORY = 0x20, 0x80, 0x91, 0xC5
 LAST_LOCATION, GTIN, IDENTIFICATION = 0x1A, range(0x03, 0x09), range(0x0B, 0x13)
 # The GTIN of all gear that a new file has: one of GS1's for internal use.
 OWN_GTIN = 2_000_000_000_008
+# In seconds: how long gear that play times remember the first frame of a pair, and their initialisation.
+PAIR, INITIALISED = 0.100, 900
 # What gives the next random address of a gear that has this one.
 Draw = collections.abc.Callable[[int], int]
 
@@ -313,6 +315,8 @@ class Bus:
 
     def __init__(self, chosen: argparse.Namespace) -> None:
         self.chosen, self.chance, self.file = chosen, random.Random(chosen.seed), SiteFile(chosen.file)
+        # When the last frame was begun, and the last INITIALISE.
+        self.begun = self.initialised = -math.inf
         text = self.file.read()
         if text is None:
             # Numbers of their own, so that what else happens by chance is as it is without them.
@@ -362,6 +366,8 @@ class Bus:
         Where it lapsed, it was not sent, so no gear takes it and half pairs stay. A gear that takes a destroyed frame takes it
         like any other.
         """
+        if self.chosen.timed:
+            self.pass_time(frame)
         if self.chosen.slow:
             time.sleep(self.chosen.slow)
         if self.chosen.foreign > 0 and self.happens(self.chosen.foreign):
@@ -376,6 +382,14 @@ class Bus:
         if is_destroyed:
             return lines.DAMAGED if awaits and self.chosen.one_code else lines.DESTROYED
         return self.heard(answers) if awaits else lines.SILENCE
+
+    def pass_time(self, frame: bytes) -> None:
+        """Gear forget what they remember for some time only."""
+        now = time.monotonic()
+        for it in self.gear:
+            it.half = it.half if now - self.begun <= PAIR else None
+            it.state = it.state if now - self.initialised <= INITIALISED else DISABLED
+        self.begun, self.initialised = now, now if frame[0] == INITIALISE else self.initialised
 
     def take_foreign(self) -> None:
         """Another device sends direct arc power, as a sensor does, and all gear take it."""
@@ -434,4 +448,5 @@ def add_words(options: argparse.ArgumentParser) -> None:
     options.add_argument("--mute", type=count, action="append", default=[], metavar="N", help=mute)
     options.add_argument("--alike", action="store_true", help="let gear of FILE have one random address, as after equal draws")
     options.add_argument("--same-draws", action="store_true", help="let gear that have one random address draw the same one anew")
+    options.add_argument("--timed", action="store_true", help="let gear forget half a pair after 100 ms, and an initialisation after 15 minutes")
     options.add_argument("--slow", type=measure(60), default=0, metavar="SECONDS", help="how long each frame takes")

@@ -7,12 +7,16 @@ import argparse
 import collections.abc
 import os
 import re
+import socket
 import sys
+import time
 
 SILENCE, DAMAGED, DESTROYED, LAPSED = "silence", "damaged", "destroyed", "lapsed"
 PUT = re.compile(rb"put ([1-5]) ([0-9A-Fa-f]{4}) (ask|tell)(?: pair ([12]))?\n")
 # The longest line is read so far that a message can show where it went wrong.
 LONGEST = 64
+# How many seconds a driver waits until one that ran before it has ended.
+PATIENCE = 3
 
 
 class Fault(Exception):
@@ -45,9 +49,31 @@ def tell(told: str) -> None:
 
 
 def serve(send: collections.abc.Callable[[int, bytes, bool, int], str]) -> None:
-    """Answers each line with what `send` tells of its frame, until the input ends."""
+    """Answers each line with what `send` tells of its frame, until the input ends.
+
+    The first frame of a pair is held back: it is answered `silence`, and sent right before the second one. So the time of a pair is kept
+    however late the lines come (docs/ADAPTERS.md, 'A driver far away'). One that no second frame follows is not sent.
+    """
+    held = None
     while words := read_put():
-        tell(send(*words))
+        first, held = held, words if words[3] == 1 else None
+        told = send(*first) if first and words[3] == 2 and words[1] == first[1] else SILENCE
+        if not held and told not in (DESTROYED, LAPSED):
+            told = send(*words)
+        tell(told)
+
+
+def alone(what: str) -> socket.socket:
+    """Has an interface alone on this computer, as long as what is given back is there: a late line of another run is not sent in this one."""
+    lock, until = socket.socket(socket.AF_UNIX), time.monotonic() + PATIENCE
+    while True:
+        try:
+            lock.bind(f"\0dali {what}")
+            return lock
+        except OSError as why:
+            if time.monotonic() > until:
+                raise Fault(f"{what} is in use by another driver") from why
+            time.sleep(0.05)
 
 
 def whole(least: int, most: int) -> collections.abc.Callable[[str], int]:

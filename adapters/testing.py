@@ -125,12 +125,13 @@ class Controller:
 class Scripted(threading.Thread):
     """A server that plays one list of lines for each connection, and is gone after the last.
 
-    `< HEX` is a request that has to come, `> HEX` is sent, `wait SECONDS` waits, `end` closes the connection at once.
+    `< HEX` is a request that has to come, `> HEX` is sent, `wait SECONDS` waits, `end` closes the connection at once. It counts the
+    connections that were cut off.
     """
 
     def __init__(self, *connections: list[str]) -> None:
         super().__init__(daemon=True)
-        self.connections, self.wrong = connections, []
+        self.connections, self.wrong, self.cut = connections, [], 0
         self.listener = socket.create_server(("127.0.0.1", 0))
         self.port = self.listener.getsockname()[1]
         self.start()
@@ -141,7 +142,10 @@ class Scripted(threading.Thread):
             if at + 1 == len(self.connections):
                 self.listener.close()
             with client:
-                self.play(client, them)
+                try:
+                    self.play(client, them)
+                except ConnectionError:
+                    self.cut += 1
 
     def play(self, client: socket.socket, them: list[str]) -> None:
         for line in them:
