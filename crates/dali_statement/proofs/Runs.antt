@@ -1,24 +1,26 @@
-use Rattle.std.proofs.Common.{◌≡◌, ℕ, ◌<◌, Bool, true, refl, sym, subst, append_assoc, append-nil, List, [], ◌∷◌, ◌++◌, map}
-use Rattle.std.proofs.Common.{get_or}
+use Rattle.std.proofs.Common.{arith, zero, suc, ◌≡◌, ℕ, ◌<◌, Bool, true, refl, sym, subst, append_assoc, append-nil, List, [], ◌∷◌, ◌++◌, map}
+use Rattle.std.proofs.Common.{get_or, length, ap, map, ◌∙◌, Some}
 use Rattle.std.proofs.lemmas.List.{length-map, get_or-map}
-use Rattle.std.specs.Prelude.{◌&&◌}
+use Rattle.std.specs.Prelude.{◌&&◌, slice_get}
 use Rattle.dali_events.specs.declared.event.Event.{Event}
 use Rattle.dali_events.specs.declared.event.Event.TheVariants as event
 use Rattle.dali_events.specs.Plan.{Plan as SitePlan, IsPlan as IsSitePlan, no_block}
-use Rattle.dali_events.specs.World.{World, controller_begun, nobody, start as site_start}
+use Rattle.dali_events.specs.Promise.{HoldsShort, KeepsPromiseNow, KeepsAddresses}
+use Rattle.dali_gear.specs.Gear.{Gear as Real, fresh}
+use Rattle.dali_events.specs.World.{World, gear_at, controller_begun, nobody, start as site_start}
 use Rattle.dali_events.specs.Happens.{happens as site_after}
 use Rattle.dali_events.specs.Allowed.{Allowed}
 use Rattle.dali_events.specs.Laws.{KeepsRecords}
 use Rattle.dali_events.specs.Runs.{after as after_log, IsRun, LeavesUsed}
 use Rattle.dali_events.proofs.Invariant.Growing.{after_more, allowed_front, allowed_rest, leaves_front, leaves_rest}
 use Rattle.dali_events.proofs.Invariant.Keeping.{records_kept}
-use Rattle.dali_statement.specs.Page.{Moment, Plan, Site, start, all_allowed, are_apart, after, happens}
+use Rattle.dali_statement.specs.Page.{Moment, Plan, Site, start, all_allowed, are_apart, after, happens, Holds, KeepsNow}
 use Rattle.dali_statement.specs.Gear.{gear_seen}
 use Rattle.dali_statement.specs.Sites.{plan_seen}
 use Rattle.dali_statement.specs.Runs.{LeadsTo}
-use Rattle.dali_statement.proofs.Tests.{first_of_both, second_of_both}
+use Rattle.dali_statement.proofs.Tests.{first_of_both, second_of_both, mapped_at, at_index}
 use Rattle.dali_statement.proofs.Steps.{Safe}
-use Rattle.dali_statement.proofs.Whole.{starts, safe_after, after_both}
+use Rattle.dali_statement.proofs.Whole.{every_history_keeps_the_promise, starts, safe_after, after_both}
 use Rattle.dali_statement.proofs.Sites.{plan_is_seen, numbers_apart}
 use Rattle.dali_statement.proofs.Bridge.{SeenBy, Seen, Next}
 use Rattle.dali_statement.proofs.Events.{lapsed, down, power, expires, up, acted, collided, quiet, foreign, offered}
@@ -131,3 +133,43 @@ module _ (p : SitePlan) (capacity : ℕ) where
           allowed = allowed_front (site_start p capacity) front rest run.allowed;
           leaves = leaves_front p.used front rest run.leaves;
         }
+
+-- ---------------------------------------------------------------- the promise of a run
+
+placed : (gs : List Real) (g : ℕ) → g < length gs → slice_get (map gear_seen gs) g ≡ Some (gear_seen (get_or gs g fresh))
+placed [] g h = absurd (omega arith)
+placed (x ∷ xs) zero h = refl
+placed (x ∷ xs) (suc g) h = placed xs g (let there : suc g < length (x ∷ xs) = h in omega arith)
+
+module _ (p : SitePlan) (w : World) (ms : List Moment) (leads : LeadsTo p w ms) where
+  abbrev seen_site : Site
+  seen_site = after (start (plan_seen p)) ms
+
+  to_page : (g a : ℕ) → HoldsShort w g a → Holds seen_site g a (gear_at w g).random
+  to_page g a held = (gear_seen (gear_at w g), ap (λ gs. slice_get gs g) leads.gear ∙ placed w.gear g held.0, held.1, refl)
+
+  from_page : (g a r : ℕ) → Holds seen_site g a r → HoldsShort w g a × ((gear_at w g).random ≡ r)
+  from_page g a r held =
+      let from = mapped_at gear_seen w.gear g held.0 (sym (ap (λ gs. slice_get gs g) leads.gear) ∙ held.1) in
+      let there = at_index w.gear g from.0 fresh from.1 in (
+        (there.0, ap (λ x. x.short) there.1 ∙ sym (ap (λ x. x.short) from.2) ∙ held.2),
+        ap (λ x. x.random) there.1 ∙ sym (ap (λ x. x.random) from.2) ∙ held.3,
+      )
+
+  promise_now : KeepsNow seen_site → KeepsPromiseNow w
+  promise_now kept = record {
+    one_gear = λ g h a first second. kept.one_gear g h a (gear_at w g).random (gear_at w h).random (to_page g a first) (to_page h a second);
+    tables = λ c entry enrolled. let found = kept.tables c entry.0 entry.1 (leads.enrolled c entry.0 entry.1 enrolled.0 enrolled.1) in
+        let held = from_page found.0 entry.0 entry.1 found.1 in (found.0, held.0, held.1);
+  }
+
+pub promise_kept : (p : SitePlan) (capacity : ℕ) (front rest : List Event) → IsRun p capacity (front ++ rest)
+    → KeepsPromiseNow (after_log p capacity front) × KeepsAddresses (after_log p capacity front) (after_log p capacity (front ++ rest))
+promise_kept p capacity front rest run =
+    let both = every_run_is_a_history p capacity front rest run in
+    let kept = every_history_keeps_the_promise (plan_seen p) (both.0 ++ both.1) both.3.history in (
+      promise_now p (after_log p capacity front) both.0 both.2 (kept.always both.0 both.1 refl),
+      λ g a held. from_page p (after_log p capacity (front ++ rest)) (both.0 ++ both.1) both.3 g a (gear_at (after_log p capacity front) g).random
+          (kept.ever_after both.0 both.1 [] (ap (λ ns. both.0 ++ ns) (append-nil both.1)) g a (gear_at (after_log p capacity front) g).random
+          (to_page p (after_log p capacity front) both.0 both.2 g a held)),
+    )

@@ -27,6 +27,7 @@ ghost use Rattle.dali_statement.specs.Page.{KeepsPromise, Byte, befalls, hears, 
 ghost use Rattle.dali_statement.specs.Scripts.{said_of};
 ghost use Rattle.dali_statement.specs.Sites.{owner_in, plan_seen};
 ghost use Rattle.dali_statement.specs.Runs.{LeadsTo};
+ghost use Rattle.dali_events.specs.Promise.{KeepsPromiseNow, KeepsAddresses};
 ghost use Rattle.dali_statement.specs.Page.{IsPlan, are_apart, allowed, Reserves, Enrols, Releases};
 ghost use Rattle.dali_events.specs.declared.event.Event.{Event};
 ghost use Rattle.dali_events.specs.Plan.{Plan as SitePlan, IsPlan as IsSitePlan, block_at};
@@ -193,4 +194,13 @@ pub fn every_run_is_a_history()
     ensures { (p : SitePlan) (capacity : ℕ) (front rest : List Event) → IsRun p capacity (front ++ rest)
         → (ms : List Moment) × (more : List Moment) × LeadsTo p (after_log p capacity front) ms
         × LeadsTo p (after_log p capacity (front ++ rest)) (ms ++ more) }
+{}
+
+/// EVERY RUN KEEPS THE PROMISE, by the page: at each moment of a run (`now`), and from each one on (`ever_after`). That
+/// is what `every_run_is_safe` of `dali_events` says, here from five rules of senders.
+pub fn every_run_keeps_the_promise()
+    ensures now { (p : SitePlan) (capacity : ℕ) (front rest : List Event) → IsRun p capacity (front ++ rest)
+        → KeepsPromiseNow (after_log p capacity front) }
+    ensures ever_after { (p : SitePlan) (capacity : ℕ) (front rest : List Event) → IsRun p capacity (front ++ rest)
+        → KeepsAddresses (after_log p capacity front) (after_log p capacity (front ++ rest)) }
 {}
