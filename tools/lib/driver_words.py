@@ -6,10 +6,9 @@ import os
 import re
 import shlex
 import shutil
-import signal
 import typing
 
-from lib import ROOT, joining, proving
+from lib import ROOT, joining, programs
 
 OPTIONS = ("--driver", "--driver-timeout")
 # What tools/drive alone takes besides: a file each.
@@ -104,19 +103,16 @@ def files_of(given: dict[str, list[str]]) -> typing.Iterator[dict[str, typing.Bi
 
 
 def program_of(path: str | None) -> tuple[str, int]:
-    """The program dali_commission: this one, or the proved one, which is built where it is missing; and a status, 0 if it is there."""
+    """The program dali_commission: this one, or that of the clone or the package; and a status, 0 if it is there."""
     if path:
         return os.path.abspath(path), 0
-    before = {it: signal.getsignal(it) for it in joining.PASSED}
-    status = proving.build("dali_commission", ["dali_commission"])
-    for number, how in before.items():
-        signal.signal(number, how)
-    return str(proving.workspace()["dali_commission"].made), status
+    program, status = programs.ready("dali_commission")
+    return str(program), status
 
 
 def can_start(title: str, driver: list[str]) -> bool:
     """Whether a driver is a program that can be run. Where it is none, that is said."""
     if shutil.which(driver[0]):
         return True
-    proving.say(f"{title}: the driver '{driver[0]}' cannot be started: it is no program that can be run")
+    programs.say(f"{title}: the driver '{driver[0]}' cannot be started: it is no program that can be run")
     return False

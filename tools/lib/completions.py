@@ -1,0 +1,177 @@
+"""What a shell completes of a call of a launcher, from the tables of its commands and their options: its help texts."""
+
+import re
+import typing
+
+from lib import ROOT, call_words
+
+HELP = ROOT / "tools/lib/help"
+PROGRAMS = ("dali_commission", "dali_sim", "dali_view")
+# An option in a list of them, with the name of its value; in a line that says what a command takes, too.
+LISTED = re.compile(r"^ +(?:-\w, )?(--[\w-]+)(?:[ =]<?([A-Z]+)>?(?= |$))?(?: {2,}(\S.*))?", re.M)
+TAKEN = re.compile(r"(--[\w-]+)(?: ([A-Z]+|[a-z]+(?:\|[a-z]+)+)(?=[\] ]|$))?", re.M)
+# The launcher's lines about what each command takes, and a command with an option of the launcher.
+TAKES, MORE = re.compile(r"^  (\w+)((?: {2,}\S.*\n(?: {4,}\S.*\n)*))", re.M), re.compile(r"^  (\w+) (--[\w-]+) ", re.M)
+CHOICES = re.compile(r"\[possible values: ([^\]]+)\]")
+# The values that are files.
+FILES = ("FILE",)
+# What a COMMAND of a driver is, up to its own words.
+DRIVERS = ("adapters/daliserver", "adapters/simulated")
+EVERYWHERE = {"--help": ""}
+
+
+class Program(typing.NamedTuple):
+    """A launcher: the options of each of its commands, each with the name of its value or its choices; and what is said of each command.
+    The options that are none of a command's stand below no name."""
+
+    name: str
+    options: dict[str, dict[str, str]]
+    about: dict[str, str]
+
+    def commands(self) -> list[str]:
+        return [it for it in self.options if it]
+
+
+def listed(text: str) -> dict[str, str]:
+    """The options of a help text, each with its value, or its choices with strokes between."""
+    found = {}
+    for it in LISTED.finditer(text):
+        rest = re.split(r"\n +(?:-\w, )?--", text[it.end() :])[0]
+        choices = CHOICES.search(rest)
+        found[it[1]] = choices[1].replace(", ", "|") if choices else it[2] or ""
+    return found
+
+
+def program(name: str) -> Program:
+    """What a launcher takes."""
+    texts = [it.read_text() if (it := HELP / f"{name}{end}.txt").exists() else "" for end in ("", "-launcher")]
+    whole, options = "".join(texts), {}
+    for command in call_words.commands(name):
+        own = next((it for it in (HELP / f"{name}-{command}.txt", HELP / f"dali_{command}.txt") if it.exists()), None)
+        options[command] = listed(own.read_text()) if own else {}
+    for command, takes in TAKES.findall(whole.partition("What each command takes")[2].partition("\n\n")[0] + "\n"):
+        options.setdefault(command, {}).update({it: options[command].get(it) or value for it, value in TAKEN.findall(takes)})
+    for command, option in MORE.findall(texts[1]):
+        options.setdefault(command, {})[option] = ""
+    about = {it[0]: it[1] for it in re.findall(r"^  (\w+) {2,}([A-Z].*)$", whole, re.M)}
+    alone = {"--help": "", "--version": ""} | ({} if options else listed(whole))
+    return Program(name, {"": alone, **{it: EVERYWHERE | them for it, them in options.items()}}, about)
+
+
+def words(them: dict[str, str]) -> str:
+    return " ".join(sorted(them))
+
+
+def cases(them: Program, what: typing.Callable[[str], str]) -> dict[str, list[str]]:
+    """The options whose values are completed alike, by what completes them."""
+    found: dict[str, list[str]] = {}
+    for options in them.options.values():
+        for option, value in options.items():
+            if value and option not in found.setdefault(what(value), []):
+                found[what(value)].append(option)
+    return found
+
+
+def bash_value(value: str) -> str:
+    """What bash completes a value with."""
+    if value in FILES:
+        return 'COMPREPLY=($(compgen -f -- "$now"))'
+    if "|" in value:
+        return f'COMPREPLY=($(compgen -W "{value.replace("|", " ")}" -- "$now"))'
+    if value == "COMMAND":
+        return f'COMPREPLY=($(compgen -W "{" ".join(DRIVERS)}" -- "$now"))'
+    return "COMPREPLY=()"
+
+
+def bash(them: Program) -> str:
+    name, dashed = them.name, them.name.replace("_", "-")
+    values = "".join(f"    {'|'.join(sorted(it))})\n        {do}\n        return ;;\n" for do, it in cases(them, bash_value).items())
+    options = "".join(f"    {command or '*'}) options='{words(it)}' ;;\n" for command, it in [*list(them.options.items())[1:], ("", them.options[""])])
+    first = f'    [ "$COMP_CWORD" -gt 1 ] || options="{" ".join(them.commands())} $options"\n' if them.commands() else ""
+    return f"""# Completes {dashed} in bash.
+_{name}() {{
+    local now=${{COMP_WORDS[COMP_CWORD]}} before=${{COMP_WORDS[COMP_CWORD-1]}} options
+    case $before in
+{values}    esac
+    case ${{COMP_WORDS[1]}} in
+{options}    esac
+{first}    COMPREPLY=($(compgen -W "$options" -- "$now"))
+    [ "${{#COMPREPLY[@]}}" -gt 0 ] || COMPREPLY=($(compgen -f -- "$now"))
+}}
+complete -o filenames -F _{name} {dashed} {name}
+"""
+
+
+def zsh_value(value: str) -> str:
+    """What zsh completes a value with."""
+    if value in FILES:
+        return ":file:_files"
+    if "|" in value:
+        return f":value:({value.replace('|', ' ')})"
+    if value == "COMMAND":
+        return f":driver:({' '.join(DRIVERS)})"
+    return f":{value.lower()}:"
+
+
+def zsh_options(options: dict[str, str]) -> str:
+    them = [f"'*{it}[{it}]{zsh_value(value) if value else ''}'" for it, value in sorted(options.items())]
+    return " \\\n            ".join([*them, "'*:file:_files'"])
+
+
+def zsh(them: Program) -> str:
+    name, dashed = them.name, them.name.replace("_", "-")
+    if not them.commands():
+        return f"#compdef {dashed} {name}\n_arguments \\\n            {zsh_options(them.options[''])}\n"
+    listed = "\n        ".join("'" + f"{it}:{them.about.get(it, it)}".replace("'", "'\\''") + "'" for it in them.commands())
+    arms = "".join(f"        {it})\n            _arguments {zsh_options(them.options[it])} ;;\n" for it in them.commands())
+    return f"""#compdef {dashed} {name}
+# Completes {dashed} in zsh.
+_{name}() {{
+    local -a listed
+    listed=(
+        {listed}
+    )
+    if (( CURRENT == 2 )); then
+        _describe command listed
+        compadd -- {words(them.options[""])}
+        return
+    fi
+    local command=$words[2]
+    shift words
+    (( CURRENT-- ))
+    case $command in
+{arms}    esac
+}}
+_{name} "$@"
+"""
+
+
+def fish_value(value: str) -> str:
+    """What fish completes a value with."""
+    if value in FILES:
+        return " -r -F"
+    if "|" in value:
+        return f" -x -a '{value.replace('|', ' ')}'"
+    return f" -x -a '{' '.join(DRIVERS)}'" if value == "COMMAND" else " -x"
+
+
+def fish(them: Program) -> str:
+    dashed, lines = them.name.replace("_", "-"), []
+    for name in (dashed, them.name):
+        for it in them.commands():
+            about = them.about.get(it, it).replace("'", "\\'")
+            lines.append(f"complete -c {name} -n __fish_use_subcommand -a {it} -d '{about}'")
+        for command, options in them.options.items():
+            when = f" -n '__fish_seen_subcommand_from {command}'" if command else " -n __fish_use_subcommand" if them.commands() else ""
+            for option, value in sorted(options.items()):
+                lines.append(f"complete -c {name}{when} -l {option[2:]}{fish_value(value) if value else ''}")
+    return f"# Completes {dashed} in fish.\n" + "\n".join(lines) + "\n"
+
+
+def scripts() -> dict[str, str]:
+    """What each shell loads, by the places in which shells look for it."""
+    found = {}
+    for it in map(program, PROGRAMS):
+        dashed = it.name.replace("_", "-")
+        found |= {f"bash/{dashed}": bash(it), f"zsh/_{dashed}": zsh(it), f"fish/{dashed}.fish": fish(it)}
+    return found
