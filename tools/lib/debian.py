@@ -23,6 +23,8 @@ PLACES = {
     "nightly": f"{HOME}/nightly",
     "yolgibat-check@.service": "usr/lib/systemd/system/yolgibat-check@.service",
     "yolgibat-check@.timer": "usr/lib/systemd/system/yolgibat-check@.timer",
+    "yolgibat.desktop": "usr/share/applications/yolgibat.desktop",
+    "yolgibat.svg": "usr/share/icons/hicolor/scalable/apps/yolgibat.svg",
     "overrides": "usr/share/lintian/overrides/yolgibat",
 }
 SCRIPTS = ("postinst", "prerm", "postrm")

@@ -123,6 +123,14 @@ def served(make: collections.abc.Callable[[int, str], "Server"], port: int, kept
     return make(port, kept.token)
 
 
+def tell(address: str, is_opened: bool) -> None:
+    """Says where a page is served, and starts a browser with it if that is wanted."""
+    print(address, flush=True)
+    programs.say("open this address in a browser; interrupt this program when you are done")
+    if is_opened:
+        threading.Thread(target=webbrowser.open, args=(address,), daemon=True).start()
+
+
 def serve(
     make: collections.abc.Callable[[int, str], "Server"], opened: typing.TextIO, port: int, is_opened: bool, end: collections.abc.Callable[[], None]
 ) -> int:
@@ -139,10 +147,7 @@ def serve(
     opened.seek(0)
     opened.truncate()
     print(server.address(), end="", file=opened, flush=True)
-    print(server.address(), flush=True)
-    programs.say("open this address in a browser; interrupt this program when you are done")
-    if is_opened:
-        threading.Thread(target=webbrowser.open, args=(server.address(),), daemon=True).start()
+    tell(server.address(), is_opened)
     server.serve_forever()
     end()
     return 128 + came[0]
