@@ -2,6 +2,7 @@
 
 import collections.abc
 import concurrent.futures
+import contextlib
 import json
 import os
 import re
@@ -17,31 +18,75 @@ BELOW = re.compile(r"bus/([0-9]{1,4})(/.*)?")
 COMMANDS, LANES = ("run", "check"), 8
 
 
+def stamp_of(file: str | os.PathLike[str]) -> tuple[int, int] | None:
+    """What changes if a file does."""
+    try:
+        found = os.stat(file)
+    except OSError:
+        return None
+    return found.st_mtime_ns, found.st_size
+
+
 class Bus(commanding.Bus):
     """A bus of a building. A command has it alone while it goes on; between commands others may work on it, and what they found is read."""
 
-    def __init__(self, building: str, entry: buildings.Entry, program: str) -> None:
-        super().__init__(entry.sites(program)[0])
+    def __init__(self, building: str, entry: buildings.Entry, program: str, number: int, way: "list[Bus]") -> None:
+        site, *more = entry.sites(program)
+        super().__init__(site, (), more)
+        self.read_table()
         self.building, self.name, self.last, self.seen, self.is_well = building, entry.name, None, self.stamp(), False
+        # Its number, the buses of a walk through the building, what holds its lock, and what was told of its luminaires at which stamp.
+        self.number, self.way, self.holds, self.listed = number, way, contextlib.ExitStack(), (None, "")
 
     def stamp(self) -> tuple[object, ...]:
         """What changes if others change the records, or what is odd on the bus."""
-        files = (self.site.records[0], f"{self.site.records[0]}-wal", marks.file_of(self.site.records[0]))
-        found = [os.stat(it) if os.path.exists(it) else None for it in files]
-        return tuple((it.st_mtime_ns, it.st_size) if it else None for it in found)
+        files = [it for file in self.site.records for it in (file, f"{file}-wal")]
+        return tuple(map(stamp_of, (*files, marks.file_of(self.site.records[0]))))
 
     def start(self, name: str, address: object, words: list[str] | None = None) -> commanding.Command:
         try:
-            with working.alone(self.site.records[0]) as number:
-                self.kept = (number,)
-                return super().start(name, address, words)
+            with contextlib.ExitStack() as held:
+                self.kept = (held.enter_context(working.alone(self.site.records[0])),)
+                command = super().start(name, address, words)
+                self.holds = held.pop_all()
+                return command
         except working.Taken as why:
             raise commanding.Busy(str(why)) from why
+
+    def rest(self) -> None:
+        self.holds.close()
+        super().rest()
+
+    def state(self) -> dict[str, typing.Any]:
+        later = self.way[self.way.index(self) + 1 :] if self in self.way else []
+        return super().state() | {"onward": {"number": later[0].number, "name": later[0].name} if later else None}
+
+    def is_placed(self) -> bool:
+        """Whether each luminaire that may blink has a place."""
+        names = places.read(self.names)
+        return all(it["random"] in names for it in self.walkable())
+
+    def changed(self) -> tuple[object, ...]:
+        """What changes if something changes that is known of a luminaire, as far as it was looked at last."""
+        return self.seen, stamp_of(self.names), self.command and self.command.number, self.idle.is_set()
+
+    def luminaires(self) -> str:
+        """The luminaires of this bus as JSON, each as a list, made anew if something has changed, or goes on."""
+        with self.lock:
+            changed = self.changed()
+            if self.listed[0] != changed or not changed[-1]:
+                them = [[self.number, *(it[key] for key in ("address", "random", "place", "is", "heard"))] for it in self.places()]
+                self.listed = changed, json.dumps(them, ensure_ascii=False, separators=(",", ":"))[1:-1]
+            return self.listed[1]
 
     def learn(self, command: commanding.Command, report: dict[str, typing.Any], old: str | None) -> None:
         super().learn(command, report, old)
         if command.name in COMMANDS:
-            self.is_well = command.status == commanding.DONE
+            self.is_well = command.outcome() == commanding.DONE
+
+    def is_stale(self) -> bool:
+        """Whether something may have changed since it was looked at last."""
+        return self.command is not self.last or self.stamp() != self.seen
 
     def refresh(self) -> None:
         """Reads what is known anew, if another than a command of this page has changed it."""
@@ -68,9 +113,9 @@ class Bus(commanding.Bus):
             if not self.idle.is_set():
                 told = command.followed().state()
                 return found | {"is": "busy", "command": command.name, "address": command.address, "found": command.found, **told}
-            is_ill = command and command.status not in commanding.WHOLE
+            is_ill = command and command.outcome() not in commanding.WHOLE
             if is_ill:
-                found |= {"words": commanding.end_of(command.name, command.status), "status": command.status}
+                found |= {"words": commanding.end_of(command.name, command.outcome()), "status": command.outcome()}
             if is_ill or odd or silent or missing or self.unaddressed or self.trouble:
                 return found | {"is": "look"}
             is_well = self.is_well or self.checked is not None
@@ -81,16 +126,14 @@ class Server(serving.Server):
     """The server of a building."""
 
     def __init__(self, name: str, them: list[Bus], port: int, token: str) -> None:
-        self.name, self.buses, page = name, them, serving.source(PAGE)
+        self.name, self.buses, self.way, page = name, them, them[0].way, serving.source(PAGE)
         self.building_pages = {it: serving.filled(page, it) for it in texts.languages()}
         self.building_policy = serving.policy(page)
         super().__init__(None, port, token, Handler)
 
     def stamp(self) -> str:
         """What changes if something changes that is known of a luminaire."""
-        names = [os.stat(it.names).st_mtime_ns if os.path.exists(it.names) else 0 for it in self.buses]
-        told = [(it.stamp(), it.command and (it.command.number, it.command.status)) for it in self.buses]
-        return f"{zlib.crc32(repr((names, told)).encode()):08X}"
+        return f"{zlib.crc32(repr([it.changed() for it in self.buses]).encode()):08X}"
 
     def each(self, numbers: collections.abc.Iterable[int], call: collections.abc.Callable[[Bus], None]) -> None:
         with concurrent.futures.ThreadPoolExecutor(LANES) as lanes:
@@ -131,7 +174,7 @@ class Handler(serving.Handler):
         if not re.match(r"/[^/]*/bus/", self.path):
             known = {
                 "GET": {"": self.show_all, "state": self.tell_all, "luminaires": self.tell_luminaires, "table.csv": self.tell_whole_csv},
-                "POST": {"do": self.do_all, "stop": self.stop_all},
+                "POST": {"do": self.do_all, "walk": self.walk_all, "stop": self.stop_all},
             }[self.command]
         super().answer(known)
 
@@ -140,19 +183,17 @@ class Handler(serving.Handler):
         self.write(200, "text/html", page, policy=self.server.building_policy)
 
     def tell_all(self) -> None:
-        self.server.each(range(len(self.server.buses)), Bus.refresh)
+        self.server.each([it.number for it in self.server.buses if it.is_stale()], Bus.refresh)
         them = [it.summary() for it in self.server.buses]
         for it in them:
             it["trouble"] = it["trouble"] and " ".join(map(self.said, it["trouble"].splitlines()))
         found = {"name": self.server.name, "version": commanding.VERSION, "trouble": None, "stamp": self.server.stamp(), "buses": them}
+        found["way"] = self.server.way[0].number if self.server.way else None
         self.write(200, "application/json", json.dumps(found))
 
     def tell_luminaires(self) -> None:
-        stamp, found = self.server.stamp(), []
-        for number, bus in enumerate(self.server.buses):
-            with bus.lock:
-                found += [[number, *(it[key] for key in ("address", "random", "place", "is", "heard"))] for it in bus.places()]
-        self.write(200, "application/json", json.dumps({"stamp": stamp, "luminaires": found}, ensure_ascii=False, separators=(",", ":")))
+        stamp, found = self.server.stamp(), ",".join(filter(None, (it.luminaires() for it in self.server.buses)))
+        self.write(200, "application/json", f'{{"stamp":"{stamp}","luminaires":[{found}]}}')
 
     def tell_whole_csv(self) -> None:
         them = [{"bus": bus.name, **it} for bus in self.server.buses for it in places.rows(bus.table, places.read(bus.names))]
@@ -162,11 +203,9 @@ class Handler(serving.Handler):
     def do_all(self) -> None:
         """Begins a command on many buses. One on which something goes on is left as it is."""
         asked = self.body()
-        name, numbers = asked.get("command"), asked.get("buses")
-        is_well = isinstance(numbers, list) and all(type(it) is int and 0 <= it < len(self.server.buses) for it in numbers)
-        if name not in COMMANDS or not is_well:
-            raise commanding.Bad("a command and the numbers of buses are wanted")
-        refused = []
+        name, numbers, refused = asked.get("command"), self.numbers_of(asked), []
+        if name not in COMMANDS:
+            raise commanding.Bad("this is none of the commands")
 
         def begin(bus: Bus) -> None:
             try:
@@ -179,6 +218,20 @@ class Handler(serving.Handler):
             raise commanding.Busy(refused[0])
         self.tell_all()
 
+    def numbers_of(self, asked: dict[str, typing.Any]) -> list[int]:
+        """The numbers of the buses that a page asks for."""
+        numbers = asked.get("buses")
+        if not isinstance(numbers, list) or not all(type(it) is int and 0 <= it < len(self.server.buses) for it in numbers):
+            raise commanding.Bad("the numbers of buses are wanted")
+        return numbers
+
+    def walk_all(self) -> None:
+        """A walk goes by these buses: by those that have a luminaire without place, or by all if none has. Their pages lead on."""
+        them = [self.server.buses[it] for it in self.numbers_of(self.body())]
+        them = [it for it in them if it.walkable()]
+        self.server.way[:] = [it for it in them if not it.is_placed()] or them
+        self.tell_all()
+
     def stop_all(self) -> None:
         self.body()
         for it in self.server.buses:
@@ -188,5 +241,14 @@ class Handler(serving.Handler):
 
 def made(building: buildings.Building, program: str) -> list[Bus]:
     """The buses of a building, each with what is known of it."""
+    way: list[Bus] = []
+
+    def make(number: int) -> Bus:
+        bus = Bus(building.name, building.entries[number], program, number, way)
+        # So the page has not to wait for it.
+        with contextlib.suppress(places.Unreadable):
+            bus.luminaires()
+        return bus
+
     with concurrent.futures.ThreadPoolExecutor(LANES) as lanes:
-        return list(lanes.map(lambda it: Bus(building.name, it, program), building.entries))
+        return list(lanes.map(make, range(len(building.entries))))

@@ -28,9 +28,11 @@ PATIENCE = 8
 PROGRESS = re.compile(r"(\d+) gear found, \d+ frames, (\d+) addresses left")
 INPUT_ENDED = re.compile(r"error: line \d+ of the driver: end of input")
 # The statuses of which something more is known; all of a signal are one.
-DONE, NOT_SO, NOBODY, SHARED, STOPPED = 0, 1, 10, 13, 128
+DONE, NOT_SO, BLOCK_FULL, GAVE_UP, NOBODY, SHARED, STOPPED = 0, 1, 6, 7, 10, 13, 128
 # Those of a command that has done all of its asking, whatever it found.
 WHOLE = (DONE, NOT_SO, SHARED)
+# What the controllers of a bus do in turn, each over its own records.
+IN_TURN = ("run", "check")
 # What is known of a short address that `mend` is for.
 MENDS = ("left-alone", "several", "unclear", "strangers", "unclear-strangers")
 # The words of an end, and what can be done, stand in tools/lib/texts: by command and status, or by status alone.
@@ -112,6 +114,17 @@ def object_of(text: bytes) -> dict[str, typing.Any]:
     return value if isinstance(value, dict) else {}
 
 
+def merged(reports: list[dict[str, typing.Any]]) -> dict[str, typing.Any]:
+    """What the controllers of a bus reported in turn, as one report."""
+    found = dict(reports[-1])
+    for key in ("left_alone", "missing", "strangers"):
+        them = [one for it in reports for one in it.get(key, [])]
+        found |= {key: [it for at, it in enumerate(them) if it not in them[:at]]} if key in found else {}
+    if "unaddressed" in found:
+        found["unaddressed"] = any(it.get("unaddressed") for it in reports) or found["unaddressed"]
+    return found
+
+
 def unfinished_address(records: str) -> int | None:
     """The short address whose replacement is not finished, as the journal beside a file says it."""
     try:
@@ -125,10 +138,13 @@ class Command:
     """A command that goes on, or has ended: what it says, how far it is, and the story of its frames, in memory.
 
     number  how many commands were begun before
+    before  the commands of the controllers that had their turn before this one
     """
 
-    def __init__(self, site: Site, number: int, name: str, address: int | None, words: list[str], kept: tuple[int, ...]) -> None:
-        self.number, self.name, self.address, self.begun, self.said = number, name, address, time.time(), []
+    def __init__(
+        self, site: Site, number: int, name: str, address: int | None, words: list[str], kept: tuple[int, ...], before: "tuple[Command, ...]" = ()
+    ) -> None:
+        self.number, self.name, self.address, self.begun, self.said, self.before = number, name, address, time.time(), [], before
         self.found = self.left = self.status = self.ended = None
         self.is_stopped, self.report, self.lock = False, {}, threading.Lock()
         how = {"stdin": subprocess.DEVNULL, "stdout": subprocess.PIPE, "stderr": subprocess.PIPE, "start_new_session": True}
@@ -160,6 +176,10 @@ class Command:
         elif line and not (self.is_stopped and INPUT_ENDED.fullmatch(line)):
             self.said = [*self.said[1 - LINES :], line]
 
+    def outcome(self) -> int | None:
+        """The worst status of all turns. If a block is full, the next controller serves the rest."""
+        return None if self.status is None else max([self.status, *(it.status for it in self.before if it.status != BLOCK_FULL)])
+
     def told(self, begin: int) -> bytes:
         """The lines of its story from a byte on, as far as they are whole."""
         came = os.pread(self.story, MUCH, begin)
@@ -188,29 +208,30 @@ class Command:
         """What a page shows of it. These short addresses have somebody who is not understood, or not as is recorded; these nobody who answers."""
         followed = self.followed().state()
         state = {"command": self.name, "address": self.address, "begun": self.begun, "said": self.said, **followed}
-        state |= {"found": self.found, "left": self.left, "stopped": self.is_stopped, "status": self.status}
+        state |= {"found": self.found, "left": self.left, "stopped": self.is_stopped, "status": self.outcome()}
         state |= {"lit": self.address in self.follower.lit, "seconds": (self.ended or time.time()) - self.begun, "since": self.since}
         if self.status is not None:
             state |= {"frames": self.report.get("frames", followed["frames"]), "end": self.report.get("end")}
-            words = end_of(self.name, self.status, odd, silent)
-            state |= {"words": words, "look": look_of(self.status, words)}
+            words = end_of(self.name, self.outcome(), odd, silent)
+            state |= {"words": words, "look": look_of(self.outcome(), words)}
         return state
 
 
 class Bus:
     """What is known of a bus, and the command that goes on over it. Threads share it.
 
-    kept  the descriptors that a command keeps open until it has ended
-    name  what it is called, and `building` the building that it is in, if it is in one
+    kept   the descriptors that a command keeps open until it has ended
+    sites  what it is to each of its controllers that are served here; they take turns
+    name   what it is called, and `building` the building that it is in, if it is in one
     """
 
     building: str | None = None
 
-    def __init__(self, site: Site, kept: tuple[int, ...] = ()) -> None:
-        self.site, self.kept, self.lock, self.idle = site, kept, threading.RLock(), threading.Event()
+    def __init__(self, site: Site, kept: tuple[int, ...] = (), more: typing.Sequence[Site] = ()) -> None:
+        self.site, self.kept, self.sites, self.lock, self.idle = site, kept, (site, *more), threading.RLock(), threading.Event()
         self.names, self.command, self.trouble = places.file_of(site.records[0]), None, None
         self.name = self.names.name.removesuffix(places.ENDING)
-        # The table, who of it was there and who was silent when asked last; what the last check found beside it, and when; the addresses that
+        # The table as it was read last, who of it was there and who was silent when asked last; what the last check found beside it, and when; the addresses that
         # the last run left alone.
         self.table, self.there, self.silent, self.unaddressed = [], set(), set(), None
         self.left_alone, self.strangers, self.missing, self.checked = marks.read(marks.file_of(site.records[0]))
@@ -218,25 +239,34 @@ class Bus:
         # one has been at and how many it has left, until something else begins.
         self.walk, self.turns, self.walked = None, 0, None
         self.idle.set()
-        self.read_table()
 
     def read_table(self) -> None:
-        """Reads the table, unless a command goes on, which tells it at its end."""
+        """Reads the tables of all controllers as one, unless a command goes on, which tells it at its end."""
         with self.lock:
-            if not self.idle.is_set():
+            if self.idle.is_set():
+                self.read_tables()
+
+    def read_tables(self) -> None:
+        found = {}
+        for it in self.sites:
+            rows, self.trouble = self.rows_of(it.records[0])
+            if self.trouble:
                 return
-            words = [self.site.program, "table", "--json", "--records", self.site.records[0]]
-            is_there = os.path.exists(self.site.records[0]) or unfinished_address(self.site.records[0]) is not None
-            if not is_there:
-                self.table, self.trouble = [], None
-                return
-            try:
-                done = subprocess.run(words, stdin=subprocess.DEVNULL, capture_output=True, timeout=60)
-                said = done.stderr.decode(errors="replace").strip()
-                self.trouble = None if done.returncode == 0 else said or end_of("table", done.returncode)
-                self.table = json.loads(done.stdout) if done.returncode == 0 else self.table
-            except (OSError, ValueError, subprocess.TimeoutExpired) as why:
-                self.trouble = str(why)
+            found |= {row["address"]: row for row in rows}
+        self.table = list(found.values())
+
+    def rows_of(self, records: str) -> tuple[list[places.Row], str | None]:
+        """The table of a file, and what is wrong with it."""
+        if not os.path.exists(records) and unfinished_address(records) is None:
+            return [], None
+        try:
+            words = [self.site.program, "table", "--json", "--records", records]
+            done = subprocess.run(words, stdin=subprocess.DEVNULL, capture_output=True, timeout=60)
+            if done.returncode:
+                return [], done.stderr.decode(errors="replace").strip() or end_of("table", done.returncode)
+            return json.loads(done.stdout), None
+        except (OSError, ValueError, subprocess.TimeoutExpired) as why:
+            return [], str(why)
 
     def begin(self, name: object, address: object = None, missing: object = ()) -> None:
         """Begins a command, if none goes on, and no walk."""
@@ -255,13 +285,17 @@ class Bus:
             raise Busy(f"{self.command.name} goes on")
         words = words or words_of(self.site, name, address, ())
         old = next((it["random"] for it in self.table if it["address"] == address), None)
-        number = self.command.number + 1 if self.command else 0
-        if self.command:
-            os.close(self.command.story)
-        self.command = Command(self.site, number, name, address if isinstance(address, int) else None, words, self.kept)
+        self.start_turn(name, address if isinstance(address, int) else None, words)
         self.idle.clear()
         threading.Thread(target=self.follow, args=(self.command, old), daemon=True).start()
         return self.command
+
+    def start_turn(self, name: str, address: int | None, words: list[str], before: tuple[Command, ...] = ()) -> None:
+        """Begins the command of the next controller."""
+        number, story = (self.command.number + 1, self.command.story) if self.command else (0, None)
+        self.command = Command(self.sites[len(before)], number, name, address, words, self.kept, before)
+        if story is not None:
+            os.close(story)
 
     def walking(self) -> "walking.Walk | None":
         """The walk that goes on."""
@@ -274,19 +308,43 @@ class Bus:
         """The luminaires of the table that may blink."""
         return [it for it in self.table if (it["address"], it["random"]) not in self.missing]
 
-    def follow(self, command: Command, old: str | None) -> None:
-        """Waits for the end of a command, and takes what it found."""
-        command.follow()
-        with self.lock:
-            command.followed()
-            self.idle.set()
-            self.read_table()
-            try:
-                self.learn(command, command.report, old)
-                kept = marks.Marks(self.left_alone, self.strangers, self.missing, self.checked)
-                marks.keep(marks.file_of(self.site.records[0]), kept)
-            except (KeyError, TypeError, OSError, places.Unreadable) as why:
-                command.hear(f"what it came to is not known: {why}")
+    def follow(self, command: Command | None, old: str | None) -> None:
+        """Waits for the end of a command, and takes what it found. Then the next controller has its turn, if there is one."""
+        while command:
+            command.follow()
+            with self.lock:
+                command.followed()
+                turns = (*command.before, command)
+                more = self.sites[len(turns) :] if command.name in IN_TURN and not command.is_stopped else ()
+                if not more:
+                    self.rest()
+                self.read_tables()
+                self.take(command, old)
+                command = self.next(command, more[0], turns) if more else None
+
+    def next(self, command: Command, site: Site, turns: tuple[Command, ...]) -> Command | None:
+        """The command of the next controller, which begins."""
+        try:
+            self.start_turn(command.name, None, words_of(site, command.name, None, ()), turns)
+            return self.command
+        except OSError as why:
+            command.status = joining.NOT_STARTED
+            command.hear(f"the next controller cannot begin: {why.strerror}")
+            self.rest()
+            return None
+
+    def rest(self) -> None:
+        """Nothing goes on any more."""
+        self.idle.set()
+
+    def take(self, command: Command, old: str | None) -> None:
+        """Takes what a command found, and keeps it."""
+        try:
+            self.learn(command, command.report, old)
+            kept = marks.Marks(self.left_alone, self.strangers, self.missing, self.checked)
+            marks.keep(marks.file_of(self.site.records[0]), kept)
+        except (KeyError, TypeError, OSError, places.Unreadable) as why:
+            command.hear(f"what it came to is not known: {why}")
 
     def learn(self, command: Command, report: dict[str, typing.Any], old: str | None) -> None:
         """Takes what a command found. What is odd stays so until a check finds otherwise, or a replacement has heard the new luminaire there."""
@@ -308,7 +366,10 @@ class Bus:
             for at in {*them} - {*report["left_alone"]}:
                 self.left_alone = [it for it in self.left_alone if it != at]
                 self.strangers.pop(at, None)
-        if command.name == "check" and command.status in (*WHOLE, NOBODY):
+        turns = (*command.before, command)
+        is_whole = len(turns) == len(self.sites) and all(it.status in (*WHOLE, NOBODY) for it in turns)
+        if command.name == "check" and is_whole:
+            report = merged([it.report for it in turns])
             self.strangers, self.left_alone, self.checked = odd_of(report), [], time.time()
             self.missing, self.silent = {(it, pairs.get(it)) for it in report["missing"]}, set()
             self.there = {it for it in pairs.items() if it not in self.missing and it[0] not in self.strangers}
@@ -393,10 +454,10 @@ class Bus:
             command = self.command.state(odd, silent) if self.command else None
             return {
                 "site": self.name, "building": self.building, "version": VERSION, "records": self.site.records,
-                "block": self.site.block, "driver": self.site.title, "trouble": trouble, "busy": not self.idle.is_set(), "command": command,
+                "block": ", ".join(it.block for it in self.sites), "driver": self.site.title, "trouble": trouble, "busy": not self.idle.is_set(), "command": command,
                 "places": them, "odd": odd, "silent": silent, "spare": spare,
                 "unaddressed": self.unaddressed, "checked": self.checked, "unfinished": unfinished,
-                "walk": walk.state() if walk else None, "walked": self.walked,
+                "walk": walk.state() if walk else None, "walked": self.walked, "onward": None,
             }
 
     def numbers(self) -> dict[str, serials.Serial]:

@@ -270,6 +270,23 @@ MANY = 40
 ROOMS = (0, 1, 2, 3, 16, 40, *range(63, 69), 70, 72, 80, 100, 120, *range(127, 135), 136, 140, 150)
 
 
+@contextlib.contextmanager
+def small_disk(folder: pathlib.Path, size: str) -> typing.Iterator[bool]:
+    """A disk of this size in the memory. Whether it can be had."""
+    folder.mkdir()
+    mount = ["mount", "-t", "tmpfs", "-o", f"size={size}", "none", folder]
+    done = subprocess.run(mount, capture_output=True, text=True)
+    if done.returncode:
+        why = " ".join(done.stderr.split())
+        print(f"not checked: a full disk; it needs root, and leave to mount: {why}", flush=True)
+        yield False
+        return
+    try:
+        yield True
+    finally:
+        subprocess.run(["umount", folder])
+
+
 def filled(folder: pathlib.Path, room: int) -> None:
     """A small disk with so many bytes left."""
     with open(folder / "filler", "wb") as filler:

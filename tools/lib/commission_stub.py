@@ -4,7 +4,8 @@
 The file of the records is JSON, a random address for each short one. The file that BUS names, or else `bus.json` beside the records, has
 the random addresses of the gear that are there. A frame is put for each gear; while a file `hold` lies beside that one, it waits at the
 second. A file `odd` there has short addresses at which several gear answer, of which `mend` leaves those that a file `stuck` has; a file
-`dark` has those at which none does. A run asks those that a file `asked` has for their random addresses before all else.
+`dark` has those at which none does. A run asks those that a file `asked` has for their random addresses before all else. It gives
+addresses of its block, and gives up as often as a file `lost` has members.
 """
 
 import contextlib
@@ -55,13 +56,19 @@ def ended(end: str, status: int, records: dict[str, str], **more: object) -> Non
     sys.exit(status)
 
 
-def run(file: pathlib.Path, records: dict[str, str], gear: list[str]) -> None:
+def run(file: pathlib.Path, records: dict[str, str], gear: list[str], block: str) -> None:
+    first, last = map(int, block.split("-"))
+    if lost := beside("lost"):
+        bus().with_name("lost").write_text(json.dumps(lost[1:]))
+        say("frames were lost eight times in a row")
+        say("ended: gave-up")
+        ended("gave-up", 7, records)
     for frame in (f"{2 * it + 1:02X}{part}" for it in beside("asked") for part in ("C2", "C3", "C4")):
         put(frame, 1)
     for number, random in enumerate(gear, 1):
         put("A900", number)
         if random not in records.values():
-            records[str(next(it for it in range(64) if str(it) not in records))] = random
+            records[str(next(it for it in range(first, last + 1) if str(it) not in records))] = random
             new = file.with_name(f"{file.name}.written")
             new.write_text(json.dumps(records))
             new.replace(file)
@@ -135,7 +142,7 @@ def main(task: str, *words: str) -> None:
             say(f"error: {file}: another program has the file open")
             sys.exit(5)
         if task == "run":
-            run(file, records, gear)
+            run(file, records, gear, words[-1])
         elif task == "check":
             check(records, gear)
         elif task == "identify":

@@ -15,8 +15,10 @@ from lib import buildings, commanding, places
 # How often it is looked how far all are, in seconds; and how often that is said if no terminal shows it.
 LOOKS, SAYS = 0.5, 20
 NO_RECORDS, NOT_STARTED = 5, 127
-# What a bus is said to do before it is begun.
-WAITS = "waits"
+# How often a bus is run that gives up: that may be due to a single answer that was disturbed, and the next run goes on.
+TRIES = 3
+# What a bus is said to do before it is begun, and what the last line of a program begins with if the line before it may say why.
+WAITS, ENDED = "waits", "ended: "
 
 
 class Taken(Exception):
@@ -37,6 +39,11 @@ def alone(records: str) -> collections.abc.Iterator[int]:
         raise Taken(f"error: {records}: a page, or another command of a building, uses this bus") from None
     finally:
         os.close(number)
+
+
+def said_of(command: commanding.Command) -> str | None:
+    """What a command said last; with the line before it if that says why it ended so."""
+    return "; ".join(command.said[-2 if command.said[-1].startswith(ENDED) else -1 :]) if command.said else None
 
 
 class Job:
@@ -70,20 +77,27 @@ class Job:
         self.said = said if status else self.said
 
     def command_all(self, kept: int) -> None:
-        sites = self.entry.sites(self.program)
-        for site in sites[:1] if self.command == "replace" else sites:
-            if self.stopped:
-                self.end(commanding.STOPPED + self.stopped, "not begun" if not self.reports else "stopped")
-                return
-            bus = self.bus = commanding.Bus(site, (kept,))
+        if self.stopped:
+            self.end(commanding.STOPPED + self.stopped, "not begun")
+            return
+        site, *more = self.entry.sites(self.program)
+        bus = self.bus = commanding.Bus(site, (kept,), more)
+        if self.command == "replace":
+            bus.read_table()
+        for _ in range(TRIES if self.command == "run" else 1):
             bus.begin(self.command, self.address, self.missing)
             if self.stopped:
                 bus.stop()
             bus.idle.wait()
-            # The bus has its lock until it has learnt what came of it.
-            with bus.lock:
-                self.reports.append(bus.command.report)
-                self.end(bus.command.status, (bus.command.said or [None])[-1])
+            if self.stopped or bus.command.outcome() != commanding.GAVE_UP:
+                break
+        # The bus has its lock until it has learnt what came of it.
+        with bus.lock:
+            for it in (*bus.command.before, bus.command):
+                self.reports.append(it.report)
+                self.end(it.status, said_of(it))
+            if self.stopped and len(self.reports) <= len(more) and self.command in commanding.IN_TURN:
+                self.end(commanding.STOPPED + self.stopped, "stopped")
 
     def stop(self, number: int) -> None:
         """Stops what goes on, since a signal came."""
@@ -103,15 +117,16 @@ class Job:
         self.rows = places.rows([rows[it] for it in sorted(rows)], names)
 
     def status(self) -> int:
-        """The worst one."""
-        return max(self.statuses, default=0)
+        """The worst one. A controller whose block is full is none that went wrong if a later one served the rest."""
+        return max([it for it in self.statuses[:-1] if it != commanding.BLOCK_FULL] + self.statuses[-1:], default=0)
 
     def far(self) -> str:
         """How far it is, in a few words."""
-        command = self.bus and self.bus.command
-        if not command:
+        if not (self.bus and self.bus.command):
             return WAITS
-        told = command.followed().state()
+        with self.bus.lock:
+            command = self.bus.command
+            told = command.followed().state()
         phase = {"asking": f"asking short address {told['at']}", "searching": "searching", "giving": f"giving short address {told['at']}"}
         parts = [phase.get(told["phase"], "begins"), f"{command.found or 0} gear found" if self.command == "run" else "", f"{told['frames']} frames"]
         return ", ".join(filter(None, [f"pass {told['pass']}" if self.command == "run" and told["pass"] else "", *parts]))
