@@ -6,11 +6,14 @@ use Rattle.clap.specs.declared.builder.action.ArgAction.TheVariants.{Set, SetTru
 use Rattle.clap.specs.declared.builder.arg.Arg.{Arg}
 use Rattle.clap.specs.declared.builder.value_parser.ValueParser.{ValueParser}
 use Rattle.clap.specs.declared.builder.value_parser.ValueParser.TheVariants as parser
+use Rattle.clap.specs.declared.builder.command.Command.{Command}
+use Rattle.clap.specs.Built.{AddsArg, AddsSubcommand, AddsInTurn}
 use Rattle.clap.specs.Texts.{items_of}
 use Rattle.dali_words.specs.declared.program.Value.{Value}
 use Rattle.dali_words.specs.declared.program.Value.TheVariants as value
 use Rattle.dali_words.specs.declared.program.WordKind.{WordKind}
 use Rattle.dali_words.specs.declared.program.WordKind.TheVariants as kind
+use Rattle.dali_words.specs.declared.program.Subcommand.{Subcommand}
 use Rattle.dali_words.specs.declared.program.Word.{Word}
 
 -- WHICH WORDS have to be there
@@ -65,3 +68,27 @@ abbrev pub AddsArguments : List Arg → List Word → List Arg → Type 0
 AddsArguments args [] more = more ≡ args
 AddsArguments args (word ∷ words) more =
     (arg : Arg) × IsArgument word arg × AddsArguments (args ++ arg ∷ []) words more
+
+-- A COMMAND of `clap` that is a subcommand: it has an argument for each word, in their order
+abbrev pub IsCommandOf : List Word → Command → Type 0
+IsCommandOf words command =
+    (args : List Arg)
+    × (begun : Command)
+    × AddsArguments [] words args
+    × AddsInTurn AddsArg begun args command
+
+-- commands behind those of a list: one for each subcommand, in their order
+abbrev pub AddsCommands : List Command → List Subcommand → List Command → Type 0
+AddsCommands commands [] more = more ≡ commands
+AddsCommands commands (from ∷ all) more =
+    (command : Command)
+    × IsCommandOf from.words.now command
+    × AddsCommands (commands ++ command ∷ []) all more
+
+-- a program has a command for each of its subcommands
+abbrev pub IsProgram : List Subcommand → Command → Type 0
+IsProgram all command =
+    (commands : List Command)
+    × (begun : Command)
+    × AddsCommands [] all commands
+    × AddsInTurn AddsSubcommand begun commands command

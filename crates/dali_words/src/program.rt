@@ -1,9 +1,9 @@
 //! The words that a program knows, as a table, of which `clap` makes its command.
 
-ghost use Rattle.std.specs.Prelude.{◌≡◌, ◌++◌, ◌∷◌, [], true, None, Some, IfOk, IsOkAnd, OnOk};
+ghost use Rattle.std.specs.Prelude.{◌≡◌, [], true, None, Some, IfOk, OnOk};
 ghost use Rattle.clap.specs.Texts.{items_of};
 ghost use Rattle.dali_words.specs.Arguments.{is_needed, action_of, tested, value_of, default_of};
-ghost use Rattle.dali_words.specs.Arguments.{IsArgument, AddsArguments};
+ghost use Rattle.dali_words.specs.Arguments.{IsArgument, AddsArguments, IsCommandOf, AddsCommands, IsProgram};
 
 use clap::builder::ValueParser;
 use clap::{Arg, ArgAction, Command};
@@ -206,14 +206,6 @@ fn arg<'a>(alloc: Global, word: &Word) -> Result<Arg<'a>, AllocError>
     bounded(spelled(arg, word), kind)
 }
 
-/// Adds what was made to a list.
-fn add<T: Drop>(list: &mut Vec<T>, made: Result<T, AllocError>) -> Result<(), AllocError>
-    ensures { OnOk result (IsOkAnd made (λ item. list.new.items ≡ list.old.items ++ item ∷ [])) }
-{
-    list.push(made?)?;
-    Ok(())
-}
-
 /// Adds the arguments that these words are, in their order.
 fn push_args<'a>(args: &mut Vec<Arg<'a>>, alloc: Global, words: &[Word]) -> Result<(), AllocError>
     ensures { OnOk result (AddsArguments args.old.items words.now args.new.items) }
@@ -240,7 +232,9 @@ pub(crate) fn command_of<'a>(
     alloc: Global,
     name: &'a str,
     from: &Subcommand,
-) -> Result<Command<'a>, AllocError> {
+) -> Result<Command<'a>, AllocError>
+    ensures { IfOk result (IsCommandOf from.now.words.now) }
+{
     let mut command = Command::new(alloc, name).about(from.about);
     if let Some(text) = from.long_about {
         command = command.long_about(text);
@@ -251,19 +245,28 @@ pub(crate) fn command_of<'a>(
     command.args(args(alloc, from.words)?)
 }
 
-fn subcommands<'a>(
+/// Adds the commands that these subcommands are, in their order.
+fn push_commands<'a>(
     alloc: Global,
     all: &'static [Subcommand],
-) -> Result<Vec<Command<'a>>, AllocError> {
-    let mut commands = Vec::new(alloc);
-    for from in all {
-        add(&mut commands, command_of(alloc, from.name, from))?;
-    }
-    Ok(commands)
+    commands: &mut Vec<Command<'a>>,
+) -> Result<(), AllocError>
+    ensures { OnOk result (AddsCommands commands.old.items all.now commands.new.items) }
+{
+    let [from, more @ ..] = all else {
+        return Ok(());
+    };
+    let command = command_of(alloc, from.name, from)?;
+    commands.push(command)?;
+    push_commands(alloc, more, commands)
 }
 
 /// The command of `clap` that a program is.
-pub(crate) fn command<'a>(alloc: Global, program: &Program) -> Result<Command<'a>, AllocError> {
+pub(crate) fn command<'a>(alloc: Global, program: &Program) -> Result<Command<'a>, AllocError>
+    ensures { IfOk result (IsProgram program.now.subcommands.now) }
+{
+    let mut commands = Vec::new(alloc);
+    push_commands(alloc, program.subcommands, &mut commands)?;
     let mut command = Command::new(alloc, program.name)
         .version(VERSION)
         .about(program.about);
@@ -273,5 +276,5 @@ pub(crate) fn command<'a>(alloc: Global, program: &Program) -> Result<Command<'a
     command
         .after_help(program.after_help)
         .subcommand_required(true)
-        .subcommands(subcommands(alloc, program.subcommands)?)
+        .subcommands(commands)
 }

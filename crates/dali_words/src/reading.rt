@@ -1,8 +1,11 @@
 //! A command line is read, and it is said what is wrong with it.
 
-ghost use Rattle.std.specs.Prelude.{◌≡◌, Some, IfOk, IfSome, option_map, find, bytes_eq, string_bytes};
+ghost use Rattle.std.specs.Prelude.{◌≡◌, Some, Ok, IfOk, IfSome, option_map, find, bytes_eq, string_bytes};
+ghost use Rattle.clap.specs.declared.builder.command.Command.{Command};
+ghost use Rattle.clap.specs.Built.{IsParsedFrom};
 ghost use Rattle.clap.specs.Words.{subcommand_name_of, kind_of};
 ghost use Rattle.dali_words.specs.Answered.{answered, kind_of_fault};
+ghost use Rattle.dali_words.specs.Arguments.{IsProgram};
 
 use crate::line::{CommandLine, LineFault, NO_SUBCOMMAND};
 use crate::program::{Program, Subcommand, command, command_of};
@@ -52,7 +55,10 @@ fn matches<'a>(
     alloc: Global,
     program: &Program,
     words: &'a [String],
-) -> Result<ArgMatches<'a>, Error> {
+) -> Result<ArgMatches<'a>, Error>
+    ensures { IfOk result (λ found. (command : Command) × IsProgram program.now.subcommands.now command
+        × IsParsedFrom command found) }
+{
     command(alloc, program)?.try_get_matches_from(words)
 }
 
@@ -81,6 +87,7 @@ fn read<T, F: FnOnce(Global, &CommandLine) -> Result<T, LineFault>>(
     task: F,
 ) -> Result<T, Error>
     requires { F.IsAlwaysCallable task }
+    ensures { IfOk result (λ asked. (line : _) × F.post task alloc line (Ok asked)) }
 {
     let (from, line) = line(alloc, program, &matches(alloc, program, words)?)?;
     match task(alloc, &line) {
@@ -118,6 +125,8 @@ where
     S: Env + Print + Eprint + AllocGlobal,
     F: FnOnce(Global, &CommandLine) -> Result<T, LineFault>,
     requires { F.IsAlwaysCallable task }
+    ensures { IfOk result (λ found. IfSome found (λ asked. (alloc : _) × (line : _)
+        × F.post task alloc line (Ok asked))) }
 {
     match read(system.alloc(), program, &words(system)?, task) {
         Ok(task) => Ok(Some(task)),
