@@ -48,12 +48,22 @@ impl Failed for Ended {
 }
 
 impl From<io::Error> for Ended {
+    ghost use Rattle.std.specs.Prelude.{◌≡◌};
+    ghost use Rattle.dali_auditor.specs.declared.ended.Ended.TheVariants.{Refused};
+
+    ghost from_gives = { λ _ ended. ended ≡ Refused };
+
     fn from(_error: io::Error) -> Ended {
         Ended::Refused
     }
 }
 
 impl From<BenchError> for Ended {
+    ghost use Rattle.std.specs.Prelude.{◌≡◌};
+    ghost use Rattle.dali_auditor.specs.Ends.{ended_by};
+
+    ghost from_gives = { λ error ended. ended ≡ ended_by error };
+
     fn from(error: BenchError) -> Ended {
         match error {
             BenchError::NoMemory => Ended::Refused,

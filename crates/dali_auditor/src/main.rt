@@ -5,6 +5,9 @@
 //! log, `--bench` for a script of a bench.
 #![tactic(auto)]
 
+ghost use Rattle.std.specs.Prelude.{◌≡◌};
+ghost use Rattle.dali_auditor.specs.Ends.{judged};
+
 mod asked;
 mod ended;
 
@@ -43,7 +46,9 @@ fn audit<R: Input + Print + AllocGlobal>(rt: &R, asked: Asked<'_>) -> Result<(),
 }
 
 /// How the program ends that has judged a capture.
-fn judged(is_clean: bool) -> Result<(), Ended> {
+fn judged(is_clean: bool) -> Result<(), Ended>
+    ensures { result ≡ judged is_clean }
+{
     if is_clean { Ok(()) } else { Err(Ended::Broken) }
 }
 
