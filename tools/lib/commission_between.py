@@ -12,7 +12,6 @@ PLAN is JSON:
                 (null: with any): `before` the driver has the frame, `unheard`, before the program is told of it, or `after`,
                 so many seconds later. Where it is_cut, the driver is killed with it
     garbled     address byte and opcode byte of a frame: when the driver tells silence of it, the program is told `damaged`
-    dark        from this line on the driver is not asked any more: silence is told of each frame, as if no gear had power
     fault       {at, kind, text}: at this line, `text` is told in hexadecimal digits, and then no more where `kind` is `ends`.
                 `mute` tells nothing and waits, `stalls` does until its input ends, `closed` reads no more. Where `kind` is
                 `ahead` or `beside`, the driver has the frame, and `text` is told before its answer, or together with it
@@ -166,7 +165,7 @@ class Between:
         moment = self.kill["moment"] if self.is_time(address_byte) else None
         if moment == "before":
             self.do_kill()
-        told = b"silence\n" if 0 < self.plan.get("dark", 0) <= self.lines else self.driver.put(line)
+        told = self.driver.put(line)
         if told == b"silence\n" and self.plan.get("garbled") == [address_byte, opcode_byte]:
             told = b"damaged\n"
         if moment == "unheard":

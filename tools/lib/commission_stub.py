@@ -98,11 +98,11 @@ def mend(records: dict[str, str], words: tuple[str, ...]) -> None:
             say(f"not mended, nothing was changed: short address {it}: no gear answers at it")
             ended("not-mended", 11, {})
     left = [it for it in beside("odd") if it in beside("stuck") or named and it not in named]
-    stuck = [it for it in left if it in beside("stuck")]
     bus().with_name("odd").write_text(json.dumps(left))
-    for it in stuck:
-        say(f"{it} - given up: no gear was told apart any more")
-    ended("shared" if stuck else "mended", 13 if stuck else 0, records, left_alone=stuck)
+    for it in left:
+        if it in beside("stuck"):
+            say(f"{it} - given up: no gear was told apart any more")
+    ended("shared" if left else "mended", 13 if left else 0, records, left_alone=left)
 
 
 def replace(file: pathlib.Path, records: dict[str, str], gear: list[str], address: str) -> None:
