@@ -12,7 +12,9 @@ RANDOMISE, PRESENT = b"\xA7\x00", b"\xFF\x91"
 # How long the bus is at rest before a frame of each priority. The later frames of a transaction have priority 1.
 SETTLING, LATER = {1: 13_500, 2: 14_900, 3: 16_300, 4: 17_900, 5: 19_500}, 1
 # From the beginning of a pair's first frame to the end of its second; how long gear draw; how long a frame is.
-PAIR, DRAW, FRAME, HALVES = 100_000, 100_000, 34 * HALF, 40
+PAIR, DRAW, FRAME = 100_000, 100_000, 34 * HALF
+# How many half bits of a frame are sent, of which the last is high.
+MOST_HALVES = 35
 # How many samples stand before a frame, and how long is listened after it: until no answer may begin any more, and until one has ended.
 LEAD, WINDOW, ANSWER = 8, 12_500, 24_000
 # Any frame is low once in so long a time. It takes longer than the other, in which the driver does not listen.
@@ -55,7 +57,7 @@ class First(typing.NamedTuple):
 def framed(halves: list[bool], is_question: bool, speed: int) -> Samples:
     """A frame as it is sent, of its first half bits, with the time after it in which is listened."""
     tail = (ANSWER if is_question else WINDOW) - HALF
-    return Samples.of(halves[: FRAME // HALF + 1], LEAD, at_least(tail, speed), speed)
+    return Samples.of(halves[:MOST_HALVES], LEAD, at_least(tail, speed), speed)
 
 
 class Ear:
@@ -127,7 +129,7 @@ class Ear:
         self.is_measured = True
         for is_question in (False, True):
             for _ in range(TRIES):
-                self.exchange(framed([False] * HALVES, is_question, self.speed))
+                self.exchange(framed([False] * MOST_HALVES, is_question, self.speed))
         return found
 
     def settle(self, priority: int, not_before: int) -> bool:

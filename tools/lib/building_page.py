@@ -114,7 +114,8 @@ class Bus(commanding.Bus):
                 told = command.followed().state()
                 return found | {"is": "busy", "command": command.name, "address": command.address, "found": command.found, **told}
             is_ill = command and command.outcome() not in commanding.WHOLE
-            if is_ill:
+            # A walk stops who blinks.
+            if is_ill := is_ill and not (command.name == "identify" and command.outcome() >= commanding.STOPPED):
                 found |= {"words": commanding.end_of(command.name, command.outcome()), "status": command.outcome()}
             if is_ill or odd or silent or missing or self.unaddressed or self.trouble:
                 return found | {"is": "look"}

@@ -22,7 +22,8 @@ def option(name: str, words: list[str]) -> list[str]:
 
 
 def bus() -> pathlib.Path:
-    return pathlib.Path(os.environ.get("BUS") or pathlib.Path(*option("--records", sys.argv)[:1]).with_name("bus.json"))
+    records = (option("--records", sys.argv) or ["none"])[0]
+    return pathlib.Path(os.environ.get("BUS") or pathlib.Path(records).with_name("bus.json"))
 
 
 def put(frame: str, number: int = 2) -> None:
@@ -128,6 +129,10 @@ def identify(address: int) -> None:
 
 
 def main(task: str, *words: str) -> None:
+    if task == "identify" and not bus().exists():
+        # It is not told which bus it is at.
+        identify(int(words[-1]))
+        return
     gear = json.loads(bus().read_text())
     file = pathlib.Path(*option("--records", words)[:1])
     records = json.loads(file.read_text()) if file.is_file() else {}
