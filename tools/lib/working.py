@@ -15,7 +15,7 @@ from lib import buildings, commanding, places
 # How often it is looked how far all are, in seconds; and how often that is said if no terminal shows it.
 LOOKS, SAYS = 0.5, 20
 NO_RECORDS, NOT_STARTED = 5, 127
-# How often a bus is run that gives up: that may be due to a single answer that was disturbed, and the next run goes on.
+# How often a bus is run that gives up: the next run goes on from its records.
 TRIES = 3
 # What a bus is said to do before it is begun, and what the last line of a program begins with if the line before it may say why.
 WAITS, ENDED = "waits", "ended: "
