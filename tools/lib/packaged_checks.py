@@ -156,7 +156,7 @@ def sums(place: pathlib.Path) -> list[str]:
 def check_debian(checks: "Checks", package: pathlib.Path) -> None:
     """The package is clean, is installed in a minimal Debian, used there by a user, and removed."""
     if shutil.which("lintian"):
-        done = subprocess.run(["lintian", "--allow-root", "--info", "--fail-on", "error,warning,info", package], capture_output=True, text=True)
+        done = subprocess.run(["lintian", "--allow-root", "--display-info", "--fail-on", "error,warning,info", package], capture_output=True, text=True)
         checks.same((done.returncode, done.stdout), (0, ""), "lintian")
     else:
         print("left out: lintian is not there")
