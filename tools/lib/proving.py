@@ -207,12 +207,13 @@ class Build:
         place, self.read[crate] = room() / crate.name, time.time()
         lay_out(crate, place)
         (crate.folder / "out").mkdir(exist_ok=True)
-        with crate.log.open("wb") as log:
+        words = self.words_of(crate, is_longest)
+        with crate.log.open("wb") as log, uninterrupted():
             how = {"stdin": subprocess.DEVNULL, "stdout": log, "stderr": log, "start_new_session": True}
-            ran = subprocess.Popen(self.words_of(crate, is_longest), cwd=place, **how)
-        self.running[crate] = ran
-        self.waiting[crate] = threading.Thread(target=self.wait_for, args=(crate, ran), daemon=True)
-        self.waiting[crate].start()
+            ran = subprocess.Popen(words, cwd=place, **how)
+            self.running[crate] = ran
+            self.waiting[crate] = threading.Thread(target=self.wait_for, args=(crate, ran), daemon=True)
+            self.waiting[crate].start()
 
     def words_of(self, crate: Crate, is_longest: bool) -> list[str]:
         """What proves a crate. All make way for the one with the longest chain behind it, which they wait for in the end."""
@@ -444,6 +445,21 @@ def end_by_signals() -> None:
 
     for it in ENDS:
         signal.signal(it, interrupt)
+
+
+@contextlib.contextmanager
+def uninterrupted() -> Iterator[None]:
+    """A signal that comes meanwhile ends the build afterwards: `stop` has to know each process that was started."""
+    before, came = {it: signal.getsignal(it) for it in ENDS}, []
+    for it in ENDS:
+        signal.signal(it, lambda number, _: came.append(number))
+    try:
+        yield
+    finally:
+        for it, how in before.items():
+            signal.signal(it, how)
+    for number in came[:1]:
+        signal.raise_signal(number)
 
 
 def wait_for_others(title: str, lock: io.TextIOWrapper) -> None:
