@@ -15,7 +15,7 @@ use Rattle.dali_special.specs.Command.{command_of, is_question}
 use Rattle.dali_gear.specs.declared.row.Reach.TheVariants.{Everyone}
 use Rattle.dali_gear.specs.Gear.{Gear, is_active, is_found}
 use Rattle.dali_gear.specs.Row.{row_after, answers_of, heard_of, stored_short, drawn_of}
-use Rattle.dali_arbiter.specs.Arbiter.{Arbiter, owns, bus_lapsed}
+use Rattle.dali_arbiter.specs.Arbiter.{Arbiter, bus_lapsed}
 use Rattle.dali_script.specs.declared.block.Block.{Block}
 use Rattle.dali_script.specs.declared.orders.Input.{Input}
 use Rattle.dali_script.specs.declared.orders.Order.{Order}
@@ -58,11 +58,8 @@ use Rattle.dali_events.specs.Wanted.{gear_of}
 use Rattle.dali_events.proofs.Invariant.Takes.{Moved, stays, goes, moves_at, row_length}
 use Rattle.dali_events.proofs.Invariant.Known.{Knows, found_random, search_known, short_from}
 use Rattle.dali_events.proofs.Invariant.Sending.{KnowsAll, lawful_of, follows_of, knows_running, powered_takes}
-use Rattle.dali_events.proofs.Invariant.Gifts.{Change as GearChange, frame_changes}
-use Rattle.dali_events.proofs.Invariant.Sparing.{IsOwned}
-use Rattle.dali_events.proofs.Invariant.Naming.{found_names}
-use Rattle.dali_events.proofs.Invariant.Resolving.{tells_if}
-use Rattle.dali_events.proofs.Invariant.Safe.{Holds as HoldsAll, holds_step}
+use Rattle.dali_events.proofs.Invariant.Gifts.{Change as GearChange, IsOwned}
+use Rattle.dali_events.proofs.Invariant.Safe.{Holds as HoldsAll, holds_step, sent_changes, found_names}
 use Rattle.dali_audited.specs.Capture.{frames_of, items_from, answers_at, over_at, begins_at, ends_at, is_randomise, rest_before, item_at, WAIT}
 use Rattle.dali_audited.specs.Undisturbed.{AwaitsMore, DisturbsNothing, DisturbNothing, open_since, Within, AreInTime}
 use Rattle.dali_audited.specs.Tables.{Holds, IsTableOf}
@@ -221,8 +218,7 @@ module _ (p : Plan) (plan : IsPlan p) (w : World) (c : ℕ) (f : Forward) (h : A
   searched = searched_lawful b xs t f lawful
 
   found : (x : Finding) → found_by (search_of t) (asked_of t) (command_of f) h ≡ Some x → Names w (assigned x)
-  found = found_names (IsOwned p.used w.controllers) w c f h here agrees.holds.known agrees.holds.gifts
-      (tells_if (owns w.bus.owner c) w.trace w.gear agrees.holds.tells)
+  found = found_names p plan w agrees.holds c f h here
 
   held : HoldsAll p v
   held = holds_step p plan w (event.Sent c f h) here leaves agrees.holds
@@ -232,8 +228,7 @@ module _ (p : Plan) (plan : IsPlan p) (w : World) (c : ℕ) (f : Forward) (h : A
 
   -- GEAR
   changes : GearChange (IsOwned p.used w.controllers) w.gear w.drawn w.gifts v.gear v.drawn v.gifts
-  changes = frame_changes (IsOwned p.used w.controllers) b xs s (command_of f) Everyone on w.gear w.left w.drawn w.gifts knows agrees.holds.draws.each
-      (λ a r has. inl (c, here.up.known, has))
+  changes = sent_changes (IsOwned p.used w.controllers) p plan w agrees.holds c f here.up here.may (λ a r has. inl (c, here.up.known, has)) h here
 
   stay : (g a : ℕ) → Holds w.gear g a → Holds v.gear g a × ((gear_of v.gear g).random ≡ (gear_of w.gear g).random)
   stay g a has = ((subst (λ n. g < n) (sym changes.count) has.0, changes.stays_short g a has.0 has.1), changes.stays_random g a has.0 has.1)

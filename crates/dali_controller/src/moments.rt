@@ -185,44 +185,9 @@ impl State {
             → result ≡ beginning (next_course (machine_with self.old kept.now)) }
         ensures moment { IsMoment (machine_with self.old kept.now) result (machine_with self.new kept.now) }
     {
-        match self.purpose.turn(self.number, &stage) {
-            Some(command) => self.turn(kept, &stage, command),
-            None => self.over(kept, stage),
+        if let Some(command) = self.purpose.turn(self.number, &stage) {
+            return self.turn(kept, &stage, command);
         }
-    }
-
-    /// The transaction goes on with the command of its turn.
-    fn turn(&mut self, kept: &Records<'_>, stage: &Stage, command: Command) -> Order
-        requires heard { IsHeard (machine_with self.old kept.now) stage.now }
-        requires turn { turn_of self.old.purpose self.old.number stage.now ≡ Some command }
-
-        ensures order { result ≡ order.Put LATER (frame_of command) }
-        ensures moment { IsMoment (machine_with self.old kept.now) result (machine_with self.new kept.now) }
-    {
-        let _ = stage;
-        self.put(kept, command)
-    }
-
-    /// What follows if the transaction sends no more, or PROGRAM SHORT ADDRESS.
-    fn over(&mut self, kept: &Records<'_>, stage: Stage) -> Order
-        requires heard { IsHeard (machine_with self.old kept.now) stage }
-        requires over { turn_of self.old.purpose self.old.number stage ≡ None }
-
-        ensures told { (b n : ℕ) → stage_of self.old.trace ≡ Spelled b (Some n)
-            → IsSought self.old.purpose self.old.number n → AfterFinding (machine_with self.old kept.now) b n result }
-        ensures another { (b n : ℕ) → stage_of self.old.trace ≡ Spelled b (Some n)
-            → (IsSought self.old.purpose self.old.number n → ⊥)
-            → result ≡ beginning (next_course (machine_with self.old kept.now)) }
-        ensures unconfirmed { (r : SearchAddress) (other : Option ℕ) → stage_of self.old.trace ≡ Inconclusive r other
-            → result ≡ beginning (next_course (machine_with self.old kept.now)) }
-        ensures hunted { (r : SearchAddress) (h : Answer) (left : ℕ) → stage_of self.old.trace ≡ Hunted r (Some h) left
-            → self.old.purpose ≡ purpose.Hunting
-            → result ≡ question (next_course (machine_with self.old kept.now)) r left }
-        ensures called { (r : SearchAddress) (h : Answer) (left : ℕ) → stage_of self.old.trace ≡ Hunted r (Some h) left
-            → self.old.purpose ≡ purpose.Calling → call_turn (Some h) left ≡ None
-            → result ≡ beginning (next_course (machine_with self.old kept.now)) }
-        ensures moment { IsMoment (machine_with self.old kept.now) result (machine_with self.new kept.now) }
-    {
         match stage {
             Stage::Terminated => self.terminated(kept),
             Stage::Opened | Stage::DrawBarred => self.search_first(kept),
@@ -253,6 +218,18 @@ impl State {
             | Stage::Confirmed(..)
             | Stage::Over => unreachable!(),
         }
+    }
+
+    /// The transaction goes on with the command of its turn.
+    fn turn(&mut self, kept: &Records<'_>, stage: &Stage, command: Command) -> Order
+        requires heard { IsHeard (machine_with self.old kept.now) stage.now }
+        requires turn { turn_of self.old.purpose self.old.number stage.now ≡ Some command }
+
+        ensures order { result ≡ order.Put LATER (frame_of command) }
+        ensures moment { IsMoment (machine_with self.old kept.now) result (machine_with self.new kept.now) }
+    {
+        let _ = stage;
+        self.put(kept, command)
     }
 
     /// The TERMINATE of a close was sent.

@@ -28,29 +28,36 @@ itself : {X : Type 0} (o : Option X) → IfSome o (λ e. o ≡ Some e)
 itself None = tt
 itself (Some e) = refl
 
-module _ {A : Type 0} (known : A → Option Enrolled) (xs : List A) (i : ℕ) (y : A) (within : i < length xs) where
+-- What a pass knows, once y is written where x stood: was is what it knew.
+module _ {A : Type 0} (known : A → Option Enrolled) (xs : List A) (i : ℕ) (x y : A) (within : i < length xs) (here : x ≡ get_or xs i x)
+    (was : List (Option Enrolled)) (view : map known xs ≡ was) where
+  -- what was known at the place
+  pub own_at : {b : ℕ} → i ≡ b → AtItsAddress was → IsOfAddress (known x) b
+  own_at at all = subst (IsOfAddress (known x)) at (subst (λ o. IsOfAddress o i) (value_at known xs i x within here None)
+      (subst AtItsAddress (sym view) all i))
+
   -- what is known at the place after the write
-  pub known_set : get_or (map known (set xs i y)) i None ≡ known y
-  known_set = ap (λ l. get_or l i None) (map-set known xs i y)
-      ∙ get_or-set_same (map known xs) i (known y) None (subst (λ n. i < n) (sym (length-map xs known)) within)
+  pub known_set : {b : ℕ} → i ≡ b → get_or (map known (set xs i y)) b None ≡ known y
+  known_set at = subst (λ b. get_or (map known (set xs i y)) b None ≡ known y) at (ap (λ l. get_or l i None) (map-set known xs i y)
+      ∙ get_or-set_same (map known xs) i (known y) None (subst (λ n. i < n) (sym (length-map xs known)) within))
 
   -- what is known at another place
-  pub known_other : (a : ℕ) → a ≢ i → get_or (map known (set xs i y)) a None ≡ get_or (map known xs) a None
-  known_other a other = ap (λ l. get_or l a None) (map-set known xs i y)
-      ∙ get_or-set_other (map known xs) i a (known y) None other
+  pub known_other : {b : ℕ} → i ≡ b → (a : ℕ) → a ≢ b → get_or (map known (set xs i y)) a None ≡ get_or was a None
+  known_other at a other = ap (λ l. get_or l a None) (map-set known xs i y)
+      ∙ get_or-set_other (map known xs) i a (known y) None (λ same. other (same ∙ at)) ∙ ap (λ l. get_or l a None) view
 
-  pub own_set : AtItsAddress (map known xs) → IsOfAddress (known y) i → AtItsAddress (map known (set xs i y))
-  own_set all own a = ⊎_elim
-      (λ (here : a ≡ i). subst (λ k. IsOfAddress (get_or (map known (set xs i y)) k None) k) (sym here)
-      (subst (λ k. IsOfAddress k i) (sym known_set) own))
-      (λ there. subst (λ k. IsOfAddress k a) (sym (known_other a there)) (all a))
-      (cases_eq a i)
+  pub own_set : {b : ℕ} → i ≡ b → AtItsAddress was → IsOfAddress (known y) b → AtItsAddress (map known (set xs i y))
+  own_set {b} at all own a = ⊎_elim
+      (λ (there : a ≡ b). subst (λ k. IsOfAddress (get_or (map known (set xs i y)) k None) k) (sym there)
+      (subst (λ k. IsOfAddress k b) (sym (known_set at)) own))
+      (λ away. subst (λ k. IsOfAddress k a) (sym (known_other at a away)) (all a))
+      (cases_eq a b)
 
-  pub kept_set : IfSome (get_or (map known xs) i None) (λ e. known y ≡ Some e)
-      → (a : ℕ) → IfSome (get_or (map known xs) a None) (λ e. get_or (map known (set xs i y)) a None ≡ Some e)
+  pub kept_set : IfSome (known x) (λ e. known y ≡ Some e)
+      → (a : ℕ) → IfSome (get_or was a None) (λ e. get_or (map known (set xs i y)) a None ≡ Some e)
   kept_set kept a = ⊎_elim
-      (λ (here : a ≡ i). subst (λ k. IfSome (get_or (map known xs) k None) (λ e. get_or (map known (set xs i y)) k None ≡ Some e)) (sym here)
-      (subst (λ k. IfSome (get_or (map known xs) i None) (λ e. k ≡ Some e)) (sym known_set) kept))
-      (λ there. subst (λ k. IfSome (get_or (map known xs) a None) (λ e. k ≡ Some e)) (sym (known_other a there))
-      (itself (get_or (map known xs) a None)))
+      (λ (there : a ≡ i). subst (λ k. IfSome (get_or was k None) (λ e. get_or (map known (set xs i y)) k None ≡ Some e)) (sym there)
+      (subst (λ l. IfSome (get_or l i None) (λ e. get_or (map known (set xs i y)) i None ≡ Some e)) view
+      (rw (value_at known xs i x within here None, known_set refl) kept)))
+      (λ away. subst (λ k. IfSome (get_or was a None) (λ e. k ≡ Some e)) (sym (known_other refl a away)) (itself (get_or was a None)))
       (cases_eq a i)

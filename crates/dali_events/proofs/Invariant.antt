@@ -4,16 +4,11 @@ pub mod Takes
 pub mod Starting
 pub mod Drawn
 pub mod Controllers
-pub mod Reserves
-pub mod Sparing
 pub mod Answers
 pub mod Known
 pub mod Sending
 pub mod Gifts
-pub mod Resolving
-pub mod Naming
 pub mod Arrived
-pub mod Staying
 pub mod Safe
 pub mod Agreeing
 pub mod Keeping

@@ -13,3 +13,4 @@ pub mod Calling
 pub mod Wanted
 pub mod Troubles
 pub mod Telling
+pub mod Page

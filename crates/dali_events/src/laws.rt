@@ -3,7 +3,9 @@
 //! Each law quantifies over every plan and every list of events that is a run, whatever frames were sent, destroyed or
 //! answered, and whenever gear lost power and controllers restarted.
 
-ghost use Rattle.std.specs.Prelude.{ℕ, List, ◌++◌, ◌∷◌, [], ◌≡◌, Some, None, true, false, replicate};
+ghost use Rattle.std.specs.Prelude.{ℕ, List, ◌++◌, ◌∷◌, [], ◌≡◌, ◌<◌, ◌==◌, length, map, unwrap_or, Some, None, true};
+ghost use Rattle.std.specs.Prelude.{false};
+ghost use Rattle.std.specs.Prelude.{replicate};
 ghost use Rattle.dali_frame.specs.declared.frames.Forward.{Forward};
 ghost use Rattle.dali_frame.specs.declared.frames.Answer.{Answer};
 ghost use Rattle.dali_frame.specs.declared.numbers.SearchAddress.{SearchAddress};
@@ -16,7 +18,10 @@ ghost use Rattle.dali_special.specs.declared.command.Part.TheVariants.{High, Mid
 ghost use Rattle.dali_special.specs.Command.{command_of, is_question};
 ghost use Rattle.dali_script.specs.declared.trace.Entry.{Entry};
 ghost use Rattle.dali_script.specs.declared.stage.Stage.TheVariants.{Unnamed};
-ghost use Rattle.dali_script.specs.Records.{Has};
+ghost use Rattle.dali_script.specs.Records.{Has, HasAddress, InBlock};
+ghost use Rattle.dali_script.specs.declared.finding.Finding.{Finding};
+ghost use Rattle.dali_script.specs.declared.records.Record.TheVariants as record_of;
+ghost use Rattle.dali_script.specs.Findings.{assigned};
 ghost use Rattle.dali_script.specs.Scripts.{IsFirst};
 ghost use Rattle.dali_script.specs.Stages.{stage_of};
 ghost use Rattle.dali_script.specs.declared.orders.Input.TheVariants as input;
@@ -28,12 +33,17 @@ ghost use Rattle.dali_gear.specs.declared.row.Reach.TheVariants.{Everyone};
 ghost use Rattle.dali_gear.specs.Gear.{fresh};
 ghost use Rattle.dali_gear.specs.Row.{heard_of, answers_of};
 ghost use Rattle.dali_events.specs.declared.event.Event.{Event};
-ghost use Rattle.dali_events.specs.World.{World, gear_at, start};
+ghost use Rattle.dali_statement.specs.Page.{Moment, Site, Reserves, Enrols, Releases, allowed, is_told, are_apart};
+ghost use Rattle.dali_statement.specs.Page.{IsPlan as IsPagePlan};
+ghost use Rattle.dali_statement.specs.Gear.{gear_seen};
+ghost use Rattle.dali_events.specs.Page.{owner_in, plan_seen, LeadsTo};
+ghost use Rattle.dali_events.specs.World.{World, Controller, gear_at, start};
 ghost use Rattle.dali_events.specs.Happens.{happens, trace_running, entry, taken_by, after_quiet, after_foreign};
 ghost use Rattle.dali_events.specs.Happens.{keeps_bus};
 ghost use Rattle.dali_events.specs.Foreign.{is_foreign};
-ghost use Rattle.dali_events.specs.Allowed.{Allowed, Hears, IsDestroyed};
-ghost use Rattle.dali_events.specs.Plan.{Plan};
+ghost use Rattle.dali_events.specs.Allowed.{Allowed, Hears, IsDestroyed, MayCommit, MaySend};
+ghost use Rattle.dali_events.specs.Plan.{Plan, IsPlan, block_at};
+ghost use Rattle.dali_events.specs.Used.{used_shorts};
 ghost use Rattle.dali_events.specs.declared.used.Used.{Used};
 ghost use Rattle.dali_events.specs.Runs.{after, IsRun, AreDrawn, LeavesUsed};
 ghost use Rattle.dali_events.specs.Promise.{KeepsPromise, KeepsPromiseNow, KeepsAddresses, IsSafe, IsSafeHistory};
@@ -106,6 +116,15 @@ pub fn gifts_stay_reserved()
         → KeepsReserved (after p capacity front) (after p capacity (front ++ later)) }
 {}
 
+/// EVERY RUN IS A HISTORY OF THE PAGE of `dali_statement`. To each moment of a run leads a history with the same gear,
+/// the same owner, the same reservations, and with each table; and later moments go on with it. So what five rules of
+/// senders promise is true of every run.
+pub fn every_run_is_a_history()
+    ensures { (p : Plan) (capacity : ℕ) (front rest : List Event) → IsRun p capacity (front ++ rest)
+        → (ms : List Moment) × (more : List Moment) × LeadsTo p (after p capacity front) ms
+        × LeadsTo p (after p capacity (front ++ rest)) (ms ++ more) }
+{}
+
 /// EVERY RUN IS SAFE. In every world of every run no two gear hold one short address. A gear that holds one holds it,
 /// with its random address, in every later world. For every kept enrolment of every controller there is the gear that
 /// holds its address and has its number.
@@ -118,6 +137,35 @@ pub fn every_run_is_safe()
         → KeepsPromise p capacity log }
     ensures history { (p : Plan) (capacity : ℕ) (log : List Event) → IsRun p capacity log
         → IsSafeHistory p capacity log }
+{}
+
+/// A SITE MEETS THE PAGE'S PREMISES. In every run no two gear have one random address (`numbers`). A
+/// plan that is not refused is one of the page, without records (`plan`), and its blocks are disjoint (`block`).
+pub fn sites_meet_the_premises()
+    ensures numbers { (p : Plan) (capacity : ℕ) (front rest : List Event) → IsRun p capacity (front ++ rest)
+        → are_apart (map gear_seen (after p capacity front).gear) ≡ true }
+    ensures plan { (p : Plan) → IsPlan p → IsPagePlan (plan_seen p) }
+    ensures block { (p : Plan) → IsPlan p → (c a : ℕ) → c < length p.blocks → InBlock (block_at p c) a
+        → owner_in p.blocks 0 a ≡ c }
+{}
+
+/// ORDERS KEEP THE RULES. A record that a controller may order to be kept is one that rules 3 and 4 allow, on a site of
+/// the page where it has the same reservations and its finding was told: a reservation, of no address that used gear
+/// have (`reserve`), an enrolment (`enrol`), a release (`release`). Who may send on a site has its turn by rule 5
+/// (`turn`).
+pub fn orders_keep_the_rules()
+    ensures turn { (w : World) (c : ℕ) (f : Forward) → MaySend w c f → (unwrap_or w.bus.owner c == c) ≡ true }
+    ensures reserve { (p : Plan) (s : Site) (k : Controller) (c : ℕ) → IsPlan p → (a r : ℕ)
+        → c < length p.blocks → k.records.block ≡ block_at p c → MayCommit k (record_of.Reserve a r)
+        → (Has (used_shorts p.used) a → ⊥) → ((q : ℕ) → s.reserved c a ≡ Some q → HasAddress k.records.reserved a)
+        → allowed (plan_seen p) s (Reserves c a r) ≡ true }
+    ensures enrol { (p : Plan) (s : Site) (k : Controller) (c a r : ℕ) → MayCommit k (record_of.Enrol a r)
+        → ((x : Finding) → k.finding ≡ Some x → is_told s (assigned x).0 (assigned x).1 ≡ true)
+        → allowed (plan_seen p) s (Enrols c a r) ≡ true }
+    ensures release { (p : Plan) (s : Site) (k : Controller) (c a r : ℕ) → MayCommit k (record_of.Release a r)
+        → ((x : Finding) → k.finding ≡ Some x → is_told s (assigned x).0 (assigned x).1 ≡ true)
+        → (Has k.records.reserved (a, r) → s.reserved c a ≡ Some r)
+        → (b : ℕ) × (allowed (plan_seen p) s (Releases c a r b) ≡ true) }
 {}
 
 /// USED GEAR KEEP THEIR ADDRESSES. They come with short addresses, all different, and with random addresses that no

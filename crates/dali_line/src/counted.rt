@@ -116,6 +116,7 @@ impl<P0: Ledger, P1: Ledger, P2: Ledger, P3: Ledger, D: Ledger> CountedSite<P0, 
     fn has(&self, c: u8) -> bool
         ensures there { result ≡ true → c < length self.now.site.plan.blocks }
         ensures none { result ≡ false → controller_at (world self.now.site) c ≡ nobody }
+        ensures away { result ≡ false → length (world self.now.site).controllers ≤ c }
     {
         // For the prover: the world has the controllers of the plan.
         self.site.is_safe();
@@ -284,9 +285,7 @@ impl<P0: Ledger, P1: Ledger, P2: Ledger, P3: Ledger, D: Ledger> CountedSite<P0, 
         ensures free { result ≡ false → IsDown (world self.now.site) c
             → MayComeUp (state_of self.now.commits c) (controller_at (world self.now.site) c).records copy.now }
     {
-        // For the prover, as in `has`.
-        self.site.is_safe();
-        if (c as usize) >= self.site.plan().blocks().len() || self.site.table(c).is_some() {
+        if !self.has(c) || self.site.table(c).is_some() {
             return false;
         }
         match self.commits.state(c) {

@@ -324,37 +324,8 @@ impl<P, K: Keep, G: Gate> Shift<P, K, G> {
         }
     }
 
-    /// At most one act, on what is due. The end of the run, if it ends.
-    #[tactic(auto, using(crate::proofs::Leaving::leaves_none))]
-    fn act<B: Bus<Port = P>, R: Wait>(
-        &mut self,
-        rt: &R,
-        alloc: Global,
-        bus: &B,
-        directory: &Directory,
-        pass: &mut Pass,
-        surveys: bool,
-    ) -> Option<Outcome>
-        requires { pass.old.places ≡ directory.now }
-        ensures keep { Leaves K.is_up K.is_sound K.holds self.old.keep self.new.keep }
-        ensures port { Follows (B.share self.old.port) (B.share self.new.port) 1 }
-        ensures pass { pass.new.places ≡ pass.old.places }
-        ensures known { Keeps pass.old pass.new }
-        ensures posted { Posts K.is_up K.is_sound K.holds self.old.keep self.new.keep pass.old pass.new }
-        ensures runs { Runs K.is_up K.is_sound K.holds K.block
-            (facts_of B.acted B.refused B.told B.untold B.unordered B.ordered B.is_down (B.is_stopped bus.now) surveys)
-            self.old.last self.new.last (B.share self.old.port) (B.share self.new.port)
-            self.old.keep self.new.keep pass.old pass.new 1 result }
-        ensures unspent { result ≡ Some TurnsSpent → ⊥ }
-    {
-        let Some(input) = self.given(rt, bus, surveys) else {
-            return None;
-        };
-        self.tell(rt, alloc, bus, directory, pass, input)
-    }
-
-    /// A turn, once there is one: none if the line is stopped, or the controller is down. The end of the run, if it
-    /// ends.
+    /// A turn, once there is one: none if the line is stopped, or the controller is down. It acts at most once, on what
+    /// is due. The end of the run, if it ends.
     #[tactic(auto, using(crate::proofs::Learning::turns))]
     fn take_turn<B: Bus<Port = P>, R: Wait>(
         &mut self,
@@ -385,7 +356,12 @@ impl<P, K: Keep, G: Gate> Shift<P, K, G> {
                 Outcome::Down
             });
         }
-        let outcome = self.act(rt, alloc, bus, directory, pass, surveys);
+        let Some(input) = self.given(rt, bus, surveys) else {
+            self.gate
+                .at(rt, bus.controller(&self.port), Moment::AfterTurn);
+            return None;
+        };
+        let outcome = self.tell(rt, alloc, bus, directory, pass, input);
         self.gate
             .at(rt, bus.controller(&self.port), Moment::AfterTurn);
         outcome

@@ -9,17 +9,14 @@ use Rattle.dali_gear.specs.Gear.{Gear}
 use Rattle.dali_gear.specs.Row.{row_after, drawn_of, stored_of}
 use Rattle.dali_script.specs.declared.block.Block.{Block}
 use Rattle.dali_script.specs.Records.{Assignment, Has, InBlock}
-use Rattle.dali_script.specs.Stages.{stage_of}
 use Rattle.dali_events.specs.declared.event.Event.TheVariants as event
 use Rattle.dali_events.specs.Plan.{block_at}
 use Rattle.dali_events.specs.World.{World, controller_at}
-use Rattle.dali_events.specs.Happens.{trace_running}
 use Rattle.dali_events.specs.Allowed.{Allowed}
 use Rattle.dali_events.specs.Runs.{IsRun}
 use Rattle.dali_events.specs.Wanted.{gear_of, is_bare}
-use Rattle.dali_events.proofs.Invariant.Gifts.{Change, Given, frame_changes}
-use Rattle.dali_events.proofs.Invariant.Safe.{Holds, holds_after}
-use Rattle.dali_events.proofs.Invariant.Sending.{follows_of, knows_running}
+use Rattle.dali_events.proofs.Invariant.Gifts.{Change, Given}
+use Rattle.dali_events.proofs.Invariant.Safe.{Holds, holds_after, sent_changes}
 use Rattle.dali_events.proofs.Search.Wanted.{after_at, count_at_most, is_bare_by, bare_is}
 use Rattle.dali_world.specs.Site.{SiteState, world}
 use Rattle.dali_world.proofs.Logs.{records_now}
@@ -103,10 +100,9 @@ changed : (s : SiteState) (c : ℕ) (f : Forward) (h : Answer) → IsRun s.plan 
 changed s c f h run here =
     let w : World = world s in
     let known : Holds s.plan w = holds_after s.plan s.queue s.log run in
-    frame_changes (OfBlock (block_at s.plan c)) (controller_at w c).records.block (controller_at w c).records.reserved (stage_of (trace_running w c))
-    (command_of f) Everyone (follows_of w c f here.may) w.gear w.left w.drawn w.gifts (knows_running w c known.known.knows) known.draws.each
+    sent_changes (OfBlock (block_at s.plan c)) s.plan run.plan w known c f here.up here.may
     (λ a r has. subst (λ b. InBlock b a) ((records_now s.plan s.queue s.log run).block c here.up.known)
-    ((kept_now s c run here.up).within a (has_address (controller_at w c).records.reserved a r has)))
+    ((kept_now s c run here.up).within a (has_address (controller_at w c).records.reserved a r has))) h here
 
 pub frame_gives : (s : SiteState) (c : ℕ) (f : Forward) (h : Answer) → IsRun s.plan s.queue s.log → Allowed (world s) (event.Sent c f h)
     → Gives (block_at s.plan c) (world s).gear (row_after Everyone (command_of f) 0 (world s).gear (world s).left)

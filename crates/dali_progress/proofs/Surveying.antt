@@ -26,7 +26,6 @@ use Rattle.dali_controller.specs.declared.purpose.Purpose.TheVariants.{Asking, C
 use Rattle.dali_controller.specs.declared.shorts.Shorts.{Shorts}
 use Rattle.dali_controller.specs.Machine.{marked_at, silent_after}
 use Rattle.dali_events.specs.Wanted.{gear_of, is_bare, OfPowered}
-use Rattle.dali_events.proofs.Invariant.Resolving.{whole_number}
 use Rattle.dali_events.proofs.Search.Leaving as leaving
 use Rattle.dali_events.proofs.Search.Leaving.{SameCore, LeavesShort, SeekHigh, SeekMiddle}
 use Rattle.dali_progress.proofs.Stands.{Sends}
@@ -185,6 +184,10 @@ second_asked a b u k marks gs numbers h v one said =
             );
             clear = clear_with k marks b a v.asked.0 v.small v.clear;
           })
+
+-- a number is its three bytes
+whole_number : (r high middle low : ℕ) → high_of r ≡ high → middle_of r ≡ middle → low_of r ≡ low → r ≡ number_of high middle low
+whole_number r high middle low one two three = omega arith
 
 third_asked : (a b : ℕ) (x : ℕ × ℕ) (k : Kept) (marks : Shorts) (gs : List Gear) (numbers : List ℕ) (h : Answer)
     → IsAskedOf a (stage.MiddleAsked b (Some x)) k marks gs → IsAtHand k gs → h ≡ heard_of (answers_of Everyone (RandomByte b Low) 0 gs)

@@ -260,13 +260,9 @@ impl Installation {
             return Err(Refusal::ControllerUp);
         }
         let copy = self.stores[c as usize].read();
-        match self.site.up(c, &copy) {
-            Ok(()) => {
-                self.stores[c as usize].settle();
-                Ok(())
-            }
-            Err(error) => Err(error),
-        }
+        self.site.up(c, &copy)?;
+        self.stores[c as usize].settle();
+        Ok(())
     }
 
     /// The site.

@@ -1,6 +1,6 @@
 ghost use Rattle.std.specs.Prelude.{◌≡◌, ◌<◌, ◌↔◌, ◌&&◌, IsTrue, IsOk, OnOk, OnErr};
 ghost use Rattle.std.specs.Prelude.{MatchOption, IsSome, IfSome, []};
-ghost use Rattle.dali_script.specs.Records.{Kept, Has, HasAddress, HasRandom, IsLeastFree, IsFull};
+ghost use Rattle.dali_script.specs.Records.{Kept, Has, HasAddress, HasRandom};
 ghost use Rattle.dali_script.specs.Records.{Fits, MayAdd, Shows, with_record};
 ghost use Rattle.dali_script.specs.Table.{table_of};
 
@@ -187,26 +187,6 @@ impl Kept {
         }
     }
 
-    /// The random address for which a short address is reserved.
-    pub fn reserved_at(&self, address: Short) -> Option<Random24>
-        ensures value { MatchOption result
-            (HasAddress self.now.reserved address → ⊥)
-            (λ random. Has self.now.reserved (address, random)) }
-        ensures kept { IsKept self.now }
-    {
-        self.view().reserved_at(address)
-    }
-
-    /// The short address that is reserved for a random address.
-    pub fn reserved_for(&self, random: Random24) -> Option<Short>
-        ensures value { MatchOption result
-            (HasRandom self.now.reserved random → ⊥)
-            (λ address. Has self.now.reserved (address, random)) }
-        ensures kept { IsKept self.now }
-    {
-        self.view().reserved_for(random)
-    }
-
     /// The random address of the gear that was enrolled with a short address.
     pub fn enrolled_at(&self, address: Short) -> Option<Random24>
         ensures value { MatchOption result
@@ -225,14 +205,5 @@ impl Kept {
         ensures kept { IsKept self.now }
     {
         self.view().enrolled_for(random)
-    }
-
-    /// The least short address of the block that no reservation has.
-    pub fn first_free(&self) -> Option<Short>
-        ensures { MatchOption result
-            (IsFull self.now.block self.now.reserved)
-            (IsLeastFree self.now.block self.now.reserved) }
-    {
-        self.view().first_free()
     }
 }

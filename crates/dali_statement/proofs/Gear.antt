@@ -14,7 +14,7 @@ use Rattle.dali_gear.specs.declared.state.InitialisationState.TheVariants.{Disab
 use Rattle.dali_gear.specs.Gear.{Gear as Real, is_active, is_second, concerns, after_frame, answer_to}
 use Rattle.dali_frame.specs.Random.{value_of}
 use Rattle.dali_gear.specs.Gear.{with_power, without_power, gear_expired, gear_quieted}
-use Rattle.dali_statement.specs.Page.{Part, High, Middle, Low, same, Gear, code, takes, answer, QueryShort, QueryRandom}
+use Rattle.dali_statement.specs.Page.{Part, High, Middle, Low, same, Gear, is_found, code, takes, answer, QueryShort, QueryRandom}
 use Rattle.dali_statement.specs.Gear.{part_seen, command_seen, byte_in, gear_seen, HasShort}
 use Rattle.dali_statement.proofs.Tests.{equal, equals}
 
@@ -195,6 +195,15 @@ random_of s v asked.Low true st r a (Some n) hf e = same_test _ v (s == n) (n ==
 
 pub random : (s v : ℕ) (q : AskedPart) (g : Real) → answer_to (read.RandomByte s q) g ≡ Some v → answer (QueryRandom s (part_seen q)) (gear_seen g) ≡ Some v
 random s v q g e = random_of s v q g.powered g.state g.random g.search g.short g.half e
+
+-- a gear that takes part and has the search address is found on the page
+found_of : (b : Bool) (st : InitialisationState) (r : ℕ) (a : SearchAddress) (sh : Option ℕ) (hf : Option Read) → b ≡ true
+    → (is_active st && (r == value_of a)) ≡ true → is_found (gear_seen (real b st r a sh hf)) ≡ true
+found_of true st r a sh hf on e = e
+found_of false st r a sh hf on e = absurd (cc)
+
+pub found : (g : Real) → g.powered ≡ true → (is_active g.state && (g.random == value_of g.search)) ≡ true → is_found (gear_seen g) ≡ true
+found g on e = found_of g.powered g.state g.random g.search g.short g.half on e
 
 pub power_off : (g : Real) → gear_seen (without_power g) ≡ record (gear_seen g) { live = false; search = λ p. 0xFF }
 power_off g = refl

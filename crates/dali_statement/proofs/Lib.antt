@@ -1,16 +1,12 @@
-mod Tests
-mod One
-mod Moved
-mod Sound
-mod Steps
+pub mod Tests
+pub mod One
+pub mod Moved
+pub mod Sound
+pub mod Steps
 mod Records
-mod Whole
+pub mod Whole
+mod Again
 mod Histories
-mod Gear
-mod Rows
-mod Scripts
-mod Sites
-mod Bridge
-mod Events
-mod Frames
-mod Runs
+pub mod Gear
+pub mod Rows
+pub mod Scripts

@@ -65,6 +65,16 @@ pub reserved_by : (test : ℕ → Bool) (o : Option ℕ) → unwrap_or (option_m
 reserved_by test None e = absurd (false_is e)
 reserved_by test (Some r) e = (r, refl, e)
 
+-- whom PROGRAM finds has no short address, and the new one is reserved for its number
+pub vacant_by : (s : Site) (c b : ℕ) (x : Gear) → Knows s.said x → may_send s c (Program (Some b)) ≡ true → is_found x ≡ true
+    → (x.short ≡ None) × (s.reserved c b ≡ Some x.random)
+vacant_by s c b x knows may found =
+    let sent = reserved_by (λ r. holds r (s.reserved c b)) (number_sent s.said) (second_of_both _ _ may) in
+    let at : x.random ≡ sent.0 = found_random x found ∙ searched s.said x sent.0 knows sent.1 (found_live x found) in (
+      knows.vacant sent.0 (first_of_both _ _ may) sent.1 (found_live x found) at,
+      holds_is sent.0 (s.reserved c b) sent.2 ∙ ap (λ r. Some r) (sym at),
+    )
+
 -- ---------------------------------------------------------------- what it has it keeps
 
 pub kept_by : (s : Site) (c : ℕ) (m : Command) (n a : ℕ) (x : Gear) → Knows s.said x → may_send s c m ≡ true → x.short ≡ Some a
@@ -79,10 +89,7 @@ kept_by s c (Search p v) n a x knows may is = (is, refl)
 kept_by s c (Program None) n a x knows may is = absurd (false_is may)
 kept_by s c (Program (Some b)) n a x knows may is = (go (is_found x) refl, refl) where
   go : (t : Bool) → is_found x ≡ t → (if t then Some b else x.short) ≡ Some a
-  go true found =
-      let sent = reserved_by (λ r. holds r (s.reserved c b)) (number_sent s.said) (second_of_both _ _ may) in
-      absurd (some_none is (knows.vacant sent.0 (first_of_both _ _ may) sent.1 (found_live x found)
-      (found_random x found ∙ searched s.said x sent.0 knows sent.1 (found_live x found))))
+  go true found = absurd (some_none is (vacant_by s c b x knows may found).0)
   go false found = is
 kept_by s c QueryShort n a x knows may is = (is, refl)
 kept_by s c (QueryRandom b q) n a x knows may is = (is, refl)
@@ -101,10 +108,7 @@ new_by s c (Search p v) n a x knows may is = inl is
 new_by s c (Program None) n a x knows may is = absurd (false_is may)
 new_by s c (Program (Some b)) n a x knows may is = go (is_found x) refl is where
   go : (t : Bool) → is_found x ≡ t → (if t then Some b else x.short) ≡ Some a → (x.short ≡ Some a) ⊎ (Given s c a x × (x.random ≡ x.random))
-  go true found new =
-      let sent = reserved_by (λ r. holds r (s.reserved c b)) (number_sent s.said) (second_of_both _ _ may) in
-      let at : x.random ≡ sent.0 = found_random x found ∙ searched s.said x sent.0 knows sent.1 (found_live x found) in
-      inr (ap (λ d. s.reserved c d) (sym (some_is new)) ∙ holds_is sent.0 (s.reserved c b) sent.2 ∙ ap (λ r. Some r) (sym at), refl)
+  go true found new = inr (ap (λ d. s.reserved c d) (sym (some_is new)) ∙ (vacant_by s c b x knows may found).1, refl)
   go false found new = inl new
 new_by s c QueryShort n a x knows may is = inl is
 new_by s c (QueryRandom b q) n a x knows may is = inl is

@@ -1,5 +1,5 @@
 use Rattle.std.proofs.Common.{◌≡◌, ◌⊎◌, inl, inr, ℕ, ◌<◌, ◌+◌, ◌*◌, Bool, true, false, refl, sym, ap, subst, ◌∙◌, arith, List, ◌∷◌, Option, Some, None}
-use Rattle.std.specs.Prelude.{◌==◌, ◌&&◌, if◌then◌else◌, option_map, unwrap_or}
+use Rattle.std.specs.Prelude.{◌==◌, ◌&&◌, nat_lt, if◌then◌else◌, option_map, unwrap_or}
 use Rattle.dali_statement.specs.Page.{Part, High, Middle, Low, same, byte, Command, QueryShort}
 use Rattle.dali_statement.specs.Page.{QueryRandom, Gear, is_found, takes, holds, answer, code, Heard, Byte, Destroyed, Sent}
 use Rattle.dali_statement.specs.Page.{Plan, Site, number_sent, is_told, tells, gear_after}
@@ -107,15 +107,26 @@ told_true p s (QueryRandom b r) (Byte w) safe heard q a v small e =
     )
 told_true p s _ _ safe heard q a v small e = absurd (cc)
 
--- the gear that was told to have a random address
-pub told_gear : (p : Plan) (s : Site) → Safe p s → (a r : ℕ) → is_told s a r ≡ true → (g : ℕ) × (x : Gear) × At s.gear g x × (x.short ≡ Some a) × (x.random ≡ r)
-told_gear p s safe a r e =
+-- the gear that was told to have a random address, if all that was told is true
+abbrev pub Told : Type 0
+Told = Part → ℕ → ℕ → Bool
+
+abbrev pub told_so : Told → ℕ → ℕ → Bool
+told_so told a r = nat_lt a 64 && (told High a (byte High r) && (told Middle a (byte Middle r) && told Low a (byte Low r)))
+
+abbrev pub IsTrue : Told → List Gear → Type 0
+IsTrue told gs =
+    (q : Part) (a v : ℕ) → a < 64 → told q a v ≡ true → (g : ℕ) × (x : Gear) × At gs g x × (x.short ≡ Some a) × (byte q x.random ≡ v)
+
+pub told_by : (p : Plan) (s : Site) → Safe p s → (told : Told) → IsTrue told s.gear → (a r : ℕ) → told_so told a r ≡ true
+    → (g : ℕ) × (x : Gear) × At s.gear g x × (x.short ≡ Some a) × (x.random ≡ r)
+told_by p s safe told true_of a r e =
     let small = below a 64 (first_of_both _ _ e) in
     let rest = second_of_both _ _ e in
     let more = second_of_both _ _ rest in
-    let high = safe.sound.told_of High a (byte High r) small (first_of_both _ _ rest) in
-    let middle = safe.sound.told_of Middle a (byte Middle r) small (first_of_both _ _ more) in
-    let low = safe.sound.told_of Low a (byte Low r) small (second_of_both _ _ more) in
+    let high = true_of High a (byte High r) small (first_of_both _ _ rest) in
+    let middle = true_of Middle a (byte Middle r) small (first_of_both _ _ more) in
+    let low = true_of Low a (byte Low r) small (second_of_both _ _ more) in
     let x = high.1 in
     let same_as : (g : ℕ) (y : Gear) → At s.gear g y → y.short ≡ Some a → y ≡ x =
     λ g y at has. one_at s.gear high.0 y x (subst (λ k. At s.gear k y) (safe.sound.once g high.0 a y x at high.2 has high.3) at) high.2 in (
@@ -127,6 +138,9 @@ told_gear p s safe a r e =
           (ap (λ y. byte Middle y.random) (sym (same_as middle.0 middle.1 middle.2 middle.3)) ∙ middle.4)
           (ap (λ y. byte Low y.random) (sym (same_as low.0 low.1 low.2 low.3)) ∙ low.4),
     )
+
+pub told_gear : (p : Plan) (s : Site) → Safe p s → (a r : ℕ) → is_told s a r ≡ true → (g : ℕ) × (x : Gear) × At s.gear g x × (x.short ≡ Some a) × (x.random ≡ r)
+told_gear p s safe a r e = told_by p s safe s.told safe.sound.told_of a r e
 
 -- three bytes that were told of one gear are those of its random address
 pub bytes_tell : (p : Plan) (s : Site) → Safe p s → (a high middle low : ℕ) → a < 64 → s.told High a high ≡ true → s.told Middle a middle ≡ true

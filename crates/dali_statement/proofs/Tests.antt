@@ -155,3 +155,8 @@ pub at_index : {A : Type 0} (xs : List A) (i : ℕ) (x d : A) → slice_get xs i
 at_index {A} [] i x d at = absurd (cc)
 at_index {A} (y ∷ ys) zero x d at = (omega arith, some_is at)
 at_index {A} (y ∷ ys) (suc i) x d at = let more = at_index ys i x d at in (let small : i < length ys = more.0 in omega arith, more.1)
+
+pub placed : {A B : Type 0} (f : A → B) (d : A) (xs : List A) (i : ℕ) → i < length xs → slice_get (map f xs) i ≡ Some (f (get_or xs i d))
+placed {A} {B} f d [] i h = absurd (omega arith)
+placed {A} {B} f d (x ∷ xs) zero h = refl
+placed {A} {B} f d (x ∷ xs) (suc i) h = placed f d xs i (let there : suc i < length (x ∷ xs) = h in omega arith)

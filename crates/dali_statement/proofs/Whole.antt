@@ -1,15 +1,17 @@
 use Rattle.std.proofs.Common.{◌≡◌, ◌⊎◌, inl, inr, ℕ, ◌<◌, Bool, true, false, refl, sym, ap, subst, ◌∙◌, List, [], ◌∷◌, ◌++◌, map, Option}
 use Rattle.std.proofs.Common.{Some, None}
-use Rattle.std.specs.Prelude.{◌==◌, ◌&&◌, ◌||◌, not, nat_lt, if◌then◌else◌, unwrap_or}
+use Rattle.std.specs.Prelude.{◌==◌, ◌&&◌, ◌||◌, not, nat_lt, if◌then◌else◌, unwrap_or, is_none}
 use Rattle.dali_statement.specs.Page.{Part, byte, Command, Gear, holds, Heard, Byte, Nothing, Destroyed, Moment, Sent, Ends, Reserves, Enrols, Releases}
-use Rattle.dali_statement.specs.Page.{Power, Expires, Plan, Site, start, tells, befalls, gear_after, happens, hears, differ, are_apart, may_send, allowed}
+use Rattle.dali_statement.specs.Page.{Power, Expires, Plan, Site, start, is_told, tells, befalls, gear_after, happens, hears, differ, are_apart, may_send}
+use Rattle.dali_statement.specs.Page.{allowed}
 use Rattle.dali_statement.specs.Page.{IsPlan, after, all_allowed, IsHistory, KeepsNow, KeepsAddresses, KeepsPromise}
-use Rattle.dali_statement.proofs.Tests.{first_of_both, second_of_both, either, equal, below, holds_is, holds_by, any_at, any_by, all_at, differ_at}
+use Rattle.dali_statement.proofs.Tests.{first_of_both, second_of_both, either, equal, equals, below, some_is, holds_is, holds_by, any_at, any_by, all_at}
+use Rattle.dali_statement.proofs.Tests.{differ_at}
 use Rattle.dali_statement.proofs.Tests.{not_true}
 use Rattle.dali_statement.proofs.One.{Knows, knows_nothing}
 use Rattle.dali_statement.proofs.Moved.{At, Becomes, befallen, befalling}
-use Rattle.dali_statement.proofs.Sound.{Sound, Moves, sound_after}
-use Rattle.dali_statement.proofs.Steps.{Safe, frame_moves, frame_knows, told_true}
+use Rattle.dali_statement.proofs.Sound.{Sound, Moves, sound_after, one_at, apart_at}
+use Rattle.dali_statement.proofs.Steps.{Safe, frame_moves, frame_knows, told_true, told_gear}
 use Rattle.dali_statement.proofs.Records.{enrols, reserves, releases}
 
 -- EVERY HISTORY KEEPS THE PROMISE.
@@ -203,11 +205,66 @@ safe_after p (m ∷ ms) s safe allow =
 keeps : (s t : Site) → Moves s.reserved s.gear t.gear → KeepsAddresses s t
 keeps s t moves g a r held = let to = moves.to g a held.0 held.1 held.2 in (to.0, to.1, to.2, to.3 ∙ held.3)
 
-keeps_after : (p : Plan) (ms : List Moment) (s : Site) → Safe p s → all_allowed p s ms ≡ true → KeepsAddresses s (after s ms)
+pub keeps_after : (p : Plan) (ms : List Moment) (s : Site) → Safe p s → all_allowed p s ms ≡ true → KeepsAddresses s (after s ms)
 keeps_after p [] s safe allow g a r held = held
 keeps_after p (m ∷ ms) s safe allow g a r held =
     let step = goes p s m safe (first_of_both _ _ allow) in
     keeps_after p ms (happens s m) step.safe (second_of_both _ _ allow) g a r (keeps s (happens s m) step.moves g a r held)
+
+-- ---------------------------------------------------------------- reservations
+
+-- nothing is released that is reserved for the number of a gear that has the address in the end
+unreleased : (p : Plan) (s : Site) → Safe p s → (c a r b : ℕ) (ms : List Moment) → all_allowed p s (Releases c a r b ∷ ms) ≡ true → (g : ℕ) (x : Gear)
+    → s.reserved c a ≡ Some x.random → At (after s (Releases c a r b ∷ ms)).gear g x → x.short ≡ Some a → ⊥
+unreleased p s safe c a r b ms allow g x is at has =
+    let may = first_of_both (allowed p s (Releases c a r b)) (all_allowed p (happens s (Releases c a r b)) ms) allow in
+    let rest = second_of_both (holds r (s.reserved c a)) (is_told s b r && not (a == b)) may in
+    let number : x.random ≡ r =
+    some_is (sym is ∙ holds_is r (s.reserved c a) (first_of_both (holds r (s.reserved c a)) (is_told s b r && not (a == b)) may)) in
+    let told = told_gear p s safe b r (first_of_both (is_told s b r) (not (a == b)) rest) in
+    let later = keeps_after p (Releases c a r b ∷ ms) s safe allow told.0 b r (told.1, told.2, told.3, told.4) in
+    let end = safe_after p (Releases c a r b ∷ ms) s safe allow in
+    let gs : List Gear = (after s (Releases c a r b ∷ ms)).gear in
+    let same = apart_at gs g told.0 x later.0 end.sound.apart at later.1 (number ∙ sym later.3) (safe.sound.within c a x.random is).2 in
+    let one = one_at gs told.0 x later.0 (subst (λ k. At gs k x) same at) later.1 in
+    not_true (a == b) (second_of_both (is_told s b r) (not (a == b)) rest) (equals a b (some_is (sym has ∙ ap (λ y. y.short) one ∙ later.2)))
+
+none_free : {n : ℕ} (o : Option ℕ) → is_none o ≡ true → o ≡ Some n → ⊥
+none_free {n} None e is = absurd (cc)
+none_free {n} (Some m) e is = absurd (cc)
+
+pub reserved_after : (p : Plan) (ms : List Moment) (s : Site) → Safe p s → all_allowed p s ms ≡ true → (c a g : ℕ) (x : Gear)
+    → s.reserved c a ≡ Some x.random → At (after s ms).gear g x → x.short ≡ Some a → (after s ms).reserved c a ≡ Some x.random
+reserved_after p [] s safe allow c a g x is at has = is
+reserved_after p (m ∷ ms) s safe allow c a g x is at has =
+    reserved_after p ms (happens s m) (goes p s m safe here).safe (second_of_both _ _ allow) c a g x (one m here allow at) at has where
+      here : allowed p s m ≡ true
+      here = first_of_both _ _ allow
+
+      one : (m : Moment) → allowed p s m ≡ true → all_allowed p s (m ∷ ms) ≡ true → At (after s (m ∷ ms)).gear g x
+          → (happens s m).reserved c a ≡ Some x.random
+      one (Sent d y reach Destroyed) may all at = is
+      one (Sent d y reach (Byte v)) may all at = is
+      one (Sent d y reach Nothing) may all at = is
+      one (Reserves d b n) may all at = go ((c == d) && (a == b)) refl where
+        go : (t : Bool) → ((c == d) && (a == b)) ≡ t → (if t then Some n else s.reserved c a) ≡ Some x.random
+        go true e = absurd (
+            let free : is_none (s.reserved d b) ≡ true = first_of_both _ _ (second_of_both _ _ (second_of_both _ _ may)) in
+            let has_it : s.reserved d b ≡ Some x.random =
+            ap (λ k. s.reserved k b) (sym (equal c d (first_of_both _ _ e))) ∙ ap (s.reserved c) (sym (equal a b (second_of_both _ _ e))) ∙ is in
+            none_free (s.reserved d b) free has_it)
+        go false e = is
+      one (Releases d b n e) may all at = go ((c == d) && (a == b)) refl where
+        go : (t : Bool) → ((c == d) && (a == b)) ≡ t → (if t then None else s.reserved c a) ≡ Some x.random
+        go true same =
+            let block : d ≡ c = sym (equal c d (first_of_both _ _ same)) in
+            let short : b ≡ a = sym (equal a b (second_of_both _ _ same)) in
+            absurd (unreleased p s safe d b n e ms all g x (ap (λ k. s.reserved k b) block ∙ ap (s.reserved c) short ∙ is) at
+            (has ∙ ap (λ k. Some k) (sym short)))
+        go false same = is
+      one _ may all at = is
+
+-- ---------------------------------------------------------------- histories
 
 pub after_both : (ms ns : List Moment) (s : Site) → after s (ms ++ ns) ≡ after (after s ms) ns
 after_both [] ns s = refl

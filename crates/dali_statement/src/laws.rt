@@ -1,7 +1,7 @@
 //! What is proved of the page. Programs don't call these.
 
-ghost use Rattle.std.specs.Prelude.{◌≡◌, ◌≢◌, ◌⊎◌, ℕ, ◌<◌, ◌++◌, length, List};
-ghost use Rattle.std.specs.Prelude.{[], map, Option, Some, true, false, not, unwrap_or, ◌==◌};
+ghost use Rattle.std.specs.Prelude.{◌≡◌, ◌≢◌, ◌⊎◌, ℕ, List};
+ghost use Rattle.std.specs.Prelude.{[], map, Option, Some, true, false, not, ◌==◌};
 ghost use Rattle.std.specs.List.{AllByRecursion};
 ghost use Rattle.dali_special.specs.declared.command.Part.{Part as AskedPart};
 ghost use Rattle.dali_special.specs.declared.command.Command.{Command as Read};
@@ -12,10 +12,8 @@ ghost use Rattle.dali_frame.specs.Random.{value_of};
 ghost use Rattle.dali_frame.specs.Short.{short_of};
 ghost use Rattle.dali_script.specs.declared.block.Block.{Block};
 ghost use Rattle.dali_script.specs.declared.trace.Entry.{Entry};
-ghost use Rattle.dali_script.specs.Records.{Assignment, Has, HasAddress, InBlock};
-ghost use Rattle.dali_script.specs.declared.finding.Finding.{Finding};
-ghost use Rattle.dali_script.specs.declared.records.Record.TheVariants as record_of;
-ghost use Rattle.dali_script.specs.Findings.{search_of, assigned};
+ghost use Rattle.dali_script.specs.Records.{Assignment, Has};
+ghost use Rattle.dali_script.specs.Findings.{search_of};
 ghost use Rattle.dali_script.specs.Scripts.{Lawful};
 ghost use Rattle.dali_gear.specs.Gear.{Gear as Real, after_frame, answer_to, with_power, without_power, gear_expired};
 ghost use Rattle.dali_gear.specs.Gear.{gear_quieted};
@@ -24,17 +22,9 @@ ghost use Rattle.dali_gear.specs.declared.row.Reach.TheVariants.{Everyone};
 ghost use Rattle.dali_gear.specs.Row.{row_after, answers_of};
 ghost use Rattle.dali_statement.specs.Page.{Moment, Plan, QueryShort, QueryRandom, takes, answer, is_told, IsHistory};
 ghost use Rattle.dali_statement.specs.Page.{KeepsPromise, Byte, befalls, hears, Part, byte, Site, tells, may_send};
+ghost use Rattle.dali_statement.specs.Page.{Gear, IsPlan};
+ghost use Rattle.dali_statement.specs.Again.{ended, IsReplaced};
 ghost use Rattle.dali_statement.specs.Scripts.{said_of};
-ghost use Rattle.dali_statement.specs.Sites.{owner_in, plan_seen};
-ghost use Rattle.dali_statement.specs.Runs.{LeadsTo};
-ghost use Rattle.dali_events.specs.Promise.{KeepsPromiseNow, KeepsAddresses};
-ghost use Rattle.dali_statement.specs.Page.{IsPlan, are_apart, allowed, Reserves, Enrols, Releases};
-ghost use Rattle.dali_events.specs.declared.event.Event.{Event};
-ghost use Rattle.dali_events.specs.Plan.{Plan as SitePlan, IsPlan as IsSitePlan, block_at};
-ghost use Rattle.dali_events.specs.Used.{used_shorts};
-ghost use Rattle.dali_events.specs.World.{World, Controller};
-ghost use Rattle.dali_events.specs.Runs.{after as after_log, IsRun};
-ghost use Rattle.dali_events.specs.Allowed.{MayCommit, MaySend};
 ghost use Rattle.dali_statement.specs.Gear.{part_seen, command_seen, gear_seen, HasShort};
 ghost use Rattle.dali_statement.specs.Whole.{IsKeptByAll};
 ghost use Rattle.dali_statement.specs.Weaker.{BreakUnder, BreakApart, BreakAllTheSame, with_program, unnumbered};
@@ -50,6 +40,15 @@ ghost use Rattle.dali_statement.specs.Weaker.{with_release, mishearing, drawing_
 /// five rules send and hear, whichever frames are destroyed, whenever power comes and goes.
 pub fn every_history_keeps_the_promise()
     ensures { (p : Plan) (ms : List Moment) → IsHistory p ms → KeepsPromise p ms }
+{}
+
+/// HISTORIES BEGIN WITH RECORDS. Where one ended another may begin, with the gear and the records that are there then
+/// (`again`). So may one if a gear was replaced (`replaced`): another stands in its place, without short address and
+/// with no random address of other gear; no record has the short address any more, and tables of other senders may be
+/// copied. The new gear gets its address by the five rules. The replaced one does not come back.
+pub fn histories_begin_with_records()
+    ensures again { (p : Plan) (ms : List Moment) → IsHistory p ms → IsPlan (ended p ms) }
+    ensures replaced { (p q : Plan) (g a : ℕ) (old new : Gear) → IsPlan p → IsReplaced p g old new a q → IsPlan q }
 {}
 
 /// THE RULES CAN BE KEPT, by a history in which two senders give addresses and enrol the gear.
@@ -157,50 +156,4 @@ pub fn scripts_keep_the_rules()
         → ((d r : ℕ) → Has records (d, r) → s.reserved c d ≡ Some r)
         → command_of f ≡ read.QueryShort → short_of v ≡ Some a
         → tells QueryShort (Byte v) s.said q a (byte q (value_of (search_of t))) ≡ true }
-{}
-
-/// A SITE OF `dali_events` MEETS THE PAGE'S PREMISES. In every run no two gear have one random address (`numbers`). A
-/// plan that is not refused is one of the page, without records (`plan`), and its blocks are disjoint (`block`).
-pub fn sites_meet_the_premises()
-    ensures numbers { (p : SitePlan) (capacity : ℕ) (front rest : List Event) → IsRun p capacity (front ++ rest)
-        → are_apart (map gear_seen (after_log p capacity front).gear) ≡ true }
-    ensures plan { (p : SitePlan) → IsSitePlan p → IsPlan (plan_seen p) }
-    ensures block { (p : SitePlan) → IsSitePlan p → (c a : ℕ) → c < length p.blocks → InBlock (block_at p c) a
-        → owner_in p.blocks 0 a ≡ c }
-{}
-
-/// ORDERS KEEP THE RULES. A record that a controller may order to be kept is one that rules 3 and 4 allow, on a site of
-/// the page where it has the same reservations and its finding was told: a reservation, of no address that used gear
-/// have (`reserve`), an enrolment (`enrol`), a release (`release`). Who may send on a site has its turn by rule 5
-/// (`turn`).
-pub fn orders_keep_the_rules()
-    ensures turn { (w : World) (c : ℕ) (f : Forward) → MaySend w c f → (unwrap_or w.bus.owner c == c) ≡ true }
-    ensures reserve { (p : SitePlan) (s : Site) (k : Controller) (c : ℕ) → IsSitePlan p → (a r : ℕ)
-        → c < length p.blocks → k.records.block ≡ block_at p c → MayCommit k (record_of.Reserve a r)
-        → (Has (used_shorts p.used) a → ⊥) → ((q : ℕ) → s.reserved c a ≡ Some q → HasAddress k.records.reserved a)
-        → allowed (plan_seen p) s (Reserves c a r) ≡ true }
-    ensures enrol { (p : SitePlan) (s : Site) (k : Controller) (c a r : ℕ) → MayCommit k (record_of.Enrol a r)
-        → ((x : Finding) → k.finding ≡ Some x → is_told s (assigned x).0 (assigned x).1 ≡ true)
-        → allowed (plan_seen p) s (Enrols c a r) ≡ true }
-    ensures release { (p : SitePlan) (s : Site) (k : Controller) (c a r : ℕ) → MayCommit k (record_of.Release a r)
-        → ((x : Finding) → k.finding ≡ Some x → is_told s (assigned x).0 (assigned x).1 ≡ true)
-        → (Has k.records.reserved (a, r) → s.reserved c a ≡ Some r)
-        → (b : ℕ) × (allowed (plan_seen p) s (Releases c a r b) ≡ true) }
-{}
-
-/// EVERY RUN OF A SITE IS A HISTORY OF THE PAGE. To each moment of a run leads a history with the same gear, the same
-/// owner, the same reservations, and with each table; and later moments go on with it.
-pub fn every_run_is_a_history()
-    ensures { (p : SitePlan) (capacity : ℕ) (front rest : List Event) → IsRun p capacity (front ++ rest)
-        → (ms : List Moment) × (more : List Moment) × LeadsTo p (after_log p capacity front) ms
-        × LeadsTo p (after_log p capacity (front ++ rest)) (ms ++ more) }
-{}
-
-/// EVERY RUN KEEPS THE PROMISE, by the page: at each moment of a run (`now`), and from each one on (`ever_after`). That
-/// is what `every_run_is_safe` of `dali_events` says, here from five rules of senders.
-pub fn every_run_keeps_the_promise()
-    ensures now { (p : SitePlan) (capacity : ℕ) (front rest : List Event) → IsRun p capacity (front ++ rest)
-        → KeepsPromiseNow (after_log p capacity front) }
-    ensures ever_after { (p : SitePlan) (capacity : ℕ) (front rest : List Event) → IsRun p capacity (front ++ rest)
-        → KeepsAddresses (after_log p capacity front) (after_log p capacity (front ++ rest)) }
 {}

@@ -20,12 +20,14 @@ use Rattle.dali_events.specs.Allowed.{Allowed, IsUp, IsDue, MaySend}
 use Rattle.dali_events.specs.declared.used.Used.{Used}
 use Rattle.dali_events.specs.Runs.{after, after_all, IsRun, LeavesUsed}
 use Rattle.dali_events.specs.Promise.{IsSafe}
+use Rattle.dali_events.specs.Page.{plan_seen, LeadsTo}
+use Rattle.dali_statement.specs.Page.{Moment, KeepsPromise as KeepsPagePromise}
+use Rattle.dali_statement.proofs.Whole.{every_history_keeps_the_promise}
 use Rattle.dali_events.proofs.Invariant.Starting.{start_count}
 use Rattle.dali_events.proofs.Invariant.Growing.{after_more, run_more}
 use Rattle.dali_events.proofs.Invariant.Controllers.{controllers_count}
-use Rattle.dali_events.proofs.Invariant.Safe.{safe_history, safe, holds_after}
-use Rattle.dali_events.proofs.Invariant.Agreeing.{tables_agree_in}
-use Rattle.dali_events.proofs.Invariant.Keeping.{records_kept}
+use Rattle.dali_events.proofs.Invariant.Safe.{safe_history, safe, holds_after, every_run_is_a_history}
+use Rattle.dali_events.proofs.Invariant.Agreeing.{tables_agree_in, records_kept}
 use Rattle.dali_events.specs.Laws.{TablesAgree, KeepsRecords}
 use Rattle.dali_standing.specs.Standing.{Standing, stand_of, machines_at, machines_after, machine_in, controller_on, Moves, MayBeSent, MayBefall}
 use Rattle.dali_world.proofs.Capacity.{capacity_kept}
@@ -414,7 +416,14 @@ act_found s was old shares room c i o view site answer m there surveys is =
 -- ---------------------------------------------------------------- the promise, of the world now
 
 pub safe_now : (p : Plan) (queue : ℕ) (log : List Event) → IsRun p queue log → IsSafe (after p queue log)
-safe_now p queue log run = safe p (after p queue log) (holds_after p queue log run)
+safe_now p queue log run = safe p run.plan (after p queue log) (holds_after p queue log run)
+
+-- its log is a history of the page, which keeps the page's promise
+pub page_now : (p : Plan) (queue : ℕ) (log : List Event) → IsRun p queue log
+    → (ms : List Moment) × LeadsTo p (after p queue log) ms × KeepsPagePromise (plan_seen p) ms
+page_now p queue log run =
+    let history = every_run_is_a_history p queue log [] (subst (λ (l : List Event). IsRun p queue l) (sym (append-nil log)) run) in
+    (history.0, history.2, every_history_keeps_the_promise (plan_seen p) history.0 history.2.history)
 
 pub records_now : (p : Plan) (queue : ℕ) (log : List Event) → IsRun p queue log → KeepsRecords p (after p queue log)
 records_now p queue log run = records_kept p queue log [] (subst (λ (l : List Event). IsRun p queue l) (sym (append-nil log)) run)

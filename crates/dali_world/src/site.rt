@@ -1,11 +1,13 @@
 ghost use Rattle.std.specs.Prelude.{◌≡◌, ◌+◌, ◌<◌, ◌≤◌, length, map, true, false, Some, None, OnOk, IfOk, OnErr};
 ghost use Rattle.std.specs.Prelude.{IfErr, IfSome, IsTrue, ◌↔◌, ◌++◌, ◌∷◌, [], vec_len, MatchOption, slice_index_or};
-ghost use Rattle.std.specs.Prelude.{slice_set};
+ghost use Rattle.std.specs.Prelude.{List, slice_set};
 ghost use Rattle.std.specs.Vec.{vec_capacity};
 ghost use Rattle.dali_events.specs.declared.event.Event.TheVariants as event;
 ghost use Rattle.dali_events.specs.Foreign.{is_foreign};
 ghost use Rattle.dali_events.specs.World.{gear_at, controller_at};
 ghost use Rattle.dali_events.specs.Allowed.{IsUp, IsDue, MaySend};
+ghost use Rattle.dali_statement.specs.Page.{Moment, KeepsPromise as KeepsPagePromise};
+ghost use Rattle.dali_events.specs.Page.{plan_seen, LeadsTo};
 ghost use Rattle.dali_events.specs.Runs.{IsRun};
 ghost use Rattle.dali_events.specs.Promise.{KeepsPromise, IsSafe, IsSafeHistory};
 ghost use Rattle.dali_events.specs.Laws.{TablesAgree, KeepsRecords};
@@ -133,7 +135,6 @@ impl SiteState {
             → m.course.way ≡ Surveying → receipt.order ≡ order.Done AllFound → RollWasCalled self.old c) }
         ensures unchanged { OnErr result (self.new ≡ self.old) }
     {
-        let _log = &self.log;
         self.check_up(c)?;
         if !self.standing.may_act(c, input) {
             return Err(Refusal::NotDue);
@@ -141,9 +142,7 @@ impl SiteState {
         if self.standing.is_crowded() {
             return Err(Refusal::QueueFull);
         }
-        if self.is_full() {
-            return Err(Refusal::LogFull);
-        }
+        self.check_room()?;
         if self.would_reserve_used(c, input) {
             return Err(Refusal::AddressInUse);
         }
@@ -170,9 +169,7 @@ impl SiteState {
         if self.standing.is_crowded() {
             return Err(Refusal::QueueFull);
         }
-        if self.is_full() {
-            return Err(Refusal::LogFull);
-        }
+        self.check_room()?;
         self.standing.offer(c, frame);
         append(&mut self.log, &Event::Offered(c, frame));
         count(&mut self.shares, c);
@@ -197,9 +194,7 @@ impl SiteState {
         if self.standing.is_spent(request.frame, trouble.reach()) {
             return Err(Refusal::DrawsSpent);
         }
-        if self.is_full() {
-            return Err(Refusal::LogFull);
-        }
+        self.check_room()?;
         match trouble {
             Trouble::Destroyed(set) => Ok(self.destroy(request, set)),
             Trouble::Collision => Ok(self.collide(request)),
@@ -300,9 +295,7 @@ impl SiteState {
         let Some(kept) = self.standing.agreement(c, copy) else {
             return Err(Refusal::StoreDisagrees);
         };
-        if self.is_full() {
-            return Err(Refusal::LogFull);
-        }
+        self.check_room()?;
         self.standing.up(c, copy);
         append(&mut self.log, &Event::Up(c, kept));
         Ok(())
@@ -391,9 +384,14 @@ impl SiteState {
     /// address and has that number, so no two tables disagree. `KeepsPromise` says it, in `specs/Promise` of
     /// `dali_events`; the other clauses say more, of what was given and drawn. All gear and all controllers of the plan
     /// are there, and each controller keeps records of its block.
+    ///
+    /// The log is a history of the page of `dali_statement`, which has the same gear, owner, reservations and tables in
+    /// its end, and keeps the page's promise (`page`).
     pub fn is_safe(&self)
         ensures promise { KeepsPromise self.now.plan self.now.queue self.now.log }
         ensures run { IsRun self.now.plan self.now.queue self.now.log }
+        ensures page { (ms : List Moment) × LeadsTo self.now.plan (world self.now) ms
+            × KeepsPagePromise (plan_seen self.now.plan) ms }
         ensures safe { IsSafeHistory self.now.plan self.now.queue self.now.log }
         ensures now { IsSafe (world self.now) }
         ensures agree { TablesAgree (world self.now) }
@@ -401,6 +399,7 @@ impl SiteState {
         ensures gear { length (world self.now).gear ≡ self.now.plan.gear }
         ensures controllers { length (world self.now).controllers ≡ length self.now.plan.blocks }
     {
+        // For the prover: what holds of a site's fields is known once one is read.
         let _log = &self.log;
     }
 
@@ -531,18 +530,10 @@ impl SiteState {
         ensures ok { OnOk result (HasRoom self.now) }
         ensures refused { IfErr result (IsLogFull self.now) }
     {
-        if self.is_full() {
+        if self.log.len() == self.room {
             return Err(Refusal::LogFull);
         }
         Ok(())
-    }
-
-    /// Whether the log has no room for one more event.
-    fn is_full(&self) -> bool
-        ensures full { result ≡ true → IsFull self.now }
-        ensures room { result ≡ false → HasRoom self.now }
-    {
-        self.log.len() == self.room
     }
 
     /// Controller `c` is there, and is up.

@@ -40,11 +40,11 @@ fn number_of(address: Option<Short>) -> Option<u8> {
 }
 
 fn is_free<R: Abort>(rt: &R, kept: &Kept, wanted: Option<u8>) {
-    same(rt, &number_of(kept.first_free()), &wanted);
+    same(rt, &number_of(kept.view().first_free()), &wanted);
 }
 
 fn is_reserved<R: Abort>(rt: &R, kept: &Kept, number: u32, wanted: Option<u8>) -> Result<(), Fail> {
-    let reserved = kept.reserved_for(random(number)?);
+    let reserved = kept.view().reserved_for(random(number)?);
     same(rt, &number_of(reserved), &wanted);
     Ok(())
 }

@@ -1,14 +1,16 @@
-use Rattle.std.proofs.Common.{arith, ◌≡◌, ℕ, ◌<◌, ◌==◌, true, List, [], ◌∷◌, ◌++◌, refl, sym, ap, subst, ◌∙◌, length}
+use Rattle.std.proofs.Common.{arith, inl, inr, Some, ◌≡◌, ℕ, ◌<◌, ◌==◌, true, List, [], ◌∷◌, ◌++◌, refl, sym, ap, subst, ◌∙◌, length}
 use Rattle.std.proofs.lemmas.Bool.Decides.{nat_tests}
 use Rattle.dali_frame.specs.declared.frames.Forward.{Forward}
 use Rattle.dali_frame.specs.declared.frames.Answer.TheVariants.{Byte}
+use Rattle.dali_frame.specs.declared.numbers.SearchAddress.{SearchAddress}
 use Rattle.dali_frame.specs.Random.{number_of}
+use Rattle.dali_special.specs.declared.command.Command.{Command}
 use Rattle.dali_special.specs.declared.command.Command.TheVariants.{RandomByte}
 use Rattle.dali_special.specs.declared.command.Part.TheVariants.{High, Middle, Low}
 use Rattle.dali_special.specs.Command.{command_of}
-use Rattle.dali_arbiter.specs.Arbiter.{owns}
 use Rattle.dali_script.specs.Records.{Assignment, Has}
-use Rattle.dali_script.specs.Findings.{two_bytes, asked_of}
+use Rattle.dali_script.specs.declared.finding.Finding.TheVariants.{Resolved}
+use Rattle.dali_script.specs.Findings.{Asked, two_bytes, asked_of, search_of, found_by}
 use Rattle.dali_events.specs.declared.event.Event.{Event}
 use Rattle.dali_events.specs.Plan.{Plan, IsPlan}
 use Rattle.dali_events.specs.World.{World, gear_at, controller_at, start}
@@ -20,17 +22,17 @@ use Rattle.dali_events.specs.declared.used.Used.{Used}
 use Rattle.dali_events.specs.Used.{gear_of_used}
 use Rattle.dali_events.specs.Runs.{after, after_all, AllAllowed, IsRun, AreDrawn, LeavesUsed}
 use Rattle.dali_events.specs.Promise.{IsEnrolled, NamesGear, Names, IsSafe, HoldsShort}
-use Rattle.dali_events.specs.Laws.{GiftsAreReserved, GiftsAreOwned, KeepsReserved, TablesAgree, HasFound, FindingsAgree}
+use Rattle.dali_events.specs.Laws.{GiftsAreReserved, GiftsAreOwned, KeepsReserved, TablesAgree, HasFound, FindingsAgree, IsReservedFor, KeepsRecords}
 use Rattle.dali_script.proofs.Lists.{has_map}
 use Rattle.dali_script.proofs.Members.{same_member}
 use Rattle.dali_events.proofs.Invariant.Growing.{after_both, allowed_front, allowed_rest, leaves_front, leaves_rest, last_allowed}
 use Rattle.dali_events.proofs.Invariant.Starting.{start_count, stands}
 use Rattle.dali_events.proofs.Invariant.Controllers.{controllers_count}
-use Rattle.dali_events.proofs.Invariant.Sparing.{IsOwned, reserved_alone}
+use Rattle.dali_events.proofs.Invariant.Gifts.{IsOwned}
+use Rattle.dali_events.proofs.Invariant.Keeping.{records_of}
 use Rattle.dali_events.proofs.Invariant.Drawn.{drawn_in_front}
-use Rattle.dali_events.proofs.Invariant.Naming.{SaysFinding, resolved_names}
-use Rattle.dali_events.proofs.Invariant.Resolving.{tells_if}
-use Rattle.dali_events.proofs.Invariant.Safe.{Holds, keeps_step, stays_step, holds_step, holds_after, safe, run_front, keeps_promise}
+use Rattle.dali_events.proofs.Invariant.Safe.{Holds, keeps_step, stays_step, holds_step, holds_after, safe, run_front, keeps_promise, finding_named}
+use Rattle.dali_events.proofs.Invariant.Safe.{found_names}
 
 -- GIFTS STAY RESERVED
 pub gifts_owned : (p : Plan) (capacity : ℕ) (front rest : List Event) → IsRun p capacity (front ++ rest) → GiftsAreOwned p.used (after p capacity front)
@@ -39,8 +41,16 @@ gifts_owned p capacity front rest run g a gift = (holds_after p capacity front (
 pub gifts_reserved : (p : Plan) (capacity : ℕ) (front rest : List Event) → IsRun p capacity (front ++ rest) → p.used ≡ []
     → GiftsAreReserved (after p capacity front)
 gifts_reserved p capacity front rest run none g a gift =
-    reserved_alone p.used (after p capacity front).controllers (a, (gear_at (after p capacity front) g).random) none
-    (gifts_owned p capacity front rest run g a gift)
+    go (gifts_owned p capacity front rest run g a gift) where
+      go : IsOwned p.used (after p capacity front).controllers (a, (gear_at (after p capacity front) g).random)
+          → IsReservedFor (after p capacity front) a (gear_at (after p capacity front) g).random
+      go (inl h) = h
+      go (inr h) = absurd (unused h.0 (subst (λ (us : List Used). Has us h.0) none h.1)) where
+        unused : (u : Used) → Has [] u → ⊥
+        unused u k = elim k [ ]
+
+held_at : {p : Plan} {w : World} → Holds p w → (g a : ℕ) → Has w.gifts (g, a) → HoldsShort w g a
+held_at {p} {w} k g a gift = let there = k.gifts.there g a gift in (there, (k.gifts.holds g a there).1 gift)
 
 reserved_stays : (p : Plan) → IsPlan p → (w : World) (es : List Event) → AllAllowed w es → AllByRecursion (LeavesUsed p.used) es → Holds p w
     → KeepsReserved w (after_all w es)
@@ -51,7 +61,8 @@ reserved_stays p plan w (e ∷ es) all leave k = λ c g a there gift h.
     let here : c < length v.controllers = subst (λ n. c < n) (sym (controllers_count w e)) there in
     let before : Has (controller_at w c).records.reserved (a, (gear_at v g).random) =
     subst (λ r. Has (controller_at w c).records.reserved (a, r)) (sym kept.1) h in
-    let next : Has (controller_at v c).records.reserved (a, (gear_at v g).random) = stays_step p plan w e all.0 leave.0 k g a kept.0 c here before in
+    let next : Has (controller_at v c).records.reserved (a, (gear_at v g).random) =
+    stays_step p plan w e all.0 leave.0 k c g a there (held_at (holds_step p plan w e all.0 leave.0 k) g a kept.0) before in
     subst (λ r. Has (controller_at (after_all v es) c).records.reserved (a, r)) kept.1
     (reserved_stays p plan v es all.1 leave.1 (holds_step p plan w e all.0 leave.0 k) c g a here kept.0 next)
 
@@ -111,23 +122,28 @@ module _ (w : World) (s : IsSafe w) where
 
 pub tables_agree_in : (p : Plan) (capacity : ℕ) (front rest : List Event) → IsRun p capacity (front ++ rest) → TablesAgree (after p capacity front)
 tables_agree_in p capacity front rest run =
-    tables_agree (after p capacity front) (safe p (after p capacity front) (holds_after p capacity front (run_front p capacity front rest run)))
+    tables_agree (after p capacity front) (safe p run.plan (after p capacity front) (holds_after p capacity front (run_front p capacity front rest run)))
     (drawn_in_front p capacity front rest run)
 
 -- FINDINGS AGREE
-finding_named : (p : Plan) (w : World) → Holds p w → (c : ℕ) (x : Assignment) → HasFound w c x → Names w x
-finding_named p w k c x h = subst (Names w) h.1.2 (subst (λ f. SaysFinding (Names w) f) h.1.1 (k.says c h.0).finding)
-
-pub findings_agree : (p : Plan) (w : World) → Holds p w → AreDrawn w → FindingsAgree w
-findings_agree p w k d = record {
-  named = finding_named p w k;
-  address = λ c e x y h i same. found_address w (safe p w k) e x y (finding_named p w k c x h) i same;
-  number = λ c e x y h i same. found_number w (safe p w k) d e x y (finding_named p w k c x h) i same;
-}
+pub findings_agree : (p : Plan) → IsPlan p → (w : World) → Holds p w → AreDrawn w → FindingsAgree w
+findings_agree p plan w k d = record {
+  named = named;
+  address = λ c e x y h i same. found_address w (safe p plan w k) e x y (named c x h) i same;
+  number = λ c e x y h i same. found_number w (safe p plan w k) d e x y (named c x h) i same;
+} where
+  named : (c : ℕ) (x : Assignment) → HasFound w c x → Names w x
+  named c x h = subst (Names w) h.1.2 (finding_named p plan w k c h.1.0 h.0 h.1.1)
 
 pub findings_agree_in : (p : Plan) (capacity : ℕ) (front rest : List Event) → IsRun p capacity (front ++ rest) → FindingsAgree (after p capacity front)
 findings_agree_in p capacity front rest run =
-    findings_agree p (after p capacity front) (holds_after p capacity front (run_front p capacity front rest run)) (drawn_in_front p capacity front rest run)
+    findings_agree p run.plan (after p capacity front) (holds_after p capacity front (run_front p capacity front rest run))
+    (drawn_in_front p capacity front rest run)
+
+-- RECORDS ARE KEPT
+pub records_kept : (p : Plan) (capacity : ℕ) (front rest : List Event) → IsRun p capacity (front ++ rest) → KeepsRecords p (after p capacity front)
+records_kept p capacity front rest run =
+    records_of p (after p capacity front) (holds_after p capacity front (run_front p capacity front rest run)).keeps
 
 -- A RANDOM ADDRESS IS TOLD BY ITS GEAR
 self : (n : ℕ) → (n == n) ≡ true
@@ -145,13 +161,9 @@ told_by_gear p capacity log c a high middle low f g h run running first second t
     let w : World = after p capacity log in
     let k : Holds p w = holds_after p capacity log (run_front p capacity log (Sent c h (Byte low) ∷ []) run) in
     let here : Allowed w (Sent c h (Byte low)) = last_allowed p capacity log (Sent c h (Byte low)) run in
-    resolved_names (IsOwned p.used w.controllers) w c h (Byte low) here k.gifts (tells_if (owns w.bus.owner c) w.trace w.gear k.tells) a
-    (number_of high middle low) record {
-      high = high;
-      middle = middle;
-      low = low;
-      query = third;
-      heard = refl;
-      asked = ap asked_of running ∙ two_asked a high middle f g first second;
-      number = refl;
-    }
+    found_names p run.plan w k c h (Byte low) here (Resolved a (number_of high middle low))
+    (finds (search_of (trace_running w c)) third (ap asked_of running ∙ two_asked a high middle f g first second))
+  where
+    finds : (s : SearchAddress) {x : Command} {q : Asked} → x ≡ RandomByte a Low → q ≡ two_bytes a high middle
+        → found_by s q x (Byte low) ≡ Some (Resolved a (number_of high middle low))
+    finds s {x} {q} is asked = rw (is, asked, self a) refl

@@ -6,8 +6,7 @@ use Rattle.dali_events.specs.Used.{earlier_gift, with_used}
 use Rattle.dali_events.specs.Plan.{Plan, AreUsed}
 use Rattle.dali_events.specs.World.{start}
 use Rattle.dali_events.proofs.Invariant.Starting.{IsUsedOrFresh, row_at, start_count, gear_of, shorts_of, gift_of_used, drawn_at, given_at, stands_at}
-use Rattle.dali_events.proofs.Invariant.Sparing.{IsOwned}
-use Rattle.dali_events.proofs.Invariant.Gifts.{Gifts}
+use Rattle.dali_events.proofs.Invariant.Gifts.{Gifts, IsOwned}
 
 -- WHAT HOLDS OF GIFTS AT THE START: the addresses of used gear count as given before.
 held : (p : Plan) (g a : ℕ) → IsUsedOrFresh p g → (get_or (with_used (replicate p.gear fresh) p.used) g fresh).short ≡ Some a

@@ -14,14 +14,12 @@ use Rattle.dali_special.specs.declared.command.Command.TheVariants.{QueryShort, 
 use Rattle.dali_special.specs.Command.{MASK, program_data, IsSpelled}
 use Rattle.dali_special.proofs.Table.{short_of_code}
 use Rattle.dali_gear.specs.declared.state.InitialisationState.TheVariants.{Enabled}
-use Rattle.dali_gear.specs.Gear.{Gear, is_active, is_found, is_second, concerns, draws_a_number, random_after, state_after, short_after, gear_taken, answer}
+use Rattle.dali_gear.specs.Gear.{Gear, is_active, is_found, is_second, concerns, random_after, state_after, short_after, gear_taken, answer}
 use Rattle.dali_gear.specs.Row.{stored_short}
 use Rattle.dali_script.specs.declared.block.Block.{Block}
 use Rattle.dali_script.specs.declared.stage.Stage.{Stage}
 use Rattle.dali_script.specs.declared.stage.Stage.TheVariants as stage
 use Rattle.dali_script.specs.Records.{Assignment}
-use Rattle.dali_script.specs.Scripts.{MayGive}
-use Rattle.dali_script.proofs.Transactions.{asks_hunting}
 use Rattle.dali_script.specs.Stages.{Follows, next_stage, hunted, doubted, queried, named, verified, answered, bytes_heard, number_heard, IsSearched}
 
 -- WHAT A STAGE SAYS OF EACH POWERED GEAR that takes part in the initialisation
@@ -277,60 +275,7 @@ short_taken c g x spelled small a e = go (short_from c g a e) where
   go (inl e) = small a e
   go (inr e) = of_program c spelled e
 
--- what a gear without short address was given, where it stores one
-pub record IsNew (b : Block) (xs : List Assignment) (g : Gear) (a : ℕ) : Type 0 where
-  pub number : SearchAddress
-  pub random : g.random ≡ value_of number
-  pub none : g.short ≡ None
-  pub may : MayGive b xs number a
-
-pub new_from : (b : Block) (xs : List Assignment) (s : Stage) (c : Command) (g : Gear) (a : ℕ) → Follows b xs s c → Knows s g → stored_short c g ≡ Some a
-    → IsNew b xs g a
-new_from b xs (stage.Unnamed r) (Program (Some d)) g a on k e = go (is_active g.state) (is_found g) refl refl e where
-  go : (t f : Bool) → is_active g.state ≡ t → is_found g ≡ f → (if t && f then Some d else None) ≡ Some a → IsNew b xs g a
-  go true true active found e =
-      let search : g.search ≡ r = (k active).0 in
-      let random : g.random ≡ value_of r = found_random g r search found in
-      record { number = r; random = random; none = (k active).1 random; may = subst (λ n. MayGive b xs r n) (let same : d ≡ a = cc in same) on.may }
-  go true false active found e = absurd (cc)
-  go false f active found e = absurd (cc)
-new_from b xs (stage.Hunted r last left) (Program short) g a on k e =
-    absurd (let asks = asks_hunting r last left (Program short) on.leads_on in let other = asks.1 in cc)
-new_from b xs _ (Program short) g a on k e = absurd (let none = on.leads_on in cc)
-new_from b xs _ _ g a on k e = absurd (cc)
-
--- a short address stays
-pub short_stays : (b : Block) (xs : List Assignment) (s : Stage) (c : Command) (g : Gear) (a : ℕ) → Follows b xs s c → Knows s g → g.short ≡ Some a
-    → short_after c g ≡ Some a
-short_stays b xs (stage.Unnamed r) (Program (Some d)) g a on k e = go (is_active g.state) (is_found g) refl refl where
-  go : (t f : Bool) → is_active g.state ≡ t → is_found g ≡ f → (if t && f then Some d else g.short) ≡ Some a
-  go true true active found = absurd (let none : g.short ≡ None = (k active).1 (found_random g r (k active).0 found) in cc)
-  go true false active found = e
-  go false f active found = e
-short_stays b xs (stage.Hunted r last left) (Program short) g a on k e =
-    absurd (let asks = asks_hunting r last left (Program short) on.leads_on in let other = asks.1 in cc)
-short_stays b xs _ (Program short) g a on k e = absurd (let none = on.leads_on in cc)
-short_stays b xs _ _ g a on k e = e
-
-drawing_none : (g : Gear) (a : ℕ) → Unnumbered g → g.short ≡ Some a → draws_a_number Randomise g ≡ false
-drawing_none g a k e = go (is_second Randomise g.half) (is_active g.state) refl where
-  go : (t f : Bool) → is_active g.state ≡ f → (t && f) ≡ false
-  go true true active = absurd (let none : g.short ≡ None = k active in cc)
-  go true false active = refl
-  go false f active = refl
-
--- and so does the random address of a gear with a short address
-pub random_stays : (b : Block) (xs : List Assignment) (s : Stage) (c : Command) (g : Gear) (x a : ℕ) → Follows b xs s c → Knows s g → g.short ≡ Some a
-    → random_after c x g ≡ g.random
-random_stays b xs stage.Initialised Randomise g x a on k e = rw (drawing_none g a k e) refl
-random_stays b xs stage.DrawFree Randomise g x a on k e = rw (drawing_none g a k e) refl
-random_stays b xs stage.RandomisedOnce Randomise g x a on k e = rw (drawing_none g a k e) refl
-random_stays b xs (stage.Hunted r last left) Randomise g x a on k e =
-    absurd (let asks = asks_hunting r last left Randomise on.leads_on in let other = asks.1 in cc)
-random_stays b xs _ Randomise g x a on k e = absurd (let none = on.leads_on in cc)
-random_stays b xs _ _ g x a on k e = refl
-
--- as does that of a gear that stores one
+-- the random address of a gear that stores one stays
 pub random_stored : (c : Command) (g : Gear) (x a : ℕ) → stored_short c g ≡ Some a → random_after c x g ≡ g.random
 random_stored (Program short) g x a e = refl
 random_stored _ g x a e = absurd (cc)

@@ -1,64 +1,168 @@
-use Rattle.std.proofs.Common.{◌≡◌, ℕ, ◌<◌, Bool, true, false, List, [], ◌∷◌, ◌++◌, refl, sym, ap, subst, ◌∙◌, append_assoc, length, length-set, get_or}
-use Rattle.std.proofs.Common.{None, inl, inr}
+use Rattle.std.proofs.Common.{◌≡◌, ℕ, ◌<◌, Bool, true, false, List, [], ◌∷◌, ◌++◌, refl, sym, subst, ◌∙◌, append_assoc, append-nil, arith, length, length-set}
+use Rattle.std.proofs.Common.{get_or}
+use Rattle.std.proofs.Common.{None, Some, inl, inr, map}
 use Rattle.std.proofs.lemmas.List.{length-map}
 use Rattle.std.specs.Prelude.{if◌then◌else◌}
 use Rattle.dali_frame.specs.declared.frames.Forward.{Forward}
 use Rattle.dali_frame.specs.declared.frames.Answer.{Answer}
 use Rattle.dali_special.specs.Command.{command_of}
-use Rattle.dali_gear.specs.declared.row.Reach.{Reach}
+use Rattle.dali_gear.specs.declared.gear_set.GearSet.{GearSet}
 use Rattle.dali_gear.specs.declared.row.Reach.TheVariants.{Everyone, Only}
 use Rattle.dali_gear.specs.Gear.{Gear, fresh, gear_expired, gear_quieted}
-use Rattle.dali_gear.specs.Row.{row_after, drawn_of, stored_of}
+use Rattle.dali_gear.specs.Row.{row_after, drawn_of, stored_of, stored_short}
+use Rattle.dali_script.specs.declared.finding.Finding.{Finding}
 use Rattle.dali_script.specs.Records.{Assignment, Has}
 use Rattle.std.specs.List.{AllByRecursion}
-use Rattle.dali_script.specs.Findings.{Asked, asked_after, asked_of, assigned}
-use Rattle.dali_script.specs.Stages.{stage_of}
-use Rattle.dali_script.proofs.Found.{asked_more}
-use Rattle.dali_arbiter.specs.Arbiter.{owns}
+use Rattle.dali_script.specs.Findings.{asked_of, search_of, found_by, assigned}
 use Rattle.dali_events.specs.declared.event.Event.{Event}
 use Rattle.dali_events.specs.declared.event.Event.TheVariants as event
 use Rattle.dali_events.specs.Plan.{Plan, IsPlan, numbers_of}
-use Rattle.dali_events.specs.World.{World, gear_at, controller_at, nobody, start, gear_changed}
-use Rattle.dali_events.specs.Happens.{happens, trace_running, entry, goes_on, gear_powered, gear_interrupted}
+use Rattle.dali_events.specs.World.{World, gear_at, controller_at, start, gear_changed}
+use Rattle.dali_events.specs.Happens.{happens, trace_running, gear_powered, gear_interrupted}
 use Rattle.dali_events.specs.Allowed.{Allowed, IsUp, MaySend}
 use Rattle.dali_events.specs.Runs.{after, after_all, AllAllowed, IsRun, LeavesUsed}
-use Rattle.dali_events.specs.Promise.{KeepsPromiseNow, KeepsAddresses, KeepsPromiseFrom, KeepsPromise, Names, IsSafe, KeepsGifts, IsSafeFrom, IsSafeHistory}
+use Rattle.dali_events.specs.Promise.{HoldsShort, KeepsPromiseNow, KeepsAddresses, KeepsPromiseFrom, KeepsPromise, Names, IsSafe, KeepsGifts, IsSafeFrom}
+use Rattle.dali_events.specs.Promise.{IsSafeHistory}
 use Rattle.dali_events.specs.declared.used.Used.{Used}
+use Rattle.dali_events.specs.Page.{plan_seen, LeadsTo}
+use Rattle.dali_statement.specs.Page.{Gear as PageGear, Moment, Site, start as page_start, after as page_after, are_apart}
+use Rattle.dali_statement.specs.Gear.{gear_seen}
+use Rattle.dali_statement.proofs.Moved.{At}
+use Rattle.dali_statement.proofs.Steps.{Safe, told_gear}
+use Rattle.dali_statement.proofs.Whole.{keeps_after, reserved_after}
 use Rattle.dali_events.proofs.Invariant.Growing.{after_both, allowed_front, allowed_rest, leaves_front, leaves_rest}
-use Rattle.dali_script.proofs.Members.{Each, each_changed, each_map, same_member}
-use Rattle.dali_events.proofs.Invariant.Drawn.{Draws, draws_step, draws_start, are_drawn}
-use Rattle.dali_events.proofs.Invariant.Controllers.{Of, controllers_count}
-use Rattle.dali_events.proofs.Invariant.Reserves.{AllReserve, reserves_step, reserves_start}
-use Rattle.dali_events.proofs.Invariant.Sparing.{AllSpare, spares_step, spares_start, IsOwned, one_owner}
-use Rattle.dali_events.proofs.Invariant.Sending.{IsKnown, known_step, known_start, follows_of, knows_running}
-use Rattle.dali_events.proofs.Invariant.Gifts.{Gifts, Change, SameAddresses, no_change, frame_changes, gifts_step, gift_stays, gift_random, draw_stays}
-use Rattle.dali_events.proofs.Invariant.Naming.{Says, FoundBy, says_step, says_start, found_names}
-use Rattle.dali_events.proofs.Invariant.Staying.{StillReserved, Unopposed, still_reserved, given_alone}
+use Rattle.dali_script.proofs.Members.{each_changed, each_map}
+use Rattle.dali_events.proofs.Invariant.Drawn.{Draws, HasDrawn, draws_step, draws_start, are_drawn}
+use Rattle.dali_events.proofs.Invariant.Controllers.{controllers_count}
+use Rattle.dali_events.proofs.Invariant.Keeping.{AllKeep, AreShort, keeping_step, keeps_start, records_of}
+use Rattle.dali_events.proofs.Invariant.Sending.{IsKnown, known_step, known_start}
+use Rattle.dali_events.proofs.Invariant.Gifts.{Gifts, IsOwned, Change, SameAddresses, no_change, frame_changes, gifts_step, gift_stays, one_holder}
 use Rattle.dali_events.proofs.Invariant.Arrived.{gifts_start}
-use Rattle.dali_events.proofs.Invariant.Resolving.{Tells, tells_if, tells_unless, tells_stay, tells_more}
+use Rattle.dali_events.proofs.Page.Sites.{apart_seen}
+use Rattle.dali_events.proofs.Page.Bridge.{Next}
+use Rattle.dali_events.proofs.Page.Frames.{stores_reserved, found_gear}
+use Rattle.dali_events.proofs.Page.Runs.{Leads, each_event, begins, leads_on, leads_to, safe_so, to_page, from_page}
 
--- THE INVARIANT of every run
+-- THE INVARIANT of every run: its moments are a history of the page, from which the rest follows
 pub record Holds (p : Plan) (w : World) : Type 0 where
   pub draws : Draws (numbers_of p) w.gear w.drawn w.left
-  pub reserves : AllReserve p w.controllers
-  pub spares : AllSpare p.used w.controllers
+  pub keeps : AllKeep p w.controllers
   pub known : IsKnown w
   pub gifts : Gifts (IsOwned p.used w.controllers) w.gear w.drawn w.gifts
-  pub says : Each nobody (Of (Says (Names w))) w.controllers
-  pub tells : Tells (asked_of w.trace) w.gear
+  pub moments : List Moment
+  pub page : Leads p w moments
 
--- WHAT AN EVENT CHANGES of addresses
+-- ---------------------------------------------------------------- one moment
+
+-- who holds a short address, with a random address, is named by the pair
+names_holder : (p : Plan) (w : World) → Holds p w → (g a r : ℕ) → HoldsShort w g a → (gear_at w g).random ≡ r → Names w (a, r)
+names_holder p w k g a r held random =
+    let gift : Has w.gifts (g, a) = (k.gifts.holds g a held.0).0 held.1 in
+    (g, held.0, record { drawer = subst (λ n. Has w.drawn (g, n)) random (k.gifts.drawn g a gift); given = gift; random = random })
+
+module _ (p : Plan) (plan : IsPlan p) (w : World) (k : Holds p w) where
+  abbrev pub site_of : Site
+  site_of = page_after (page_start (plan_seen p)) k.moments
+
+  pub safe_page : Safe (plan_seen p) site_of
+  safe_page = safe_so p w k.moments plan k.page
+
+  seen_named : (a r : ℕ) → (g : ℕ) × (x : PageGear) × At site_of.gear g x × (x.short ≡ Some a) × (x.random ≡ r) → Names w (a, r)
+  seen_named a r who =
+      let held = from_page w site_of.gear k.page.seen.gear who.0 a r who.1 who.2 who.3 who.4 in names_holder p w k who.0 a r held.0 held.1
+
+  -- what a table says, and a finding
+  pub table_named : (c : ℕ) (x : Assignment) → c < length w.controllers → Has (controller_at w c).records.enrolled x → Names w x
+  table_named c x there has = seen_named x.0 x.1 (safe_page.sound.tables c x.0 x.1 ((k.page.seen.each c there).tables x.0 x.1 has))
+
+  pub finding_named : (c : ℕ) (x : Finding) → c < length w.controllers → (controller_at w c).finding ≡ Some x → Names w (assigned x)
+  finding_named c x there is =
+      seen_named (assigned x).0 (assigned x).1 (told_gear (plan_seen p) site_of safe_page (assigned x).0 (assigned x).1
+      ((k.page.seen.each c there).found x is))
+
+  -- a gear that holds an address that is reserved has the number
+  pub reserved_number : (c a r g : ℕ) → c < length w.controllers → Has (controller_at w c).records.reserved (a, r) → HoldsShort w g a
+      → (gear_at w g).random ≡ r
+  reserved_number c a r g there has held =
+      safe_page.sound.for_gear c a r g (gear_seen (gear_at w g)) ((k.page.seen.each c there).to a r has)
+      (to_page w site_of.gear k.page.seen.gear g held.0) held.1
+
+  small : AreShort w
+  small c there y is = go (told_gear (plan_seen p) site_of safe_page (assigned y).0 (assigned y).1 ((k.page.seen.each c there).found y is)) where
+    go : (g : ℕ) × (x : PageGear) × At site_of.gear g x × (x.short ≡ Some (assigned y).0) × (x.random ≡ (assigned y).1) → (assigned y).0 < 64
+    go who = safe_page.sound.short who.0 who.1 who.2 (assigned y).0 who.3
+
+-- ---------------------------------------------------------------- one event
+
 abbrev ChangeOf : List Used → World → World → Type 0
 ChangeOf us w v = Change (IsOwned us w.controllers) w.gear w.drawn w.gifts v.gear v.drawn v.gifts
 
-frame_change : (us : List Used) (w : World) (c : ℕ) (f : Forward) (reach : Reach) → IsUp w c → MaySend w c f → IsKnown w
-    → ((plan : List ℕ) × Draws plan w.gear w.drawn w.left)
-    → Change (IsOwned us w.controllers) w.gear w.drawn w.gifts (row_after reach (command_of f) 0 w.gear w.left)
-    (w.drawn ++ drawn_of reach (command_of f) 0 w.gear w.left) (w.gifts ++ stored_of reach (command_of f) 0 w.gear)
-frame_change us w c f reach up may known draws =
-    frame_changes (IsOwned us w.controllers) (controller_at w c).records.block (controller_at w c).records.reserved (stage_of (trace_running w c))
-    (command_of f) reach (follows_of w c f may)
-    w.gear w.left w.drawn w.gifts (knows_running w c known.knows) draws.1.each (λ a r h. inl (c, up.known, h))
+module _ (p : Plan) (plan : IsPlan p) (w : World) (e : Event) (here : Allowed w e) (leaves : LeavesUsed p.used e) (k : Holds p w) where
+  numbers : are_apart (map gear_seen (happens w e).gear) ≡ true
+  numbers = apart_seen (happens w e) (are_drawn p (happens w e) plan (draws_step p w e k.draws))
+
+  -- the moments of the page that it is
+  pub next : Next p (happens w e) (site_of p plan w k)
+  next = each_event p plan w (site_of p plan w k) k.page.seen (safe_page p plan w k) (records_of p w k.keeps) e here leaves numbers
+
+  page : Leads p (happens w e) (k.moments ++ next.moments)
+  page = leads_on p w (happens w e) k.moments k.page next
+
+  -- who holds a short address keeps it, with the random address
+  pub stays_at : (g a : ℕ) → HoldsShort w g a → HoldsShort (happens w e) g a × ((gear_at (happens w e) g).random ≡ (gear_at w g).random)
+  stays_at g a held =
+      let to = keeps_after (plan_seen p) next.moments (site_of p plan w k) (safe_page p plan w k) next.allow g a (gear_at w g).random
+      (gear_seen (gear_at w g), to_page w (site_of p plan w k).gear k.page.seen.gear g held.0, held.1, refl) in
+      from_page (happens w e) (page_after (site_of p plan w k) next.moments).gear next.seen.gear g a (gear_at w g).random to.0 to.1 to.2 to.3
+
+  pub one_after : (g h a : ℕ) → HoldsShort (happens w e) g a → HoldsShort (happens w e) h a → g ≡ h
+  one_after g h a first second =
+      (safe_so p (happens w e) (k.moments ++ next.moments) plan page).sound.once g h a (gear_seen (gear_at (happens w e) g))
+      (gear_seen (gear_at (happens w e) h))
+      (to_page (happens w e) (page_after (page_start (plan_seen p)) (k.moments ++ next.moments)).gear page.seen.gear g first.0)
+      (to_page (happens w e) (page_after (page_start (plan_seen p)) (k.moments ++ next.moments)).gear page.seen.gear h second.0) first.1 second.1
+
+  -- what is reserved for a gear that holds the address then stays reserved
+  pub stays_step : (c g a : ℕ) → c < length w.controllers → HoldsShort (happens w e) g a
+      → Has (controller_at w c).records.reserved (a, (gear_at (happens w e) g).random)
+      → Has (controller_at (happens w e) c).records.reserved (a, (gear_at (happens w e) g).random)
+  stays_step c g a there held has =
+      (next.seen.each c (subst (λ n. c < n) (sym (controllers_count w e)) there)).from a (gear_at (happens w e) g).random
+      (reserved_after (plan_seen p) next.moments (site_of p plan w k) (safe_page p plan w k) next.allow c a g (gear_seen (gear_at (happens w e) g))
+      ((k.page.seen.each c there).to a (gear_at (happens w e) g).random has)
+      (to_page (happens w e) (page_after (site_of p plan w k) next.moments).gear next.seen.gear g held.0) held.1)
+
+-- A FRAME: what it stores, for the number that a gear has drawn
+module _ (R : Assignment → Type 0) (p : Plan) (plan : IsPlan p) (w : World) (k : Holds p w) (c : ℕ) (f : Forward) (up : IsUp w c) (may : MaySend w c f)
+    (sender : (a r : ℕ) → Has (controller_at w c).records.reserved (a, r) → R (a, r)) where
+  news : (g a : ℕ) → g < length w.gear → (gear_at w g).powered ≡ true → stored_short (command_of f) (gear_at w g) ≡ Some a
+      → ((gear_at w g).short ≡ None) × R (a, (gear_at w g).random) × Has w.drawn (g, (gear_at w g).random)
+  news g a there on stores =
+      let new = stores_reserved p w (site_of p plan w k) k.page.seen (safe_page p plan w k) c f up may g a there on stores in
+      (new.0, sender a (gear_at w g).random new.1, drawn (k.draws.each g there) new.2) where
+        drawn : HasDrawn w.drawn g (gear_at w g) → (gear_at w g).random < 0xFFFFFF → Has w.drawn (g, (gear_at w g).random)
+        drawn (inl mask) less = absurd (let at : (gear_at w g).random ≡ 0xFFFFFF = mask in omega arith)
+        drawn (inr h) less = h
+
+  pub sent_changes : (h : Answer) → Allowed w (event.Sent c f h)
+      → Change R w.gear w.drawn w.gifts (row_after Everyone (command_of f) 0 w.gear w.left)
+      (w.drawn ++ drawn_of Everyone (command_of f) 0 w.gear w.left) (w.gifts ++ stored_of Everyone (command_of f) 0 w.gear)
+  sent_changes h here = frame_changes R (command_of f) Everyone w.gear w.left w.drawn w.gifts
+      (λ g a there is. let kept = stays_at p plan w (event.Sent c f h) here (λ d i b r e. absurd (cc)) k g a (there, is) in (kept.0.1, kept.1)) news
+
+  pub destroyed_changes : (set : GearSet) → Allowed w (event.Destroyed c f set)
+      → Change R w.gear w.drawn w.gifts (row_after (Only set) (command_of f) 0 w.gear w.left)
+      (w.drawn ++ drawn_of (Only set) (command_of f) 0 w.gear w.left) (w.gifts ++ stored_of (Only set) (command_of f) 0 w.gear)
+  destroyed_changes set here = frame_changes R (command_of f) (Only set) w.gear w.left w.drawn w.gifts
+      (λ g a there is. let kept = stays_at p plan w (event.Destroyed c f set) here (λ d i b r e. absurd (cc)) k g a (there, is) in (kept.0.1, kept.1)) news
+
+-- what a frame finds is there when it is sent
+pub found_names : (p : Plan) (plan : IsPlan p) (w : World) (k : Holds p w) (c : ℕ) (f : Forward) (h : Answer) → Allowed w (event.Sent c f h)
+    → (x : Finding) → found_by (search_of (trace_running w c)) (asked_of (trace_running w c)) (command_of f) h ≡ Some x → Names w (assigned x)
+found_names p plan w k c f h here x e =
+    seen_named p plan w k (assigned x).0 (assigned x).1
+    (found_gear p w (site_of p plan w k) k.page.seen (safe_page p plan w k) c f here.up here.may h here.heard
+    (apart_seen (happens w (event.Sent c f h)) (are_drawn p (happens w (event.Sent c f h)) plan (draws_step p w (event.Sent c f h) k.draws))) x e)
 
 powered_same : (on : Bool) (g : Gear) → ((gear_powered on g).short ≡ g.short) × ((gear_powered on g).random ≡ g.random)
 powered_same false g = (refl, refl)
@@ -77,20 +181,21 @@ one_change us w change g same =
 same_gear : (us : List Used) (w : World) → Change (IsOwned us w.controllers) w.gear w.drawn w.gifts w.gear w.drawn w.gifts
 same_gear us w = no_change (IsOwned us w.controllers) w.gear w.gear w.drawn w.gifts refl (λ i h. (refl, refl))
 
-change_of : (p : Plan) (w : World) (e : Event) → Allowed w e → Holds p w → ChangeOf p.used w (happens w e)
-change_of p w (event.Sent c f h) here k = frame_change p.used w c f Everyone here.up here.may k.known (numbers_of p, k.draws)
-change_of p w (event.Destroyed c f set) here k = frame_change p.used w c f (Only set) here.up here.may k.known (numbers_of p, k.draws)
-change_of p w event.Quiet here k =
+change_of : (p : Plan) → IsPlan p → (w : World) (e : Event) → Allowed w e → Holds p w → ChangeOf p.used w (happens w e)
+change_of p plan w (event.Sent c f h) here k =
+    sent_changes (IsOwned p.used w.controllers) p plan w k c f here.up here.may (λ a r has. inl (c, here.up.known, has)) h here
+change_of p plan w (event.Destroyed c f set) here k =
+    destroyed_changes (IsOwned p.used w.controllers) p plan w k c f here.up here.may (λ a r has. inl (c, here.up.known, has)) set here
+change_of p plan w event.Quiet here k =
     no_change (IsOwned p.used w.controllers) w.gear _ w.drawn w.gifts (length-map w.gear gear_quieted)
     (each_map fresh (SameAddresses w.gear) gear_quieted w.gear (λ i x h. h) (λ i h. (refl, refl)))
-change_of p w (event.Foreign f) here k =
+change_of p plan w (event.Foreign f) here k =
     no_change (IsOwned p.used w.controllers) w.gear _ w.drawn w.gifts (length-map w.gear gear_interrupted)
     (each_map fresh (SameAddresses w.gear) gear_interrupted w.gear (λ i x h. h) (λ i h. (refl, refl)))
-change_of p w (event.Power g on) here k = one_change p.used w (gear_powered on) g (powered_same on)
-change_of p w (event.Expired g) here k = one_change p.used w gear_expired g (λ x. (refl, refl))
-change_of p w _ here k = same_gear p.used w
+change_of p plan w (event.Power g on) here k = one_change p.used w (gear_powered on) g (powered_same on)
+change_of p plan w (event.Expired g) here k = one_change p.used w gear_expired g (λ x. (refl, refl))
+change_of p plan w _ here k = same_gear p.used w
 
--- ONE EVENT
 gifts_more : (R S : Assignment → Type 0) (gs : List Gear) (ds gf : List (ℕ × ℕ))
     → ((g a : ℕ) → Has gf (g, a) → R (a, (get_or gs g fresh).random) → S (a, (get_or gs g fresh).random))
     → Gifts R gs ds gf → Gifts S gs ds gf
@@ -103,95 +208,39 @@ gifts_more R S gs ds gf more k = record {
   address_once = k.address_once;
 }
 
-names_stay : (us : List Used) (w v : World) → ChangeOf us w v → ((x : ℕ × ℕ) → Has w.drawn x → Has v.drawn x) → KeepsGifts w v → (x : Assignment) → Names w x
-    → Names v x
-names_stay us w v ch drawn keeps x n =
-    let kept = keeps n.0 x.0 n.2.given in
-    (n.0, subst (λ m. n.0 < m) (sym ch.count) n.1, record { drawer = drawn (n.0, x.1) n.2.drawer; given = kept.0; random = kept.1 ∙ n.2.random })
-
-found_of : (p : Plan) (w : World) (e : Event) (M : Assignment → Type 0) → Allowed w e → Holds p w → ((x : Assignment) → Names w x → M x)
-    → FoundBy M w e
-found_of p w (event.Sent c f h) M here k more =
-    λ x e. more (assigned x) (found_names (IsOwned p.used w.controllers) w c f h here k.known k.gifts
-    (tells_if (owns w.bus.owner c) w.trace w.gear k.tells) x e)
-found_of p w _ M here k more = tt
-
-tells_sent : (p : Plan) (w : World) (c : ℕ) (f : Forward) (h : Answer) → Allowed w (event.Sent c f h) → Holds p w
-    → Tells (asked_of (happens w (event.Sent c f h)).trace) (happens w (event.Sent c f h)).gear
-tells_sent p w c f h here k =
-    let q : Asked = asked_of (trace_running w c) in
-    let before : Tells q w.gear = tells_if (owns w.bus.owner c) w.trace w.gear k.tells in
-    let now : Tells (asked_after (command_of f) h q) w.gear =
-    tells_more (IsOwned p.used w.controllers) w.gear w.drawn w.gifts k.gifts (command_of f) h q here.heard before in
-    let after_it : Tells (asked_after (command_of f) h q) (happens w (event.Sent c f h)).gear =
-    tells_stay (IsOwned p.used w.controllers) w.gear _ w.drawn w.gifts _ _ (change_of p w (event.Sent c f h) here k) (asked_after (command_of f) h q) now in
-    tells_if (goes_on w c (trace_running w c ++ entry f h ∷ [])) (trace_running w c ++ entry f h ∷ []) (happens w (event.Sent c f h)).gear
-    (subst (λ d. Tells d (happens w (event.Sent c f h)).gear) (sym (asked_more (trace_running w c) (entry f h))) after_it)
-
-tells_step : (p : Plan) (w : World) (e : Event) → Allowed w e → Holds p w → Tells (asked_of (happens w e).trace) (happens w e).gear
-tells_step p w (event.Acted c i o) here k = tells_unless _ w.trace w.gear k.tells
-tells_step p w (event.Offered c f) here k = k.tells
-tells_step p w (event.Sent c f h) here k = tells_sent p w c f h here k
-tells_step p w (event.Down c) here k = tells_unless _ w.trace w.gear k.tells
-tells_step p w (event.Up c kept) here k = k.tells
-tells_step p w (event.Destroyed c f set) here k = tt
-tells_step p w (event.Collided c f d g) here k = tt
-tells_step p w event.Lapsed here k = tt
-tells_step p w e here k =
-    tells_stay (IsOwned p.used w.controllers) w.gear _ w.drawn w.gifts _ _ (change_of p w e here k) (asked_of w.trace) k.tells
-
 module _ (p : Plan) (plan : IsPlan p) (w : World) (e : Event) (here : Allowed w e) (leaves : LeavesUsed p.used e)
     (k : Holds p w) where
   ch : ChangeOf p.used w (happens w e)
-  ch = change_of p w e here k
-
-  keeps : KeepsGifts w (happens w e)
-  keeps g a h = (
-    gift_stays (IsOwned p.used w.controllers) (one_owner p w.controllers plan k.reserves k.spares) w.gear _ w.drawn w.gifts _ _
-        (are_drawn p w plan k.draws).once k.gifts ch g a h,
-    gift_random (IsOwned p.used w.controllers) (one_owner p w.controllers plan k.reserves k.spares) w.gear _ w.drawn w.gifts _ _
-        (are_drawn p w plan k.draws).once k.gifts ch g a h,
-  )
-
-  names : (x : Assignment) → Names w x → Names (happens w e) x
-  names x n = names_stay p.used w (happens w e) ch
-      (draw_stays (IsOwned p.used w.controllers) (one_owner p w.controllers plan k.reserves k.spares) w.gear _ w.drawn w.gifts _ _
-      (are_drawn p w plan k.draws).once k.gifts ch) keeps x n
+  ch = change_of p plan w e here k
 
   gifts : Gifts (IsOwned p.used w.controllers) (happens w e).gear (happens w e).drawn (happens w e).gifts
-  gifts = gifts_step (IsOwned p.used w.controllers) (one_owner p w.controllers plan k.reserves k.spares) w.gear _ w.drawn w.gifts _ _
-      (are_drawn p w plan k.draws).once k.gifts ch
-
-  found : FoundBy (Names (happens w e)) w e
-  found = found_of p w e (Names (happens w e)) here k names
+  gifts = gifts_step (IsOwned p.used w.controllers) w.gear (happens w e).gear w.drawn w.gifts (happens w e).drawn (happens w e).gifts
+      (λ g h a there other first second. one_after p plan w e here leaves k g h a (there, first) (other, second)) k.gifts ch
 
   pub keeps_step : KeepsGifts w (happens w e)
-  keeps_step = keeps
+  keeps_step g a h = (
+    gift_stays (IsOwned p.used w.controllers) w.gear (happens w e).gear w.drawn w.gifts (happens w e).drawn (happens w e).gifts
+        (λ g h a there other first second. one_after p plan w e here leaves k g h a (there, first) (other, second)) k.gifts ch g a h,
+    (stays_at p plan w e here leaves k g a (k.gifts.there g a h, (k.gifts.holds g a (k.gifts.there g a h)).1 h)).1,
+  )
 
-  -- what is reserved for a gear that was given the address stays reserved
-  pub stays_step : (g a : ℕ) → Has (happens w e).gifts (g, a)
-      → Each nobody (Of (StillReserved w.controllers (a, (gear_at (happens w e) g).random))) (happens w e).controllers
-  stays_step g a h = still_reserved (Names w) (Names (happens w e)) (a, (gear_at (happens w e) g).random) alone w e here names found k.says where
-    alone : Unopposed (Names (happens w e)) (a, (gear_at (happens w e) g).random)
-    alone = given_alone (IsOwned p.used w.controllers) (happens w e) (are_drawn p (happens w e) plan (draws_step p w e k.draws)) gifts g a h
-
-  reserved_step : (g a : ℕ) → Has (happens w e).gifts (g, a) → IsOwned p.used w.controllers (a, (gear_at (happens w e) g).random)
+  owned_step : (g a : ℕ) → Has (happens w e).gifts (g, a) → IsOwned p.used w.controllers (a, (gear_at (happens w e) g).random)
       → IsOwned p.used (happens w e).controllers (a, (gear_at (happens w e) g).random)
-  reserved_step g a h (inl r) =
+  owned_step g a h (inl r) =
       let there : r.0 < length (happens w e).controllers = subst (λ n. r.0 < n) (sym (controllers_count w e)) r.1 in
-      inl (r.0, there, stays_step g a h r.0 there r.2)
-  reserved_step g a h (inr r) = inr r
+      let in_row = gifts.there g a h in
+      inl (r.0, there, stays_step p plan w e here leaves k r.0 g a r.1 (in_row, (gifts.holds g a in_row).1 h) r.2)
+  owned_step g a h (inr r) = inr r
 
   pub holds_step : Holds p (happens w e)
   holds_step = record {
     draws = draws_step p w e k.draws;
-    reserves = reserves_step p w e here k.reserves;
-    spares = spares_step p.used w e leaves k.spares;
+    keeps = keeping_step p plan w e here (small p plan w k) k.keeps;
     known = known_step w e here k.known;
     gifts = gifts_more (IsOwned p.used w.controllers) (IsOwned p.used (happens w e).controllers) (happens w e).gear (happens w e).drawn
-        (happens w e).gifts reserved_step gifts;
-    says = says_step (Names w) (Names (happens w e)) w e here names found k.says;
-    tells = tells_step p w e here k;
+        (happens w e).gifts owned_step gifts;
+    moments = k.moments ++ (next p plan w e here leaves k).moments;
+    page = page p plan w e here leaves k;
   }
 
 -- EVERY RUN
@@ -210,13 +259,23 @@ keeps_all p plan w (e ∷ es) all leave k =
       both : KeepsGifts w (happens w e) → KeepsGifts (happens w e) (after_all (happens w e) es) → KeepsGifts w (after_all (happens w e) es)
       both first rest g a h = let one = first g a h in let two = rest g a one.0 in (two.0, two.1 ∙ one.1)
 
+-- later moments go on with the earlier ones
+pub moments_all : (p : Plan) (plan : IsPlan p) (w : World) (es : List Event) (all : AllAllowed w es) (leave : AllByRecursion (LeavesUsed p.used) es)
+    (k : Holds p w) → (more : List Moment) × ((holds_all p plan w es all leave k).moments ≡ k.moments ++ more)
+unfolding holds_all holds_step
+moments_all p plan w [] all leave k = ([], sym (append-nil k.moments))
+moments_all p plan w (e ∷ es) all leave k =
+    let first = (next p plan w e all.0 leave.0 k).moments in
+    let later = moments_all p plan (happens w e) es all.1 leave.1 (holds_step p plan w e all.0 leave.0 k) in
+    (first ++ later.0, later.1 ∙ append_assoc k.moments first later.0)
+
 -- A WORLD OF A RUN IS SAFE
-pub safe : (p : Plan) (w : World) → Holds p w → IsSafe w
-safe p w k = record {
+pub safe : (p : Plan) → IsPlan p → (w : World) → Holds p w → IsSafe w
+safe p plan w k = record {
   gear_once = k.gifts.gear_once;
   address_once = k.gifts.address_once;
   holds = k.gifts.holds;
-  tables = λ c entry h. (k.says c h.0).enrolled entry h.1;
+  tables = λ c entry h. table_named p plan w k c entry h.0 h.1;
 }
 
 module _ (p : Plan) (plan : IsPlan p) (w : World) (first : Holds p w) where
@@ -237,18 +296,16 @@ module _ (p : Plan) (plan : IsPlan p) (w : World) (first : Holds p w) where
 
   pub safe_from : (log : List Event) → AllAllowed w log → AllByRecursion (LeavesUsed p.used) log → IsSafeFrom w log
   safe_from log all leave = record {
-    always = λ earlier more e. safe p (after_all w earlier) (front_holds earlier more log e all leave);
+    always = λ earlier more e. safe p plan (after_all w earlier) (front_holds earlier more log e all leave);
     ever_after = λ earlier later rest e.
         since earlier later rest (subst (AllAllowed w) (sym e) all) (subst (AllByRecursion (LeavesUsed p.used)) (sym e) leave);
   }
 
 -- THE PROMISE, BY GEAR AND TABLES ALONE
-promise_now : (p : Plan) (w : World) → Holds p w → KeepsPromiseNow w
-promise_now p w k = record {
-  one_gear = λ g h a one two.
-      ap (λ gift. gift.0) (same_member (λ gift. gift.1) w.gifts (g, a) (h, a) k.gifts.address_once ((k.gifts.holds g a one.0).0 one.1)
-      ((k.gifts.holds h a two.0).0 two.1) refl);
-  tables = λ c entry h. let n = (k.says c h.0).enrolled entry h.1 in (n.0, (n.1, (k.gifts.holds n.0 entry.0 n.1).1 n.2.given), n.2.random);
+promise_now : (p : Plan) → IsPlan p → (w : World) → Holds p w → KeepsPromiseNow w
+promise_now p plan w k = record {
+  one_gear = λ g h a one two. one_holder (IsOwned p.used w.controllers) w.gear w.drawn w.gifts k.gifts g h a one.0 two.0 one.1 two.1;
+  tables = λ c entry h. let n = table_named p plan w k c entry h.0 h.1 in (n.0, (n.1, (k.gifts.holds n.0 entry.0 n.1).1 n.2.given), n.2.random);
 }
 
 keeps_addresses : (p : Plan) (w v : World) → Holds p w → Holds p v → KeepsGifts w v → KeepsAddresses w v
@@ -260,7 +317,7 @@ keeps_addresses p w v k m keeps g a h =
 pub promise_from : (p : Plan) → IsPlan p → (w : World) → Holds p w → (log : List Event)
     → AllAllowed w log → AllByRecursion (LeavesUsed p.used) log → KeepsPromiseFrom w log
 promise_from p plan w first log all leave = record {
-  always = λ earlier more e. promise_now p (after_all w earlier) (front earlier more e);
+  always = λ earlier more e. promise_now p plan (after_all w earlier) (front earlier more e);
   ever_after = λ earlier later rest e. keeps_addresses p (after_all w earlier) (after_all w (earlier ++ later)) (front earlier (later ++ rest) e)
       (front (earlier ++ later) rest (append_assoc earlier later rest ∙ e)) ((safe_from p plan w first log all leave).ever_after earlier later rest e);
 } where
@@ -272,12 +329,11 @@ promise_from p plan w first log all leave = record {
 pub holds_start : (p : Plan) → IsPlan p → (capacity : ℕ) → Holds p (start p capacity)
 holds_start p plan capacity = record {
   draws = draws_start p capacity;
-  reserves = reserves_start p capacity;
-  spares = spares_start p.used p capacity;
+  keeps = keeps_start p capacity;
   known = known_start p capacity plan.used;
   gifts = gifts_start p capacity plan.used;
-  says = says_start (Names (start p capacity)) p capacity;
-  tells = tt;
+  moments = [];
+  page = record { allow = refl; seen = begins p capacity };
 }
 
 pub holds_after : (p : Plan) (capacity : ℕ) (log : List Event) → IsRun p capacity log → Holds p (after p capacity log)
@@ -295,3 +351,20 @@ safe_history p capacity log run = safe_from p run.plan (start p capacity) (holds
 
 pub keeps_promise : (p : Plan) (capacity : ℕ) (log : List Event) → IsRun p capacity log → KeepsPromise p capacity log
 keeps_promise p capacity log run = promise_from p run.plan (start p capacity) (holds_start p run.plan capacity) log run.allowed run.leaves
+
+-- A RUN IS A HISTORY OF THE PAGE, and its moments go on with those before
+pub every_run_is_a_history : (p : Plan) (capacity : ℕ) (front rest : List Event) → IsRun p capacity (front ++ rest)
+    → (ms : List Moment) × (more : List Moment) × LeadsTo p (after p capacity front) ms × LeadsTo p (after p capacity (front ++ rest)) (ms ++ more)
+every_run_is_a_history p capacity front rest run =
+    let k = holds_after p capacity front (run_front p capacity front rest run) in
+    let allowed = allowed_rest (start p capacity) front rest run.allowed in
+    let leaves = leaves_rest p.used front rest run.leaves in
+    let later = holds_all p run.plan (after p capacity front) rest allowed leaves k in
+    let more = moments_all p run.plan (after p capacity front) rest allowed leaves k in (
+      k.moments,
+      more.0,
+      leads_to p (after p capacity front) k.moments run.plan k.page,
+      subst (λ w. LeadsTo p w (k.moments ++ more.0)) (sym (after_both (start p capacity) front rest))
+          (leads_to p (after_all (after p capacity front) rest) (k.moments ++ more.0) run.plan
+          (subst (Leads p (after_all (after p capacity front) rest)) more.1 later.page)),
+    )

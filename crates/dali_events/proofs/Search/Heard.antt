@@ -1,19 +1,21 @@
 use Rattle.std.proofs.Common.{◌≡◌, ℕ, ◌+◌, ◌<◌, ◌≤◌, ◌⊎◌, inl, inr, Bool, true, false, zero, suc, List, [], ◌∷◌, refl, sym, ap, subst, ◌∙◌, arith, length, Some}
 use Rattle.std.proofs.Common.{None}
-use Rattle.std.specs.Prelude.{◌&&◌, nat_le, if◌then◌else◌}
+use Rattle.std.specs.Prelude.{◌&&◌, ◌==◌, nat_le, if◌then◌else◌}
 use Rattle.std.proofs.lemmas.Bool.Decides.{nat_tests}
 use Rattle.dali_frame.specs.declared.frames.Answer.TheVariants.{Silence, Byte}
 use Rattle.dali_frame.specs.declared.numbers.SearchAddress.{SearchAddress}
 use Rattle.dali_frame.specs.Random.{value_of, MASK24}
 use Rattle.dali_special.specs.declared.command.Command.{Command}
-use Rattle.dali_special.specs.declared.command.Command.TheVariants.{Compare, QueryShort}
+use Rattle.dali_special.specs.declared.command.Command.TheVariants.{Compare, QueryShort, RandomByte}
+use Rattle.dali_special.specs.declared.command.Part.{Part}
 use Rattle.dali_special.specs.Command.{program_data}
 use Rattle.dali_gear.specs.declared.state.InitialisationState.TheVariants.{Enabled}
 use Rattle.dali_gear.specs.declared.row.Reach.TheVariants.{Everyone}
-use Rattle.dali_gear.specs.Gear.{Gear, YES, is_enabled, is_active, is_found, answer, answer_to}
+use Rattle.dali_gear.specs.Gear.{Gear, YES, is_enabled, is_active, is_found, byte_at, answer, answer_to}
 use Rattle.dali_gear.specs.Row.{option_cons, answers_of, heard_of}
 use Rattle.dali_script.specs.Records.{Has}
-use Rattle.dali_events.specs.World.{World}
+use Rattle.dali_events.specs.World.{World, gear_at}
+use Rattle.dali_events.specs.Searching.{EachPowered}
 use Rattle.dali_events.specs.Runs.{AreDrawn}
 use Rattle.dali_events.specs.Wanted.{is_wanted, wants, gear_of, OfPowered, Seek, AreApart, IsOpened}
 use Rattle.dali_script.proofs.Members.{same_member}
@@ -152,3 +154,14 @@ drawn_apart w drawn below j k h i on up live awake same =
 
 pub opened_apart : (w : World) → AreDrawn w → IsOpened w.gear → AreApart w.gear
 opened_apart w drawn opened = drawn_apart w drawn opened.drawn
+
+-- WHERE NOBODY ANSWERS A QUERY OF A RANDOM ADDRESS nobody with power has the short address
+same_short : (a : ℕ) → (a == a) ≡ true
+same_short a = grind (arith, nat_tests)
+
+pub nobody_answers : (w : World) (a : ℕ) (part : Part) → answers_of Everyone (RandomByte a part) 0 w.gear ≡ []
+    → EachPowered w (λ g. g.short ≡ Some a → ⊥)
+nobody_answers w a part none g there on short =
+    let tells : answer (RandomByte a part) (gear_at w g) ≡ Some (byte_at part (gear_at w g).random) = rw (short, same_short a) refl in
+    subst (λ xs. Has xs (byte_at part (gear_at w g).random)) none
+    (answers_have Everyone (RandomByte a part) w.gear g (byte_at part (gear_at w g).random) there (powered_takes g (gear_at w g) on) tells)

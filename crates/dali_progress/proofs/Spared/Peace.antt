@@ -26,7 +26,7 @@ use Rattle.dali_events.specs.Allowed.{Allowed}
 use Rattle.dali_events.specs.Runs.{IsRun, LeavesUsed}
 use Rattle.dali_events.specs.Promise.{KeepsPromise}
 use Rattle.dali_events.proofs.Invariant.Agreeing.{used_kept}
-use Rattle.dali_events.proofs.Invariant.Resolving.{nobody_answers}
+use Rattle.dali_events.proofs.Search.Heard.{nobody_answers}
 use Rattle.dali_events.proofs.Invariant.Safe.{keeps_promise}
 use Rattle.dali_standing.specs.declared.refusal.Refusal.TheVariants as refusal
 use Rattle.dali_standing.specs.Standing.{machines_at}

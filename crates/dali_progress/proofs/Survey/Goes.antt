@@ -69,8 +69,7 @@ use Rattle.dali_script.specs.declared.orders.End.TheVariants.{AllFound, BlockFul
 use Rattle.dali_events.specs.Runs.{IsRun}
 use Rattle.dali_events.specs.Wanted.{gear_of}
 use Rattle.dali_events.proofs.Invariant.Agreeing.{findings_agree_in}
-use Rattle.dali_events.proofs.Invariant.Safe.{keeps_promise, holds_after}
-use Rattle.dali_events.proofs.Invariant.Sparing.{one_owner}
+use Rattle.dali_events.proofs.Invariant.Safe.{keeps_promise, holds_after, reserved_number}
 use Rattle.dali_world.specs.Site.{SiteState, world, site_logged, machine_at}
 use Rattle.dali_progress.specs.Ends.{AreTabled, SurveyEndsWell, IsSurveyDone, IsUnseen, NamesAll, table_at}
 use Rattle.dali_progress.proofs.Logged.{world_logged, drawn_now, kept_now, block_now}
@@ -390,9 +389,7 @@ true_now s c run up a r has = let there = (promise_now s run).tables c (a, r) (u
 
 pub owned_now : (s : SiteState) (c : ℕ) → IsRun s.plan s.queue s.log → IsUp (world s) c → AreOwned (controller_at (world s) c).records.reserved (world s).gear
 owned_now s c run up a r i has there short =
-    let all = holds_after s.plan s.queue s.log run in
-    one_owner s.plan (world s).controllers run.plan all.reserves all.spares a (gear_of (world s).gear i).random r
-    (all.gifts.reserved i a ((all.gifts.holds i a there).0 short)) (inl (c, up.known, has))
+    reserved_number s.plan run.plan (world s) (holds_after s.plan s.queue s.log run) c a r i up.known has (there, short)
 
 pub agree_now : (s : SiteState) → IsRun s.plan s.queue s.log → FindingsAgree (world s)
 agree_now s run = findings_agree_in s.plan s.queue s.log [] (subst (λ es. IsRun s.plan s.queue es) (sym (append-nil s.log)) run)

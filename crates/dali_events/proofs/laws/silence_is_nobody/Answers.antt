@@ -1,4 +1,4 @@
-use Rattle.dali_events.proofs.Invariant.Resolving.{nobody_answers}
+use Rattle.dali_events.proofs.Search.Heard.{nobody_answers}
 use Rattle.dali_events.proofs.laws.silence_is_nobody.Goals as goal
 
 pub returns : goal.returns

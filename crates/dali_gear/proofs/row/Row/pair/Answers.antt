@@ -5,13 +5,5 @@ use Rattle.dali_gear.proofs.row.Row.pair.Goals as goal
 
 pub returns : goal.returns
 returns c =
-    pair_is c.self.inside c.args.number (search (rules, row_len)) (record {
-      powered = search (rules, row_len);
-      state = search (rules, row_len);
-      random = search (rules, row_len);
-      search = search (rules, row_len);
-      short = search (rules, row_len);
-      paired = search (rules, row_len);
-      first = search (rules, row_len);
-    }) c.args.first
+    pair_is c.self.inside c.args.number (search (rules, row_len)) (search (rules, row_len)) c.args.first
     ∙ ap (λ gs. set gs c.args.number (record (get_or gs c.args.number fresh) { half = Some c.args.first })) c.self.view_is

@@ -6,15 +6,7 @@ use Rattle.dali_gear.proofs.row.Row.put_pair.Goals as goal
 
 pub returns : goal.returns
 returns c =
-    put_pair_is c.self.inside c.args.number (search (rules, row_len)) (record {
-      powered = search (rules, row_len);
-      state = search (rules, row_len);
-      random = search (rules, row_len);
-      search = search (rules, row_len);
-      short = search (rules, row_len);
-      paired = search (rules, row_len);
-      first = search (rules, row_len);
-    }) c.args.stays (rw (← c.self.view_is) at c.requires.one)
+    put_pair_is c.self.inside c.args.number (search (rules, row_len)) (search (rules, row_len)) c.args.stays (rw (← c.self.view_is) at c.requires.one)
     ∙ ap (λ gs. set gs c.args.number (record (get_or gs c.args.number fresh) { half = if c.args.stays then (get_or gs c.args.number fresh).half else None }))
     c.self.view_is
 
@@ -23,13 +15,7 @@ invariant_of-self c = record {
   few = c.self.invariant.few;
   random = c.self.invariant.random;
   search = c.self.invariant.search;
-  unpaired = put_pair_unpaired c.self.inside c.args.number (search (rules, row_len)) (record {
-    powered = search (rules, row_len);
-    state = search (rules, row_len);
-    random = search (rules, row_len);
-    search = search (rules, row_len);
-    short = search (rules, row_len);
-    paired = search (rules, row_len);
-    first = search (rules, row_len);
-  }) c.args.stays (rw (← c.self.view_is) at c.requires.one) c.self.invariant;
+  unpaired =
+      put_pair_unpaired c.self.inside c.args.number (search (rules, row_len)) (search (rules, row_len)) c.args.stays
+      (rw (← c.self.view_is) at c.requires.one) c.self.invariant;
 }

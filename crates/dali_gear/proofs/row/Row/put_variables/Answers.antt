@@ -7,13 +7,6 @@ use Rattle.dali_gear.proofs.row.Row.put_variables.Goals as goal
 
 pub returns : goal.returns
 returns c =
-    put_variables_is c.self.inside c.args.number (search (rules, row_len)) (record {
-      powered = search (rules, row_len);
-      state = search (rules, row_len);
-      random = search (rules, row_len);
-      search = search (rules, row_len);
-      short = search (rules, row_len);
-      paired = search (rules, row_len);
-      first = search (rules, row_len);
-    }) (the_view c.gear.inside) c.of.result c.set.new.self c.set-2.new.self c.of.ensures.value c.set.ensures c.set-2.ensures
+    put_variables_is c.self.inside c.args.number (search (rules, row_len)) (search (rules, row_len))
+    (the_view c.gear.inside) c.of.result c.set.new.self c.set-2.new.self c.of.ensures.value c.set.ensures c.set-2.ensures
     ∙ ap₂ {B = Gear} {C = List Gear} (λ gs g. set gs c.args.number (record g { half = (get_or gs c.args.number fresh).half })) c.self.view_is c.gear.view_is

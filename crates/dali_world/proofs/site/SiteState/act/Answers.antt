@@ -14,7 +14,7 @@ pub count-number-requires-clause-few : goal.count-number-requires-clause-few
 count-number-requires-clause-few c =
     let up = c.in_ok-check_up.ensures.ok in
     let four : c.args.c < 4 = let there = up.1 in let few = up.2 in omega arith in
-    step_few _ _ _ _ _ c.args.c c.self.view_is c.self.invariant (c.if-is_full.ensures.room refl) four
+    step_few _ _ _ _ _ c.args.c c.self.view_is c.self.invariant c.in_ok-check_room.ensures.ok four
 
 pub invariant_of-self : goal.invariant_of-self
 invariant_of-self c =
@@ -25,7 +25,7 @@ invariant_of-self c =
     let up = c.in_ok-check_up.ensures.ok in
     let four : c.args.c < 4 = let there = up.1 in let few = up.2 in omega arith in
     step_goes_on _ _ _ _ _ _ _ _ _ (event.Acted c.args.c c.args.input c.act-order.result) c.args.c c.self.view_is c.self.invariant
-    (c.if-is_full.ensures.room refl) act.moves leaves
+    c.in_ok-check_room.ensures.ok act.moves leaves
     (act_known _ _ _ _ c.args.c c.args.input c.act-order.result c.self.invariant due act.placed act.answer act.whole)
     c.append.ensures.items c.append.ensures.capacity four c.count-number.ensures.shares refl
 
@@ -39,7 +39,7 @@ returns-clause-answer c =
     let four : c.args.c < 4 = let there = up.1 in let few = up.2 in omega arith in (
       act_site _ _ _ _ _ c.count-number.new.shares _ c.count-number.result c.args.c c.args.input c.act-order.result c.new.result _
           c.self.view_is c.self.invariant (c.if-is_crowded.ensures.room refl)
-          (c.if-is_full.ensures.room refl) act.moves act.answer leaves act.whole c.append.ensures.items four
+          c.in_ok-check_room.ensures.ok act.moves act.answer leaves act.whole c.append.ensures.items four
           c.count-number.ensures.number c.new.ensures,
       tt,
       tt,
@@ -64,7 +64,7 @@ returns-clause-fits c =
     fits_acted _ _ _ _ _ (rw (← c.self.view_is) c.self.invariant.run)
     (act_site _ _ _ _ _ c.count-number.new.shares _ c.count-number.result c.args.c c.args.input c.act-order.result c.new.result _
     c.self.view_is c.self.invariant (c.if-is_crowded.ensures.room refl)
-    (c.if-is_full.ensures.room refl) act.moves act.answer leaves act.whole c.append.ensures.items four
+    c.in_ok-check_room.ensures.ok act.moves act.answer leaves act.whole c.append.ensures.items four
     c.count-number.ensures.number c.new.ensures)
 
 pub returns-clause-records : goal.returns-clause-records

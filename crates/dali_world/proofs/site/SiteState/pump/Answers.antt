@@ -1,4 +1,4 @@
-use Rattle.std.proofs.Common.{rules, refl}
+use Rattle.std.proofs.Common.{rules}
 use Rattle.dali_world.proofs.Logs.{request_may, sendable_of}
 use Rattle.dali_world.proofs.site.SiteState.pump.Goals as goal
 
@@ -13,6 +13,6 @@ send-requires c = record {
   next = search rules;
   may = request_may _ _ _ _ _ c.in-Some.request c.self.view_is c.self.invariant (rw c.in-Some.is at c.next_request.ensures.may);
   draws = search rules;
-  room = c.if-is_full.ensures.room refl;
+  room = c.in_ok-check_room.ensures.ok;
   sendable = sendable_of c.args.trouble c.in-None.is;
 }

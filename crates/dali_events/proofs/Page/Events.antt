@@ -27,10 +27,11 @@ use Rattle.dali_events.specs.Laws.{KeepsRecords}
 use Rattle.dali_statement.specs.Page.{Gear, Moment, Ends, Power, Expires, Site, all_allowed, allowed, befalls, after, happens as page_after}
 use Rattle.dali_statement.specs.Gear.{gear_seen}
 use Rattle.dali_statement.specs.Scripts.{said_of}
-use Rattle.dali_statement.specs.Sites.{plan_seen}
+use Rattle.dali_events.specs.Page.{plan_seen}
 use Rattle.dali_statement.proofs.Tests.{first_of_both, second_of_both, some_is}
 use Rattle.dali_statement.proofs.Gear.{power_on, expired}
-use Rattle.dali_statement.proofs.Bridge.{Told, told_so, Ordered, AskedSo, SeenBy, Seen, Next, Informed, each_of, uninformed, informed}
+use Rattle.dali_statement.proofs.Steps.{Told, told_so}
+use Rattle.dali_events.proofs.Page.Bridge.{Ordered, AskedSo, SeenBy, Seen, Next, Informed, each_of, uninformed, informed}
 
 -- EACH EVENT but frames, as moments of the page.
 

@@ -1,6 +1,7 @@
-use Rattle.std.proofs.Common.{◌≡◌, inl, inr, ℕ, zero, suc, ◌<◌, Bool, true, false, refl, sym, ap, subst, ◌∙◌, List, [], ◌∷◌, ◌++◌, map, Option, Some, None}
+use Rattle.std.proofs.Common.{◌≡◌, ◌⊎◌, length, inl, inr, ℕ, zero, suc, ◌<◌, Bool, true, false, refl, sym, ap, subst, ◌∙◌, List, [], ◌∷◌, ◌++◌, map, Option}
+use Rattle.std.proofs.Common.{Some, None}
 use Rattle.std.proofs.Common.{length-set}
-use Rattle.std.specs.Prelude.{◌==◌, ◌&&◌, ◌||◌, if◌then◌else◌, option_map, unwrap_or, IfSome}
+use Rattle.std.specs.Prelude.{◌==◌, ◌&&◌, ◌||◌, if◌then◌else◌, option_map, unwrap_or, IfSome, slice_get}
 use Rattle.std.specs.List.{AllByRecursion}
 use Rattle.dali_frame.specs.declared.frames.Forward.{Forward}
 use Rattle.dali_frame.specs.declared.frames.Answer.{Answer}
@@ -14,21 +15,20 @@ use Rattle.dali_special.specs.Command.{command_of, is_send_twice, IsSpelled}
 use Rattle.dali_special.proofs.Table.{read_spelled, short_small}
 use Rattle.dali_gear.specs.declared.gear_set.GearSet.{GearSet}
 use Rattle.dali_gear.specs.declared.row.Reach.TheVariants.{Everyone, Only}
-use Rattle.dali_gear.specs.Gear.{Gear as Real}
-use Rattle.dali_gear.specs.Row.{row_after, answers_of}
+use Rattle.dali_gear.specs.Gear.{Gear as Real, fresh, is_active, is_found}
+use Rattle.dali_gear.specs.Row.{row_after, stored_short, answers_of}
 use Rattle.dali_arbiter.specs.Arbiter.{owns, bus_sent}
-use Rattle.dali_script.specs.declared.block.Block.{Block}
 use Rattle.dali_script.specs.declared.finding.Finding.{Finding}
 use Rattle.dali_script.specs.declared.finding.Finding.TheVariants.{Queried, Resolved}
 use Rattle.dali_script.specs.declared.trace.Entry.{Entry}
-use Rattle.dali_script.specs.Records.{Assignment, Has}
+use Rattle.dali_script.specs.Records.{Has}
 use Rattle.dali_script.specs.Findings.{Asked, nothing, high_byte, two_bytes, asked_of, asked_after, search_of, found_by, spelled_by, assigned, later}
-use Rattle.dali_script.specs.Scripts.{Script, Open, Call, Draw, Probe, Hunt, Look, Give, PassOver, Resolve, Close, ArcPower, steps, IsFront, Lawful, IsFirst}
+use Rattle.dali_script.specs.Scripts.{Lawful}
 use Rattle.dali_script.proofs.Found.{asked_more}
 use Rattle.dali_script.proofs.Members.{Each, each_changed}
 use Rattle.dali_events.specs.declared.event.Event.TheVariants as event
 use Rattle.dali_events.specs.Plan.{Plan as SitePlan}
-use Rattle.dali_events.specs.World.{World, controller_at, controllers_changed, nobody}
+use Rattle.dali_events.specs.World.{World, gear_at, controller_at, controllers_changed, nobody}
 use Rattle.dali_events.specs.Happens.{happens as site_after, trace_running, entry, goes_on, taken_by, told_sent, told_destroyed}
 use Rattle.dali_events.specs.Allowed.{IsUp, MaySend, Hears}
 use Rattle.dali_statement.specs.Page.{Part, High, Middle, Low, same, byte, Command, Terminate, Initialise, Randomise, Search, Program, QueryShort, QueryRandom}
@@ -36,16 +36,18 @@ use Rattle.dali_statement.specs.Page.{Other, Gear, takes, Heard, Byte, Nothing, 
 use Rattle.dali_statement.specs.Page.{Site, allowed, befalls, gear_after, may_miss, may_send, hears, are_apart, tells, happens}
 use Rattle.dali_statement.specs.Gear.{command_seen, gear_seen, HasShort}
 use Rattle.dali_statement.specs.Scripts.{heard_seen, entry_seen, said_on, said_of}
-use Rattle.dali_statement.specs.Sites.{plan_seen}
-use Rattle.dali_statement.proofs.Tests.{first_of_either, equal, equals, below_by, some_is}
-use Rattle.dali_statement.proofs.One.{IsShort}
+use Rattle.dali_events.specs.Page.{plan_seen}
+use Rattle.dali_statement.proofs.Tests.{placed, either, first_of_either, equal, equals, below_by, some_is}
+use Rattle.dali_statement.proofs.One.{IsShort, vacant_by}
 use Rattle.dali_statement.proofs.Moved.{At}
-use Rattle.dali_statement.proofs.Steps.{Safe, bytes_tell}
+use Rattle.dali_statement.proofs.Steps.{Safe, Told, told_so, IsTrue, told_by, told_true, bytes_tell}
 use Rattle.dali_statement.proofs.Whole.{frame_goes}
+use Rattle.dali_statement.proofs.Gear.{found}
 use Rattle.dali_statement.proofs.Rows.{sent_to_all, reached, heard}
 use Rattle.dali_statement.proofs.Scripts.{rules_kept, query_tells}
-use Rattle.dali_statement.proofs.Sites.{turn_kept}
-use Rattle.dali_statement.proofs.Bridge.{Told, told_so, More, by_more, AskedSo, SeenBy, Seen, Next, each_of}
+use Rattle.dali_events.proofs.Invariant.Sending.{lawful_of}
+use Rattle.dali_events.proofs.Page.Sites.{turn_kept}
+use Rattle.dali_events.proofs.Page.Bridge.{More, by_more, AskedSo, SeenBy, Seen, Next, each_of}
 
 -- FRAMES OF A SITE, as moments of the page.
 
@@ -58,32 +60,10 @@ second_of_either {b} false e = e
 
 -- ---------------------------------------------------------------- which frames
 
-first_lawful : (b : Block) (xs : List Assignment) (f : Forward) → IsFirst f → Lawful b xs [] f
-first_lawful b xs f first = go first.2.0 first.2.2 where
-  go : (s : Script) → IsFront [] f (steps s) → Lawful b xs [] f
-  go Open front = (Open, tt, front)
-  go (Call r cs) front = (Open, tt, front)
-  go (Draw high middle) front = (Open, tt, front)
-  go (Probe r) front = (Probe r, tt, front)
-  go (Hunt r cs) front = (Probe r, tt, front)
-  go (Look r) front = (Probe r, tt, front)
-  go (Give r a) front = (Probe r, tt, front)
-  go (PassOver r) front = (Probe r, tt, front)
-  go (Resolve a) front = (Resolve a, tt, front)
-  go Close front = (Close, tt, front)
-  go (ArcPower g) front = (ArcPower g, tt, front)
-
 running_is : (w : World) (c : ℕ) (f : Forward) → MaySend w c f → (w.bus.owner ≡ None → w.trace ≡ []) → trace_running w c ≡ w.trace
 running_is w c f (inl owner) free =
     ap (λ o. if owns o c then w.trace else []) owner.0 ∙ ap (λ t. if t then w.trace else []) (equals c c refl)
 running_is w c f (inr none) free = ap (λ o. if owns o c then w.trace else []) none.0 ∙ sym (free none.0)
-
-lawful_now : (w : World) (c : ℕ) (f : Forward) → MaySend w c f → (w.bus.owner ≡ None → w.trace ≡ [])
-    → Lawful (controller_at w c).records.block (controller_at w c).records.reserved w.trace f
-lawful_now w c f (inl owner) free = owner.1
-lawful_now w c f (inr none) free =
-    subst (λ t. Lawful (controller_at w c).records.block (controller_at w c).records.reserved t f) (sym (free none.0))
-    (first_lawful (controller_at w c).records.block (controller_at w c).records.reserved f none.1)
 
 -- ---------------------------------------------------------------- what the page asks
 
@@ -140,6 +120,9 @@ said_more : (said : List (Command × Heard)) (t : List Entry) (e : Entry) → sa
 said_more said [] e = refl
 said_more said (d ∷ t) e = said_more (entry_seen d ∷ said) t e
 
+none_stored : {a : ℕ} → None ≡ Some a → ⊥
+none_stored {a} e = absurd (cc)
+
 -- ---------------------------------------------------------------- what is told
 
 asked_next : (told : Told) (said : List (Command × Heard)) (x : Read) (h : Answer) (q : Asked) → AskedSo told q
@@ -159,7 +142,7 @@ asked_next told said _ _ q old = tt
 module _ (p : SitePlan) (w : World) (s : Site) (seen : Seen p w s) (safe : Safe (plan_seen p) s) (c : ℕ) (f : Forward) (up : IsUp w c)
     (may : MaySend w c f) where
   lawful : Lawful (controller_at w c).records.block (controller_at w c).records.reserved w.trace f
-  lawful = lawful_now w c f may seen.free
+  lawful = subst (λ t. Lawful (controller_at w c).records.block (controller_at w c).records.reserved t f) (running_is w c f may seen.free) (lawful_of w c f may)
 
   reserved_so : (a r : ℕ) → Has (controller_at w c).records.reserved (a, r) → s.reserved c a ≡ Some r
   reserved_so a r h = (seen.each c up.known).to a r h
@@ -172,6 +155,26 @@ module _ (p : SitePlan) (w : World) (s : Site) (seen : Seen p w s) (safe : Safe 
 
   shorts : AllByRecursion HasShort w.gear
   shorts = shorts_of w.gear (λ g x at. safe.sound.short g x (subst (λ gs. At gs g x) (sym seen.gear) at))
+
+  -- who stores a short address has none, and the sender has reserved it for its number
+  pub stores_reserved : (g a : ℕ) → g < length w.gear → (gear_at w g).powered ≡ true → stored_short (command_of f) (gear_at w g) ≡ Some a
+      → ((gear_at w g).short ≡ None) × Has (controller_at w c).records.reserved (a, (gear_at w g).random) × ((gear_at w g).random < 0xFFFFFF)
+  stores_reserved g a there on stores = go (command_of f) refl stores where
+    by : (o : Option ℕ) → command_of f ≡ read.Program o → (t : Bool) → (is_active (gear_at w g).state && is_found (gear_at w g)) ≡ t
+        → (if t then o else None) ≡ Some a
+        → ((gear_at w g).short ≡ None) × Has (controller_at w c).records.reserved (a, (gear_at w g).random) × ((gear_at w g).random < 0xFFFFFF)
+    by o is false met e = absurd (none_stored e)
+    by o is true met e =
+        let program : command_of f ≡ read.Program (Some a) = is ∙ ap (λ b. read.Program b) e in
+        let vacant = vacant_by s c a (gear_seen (gear_at w g))
+        (safe.knows g (gear_seen (gear_at w g)) (ap (λ gs. slice_get gs g) seen.gear ∙ placed gear_seen fresh w.gear g there))
+        (subst (λ x. may_send s c (command_seen x) ≡ true) program may_page) (found (gear_at w g) on met) in
+        (vacant.0, (seen.each c up.known).from a (gear_at w g).random vacant.1, (safe.sound.within c a (gear_at w g).random vacant.1).2)
+
+    go : (x : Read) → command_of f ≡ x → stored_short x (gear_at w g) ≡ Some a
+        → ((gear_at w g).short ≡ None) × Has (controller_at w c).records.reserved (a, (gear_at w g).random) × ((gear_at w g).random < 0xFFFFFF)
+    go (read.Program o) is e = by o is (is_active (gear_at w g).state && is_found (gear_at w g)) refl e
+    go _ is e = absurd (none_stored e)
 
   -- ---------------------------------------------------------------- a frame that was destroyed
 
@@ -221,9 +224,11 @@ module _ (p : SitePlan) (w : World) (s : Site) (seen : Seen p w s) (safe : Safe 
           else map (takes (command_seen (command_of f)) 0) (map gear_seen w.gear)) (seen_miss (command_of f) h ∙ e)
           ∙ sym (sent_to_all (command_of f) 0 w.gear w.left e)
 
+    heard_page : hears (command_seen (command_of f)) (heard_seen h) s.gear ≡ true
+    heard_page = subst (λ gs. hears (command_seen (command_of f)) (heard_seen h) gs ≡ true) (sym seen.gear) (hears_seen (command_of f) h w.gear hearing)
+
     allow : allowed (plan_seen p) s moment ≡ true
-    allow = both turn (both may_page (both (subst (λ gs. hears (command_seen (command_of f)) (heard_seen h) gs ≡ true) (sym seen.gear)
-        (hears_seen (command_of f) h w.gear hearing)) (ap are_apart row ∙ numbers)))
+    allow = both turn (both may_page (both heard_page (ap are_apart row ∙ numbers)))
 
     abbrev told_now : Told
     told_now = λ q a v. s.told q a v || tells (command_seen (command_of f)) (heard_seen h) s.said q a v
@@ -299,6 +304,21 @@ module _ (p : SitePlan) (w : World) (s : Site) (seen : Seen p w s) (safe : Safe 
     run : trace_running w c ≡ w.trace
     run = running_is w c f may seen.free
 
+    found_so : (y : Finding) → found_by (search_of (trace_running w c)) (asked_of (trace_running w c)) (command_of f) h ≡ Some y
+        → told_so told_now (assigned y).0 (assigned y).1 ≡ true
+    found_so y e = found_told (command_of f) refl h refl y (sym (ap (λ t. found_by (search_of t) (asked_of t) (command_of f) h) run) ∙ e)
+
+    -- and the gear is there when the frame is sent
+    pub found_gear : (y : Finding) → found_by (search_of (trace_running w c)) (asked_of (trace_running w c)) (command_of f) h ≡ Some y
+        → (g : ℕ) × (x : Gear) × At s.gear g x × (x.short ≡ Some (assigned y).0) × (x.random ≡ (assigned y).1)
+    found_gear y e = told_by (plan_seen p) s safe told_now true_now (assigned y).0 (assigned y).1 (found_so y e) where
+      true_now : IsTrue told_now s.gear
+      true_now q a v small told = go (either (s.told q a v) (tells (command_seen (command_of f)) (heard_seen h) s.said q a v) told) where
+        go : (s.told q a v ≡ true) ⊎ (tells (command_seen (command_of f)) (heard_seen h) s.said q a v ≡ true)
+            → (g : ℕ) × (x : Gear) × At s.gear g x × (x.short ≡ Some a) × (byte q x.random ≡ v)
+        go (inl was) = safe.sound.told_of q a v small was
+        go (inr new) = told_true (plan_seen p) s (command_seen (command_of f)) (heard_seen h) safe heard_page q a v small new
+
     -- the sender, after it was told what was heard
     sender : SeenBy p.used next c (told_sent (trace_running w c) f h (controller_at w c))
     sender = record {
@@ -315,8 +335,7 @@ module _ (p : SitePlan) (w : World) (s : Site) (seen : Seen p w s) (safe : Safe 
       go : (o : Option Finding) → found_by (search_of (trace_running w c)) (asked_of (trace_running w c)) (command_of f) h ≡ o → (y : Finding)
           → later (controller_at w c).finding o ≡ Some y → told_so told_now (assigned y).0 (assigned y).1 ≡ true
       go None is y e = old.found y e
-      go (Some z) is y e =
-          found_told (command_of f) refl h refl y (sym (ap (λ t. found_by (search_of t) (asked_of t) (command_of f) h) run) ∙ is ∙ e)
+      go (Some z) is y e = found_so y (is ∙ e)
 
     each_now : Each nobody (SeenBy p.used next) (controllers_changed w.controllers c (told_sent (trace_running w c) f h))
     each_now = each_of (SeenBy p.used next) w.controllers c (told_sent (trace_running w c) f h (controller_at w c))

@@ -17,9 +17,10 @@ use Rattle.dali_events.specs.Laws.{KeepsRecords}
 use Rattle.dali_statement.specs.Page.{Part, High, Middle, Low, byte, Moment, Reserves, Enrols, Releases, Site, all_allowed, after}
 use Rattle.dali_statement.specs.Gear.{gear_seen}
 use Rattle.dali_statement.specs.Scripts.{said_of}
-use Rattle.dali_statement.specs.Sites.{plan_seen}
+use Rattle.dali_events.specs.Page.{plan_seen}
 use Rattle.dali_statement.proofs.Tests.{first_of_both, second_of_both, first_of_either, equal, equals, some_is, holds_by, not_true}
-use Rattle.dali_statement.proofs.Sites.{reserve_allowed}
+use Rattle.dali_statement.proofs.Steps.{Told, told_so}
+use Rattle.dali_events.proofs.Page.Sites.{reserve_allowed}
 
 -- A SITE AS THE PAGE SEES IT, and a record that is kept.
 
@@ -31,12 +32,6 @@ second_of_either {b} true e = refl
 second_of_either {b} false e = e
 
 -- ---------------------------------------------------------------- what was told
-
-abbrev pub Told : Type 0
-Told = Part → ℕ → ℕ → Bool
-
-abbrev pub told_so : Told → ℕ → ℕ → Bool
-told_so told a r = nat_lt a 64 && (told High a (byte High r) && (told Middle a (byte Middle r) && told Low a (byte Low r)))
 
 abbrev pub More : Told → Told → Type 0
 More old new = (q : Part) (a v : ℕ) → old q a v ≡ true → new q a v ≡ true

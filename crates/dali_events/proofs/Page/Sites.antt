@@ -5,7 +5,7 @@ use Rattle.std.specs.Prelude.{◌==◌, ◌&&◌, not, nat_lt, nat_le, if◌then
 use Rattle.std.specs.List.{list_any}
 use Rattle.dali_frame.specs.Random.{MASK24}
 use Rattle.dali_frame.specs.declared.frames.Forward.{Forward}
-use Rattle.dali_gear.specs.Gear.{Gear as Real, fresh}
+use Rattle.dali_gear.specs.Gear.{fresh}
 use Rattle.dali_script.specs.declared.block.Block.{Block}
 use Rattle.dali_script.specs.declared.finding.Finding.{Finding}
 use Rattle.dali_script.specs.declared.records.Record.TheVariants as record_of
@@ -19,12 +19,12 @@ use Rattle.dali_events.specs.Used.{with_used, used_shorts, earlier_gift}
 use Rattle.dali_events.specs.World.{World, Controller, gear_at, start as site_start}
 use Rattle.dali_events.specs.Runs.{after as after_log, IsRun, AreDrawn, IsDrawer}
 use Rattle.dali_events.specs.Allowed.{MayCommit, MaySend}
-use Rattle.dali_events.specs.Promise.{IsSafe}
-use Rattle.dali_events.proofs.Invariant.Drawn.{drawn_in_front}
-use Rattle.dali_events.proofs.Invariant.Safe.{safe_history, keeps_promise}
+use Rattle.dali_events.proofs.Invariant.Drawn.{are_drawn, draws_start, drawn_in_front}
+use Rattle.dali_events.proofs.Invariant.Gifts.{IsOwned, one_holder}
+use Rattle.dali_events.proofs.Invariant.Arrived.{gifts_start}
 use Rattle.dali_statement.specs.Page.{Gear, holds, Site, are_apart, IsPlan, is_told, allowed, Reserves, Enrols, Releases}
 use Rattle.dali_statement.specs.Gear.{gear_seen}
-use Rattle.dali_statement.specs.Sites.{owner_in, plan_seen}
+use Rattle.dali_events.specs.Page.{owner_in, plan_seen}
 use Rattle.dali_statement.proofs.Tests.{first_of_both, second_of_both, equal, equals, some_is, holds_is, holds_by, any_at, mapped_at, differ_by, all_by}
 use Rattle.dali_statement.proofs.Tests.{below_by}
 use Rattle.dali_statement.proofs.Tests.{within_by, within_is, at_index}
@@ -42,7 +42,7 @@ key_is r n e = go (r == 0xFFFFFF) refl e where
   go true mask e = absurd (cc)
   go false mask e = (some_is e, mask)
 
-apart_seen : (w : World) → AreDrawn w → are_apart (map gear_seen w.gear) ≡ true
+pub apart_seen : (w : World) → AreDrawn w → are_apart (map gear_seen w.gear) ≡ true
 apart_seen w drawn = differ_by (λ g. if g.random == 0xFFFFFF then None else Some g.random) (map gear_seen w.gear) one where
   drawer : (i n : ℕ) (x : Gear) → slice_get (map gear_seen w.gear) i ≡ Some x → (if x.random == 0xFFFFFF then None else Some x.random) ≡ Some n → IsDrawer w i n
   drawer i n x at is =
@@ -66,12 +66,6 @@ numbers_apart p capacity front rest run = apart_seen (after_log p capacity front
 
 -- ---------------------------------------------------------------- plans
 
-begun : (p : SitePlan) → IsSitePlan p → IsRun p 0 []
-begun p plan = record { plan = plan; allowed = tt; leaves = tt }
-
-start_gear : SitePlan → List Real
-start_gear p = with_used (replicate p.gear fresh) p.used
-
 seen_at : (p : SitePlan) (i : ℕ) (x : Gear) → slice_get (map gear_seen (with_used (replicate p.gear fresh) p.used)) i ≡ Some x
     → (i < length (site_start p 0).gear) × ((gear_at (site_start p 0) i).short ≡ x.short)
 seen_at p i x at =
@@ -83,9 +77,8 @@ seen_at p i x at =
 pub used_at : (p : SitePlan) → IsSitePlan p → (i a : ℕ) (x : Gear) → slice_get (map gear_seen (with_used (replicate p.gear fresh) p.used)) i ≡ Some x
     → x.short ≡ Some a → Has (used_shorts p.used) a
 used_at p plan i a x at is =
-    let safe : IsSafe (site_start p 0) = (safe_history p 0 [] (begun p plan)).always [] [] refl in
     let there = seen_at p i x at in
-    let gift : Has (map earlier_gift p.used) (i, a) = (safe.holds i a there.0).0 (there.1 ∙ is) in
+    let gift : Has (map earlier_gift p.used) (i, a) = ((gifts_start p 0 plan.used).holds i a there.0).0 (there.1 ∙ is) in
     let from = mapped_from earlier_gift p.used (i, a) gift in
     subst (Has (used_shorts p.used)) (ap (λ g. g.1) from.2) (has_map (λ u. u.short) p.used from.0 from.1)
 
@@ -93,7 +86,7 @@ pub plan_is_seen : (p : SitePlan) → IsSitePlan p → IsPlan (plan_seen p)
 plan_is_seen p plan = record {
   shorts = differ_by (λ g. g.short) (map gear_seen (with_used (replicate p.gear fresh) p.used)) one;
   short = all_by (λ g. nat_lt (unwrap_or g.short 0) 64) (map gear_seen (with_used (replicate p.gear fresh) p.used)) (λ i x at. small i x at x.short refl);
-  apart = apart_seen (site_start p 0) (drawn_in_front p 0 [] [] (begun p plan));
+  apart = apart_seen (site_start p 0) (are_drawn p (site_start p 0) plan (draws_start p 0));
   reserved = λ c a r e. absurd (none e);
   enrolled = λ c a r e. absurd (no_table e);
 } where
@@ -108,7 +101,8 @@ plan_is_seen p plan = record {
   one i j n x y at there is same =
       let first = seen_at p i x at in
       let second = seen_at p j y there in
-      ((keeps_promise p 0 [] (begun p plan)).always [] [] refl).one_gear i j n (first.0, first.1 ∙ is) (second.0, second.1 ∙ same)
+      one_holder (IsOwned p.used (site_start p 0).controllers) (site_start p 0).gear (site_start p 0).drawn (site_start p 0).gifts (gifts_start p 0 plan.used)
+      i j n first.0 second.0 (first.1 ∙ is) (second.1 ∙ same)
 
   small : (i : ℕ) (x : Gear) → slice_get (map gear_seen (with_used (replicate p.gear fresh) p.used)) i ≡ Some x → (o : Option ℕ) → x.short ≡ o
       → nat_lt (unwrap_or o 0) 64 ≡ true

@@ -1,5 +1,0 @@
-use Rattle.dali_statement.proofs.Runs.{every_run_is_a_history}
-use Rattle.dali_statement.proofs.laws.every_run_is_a_history.Goals as goal
-
-pub returns : goal.returns
-returns c = every_run_is_a_history

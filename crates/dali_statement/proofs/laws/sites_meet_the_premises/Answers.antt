@@ -1,5 +1,0 @@
-use Rattle.dali_statement.proofs.Sites.{numbers_apart, plan_is_seen, block_is}
-use Rattle.dali_statement.proofs.laws.sites_meet_the_premises.Goals as goal
-
-pub returns : goal.returns
-returns c = record { numbers = numbers_apart; plan = plan_is_seen; block = block_is }
