@@ -22,6 +22,7 @@ ALL = (0, 63)
 GEAR, LEAST = 6, 3 * (3 * (64 - 6) + 17)
 LOCKED = "another program has the file open"
 FOREIGN = "it is no file of records, and is left as it is\n"
+NEWER = "a later version of Yolgibat wrote it, or another program, and it is left as it is\n"
 # What a driver may tell that is none of its answers, each with what the program says of it.
 BAD = {
     "bad line": [
@@ -130,7 +131,7 @@ STRANGERS: dict[str, bytes | tuple[str, ...]] = {
         "pragma journal_mode = wal", TABLE, "create trigger t after insert on record begin select 1; end",
     ),
     "records of another form": ("pragma journal_mode = wal", "create table record(seq integer primary key, kind, address, random)"),
-    "records of another version": ("pragma journal_mode = wal", TABLE, "pragma user_version = 99"),
+    "records of a later version": ("pragma journal_mode = wal", TABLE, "pragma user_version = 99"),
 }
 
 
@@ -153,7 +154,7 @@ def foreign(place: Place, _chance: random.Random) -> None:
         before = {it.name: it.read_bytes() for it in folder.iterdir()}
         for words in (["run", "0-63"], ["check"], ["table"]):
             ran = place.alone(words[0], "--records", folder / "site.db", *words[1:])
-            check_store(place, f"{words[0]} over {name}", ran, f"site.db: {FOREIGN}")
+            check_store(place, f"{words[0]} over {name}", ran, f"site.db: {NEWER if 'later' in name else FOREIGN}")
             now = {it.name: it.read_bytes() for it in folder.iterdir()}
             place.check(f"{name} stays as it is after {words[0]}", now == before, [*now])
         shutil.rmtree(folder)

@@ -21,6 +21,8 @@ import typing
 from lib import ROOT
 from lib.record_kinds import ENROL, KINDS, RELEASE, RESERVE
 
+# The device for which adapters/spi-bus stands.
+PORT = "/dev/spidev0.0"
 BETWEEN = ROOT / "tools/lib/commission_between.py"
 # What joins a program and a driver as tools/drive does it, and builds nothing.
 JOIN = "import json, sys; from lib import joining; sys.exit(joining.join(*json.loads(sys.argv[1])))"
@@ -28,7 +30,7 @@ MASK24 = 0xFFFFFF
 # The exit statuses of the program.
 DONE, NOT_SO, DRIVER, STORE, BLOCK_FULL, GAVE_UP, NOBODY, KILLED = 0, 1, 4, 5, 6, 7, 10, -signal.SIGKILL
 NOT_REPLACED, UNFINISHED, SHARED = 11, 12, 13
-NOT_MENDED = NOT_REPLACED
+NOT_MENDED, NOT_CLEARED = NOT_REPLACED, 14
 # The first and the last short address.
 ALL_SHORTS = (0, 63)
 ENDS = {KILLED: "killed", DONE: "all-found", NOT_SO: "not begun", BLOCK_FULL: "block-full", GAVE_UP: "gave-up", SHARED: "shared"}
@@ -115,6 +117,10 @@ class Place:
 
     def simulated(self, *words: Word) -> list[str]:
         return [str(ROOT / "adapters/simulated"), str(self.gear_file), *map(str, words)]
+
+    def sampled(self, *words: Word, device: str = PORT) -> list[str]:
+        """The driver for a port that samples the bus, over the stand-in for it."""
+        return [str(it) for it in (ROOT / "adapters/spi-bus", *words, self.gear_file, ROOT / "adapters/spi", device)]
 
     def begin(
         self, words: collections.abc.Iterable[Word], driver: list[str], **plan: typing.Any

@@ -62,6 +62,7 @@ def run(file: pathlib.Path, records: dict[str, str], gear: list[str], block: str
     if lost := beside("lost"):
         bus().with_name("lost").write_text(json.dumps(lost[1:]))
         say("frames were lost eight times in a row")
+        say("0 gear were enrolled, 0 are in the table; 9 frames")
         say("ended: gave-up")
         ended("gave-up", 7, records)
     for frame in (f"{2 * it + 1:02X}{part}" for it in beside("asked") for part in ("C2", "C3", "C4")):

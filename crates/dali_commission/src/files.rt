@@ -1,5 +1,9 @@
 //! Records in files, each a SQLite database.
 
+ghost use Rattle.std.specs.Prelude.{◌≡◌, ◌++◌, ◌↔◌, ◌⊎◌, string_bytes, Ok, Err, IfOk, IfErr, IsTrue};
+ghost use Rattle.dali_commission.specs.Faults.{system_fault, or_number, copy_fault};
+ghost use Rattle.std.specs.IoError.{error_kind, raw_os_error};
+
 use crate::log::is_damaged;
 use crate::places::{folder_of, place};
 use dali_commission_program::{Actor, Borrower, Failure, Holder, Seen, StoreFault, Stores};
@@ -35,7 +39,9 @@ impl<'a> Files<'a> {
 }
 
 /// What a refusal of the system is to a file of records.
-fn system_fault(kind: ErrorKind) -> StoreFault {
+fn system_fault(kind: ErrorKind) -> StoreFault
+    ensures { result ≡ system_fault kind }
+{
     match kind {
         ErrorKind::NotFound => StoreFault::Missing,
         ErrorKind::PermissionDenied => StoreFault::Forbidden,
@@ -49,16 +55,21 @@ fn system_fault(kind: ErrorKind) -> StoreFault {
 }
 
 /// What a refusal of the system is: its own error, if it is none of these.
-fn refused_by(error: io::Error) -> StoreFault {
+fn refused_by(error: io::Error) -> StoreFault
+    ensures { result ≡ or_number (system_fault (error_kind error)) (raw_os_error error) }
+{
     match (system_fault(error.kind()), error.raw_os_error()) {
         (StoreFault::CannotOpen, Some(number)) => StoreFault::System(number),
         (fault, _) => fault,
     }
 }
 
-fn copy_fault(error: CopyError) -> StoreFault {
+fn copy_fault(error: CopyError) -> StoreFault
+    ensures { result ≡ copy_fault error }
+{
     match error {
         CopyError::Foreign => StoreFault::Foreign,
+        CopyError::Newer => StoreFault::Newer,
         CopyError::Damaged => StoreFault::Damaged,
         CopyError::NoMemory => NO_MEMORY,
         CopyError::CannotOpen => StoreFault::CannotOpen,
@@ -101,7 +112,10 @@ impl Lying {
         })
     }
 
-    fn is(&self, other: &Lying) -> bool {
+    fn is(&self, other: &Lying) -> bool
+        ensures { IsTrue result ↔ ((self.now.db.items ≡ other.now.db.items)
+            × (self.now.log.items ≡ other.now.log.items)) }
+    {
         self.db.as_slice() == other.db.as_slice() && self.log.as_slice() == other.log.as_slice()
     }
 }
@@ -168,7 +182,9 @@ fn lent<S: Alter + Drop, B: Borrower>(
     conn: Connection<S>,
     block: Block,
     borrower: B,
-) -> Result<(Connection<S>, Result<B::Out, Failure>), StoreFault> {
+) -> Result<(Connection<S>, Result<B::Out, Failure>), StoreFault>
+    ensures { IfOk result (λ came. IfOk came.1 (λ out. (kept : Kept) × B.came borrower kept out)) }
+{
     let mut store = SqliteKeep::over(conn, block).map_err(StoreFault::Store)?;
     let done = borrower.take(&mut store);
     Ok((store.into_connection(), done))
@@ -282,7 +298,10 @@ const STORE_FAILED: StoreFault = StoreFault::Store(KeepError::StoreFailed);
 const NO_MEMORY: StoreFault = StoreFault::Store(KeepError::NoMemory);
 
 /// Why a store failed, if the system says so of a file beside it: SQLite does not pass it on.
-fn why_failed(rt: &HostRuntime, name: &str, failure: Failure) -> Failure {
+fn why_failed(rt: &HostRuntime, name: &str, failure: Failure) -> Failure
+    ensures { (result ≡ failure) ⊎ ((failure ≡ Failure.Store (StoreFault.Store KeepError.StoreFailed))
+        × ((fault : StoreFault) × (result ≡ Failure.Store fault))) }
+{
     if let Failure::Store(StoreFault::Store(KeepError::StoreFailed)) = failure {
         if let Ok(part) = made(rt.alloc(), name, ".part") {
             if let Err(error) = tried(rt, &part) {
@@ -306,17 +325,28 @@ fn renamed(rt: &HostRuntime, from: &str, to: &str) -> io::Result<()> {
 }
 
 /// What came of a call of the system.
-fn answered<T>(done: io::Result<T>) -> Result<T, Failure> {
-    done.map_err(|error| Failure::Store(refused_by(error)))
+fn answered<T>(done: io::Result<T>) -> Result<T, Failure>
+    ensures ok { IfOk result (λ it. done ≡ Ok it) }
+    ensures refused { IfErr done (λ error. result
+        ≡ Err (Failure.Store (or_number (system_fault (error_kind error)) (raw_os_error error)))) }
+{
+    match done {
+        Ok(it) => Ok(it),
+        Err(error) => Err(Failure::Store(refused_by(error))),
+    }
 }
 
 /// A name that is made of another one.
-fn made(alloc: Global, name: &str, end: &str) -> Result<String, StoreFault> {
+fn made(alloc: Global, name: &str, end: &str) -> Result<String, StoreFault>
+    ensures { IfOk result (λ it. string_bytes it ≡ name.now ++ end.now) }
+{
     format!(in alloc; "{name}{end}").map_err(|_| NO_MEMORY)
 }
 
 impl<'a> Stores for Files<'a> {
     ghost made = { λ _ _ _. Unit {0} };
+
+    ghost saw = { λ _ _. Unit {0} };
 
     fn has(&self, name: &str) -> bool {
         // The opening says what it is that cannot be told.

@@ -1,6 +1,8 @@
 //! Whether the log of a database is damaged before its end (SQLite's file format, section 4).
 
-ghost use Rattle.std.specs.Prelude.{◌≤◌, ◌+◌, length};
+ghost use Rattle.std.specs.Prelude.{◌≡◌, ◌≤◌, ◌+◌, ◌↔◌, length, IsTrue, IfSome};
+ghost use Rattle.sqlite_wal.specs.Format.{be32, stored_sum, is_big};
+ghost use Rattle.dali_commission.specs.Logs.{begins_log, IsHeadOf, IsSigned, IsOf, HoldsBehind};
 
 use sqlite_wal::checksum_of;
 
@@ -18,21 +20,29 @@ const EMPTIED: u8 = 0;
 const COUNTED: u32 = 0xFF00_0000;
 
 /// The number that stands at a place, its highest byte first.
+#[tactic(auto, unfolding(sqlite_wal::specs::Format::be32))]
 fn number_at(bytes: &[u8], at: usize) -> u32
     requires { at + 4 ≤ length bytes.now }
+    ensures { result ≡ be32 bytes.now at }
 {
-    u32::from_be_bytes([bytes[at], bytes[at + 1], bytes[at + 2], bytes[at + 3]])
+    u32::from(bytes[at]) * 0x100_0000
+        + u32::from(bytes[at + 1]) * 0x1_0000
+        + u32::from(bytes[at + 2]) * 0x100
+        + u32::from(bytes[at + 3])
 }
 
 /// Two numbers, as of a checksum.
 fn numbers_at(bytes: &[u8], at: usize) -> (u32, u32)
     requires { at + 8 ≤ length bytes.now }
+    ensures { result ≡ stored_sum bytes.now at }
 {
     (number_at(bytes, at), number_at(bytes, at + 4))
 }
 
 /// Whether these bytes begin as those of a log, or of one that is emptied.
-fn begins_log(log: &[u8]) -> bool {
+fn begins_log(log: &[u8]) -> bool
+    ensures { result ≡ begins_log log.now }
+{
     match log {
         [first, ..] => *first == MAGIC || *first == EMPTIED,
         [] => false,
@@ -40,25 +50,32 @@ fn begins_log(log: &[u8]) -> bool {
 }
 
 /// The header of a log. Its first byte is another one when the log is emptied.
-fn head_of(log: &[u8]) -> Option<[u8; HEAD]> {
+fn head_of(log: &[u8]) -> Option<[u8; HEAD]>
+    ensures { IsHeadOf log.now result }
+{
     let mut head = [0; HEAD];
     head.copy_from_slice(log.get(..HEAD)?);
     head[0] = MAGIC;
     Some(head)
 }
 
-fn is_big(head: &[u8; HEAD]) -> bool {
+fn is_big(head: &[u8; HEAD]) -> bool
+    ensures { result ≡ is_big head.now }
+{
     head[3] == 0x83
 }
 
 /// Whether the checksum of a header holds.
-fn is_signed(head: &[u8; HEAD]) -> bool {
+fn is_signed(head: &[u8; HEAD]) -> bool
+    ensures { IsTrue result ↔ IsSigned head.now }
+{
     checksum_of(is_big(head), (0, 0), &head[..FRAME]) == numbers_at(head, FRAME)
 }
 
 /// Whether a frame is of the log as it is now, by the number that its header has too.
 fn is_of(head: &[u8; HEAD], frame: &[u8]) -> bool
     requires { 24 ≤ length frame.now }
+    ensures { IsTrue result ↔ IsOf head.now frame.now }
 {
     frame[8..16] == head[16..24]
 }
@@ -66,6 +83,7 @@ fn is_of(head: &[u8; HEAD], frame: &[u8]) -> bool
 /// The checksum of a frame, if it holds behind that of the one before.
 fn sum_after(head: &[u8; HEAD], before: (u32, u32), frame: &[u8]) -> Option<(u32, u32)>
     requires { 24 ≤ length frame.now }
+    ensures { IfSome result (HoldsBehind head.now before frame.now) }
 {
     let front = checksum_of(is_big(head), before, &frame[..8]);
     let sum = checksum_of(is_big(head), front, &frame[FRAME..]);

@@ -1,5 +1,8 @@
 //! Where a file lies.
 
+ghost use Rattle.std.specs.Prelude.{ℕ, List, IfOk, string_bytes};
+ghost use Rattle.dali_commission.specs.Lying.{IsParted, IsJoined, IsLed};
+
 use std::alloc::{AllocError, Global};
 use std::fs;
 
@@ -7,7 +10,9 @@ use std::fs;
 const LINKS: u8 = 8;
 
 /// The folder of a file, and the name that it has there.
-fn parts(name: &str) -> (&str, &str) {
+fn parts(name: &str) -> (&str, &str)
+    ensures { IsParted name.now result.0.now result.1.now }
+{
     match name.rsplit_once("/") {
         Some(("", file)) => ("/", file),
         Some(both) => both,
@@ -16,12 +21,16 @@ fn parts(name: &str) -> (&str, &str) {
 }
 
 /// The folder of a file.
-pub(crate) fn folder_of(name: &str) -> &str {
+pub(crate) fn folder_of(name: &str) -> &str
+    ensures { (file : List ℕ) × IsParted name.now result.now file }
+{
     parts(name).0
 }
 
 /// The name of a file in a folder.
-fn joined(alloc: Global, folder: &str, file: &str) -> Result<String, AllocError> {
+fn joined(alloc: Global, folder: &str, file: &str) -> Result<String, AllocError>
+    ensures { IfOk result (λ at. IsJoined folder.now file.now (string_bytes at)) }
+{
     if folder.ends_with("/") {
         format!(in alloc; "{folder}{file}")
     } else {
@@ -30,7 +39,9 @@ fn joined(alloc: Global, folder: &str, file: &str) -> Result<String, AllocError>
 }
 
 /// Where a link leads.
-fn led(alloc: Global, name: &str, to: &str) -> Result<String, AllocError> {
+fn led(alloc: Global, name: &str, to: &str) -> Result<String, AllocError>
+    ensures { IfOk result (λ at. IsLed name.now to.now (string_bytes at)) }
+{
     if to.starts_with("/") {
         String::from_str(alloc, to)
     } else {

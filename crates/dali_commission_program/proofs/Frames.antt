@@ -1,4 +1,4 @@
-use Rattle.std.proofs.Common.{◌≡◌, List, [], ◌∷◌, Some, true, refl}
+use Rattle.std.proofs.Common.{◌≡◌, List, [], ◌∷◌, Option, Some, true, refl}
 use Rattle.std.specs.Io.KnownBytes.{Appends}
 use Rattle.dali_script.specs.Due.{accepts}
 use Rattle.dali_script.specs.declared.orders.Due.TheVariants as due
@@ -7,16 +7,21 @@ use Rattle.dali_commissioning.specs.Drivers.{Talk}
 use Rattle.dali_commissioning.specs.Lines.{Tells, put_text}
 use Rattle.dali_commissioning.proofs.Steps.{line_told}
 use Rattle.dali_mending.specs.declared.mending.Put.{Put}
-use Rattle.dali_mending.specs.Mending.{Mending, put_next, told_to}
-use Rattle.dali_commission_program.specs.Mends.{HasPut}
+use Rattle.dali_mending.specs.Mending.{Mending}
+use Rattle.dali_commission_program.specs.declared.eraser.Eraser.{Eraser}
+use Rattle.dali_commission_program.specs.Clearing.{HaveErased}
+use Rattle.dali_commission_program.specs.Mends.{AreFrames, HasPut}
 
 -- no frame was put, and one more
 pub none : (m : Mending) (x : Talk) → HasPut m m x x
 none m x = ([], (refl, refl))
 
-pub one_more : (m mid n : Mending) (put : Put) (told : Input) (x at y : Talk)
-    → HasPut m mid x at → put_next mid ≡ Some put → accepts due.Bus told ≡ true
+pub none_erased : (e : Eraser) (x : Talk) → HaveErased e e x x
+none_erased e x = ([], (refl, refl))
+
+pub one_more : {M : Type 0} (next : M → Option Put) (after : M → Input → M) (m mid n : M) (put : Put) (told : Input) (x at y : Talk)
+    → ((before : List Input) × AreFrames next after m before mid x at) → next mid ≡ Some put → accepts due.Bus told ≡ true
     → Appends at.written y.written (put_text put.priority put.frame put.half) → Tells at.left y.left told
-    → n ≡ told_to mid told → HasPut m n x y
-one_more m mid n put told x at y (so_far, are) next bus wrote tells goes_on =
-    (told ∷ so_far, (mid, at, are, (put, next, record { wrote = wrote; hears = line_told at.left y.left told bus tells }, goes_on)))
+    → n ≡ after mid told → (all : List Input) × AreFrames next after m all n x y
+one_more next after m mid n put told x at y (so_far, are) is bus wrote tells goes_on =
+    (told ∷ so_far, (mid, at, are, (put, is, record { wrote = wrote; hears = line_told at.left y.left told bus tells }, goes_on)))

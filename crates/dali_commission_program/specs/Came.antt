@@ -1,11 +1,14 @@
-use Rattle.std.specs.Prelude.{◌≡◌, ◌⊎◌, ℕ, ◌-◌, Bool, List, [], ◌∷◌, ◌++◌, Result, Ok, Err}
-use Rattle.std.specs.Prelude.{length, IsErr}
+use Rattle.std.specs.Prelude.{◌≡◌, ◌⊎◌, ℕ, ◌-◌, ◌*◌, Bool, true, List, [], ◌∷◌, ◌++◌, Result}
+use Rattle.std.specs.Prelude.{Ok, Err, length, IsErr}
 use Rattle.std.specs.List.{list_any}
 use Rattle.dali_script.specs.declared.block.Block.{Block}
 use Rattle.dali_script.specs.declared.orders.End.TheVariants.{AllFound}
+use Rattle.dali_script.specs.declared.orders.Input.{Input}
 use Rattle.dali_script.specs.declared.orders.Input.TheVariants.{Survey}
 use Rattle.dali_script.specs.declared.records.Record.{Record}
+use Rattle.dali_script.specs.declared.sending.Half.TheVariants as half
 use Rattle.dali_script.specs.Records.{Kept}
+use Rattle.dali_special.specs.Command.{frame}
 use Rattle.dali_commissioning.specs.declared.beginning.Begun.{Begun}
 use Rattle.dali_commissioning.specs.declared.beginning.Begun.TheVariants as begun
 use Rattle.dali_commissioning.specs.declared.beginning.Checked.{Checked}
@@ -13,6 +16,7 @@ use Rattle.dali_commissioning.specs.declared.conducting.Ended.TheVariants.{Done}
 use Rattle.dali_commissioning.specs.declared.conducting.PassEnd.{PassEnd}
 use Rattle.dali_commissioning.specs.declared.fault.CommissionFault.{CommissionFault}
 use Rattle.dali_commissioning.specs.declared.verdict.Place.{Place}
+use Rattle.dali_commissioning.specs.Census.{IsPut, is_sent}
 use Rattle.dali_commissioning.specs.Drivers.{Talk}
 use Rattle.dali_commissioning.specs.Places.{places}
 use Rattle.dali_commissioning.specs.Runs.{Run, AreRuns, EndWith, ComeTo, AreQuiet, IsBegun}
@@ -23,6 +27,7 @@ use Rattle.dali_commission_program.specs.declared.said.Said.{Said}
 use Rattle.dali_commission_program.specs.declared.said.Said.TheVariants.{Commissioned}
 use Rattle.dali_commission_program.specs.declared.tasks.Start.{Start}
 use Rattle.dali_commission_program.specs.declared.tasks.Start.TheVariants as start
+use Rattle.dali_commission_program.specs.Ending.{HasAsked}
 use Rattle.dali_commission_program.specs.Failures.{checked, ended_as, failure_of}
 use Rattle.dali_commission_program.specs.Reports.{checked_said, addressed_said, heard_of}
 use Rattle.dali_commission_program.specs.Said.{heard_said, WhySaid}
@@ -62,16 +67,23 @@ HasBegun is_up is_sound holds block others wanted was keep x y start.Survey
     × ComeTo pass runs
     × (pass.ended ≡ Done AllFound → AreQuiet wanted runs)
 
+-- HOW A RUN ENDS, as the last machine did: at last gear are asked until one answers, and it does
+-- not end well if none does
+abbrev pub EndsSo : PassEnd → Result (Unit {0}) Failure → Talk → Talk → Type 0
+EndsSo pass ended x y =
+    (found : Bool)
+    × HasAsked found x y
+    × (ended ≡ or_shared (ended_as pass.ended found) (has_any pass.heard))
+
 -- WHAT A RUN COMES TO that began so: gear that no record names are said, and nothing else is done
--- beside them; else it ends as the last machine did and by whether any gear was heard, or,
--- if that cannot be told, without success
-abbrev pub ComesTo : Kept → List Block → Bool → Result Begun CommissionFault → List Said
+-- beside them; else it ends as its last machine, or, if that cannot be told, without success
+abbrev pub ComesTo : Kept → List Block → Result Begun CommissionFault → Talk → Talk → List Said
     → Result (Unit {0}) Failure → Type 0
-ComesTo k others heard (Ok (begun.Addressed replies)) lines ended =
+ComesTo k others (Ok (begun.Addressed replies)) x y lines ended =
     (lines ≡ addressed_said (places k others replies.items)) × (ended ≡ Err AddressedBefore)
-ComesTo k others heard (Ok (begun.Commissioned pass)) lines ended =
-    IsErr ended ⊎ (ended ≡ or_shared (ended_as pass.ended heard) (has_any pass.heard))
-ComesTo k others heard (Err fault) lines ended = IsErr ended
+ComesTo k others (Ok (begun.Commissioned pass)) x y lines ended =
+    IsErr ended ⊎ EndsSo pass ended x y
+ComesTo k others (Err fault) x y lines ended = IsErr ended
 
 -- WHAT IS SAID OF A RUN: whom its last survey left alone, why it ended so, and how many gear were
 -- enrolled, from one table to another
@@ -81,3 +93,8 @@ RunSaid pass before after aim frames lines =
     × WhySaid (heard_said (heard_of pass.heard)) pass after aim so_far
     × (lines ≡ so_far ++ Commissioned (length after.enrolled - length before.enrolled)
     (length after.enrolled) frames ∷ [])
+
+-- A GEAR IS LIT: the frame of direct arc power to its short address is sent, whole
+abbrev pub IsLit : ℕ → ℕ → Talk → Talk → Type 0
+IsLit a level x y =
+    (told : Input) × IsPut 2 (frame (2 * a) level) half.Whole told x y × (is_sent told ≡ true)

@@ -4,7 +4,10 @@ use Rattle.std.specs.declared.alloc.Global.{Global}
 use Rattle.std.specs.declared.string.String.{String}
 use Rattle.dali_script.specs.declared.orders.End.TheVariants as ends
 use Rattle.dali_script.specs.declared.orders.Fault.TheVariants as faults
+use Rattle.dali_reserve.specs.declared.error.KeepError.{KeepError}
 use Rattle.dali_reserve.specs.declared.error.KeepError.TheVariants.{StoreFailed}
+use Rattle.dali_commissioning.specs.declared.census.Reply.{Reply}
+use Rattle.dali_commissioning.specs.declared.census.Reply.TheVariants as heard
 use Rattle.dali_commissioning.specs.declared.conducting.Ended.{Ended}
 use Rattle.dali_commissioning.specs.declared.conducting.Ended.TheVariants.{Done, Halted}
 use Rattle.dali_commissioning.specs.declared.driver.DriverFault.TheVariants.{Memory}
@@ -13,6 +16,7 @@ use Rattle.dali_commissioning.specs.Places.{are_as_recorded}
 use Rattle.dali_commissioning.specs.declared.fault.CommissionFault.{CommissionFault}
 use Rattle.dali_commissioning.specs.declared.fault.CommissionFault.TheVariants as commission
 use Rattle.dali_replacement.specs.declared.refusal.ReplaceFault.{ReplaceFault}
+use Rattle.dali_replacement.specs.declared.refusal.ReplaceRefusal.TheVariants as refusal
 use Rattle.dali_replacement.specs.declared.refusal.ReplaceFault.TheVariants as replace
 use Rattle.dali_console.specs.declared.fault.ConsoleFault.TheVariants.{BadCommandLine, NotText}
 use Rattle.dali_console.specs.declared.fault.ConsoleFault.TheVariants.{Refused}
@@ -31,6 +35,7 @@ use Rattle.dali_commission_program.specs.declared.failure.Failure.TheVariants.{N
 use Rattle.dali_commission_program.specs.declared.failure.Failure.TheVariants.{NotConfirmed}
 use Rattle.dali_commission_program.specs.declared.failure.Failure.TheVariants.{Unfinished}
 use Rattle.dali_commission_program.specs.declared.failure.Failure.TheVariants.{NotMended, Shared}
+use Rattle.dali_commission_program.specs.declared.failure.Failure.TheVariants.{NotCleared}
 use Rattle.dali_commission_program.specs.declared.stores.StoreFault.TheVariants as store
 use Rattle.dali_commission_program.specs.declared.tasks.Task.{Task}
 use Rattle.dali_commission_program.specs.declared.tasks.Task.TheVariants as task
@@ -54,6 +59,7 @@ status_of (NotConfirmed a refusal) = 11
 status_of Unfinished = 12
 status_of (NotMended a refusal) = 11
 status_of Shared = 13
+status_of NotCleared = 14
 
 -- what the end of the program is called in an object of JSON
 abbrev pub name_of : Failure → List ℕ
@@ -76,6 +82,7 @@ name_of (NotConfirmed a refusal) = codes "not-confirmed"
 name_of Unfinished = codes "unfinished"
 name_of (NotMended a refusal) = codes "not-mended"
 name_of Shared = codes "shared"
+name_of NotCleared = codes "not-cleared"
 
 abbrev pub end_name : Task → Result (Unit {0}) Failure → List ℕ
 end_name (task.Run setup) (Ok done) = codes "all-found"
@@ -84,12 +91,14 @@ end_name (task.Identify a) (Ok done) = codes "shown"
 end_name (task.Table form) (Ok done) = codes "written"
 end_name (task.Replace wanted) (Ok done) = codes "replaced"
 end_name (task.Mend wanted) (Ok done) = codes "mended"
+end_name task.Clear (Ok done) = codes "cleared"
 end_name asked (Err failure) = name_of failure
 
 -- the records that a refusal is about; which of several files it is, was said before
 abbrev pub refused_name : Task → List (String Global) → Option (List ℕ)
 refused_name (task.Replace wanted) records = None
 refused_name (task.Mend wanted) records = None
+refused_name task.Clear records = None
 refused_name _ records = option_map (λ name. string_bytes name) (slice_get records 0)
 
 -- a result that cannot be written is a failure, if there was none before
@@ -135,3 +144,17 @@ fault_of a (replace.Commission fault) line = failure_of fault line
 abbrev pub although_exchanged : Failure → Failure
 although_exchanged (NotReplaced a refusal) = NotConfirmed a refusal
 although_exchanged other = other
+
+-- what a store answers
+abbrev pub answered : {T : Type 0} → Result T KeepError → Result T Failure
+answered (Ok it) = Ok it
+answered (Err error) = Err (Store (store.Store error))
+
+-- why the new gear has not got the short address, by what was heard there
+abbrev pub not_given : ℕ → Result Reply CommissionFault → ℕ → Failure
+not_given a (Ok heard.Silence) line = NotReplaced a refusal.NotGiven
+not_given a (Ok (heard.Random r)) line = NotReplaced a refusal.NotGiven
+not_given a (Ok heard.Noise) line = NotReplaced a refusal.SeveralAnswer
+not_given a (Ok heard.Unclear) line = NotReplaced a refusal.SeveralAnswer
+not_given a (Ok heard.Several) line = NotReplaced a refusal.SeveralAnswer
+not_given a (Err fault) line = failure_of fault line

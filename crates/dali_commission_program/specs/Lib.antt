@@ -1,5 +1,8 @@
 pub mod Calls
 pub mod Came
+pub mod Clearing
+pub mod Ending
+pub mod Erasing
 pub mod Failures
 pub mod Json
 pub mod Mends
@@ -7,7 +10,9 @@ pub mod Progress
 pub mod Replacing
 pub mod Reports
 pub mod Said
+pub mod Seen
 pub mod Settling
 pub mod Sharing
 pub mod Tables
+pub mod Tellings
 pub mod Words

@@ -21,26 +21,32 @@ use Rattle.dali_mending.specs.Mending.{Mending, mending_begun, put_next, told_to
 use Rattle.dali_commission_program.specs.declared.failure.Failure.{Failure}
 use Rattle.dali_commission_program.specs.declared.failure.Failure.TheVariants.{Shared}
 use Rattle.dali_commission_program.specs.declared.tasks.Mend.{Mend}
+use Rattle.dali_commission_program.specs.Ending.{HasAsked}
 use Rattle.dali_commission_program.specs.Failures.{ended_as}
 use Rattle.dali_commission_program.specs.Sharing.{has_any, or_shared, meant_from, refused_from}
 use Rattle.dali_commission_program.specs.Sharing.{is_any_left, is_any_bare}
 
--- A MENDING IS CONDUCTED: each frame that it says is put, and it is told what came of that; last
--- first
-abbrev pub IsFrame : Mending → Input → Mending → Talk → Talk → Type 0
-IsFrame m told n x y =
+-- A MACHINE IS CONDUCTED, by which frame it says next and what it is after what it is told: each
+-- frame is put, and it is told what came of that; last first
+abbrev pub IsFrame : {M : Type 0} → (M → Option Put) → (M → Input → M) → M → Input → M → Talk
+    → Talk → Type 0
+IsFrame next after m told n x y =
     (put : Put)
-    × (put_next m ≡ Some put)
+    × (next m ≡ Some put)
     × IsPut put.priority put.frame put.half told x y
-    × (n ≡ told_to m told)
+    × (n ≡ after m told)
 
-abbrev pub AreFrames : Mending → List Input → Mending → Talk → Talk → Type 0
-AreFrames m [] n x y = (n ≡ m) × (y ≡ x)
-AreFrames m (told ∷ before) n x y =
-    (mid : Mending) × (at : Talk) × AreFrames m before mid x at × IsFrame mid told n at y
+abbrev pub AreFrames : {M : Type 0} → (M → Option Put) → (M → Input → M) → M → List Input → M
+    → Talk → Talk → Type 0
+AreFrames next after m [] n x y = (n ≡ m) × (y ≡ x)
+AreFrames {M = M} next after m (told ∷ before) n x y =
+    (mid : M)
+    × (at : Talk)
+    × AreFrames next after m before mid x at
+    × IsFrame next after mid told n at y
 
 abbrev pub HasPut : Mending → Mending → Talk → Talk → Type 0
-HasPut m n x y = (told : List Input) × AreFrames m told n x y
+HasPut m n x y = (told : List Input) × AreFrames put_next told_to m told n x y
 
 -- A SHORT ADDRESS IS MENDED from its beginning, by a table, until no frame is due
 abbrev pub IsMended : Kept → ℕ → Mending → Talk → Talk → Type 0
@@ -71,9 +77,15 @@ pub record HasSurveyed {S : Type 0} (is_up is_sound : S → Type 0)
 abbrev pub none_left : Shorts
 none_left = record { bits = 0 }
 
--- how all ends then
-abbrev pub mended_as : Ended → Shorts → List Mending → Result (Unit {0}) Failure
-mended_as ended heard ms = or_shared (ended_as ended true) (has_any heard || is_any_left ms)
+-- how all ends then: at last gear are asked until one answers, and it does not end well if none
+-- does
+abbrev pub mended_as : Ended → Bool → Shorts → List Mending → Result (Unit {0}) Failure
+mended_as ended found heard ms =
+    or_shared (ended_as ended found) (has_any heard || is_any_left ms)
+
+abbrev pub MendedSo : PassEnd → List Mending → Result (Unit {0}) Failure → Talk → Talk → Type 0
+MendedSo pass ms ended x y =
+    (found : Bool) × HasAsked found x y × (ended ≡ mended_as pass.ended found pass.heard ms)
 
 -- WHAT FOLLOWS once short addresses were mended: no survey if gear were not told apart where one
 -- would enrol a gear
@@ -85,8 +97,9 @@ Follows {S = S} is_up is_sound holds kept_of block table ms was keep x y ended =
     ⊎ ((is_any_bare ms ≡ false)
     × ((pass : PassEnd)
     × (mid : S)
-    × HasSurveyed is_up is_sound holds kept_of block table mid x y pass
-    × (ended ≡ mended_as pass.ended pass.heard ms)))
+    × (at : Talk)
+    × HasSurveyed is_up is_sound holds kept_of block table mid x at pass
+    × MendedSo pass ms ended at y))
 
 -- WHAT A MEND COMES TO: first each short address is asked. If what was heard lets none be mended,
 -- nothing else is put, and the records are as they were. Else each that is meant is mended, and

@@ -1,4 +1,6 @@
-use Rattle.std.specs.Prelude.{ℕ, ◌+◌, ◌-◌, ◌^◌, ◌%◌, ◌==◌, min, Bool, true, false}
+use Rattle.std.specs.Prelude.{ℕ, ◌+◌, ◌*◌, ◌-◌, ◌^◌, ◌%◌, ◌==◌, min, Bool, true, false, List, ◌++◌}
+use Rattle.std.specs.Prelude.{codes, decimal}
+use Rattle.dali_frame.specs.Hex.{random_text}
 use Rattle.dali_special.specs.declared.command.Command.{Command}
 use Rattle.dali_special.specs.declared.command.Command.TheVariants as command
 use Rattle.dali_script.specs.declared.orders.Order.{Order}
@@ -9,6 +11,7 @@ use Rattle.dali_commission_program.specs.declared.progress.Far.{Far}
 use Rattle.dali_commission_program.specs.declared.progress.Manner.{Manner}
 use Rattle.dali_commission_program.specs.declared.progress.Manner.TheVariants.{Quiet, Plain}
 use Rattle.dali_commission_program.specs.declared.progress.Manner.TheVariants.{Rewritten}
+use Rattle.dali_commission_program.specs.declared.progress.Whom.{Whom}
 use Rattle.dali_commission_program.specs.declared.progress.Whom.TheVariants as whom
 
 -- WHOM THE FRAMES WERE ABOUT that were put last, with the search address: first all gear
@@ -43,3 +46,18 @@ is_told Plain (Commit (Enrol a r)) frames = true
 is_told Rewritten (Commit (Enrol a r)) frames = true
 is_told Rewritten (Put priority frame) frames = frames % 32 == 0
 is_told _ _ frames = false
+
+-- the texts of both
+abbrev pub far_text : Far → List ℕ
+far_text far =
+    decimal far.found
+    ++ (codes " gear found, "
+    ++ (decimal far.frames ++ (codes " frames, " ++ (decimal far.left ++ codes " addresses left"))))
+
+abbrev pub whom_text : Whom → ℕ → List ℕ
+whom_text whom.All search = codes "of all gear"
+whom_text (whom.Address a) search = codes "to short address " ++ decimal a
+whom_text whom.Search search = codes "under the search address " ++ random_text search
+
+abbrev pub aim_text : Aim → List ℕ
+aim_text aim = whom_text aim.whom (aim.high * 2 ^ 16 + aim.middle * 2 ^ 8 + aim.low)

@@ -142,3 +142,8 @@ why_said (failure.Console BadCommandLine) records = None
 why_said (failure.Store fault) (Some name) = Some (said.Refused name fault)
 why_said (failure.Store fault) None = None
 why_said other records = Some (said.Why other)
+
+-- LINES ARE SAID, by what tells that one was
+abbrev pub AreTold : (Said → Type 0) → List Said → Type 0
+AreTold told [] = Unit {0}
+AreTold told (line ∷ more) = told line × AreTold told more

@@ -128,6 +128,7 @@ IsTask name values others files (task.Replace wanted) =
     (name ≡ codes "replace") × IsReplacement values files wanted
 IsTask name values others files (task.Mend wanted) =
     (name ≡ codes "mend") × IsMend values others wanted
+IsTask name values others files task.Clear = (name ≡ codes "clear") × Has (codes "yes") values
 
 -- WHAT A LINE ASKS FOR: a table has its form by `--json`, and all others write an object beside
 abbrev pub is_table : Task → Bool

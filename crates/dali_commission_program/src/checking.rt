@@ -1,22 +1,24 @@
 //! `check`: it is said which gear answer, beside the records.
 
-ghost use Rattle.std.specs.Prelude.{◌≡◌, Result, IfOk};
+ghost use Rattle.std.specs.Prelude.{◌≡◌, Result, Ok, IfOk};
 ghost use Rattle.dali_commissioning.specs.declared.beginning.Checked.{Checked};
 ghost use Rattle.dali_commissioning.specs.declared.fault.CommissionFault.{CommissionFault};
 ghost use Rattle.dali_commissioning.specs.Drivers.{talk_of, has_heard, lines_of};
 ghost use Rattle.dali_commissioning.specs.Runs.{IsChecked};
 ghost use Rattle.dali_commission_program.specs.Came.{check_ended, check_said, check_places};
+ghost use Rattle.dali_commission_program.specs.Tellings.{HasChecked};
 
 use crate::failure::{Failure, checked, failure_of};
 use crate::records::lend_copy;
 use crate::report::{Came, Report};
+use crate::said::Voice;
 use crate::sharing::{is_any_shared, or_shared};
 use crate::stores::{Borrower, Stores};
 use dali_commissioning::{Checked, CommissionFault, DriverLink, check};
 use dali_reserve::{Keep, MemoryKeep};
 use dali_script::Block;
 use std::io;
-use std::io::{Eprint, Read, Write};
+use std::io::{Read, Write};
 
 /// What a check comes to that found this, or could not be made, at this line of the driver; and whether any gear was
 /// heard.
@@ -68,8 +70,13 @@ struct Checking<'a, S> {
     report: &'a mut Report,
 }
 
-impl<S: Input + Print + Eprint + AllocGlobal> Borrower for Checking<'_, S> {
+impl<S: Input + Print + Voice + AllocGlobal> Borrower for Checking<'_, S> {
     type Out = ();
+
+    ghost use Rattle.std.specs.Prelude.{Ok};
+    ghost use Rattle.dali_commission_program.specs.Tellings.{HasChecked};
+
+    ghost came = { λ checking _ out. HasChecked (S.told checking.system.now) checking.others.now (Ok out) };
 
     fn take<K: Keep>(self, store: &mut K) -> Result<(), Failure> {
         let system = self.system;
@@ -88,8 +95,9 @@ pub(crate) fn checks<S, F>(
     report: &mut Report,
 ) -> Result<(), Failure>
 where
-    S: Input + Print + Eprint + AllocGlobal,
+    S: Input + Print + Voice + AllocGlobal,
     F: Stores,
+    ensures { IfOk result (λ done. HasChecked (S.told system.now) others.now (Ok done)) }
 {
     let checking = Checking {
         system,

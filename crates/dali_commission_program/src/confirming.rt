@@ -1,19 +1,22 @@
 //! `replace` asks the bus: what is there before the address is given, and before anything is said of it.
 
-ghost use Rattle.std.specs.Prelude.{◌≡◌, IfOk};
+ghost use Rattle.std.specs.Prelude.{◌≡◌, IfOk, Result};
+ghost use Rattle.dali_commissioning.specs.declared.census.Reply.{Reply};
 ghost use Rattle.dali_commissioning.specs.declared.census.Reply.TheVariants as heard;
+ghost use Rattle.dali_commissioning.specs.declared.fault.CommissionFault.{CommissionFault};
 ghost use Rattle.dali_commissioning.specs.Census.{IsAnswered};
 ghost use Rattle.dali_commissioning.specs.Drivers.{talk_of, lines_of};
 ghost use Rattle.dali_replacement.specs.Permit.{others_at, others_come, others_table};
 ghost use Rattle.dali_replacement.specs.Permit.{confirmed_at, confirmed_random, confirmed_table};
 ghost use Rattle.dali_replacement.specs.Tables.{AreGiven};
-ghost use Rattle.dali_commission_program.specs.Failures.{fault_of};
+ghost use Rattle.dali_commission_program.specs.Failures.{fault_of, not_given};
+ghost use Rattle.dali_commission_program.specs.Tellings.{ConfirmedTold};
 
 use crate::failure::{Failure, failure_of};
 use crate::progress::Manner;
 use crate::report::Report;
 use crate::reports::{Which, push_places};
-use crate::said::{Said, say};
+use crate::said::{Said, Voice, say, say_all};
 use crate::tasks::Replacement;
 use arrayvec::ArrayVec;
 use dali_commissioning::{DriverLink, Reply, ask};
@@ -21,7 +24,7 @@ use dali_replacement::{
     Come, Confirmed, OthersThere, ReplaceFault, ReplaceRefusal, Standing, Vacant,
 };
 use dali_script::Kept;
-use std::io::{Eprint, Read, Write};
+use std::io::{Read, Write};
 
 /// Who asks the bus.
 #[derive(Drop)]
@@ -31,7 +34,7 @@ pub(crate) struct Asking<'a, S> {
     pub manner: Manner,
 }
 
-impl<S: Eprint> Asking<'_, S> {
+impl<S: Voice> Asking<'_, S> {
     /// Why the luminaire is not replaced.
     pub fn refusal(&self, refusal: ReplaceRefusal) -> Failure
         ensures { result ≡ Failure.NotReplaced self.now.wanted.now.short refusal }
@@ -54,13 +57,13 @@ impl<S: Eprint> Asking<'_, S> {
     }
 
     /// Says where others than recorded stand.
-    fn say_missing(&self, standing: &Standing, report: &mut Report) -> Failure {
+    fn say_missing(&self, standing: &Standing, report: &mut Report) -> Failure
+        ensures { result ≡ Failure.NotReplaced self.now.wanted.now.short ReplaceRefusal.NotThere }
+    {
         report.note_wrong(standing.places());
         let mut wrong = ArrayVec::new();
         push_places(&mut wrong, Which::Wrong, 0, &report.places);
-        for said in wrong.iter() {
-            say(self.system, said);
-        }
+        say_all(self.system, &wrong);
         self.refusal(ReplaceRefusal::NotThere)
     }
 
@@ -97,7 +100,12 @@ impl<S: Eprint> Asking<'_, S> {
     }
 
     /// The new gear has not got the address: who answers there is asked.
-    pub fn not_given<R: Read, W: Write>(&self, driver: &mut DriverLink<R, W>) -> Failure {
+    pub fn not_given<R: Read, W: Write>(&self, driver: &mut DriverLink<R, W>) -> Failure
+        ensures { (heard : Result Reply CommissionFault)
+            × IfOk heard (λ reply. IsAnswered self.now.wanted.now.short reply
+            (talk_of R.remaining W.contents driver.old) (talk_of R.remaining W.contents driver.new))
+            × (result ≡ not_given self.now.wanted.now.short heard (lines_of driver.new)) }
+    {
         match ask(driver, self.wanted.short) {
             Ok(Reply::Silence | Reply::Random(_)) => self.refusal(ReplaceRefusal::NotGiven),
             Ok(Reply::Noise | Reply::Unclear | Reply::Several) => {
@@ -124,7 +132,10 @@ impl<S: Eprint> Asking<'_, S> {
     }
 
     /// Says which gear has the short address, and how many are in each new table.
-    pub fn say_confirmed(&self, confirmed: &Confirmed, news: &[Kept]) {
+    pub fn say_confirmed(&self, confirmed: &Confirmed, news: &[Kept])
+        ensures { ConfirmedTold (S.told self.now.system.now) (confirmed_at confirmed.now)
+            (confirmed_random confirmed.now) news.now }
+    {
         if let [new, ..] = news {
             let (short, random) = (confirmed.short().number(), confirmed.random());
             let said = Said::Replaced(short, random, new.enrolled().len());

@@ -63,6 +63,9 @@ pub enum Failure {
     NotMended(Short, MendRefusal),
     #[error("gear share a short address, or have no random one: call ./dali_commission mend, with the words of run")]
     Shared,
+    /// Gear still answer at short addresses, which were said.
+    #[error("gear still answer at short addresses: call clear again")]
+    NotCleared,
 }
 
 impl fmt::Debug for Failure {
@@ -120,6 +123,7 @@ impl Failure {
             Failure::Unfinished => (12, "unfinished"),
             Failure::NotMended(..) => (11, "not-mended"),
             Failure::Shared => (13, "shared"),
+            Failure::NotCleared => (14, "not-cleared"),
         }
     }
 }

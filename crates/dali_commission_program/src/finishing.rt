@@ -1,19 +1,22 @@
 //! An exchange of files that an earlier call has begun is brought to its end, and the bus is asked what is there.
 
-ghost use Rattle.std.specs.Prelude.{◌≡◌, IfOk};
+ghost use Rattle.std.specs.Prelude.{◌≡◌, true, IfOk, IfSome, OnOk};
 ghost use Rattle.dali_commissioning.specs.declared.census.Reply.TheVariants as heard;
 ghost use Rattle.dali_commissioning.specs.Census.{IsAnswered};
 ghost use Rattle.dali_commissioning.specs.Drivers.{Talk, talk_of};
 ghost use Rattle.dali_replacement.specs.Permit.{confirmed_at, confirmed_random};
+ghost use Rattle.dali_replacement.specs.Swapping.{address_of};
 ghost use Rattle.dali_replacement.specs.Tables.{AreGiven};
+ghost use Rattle.dali_commission_program.specs.Calls.{Read};
 ghost use Rattle.dali_commission_program.specs.Failures.{although_exchanged};
 ghost use Rattle.dali_commission_program.specs.Settling.{IsSettled};
+ghost use Rattle.dali_commission_program.specs.Tellings.{AreKeptTold, FinishTold};
 
 use crate::confirming::Asking;
 use crate::failure::{Failure, add};
 use crate::records::{Reading, lend_copy};
 use crate::report::Report;
-use crate::said::{Said, say, say_refused};
+use crate::said::{Said, Voice, say, say_refused};
 use crate::settling::{found, settle};
 use crate::stores::Stores;
 use dali_commissioning::DriverLink;
@@ -21,70 +24,102 @@ use dali_frame::Short;
 use dali_replacement::{Come, Confirmed, ReplaceRefusal, Swap, gathered, kept_of};
 use dali_script::Kept;
 use std::io;
-use std::io::{Eprint, Read, Write};
+use std::io::{Read, Write};
 
 /// The records of this name, as a copy of them has them.
-pub(crate) fn read<S: Eprint + AllocGlobal, F: Stores>(
+pub(crate) fn read<S: Voice + AllocGlobal, F: Stores>(
     system: &S,
     stores: &F,
     name: &str,
-) -> Result<Kept, Failure> {
+) -> Result<Kept, Failure>
+    ensures { IfOk result (λ kept. F.saw stores.now (Read name.now kept)) }
+{
     lend_copy(system.alloc(), stores, name, Reading).map_err(|failure| say_refused(
         system, name, failure,
     ))
 }
 
-/// Says where the old files are kept.
-pub(crate) fn say_kept<S: Eprint + AllocGlobal>(system: &S, swap: &Swap) -> Result<(), Failure> {
-    for name in swap.names() {
-        let kept = kept_of(system.alloc(), name, swap.number())?;
-        say(system, &Said::KeptAs(name, &kept));
-    }
-    Ok(())
+/// Says where the old files of these names are kept.
+pub(crate) fn say_kept<S: Voice + AllocGlobal>(
+    system: &S,
+    names: &[String],
+    number: u32,
+) -> Result<(), Failure>
+    ensures { OnOk result (AreKeptTold (S.told system.now) number names.now) }
+{
+    let [name, more @ ..] = names else {
+        return Ok(());
+    };
+    let kept = kept_of(system.alloc(), name, number)?;
+    say(system, &Said::KeptAs(name, &kept));
+    say_kept(system, more, number)
 }
 
 /// Brings a swap of an earlier call to its end, or takes it back, and says which. Whether the new files have taken the
 /// places of the old ones.
-fn finishes<S: Eprint + AllocGlobal, F: Stores>(
+fn finishes<S: Voice + AllocGlobal, F: Stores>(
     system: &S,
     stores: &mut F,
     swap: &Swap,
 ) -> Result<bool, Failure>
-    ensures { IfOk result (IsSettled F.made swap.now stores.old stores.new) }
+    ensures settled { IfOk result (IsSettled F.made swap.now stores.old stores.new) }
+    ensures told { IfOk result (λ is_done. FinishTold (S.told system.now) (address_of swap.now) is_done) }
 {
     let is_done = settle(system, stores, swap)?;
     if is_done {
         say(system, &Said::Exchanged(swap.short().number()));
-        let _ = say_kept(system, swap);
+        let _ = say_kept(system, swap.names(), swap.number());
     } else {
         say(system, &Said::TakenBack(swap.short().number()));
     }
     Ok(is_done)
 }
 
+/// The same. The swap, if it is of this short address and its files are exchanged now.
+fn finished<S: Voice + AllocGlobal, F: Stores>(
+    system: &S,
+    stores: &mut F,
+    swap: Swap,
+    short: Short,
+) -> Result<Option<Swap>, Failure>
+    ensures { IfOk result (λ done. IfSome done (λ swap. (address_of swap ≡ short)
+        × IsSettled F.made swap stores.old stores.new true)) }
+{
+    if finishes(system, stores, &swap)? && swap.short() == short {
+        Ok(Some(swap))
+    } else {
+        Ok(None)
+    }
+}
+
 /// Brings each swap of an earlier call to its end. That of this short address, if its files are exchanged now.
-pub(crate) fn exchanged<S: Eprint + AllocGlobal, F: Stores>(
+pub(crate) fn exchanged<S: Voice + AllocGlobal, F: Stores>(
     system: &S,
     stores: &mut F,
     names: &[String],
     short: Short,
-) -> Result<Option<Swap>, Failure> {
-    let mut done = None;
-    for name in names {
-        let found = found(system.alloc(), stores, name).map_err(|failure| say_refused(
-            system, name, failure,
-        ))?;
-        if let Some(swap) = found {
-            if finishes(system, stores, &swap)? && swap.short() == short {
-                done = Some(swap);
-            }
-        }
+) -> Result<Option<Swap>, Failure>
+    ensures { IfOk result (λ done. IfSome done (λ swap. (address_of swap ≡ short)
+        × ((from to : F) × IsSettled F.made swap from to true))) }
+{
+    let [name, more @ ..] = names else {
+        return Ok(None);
+    };
+    let found = found(system.alloc(), stores, name).map_err(|failure| say_refused(
+        system, name, failure,
+    ))?;
+    let done = match found {
+        Some(swap) => finished(system, stores, swap, short)?,
+        None => None,
+    };
+    match exchanged(system, stores, more, short)? {
+        Some(later) => Ok(Some(later)),
+        None => Ok(done),
     }
-    Ok(done)
 }
 
 /// The new gear has the address by these tables, which are those of the files now, and all others are there.
-fn heard<S: Eprint, R: Read, W: Write>(
+fn heard<S: Voice, R: Read, W: Write>(
     asking: &Asking<'_, S>,
     driver: &mut DriverLink<R, W>,
     tables: &[Kept],
@@ -129,7 +164,7 @@ pub(crate) fn confirms<S, F>(
     report: &mut Report,
 ) -> Result<Confirmed, Failure>
 where
-    S: Input + Print + Eprint + AllocGlobal,
+    S: Input + Print + Voice + AllocGlobal,
     F: Stores,
     ensures { IfOk result (λ seen. confirmed_at seen ≡ asking.now.wanted.now.short) }
 {

@@ -3,13 +3,15 @@
 ghost use Rattle.std.specs.Prelude.{◌≡◌, false, OnOk};
 ghost use Rattle.dali_commissioning.specs.declared.census.Reply.{Reply};
 ghost use Rattle.dali_commissioning.specs.Census.{IsAnswered, is_silent};
-ghost use Rattle.dali_commissioning.specs.Drivers.{talk_of};
+ghost use Rattle.dali_commissioning.specs.Drivers.{Talk, talk_of};
+ghost use Rattle.dali_commission_program.specs.Came.{IsLit};
 
 use crate::failure::{Failure, failure_of};
 use crate::report::{Came, Report};
+use crate::said::Voice;
 use dali_commissioning::{CommissionFault, DriverLink, Reply, ask, light, light_at_last};
 use dali_frame::Short;
-use std::io::{Eprint, Read, Write};
+use std::io::{Read, Write};
 use std::time::{Clock, Duration};
 use std::{io, thread};
 
@@ -30,7 +32,9 @@ fn lit<R: Read, W: Write>(
     driver: &mut DriverLink<R, W>,
     short: Short,
     level: u8,
-) -> Result<(), Failure> {
+) -> Result<(), Failure>
+    ensures { OnOk result ((before : Talk) × IsLit short level before (talk_of R.remaining W.contents driver.new)) }
+{
     for _ in 0..TRIES {
         match light(driver, short, level) {
             Ok(true) => return Ok(()),
@@ -46,7 +50,9 @@ fn blinks<S: Clock, R: Read, W: Write>(
     system: &S,
     driver: &mut DriverLink<R, W>,
     short: Short,
-) -> Result<(), Failure> {
+) -> Result<(), Failure>
+    ensures { OnOk result ((before : Talk) × IsLit short 254 before (talk_of R.remaining W.contents driver.new)) }
+{
     for _ in 0..BLINKS {
         lit(driver, short, BRIGHT)?;
         thread::sleep(system, Duration::from_millis(STAYS));
@@ -89,7 +95,11 @@ fn shows<S: Clock, R: Read, W: Write>(
     system: &S,
     driver: &mut DriverLink<R, W>,
     short: Short,
-) -> Result<(), Failure> {
+) -> Result<(), Failure>
+    ensures there { OnOk result ((heard : Reply) × (at : Talk) × IsAnswered short heard
+        (talk_of R.remaining W.contents driver.old) at × (is_silent heard ≡ false)) }
+    ensures lit { OnOk result ((before : Talk) × IsLit short 254 before (talk_of R.remaining W.contents driver.new)) }
+{
     is_there(driver, short)?;
     let shown = blinks(system, driver, short);
     if shown.is_err() {
@@ -99,11 +109,13 @@ fn shows<S: Clock, R: Read, W: Write>(
 }
 
 /// Makes the gear with a short address go bright and dark, and bright in the end.
-pub(crate) fn identify<S: Input + Print + Eprint + AllocGlobal + Clock>(
+pub(crate) fn identify<S: Input + Print + Voice + AllocGlobal + Clock>(
     system: &S,
     short: Short,
     report: &mut Report,
-) -> Result<(), Failure> {
+) -> Result<(), Failure>
+    ensures { OnOk result ((before : Talk) × (after : Talk) × IsLit short 254 before after) }
+{
     let mut driver = DriverLink::new(system.alloc(), system.reader(), io::writer(system));
     let ended = shows(system, &mut driver, short);
     Came::bare(ended).told(system, &driver, report)

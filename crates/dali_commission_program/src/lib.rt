@@ -1,8 +1,12 @@
 //! The program `dali_commission`: what it does and says.
 #![tactic(auto)]
 
+mod aside;
 mod checking;
+mod clearing;
 mod confirming;
+mod ending;
+mod eraser;
 mod failure;
 mod finishing;
 mod identifying;
@@ -26,6 +30,7 @@ mod words;
 pub use failure::Failure;
 pub use program::run_and_say;
 pub use records::Seen;
+pub use said::Voice;
 pub use stores::{Actor, Borrower, Holder, StoreFault, Stores};
 pub use table::push_table;
 pub use tasks::TableForm;

@@ -7,11 +7,13 @@ ghost use Rattle.dali_commissioning.specs.declared.census.Reply.{Reply};
 ghost use Rattle.dali_commissioning.specs.Census.{AreCounted};
 ghost use Rattle.dali_commissioning.specs.Drivers.{Talk, talk_of};
 ghost use Rattle.dali_commissioning.specs.Places.{places};
-ghost use Rattle.dali_commission_program.specs.Mends.{HasPut, IsMended, AreMended, HasSurveyed, Follows, MendsTo};
-ghost use Rattle.dali_commission_program.specs.Mends.{mended_as, none_left};
+ghost use Rattle.dali_commission_program.specs.Mends.{HasPut, IsMended, AreMended, HasSurveyed, MendedSo, Follows};
+ghost use Rattle.dali_commission_program.specs.Mends.{MendsTo, mended_as, none_left};
 ghost use Rattle.dali_commission_program.specs.Sharing.{with_left};
 ghost use Rattle.dali_commission_program.specs.Reports.{heard_of};
+ghost use Rattle.dali_commission_program.specs.Tellings.{AreMendsTold, HasMended};
 
+use crate::ending::is_any_there;
 use crate::failure::{Failure, REFUSED, add, ended_as, failure_of};
 use crate::finishing::read;
 use crate::progress::{Aim, Manner, Progress};
@@ -19,7 +21,7 @@ use crate::records::{kept, lend};
 use crate::report::{Came, Report, heard_of, own_rows};
 use crate::reports::{Which, push_places};
 use crate::running::left_of;
-use crate::said::{Said, say, say_refused};
+use crate::said::{Said, Voice, say, say_refused};
 use crate::sharing::{
     MendRefusal, has_any, is_any_bare, is_any_left, meant_of, or_shared, refused_from, reserved_in,
     with_left,
@@ -37,7 +39,7 @@ use dali_replacement::{fill, gathered_whole};
 use dali_reserve::Keep;
 use dali_script::{Block, Input as Told, Kept};
 use std::io;
-use std::io::{Eprint, Read, Write};
+use std::io::{Read, Write};
 
 /// How many frames the mending of a short address may put: more than it puts before it gives up.
 const MOST_FRAMES: u32 = 2_000_000;
@@ -82,7 +84,7 @@ fn mend<R: Read, W: Write>(
 }
 
 /// Mends short addresses, and adds what came of each to a list.
-fn mend_all<S: Eprint, R: Read, W: Write>(
+fn mend_all<S: Voice, R: Read, W: Write>(
     driver: &mut DriverLink<R, W>,
     progress: &Progress<'_, S>,
     table: &Kept,
@@ -119,16 +121,18 @@ fn survey<K: Keep, R: Read, W: Write, P: Watch>(
     commission(store, driver, watch, Told::Survey, IDLE_PASSES)
 }
 
-/// What a mend comes to whose surveys ended so, from one table to another, after so many frames.
+/// What a mend comes to whose surveys ended so, from one table to another, by whether any gear answers now, and after
+/// so many frames.
 fn came_of(
     mended: &[Mending],
     pass: &PassEnd,
     before: &Kept,
     after: &Kept,
     aim: Aim,
+    is_there: bool,
     frames: u64,
 ) -> Came
-    ensures ended { result.ended ≡ mended_as pass.now.ended pass.now.heard mended.now }
+    ensures ended { result.ended ≡ mended_as pass.now.ended is_there pass.now.heard mended.now }
     ensures left { result.report.left_alone.items ≡ heard_of (with_left pass.now.heard mended.now) }
 {
     Came {
@@ -137,7 +141,7 @@ fn came_of(
             ..Report::of_run(pass, before, after, aim, frames)
         },
         ended: or_shared(
-            ended_as(pass.ended, true),
+            ended_as(pass.ended, is_there),
             has_any(pass.heard) || is_any_left(mended),
         ),
     }
@@ -188,8 +192,29 @@ fn came_refused(site: &Site<'_>, replies: &[Reply], refusal: Failure) -> Came
     }
 }
 
+/// What the end of the last machine comes to, with what the records have then.
+fn end_so<K: Keep, R: Read, W: Write>(
+    store: &mut K,
+    driver: &mut DriverLink<R, W>,
+    aim: Aim,
+    site: &Site<'_>,
+    mended: &[Mending],
+    pass: &PassEnd,
+) -> Result<Came, Failure>
+    ensures { IfOk result (λ came. MendedSo pass.now mended.now came.ended
+        (talk_of R.remaining W.contents driver.old) (talk_of R.remaining W.contents driver.new)) }
+{
+    let after = kept(store)?;
+    let asked = is_any_there(driver, pass.ended, &after);
+    let lines = driver.lines();
+    match asked {
+        Ok(is_there) => { Ok(came_of(mended, pass, site.before, &after, aim, is_there, lines)) }
+        Err(fault) => Err(failure_of(fault, lines)),
+    }
+}
+
 /// What follows once short addresses were mended.
-fn follow<S: Eprint, K: Keep, R: Read, W: Write>(
+fn follow<S: Voice, K: Keep, R: Read, W: Write>(
     store: &mut K,
     driver: &mut DriverLink<R, W>,
     progress: &mut Progress<'_, S>,
@@ -205,15 +230,14 @@ fn follow<S: Eprint, K: Keep, R: Read, W: Write>(
     }
     let surveyed = survey(store, driver, progress, site.table);
     progress.end();
-    let (aim, lines) = (progress.aim(), driver.lines());
     match surveyed {
-        Ok(pass) => Ok(came_of(mended, &pass, site.before, &kept(store)?, aim, lines)),
-        Err(fault) => Err(failure_of(fault, lines)),
+        Ok(pass) => end_so(store, driver, progress.aim(), site, mended, &pass),
+        Err(fault) => Err(failure_of(fault, driver.lines())),
     }
 }
 
 /// What a mend comes to, by what was heard of each short address.
-fn mends_by<S: Eprint, K: Keep, R: Read, W: Write>(
+fn mends_by<S: Voice, K: Keep, R: Read, W: Write>(
     store: &mut K,
     driver: &mut DriverLink<R, W>,
     progress: &mut Progress<'_, S>,
@@ -236,7 +260,7 @@ fn mends_by<S: Eprint, K: Keep, R: Read, W: Write>(
 }
 
 /// What a mend comes to: each short address is asked first.
-fn came_to<S: Eprint, K: Keep, R: Read, W: Write>(
+fn came_to<S: Voice, K: Keep, R: Read, W: Write>(
     store: &mut K,
     driver: &mut DriverLink<R, W>,
     progress: &mut Progress<'_, S>,
@@ -265,17 +289,21 @@ fn came_to<S: Eprint, K: Keep, R: Read, W: Write>(
 }
 
 /// Says what came of each short address, and who has lost it.
-fn say_mended<S: Eprint>(system: &S, mended: &[Mending], table: &Kept) {
-    for mending in mended {
-        let at = mending.short().number();
-        if let Some(outcome) = mending.outcome() {
-            say(system, &Said::Mended(at, outcome));
-        }
-        for random in mending.erased() {
-            let now = table.enrolled_for(*random);
-            say(system, &Said::HasLost(at, *random, now));
-        }
+fn say_mended<S: Voice>(system: &S, mended: &[Mending], table: &Kept)
+    ensures { AreMendsTold (S.told system.now) mended.now }
+{
+    let [mending, more @ ..] = mended else {
+        return;
+    };
+    let at = mending.short().number();
+    if let Some(outcome) = mending.outcome() {
+        say(system, &Said::Mended(at, outcome));
     }
+    for random in mending.erased() {
+        let now = table.enrolled_for(*random);
+        say(system, &Said::HasLost(at, *random, now));
+    }
+    say_mended(system, more, table);
 }
 
 /// Who mends short addresses.
@@ -290,13 +318,15 @@ pub(crate) struct Mender<'a, S> {
     pub report: &'a mut Report,
 }
 
-impl<S: Input + Print + Eprint + AllocGlobal> Mender<'_, S> {
+impl<S: Input + Print + Voice + AllocGlobal> Mender<'_, S> {
     /// Mends them over a driver, with the records of the first file.
     pub fn over<K: Keep, R: Read, W: Write>(
         self,
         store: &mut K,
         driver: &mut DriverLink<R, W>,
-    ) -> Result<(), Failure> {
+    ) -> Result<(), Failure>
+        ensures { OnOk result (HasMended (S.told self.entry.system.now) self.entry.others.now self.entry.wanted.now) }
+    {
         let (system, mut tables) = (self.system, self.tables);
         let before = kept(store)?;
         add(&mut tables, before.copy())?;
@@ -321,8 +351,12 @@ impl<S: Input + Print + Eprint + AllocGlobal> Mender<'_, S> {
     }
 }
 
-impl<S: Input + Print + Eprint + AllocGlobal> Borrower for Mender<'_, S> {
+impl<S: Input + Print + Voice + AllocGlobal> Borrower for Mender<'_, S> {
     type Out = ();
+
+    ghost use Rattle.dali_commission_program.specs.Tellings.{HasMended};
+
+    ghost came = { λ mender _ _. HasMended (S.told mender.system.now) mender.others.now mender.wanted.now };
 
     fn take<K: Keep>(self, store: &mut K) -> Result<(), Failure> {
         let system = self.system;
@@ -341,8 +375,9 @@ pub(crate) fn mends<S, F>(
     report: &mut Report,
 ) -> Result<(), Failure>
 where
-    S: Input + Print + Eprint + AllocGlobal,
+    S: Input + Print + Voice + AllocGlobal,
     F: Stores,
+    ensures { OnOk result (HasMended (S.told system.now) asked.now.others.items wanted.now) }
 {
     let [name, more @ ..] = asked.records.as_slice() else {
         return Err(REFUSED);

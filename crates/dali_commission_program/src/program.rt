@@ -1,34 +1,37 @@
 //! The program: what it reads of the system, does, and says.
 
-ghost use Rattle.std.specs.Prelude.{◌≡◌, true, false, IsTrue, OnOk, option_map, slice_get, string_bytes};
+ghost use Rattle.std.specs.Borrow.{Bor};
+ghost use Rattle.std.specs.Prelude.{◌≡◌, ℕ, List, Option, true, false, IsTrue, OnOk, option_map, slice_get};
+ghost use Rattle.std.specs.Prelude.{string_bytes};
 ghost use Rattle.std.specs.Io.KnownBytes.{Appends};
 ghost use Rattle.dali_console.specs.Status.{status_after};
 ghost use Rattle.dali_commission_program.specs.Failures.{status_of, end_name, or_refused, refused_name};
 ghost use Rattle.dali_commission_program.specs.Json.{report_text};
 ghost use Rattle.dali_commission_program.specs.Tables.{table_text};
+ghost use Rattle.dali_commission_program.specs.Tellings.{WhyTold, HasDone};
 
 use crate::checking::checks;
+use crate::clearing::clears;
 use crate::failure::{Failure, REFUSED};
 use crate::identifying::identify;
 use crate::json::write_report;
 use crate::mending::mends;
 use crate::progress::Manner;
-use crate::records::{kept, lend, lend_copy};
+use crate::records::{Reading, lend, lend_copy};
 use crate::replacing::{note_first, replaces};
 use crate::report::Report;
 use crate::running::Running;
-use crate::said::{say, why_said};
-use crate::stores::{Borrower, Stores};
+use crate::said::{Voice, say, why_said};
+use crate::stores::Stores;
 use crate::table::push_table;
 use crate::tasks::{Asked, TableForm, Task};
 use crate::words::{PROGRAM, asked_of};
-use dali_reserve::Keep;
 use dali_script::Kept;
 use dali_words::asked;
 use std::alloc::Global;
 use std::env::Env;
 use std::io;
-use std::io::{Eprint, Write};
+use std::io::Write;
 use std::time::Clock;
 
 /// Writes the table of the gear that are enrolled.
@@ -46,22 +49,6 @@ fn write_table<W: Write>(
     writer.write_all(text.as_bytes()).map_err(|_| REFUSED)
 }
 
-/// Who writes the table of the records.
-#[derive(Drop)]
-struct Writing<'a, S> {
-    system: &'a S,
-    form: TableForm,
-}
-
-impl<S: Print + AllocGlobal> Borrower for Writing<'_, S> {
-    type Out = ();
-
-    fn take<K: Keep>(self, store: &mut K) -> Result<(), Failure> {
-        let (alloc, mut writer) = (self.system.alloc(), io::writer(self.system));
-        write_table(alloc, &mut writer, self.form, &kept(store)?)
-    }
-}
-
 /// Does what the words of the command line ask for, and notes what it came to.
 fn does<S, F>(
     system: &S,
@@ -71,8 +58,9 @@ fn does<S, F>(
     report: &mut Report,
 ) -> Result<(), Failure>
 where
-    S: Input + Print + Eprint + AllocGlobal + Clock,
+    S: Input + Print + Voice + AllocGlobal + Clock,
     F: Stores,
+    ensures { OnOk result (HasDone (S.told system.now) asked.now.others.items asked.now.task) }
 {
     let (alloc, others) = (system.alloc(), asked.others.as_slice());
     let name = first(&asked.records);
@@ -96,13 +84,8 @@ where
         Task::Check => checks(system, stores, name, others, report),
         Task::Identify(short) => identify(system, *short, report),
         Task::Table(form) => {
-            let form = *form;
-            lend_copy(
-                alloc,
-                stores,
-                name.unwrap_or_default(),
-                Writing { system, form },
-            )
+            let kept = lend_copy(alloc, stores, name.unwrap_or_default(), Reading)?;
+            write_table(alloc, &mut io::writer(system), *form, &kept)
         }
         Task::Replace(wanted) => {
             let _heard = replaces(system, stores, manner, &asked.records, wanted, report)?;
@@ -110,6 +93,7 @@ where
             Ok(())
         }
         Task::Mend(wanted) => mends(system, stores, manner, asked, wanted, report),
+        Task::Clear => clears(system, stores, manner, &asked.records, report),
     }
 }
 
@@ -129,7 +113,7 @@ fn refused_name(asked: &Asked) -> Option<&str>
 {
     match &asked.task {
         Task::Run(_) | Task::Check | Task::Identify(_) | Task::Table(_) => first(&asked.records),
-        Task::Replace(_) | Task::Mend(_) => None,
+        Task::Replace(_) | Task::Mend(_) | Task::Clear => None,
     }
 }
 
@@ -146,6 +130,7 @@ fn end(task: &Task, ended: &Result<(), Failure>) -> (u8, &'static str)
         (Ok(()), Task::Table(_)) => (0, "written"),
         (Ok(()), Task::Replace(_)) => (0, "replaced"),
         (Ok(()), Task::Mend(_)) => (0, "mended"),
+        (Ok(()), Task::Clear) => (0, "cleared"),
     }
 }
 
@@ -189,8 +174,9 @@ fn does_and_tells<S, F>(
     asked: &Asked,
 ) -> Result<(), Failure>
 where
-    S: Input + Print + Eprint + AllocGlobal + Clock,
+    S: Input + Print + Voice + AllocGlobal + Clock,
     F: Stores,
+    ensures { (name : Option (Bor (List ℕ))) × WhyTold (S.told system.now) result name }
 {
     let mut report = Report::new();
     let manner = Manner::of(asked.is_quiet, is_terminal);
@@ -201,12 +187,13 @@ where
 }
 
 /// Says why the program ended, if that needs to be said.
-fn ended<S: Eprint>(
+fn ended<S: Voice>(
     system: &S,
     ended: Result<(), Failure>,
     records: Option<&str>,
 ) -> Result<(), Failure>
-    ensures { result ≡ ended }
+    ensures same { result ≡ ended }
+    ensures told { WhyTold (S.told system.now) ended records.entry }
 {
     if let Err(failure) = &ended {
         if let Some(said) = why_said(*failure, records) {
@@ -220,8 +207,9 @@ fn ended<S: Eprint>(
 /// is the system's input and output.
 pub fn run_and_say<S, F>(system: &S, stores: &mut F, is_terminal: bool) -> Result<(), Failure>
 where
-    S: Env + Input + Print + Eprint + AllocGlobal + Clock,
+    S: Env + Input + Print + Voice + AllocGlobal + Clock,
     F: Stores,
+    ensures { (name : Option (Bor (List ℕ))) × WhyTold (S.told system.now) result name }
 {
     match asked(system, &PROGRAM, asked_of) {
         Ok(Some(asked)) => does_and_tells(system, stores, is_terminal, &asked),

@@ -1,15 +1,14 @@
 //! How far the machines are, as it is said on standard error.
 
-ghost use Rattle.std.specs.Prelude.{◌≡◌};
+ghost use Rattle.std.specs.Prelude.{◌≡◌, ◌≢◌, true};
 ghost use Rattle.dali_commission_program.specs.Progress.{aim_after, far_after, is_told, first_aim, manner_of};
 
-use crate::said::{Said, say};
+use crate::said::{Said, Voice, say};
 use dali_commissioning::Watch;
 use dali_frame::{Random24, Short};
 use dali_script::{Input, Order, Record};
 use dali_special::Command;
 use std::fmt;
-use std::io::Eprint;
 
 /// How it is said how far the machines are.
 #[derive(Clone, Copy, PartialEq, Eq)]
@@ -93,6 +92,11 @@ impl Aim {
 }
 
 impl fmt::Display for Aim {
+    ghost use Rattle.std.specs.Prelude.{Some};
+    ghost use Rattle.dali_commission_program.specs.Progress.{aim_text};
+
+    ghost output = { λ aim. Some (aim_text aim) };
+
     fn fmt<W: fmt::Write>(&self, f: &mut fmt::Formatter<W>) -> fmt::Result {
         match self.whom {
             Whom::All => f.write_str("of all gear"),
@@ -118,6 +122,11 @@ pub struct Far {
 }
 
 impl fmt::Display for Far {
+    ghost use Rattle.std.specs.Prelude.{Some};
+    ghost use Rattle.dali_commission_program.specs.Progress.{far_text};
+
+    ghost output = { λ far. Some (far_text far) };
+
     fn fmt<W: fmt::Write>(&self, f: &mut fmt::Formatter<W>) -> fmt::Result {
         let (found, frames, left) = (self.found, self.frames, self.left);
         write!(
@@ -167,7 +176,7 @@ pub struct Progress<'a, S> {
     aim: Aim,
 }
 
-impl<'a, S: Eprint> Progress<'a, S> {
+impl<'a, S: Voice> Progress<'a, S> {
     /// Of so many short addresses that no reservation has.
     pub fn new(system: &'a S, manner: Manner, left: u32) -> Progress<'a, S>
         ensures far { result.far ≡ record { found = 0; frames = 0; left = left } }
@@ -186,14 +195,18 @@ impl<'a, S: Eprint> Progress<'a, S> {
     }
 
     /// What comes first is said.
-    pub fn begin(&self, said: &Said<'_>) {
+    pub fn begin(&self, said: &Said<'_>)
+        ensures { self.now.manner ≢ Manner.Quiet → S.told self.now.system.now said.now }
+    {
         if self.manner != Manner::Quiet {
             say(self.system, said);
         }
     }
 
     /// What is said. If it cannot be said, nothing else changes.
-    fn tell(&self) {
+    fn tell(&self)
+        ensures { self.now.manner ≢ Manner.Rewritten → S.told self.now.system.now (Said.Far self.now.far) }
+    {
         let said = Said::Far(self.far);
         if self.manner == Manner::Rewritten {
             let _ = eprint!(self.system; "\r{said} ");
@@ -217,9 +230,11 @@ impl<'a, S: Eprint> Progress<'a, S> {
     }
 }
 
-impl<S: Eprint> Watch for Progress<'_, S> {
+impl<S: Voice> Watch for Progress<'_, S> {
     fn ordered(&mut self, order: &Order)
         ensures far { self.new.far ≡ far_after order.now self.old.far }
+        ensures told { self.old.manner ≡ Manner.Plain → is_told Manner.Plain order.now self.new.far.frames ≡ true
+            → S.told self.old.system.now (Said.Far self.new.far) }
     {
         self.far = self.far.after(order);
         if let Order::Put(_, frame) = *order {

@@ -1,5 +1,10 @@
 //! The records of a name, as the tasks borrow them.
 
+ghost use Rattle.std.specs.Prelude.{◌≡◌, IfOk, string_bytes};
+ghost use Rattle.dali_commission_program.specs.Calls.{Read};
+ghost use Rattle.dali_commission_program.specs.Failures.{answered};
+ghost use Rattle.dali_commission_program.specs.Seen.{IsBeside, IsSeen};
+
 use crate::failure::Failure;
 use crate::settling::found;
 use crate::stores::{Borrower, StoreFault, Stores};
@@ -25,7 +30,9 @@ impl<'a> Seen<'a> {
         stores: &F,
         name: &'a str,
         block: Block,
-    ) -> Result<Seen<'a>, Failure> {
+    ) -> Result<Seen<'a>, Failure>
+        ensures { IfOk result (IsSeen F.saw stores.now name.now block) }
+    {
         let journal = journal_beside(alloc, stores, name)?;
         match outside(&stores.lend_copy(name, &journal, Reading)?, block) {
             Some(short) => Err(Failure::Outside(short)),
@@ -38,23 +45,31 @@ impl<'a> Seen<'a> {
     }
 
     /// Their name.
-    pub fn name(&self) -> &str {
+    pub fn name(&self) -> &str
+        ensures { result.now ≡ self.now.name.now }
+    {
         self.name
     }
 
     /// The block of the controller to which they are lent.
-    pub fn block(&self) -> Block {
+    pub fn block(&self) -> Block
+        ensures { result ≡ self.now.block }
+    {
         self.block
     }
 
     /// The name of the journal, which may have been written since.
-    pub fn journal(&self) -> &str {
+    pub fn journal(&self) -> &str
+        ensures { result.now ≡ string_bytes self.now.journal }
+    {
         &self.journal
     }
 }
 
 /// The name of the journal of a swap, if none lies beside the records of this name.
-fn journal_beside<F: Stores>(alloc: Global, stores: &F, name: &str) -> Result<String, Failure> {
+fn journal_beside<F: Stores>(alloc: Global, stores: &F, name: &str) -> Result<String, Failure>
+    ensures { IfOk result (λ at. IsBeside F.saw stores.now name.now (string_bytes at)) }
+{
     let place = stores.place_of(alloc, name)?;
     match found(alloc, stores, &place)? {
         Some(_) => Err(Failure::Unfinished),
@@ -69,7 +84,9 @@ pub(crate) fn lend<F: Stores, B: Borrower>(
     name: &str,
     block: Block,
     borrower: B,
-) -> Result<B::Out, Failure> {
+) -> Result<B::Out, Failure>
+    ensures { IfOk result (λ out. (kept : Kept) × B.came borrower kept out) }
+{
     let seen = Seen::look(alloc, stores, name, block)?;
     stores.lend(&seen, borrower)
 }
@@ -80,7 +97,9 @@ pub(crate) fn lend_copy<F: Stores, B: Borrower>(
     stores: &F,
     name: &str,
     borrower: B,
-) -> Result<B::Out, Failure> {
+) -> Result<B::Out, Failure>
+    ensures { IfOk result (λ out. (kept : Kept) × F.saw stores.now (Read name.now kept) × B.came borrower kept out) }
+{
     let journal = journal_beside(alloc, stores, name)?;
     if stores.has(name) {
         stores.lend_copy(name, &journal, borrower)
@@ -89,11 +108,18 @@ pub(crate) fn lend_copy<F: Stores, B: Borrower>(
     }
 }
 
-fn answered<T>(done: Result<T, KeepError>) -> Result<T, Failure> {
-    done.map_err(|error| Failure::Store(StoreFault::Store(error)))
+fn answered<T>(done: Result<T, KeepError>) -> Result<T, Failure>
+    ensures { result ≡ answered done }
+{
+    match done {
+        Ok(it) => Ok(it),
+        Err(error) => Err(Failure::Store(StoreFault::Store(error))),
+    }
 }
 
-pub(crate) fn kept<K: Keep>(store: &mut K) -> Result<Kept, Failure> {
+pub(crate) fn kept<K: Keep>(store: &mut K) -> Result<Kept, Failure>
+    ensures { IfOk result (λ kept. kept ≡ K.kept store.new) }
+{
     answered(store.read())
 }
 
@@ -101,14 +127,19 @@ pub(crate) fn kept<K: Keep>(store: &mut K) -> Result<Kept, Failure> {
 #[derive(Drop)]
 pub(crate) struct Filling<'a> {
     pub from: &'a Kept,
-    pub old: &'a Kept,
+    pub before: &'a Kept,
 }
 
 impl Borrower for Filling<'_> {
     type Out = ();
 
+    ghost use Rattle.dali_replacement.specs.Tables.{Keeps, Reserves};
+
+    ghost came = { λ filling kept _. Keeps filling.from.now kept
+        × Reserves filling.before.now.reserved filling.from.now kept };
+
     fn take<K: Keep>(self, store: &mut K) -> Result<(), Failure> {
-        answered(refill(store, self.from, self.old))
+        answered(refill(store, self.from, self.before))
     }
 }
 
@@ -118,6 +149,10 @@ pub(crate) struct Reading;
 
 impl Borrower for Reading {
     type Out = Kept;
+
+    ghost use Rattle.std.specs.Prelude.{◌≡◌};
+
+    ghost came = { λ _ kept out. out ≡ kept };
 
     fn take<K: Keep>(self, store: &mut K) -> Result<Kept, Failure> {
         kept(store)

@@ -1,8 +1,15 @@
 //! `replace`: a new luminaire gets the short address of one that is gone.
 
-ghost use Rattle.std.specs.Prelude.{◌≡◌, ◌↔◌, ◌⊎◌, IsTrue, IfOk};
+ghost use Rattle.std.specs.Prelude.{◌≡◌, ◌↔◌, ◌⊎◌, ℕ, List, true, Some, IsTrue, IfOk, OnOk};
+ghost use Rattle.std.specs.Prelude.{string_bytes};
+ghost use Rattle.dali_replacement.specs.Permit.{confirmed_at};
 ghost use Rattle.dali_replacement.specs.Tables.{IsGathered, Lacks};
-ghost use Rattle.dali_commission_program.specs.Replacing.{IsGiver};
+ghost use Rattle.dali_commission_program.specs.Calls.{Lies, Read};
+ghost use Rattle.dali_commission_program.specs.Replacing.{IsAnywhere, IsGiver, IsDue, IsAside, AreAside};
+ghost use Rattle.dali_commission_program.specs.Reports.{own_rows};
+ghost use Rattle.dali_commission_program.specs.Tables.{rows};
+ghost use Rattle.dali_commission_program.specs.Seen.{ComeSo};
+ghost use Rattle.dali_commission_program.specs.Settling.{new_at};
 
 use crate::confirming::Asking;
 use crate::failure::{Failure, REFUSED, add, ended_as, failure_of};
@@ -10,7 +17,7 @@ use crate::finishing::{confirms, exchanged, read, say_kept};
 use crate::progress::{Manner, Progress};
 use crate::records::{Filling, Reading, kept, lend, lend_copy};
 use crate::report::{Report, ended_said};
-use crate::said::{Said, say, say_refused};
+use crate::said::{Said, Voice, say, say_all, say_refused};
 use crate::settling::{exchange, found, free_aside, free_number};
 use crate::stores::{Borrower, Holder, StoreFault, Stores};
 use crate::tasks::Replacement;
@@ -24,11 +31,16 @@ use dali_reserve::Keep;
 use dali_script::{Block, End, Kept};
 use std::alloc::Global;
 use std::io;
-use std::io::{Eprint, Read, Write};
+use std::io::{Read, Write};
 
 /// Whether a table has this short address.
-fn is_anywhere(tables: &[Kept], short: Short) -> bool {
-    tables.iter().any(|kept| kept.enrolled_at(short).is_some())
+fn is_anywhere(tables: &[Kept], short: Short) -> bool
+    ensures { IsTrue result → IsAnywhere short tables.now }
+{
+    match tables {
+        [] => false,
+        [kept, more @ ..] => kept.enrolled_at(short).is_some() || is_anywhere(more, short),
+    }
 }
 
 /// Who gives the new gear its short address, into these records, and says how the surveys ended. The records say
@@ -42,8 +54,13 @@ struct Giving<'a, S, R, W> {
     manner: Manner,
 }
 
-impl<S: Eprint, R: Read, W: Write> Borrower for Giving<'_, S, R, W> {
+impl<S: Voice, R: Read, W: Write> Borrower for Giving<'_, S, R, W> {
     type Out = ();
+
+    ghost use Rattle.std.specs.Prelude.{◌≡◌, Ok};
+    ghost use Rattle.dali_commission_program.specs.Replacing.{HasGiven};
+
+    ghost came = { λ giving kept _. HasGiven (S.told giving.system.now) kept };
 
     fn take<K: Keep>(self, store: &mut K) -> Result<(), Failure> {
         let (system, permit, table) = (self.system, self.permit, self.table);
@@ -52,9 +69,7 @@ impl<S: Eprint, R: Read, W: Write> Borrower for Giving<'_, S, R, W> {
         progress.end();
         let lines = self.driver.lines();
         let pass = came.map_err(|fault| failure_of(fault, lines))?;
-        for said in ended_said(&pass, &kept(store)?, progress.aim()).iter() {
-            say(system, said);
-        }
+        say_all(system, &ended_said(&pass, &kept(store)?, progress.aim()));
         match pass.ended {
             Ended::Done(End::BlockFull) => Ok(()),
             ended => ended_as(ended, true),
@@ -135,15 +150,7 @@ fn is_behind(other: &Come, come: &Come) -> bool
     matches!(other, Come::Nowhere) || other == come
 }
 
-impl<S: Input + Print + Eprint + AllocGlobal> Replacing<'_, S> {
-    fn system(&self) -> &S {
-        self.asking.system
-    }
-
-    fn alloc(&self) -> Global {
-        self.system().alloc()
-    }
-
+impl<S: Input + Print + Voice + AllocGlobal> Replacing<'_, S> {
     /// How far the new file of a name has come, beside what the old one has.
     fn come<F: Stores>(
         &self,
@@ -151,12 +158,14 @@ impl<S: Input + Print + Eprint + AllocGlobal> Replacing<'_, S> {
         name: &str,
         old: &Kept,
         is_giver: bool,
-    ) -> Result<Come, Failure> {
-        let new = new_of(self.alloc(), name)?;
+    ) -> Result<Come, Failure>
+        ensures { IfOk result (ComeSo F.saw stores.now name.now old.now is_giver self.now.asking.now.wanted.now.short) }
+    {
+        let new = new_of(self.asking.system.alloc(), name)?;
         if !stores.has(&new) {
             return Ok(Come::Nowhere);
         }
-        let new = read(self.system(), stores, &new)?;
+        let new = read(self.asking.system, stores, &new)?;
         match Come::of(&new, old, self.asking.wanted.short, is_giver) {
             Some(come) => Ok(come),
             None => Err(self.asking.refusal(ReplaceRefusal::OtherNew)),
@@ -195,11 +204,16 @@ impl<S: Input + Print + Eprint + AllocGlobal> Replacing<'_, S> {
         name: &str,
         block: Block,
         borrower: B,
-    ) -> Result<Kept, Failure> {
-        let (system, new) = (self.system(), new_of(self.alloc(), name)?);
-        lend(self.alloc(), stores, &new, block, borrower).map_err(|failure| say_refused(
-            system, &new, failure,
-        ))?;
+    ) -> Result<Kept, Failure>
+        ensures { IfOk result (λ kept. F.saw stores.new (Read (new_at name.now) kept)) }
+    {
+        let (system, new) = (
+            self.asking.system,
+            new_of(self.asking.system.alloc(), name)?,
+        );
+        lend(self.asking.system.alloc(), stores, &new, block, borrower).map_err(
+            |failure| say_refused(system, &new, failure),
+        )?;
         read(system, stores, &new)
     }
 
@@ -210,9 +224,12 @@ impl<S: Input + Print + Eprint + AllocGlobal> Replacing<'_, S> {
         all: &[Kept],
         first: &Kept,
     ) -> Result<Vec<Kept>, Failure> {
-        let mut news = Vec::new(self.alloc());
+        let mut news = Vec::new(self.asking.system.alloc());
         for (name, old) in self.names.iter().zip(all) {
-            let filling = Filling { from: first, old };
+            let filling = Filling {
+                from: first,
+                before: old,
+            };
             add(&mut news, self.renew(stores, name, Block::ALL, filling)?)?;
         }
         Ok(news)
@@ -220,9 +237,12 @@ impl<S: Input + Print + Eprint + AllocGlobal> Replacing<'_, S> {
 
     /// The names of the files.
     fn copied_names(&self) -> Result<Vec<String>, Failure> {
-        let mut names = Vec::new(self.alloc());
+        let mut names = Vec::new(self.asking.system.alloc());
         for name in self.names {
-            add(&mut names, String::from_str(self.alloc(), name)?)?;
+            add(
+                &mut names,
+                String::from_str(self.asking.system.alloc(), name)?,
+            )?;
         }
         Ok(names)
     }
@@ -234,7 +254,9 @@ impl<S: Input + Print + Eprint + AllocGlobal> Replacing<'_, S> {
         driver: &mut DriverLink<R, W>,
         name: &str,
         others: &OthersThere,
-    ) -> Result<Kept, Failure> {
+    ) -> Result<Kept, Failure>
+        ensures { IfOk result (λ kept. F.saw stores.new (Read (new_at name.now) kept)) }
+    {
         let asking = self.asking;
         let permit = others
             .look(driver)
@@ -261,10 +283,14 @@ impl<S: Input + Print + Eprint + AllocGlobal> Replacing<'_, S> {
             return Err(REFUSED);
         };
         if !matches!(others.come(), Come::Nowhere) {
-            say(self.system(), &Said::GoneOn);
+            say(self.asking.system, &Said::GoneOn);
         }
         if matches!(others.come(), Come::Given(_)) {
-            read(self.system(), stores, &new_of(self.alloc(), name)?)
+            read(
+                self.asking.system,
+                stores,
+                &new_of(self.asking.system.alloc(), name)?,
+            )
         } else {
             self.give(stores, driver, name, others)
         }
@@ -276,10 +302,12 @@ impl<S: Input + Print + Eprint + AllocGlobal> Replacing<'_, S> {
         stores: &mut F,
         driver: &mut DriverLink<R, W>,
         all: &[Kept],
-    ) -> Result<DueSwap, Failure> {
+    ) -> Result<DueSwap, Failure>
+        ensures { IfOk result (IsDue self.old.asking.now.wanted.now.short all.now) }
+    {
         let asking = self.asking;
         if asking.wanted.is_again {
-            self.put_aside(stores)?;
+            put_aside(asking.system, stores, self.names)?;
         }
         let plan = self.plan(stores, all)?;
         let giver = plan.giver;
@@ -291,7 +319,7 @@ impl<S: Input + Print + Eprint + AllocGlobal> Replacing<'_, S> {
         }
         let news = self.news(stores, all, &first)?;
         let confirmed = asking.confirm(driver, others, &news)?;
-        let number = free_number(self.alloc(), stores, self.names)?;
+        let number = free_number(self.asking.system.alloc(), stores, self.names)?;
         let swap = Swap::of(&confirmed, all, &news, number, self.copied_names()?).map_err(
             |refusal| asking.refusal(refusal),
         )?;
@@ -301,41 +329,62 @@ impl<S: Input + Print + Eprint + AllocGlobal> Replacing<'_, S> {
             news,
         })
     }
-
-    /// Puts aside the new file that an earlier call has left for a name, if there is one.
-    fn put_one_aside<F: Stores>(&self, stores: &mut F, name: &str) -> Result<(), Failure> {
-        let (system, alloc) = (self.system(), self.alloc());
-        let new = new_of(alloc, name)?;
-        if !stores.has(&new) {
-            return Ok(());
-        }
-        let aside = free_aside(alloc, stores, name)?;
-        // Once it is closed, nothing of it lies in a log.
-        let done = match lend(alloc, stores, &new, Block::ALL, Reading) {
-            Ok(_) => stores.rename(alloc, &new, &aside),
-            Err(failure) => Err(failure),
-        };
-        done.map_err(|failure| say_refused(system, &new, failure))?;
-        say(system, &Said::Aside(&new, &aside));
-        Ok(())
-    }
-
-    /// Puts all new files aside. No journal lies beside their files, and all others are kept from these.
-    fn put_aside<F: Stores>(&self, stores: &mut F) -> Result<(), Failure> {
-        for name in self.names {
-            self.put_one_aside(stores, name)?;
-        }
-        Ok(())
-    }
 }
 
-impl<S: Input + Print + Eprint + AllocGlobal, F: Stores> Holder<F> for Replacing<'_, S> {
+/// Puts aside the new file that an earlier call has left for a name, if there is one.
+fn put_one_aside<S: Voice + AllocGlobal, F: Stores>(
+    system: &S,
+    stores: &mut F,
+    name: &str,
+) -> Result<(), Failure>
+    ensures { OnOk result (IsAside F.made F.saw name.now stores.old stores.new) }
+{
+    let alloc = system.alloc();
+    let new = new_of(alloc, name)?;
+    if !stores.has(&new) {
+        return Ok(());
+    }
+    let aside = free_aside(alloc, stores, name)?;
+    // Once it is closed, nothing of it lies in a log.
+    let done = match lend(alloc, stores, &new, Block::ALL, Reading) {
+        Ok(_) => stores.rename(alloc, &new, &aside),
+        Err(failure) => Err(failure),
+    };
+    done.map_err(|failure| say_refused(system, &new, failure))?;
+    say(system, &Said::Aside(&new, &aside));
+    Ok(())
+}
+
+/// Puts all new files of these names aside. No journal lies beside their files, and all others are kept from these.
+fn put_aside<S: Voice + AllocGlobal, F: Stores>(
+    system: &S,
+    stores: &mut F,
+    names: &[String],
+) -> Result<(), Failure>
+    ensures { OnOk result (AreAside F.made F.saw names.now stores.old stores.new) }
+{
+    let [name, more @ ..] = names else {
+        return Ok(());
+    };
+    put_one_aside(system, stores, name)?;
+    put_aside(system, stores, more)
+}
+
+impl<S: Input + Print + Voice + AllocGlobal, F: Stores> Holder<F> for Replacing<'_, S> {
     type Due = DueSwap;
 
     type Out = Confirmed;
 
+    ghost use Rattle.std.specs.Prelude.{◌≡◌};
+    ghost use Rattle.dali_commission_program.specs.Replacing.{IsDue};
+    ghost use Rattle.dali_commission_program.specs.Settling.{IsExchanged};
+
+    ghost dues = { λ replacing all due. IsDue replacing.asking.now.wanted.now.short all due };
+
+    ghost ends = { λ _ from to due out. IsExchanged F.made due.swap from to × (out ≡ due.confirmed) };
+
     fn refused(&self, name: &str, failure: Failure) -> Failure {
-        say_refused(self.system(), name, failure)
+        say_refused(self.asking.system, name, failure)
     }
 
     fn take(&mut self, stores: &mut F, all: &[Kept]) -> Result<DueSwap, Failure> {
@@ -356,26 +405,41 @@ impl<S: Input + Print + Eprint + AllocGlobal, F: Stores> Holder<F> for Replacing
         let system = self.asking.system;
         exchange(system, stores, &due.swap)?;
         self.asking.say_confirmed(&due.confirmed, &due.news);
-        let _ = say_kept(system, &due.swap);
+        let _ = say_kept(system, due.swap.names(), due.swap.number());
         Ok(due.confirmed)
     }
 }
 
+/// Where a file of this name lies.
+fn place_of<S: Voice + AllocGlobal, F: Stores>(
+    system: &S,
+    stores: &F,
+    name: &str,
+) -> Result<String, Failure>
+    ensures { IfOk result (λ at. F.saw stores.now (Lies name.now (string_bytes at))) }
+{
+    match stores.place_of(system.alloc(), name) {
+        Ok(place) => {
+            // A journal names each file on a line.
+            if place.contains("\n") {
+                Err(say_refused(system, name, Failure::Store(StoreFault::CannotOpen)))
+            } else {
+                Ok(place)
+            }
+        }
+        Err(failure) => Err(say_refused(system, name, failure)),
+    }
+}
+
 /// Where the files of these names lie.
-fn places_of<S: Eprint + AllocGlobal, F: Stores>(
+fn places_of<S: Voice + AllocGlobal, F: Stores>(
     system: &S,
     stores: &F,
     records: &[String],
 ) -> Result<Vec<String>, Failure> {
     let mut names = Vec::new(system.alloc());
     for name in records {
-        let place = match stores.place_of(system.alloc(), name) {
-            // A journal names each file on a line.
-            Ok(place) if place.contains("\n") => Err(Failure::Store(StoreFault::CannotOpen)),
-            place => place,
-        };
-        let place = place.map_err(|failure| say_refused(system, name, failure))?;
-        add(&mut names, place)?;
+        add(&mut names, place_of(system, stores, name)?)?;
     }
     Ok(names)
 }
@@ -400,7 +464,10 @@ pub(crate) fn note_first<F: Stores>(
     stores: &F,
     name: Option<&str>,
     report: &mut Report,
-) {
+)
+    ensures { (report.new ≡ report.old) ⊎ ((kept : Kept) × (name : List ℕ) × F.saw stores.now (Read name kept)
+        × (report.new.table.items ≡ own_rows kept.reserved (rows kept.enrolled))) }
+{
     if let Some(name) = name {
         if let Ok(kept) = lend_copy(alloc, stores, name, Reading) {
             report.note_table(&kept);
@@ -419,8 +486,9 @@ pub(crate) fn replaces<S, F>(
     report: &mut Report,
 ) -> Result<Confirmed, Failure>
 where
-    S: Input + Print + Eprint + AllocGlobal,
+    S: Input + Print + Voice + AllocGlobal,
     F: Stores,
+    ensures { IfOk result (λ seen. confirmed_at seen ≡ wanted.now.short) }
 {
     let asking = Asking {
         system,

@@ -6,7 +6,7 @@ ghost use Rattle.dali_commissioning.specs.Places.{places};
 ghost use Rattle.dali_commission_program.specs.Came.{RunSaid};
 ghost use Rattle.dali_commission_program.specs.Reports.{own_row, own_rows, heard_if, heard_of};
 ghost use Rattle.dali_commission_program.specs.Reports.{checked_said, addressed_said};
-ghost use Rattle.dali_commission_program.specs.Said.{WhySaid, heard_said};
+ghost use Rattle.dali_commission_program.specs.Said.{WhySaid, heard_said, AreTold};
 ghost use Rattle.dali_commission_program.specs.Tables.{rows};
 
 use crate::failure::Failure;
@@ -14,14 +14,14 @@ use crate::progress::Aim;
 use crate::reports::{
     Saying, Which, count, push_left_alone, push_places, push_why_ended, wrote_said,
 };
-use crate::said::{Said, say};
+use crate::said::{Said, Voice, say, say_all};
 use crate::table::rows;
 use arrayvec::ArrayVec;
 use dali_commissioning::{Checked, DriverLink, PassEnd, Place, Reply, places, random_at};
 use dali_controller::Shorts;
 use dali_frame::{Random24, Short};
 use dali_script::{Block, Kept};
-use std::io::{Eprint, Read, Write};
+use std::io::{Read, Write};
 
 /// A row of the table: a short address, the random address of its gear, and whether this controller has reserved the
 /// one for the other.
@@ -190,15 +190,18 @@ impl Report {
     }
 
     /// Notes that others than recorded stand at these places.
-    pub fn note_wrong(&mut self, places: &[Place]) {
-        self.places.clear();
+    pub fn note_wrong(&mut self, places: &[Place])
+        ensures { self.new ≡ record self.old { places = self.new.places } }
+    {
+        let mut wrong = ArrayVec::new();
         for place in places {
-            let _ = self.places.try_push(*place);
+            let _ = wrong.try_push(*place);
         }
+        self.places = wrong;
     }
 
     /// Notes how many lines of the driver were read. The last one is said if it was refused.
-    pub fn note_lines<T, S: Eprint, R: Read, W: Write>(
+    pub fn note_lines<T, S: Voice, R: Read, W: Write>(
         &mut self,
         system: &S,
         driver: &DriverLink<R, W>,
@@ -256,7 +259,7 @@ impl Came {
     }
 
     /// Says what is to be said of it, and hands on what is to be written, with how many frames were put.
-    pub fn told<S: Eprint, R: Read, W: Write>(
+    pub fn told<S: Voice, R: Read, W: Write>(
         self,
         system: &S,
         driver: &DriverLink<R, W>,
@@ -269,10 +272,9 @@ impl Came {
         ensures left_alone { report.new.left_alone ≡ self.report.left_alone }
         ensures unaddressed { report.new.has_unaddressed ≡ self.report.has_unaddressed }
         ensures enrolled { report.new.enrolled ≡ self.report.enrolled }
+        ensures told { AreTold (S.told system.now) self.report.said.items }
     {
-        for said in self.report.said.iter() {
-            say(system, said);
-        }
+        say_all(system, &self.report.said);
         let ended = self.ended;
         *report = self.report;
         report.note_lines(system, driver, ended)

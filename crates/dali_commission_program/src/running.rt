@@ -1,28 +1,27 @@
 //! `run`: gear are given short addresses.
 
 ghost use Rattle.std.specs.Prelude.{◌≡◌, ◌+◌, ◌-◌, IfOk, length};
-ghost use Rattle.dali_commissioning.specs.Drivers.{talk_of, has_heard};
+ghost use Rattle.dali_commissioning.specs.Drivers.{talk_of};
 ghost use Rattle.dali_commission_program.specs.Failures.{ended_as};
 ghost use Rattle.dali_commission_program.specs.Sharing.{has_any, or_shared};
-ghost use Rattle.dali_commission_program.specs.Came.{HasBegun, ComesTo, RunSaid};
+ghost use Rattle.dali_commission_program.specs.Came.{HasBegun, EndsSo, ComesTo, RunSaid};
+ghost use Rattle.dali_commission_program.specs.Tellings.{HasRun};
 
+use crate::ending::is_any_there;
 use crate::failure::{Failure, ended_as, failure_of};
 use crate::mending::Mender;
 use crate::progress::{Aim, Manner, Progress};
 use crate::records::kept;
 use crate::report::{Came, Report};
-use crate::said::Said;
+use crate::said::{Said, Voice};
 use crate::sharing::{has_any, or_shared};
 use crate::stores::Borrower;
 use crate::tasks::{Mend, Setup, Start};
-use dali_commissioning::{
-    Begun, CommissionFault, DriverLink, PassEnd, Reply, Watch, ask, begin, commission,
-};
-use dali_frame::Short;
+use dali_commissioning::{Begun, CommissionFault, DriverLink, PassEnd, Watch, begin, commission};
 use dali_reserve::Keep;
 use dali_script::{Block, Input as Told, Kept};
 use std::io;
-use std::io::{Eprint, Read, Write};
+use std::io::{Read, Write};
 
 /// How many short addresses of its block are not reserved.
 pub(crate) fn left_of(kept: &Kept) -> u32
@@ -59,41 +58,22 @@ fn begun<K: Keep, R: Read, W: Write, P: Watch>(
     }
 }
 
-/// Whether any gear was heard. If none was, the gear of the table are asked one after the other until one answers:
-/// a bus on which no gear answers at all is told from one whose gear are all in the table.
-fn is_anybody_there<R: Read, W: Write>(
-    driver: &mut DriverLink<R, W>,
-    kept: &Kept,
-) -> Result<bool, CommissionFault>
-    ensures { IfOk result (λ is_heard. is_heard ≡ has_heard driver.new) }
-{
-    for pair in kept.enrolled() {
-        if driver.has_heard() {
-            return Ok(true);
-        }
-        if let Some(short) = Short::of(pair.address()) {
-            let _: Reply = ask(driver, short)?;
-        }
-    }
-    Ok(driver.has_heard())
-}
-
-/// What a run whose last machine ended so comes to, from one table to another: by whether any gear was heard, and after
-/// so many frames.
+/// What a run whose last machine ended so comes to, from one table to another: by whether any gear answers now, and
+/// after so many frames.
 fn came_of(
     pass: &PassEnd,
     before: &Kept,
     after: &Kept,
     aim: Aim,
-    has_heard: bool,
+    is_there: bool,
     frames: u64,
 ) -> Came
-    ensures ended { result.ended ≡ or_shared (ended_as pass.now.ended has_heard) (has_any pass.now.heard) }
+    ensures ended { result.ended ≡ or_shared (ended_as pass.now.ended is_there) (has_any pass.now.heard) }
     ensures said { RunSaid pass.now before.now after.now aim frames result.report.said.items }
 {
     Came {
         report: Report::of_run(pass, before, after, aim, frames),
-        ended: or_shared(ended_as(pass.ended, has_heard), has_any(pass.heard)),
+        ended: or_shared(ended_as(pass.ended, is_there), has_any(pass.heard)),
     }
 }
 
@@ -105,15 +85,16 @@ fn ended_so<K: Keep, R: Read, W: Write>(
     before: &Kept,
     aim: Aim,
 ) -> Result<Came, Failure>
-    ensures { IfOk result (λ came. came.ended
-        ≡ or_shared (ended_as pass.now.ended (has_heard driver.new)) (has_any pass.now.heard)) }
+    ensures { IfOk result (λ came. EndsSo pass.now came.ended
+        (talk_of R.remaining W.contents driver.old) (talk_of R.remaining W.contents driver.new)) }
 {
     let after = kept(store)?;
-    if let Err(fault) = is_anybody_there(driver, &after) {
-        return Err(failure_of(fault, driver.lines()));
+    let asked = is_any_there(driver, pass.ended, &after);
+    let lines = driver.lines();
+    match asked {
+        Ok(is_there) => Ok(came_of(pass, before, &after, aim, is_there, lines)),
+        Err(fault) => Err(failure_of(fault, lines)),
     }
-    let (has_heard, lines) = (driver.has_heard(), driver.lines());
-    Ok(came_of(pass, before, &after, aim, has_heard, lines))
 }
 
 /// What a run comes to that began so, or could not, with the table before it.
@@ -125,7 +106,8 @@ fn came_to<K: Keep, R: Read, W: Write>(
     others: &[Block],
     begun: Result<Begun, CommissionFault>,
 ) -> Came
-    ensures { ComesTo before.now others.now (has_heard driver.new) begun result.report.said.items result.ended }
+    ensures { ComesTo before.now others.now begun (talk_of R.remaining W.contents driver.old)
+        (talk_of R.remaining W.contents driver.new) result.report.said.items result.ended }
 {
     match begun {
         Ok(Begun::Addressed(replies)) => Came {
@@ -150,7 +132,26 @@ pub(crate) struct Running<'a, S> {
     pub report: &'a mut Report,
 }
 
-impl<S: Input + Print + Eprint + AllocGlobal> Running<'_, S> {
+impl<S: Input + Print + Voice + AllocGlobal> Running<'_, S> {
+    /// Runs, says what that came to, and hands on how it ended.
+    fn runs<K: Keep, R: Read, W: Write>(
+        &mut self,
+        store: &mut K,
+        driver: &mut DriverLink<R, W>,
+        before: &Kept,
+    ) -> Result<(), Failure>
+        ensures { HasRun (S.told self.old.system.now) self.old.others.now result }
+    {
+        let (system, others) = (self.system, self.others);
+        let mut progress = Progress::new(system, self.manner, left_of(before));
+        progress.begin(&Said::AsksAddresses);
+        let begun = begun(store, driver, &mut progress, self.setup, others);
+        progress.end();
+        let aim = progress.aim();
+        let came = came_to(store, driver, aim, before, others, begun);
+        came.told(system, driver, self.report)
+    }
+
     /// Mends the short addresses that gear share, once the run has ended.
     fn mends<K: Keep, R: Read, W: Write>(
         self,
@@ -178,22 +179,19 @@ impl<S: Input + Print + Eprint + AllocGlobal> Running<'_, S> {
     }
 }
 
-impl<S: Input + Print + Eprint + AllocGlobal> Borrower for Running<'_, S> {
+impl<S: Input + Print + Voice + AllocGlobal> Borrower for Running<'_, S> {
     type Out = ();
 
-    fn take<K: Keep>(self, store: &mut K) -> Result<(), Failure> {
-        let (system, others) = (self.system, self.others);
+    ghost use Rattle.dali_commission_program.specs.Tellings.{HasRunWell};
+
+    ghost came = { λ running _ _. HasRunWell (S.told running.system.now) running.others.now running.setup.now.mends };
+
+    fn take<K: Keep>(mut self, store: &mut K) -> Result<(), Failure> {
+        let (system, mends) = (self.system, self.setup.mends);
         let before = kept(store)?;
         let mut driver = DriverLink::new(system.alloc(), system.reader(), io::writer(system));
-        let mut progress = Progress::new(system, self.manner, left_of(&before));
-        progress.begin(&Said::AsksAddresses);
-        let begun = begun(store, &mut driver, &mut progress, self.setup, others);
-        progress.end();
-        let aim = progress.aim();
-        let came = came_to(store, &mut driver, aim, &before, others, begun);
-        let mends = self.setup.mends && matches!(came.ended, Err(Failure::Shared));
-        let ended = came.told(system, &driver, self.report);
-        if mends {
+        let ended = self.runs(store, &mut driver, &before);
+        if mends && matches!(ended, Err(Failure::Shared)) {
             self.mends(store, &mut driver)
         } else {
             ended

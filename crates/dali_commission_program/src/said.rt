@@ -1,7 +1,7 @@
 //! All that the program says on standard error but how it uses its command line: each a value, with its text.
 
 ghost use Rattle.std.specs.Prelude.{◌≡◌};
-ghost use Rattle.dali_commission_program.specs.Said.{why_said};
+ghost use Rattle.dali_commission_program.specs.Said.{why_said, AreTold};
 
 use crate::failure::Failure;
 use crate::progress::{Aim, Far};
@@ -98,6 +98,8 @@ pub enum Said<'a> {
     HasLost(u8, Random24, Option<Short>),
     #[error("not all gear were told apart, so none was enrolled: mend again")]
     NotSurveyed,
+    #[error("taking all short addresses away, round {0}")]
+    Clears(u8),
     #[error("error: {0}: {1}")]
     Refused(&'a str, StoreFault),
     #[error("{0}")]
@@ -204,9 +206,40 @@ fn write_lost<W: fmt::Write>(
     }
 }
 
-/// Says something. If it cannot be said, nothing else changes.
-pub fn say<S: Eprint>(system: &S, said: &Said<'_>) {
-    let _ = eprintln!(system; "{said}");
+/// Who says what the program says. Contracts see which lines were said.
+pub trait Voice: Eprint {
+    ghost use Rattle.dali_commission_program.specs.declared.said.Said.{Said};
+
+    ghost told: { Self → Said → Type 0 };
+
+    /// Says a line. If it cannot be said, nothing else changes.
+    fn tell(&self, said: &Said<'_>)
+        ensures { told self.now said.now };
+}
+
+impl<S: Eprint> Voice for S {
+    ghost told = { λ _ _. Unit {0} };
+
+    fn tell(&self, said: &Said<'_>) {
+        let _ = eprintln!(self; "{said}");
+    }
+}
+
+/// Says a line.
+pub fn say<S: Voice>(system: &S, said: &Said<'_>)
+    ensures { S.told system.now said.now }
+{
+    system.tell(said);
+}
+
+/// Says lines, in order.
+pub fn say_all<S: Voice>(system: &S, lines: &[Said<'_>])
+    ensures { AreTold (S.told system.now) lines.now }
+{
+    if let [said, more @ ..] = lines {
+        say(system, said);
+        say_all(system, more);
+    }
 }
 
 /// What is said of why the program ends. None if `clap` has said it, or if it was said when the file was found
@@ -223,8 +256,10 @@ pub fn why_said<'a>(failure: Failure, records: Option<&'a str>) -> Option<Said<'
 }
 
 /// Says why nothing can be done under a name.
-pub fn say_refused<S: Eprint>(system: &S, name: &str, failure: Failure) -> Failure
-    ensures { result ≡ failure }
+pub fn say_refused<S: Voice>(system: &S, name: &str, failure: Failure) -> Failure
+    ensures same { result ≡ failure }
+    ensures told { (fault : StoreFault) → failure ≡ Failure.Store fault
+        → S.told system.now (Said.Refused name.entry fault) }
 {
     if let Failure::Store(fault) = failure {
         say(system, &Said::Refused(name, fault));

@@ -1,19 +1,21 @@
 //! A swap of files is brought to an end: step by step by `dali_replacement`, which says what is due at which moment.
 
-ghost use Rattle.std.specs.Prelude.{◌≡◌, List, IfOk, OnOk};
+ghost use Rattle.std.specs.Prelude.{◌≡◌, ℕ, false, List, IfOk, IsTrue, OnOk, option_map, string_bytes};
+ghost use Rattle.dali_replacement.specs.Swapping.{number_of};
+ghost use Rattle.dali_commission_program.specs.Calls.{Has};
+ghost use Rattle.dali_commission_program.specs.Seen.{LiesSo, IsFirstJournal, AreFree, IsFound, aside_at};
 ghost use Rattle.dali_replacement.specs.declared.swap.Step.{Step};
 ghost use Rattle.dali_commission_program.specs.Failures.{or_unfinished};
 ghost use Rattle.dali_commission_program.specs.Settling.{IsNamed, IsDone, GoesOn, GoesBack, IsSettled, IsExchanged};
 
 use crate::failure::{Failure, REFUSED};
-use crate::said::{Said, say, say_refused};
+use crate::said::{Said, Voice, say, say_refused};
 use crate::stores::{Actor, StoreFault, Stores};
 use arrayvec::ArrayVec;
 use dali_replacement::{
     Lies, MOST_FILES, Step, Swap, aside_of, journal_of, kept_of, moment_of, new_of, step_after,
 };
 use std::alloc::Global;
-use std::io::Eprint;
 
 /// The name of the file with this number.
 fn name_at(swap: &Swap, number: u32) -> Result<&str, Failure>
@@ -26,7 +28,9 @@ fn name_at(swap: &Swap, number: u32) -> Result<&str, Failure>
 }
 
 /// What lies at the place of a file, and beside it.
-fn lies<F: Stores>(alloc: Global, stores: &F, swap: &Swap, name: &str) -> Result<Lies, Failure> {
+fn lies<F: Stores>(alloc: Global, stores: &F, swap: &Swap, name: &str) -> Result<Lies, Failure>
+    ensures { IfOk result (LiesSo F.saw stores.now name.now (number_of swap.now)) }
+{
     Ok(Lies {
         journal: stores.has(&journal_of(alloc, name)?),
         new: stores.has(&new_of(alloc, name)?),
@@ -106,7 +110,7 @@ fn goes_back<F: Stores>(
 }
 
 /// Brings a swap to its end, or takes it back if not each journal was written. Whether it was brought to its end.
-fn settles<S: Eprint + AllocGlobal, F: Stores>(
+fn settles<S: Voice + AllocGlobal, F: Stores>(
     system: &S,
     stores: &mut F,
     swap: &Swap,
@@ -131,7 +135,7 @@ fn settles<S: Eprint + AllocGlobal, F: Stores>(
 }
 
 /// A swap that could not be brought to its end is unfinished, and why is said.
-fn or_stopped<T, S: Eprint>(system: &S, done: Result<T, Failure>) -> Result<T, Failure>
+fn or_stopped<T, S: Voice>(system: &S, done: Result<T, Failure>) -> Result<T, Failure>
     ensures { result ≡ or_unfinished done }
 {
     match done {
@@ -152,7 +156,7 @@ struct Settling<'a, S> {
     swap: &'a Swap,
 }
 
-impl<S: Eprint + AllocGlobal, F: Stores> Actor<F> for Settling<'_, S> {
+impl<S: Voice + AllocGlobal, F: Stores> Actor<F> for Settling<'_, S> {
     type Out = bool;
 
     ghost acts = { λ settling. IsSettled F.made settling.swap.now };
@@ -166,19 +170,23 @@ impl<S: Eprint + AllocGlobal, F: Stores> Actor<F> for Settling<'_, S> {
 fn first_journal<F: Stores>(
     alloc: Global,
     stores: &F,
-    swap: &Swap,
-) -> Result<Option<String>, Failure> {
-    for name in swap.names() {
-        let journal = journal_of(alloc, name)?;
-        if stores.has(&journal) {
-            return Ok(Some(journal));
-        }
+    names: &[String],
+) -> Result<Option<String>, Failure>
+    ensures { IfOk result (λ at. IsFirstJournal F.saw stores.now names.now (option_map (λ it. string_bytes it) at)) }
+{
+    let [name, more @ ..] = names else {
+        return Ok(None);
+    };
+    let journal = journal_of(alloc, name)?;
+    if stores.has(&journal) {
+        Ok(Some(journal))
+    } else {
+        first_journal(alloc, stores, more)
     }
-    Ok(None)
 }
 
 /// Brings a swap to its end, or takes it back. Whether the new files have taken the places of the old ones.
-pub(crate) fn settle<S: Eprint + AllocGlobal, F: Stores>(
+pub(crate) fn settle<S: Voice + AllocGlobal, F: Stores>(
     system: &S,
     stores: &mut F,
     swap: &Swap,
@@ -186,7 +194,7 @@ pub(crate) fn settle<S: Eprint + AllocGlobal, F: Stores>(
     ensures { IfOk result (IsSettled F.made swap.now stores.old stores.new) }
 {
     let settling = Settling { system, swap };
-    match first_journal(system.alloc(), stores, swap)? {
+    match first_journal(system.alloc(), stores, swap.names())? {
         Some(journal) => stores
             .alone(&journal, settling)
             .map_err(|failure| say_refused(system, &journal, failure)),
@@ -195,7 +203,7 @@ pub(crate) fn settle<S: Eprint + AllocGlobal, F: Stores>(
 }
 
 /// Exchanges files: each journal is written first, and from then on the swap goes on to its end.
-pub(crate) fn exchange<S: Eprint + AllocGlobal, F: Stores>(
+pub(crate) fn exchange<S: Voice + AllocGlobal, F: Stores>(
     system: &S,
     stores: &mut F,
     swap: &Swap,
@@ -216,7 +224,9 @@ pub(crate) fn found<F: Stores>(
     alloc: Global,
     stores: &F,
     name: &str,
-) -> Result<Option<Swap>, Failure> {
+) -> Result<Option<Swap>, Failure>
+    ensures { IfOk result (λ swap. IsFound F.saw stores.now name.now swap) }
+{
     const BAD: Failure = Failure::Store(StoreFault::BadJournal);
     let text = match stores.text(alloc, &journal_of(alloc, name)?) {
         Ok(Some(text)) => text,
@@ -239,13 +249,17 @@ fn is_free<F: Stores>(
     stores: &F,
     names: &[String],
     number: u32,
-) -> Result<bool, Failure> {
-    for name in names {
-        if stores.has(&kept_of(alloc, name, number)?) {
-            return Ok(false);
-        }
+) -> Result<bool, Failure>
+    ensures { IfOk result (λ is_free. IsTrue is_free → AreFree F.saw stores.now number names.now) }
+{
+    let [name, more @ ..] = names else {
+        return Ok(true);
+    };
+    if stores.has(&kept_of(alloc, name, number)?) {
+        Ok(false)
+    } else {
+        is_free(alloc, stores, more, number)
     }
-    Ok(true)
 }
 
 /// The least number under which no old file of these names is kept.
@@ -253,7 +267,9 @@ pub(crate) fn free_number<F: Stores>(
     alloc: Global,
     stores: &F,
     names: &[String],
-) -> Result<u32, Failure> {
+) -> Result<u32, Failure>
+    ensures { IfOk result (λ number. AreFree F.saw stores.now number names.now) }
+{
     for number in 1..MOST {
         if is_free(alloc, stores, names, number)? {
             return Ok(number);
@@ -267,7 +283,10 @@ pub(crate) fn free_aside<F: Stores>(
     alloc: Global,
     stores: &F,
     name: &str,
-) -> Result<String, Failure> {
+) -> Result<String, Failure>
+    ensures { IfOk result (λ aside. F.saw stores.now (Has (string_bytes aside) false)
+        × ((number : ℕ) × (string_bytes aside ≡ aside_at name.now number))) }
+{
     for number in 1..MOST {
         let aside = aside_of(alloc, name, number)?;
         if !stores.has(&aside) {

@@ -30,7 +30,7 @@ pub enum Start {
 pub struct Asked {
     pub task: Task,
     /// The names of the records: one of a run or a table, one or none of a check, one at least of a replacement or a
-    /// mend.
+    /// mend, any of a clear.
     pub records: Vec<String>,
     /// The blocks of other controllers.
     pub others: Vec<Block>,
@@ -55,6 +55,8 @@ pub enum Task {
     Replace(Replacement),
     /// Gear that share a short address are to be told apart.
     Mend(Mend),
+    /// All gear are to lose their short addresses, and the files of records are put aside.
+    Clear,
 }
 
 /// How gear are to be given short addresses.

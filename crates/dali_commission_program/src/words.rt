@@ -5,7 +5,7 @@ ghost use Rattle.std.specs.List.{list_any};
 ghost use Rattle.dali_words.specs.Lines.{values_of};
 ghost use Rattle.dali_commission_program.specs.Words.{IsShort, IsBlock, AddsSpelled, value_of, first_of, meets};
 ghost use Rattle.dali_commission_program.specs.Words.{IsStart, IsSetup, IsForm, IsOnlyBlock, IsReplacement};
-ghost use Rattle.dali_commission_program.specs.Words.{IsTask, IsAsked, AreNamed, IsMend};
+ghost use Rattle.dali_commission_program.specs.Words.{IsTask, IsAsked, AreNamed, IsMend, Has};
 
 use crate::tasks::{Asked, Mend, Replacement, Setup, Start, TableForm, Task};
 use dali_frame::Short;
@@ -66,6 +66,14 @@ without random address. It asks all short addresses first. It refuses and change
 them, or if another luminaire of a table does not answer. The luminaire that a table has keeps its short address, and
 no luminaire with another one loses it. At the end it enrols gear in the first file of records, as a run does. You may
 stop it at any moment: the same line, or a run, goes on.";
+
+const CLEAR: &str = "\
+Takes the short addresses of all gear on the bus away. Scenes, groups and levels stay, and so do random addresses.
+
+Each file of records that is named and not empty is put aside first, as FILE.before-1 and so on: it would be wrong. Then
+all gear are initialised, searched by their random addresses, and lose their short addresses, until none answers at any.
+On a terminal it asks for a word, which you type in full; a script says --yes. At the end it says which gear still
+answer. You may stop it at any moment: the same line goes on. A run then begins anew.";
 
 const DRIVER: Word = Word {
     name: "driver",
@@ -251,6 +259,25 @@ const MEND_WORDS: &[Word] = &[
     },
 ];
 
+const CLEAR_WORDS: &[Word] = &[
+    Word {
+        name: "records",
+        value: "FILE",
+        help: "A file of the records, which is put aside; may be given again",
+        kind: WordKind::Again,
+    },
+    Word {
+        name: "yes",
+        value: "",
+        help: "All gear are to lose their short addresses: no word is asked for",
+        kind: WordKind::Flag,
+    },
+    DRIVER,
+    DRIVER_TIMEOUT,
+    QUIET,
+    JSON,
+];
+
 const SUBCOMMANDS: &[Subcommand] = &[
     Subcommand {
         name: "run",
@@ -293,6 +320,13 @@ const SUBCOMMANDS: &[Subcommand] = &[
         long_about: Some(MEND),
         after_help: None,
         words: MEND_WORDS,
+    },
+    Subcommand {
+        name: "clear",
+        about: "Takes the short addresses of all gear away",
+        long_about: Some(CLEAR),
+        after_help: None,
+        words: CLEAR_WORDS,
     },
 ];
 
@@ -522,6 +556,20 @@ fn mend(alloc: Global, line: &CommandLine, others: &[Block]) -> Result<Mend, Lin
     })
 }
 
+/// What is asked for by `clear`, if its word is there.
+fn clear(alloc: Global, line: &CommandLine) -> Result<Task, LineFault>
+    ensures { IfOk result (λ task. (task ≡ Task.Clear) × Has (codes "yes") line.now.values.items) }
+{
+    if line.has("yes") {
+        Ok(Task::Clear)
+    } else {
+        conflict(
+            alloc,
+            "all gear would lose their short addresses: type the word that is asked for, or say --yes",
+        )
+    }
+}
+
 fn form(line: &CommandLine) -> TableForm
     ensures { IsForm line.now.values.items result }
 {
@@ -550,6 +598,7 @@ fn task_of(
         "table" => Ok(Task::Table(form(line))),
         "replace" => Ok(Task::Replace(replacement(alloc, line, files)?)),
         "mend" => Ok(Task::Mend(mend(alloc, line, others)?)),
+        "clear" => clear(alloc, line),
         _ => no_task(alloc),
     }
 }

@@ -72,42 +72,37 @@ fn asking() -> [Putting; 10]
 fn asking_beside(random: Random24) -> [Putting; 14]
     ensures { result ≡ asking_beside random }
 {
-    let (first, later) = (Priority::FIRST, Priority::LATER);
+    let later = Priority::LATER;
+    let high = Command::SearchHigh(random.high());
+    let middle = Command::SearchMiddle(random.middle());
+    let low = Command::SearchLow(random.low());
+    let [
+        end,
+        once,
+        twice,
+        byte,
+        low_byte,
+        bytes,
+        ask,
+        again,
+        last,
+        over,
+    ] = asking();
     [
-        put_so(first, Command::Terminate, Half::Whole, false),
-        put_so(
-            later,
-            Command::Initialise(Target::Unaddressed),
-            Half::First,
-            false,
-        ),
-        put_so(
-            later,
-            Command::Initialise(Target::Unaddressed),
-            Half::Second,
-            false,
-        ),
-        put_so(
-            first,
-            Command::SearchHigh(random.high()),
-            Half::Whole,
-            false,
-        ),
-        put_so(
-            later,
-            Command::SearchMiddle(random.middle()),
-            Half::Whole,
-            false,
-        ),
-        put_so(later, Command::SearchLow(random.low()), Half::Whole, false),
+        end,
+        once,
+        twice,
+        put_so(Priority::FIRST, high, Half::Whole, false),
+        put_so(later, middle, Half::Whole, false),
+        put_so(later, low, Half::Whole, false),
         put_so(later, Command::Withdraw, Half::Whole, false),
-        put_so(first, Command::SearchHigh(0xFF), Half::Whole, false),
-        put_so(later, Command::SearchLow(0xFF), Half::Whole, false),
-        put_so(later, Command::SearchMiddle(0xFF), Half::Whole, false),
-        put_so(later, Command::Compare, Half::Whole, true),
-        put_so(later, Command::Compare, Half::Whole, true),
-        put_so(later, Command::Compare, Half::Whole, true),
-        put_so(first, Command::Terminate, Half::Whole, false),
+        byte,
+        low_byte,
+        bytes,
+        ask,
+        again,
+        last,
+        over,
     ]
 }
 

@@ -17,10 +17,14 @@ byte_at db n = slice_index_or db n 0
 abbrev pub has_log : List ℕ → Bool
 has_log db = byte_at db 18 == 2 && byte_at db 19 == 2
 
--- no other program has set the user version
+-- its user version was never set
 abbrev pub has_no_version : List ℕ → Bool
 has_no_version db =
     byte_at db 60 == 0 && (byte_at db 61 == 0 && (byte_at db 62 == 0 && byte_at db 63 == 0))
+
+-- A LATER FORM of the store sets the user version, as another program may.
+abbrev pub is_newer : List ℕ → Bool
+is_newer db = is_database db && not (has_no_version db)
 
 -- A FILE OF RECORDS has such a header.
 abbrev pub is_header_of_records : List ℕ → Bool

@@ -1,14 +1,15 @@
 //! A copy of a file of records, in memory: whether it is one, and what it holds.
 
-ghost use Rattle.std.specs.Prelude.{◌≡◌, ◌==◌, ◌&&◌, List, true, IsTrue, IfOk, OnOk};
+ghost use Rattle.std.specs.Prelude.{◌≡◌, ◌==◌, ◌&&◌, List, true, IsTrue, IfOk, Err, OnOk};
 ghost use Rattle.sqlite.specs.Files.{over_files, image_of};
 ghost use Rattle.sqlite.specs.Held.{state};
 ghost use Rattle.sqlite.specs.WalReads.{AreClean};
 ghost use Rattle.sqlite_disk.specs.Memory.{memory_bytes, memory_is_usable};
 ghost use Rattle.dali_script.specs.declared.records.Record.{Record};
+ghost use Rattle.dali_sqlite.specs.declared.copy.CopyError.TheVariants.{Newer};
 ghost use Rattle.dali_sqlite.specs.Files.{HoldRecords};
 ghost use Rattle.dali_sqlite.specs.Header.{byte_at, has_log, has_no_version, is_database, is_header_of_records};
-ghost use Rattle.dali_sqlite.specs.Header.{is_empty, may_be_records};
+ghost use Rattle.dali_sqlite.specs.Header.{is_empty, is_newer, may_be_records};
 ghost use Rattle.dali_sqlite.specs.Keep.{shown_by, block_of, IsSound};
 ghost use Rattle.dali_sqlite.specs.Stored.{Holds, IsUp};
 
@@ -43,6 +44,8 @@ pub(crate) const TABLE: &str = "CREATE TABLE record(
 pub enum CopyError {
     /// It is no database, or one of something else.
     Foreign,
+    /// It is a database whose user version was set: by a later form of the store, or by another program.
+    Newer,
     /// It is a database that is damaged.
     Damaged,
     /// There is too little memory.
@@ -81,6 +84,13 @@ fn has_no_version(db: &[u8]) -> bool
     ensures { result ≡ has_no_version db.now }
 {
     byte_at(db, 60) == 0 && byte_at(db, 61) == 0 && byte_at(db, 62) == 0 && byte_at(db, 63) == 0
+}
+
+/// Whether a file begins as one of a later form: a database whose user version was set.
+fn is_newer(db: &[u8]) -> bool
+    ensures { result ≡ is_newer db.now }
+{
+    is_database(db) && !has_no_version(db)
 }
 
 /// Whether a file begins as one of records: a database that is written by a log, whose user version was never set.
@@ -193,9 +203,10 @@ fn recovered<D: Disk + Drop>(alloc: Global, files: Files<D>) -> Result<Files<D>,
 /// A store over a copy of two files, the database's and its log, in memory, for a controller with this block. The
 /// bytes themselves stay as they are, whatever becomes of the copy.
 ///
-/// `Foreign` is answered of all that is no file of records: other bytes, a database that is not written by a log, whose
-/// user version was set, that has another table, index, view or trigger, or a table of this name in another form. Files
-/// that hold nothing, and what a making of a file left that was cut off, are files of records that have none.
+/// `Newer` is answered of a database whose user version was set, as a later form of the store does. `Foreign` is
+/// answered of all else that is no file of records: other bytes, a database that is not written by a log, that has
+/// another table, index, view or trigger, or a table of this name in another form. Files that hold nothing, and what a
+/// making of a file left that was cut off, are files of records that have none.
 pub fn open_copy(
     alloc: Global,
     db: &[u8],
@@ -203,11 +214,15 @@ pub fn open_copy(
     block: Block,
 ) -> Result<SqliteKeep<FileStore<Memory>>, CopyError>
     ensures ours { OnOk result (may_be_records db.now log.now ≡ true) }
+    ensures newer { is_newer db.now ≡ true → result ≡ Err Newer }
     ensures block { IfOk result (λ k. block_of k ≡ block) }
     ensures found { IfOk result (λ k. IsUp (shown_by over_files k) → (xs : List Record)
         → HoldRecords (record { log = log.now; db = db.now }) xs
         → IsSound over_files k × Holds (shown_by over_files k) xs) }
 {
+    if is_newer(db) {
+        return Err(CopyError::Newer);
+    }
     if !may_be_records(db, log) {
         return Err(CopyError::Foreign);
     }
@@ -217,6 +232,9 @@ pub fn open_copy(
     };
     let files = recovered(alloc, files)?;
     // The log may have set a version.
+    if is_newer(files.db.bytes()) {
+        return Err(CopyError::Newer);
+    }
     if !is_header_of_records(files.db.bytes()) {
         return Err(CopyError::Foreign);
     }

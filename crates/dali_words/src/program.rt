@@ -10,7 +10,7 @@ use clap::{Arg, ArgAction, Command};
 use std::alloc::{AllocError, Global};
 
 /// The version of all programs.
-const VERSION: &str = "0.2.0";
+const VERSION: &str = "0.3.0";
 
 /// What a value has to be.
 #[derive(Clone, Copy)]

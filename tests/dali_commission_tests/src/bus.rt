@@ -17,6 +17,8 @@ struct Wires {
     read: usize,
     /// How many frames more the driver takes; all if nothing is said.
     left: Option<u32>,
+    /// After how many frames the bus loses its power, so that silence is all that the driver hears.
+    fails: Option<u32>,
     frames: u32,
 }
 
@@ -36,6 +38,9 @@ impl Wires {
         }
         self.left = self.left.map(|left| left.saturating_sub(1));
         self.frames = self.frames.saturating_add(1);
+        if self.fails.is_some_and(|frames| self.frames > frames) {
+            return write!(self.answer, "silence\n");
+        }
         let draws = [self.draw(), self.draw(), self.draw(), self.draw()];
         let heard = self
             .row
@@ -60,6 +65,7 @@ impl Bus {
             answer: Vec::new(alloc),
             read: 0,
             left: None,
+            fails: None,
             frames: 0,
         }))
     }
@@ -81,6 +87,13 @@ impl Bus {
     pub fn limit(&self, left: Option<u32>) {
         if let Ok(mut wires) = self.0.try_borrow_mut() {
             wires.left = left;
+        }
+    }
+
+    /// After so many frames the bus loses its power.
+    pub fn fail(&self, frames: u32) {
+        if let Ok(mut wires) = self.0.try_borrow_mut() {
+            wires.fails = Some(frames);
         }
     }
 

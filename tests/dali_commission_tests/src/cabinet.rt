@@ -173,6 +173,8 @@ impl Cabinet {
 impl Stores for &Cabinet {
     ghost made = { λ _ _ _. Unit {0} };
 
+    ghost saw = { λ _ _. Unit {0} };
+
     fn has(&self, name: &str) -> bool {
         self.place(name).is_some()
     }

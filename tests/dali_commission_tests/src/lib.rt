@@ -8,6 +8,8 @@ mod bus;
 #[cfg(test)]
 mod cabinet;
 #[cfg(test)]
+mod clears;
+#[cfg(test)]
 mod conversations;
 #[cfg(test)]
 mod exchanges;

@@ -5,6 +5,7 @@ use super::cabinet::Cabinet;
 use super::exchanges::ends_over;
 use super::room::Room;
 use dali_commission_program::run_and_say;
+use dali_console::Failed;
 use dali_frame::Short;
 use std::process::Abort;
 
@@ -254,6 +255,25 @@ fn a_dead_bus_is_told(rt: HostRuntime) {
     }
     ends_over(&rt, MEND, &cabinet, &bus, 10, "no gear answered");
     assert!(rt; bus.frames() == 576);
+}
+
+/// The bus loses its power at a frame. What looks then like gear that are not there is told, or the survey gives up.
+#[test]
+fn a_bus_that_fails_on_the_way_is_told(rt: HostRuntime) {
+    let whole = Bus::with(rt.alloc(), &THREE);
+    ends_over(&rt, MEND, &Cabinet::new(rt.alloc()), &whole, 0, "");
+    let mut at = 550;
+    while at < whole.frames() - 9 {
+        let (cabinet, bus) = (Cabinet::new(rt.alloc()), Bus::with(rt.alloc(), &THREE));
+        bus.fail(at);
+        let room = Room::new(rt.alloc(), MEND, &bus);
+        let status = match run_and_say(&room, &mut &cabinet, false) {
+            Ok(()) => 0,
+            Err(failure) => failure.status(),
+        };
+        assert!(rt; status == 10 || status == 7);
+        at += 37;
+    }
 }
 
 /// Two gear with the random address of the table cannot be told apart, and the others are served all the same.

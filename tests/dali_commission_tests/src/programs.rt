@@ -38,6 +38,14 @@ fn answers<R: Abort + AllocGlobal>(rt: &R, first: &str, silent: u32) -> String {
     text
 }
 
+/// The same, and then a gear answers when it is asked whether any is there.
+fn answers_there<R: Abort + AllocGlobal>(rt: &R, first: &str, silent: u32) -> String {
+    let mut text = answers(rt, first, silent);
+    let end = "byte 12\nbyte 34\nbyte 56\nsilence\nsilence\nsilence\nsilence\nsilence\nsilence\n";
+    assert!(rt; text.push_str(end).is_ok());
+    text
+}
+
 const RUN: &[u8] = b"dali_commission run --records site.db 0-63";
 
 const FRESH: &[u8] = b"dali_commission run --records site.db --start fresh 0-63";
@@ -157,11 +165,20 @@ fn an_empty_bus_with_new_gear_alone_is_left_after_three_passes(rt: HostRuntime) 
 /// A gear that has short address 0 is asked in the first run, and named by the table in the second one.
 #[test]
 fn a_survey_enrols_who_tells_its_random_address(rt: HostRuntime) {
-    let told = answers(&rt, "byte 12\nbyte 34\nbyte 56\n", 412);
+    let told = answers_there(&rt, "byte 12\nbyte 34\nbyte 56\n", 412);
     let shelf = Shelf::of(&[]);
-    let said = "1 gear were enrolled, 1 are in the table; 415 frames\n";
-    ends(&rt, ONCE, &shelf, &told, (0, 415, said));
+    let said = "1 gear were enrolled, 1 are in the table; 424 frames\n";
+    ends(&rt, ONCE, &shelf, &told, (0, 424, said));
     assert!(rt; shelf.enrolled() == Some(1));
+}
+
+/// From some frame on the interface hears silence, since the bus has no power any more.
+#[test]
+fn a_bus_that_fails_on_the_way_is_told(rt: HostRuntime) {
+    let told = answers(&rt, "byte 12\nbyte 34\nbyte 56\n", 997);
+    ends(&rt, ONCE, &Shelf::of(&[]), &told, (10, 1000, NOBODY));
+    let left = answers(&rt, "byte 12\ndamaged\n", 782);
+    ends(&rt, ONCE, &Shelf::of(&[]), &left, (10, 784, NOBODY));
 }
 
 #[test]
@@ -173,8 +190,8 @@ fn a_survey_leaves_alone_who_does_not_tell_its_random_address(rt: HostRuntime) {
         ("byte FF\nbyte FF\nbyte FF\n", 206, 209),
     ] {
         let shelf = Shelf::of(&[]);
-        let heard = answers(&rt, first, silent);
-        ends(&rt, ONCE, &shelf, &heard, (13, lines, LEFT_ALONE));
+        let heard = answers_there(&rt, first, silent);
+        ends(&rt, ONCE, &shelf, &heard, (13, lines + 9, LEFT_ALONE));
         assert!(rt; shelf.enrolled() == Some(0));
     }
 }
@@ -199,13 +216,13 @@ fn nothing_is_begun_beside_new_gear_where_a_stranger_answers(rt: HostRuntime) {
         (1, 576, "0 123456 stranger\nWhat can be done:\n"),
     );
     let noise = "damaged\nsilence\nsilence\n";
-    let once = answers(&rt, noise, 603);
+    let once = answers_there(&rt, noise, 603);
     ends(
         &rt,
         FRESH,
         &Shelf::of(&[]),
         &once,
-        (0, 606, "0 gear were enrolled"),
+        (0, 615, "0 gear were enrolled"),
     );
     let thrice = answers(
         &rt,
@@ -411,7 +428,7 @@ fn what_a_check_found_is_an_object_of_json(rt: HostRuntime) {
 #[test]
 fn what_a_run_came_to_is_an_object_of_json(rt: HostRuntime) {
     let words = b"dali_commission run --records site.db --idle-passes 1 --json 0-63";
-    let heard = answers(&rt, "byte 12\nbyte 34\nbyte 56\ndamaged\n", 415);
+    let heard = answers_there(&rt, "byte 12\nbyte 34\nbyte 56\ndamaged\n", 409);
     let desk = Desk::new(rt.alloc(), words, &heard);
     assert!(rt; run_and_say(&desk, &mut &Shelf::of(&[]), false).is_ok());
     assert!(rt;

@@ -93,6 +93,8 @@ impl Shelf<'_> {
 impl Stores for &Shelf<'_> {
     ghost made = { λ _ _ _. Unit {0} };
 
+    ghost saw = { λ _ _. Unit {0} };
+
     fn has(&self, name: &str) -> bool {
         name == "site.db"
     }

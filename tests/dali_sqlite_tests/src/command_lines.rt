@@ -57,7 +57,7 @@ fn command_lines_are_answered(rt: HostRuntime) {
     for (words, written) in [
         (b"dali_sim --help".as_slice(), usage),
         (b"dali_sim --help".as_slice(), "The manual is README.md"),
-        (b"dali_sim --version".as_slice(), "dali_sim 0.2.0\n"),
+        (b"dali_sim --version".as_slice(), "dali_sim 0.3.0\n"),
         (
             b"dali_sim replay --help".as_slice(),
             "dali_sim replay < examples/plain-path.txt",

@@ -138,8 +138,8 @@ fn databases_of_something_else_are_foreign(rt: HostRuntime) -> Result<(), Fail> 
 #[test]
 fn other_headers_are_foreign(rt: HostRuntime) -> Result<(), Fail> {
     let files = made(rt.alloc(), &[TABLE, ROWS], Leaving::Closed)?;
-    // The first letter, the version that writes, the one that reads, and the last byte of the user version.
-    for (at, byte) in [(0, b'T'), (18, 1), (19, 1), (63, 99)] {
+    // The first letter, the version that writes, and the one that reads.
+    for (at, byte) in [(0, b'T'), (18, 1), (19, 1)] {
         let other = changed(rt.alloc(), files.db.bytes(), at, byte)?;
         same(
             &rt,
@@ -157,6 +157,28 @@ fn other_headers_are_foreign(rt: HostRuntime) -> Result<(), Fail> {
             &taken(rt.alloc(), text, b"")?,
             &Err(CopyError::Foreign),
         );
+    }
+    Ok(())
+}
+
+/// What a later version may have in its file, beside the user version.
+const LATER: [&[&str]; 2] = [
+    &[TABLE, ROWS],
+    &[TABLE, "CREATE TABLE block(first INTEGER, last INTEGER)"],
+];
+
+#[test]
+fn a_user_version_is_of_a_later_form(rt: HostRuntime) -> Result<(), Fail> {
+    for texts in LATER {
+        let files = made(rt.alloc(), texts, Leaving::Closed)?;
+        for at in [60, 61, 62, 63] {
+            let other = changed(rt.alloc(), files.db.bytes(), at, 1)?;
+            same(
+                &rt,
+                &taken(rt.alloc(), &other, b"")?,
+                &Err(CopyError::Newer),
+            );
+        }
     }
     Ok(())
 }

@@ -127,7 +127,7 @@ fn is_full<K: Keep>(rt: &impl Abort, keep: &mut K) -> Result<(), Fail> {
         &(kept.reserved().len(), kept.enrolled().len()),
         &(64, 64),
     );
-    same(rt, &kept.first_free().is_none(), &true);
+    same(rt, &kept.view().first_free().is_none(), &true);
     Ok(())
 }
 

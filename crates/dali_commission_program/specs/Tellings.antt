@@ -1,0 +1,113 @@
+use Rattle.std.specs.Prelude.{◌≡◌, ◌⊎◌, ℕ, Bool, true, false, List, [], ◌∷◌, Option, Some, None}
+use Rattle.std.specs.Prelude.{Result, Ok, Err, IfSome, length, string_bytes}
+use Rattle.std.specs.declared.alloc.Global.{Global}
+use Rattle.std.specs.declared.string.String.{String}
+use Rattle.std.specs.Borrow.{Bor}
+use Rattle.dali_script.specs.declared.block.Block.{Block}
+use Rattle.dali_script.specs.Records.{Kept}
+use Rattle.dali_commissioning.specs.declared.beginning.Begun.{Begun}
+use Rattle.dali_commissioning.specs.declared.beginning.Checked.{Checked}
+use Rattle.dali_commissioning.specs.declared.census.Reply.{Reply}
+use Rattle.dali_commissioning.specs.declared.conducting.PassEnd.{PassEnd}
+use Rattle.dali_commissioning.specs.declared.fault.CommissionFault.{CommissionFault}
+use Rattle.dali_commissioning.specs.Drivers.{Talk}
+use Rattle.dali_mending.specs.declared.course.Outcome.{Outcome}
+use Rattle.dali_mending.specs.Mending.{Mending, outcome_at}
+use Rattle.dali_commission_program.specs.declared.failure.Failure.{Failure}
+use Rattle.dali_commission_program.specs.declared.failure.Failure.TheVariants.{Shared}
+use Rattle.dali_commission_program.specs.declared.said.Said.{Said}
+use Rattle.dali_commission_program.specs.declared.said.Said.TheVariants as said
+use Rattle.dali_commission_program.specs.declared.tasks.Mend.{Mend}
+use Rattle.dali_commission_program.specs.declared.tasks.Task.{Task}
+use Rattle.dali_commission_program.specs.declared.tasks.Task.TheVariants as task
+use Rattle.dali_commission_program.specs.Came.{ComesTo, check_ended, check_said}
+use Rattle.dali_commission_program.specs.Mends.{mended_as}
+use Rattle.dali_commission_program.specs.Said.{AreTold, why_said}
+use Rattle.dali_commission_program.specs.Sharing.{refused_from, is_any_bare}
+use Rattle.dali_commission_program.specs.Settling.{kept_at}
+
+-- WHERE OLD FILES ARE KEPT is said of each; what is said is borrowed from what has these bytes
+abbrev pub KeptTold : (Said → Type 0) → List ℕ → List ℕ → Type 0
+KeptTold told name kept =
+    (at : Bor (List ℕ))
+    × (aside : Bor (List ℕ))
+    × (at.now ≡ name)
+    × (aside.now ≡ kept)
+    × told (said.KeptAs at aside)
+
+abbrev pub AreKeptTold : (Said → Type 0) → ℕ → List (String Global) → Type 0
+AreKeptTold told number [] = Unit {0}
+AreKeptTold told number (name ∷ more) =
+    KeptTold told (string_bytes name) (kept_at (string_bytes name) number)
+    × AreKeptTold told number more
+
+-- the end of an earlier call's swap
+abbrev pub FinishTold : (Said → Type 0) → ℕ → Bool → Type 0
+FinishTold told a true = told (said.Exchanged a)
+FinishTold told a false = told (said.TakenBack a)
+
+-- which gear has a short address now, by the first of its tables
+abbrev pub ConfirmedTold : (Said → Type 0) → ℕ → ℕ → List Kept → Type 0
+ConfirmedTold told a r [] = Unit {0}
+ConfirmedTold told a r (new ∷ more) = told (said.Replaced a r (length new.enrolled))
+
+-- WHY THE PROGRAM ENDED was said, if it did not end well and that needs to be said
+abbrev pub WhyTold : (Said → Type 0) → Result (Unit {0}) Failure → Option (Bor (List ℕ)) → Type 0
+WhyTold told (Ok done) records = Unit {0}
+WhyTold told (Err failure) records = IfSome (why_said failure records) told
+
+-- A CHECK THAT ENDED SO has said what it found
+abbrev pub HasChecked : (Said → Type 0) → List Block → Result (Unit {0}) Failure → Type 0
+HasChecked told others ended =
+    (found : Result Checked CommissionFault)
+    × (heard : Bool)
+    × (line : ℕ)
+    × (ended ≡ check_ended found others heard line)
+    × AreTold told (check_said found others)
+
+-- WHAT CAME OF EACH SHORT ADDRESS that was mended is said
+abbrev pub MendTold : (Said → Type 0) → ℕ → Option Outcome → Type 0
+MendTold told a None = Unit {0}
+MendTold told a (Some outcome) = told (said.Mended a outcome)
+
+abbrev pub AreMendsTold : (Said → Type 0) → List Mending → Type 0
+AreMendsTold told [] = Unit {0}
+AreMendsTold told (m ∷ more) =
+    MendTold told m.short (outcome_at m.course.stage) × AreMendsTold told more
+
+-- A RUN THAT ENDED SO has said what it came to
+abbrev pub HasRun : (Said → Type 0) → List Block → Result (Unit {0}) Failure → Type 0
+HasRun told others ended =
+    (before : Kept)
+    × (begun : Result Begun CommissionFault)
+    × (x : Talk)
+    × (y : Talk)
+    × (lines : List Said)
+    × ComesTo before others begun x y lines ended
+    × AreTold told lines
+
+-- A MEND THAT ENDED WELL has asked each short address and was not refused by what was heard; all
+-- gear were told apart, and it has said what came of each address
+abbrev pub HasMended : (Said → Type 0) → List Block → Mend → Type 0
+HasMended told others wanted =
+    (table : Kept)
+    × (replies : List Reply)
+    × (ms : List Mending)
+    × (refused_from table others wanted 0 replies ≡ None)
+    × (is_any_bare ms ≡ false)
+    × ((pass : PassEnd) × (found : Bool) × (mended_as pass.ended found pass.heard ms ≡ Ok tt))
+    × AreMendsTold told ms
+
+-- WHAT ENDED WELL has said what it came to, by the task
+abbrev pub HasRunWell : (Said → Type 0) → List Block → Bool → Type 0
+HasRunWell told others mends =
+    HasRun told others (Ok tt) ⊎ ((mends ≡ true) × HasRun told others (Err Shared))
+
+abbrev pub HasDone : (Said → Type 0) → List Block → Task → Type 0
+HasDone told others (task.Run setup) = HasRunWell told others setup.mends
+HasDone told others task.Check = HasChecked told others (Ok tt)
+HasDone told others (task.Identify a) = Unit {0}
+HasDone told others (task.Table form) = Unit {0}
+HasDone told others (task.Replace wanted) = Unit {0}
+HasDone told others (task.Mend wanted) = HasMended told others wanted
+HasDone told others task.Clear = Unit {0}
