@@ -19,7 +19,6 @@ BARE = ROOT / "tools/lib/bare"
 EXAMPLE = ROOT / "examples" / "c"
 FIRMWARE = ROOT / "examples" / "firmware"
 INCLUDE = ROOT / "include"
-PLACE = ROOT / "out" / "firmware"
 MOST_SECONDS = 1800
 BOARD = ["qemu-system-arm", "-nographic", "-monitor", "none", "-serial", "none"]
 BOARD += ["-chardev", "stdio,id=said", "-semihosting-config", "enable=on,target=native,chardev=said"]
@@ -67,6 +66,8 @@ TARGETS = {
     "riscv32": Target("riscv32-unknown-elf", ["-march=rv32imac", "-mabi=ilp32"], *LINUX, ["qemu-riscv32"], "qemu-user"),
 }
 KIT = TARGETS["x86_64-linux"]
+# Every browser: what tools/web makes of dali_web.
+WASM = Target("wasm32-unknown-unknown", ["-mbulk-memory"], [], [], [])
 # What instructions are counted on: two of these, and a processor between them.
 MEASURED = {
     "thumbv6m": bare("thumbv6m-none-eabi", "mps2-an385", *COUNTED),
@@ -115,22 +116,26 @@ def kit_tool(name: str, *words: str | pathlib.Path) -> str:
 # The library as LLVM reads it.
 
 
-def built_module(title: str) -> tuple[pathlib.Path, str]:
-    """The library as the kit hands it to its clang, and the kit's own bound of the stack; proved and made where it is
-    missing or older than its sources. Beside it stands the library that the kit builds, `built.a`."""
-    crate, kit = proving.workspace()["dali_c"], proving.kit()
-    module, kept = PLACE / "module.bc", PLACE / "kept"
-    if not (kept.is_file() and kept.read_text().startswith(f"{kit}\n") and is_newest(crate, kept)):
+def place_of(name: str) -> pathlib.Path:
+    """Where a static library is kept: as the kit hands it to its clang, and as the kit builds it, `built.a`."""
+    return ROOT / "out" / name
+
+
+def built_module(title: str, name: str = "dali_c") -> pathlib.Path:
+    """A static library as the kit hands it to its clang; proved and made if it is missing or older than its sources."""
+    crate, kit, place = proving.workspace()[name], proving.kit(), place_of(name)
+    kept = place / "kept"
+    if not (kept.is_file() and kept.read_text() == f"{kit}\n" and is_newest(crate, kept)):
         if proving.build(title, [it.name for it in crate.below]) != 0:
-            raise Failed("the crates below dali_c are not proved")
-        shutil.rmtree(PLACE, ignore_errors=True)
-        PLACE.mkdir(parents=True)
+            raise Failed(f"the crates below {name} are not proved")
+        shutil.rmtree(place, ignore_errors=True)
+        place.mkdir(parents=True)
         begun = time.time()
-        bound = make_module(title, crate)
+        make_module(title, crate)
         if crate.is_edited(begun):
-            raise Failed("dali_c was edited while it was proved: run this again")
-        kept.write_text(f"{kit}\n{bound}")
-    return module, kept.read_text().partition("\n")[2]
+            raise Failed(f"{name} was edited while it was proved: run this again")
+        kept.write_text(f"{kit}\n")
+    return place / "module.bc"
 
 
 def is_newest(crate: proving.Crate, kept: pathlib.Path) -> bool:
@@ -139,16 +144,31 @@ def is_newest(crate: proving.Crate, kept: pathlib.Path) -> bool:
     return all(file.stat().st_mtime <= kept.stat().st_mtime for file in sources)
 
 
-def make_module(title: str, crate: proving.Crate) -> str:
-    """Proves the library, and has both back ends build it. The bound of the stack that the kit tells."""
-    rattle, words = [f"{proving.kit_folder()}/bin/rattle"], [*proving.read_words(crate), "--crate-type", "staticlib"]
-    proving.say(f"{title}: proving dali_c")
-    jobs = proving.proof_words(crate, min(proving.processors(), 4))
-    run([*rattle, "check", *words, *jobs, "-o", PLACE / "checked"], cwd=crate.folder)
-    words += ["--crate-checked", PLACE / "checked", "--toolchain", toolchain(PLACE)]
-    run([*rattle, "build", *words, "-o", PLACE / "built.a"], cwd=crate.folder)
-    built = [*rattle, "build", *words, "-o", PLACE / "other.a", "--backend", "rattle"]
-    told = BOUND.search(run(built, cwd=crate.folder, stderr=subprocess.STDOUT))
+def static_words(crate: proving.Crate) -> list[str]:
+    return [*proving.read_words(crate), "--crate-type", "staticlib"]
+
+
+def build_words(crate: proving.Crate) -> list[str | pathlib.Path]:
+    """The call of the kit that builds a library which is proved."""
+    place = place_of(crate.name)
+    checked = ["--crate-checked", place / "checked", "--toolchain", toolchain(place)]
+    return [f"{proving.kit_folder()}/bin/rattle", "build", *static_words(crate), *checked]
+
+
+def make_module(title: str, crate: proving.Crate) -> None:
+    """Proves a library, and has the kit build it."""
+    place, jobs = place_of(crate.name), proving.proof_words(crate, min(proving.processors(), 4))
+    proving.say(f"{title}: proving {crate.name}")
+    run([f"{proving.kit_folder()}/bin/rattle", "check", *static_words(crate), *jobs, "-o", place / "checked"], cwd=crate.folder)
+    run([*build_words(crate), "-o", place / "built.a"], cwd=crate.folder)
+
+
+def stack_bound(title: str) -> str:
+    """The bound of the stack that the kit's other back end tells of the library for C, if it does."""
+    built_module(title)
+    crate = proving.workspace()["dali_c"]
+    words = [*build_words(crate), "-o", place_of(crate.name) / "other.a", "--backend", "rattle"]
+    told = BOUND.search(run(words, cwd=crate.folder, stderr=subprocess.STDOUT))
     return f"at most {int(told[2]):,}, with frames of at most {int(told[1]):,}" if told else ""
 
 
@@ -180,9 +200,9 @@ def laid_out(text: str, line: str) -> str:
     """LLVM's text with another layout of data, in which all lies in memory as it did."""
     ours = re.search(r"^target datalayout = .*$", text, re.M)[0]
     wide, narrow = (layouts.layout(it.split('"')[1]) for it in (ours, line))
-    if narrow.pointer < wide.pointer:
-        text = layouts.widened(text, wide)
     try:
+        if narrow.pointer < wide.pointer:
+            text = layouts.widened(text, wide)
         layouts.judge(text, wide, narrow)
     except layouts.Refused as refused:
         raise Failed(f"the library cannot be laid out for another processor: {refused}") from None
@@ -228,9 +248,9 @@ def library(
 
 def archive(target: Target, folder: pathlib.Path) -> pathlib.Path:
     """The library for a processor as an archive, the kit's own for that of the kit. The same sources give the same bytes."""
-    module, _ = built_module("targets")
+    module = built_module("targets")
     if target is KIT:
-        return PLACE / "built.a"
+        return place_of("dali_c") / "built.a"
     made = folder / "libdali_c.a"
     kit_tool("llvm-ar", "rcsD", made, library(target, module, folder))
     return made
