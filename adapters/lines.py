@@ -7,7 +7,6 @@ import argparse
 import collections.abc
 import os
 import re
-import socket
 import sys
 import time
 
@@ -63,13 +62,13 @@ def serve(send: collections.abc.Callable[[int, bytes, bool, int], str]) -> None:
         tell(told)
 
 
-def alone(what: str) -> socket.socket:
-    """Has an interface alone on this computer, as long as what is given back is there: a late line of another run is not sent in this one."""
-    lock, until = socket.socket(socket.AF_UNIX), time.monotonic() + PATIENCE
+def alone(what: str, lock: collections.abc.Callable[[], object]) -> None:
+    """Has an interface alone: a late line of another run is not sent in this one. `lock` fails as long as another driver has it."""
+    until = time.monotonic() + PATIENCE
     while True:
         try:
-            lock.bind(f"\0dali {what}")
-            return lock
+            lock()
+            return
         except OSError as why:
             if time.monotonic() > until:
                 raise Fault(f"{what} is in use by another driver") from why

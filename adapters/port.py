@@ -34,6 +34,7 @@ class Port:
             self.file = os.open(device, os.O_RDWR | os.O_CLOEXEC)
         except OSError as why:
             raise self.fault(why) from why
+        lines.alone(device, lambda: fcntl.flock(self.file, fcntl.LOCK_EX | fcntl.LOCK_NB))
         for request, value in ((WRITE_MODE, struct.pack("=B", MODE)), (WRITE_BITS, struct.pack("=B", BITS)), (WRITE_SPEED, struct.pack("=I", speed))):
             self.call(request, bytearray(value))
 

@@ -6,6 +6,8 @@ All times are microseconds; those of the bus are from memory, as docs/VENDOR.md 
 import typing
 
 import lines
+from library import Library
+from port import Port
 from samples import HALF, Samples, at_least, micros
 
 RANDOMISE, PRESENT = b"\xA7\x00", b"\xFF\x91"
@@ -27,31 +29,6 @@ PATIENCE, DEAD = 2_000_000, 500_000
 MANY = 50
 # The lengths in bytes by which the clock is measured, and by which part it may be wrong.
 SHORT, LONG, TRIES, PART = 32, 1056, 3, 100
-
-
-class Port(typing.Protocol):
-    """What is asked of a port, as port.Port has it."""
-
-    device: str
-
-    def now(self) -> int: ...
-
-    def transfer(self, out: bytes) -> tuple[bytes, int, int]: ...
-
-
-class Reader(typing.Protocol):
-    """What is asked of the library, as library.Library has it."""
-
-    def levels(self, frame: bytes) -> list[bool]: ...
-
-    def heard(self, edges: list[tuple[bool, int]], last: int) -> tuple[str, int]: ...
-
-
-class First(typing.NamedTuple):
-    """The first frame of a pair, and when it was begun at the earliest."""
-
-    frame: bytes
-    begun: int
 
 
 def framed(halves: list[bool], is_question: bool, speed: int) -> Samples:
@@ -80,7 +57,8 @@ class Ear:
         raw, begun, ended = self.port.transfer(out.packed(self.inverted[0]))
         heard, length = Samples.read(raw, self.inverted[1]), micros(out.count, self.speed)
         if self.is_measured and (ended - begun) * PART < length * (PART - 1):
-            self.refuse_clock(out.count * 1_000_000 / max(ended - begun, 1))
+            self.is_measured = False
+            self.refuse_clock(self.clock())
         is_deaf = ended - length - self.until > DEAF
         self.is_lost |= is_deaf
         known = 0 if is_deaf else self.rest + max(begun - self.ended, 0)
@@ -113,20 +91,20 @@ class Ear:
         return heard
 
     def clock(self) -> float:
-        """How many samples the port takes in a second, by transfers of unlike length."""
+        """How many samples the port takes in a second, by transfers of unlike length. It refuses a wrong clock."""
         took = []
         for count in (8 * SHORT, 8 * LONG):
-            for _ in range(TRIES):
-                self.exchange(Samples(count, False, []))
-            took.append(micros(count, self.speed) + self.least[count])
-        return 8 * (LONG - SHORT) * 1_000_000 / (took[1] - took[0])
-
-    def measure(self) -> float:
-        """Measures the clock, and how long a transfer with a frame takes. It refuses a wrong clock."""
-        found = self.clock()
+            late = min([self.exchange(Samples(count, False, []))[1] for _ in range(TRIES)])
+            took.append(micros(count, self.speed) + self.least[count] + late)
+        found = 8 * (LONG - SHORT) * 1_000_000 / (took[1] - took[0])
         if abs(found - self.speed) * PART > self.speed:
             self.refuse_clock(found)
-        self.is_measured = True
+        self.is_lost = True
+        return found
+
+    def measure(self) -> float:
+        """Measures the clock, and how long a transfer with a frame takes."""
+        found, self.is_measured = self.clock(), True
         for is_question in (False, True):
             for _ in range(TRIES):
                 self.exchange(framed([False] * MOST_HALVES, is_question, self.speed))
@@ -147,32 +125,39 @@ class Ear:
 
 
 class Driver:
-    """Sends frames, and tells what came of them."""
+    """Sends frames, and tells what came of them.
 
-    def __init__(self, ear: Ear, reader: Reader) -> None:
-        self.ear, self.reader, self.first, self.not_before = ear, reader, None, 0
+    first  the first frame of a pair, and when it was begun at the earliest, or None
+    slow   how many frames took much longer, one after the other
+    """
+
+    def __init__(self, ear: Ear, reader: Library) -> None:
+        self.ear, self.reader, self.first, self.not_before, self.slow = ear, reader, None, 0, 0
 
     def wave(self, frame: bytes, is_question: bool) -> Samples:
         return framed(self.reader.levels(frame), is_question, self.ear.speed)
 
     def send(self, priority: int, frame: bytes, is_question: bool, half: int) -> str:
         """Sends a frame, and tells what came of it, as docs/ADAPTERS.md has it."""
-        ear, first, self.first = self.ear, self.first, None
-        if half == 2 and (not first or first.frame != frame) or not ear.settle(priority, self.not_before):
+        ear, (first, since), self.first = self.ear, self.first or (b"", 0), None
+        if half == 2 and first != frame or not ear.settle(priority, self.not_before):
             return lines.LAPSED
         begun, wave = ear.port.now(), self.wave(frame, is_question)
-        if half == 2 and begun + FRAME + micros(LEAD, ear.speed) - first.begun > PAIR:
+        if half == 2 and begun + FRAME + micros(LEAD, ear.speed) - since > PAIR:
             return lines.LAPSED
         heard, late = ear.exchange(wave)
         ear.is_lost = False
         over = ear.ended - micros(wave.count - LEAD, ear.speed) + FRAME
         if half == 2 and frame == RANDOMISE:
             self.not_before = over + DRAW
-        if late > LATE or not heard.has(wave, ear.speed) or half == 2 and over - first.begun > PAIR:
+        self.slow = self.slow + 1 if late * PART > micros(wave.count, ear.speed) else 0
+        if self.slow == TRIES:
+            ear.clock()
+        if late > LATE or not heard.has(wave, ear.speed) or half == 2 and over - since > PAIR:
             return lines.DESTROYED
         told = self.told(heard, len(wave.edges), is_question)
         if half == 1 and told == lines.SILENCE:
-            self.first = First(frame, begun)
+            self.first = frame, begun
         return told
 
     def told(self, heard: Samples, own: int, is_question: bool) -> str:
@@ -191,7 +176,7 @@ def rows(found: float, ear: Ear, driver: Driver) -> typing.Iterator[tuple[bool, 
     heard = ear.listen(PAIR)
     yield heard.is_quiet, "the bus is at rest" if heard.is_quiet else f"the bus is not at rest: {len(heard.edges)} edges in 100 ms"
     if not ear.settle(max(SETTLING), 0):
-        yield False, "the bus does not become free"
+        yield False, "the bus does not become free. Or --inverted-out is wrong"
         return
     wave = driver.wave(PRESENT, True)
     heard, _ = ear.exchange(wave)

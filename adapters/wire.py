@@ -207,6 +207,10 @@ class Wire:
         def moment(sample):
             return begin + sample * tick + (longer if sample >= at else 0)
 
+        def sample(time):
+            early = max(0, math.ceil((time - begin) / tick - 0.5))
+            return min(out.count, early if early < at else max(at, math.ceil((time - begin - longer) / tick - 0.5)))
+
         edges = [0, *out.edges] if out.is_low else out.edges
         ends = [*edges, out.count] if len(edges) % 2 else edges
         lows = [Low(moment(one) + self.delays[0], moment(other) + self.delays[1]) for one, other in zip(ends[::2], ends[1::2])]
@@ -214,16 +218,16 @@ class Wire:
         self.disturb(self.last, end, lows[0].begin if lows else None)
         self.drive(lows)
         self.run(end + self.chosen.delay)
-        found = self.sampled(out.count, moment, tick)
+        found = self.sampled(out.count, sample)
         self.past, self.last = [it for it in self.past if it.end > end - STOP], end
         self.now = end + (self.chance.uniform(*SELDOM) if self.happens(self.chosen.late) else 0)
         return found
 
-    def sampled(self, count: int, moment: typing.Callable[[int], float], tick: float) -> Samples:
-        """The samples of a transfer: each is taken in the middle of its bit."""
+    def sampled(self, count: int, sample: typing.Callable[[float], int]) -> Samples:
+        """The samples of a transfer. `sample` is the first of them whose middle is not before a time, or `count`."""
         late, early = self.delays[2:]
         them = [Low(it.begin + late, it.end + early) for it in merged([*self.past, *self.pending])]
-        edges = [first_after(it - tick / 2, count, moment, tick) for low in merged([it for it in them if it.begin < it.end]) for it in low]
+        edges = [sample(it) for low in merged([it for it in them if it.begin < it.end]) for it in low]
         edges = [it for at, it in enumerate(edges) if it != edges[at ^ 1]]
         is_low = sum(it <= 0 for it in edges) % 2 == 1
         return Samples(count, is_low, [it for it in edges if 0 < it < count])
@@ -236,18 +240,6 @@ class Wire:
         """What is still on the bus, and the end of the trace."""
         self.run(math.inf)
         self.trace.end(max(self.now, self.past[-1].end if self.past else 0) + STOP)
-
-
-def first_after(time: float, count: int, moment: typing.Callable[[int], float], tick: float) -> int:
-    """The first sample that is not before a time: 0 if each is after it, and `count` if none is."""
-    begin, end = 0, count
-    guess = int((time - moment(0)) / tick)
-    if 0 <= guess < count and moment(guess) < time <= moment(guess + 1):
-        return guess + 1
-    while begin < end:
-        middle = (begin + end) // 2
-        begin, end = (begin, middle) if moment(middle) >= time else (middle + 1, end)
-    return begin
 
 
 def add_words(options: argparse.ArgumentParser) -> None:
