@@ -27,6 +27,8 @@ PLACES = {
     "yolgibat.svg": "usr/share/icons/hicolor/scalable/apps/yolgibat.svg",
     "overrides": "usr/share/lintian/overrides/yolgibat",
 }
+# The same, for the page on which scripts are played, if that was made.
+PAGE = {"doc-base": "usr/share/doc-base/yolgibat.yolgibat"}
 SCRIPTS = ("postinst", "prerm", "postrm")
 # A folder for the settings of a site, which is empty.
 SETTINGS = "etc/yolgibat"
@@ -83,9 +85,10 @@ def files(made: dict[str, bytes], said: str) -> Files:
     for name, text in completions.scripts().items():
         shell, _, file = name.partition("/")
         found[f"{SHELLS[shell]}/{file}"] = Entry(text.encode())
-    packaged = program_files.PACKAGED
-    found |= {place: Entry((packaged / name).read_bytes(), name == "nightly") for name, place in PLACES.items() if (packaged / name).stat().st_size}
-    return found
+        # A shell looks for a file that is named as the command, also by its old name. zsh finds both in one file.
+        found |= {f"{SHELLS[shell]}/{file.replace('-', '_')}": Entry(leads_to=file)} if shell != "zsh" else {}
+    places = PLACES | (PAGE if program_files.TRY.name in read else {})
+    return found | {place: Entry((program_files.PACKAGED / name).read_bytes(), name == "nightly") for name, place in places.items()}
 
 
 def libc(made: dict[str, bytes]) -> str:

@@ -24,6 +24,7 @@ WORDS = {
         "dali_commission-table.txt": ["table", "--help"],
         "dali_commission-replace.txt": ["replace", "--help"],
         "dali_commission-mend.txt": ["mend", "--help"],
+        "dali_commission-clear.txt": ["clear", "--help"],
         "dali_commission-version.txt": ["--version"],
     },
 }

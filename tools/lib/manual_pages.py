@@ -25,6 +25,7 @@ ABOUT = {
 FILES = {
     "site.db": "the records of a controller: which gear has which short address",
     "site.names.json": "beside them, where each luminaire hangs",
+    "site.marks.json": "beside them, what is to be looked at on the page",
     "site.db.page": "beside them, the address of the page that was served last",
     "/etc/yolgibat/NAME.toml": "the buses that yolgibat-check@NAME.timer checks each night, once it is enabled",
     "/usr/lib/yolgibat/adapters": "drivers; in a --driver they may be named as adapters/NAME",
@@ -198,9 +199,9 @@ def paragraphs(markdown: str) -> str:
 
 def overview() -> str:
     """yolgibat(7): what it is, and what is promised."""
-    first = (ROOT / "README.md").read_text().partition("\n")[2].partition("\n![")[0]
+    first = spoken((ROOT / "README.md").read_text().partition("\n")[2].partition("\n![")[0])
     made = head("yolgibat", 7, "short addresses for DALI lighting, proved") + ".SH DESCRIPTION\n" + paragraphs(first)
-    made += ".SH COMMANDS\n" + "".join(f".TP\n.BR {escaped(it.replace('_', '-'))} (1)\n{about}\n" for it, about in ABOUT.items())
+    made += ".SH COMMANDS\n" + "".join(f".TP\n.BR {escaped(it.replace('_', '-'))} (1)\n{escaped(about)}\n" for it, about in ABOUT.items())
     made += ".SH PROMISE\n" + paragraphs(section("README.md", "What is promised"))
     made += ".SH FILES\n" + listed(list(FILES.items()))
     return made + ".SH SEE ALSO\n" + " ,\n".join(f".BR {escaped(it.replace('_', '-'))} (1)" for it in ABOUT) + "\n"

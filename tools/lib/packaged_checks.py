@@ -20,9 +20,24 @@ if typing.TYPE_CHECKING:
 
 PATH = "/usr/sbin:/usr/bin:/sbin:/bin"
 # For how many seconds a shell, or a command of a package, is waited for.
-WAIT = 300
+WAIT = 900
 SUITE = "bookworm"
 GEAR = 20
+DRIVER = f"adapters/simulated bus.json --gear {GEAR}"
+# A site for the check of each night, with the files of a user's room.
+SITE = f"""name = "Site"
+[[bus]]
+name = "one"
+records = "/room/site.db"
+driver = "{DRIVER.replace('bus.json', '/room/bus.json')}"
+"""
+
+# Records that the program of 0.2.0 wrote, with the gear of their bus and its table.
+KEPT = ROOT / "tools/lib/kept"
+KEPT_TABLE = "0 0109B3\n1 3B0DAA\n2 3C1974\n3 4C71B0\n4 B59DC5\n"
+# The last byte of the user version in a database, and how one is refused in which it was set.
+USER_VERSION = 63
+LATER = "later.db: a later version of Yolgibat wrote it, or another program, and it is left as it is\n"
 
 
 def public(names: dict[str, object]) -> list[str]:
@@ -90,7 +105,7 @@ class User:
 
     def commissions(self) -> None:
         """Gives simulated gear their addresses, and looks at the table and at a page."""
-        driver = ["--driver", f"adapters/simulated bus.json --gear {GEAR}"]
+        driver = ["--driver", DRIVER, "--driver-timeout", "120"]
         run = self.ran("dali-commission", "run", "--records", "site.db", *driver, "0-63")
         table = self.ran("dali_commission", "table", "--records", "site.db")
         self.same((run[2], len(table[0].splitlines()), table[2]), (0, GEAR, 0), f"a run, and its table ({run[1][-300:]})")
@@ -100,6 +115,23 @@ class User:
             self.same(page.done(command="check")["command"]["status"], 0, "a check on the page")
             page.process.terminate()
         self.same(self.ran("dali-commission", "run", "--records", "no/site.db", *driver, "0-63")[2], 5, "records that cannot be had")
+
+    def put(self, name: str, content: bytes) -> None:
+        subprocess.run(self.call(("sh", "-c", 'cat > "$0"', name)), input=content, check=True)
+
+    def keeps(self) -> None:
+        """Goes on with records of 0.2.0, and has those of a later version refused by name."""
+        kept = (KEPT / "site-0.2.0.db").read_bytes()
+        later = kept[:USER_VERSION] + b"\x01" + kept[USER_VERSION + 1 :]
+        for name, content in (("kept.db", kept), ("kept.json", (KEPT / "bus-0.2.0.json").read_bytes()), ("later.db", later)):
+            self.put(name, content)
+        words = ("--records", "kept.db", "--driver", "adapters/simulated kept.json", "--driver-timeout", "120")
+        for command in (("check", *words), ("run", *words, "0-63")):
+            ran = self.ran("dali-commission", *command)
+            self.same(ran[2], 0, f"{command[0]} over records of 0.2.0 ({ran[1][-300:]})")
+        self.same(self.ran("dali-commission", "table", "--records", "kept.db")[::2], (KEPT_TABLE, 0), "the table of 0.2.0")
+        ran = self.ran("dali-commission", "table", "--records", "later.db")
+        self.same((ran[1].endswith(LATER), ran[2]), (True, 5), f"records of a later version ({ran[1][-300:]})")
 
     def plays(self, examples: list[pathlib.Path]) -> None:
         """Plays each example as the program of the clone does, draws one, and judges the capture."""
@@ -141,8 +173,10 @@ def check_folder(checks: "Checks", folder: pathlib.Path, archive: pathlib.Path) 
     checks.same((ran.returncode, ran.stdout), (0, ""), "the sums of the archive")
     user = User(checks, archive.name, room, [], f"{place}/", str(place))
     user.commissions()
+    user.keeps()
     user.plays(examples())
-    left = [str(it) for it in place.rglob("*") if "__pycache__" not in it.parts and it.is_file() and str(it.relative_to(place)) not in sums(place)]
+    found = [it for it in place.rglob("*") if it.is_file() and not it.is_symlink() and "__pycache__" not in it.parts]
+    left = [str(it) for it in found if str(it.relative_to(place)) not in sums(place)]
     checks.same(left, [], "files that are there beside those of the archive")
 
 
@@ -176,6 +210,8 @@ def check_debian(checks: "Checks", package: pathlib.Path) -> None:
 
 def use_debian(checks: "Checks", package: pathlib.Path, root: pathlib.Path) -> None:
     shutil.copy(package, root / "package.deb")
+    enabled, answers = root / "etc/systemd/system/timers.target.wants/yolgibat-check@one.timer", root / "var/lib/yolgibat/one"
+    enabled.parent.mkdir(parents=True, exist_ok=True)
     before = listed(root)
     done = inside(root, "dpkg", "--install", "/package.deb")
     checks.same(done.returncode, 0, f"the package is installed: {done.stdout}{done.stderr}")
@@ -186,12 +222,16 @@ def use_debian(checks: "Checks", package: pathlib.Path, root: pathlib.Path) -> N
     user = User(checks, "Debian", pathlib.Path("/room"), ["chroot", "--userspec=65534:65534", str(root)], "", "/usr/share/doc/yolgibat")
     user.commissions()
     user.plays(examples()[:3])
-    enabled = root / "etc/systemd/system/timers.target.wants/yolgibat-check@one.timer"
-    enabled.parent.mkdir(parents=True, exist_ok=True)
     enabled.symlink_to("/usr/lib/systemd/system/yolgibat-check@.timer")
-    done = inside(root, "dpkg", "--purge", "yolgibat")
-    checks.same(done.returncode, 0, f"the package is removed: {done.stdout}{done.stderr}")
-    enabled.parent.exists() and not any(enabled.parent.iterdir()) and enabled.parent.rmdir()
+    answers.mkdir(parents=True)
+    answers.chmod(0o777)
+    (root / "etc/yolgibat/one.toml").write_text(SITE)
+    user.same(user.ran("env", "STATE_DIRECTORY=/var/lib/yolgibat/one", "/usr/lib/yolgibat/nightly", "/etc/yolgibat/one.toml")[2], 0, "a check of a night")
+    checks.same(len(list(answers.glob("check-*.json"))), 1, "the answers that are kept")
+    for way in ("--remove", "--purge"):
+        done = inside(root, "dpkg", way, "yolgibat")
+        checks.same(done.returncode, 0, f"dpkg {way}: {done.stdout}{done.stderr}")
+        checks.same((enabled.is_symlink(), answers.exists()), (False, way == "--remove"), f"the timer and its answers after {way}")
     left = sorted(it for it in listed(root) - before if not re.match(r"room(/|$)|var/(lib/dpkg|log|cache)/", it))
     checks.same(left, [], "what is left when the package is removed, but records")
     checks.say((root / "room/site.db").is_file(), "the records are there when the package is removed")

@@ -21,10 +21,14 @@ BUILDS = re.compile(r"^(?:.*tools/build\b.*|#(?!!).*)\n", re.M)
 # The tools that a launcher calls: by their path, as the value of `call`, or by a command that has the name of its tool.
 CALLED = re.compile(r"\btools/([\w-]+)|\bcall=(\w+)|\b(\w+):\3\b")
 NOT_CALLED = ("build", "launch", "lib")
+# A launcher as it is called in a clone, in a text of a launcher or a tool.
+IN_CLONE = re.compile(rb"\./dali_(commission|sim|view)\b")
 # A file of the repository that a module reads.
 READ = re.compile(r'ROOT / "([^"]+/[^"]+)"')
 # The pages for installers. What they lead to beside these and their pictures is left out, and so are the links to it.
 MANUALS = ("INSTALLER", "BUILDING", "ADAPTERS", "FORMAT", "STORES", "GLOSSARY", "PROMISE", "RULES")
+# The page on which scripts are played in a browser. It is taken along if it was made.
+TRY = ROOT / "out/web/try.html"
 LINK = re.compile(r"(?<!!)\[((?:[^\[\]]|\[[^\]]*\])*)\]\(((?!\w+:)[^)\s#]+)(?:#[^)\s]*)?\)")
 README = """Yolgibat {version}: short addresses for DALI lighting
 
@@ -36,7 +40,7 @@ This folder runs where it lies, on Linux for {machine} with Python 3.10 or later
 
 The first gives 20 simulated gear their addresses. docs/INSTALLER.md is the manual, and each of dali-commission, dali-sim and dali-view has
 --help, and a page: man -l man/dali-commission.1. completions has what bash, zsh and fish complete. To remove all, remove this folder.
-COMMIT, GATE: of which commit this is, and what its tests said. SHA256SUMS: sha256sum --check SHA256SUMS.
+{tried}COMMIT, GATE: of which commit this is, and what its tests said. SHA256SUMS: sha256sum --check SHA256SUMS.
 """
 
 
@@ -57,9 +61,9 @@ def built() -> dict[str, bytes]:
     return {it.name: it.made.read_bytes() for it in them}
 
 
-def kit_crates() -> list[str]:
-    """The crates of the kit that the programs are linked with."""
-    below = {it for program in programs() for crate in [*program.below, program] for it in crate.of_kit} | {"std"}
+def kit_crates(made: list[proving.Crate] | None = None) -> list[str]:
+    """The crates of the kit that the programs, or what is named, are linked with."""
+    below = {it for top in made or programs() for crate in [*top.below, top] for it in crate.of_kit} | {"std"}
     left, found = list(below), set()
     while left:
         name = left.pop()
@@ -107,18 +111,21 @@ def data(sources: collections.abc.Iterable[str]) -> list[pathlib.Path]:
 
 
 def running(made: dict[str, bytes], is_installed: bool = False) -> Files:
-    """What runs: the launchers and all that they need. Once it is installed, the help names the launchers as they are called then."""
+    """What runs: the launchers and all that they need. Once it is installed, the texts name the launchers as they are called then."""
     found: Files = {it: Entry(launcher(it).encode(), True) for it in LAUNCHERS}
     found |= {f"programs/{name}": Entry(content, True) for name, content in made.items()}
     found["tools/launch"] = Entry(REPLACED["tools/launch"].read_bytes(), True)
     found |= packing.read(*(ROOT / "tools" / it for it in tools()))
+    if is_installed:
+        found |= {name: it._replace(content=IN_CLONE.sub(rb"dali-\1", it.content)) for name, it in found.items() if not name.startswith("programs/")}
     found |= modules(it.content.decode() for name, it in list(found.items()) if name.removeprefix("tools/") in tools())
     sources = [it.content.decode() for name, it in found.items() if name.startswith("tools/")]
     found |= packing.read(*(it for it in data(sources) if str(it.relative_to(ROOT)) not in found))
     for it in (ROOT / "tools/lib/help").glob("*.txt"):
         text = it.read_text()
         found[str(it.relative_to(ROOT))] = Entry((manual_pages.spoken(text) if is_installed else manual_pages.BUILD.sub("", text)).encode())
-    return found | packing.read(*(it for it in (ROOT / "adapters").rglob("*") if it.is_file() and "__pycache__" not in it.parts))
+    adapters = [it for it in (ROOT / "adapters").rglob("*") if it.is_file() and "__pycache__" not in it.parts]
+    return found | packing.read(ROOT / "include/dali_c.h", *adapters)
 
 
 def manuals() -> Files:
@@ -138,7 +145,9 @@ def told(said: str) -> Files:
 
 
 def examples() -> Files:
-    return packing.read(*(it for it in (ROOT / "examples").glob("*") if it.is_file()))
+    """The examples, and the page on which they are played."""
+    page = {TRY.name: Entry(TRY.read_bytes())} if TRY.is_file() else {}
+    return packing.read(*(it for it in (ROOT / "examples").glob("*") if it.is_file())) | page
 
 
 def licences() -> Files:
@@ -151,7 +160,8 @@ def folder(made: dict[str, bytes], said: str, machine: str, licences: Files) -> 
     found |= {it.replace("_", "-"): Entry(leads_to=it) for it in LAUNCHERS}
     found |= {f"man/{name}": Entry(text.encode()) for name, text in manual_pages.pages().items()}
     found |= {f"completions/{name}": Entry(text.encode()) for name, text in completions.scripts().items()}
-    return found | licences | {"README": Entry(README.format(version=packing.versions()[0], machine=machine).encode())}
+    tried = f"{TRY.name} plays scripts in a browser.\n" if TRY.name in found else ""
+    return found | licences | {"README": Entry(README.format(version=packing.versions()[0], machine=machine, tried=tried).encode())}
 
 
 def archive(said: str) -> dict[str, bytes]:
