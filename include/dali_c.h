@@ -22,7 +22,7 @@ extern "C" {
 #endif
 
 /* The version of the library, whose struct and calls these are. */
-#define DALI_VERSION "0.2.0"
+#define DALI_VERSION "0.3.0"
 /* The version of the structs and calls: it counts up with each change of one of them. Compare it with dali_c_version()
  * once, before the first call. */
 #define DALI_C_VERSION 105

@@ -32,6 +32,8 @@ class Browser:
         self.to, self.back, self.heard, self.number = to, back, b"", 0
         # What each page said that it should not: exceptions, and lines of its console.
         self.said: list[str] = []
+        # What pages asked for, if `Network` is enabled.
+        self.asked: list[str] = []
 
     def __enter__(self) -> typing.Self:
         return self
@@ -70,6 +72,8 @@ class Browser:
             self.said.append(json.dumps(event["params"]["exceptionDetails"])[:300])
         if event.get("method") == "Log.entryAdded" and event["params"]["entry"]["level"] == "error":
             self.said.append(event["params"]["entry"]["text"])
+        if event.get("method") == "Network.requestWillBeSent":
+            self.asked.append(event["params"]["request"]["url"])
 
     def page(self, address: str, width: int = 1400, height: int = 1000, is_dark: bool = False) -> "Tab":
         target = self.ask("Target.createTarget", url="about:blank")["targetId"]

@@ -212,7 +212,7 @@ class Clone:
         (self.root / "extra").mkdir()
         self.put(self.root / "extra/programs.txt", "")
         self.source = self.put(self.root / "crates/dali_commission/src/main.rt", "// nothing\n")
-        for name in ("", "-run", "-check", "-identify", "-table", "-replace", "-mend", "-page", "-building", "-launcher", "-version"):
+        for name in ("", "-run", "-check", "-identify", "-table", "-replace", "-mend", "-clear", "-page", "-building", "-launcher", "-version"):
             self.put(self.root / f"tools/lib/help/dali_commission{name}.txt", f"help{name}\n")
         self.put(self.root / "adapters/one", DRIVER)
         self.put(self.work / "near/two", DRIVER)

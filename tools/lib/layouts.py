@@ -9,7 +9,7 @@ import itertools
 import re
 import typing
 
-INTEGERS = (1, 8, 16, 32, 64)
+INTEGERS = (1, 8, 16, 32, 64, 128)
 # What touches no memory: it names types only of values.
 OF_VALUES = set(
     "add and ashr br extractvalue freeze icmp insertvalue inttoptr lshr mul or phi ptrtoaddr ptrtoint ret select sext shl sub switch"
@@ -20,6 +20,10 @@ OF_MEMORY = re.compile(r"@llvm\.mem(?:cpy|move)\.p0\.p0\.(i\d+)\(|@llvm\.memset\
 INTRINSICS = re.compile(r"@llvm\.(?:trap|assume|cttz\.i\d+|ctlz\.i\d+|ctpop\.i\d+|bswap\.i\d+|[us](?:add|sub|mul)\.with\.overflow\.i\d+|[us](?:max|min)\.i\d+|fsh[lr]\.i\d+)\(")
 # What has an argument or a result lie in memory, or hands over any number of them.
 BY_MEMORY = re.compile(r"\b(?:byval|byref|sret|inalloca|preallocated|elementtype)\b|\.\.\.")
+# A constant or variable whose fields lie without a gap: bytes, and pointers to others.
+FIELD = r"ptr (?:null|@[\w.$]+|getelementptr \(i8, ptr @[\w.$]+, i64 \d+\))|\[\d+ x i8\] (?:c\"[^\"]*\"|zeroinitializer)"
+PACKED = re.compile(rf"(@\S+ = [\w ]*(?:constant|global) )<\{{ ([^<>]*) \}}> <\{{ ((?:{FIELD})(?:, (?:{FIELD}))*) \}}>(, align \d+)")
+BEHIND = "[4 x i8] zeroinitializer"
 HEADS = re.compile(r"(?:source_filename|target (?:datalayout|triple)) = |attributes #\d+ = |!|;|\}$|$")
 
 
@@ -40,12 +44,17 @@ def layout(words: str) -> Layout:
     if parts[0] != "e":
         raise Refused(f"{words}: bytes do not go from the least to the highest")
     bits = {"p": (64, 64), "i1": (8, 8), "i8": (8, 8), "i16": (16, 16), "i32": (32, 32), "i64": (64, 32)}
+    widest = None
     for part in parts[1:]:
         name, *numbers = part.split(":")
         if name == "p":
             bits["p"] = int(numbers[0]), int(numbers[1])
         elif name in bits:
             bits[name] = int(name[1:]), int(numbers[0])
+        elif name == "i128":
+            widest = 128, int(numbers[0])
+    # A number wider than all that the layout names is aligned as the widest of these.
+    bits["i128"] = widest or bits["i64"]
     return Layout(bits["p"][0] // 8, {name if name != "p" else "ptr": most // 8 for name, (_, most) in bits.items()})
 
 
@@ -197,10 +206,26 @@ def common(aligned: int, offset: int) -> int:
     return min(aligned, offset & -offset) if offset else aligned
 
 
+def packed_fields(held: re.Match[str]) -> list[tuple[str, str]]:
+    """The fields of a constant without gaps: the type of each, and the whole of it."""
+    found = [(type_at(it), it) for it in re.findall(FIELD, held[3])]
+    if [kind for kind, _ in found] != fields(f"{{{held[2]}}}"):
+        raise Refused(f"{held[1]}: its type is that of another constant")
+    return found
+
+
+def widened_held(held: re.Match[str]) -> str:
+    """A constant without gaps, in which four bytes stand behind each pointer."""
+    made = [one for kind, it in packed_fields(held) for one in [it, *[BEHIND] * (kind == "ptr")]]
+    return f"{held[1]}<{{ {', '.join(map(type_at, made))} }}> <{{ {', '.join(made)} }}>{held[4]}"
+
+
 def widened(text: str, wide: Layout) -> str:
     """LLVM's text of a library for a processor with pointers of 32 bits, where each pointer takes eight bytes in memory."""
     lines, widening = [], Widening(wide)
     for line in text.splitlines():
+        if held := PACKED.fullmatch(line):
+            line = widened_held(held)
         if line.startswith("declare ") and OF_MEMORY.search(line):
             line = re.sub(r"(\.p0)\.i64\((.*), i64, i1", r"\1.i32(\2, i32, i1", line)
         lines += [f"  {it}" for it in widening.line(line.strip())] if line.startswith("  ") else [line]
@@ -250,6 +275,14 @@ def judge_line(line: str, wide: Layout, narrow: Layout) -> None:
     return judge_type(kind, wide, narrow)
 
 
+def judge_packed(held: re.Match[str], wide: Layout, narrow: Layout) -> None:
+    """A constant without gaps."""
+    them = packed_fields(held)
+    behind = [it for _, it in them[1:]] + [""]
+    if wide.pointer != narrow.pointer and any(kind == "ptr" and after != BEHIND for (kind, _), after in zip(them, behind)):
+        raise Refused("a constant with a pointer")
+
+
 def judge_head(line: str, wide: Layout, narrow: Layout) -> None:
     """A line outside of the functions, or the first one of a function."""
     if line.startswith(("define ", "declare ")):
@@ -257,6 +290,8 @@ def judge_head(line: str, wide: Layout, narrow: Layout) -> None:
             raise Refused("an argument that lies in memory, or any number of arguments")
         if (of := OF_MEMORY.search(line)) and (of[1] or of[2]) != f"i{8 * narrow.pointer}":
             raise Refused("it counts bytes otherwise than the processor")
+    elif held := PACKED.fullmatch(line):
+        judge_packed(held, wide, narrow)
     elif line.startswith("@"):
         held = re.search(r" (?:constant|global) (.*)", line)
         if not held:

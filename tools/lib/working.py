@@ -6,6 +6,7 @@ import contextlib
 import fcntl
 import json
 import os
+import re
 import subprocess
 import sys
 import typing
@@ -17,8 +18,9 @@ LOOKS, SAYS = 0.5, 20
 NO_RECORDS, NOT_STARTED = 5, 127
 # How often a bus is run that gives up: the next run goes on from its records.
 TRIES = 3
-# What a bus is said to do before it is begun, and what the last line of a program begins with if the line before it may say why.
-WAITS, ENDED = "waits", "ended: "
+# What a bus is said to do before it is begun; a last line before which the program, or the driver, may say why; and lines that say no cause.
+WAITS, ENDED = "waits", re.compile(r"ended: .*|.*: (the driver ended with status|signal \d+ ended the driver) .*")
+CAUSELESS = re.compile(r"asking .*|\d+ gear were enrolled, .*|error: line \d+ of the driver: end of input")
 
 
 class Taken(Exception):
@@ -43,7 +45,8 @@ def alone(records: str) -> collections.abc.Iterator[int]:
 
 def said_of(command: commanding.Command) -> str | None:
     """What a command said last; with the line before it if that says why it ended so."""
-    return "; ".join(command.said[-2 if command.said[-1].startswith(ENDED) else -1 :]) if command.said else None
+    said = [it for it in command.said if not CAUSELESS.fullmatch(it)]
+    return "; ".join(said[-2 if ENDED.fullmatch(said[-1]) else -1 :]) if said else None
 
 
 class Job:
@@ -135,7 +138,8 @@ class Job:
         """What it came to, in a line."""
         report = self.reports[-1] if self.reports else {}
         parts = [report["end"]] if "end" in report else []
-        parts += [f"{len(report.get('table', []))} in the table"] if "table" in report else []
+        # A run whose driver is gone reports no table.
+        parts += [f"{len(report['table'])} in the table"] if report.get("table") else []
         for key, word in (("left_alone", "left alone"), ("missing", "missing"), ("strangers", "not as recorded")):
             them = sorted({it["address"] if isinstance(it, dict) else it for one in self.reports for it in one.get(key, [])})
             parts += [f"{word}: {' '.join(map(str, them))}"] if them else []
