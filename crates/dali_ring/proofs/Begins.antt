@@ -1,13 +1,10 @@
 -- Slots in which nothing waits.
 use Rattle.std.proofs.Common.{◌≡◌, ◌≢◌, ℕ, zero, suc, ◌+◌, ◌<◌, ◌≤◌, List, [], ◌∷◌, length, refl, sym, ap, ◌∙◌, arith, subst, get_or, set, replicate, ⊎_elim}
-use Rattle.std.proofs.Common.{length-append}
+use Rattle.std.proofs.{Common.length-append, lemmas.Bool.cases_eq}
 use Rattle.std.proofs.lemmas.List.{get_or_append_left, get_or_at, length-set, get_or-set_same, get_or-set_other, length-replicate}
-use Rattle.std.proofs.lemmas.Bool.{cases_eq}
-use Rattle.std.specs.declared.option.Option.{Option}
-use Rattle.std.specs.declared.option.Option.TheVariants.{None}
-use Rattle.dali_ring.specs.declared.slots.Slot.{Slot}
-use Rattle.dali_ring.specs.Fresh.{fresh_to}
-use Rattle.dali_ring.specs.Linked.{Leads, IsList, link_at, item_at, slot_at, Holds, IsLinked, waiting}
+use Rattle.std.specs.declared.option.Option.{Option, TheVariants.None}
+use Rattle.dali_ring.specs.{Fresh.fresh_to, Linked.Leads, Linked.IsList, Linked.link_at, Linked.item_at, Linked.slot_at, Linked.Holds, Linked.IsLinked}
+use Rattle.dali_ring.specs.{Linked.waiting, declared.slots.Slot.Slot}
 use Rattle.dali_ring.proofs.Waiting.{six, sum_six, waiting_is, linked_is}
 
 abbrev empty : {X : Type 0} → ℕ → Slot X
@@ -38,16 +35,6 @@ module _ {X : Type 0} where
     slots = ap length is ∙ fresh_length X (n + 6);
     free = λ i low. ap (λ l. slot_at l i) is ∙ fresh_slot X (n + 6) i (omega (arith, low));
     begin = λ p low. absurd (omega (arith, low));
-  }
-
-  pub begun_next : (s s2 : List (Slot X)) (n k : ℕ) → k < 5 → Begun s n k → s2 ≡ set s (n + k) (empty (n + k)) → Begun s2 n (k + 1)
-  begun_next s s2 n k low b is = record {
-    slots = ap length is ∙ length-set s (n + k) (empty (n + k)) ∙ b.slots;
-    free = λ i less. ap (λ l. slot_at l i) is ∙ get_or-set_other s (n + k) i (empty (n + k)) (empty 0) (λ e. absurd (omega (arith, e, less))) ∙ b.free i less;
-    begin = λ p less. ap (λ l. slot_at l (n + p)) is ∙ ⊎_elim
-        (λ (same : p ≡ k). rw same (get_or-set_same s (n + k) (empty (n + k)) (empty 0) (omega (arith, b.slots))))
-        (λ other. get_or-set_other s (n + k) (n + p) (empty (n + k)) (empty 0) (λ e. other (omega (arith, e))) ∙ b.begin p (omega (arith, less, other)))
-        (cases_eq p k);
   }
 
   module _ (s one two : List (Slot X)) (n last : ℕ) (b : Begun s n 5) (before : last + 1 ≡ n)

@@ -3,35 +3,23 @@
 --     shown       a `&` to the places shows each value
 --     taken       the place of a value, or the first behind them, as room; `put` is the way back with another value in it
 --     emptied     places forget what they hold
-use mathlib.Core.Path.{◌≡◌, refl, ◌∙◌}
-use mathlib.Core.List.{List, [], ◌∷◌, ◌++◌}
+use Rattle.std.specs.{Mem.type_size, Prelude.Some, Prelude.length, Prelude.slice_get}
+use Rattle.core.{proofs.mem.Param.El, proofs.mem.Param.R, proofs.mem.Param.el_x, proofs.mem.Param.elτ, specs.declared.alloc.Allocator.Ghosts}
+use Rattle.std_alloc.proofs.{RawLayout.as_raw, RawLayout.as_written, RcSteps.word}
 use Prim.Native.Nat.{ℕ, zero, suc, ◌+◌, ◌<◌, ◌≤◌}
-use native.Mathlib.Nat.{not-suc-le-zero, le_of_suc-le-suc}
-use seplogic.Ra.Ura.{Ura}
-use base.Fraction.{full_share}
-use base.Fml.{Fml, Lft, ftrue, fsep, fat, froom}
+use base.{Fml.Fml, Fml.Lft, Fml.ftrue, Fml.fsep, Fml.fat, Fml.froom, Fraction.full_share}
 use base.Logic.{ent, emp, sep, via, fst∗, snd∗, id⊢, never_e}
 use borrow.Table.OneValue.{part_out}
-use mir.Syntax.{Ty, ty_array}
-use mir.Val.{Val, vstruct, vcons, vnil, of_list}
-use types.Logic.{Logic, sem}
+use denote.{Index.place, Laws.Is, Memory.part_at, Memory.shared_of, RattleType.RattleType, RattleType.Valss, RattleType.owns, RawPtr.Ptr, RawPtr.RawPtr}
+use denote.{RawPtr.ptr_val, Shadow.makes_shadow, Slice.elements_shared}
+use denote.Struct.{Declared.shape, Struct.Struct, Struct.within, Tuple.Tuple, Tuple.tuple_type}
+use mathlib.Core.List.{List, [], ◌∷◌, ◌++◌}
+use mathlib.Core.Path.{◌≡◌, refl, ◌∙◌}
+use mir.{Syntax.Ty, Syntax.ty_array, Val.Val, Val.vstruct, Val.vcons, Val.vnil, Val.of_list}
+use native.Mathlib.Nat.{not-suc-le-zero, le_of_suc-le-suc}
+use seplogic.Ra.Ura.{Ura}
 use types.Kit.{‵, ◌⊛◌, some, ◌$◌, ◌∵◌, !, qed, by, move, keep, use1, use2, pick, split, fsplit, fjoin, feq_i, fpack, frame, done}
-use denote.Index.{place}
-use denote.Laws.{Is}
-use denote.Memory.{part_at, shared_of}
-use denote.RattleType.{RattleType, Valss, owns}
-use denote.RawPtr.{Ptr, RawPtr, ptr_val}
-use denote.Shadow.{makes_shadow}
-use denote.Slice.{elements_shared}
-use denote.Struct.Struct.{Struct, within}
-use denote.Struct.Declared.{shape}
-use denote.Struct.Tuple.{Tuple, tuple_type}
-use Rattle.core.specs.declared.alloc.Allocator.{Ghosts}
-use Rattle.std.specs.Prelude.{Some, length, slice_get}
-use Rattle.core.proofs.mem.Param.{El, R, el_x, elτ}
-use Rattle.std_alloc.proofs.RawLayout.{as_raw, as_written}
-use Rattle.std_alloc.proofs.RcSteps.{word}
-use Rattle.std.specs.Mem.{type_size}
+use types.Logic.{Logic, sem}
 use Rattle.dali_ring.specs.Block.{put_at, filled}
 use Rattle.dali_ring.specs.contracts.block.Origin as origin
 use Rattle.dali_ring.specs.contracts.block.Places as places

@@ -1,16 +1,10 @@
 -- A slot that moves, in the slots themselves.
 use Rattle.std.proofs.Common.{◌≡◌, ◌≢◌, ℕ, suc, ◌+◌, ◌<◌, ◌≤◌, List, [], ◌∷◌, ◌++◌, length, refl, sym, ap, ◌∙◌, arith, subst, get_or, set, ⊎_elim}
-use Rattle.std.proofs.Common.{length-append}
-use Rattle.std.proofs.lemmas.List.{get_or-set_same, get_or-set_other, length-set}
-use Rattle.std.proofs.lemmas.List.Sums.{sum_by-set}
-use Rattle.std.proofs.lemmas.Bool.{cases_eq}
-use Rattle.std.proofs.lemmas.Option.{get_or_from_slice_get}
-use Rattle.std.specs.List.{slice_get}
-use Rattle.std.specs.List.{sum_by}
-use Rattle.std.specs.declared.option.Option.{Option}
-use Rattle.std.specs.declared.option.Option.TheVariants.{Some, None}
-use Rattle.dali_ring.specs.declared.slots.Slot.{Slot}
+use Rattle.std.proofs.{Common.length-append, lemmas.Bool.cases_eq, lemmas.List.get_or-set_same, lemmas.List.get_or-set_other, lemmas.List.length-set}
+use Rattle.std.{proofs.lemmas.List.Sums.sum_by-set, proofs.lemmas.Option.get_or_from_slice_get, specs.List.slice_get, specs.List.sum_by}
+use Rattle.std.specs.declared.option.Option.{Option, TheVariants.Some, TheVariants.None}
 use Rattle.dali_ring.specs.Linked.{Leads, IsList, link_at, item_at, slot_at, Holds, line, lines, IsBefore}
+use Rattle.dali_ring.specs.declared.slots.Slot.{Slot}
 use Rattle.dali_ring.proofs.Ways.{Far, one_way, far, more, followed, Move, last_left, others, left, grown, started, parted}
 
 -- a way from a slot below m leads to one

@@ -1,10 +1,8 @@
 -- A value that is put at a number.
 use Rattle.std.proofs.Common.{◌≡◌, ℕ, zero, suc, ◌+◌, ◌<◌, List, [], ◌∷◌, ◌++◌, length, slice_set, refl, sym, ap, ◌∙◌, add-one}
-use native.Mathlib.Nat.{not-suc-le-zero, le_of_suc-le-suc}
 use Rattle.std.specs.declared.option.Option.TheVariants.{None}
-use Rattle.dali_ring.specs.Block.{put_at}
-use Rattle.dali_ring.specs.Fresh.{fresh_to}
-use Rattle.dali_ring.proofs.Begins.{fresh_length}
+use native.Mathlib.Nat.{not-suc-le-zero, le_of_suc-le-suc}
+use Rattle.dali_ring.{specs.Block.put_at, specs.Fresh.fresh_to, proofs.Begins.fresh_length}
 
 -- in place of one that is there
 in_place : {X : Type 0} (xs : List X) (i : ℕ) (x : X) → i < length xs → put_at i x xs ≡ slice_set xs i x

@@ -1,14 +1,9 @@
 -- The lists of a ring when the oldest item leaves, and the first list that is not empty.
 use Rattle.std.proofs.Common.{◌≡◌, ℕ, zero, suc, ◌+◌, ◌-◌, ◌<◌, ◌≤◌, List, [], ◌∷◌, ◌++◌, length, refl, sym, ap, ◌∙◌, arith, subst, get_or, set, drop, true}
-use Rattle.std.proofs.Common.{false}
-use Rattle.std.proofs.lemmas.List.Sums.{sum_by-set}
-use Rattle.std.specs.List.{sum_by, slice_get}
-use Rattle.std.specs.declared.option.Option.{Option}
-use Rattle.std.specs.declared.option.Option.TheVariants.{Some, None}
-use Rattle.std.specs.Option.{is_some, IsSome, IfSome}
-use Rattle.dali_ring.specs.declared.slots.Slot.{Slot}
+use Rattle.std.{proofs.Common.false, proofs.lemmas.List.Sums.sum_by-set, specs.List.sum_by, specs.List.slice_get, specs.Option.is_some, specs.Option.IsSome}
+use Rattle.std.specs.{Option.IfSome, declared.option.Option.Option, declared.option.Option.TheVariants.Some, declared.option.Option.TheVariants.None}
 use Rattle.dali_ring.specs.Linked.{waiting, IsLinked, IsAt}
-use Rattle.dali_ring.specs.Queues.{Queues, first_from, with_list, list_of}
+use Rattle.dali_ring.specs.{Queues.Queues, Queues.first_from, Queues.with_list, Queues.list_of, declared.slots.Slot.Slot}
 
 abbrev pub made : {X : Type 0} → List (List X) → ℕ → Queues X
 made ls n = record { lists = ls; capacity = n }

@@ -1,16 +1,13 @@
 -- The places of a block may go to another thread if their values may, and the right to free it if its allocator may.
-use base.Fraction.{full_share}
-use base.Shift.{Keyless}
-use Prim.Native.Nat.{ℕ, zero, suc, ◌+◌}
-use denote.Param.Send.{IsSend, AllSend, part_keyless, owning_send, struct_send, sendable}
-use denote.RattleType.{RattleType}
-use denote.RawPtr.{Ptr, block_ptr, null_ptr}
-use denote.Struct.Owning.{shape, fields, to}
-use denote.Struct.Struct.{exits_of}
-use Rattle.std.specs.Prelude.{List, [], ◌∷◌}
 use Rattle.std.specs.Mem.{type_size}
+use Rattle.std.specs.Prelude.{List, [], ◌∷◌}
 use Rattle.core.specs.declared.alloc.Allocator.{Ghosts}
 use Rattle.std_alloc.proofs.SendSync.{FreesAnywhere, quiet}
+use Prim.Native.Nat.{ℕ, zero, suc, ◌+◌}
+use base.{Fraction.full_share, Shift.Keyless}
+use denote.Param.Send.{IsSend, AllSend, part_keyless, owning_send, struct_send, sendable}
+use denote.{RattleType.RattleType, RawPtr.Ptr, RawPtr.block_ptr, RawPtr.null_ptr}
+use denote.Struct.{Owning.shape, Owning.fields, Owning.to, Struct.exits_of}
 use Rattle.dali_ring.specs.Block.{filled, block_owns}
 use Rattle.dali_ring.specs.contracts.block.Places as places
 use Rattle.dali_ring.specs.contracts.block.Release as release

@@ -1,20 +1,14 @@
 -- A `&` to the places is made if one to a value is. Assumes `Logic`.
-use Prim.Native.Nat.{ℕ, zero, suc, ◌+◌}
-use Rattle.std.specs.Prelude.{List, [], ◌∷◌}
 use Rattle.std.specs.Mem.{type_size}
-use seplogic.Ra.Ura.{Ura}
-use base.Fml.{Lft, Incl, ffalse}
-use base.Fraction.{full_share}
-use types.Logic.{Logic}
-use denote.RattleType.{RattleType, RowLaws}
+use Rattle.std.specs.Prelude.{List, [], ◌∷◌}
+use Prim.Native.Nat.{ℕ, zero, suc, ◌+◌}
+use base.{Fml.Lft, Fml.Incl, Fml.ffalse, Fraction.full_share}
 use denote.Memory.{part_at, shared_of}
-use denote.Param.Laws.{Laws}
-use denote.RawPtr.{Ptr, block_ptr, null_ptr}
-use denote.Sharing.{ShrLaws, said}
-use denote.SharingLaws.{beside_shr_laws, said_shr_laws}
-use denote.Shares.{Shares-less}
-use denote.Slice.{elements_shared, elements_shr_laws}
+use denote.{Param.Laws.Laws, RattleType.RattleType, RattleType.RowLaws, RawPtr.Ptr, RawPtr.block_ptr, RawPtr.null_ptr, Shares.Shares-less, Sharing.ShrLaws}
+use denote.{Sharing.said, SharingLaws.beside_shr_laws, SharingLaws.said_shr_laws, Slice.elements_shared, Slice.elements_shr_laws}
 use denote.Struct.Lending.{Lends, Lends-both, Lends-nothing, Lends-said, Lends-false}
+use seplogic.Ra.Ura.{Ura}
+use types.Logic.{Logic}
 use Rattle.dali_ring.specs.Block.{filled, fits, block_owns, block_lends}
 
 pub block_lends_laws : (R : RattleType) → RowLaws R → (p : Ptr) (n : ℕ) (xs : List R.Denot) → ShrLaws (block_lends R p n xs)

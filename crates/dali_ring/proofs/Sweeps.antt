@@ -1,17 +1,12 @@
 -- A list that a sender's items leave, slot by slot.
 use Rattle.std.proofs.Common.{◌≡◌, ◌≢◌, ℕ, suc, ◌+◌, ◌<◌, ◌≤◌, List, [], ◌∷◌, ◌++◌, length, refl, sym, ap, ◌∙◌, arith, subst, get_or, set, map, true, false}
 use Rattle.std.proofs.Common.{◌==◌, append_assoc, length-append}
-use Rattle.std.proofs.lemmas.List.{set-set, set-get_or, map-append, length-map}
-use Rattle.std.proofs.lemmas.List.Sums.{sum_by-set}
-use Rattle.std.proofs.lemmas.Bool.Decides.{nat_tests}
-use Rattle.std.proofs.lemmas.Option.{get_or_from_slice_get}
-use Rattle.std.specs.List.{sum_by, slice_get}
+use Rattle.std.proofs.lemmas.{Bool.Decides.nat_tests, List.set-set, List.set-get_or, List.map-append, List.length-map, List.Sums.sum_by-set}
+use Rattle.std.{proofs.lemmas.Option.get_or_from_slice_get, specs.List.sum_by, specs.List.slice_get}
 use Rattle.std.specs.declared.option.Option.TheVariants.{Some, None}
-use Rattle.dali_ring.specs.declared.slots.Slot.{Slot}
 use Rattle.dali_ring.specs.Linked.{Leads, follow, link_at, item_at, waiting, IsLinked, IsAt}
-use Rattle.dali_ring.specs.Queues.{without}
-use Rattle.dali_ring.proofs.Ways.{joined, followed}
-use Rattle.dali_ring.proofs.Waiting.{behind_is, free_length, first_at}
+use Rattle.dali_ring.specs.{Queues.without, declared.slots.Slot.Slot}
+use Rattle.dali_ring.proofs.{Waiting.behind_is, Waiting.free_length, Waiting.first_at, Ways.joined, Ways.followed}
 
 -- List p of the slots s0, of which the sender's items before slot b have left: the slots are s now.
 pub record Swept {X : Type 0} (from : X → ℕ) (sender : ℕ) (s0 : List (Slot X)) (n0 : ℕ) (s : List (Slot X)) (n : ℕ) (tails : List ℕ) (p b gone : ℕ)

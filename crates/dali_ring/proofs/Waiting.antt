@@ -1,17 +1,11 @@
 -- The five lists that wait, and the free slots, as six lists.
 use Rattle.std.proofs.Common.{◌≡◌, ℕ, ◌+◌, ◌<◌, ◌≤◌, List, [], ◌∷◌, ◌++◌, length, refl, sym, ap, ◌∙◌, arith, subst, get_or, set, map, take}
 use Rattle.std.proofs.lemmas.List.{set-append_left, set_at, map-set, map-append, get_or_append_left, get_or_at, length-map, length-set, get_or-map}
-use Rattle.std.proofs.lemmas.List.{get_or-set_same}
-use Rattle.std.proofs.lemmas.Option.{get_or_from_slice_get}
-use Rattle.std.specs.List.{slice_get}
-use Rattle.std.proofs.lemmas.List.Sums.{sum_by-append, sum_by-cons}
-use Rattle.std.specs.List.{sum_by}
-use Rattle.std.specs.declared.option.Option.{Option}
-use Rattle.std.specs.declared.option.Option.TheVariants.{Some, None}
-use Rattle.dali_ring.specs.declared.slots.Slot.{Slot}
+use Rattle.std.proofs.lemmas.{List.get_or-set_same, List.Sums.sum_by-append, List.Sums.sum_by-cons, Option.get_or_from_slice_get}
+use Rattle.std.specs.List.{slice_get, sum_by}
+use Rattle.std.specs.declared.option.Option.{Option, TheVariants.Some, TheVariants.None}
 use Rattle.dali_ring.specs.Linked.{Leads, IsList, link_at, item_at, slot_at, Holds, line, lines, IsBefore, somes, waiting, IsLinked, IsAt}
-use Rattle.dali_ring.proofs.Moves.{line_is, lines_are, within}
-use Rattle.dali_ring.proofs.Ways.{parted}
+use Rattle.dali_ring.{specs.declared.slots.Slot.Slot, proofs.Moves.line_is, proofs.Moves.lines_are, proofs.Moves.within, proofs.Ways.parted}
 
 pub somes_map : {X : Type 0} (xs : List X) → somes (map Some xs) ≡ xs
 somes_map [] = refl

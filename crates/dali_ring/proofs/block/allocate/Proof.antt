@@ -1,60 +1,38 @@
 -- `allocate` makes the three parts of the block that the allocator answers, or hands on its refusal. Assumes `Logic`.
-use mathlib.Core.Bool.{true, false}
-use mathlib.Core.Path.{◌≡◌, refl, sym, ap, subst}
-use mathlib.Core.List.{List, [], ◌∷◌, ◌++◌}
-use native.Mathlib.Omega.{arith}
-use lib.Dec.{lit<}
-use Prim.Native.Nat.{ℕ, ◌*◌, ◌<◌, ◌^◌}
-use base.Fml.{Lft, Share, ftrue, flft, Incl-trans}
-use base.Logic.{SProp, emp, id⊢}
-use contract.BorrowLft.{◌⊑◌}
-use contract.Monad.{fact, fact_i}
-use contract.Running.{tables}
-use denote.Builtin.{RefOf, usize}
-use denote.Exit.{yes}
-use denote.Laws.{Is}
-use denote.Param.{layout}
-use denote.RattleType.{RattleType, owns}
-use denote.RawPtr.{Ptr, block_ptr}
-use denote.Signature.{plain, types_at}
-use denote.Steps.{nothing, heard, owned}
-use denote.Struct.Declared.{shape}
-use denote.Struct.Struct.{Struct, Struct-Makes}
-use denote.Struct.Tuple.{Tuple}
-use denote.Triple.Call.{calls_at}
-use denote.Triple.Entry.{alive}
-use denote.Triple.Walked.{Stays, stay_dropped, walk_of, Goes-dropped}
-use mir.MapTy.{inst_fn}
-use mir.Syntax.{Fn, w64}
-use mir.Val.{Val, vptr, vint, vstruct, vcons, vnil}
-use prog.Capped.{capped_fits}
-use prog.Memory.{align, capped}
-use prog.Wp.{Env, Wp, WpFn, after_seq, at_return}
-use types.ByLocal.{alloc_all, pass_all, free_all, look_at, get, get_in, get_tag, sets, sets_last, is, lands_as, env}
-use types.Kit.{‵, raw, ◌⊛◌, later, prop, at_ret, any_q, ◌$◌, ◌∵◌, !, qed, by, move, drop, use0, use1, use2, split, join, await, regoal, fsplit, fjoin, flt_i}
-use types.Match.{live, vrt, in_variant}
-use types.Part.{whole, agg}
-use types.Run.{stop, fld, lit, of_opd, bin, size_word, align_word, and_then, no_more, first, switches_on, exec, returns, enter}
-use Rattle.std.specs.Prelude.{Ok, Err, IfOk}
-use Rattle.std_alloc.specs.Vec.Ownership.{FitsInBlock}
+use Rattle.std.{proofs.raw_atomic.Walks.proved_at, proofs.raw_atomic.Walks.leaves, specs.Prelude.Ok, specs.Prelude.Err, specs.Prelude.IfOk}
+use Rattle.core.proofs.alloc.Calls.{Al, Answer-typed, Takes, at_takes, Answered, Takes-goes, Takes-gives, answers}
+use Rattle.core.proofs.{atomic.Steps.fm, mem.Param.El, mem.Param.R, mem.Param.elτ}
+use Rattle.core.proofs.slots.Leases.{args, P, block_ty, block_size, block_align, uncapped}
 use Rattle.core.specs.contracts.alloc.AllocError as refusal
 use Rattle.core.specs.contracts.result.Result as result
-use Rattle.core.proofs.alloc.Calls.{Al, Answer-typed, Takes, at_takes, Answered, Takes-goes, Takes-gives, answers}
-use Rattle.core.proofs.atomic.Steps.{fm}
-use Rattle.core.proofs.mem.Param.{El, R, elτ}
-use Rattle.core.proofs.slots.Leases.{args, P, block_ty, block_size, block_align, uncapped}
-use Rattle.std.proofs.raw_atomic.Walks.{proved_at, leaves}
-use Rattle.std_alloc.proofs.RcSteps.{Good, word, word-Good, first_Good}
-use Rattle.std_alloc.proofs.ResultValues.{ok_of, err_of}
-use Rattle.std_alloc.proofs.VecSteps.Shapes.{after, head, arm_body}
+use Rattle.std_alloc.proofs.{RcSteps.Good, RcSteps.word, RcSteps.word-Good, RcSteps.first_Good, ResultValues.ok_of, ResultValues.err_of, VecSteps.Shapes.after}
+use Rattle.std_alloc.{proofs.VecSteps.Shapes.head, proofs.VecSteps.Shapes.arm_body, specs.Vec.Ownership.FitsInBlock}
+use Prim.Native.Nat.{ℕ, ◌*◌, ◌<◌, ◌^◌}
+use base.{Fml.Lft, Fml.Share, Fml.ftrue, Fml.flft, Fml.Incl-trans, Logic.SProp, Logic.emp, Logic.id⊢}
+use contract.BorrowLft.{◌⊑◌}
+use contract.{Monad.fact, Monad.fact_i, Running.tables}
+use denote.{Builtin.RefOf, Builtin.usize, Exit.yes, Laws.Is, Param.layout, RattleType.RattleType, RattleType.owns, RawPtr.Ptr, RawPtr.block_ptr}
+use denote.{Signature.plain, Signature.types_at, Steps.nothing, Steps.heard, Steps.owned}
+use denote.Struct.{Declared.shape, Struct.Struct, Struct.Struct-Makes, Tuple.Tuple}
+use denote.Triple.{Call.calls_at, Entry.alive, Walked.Stays, Walked.stay_dropped, Walked.walk_of, Walked.Goes-dropped}
+use lib.Dec.{lit<}
+use mathlib.Core.Bool.{true, false}
+use mathlib.Core.List.{List, [], ◌∷◌, ◌++◌}
+use mathlib.Core.Path.{◌≡◌, refl, sym, ap, subst}
+use mir.{MapTy.inst_fn, Syntax.Fn, Syntax.w64, Val.Val, Val.vptr, Val.vint, Val.vstruct, Val.vcons, Val.vnil}
+use native.Mathlib.Omega.{arith}
+use prog.{Capped.capped_fits, Memory.align, Memory.capped, Wp.Env, Wp.Wp, Wp.WpFn, Wp.after_seq, Wp.at_return}
+use types.ByLocal.{alloc_all, pass_all, free_all, look_at, get, get_in, get_tag, sets, sets_last, is, lands_as, env}
+use types.Kit.{‵, raw, ◌⊛◌, later, prop, at_ret, any_q, ◌$◌, ◌∵◌, !, qed, by, move, drop, use0, use1, use2, split, join, await, regoal, fsplit, fjoin, flt_i}
+use types.{Match.live, Match.vrt, Match.in_variant, Part.whole, Part.agg}
+use types.Run.{stop, fld, lit, of_opd, bin, size_word, align_word, and_then, no_more, first, switches_on, exec, returns, enter}
+use Rattle.dali_ring.specs.contracts.block.allocate.{ended, clauses, Key.name as #allocate}
+use Rattle.dali_ring.proofs.Held.{step, mark, marked, three_val, makes_origin, makes_mark, makes_three}
+use Rattle.dali_ring.proofs.block.allocate.Statement.{statement}
 use Rattle.dali_ring.specs.contracts.block.Origin as origin
 use Rattle.dali_ring.specs.contracts.block.Places as places
 use Rattle.dali_ring.specs.contracts.block.Release as release
-use Rattle.dali_ring.specs.contracts.block.allocate.{ended, clauses}
-use Rattle.dali_ring.specs.contracts.block.allocate.Key.{name as #allocate}
-use Rattle.dali_ring.proofs.block.allocate.Statement.{statement}
 use Rattle.dali_ring.proofs.block.allocate.Code as code
-use Rattle.dali_ring.proofs.Held.{step, mark, marked, three_val, makes_origin, makes_mark, makes_three}
 
 pub allocate_spec : {M : Type 1} → statement M
 allocate_spec 𝓤 𝓛 𝓜 𝓡 wired T A L K g d dd met md =

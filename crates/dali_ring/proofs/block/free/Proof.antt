@@ -1,50 +1,33 @@
 -- `free` makes room of the places, and hands it back with the allocator's token. Assumes `Logic`.
-use mathlib.Core.Path.{◌≡◌, refl, sym, ap, subst, ◌∙◌}
-use mathlib.Core.List.{List, [], ◌∷◌, ◌++◌}
-use native.Mathlib.Omega.{arith}
-use lib.Dec.{T as So}
+use Rattle.std.proofs.raw_atomic.Walks.{proved_at, leaves}
+use Rattle.core.proofs.alloc.Calls.{Al, Goes-blank, token, Gives, at_gives, Gives-goes, Gives-Gives}
+use Rattle.core.proofs.{atomic.Steps.fm, mem.Param.El, mem.Param.R, mem.Param.elτ}
+use Rattle.core.proofs.slots.Leases.{args, P, block_ty, block_size, block_align, uncapped}
+use Rattle.std_alloc.proofs.{RcSteps.word, RcSteps.word-Good, VecSteps.Shapes.after}
 use Prim.Native.Nat.{ℕ, ◌*◌, ◌<◌, ◌^◌}
-use base.Fml.{Lft, Share, ftrue, flft, froom, Incl-trans}
-use base.Logic.{SProp, never, id⊢}
+use base.{Fml.Lft, Fml.Share, Fml.ftrue, Fml.flft, Fml.froom, Fml.Incl-trans, Logic.SProp, Logic.never, Logic.id⊢}
 use contract.BorrowLft.{◌⊑◌}
-use contract.Monad.{fact}
-use contract.Running.{tables}
+use contract.{Monad.fact, Running.tables}
 use denote.Builtin.{RefOf, usize}
-use denote.Exit.{yes, no}
-use denote.RattleType.{owns}
-use denote.RawPtr.{Ptr, ptr_val, in_a_block}
-use denote.Signature.{plain, types_at}
-use denote.Steps.{nothing, heard}
-use denote.Triple.Call.{calls_at_last}
-use denote.Triple.Entry.{alive}
-use denote.Triple.Walked.{Stays, stay_dropped, walk_of, Goes-dropped}
-use mir.MapTy.{inst_fn}
-use mir.Syntax.{Fn, ty_unit, w64}
-use mir.Val.{Val, vptr, vint, vunit, has_ty, WT}
-use prog.Capped.{capped_fits}
-use prog.Memory.{align, capped}
-use prog.Wp.{Env, WpFn}
+use denote.{Exit.yes, Exit.no, RattleType.owns, RawPtr.Ptr, RawPtr.ptr_val, RawPtr.in_a_block, Signature.plain, Signature.types_at, Steps.nothing, Steps.heard}
+use denote.Triple.{Call.calls_at_last, Entry.alive, Walked.Stays, Walked.stay_dropped, Walked.walk_of, Walked.Goes-dropped}
+use lib.Dec.{T as So}
+use mathlib.Core.List.{List, [], ◌∷◌, ◌++◌}
+use mathlib.Core.Path.{◌≡◌, refl, sym, ap, subst, ◌∙◌}
+use mir.{MapTy.inst_fn, Syntax.Fn, Syntax.ty_unit, Syntax.w64, Val.Val, Val.vptr, Val.vint, Val.vunit, Val.has_ty, Val.WT}
+use native.Mathlib.Omega.{arith}
+use prog.{Capped.capped_fits, Memory.align, Memory.capped, Wp.Env, Wp.WpFn}
 use types.ByLocal.{alloc_all, pass_all, free_all, look_at, get, get_in, sets, is, lands_last, env}
 use types.Kit.{‵, raw, ◌⊛◌, given, later, prop, at_ret, ◌$◌, ◌∵◌, !, qed, by, move, keep, drop, use1, split, join, group, learn, await, regoal, rewrite, fsplit}
-use types.Kit.{fjoin, feq_i, flt_l}
-use types.Part.{whole, sub}
+use types.{Kit.fjoin, Kit.feq_i, Kit.flt_l, Part.whole, Part.sub}
 use types.Run.{stop, fld, unit_lit, of_opd, bin, size_word, align_word, and_then, no_more, first, blocks, exec, returns, enter}
-use Rattle.core.proofs.alloc.Calls.{Al, Goes-blank, token, Gives, at_gives, Gives-goes, Gives-Gives}
-use Rattle.core.proofs.atomic.Steps.{fm}
-use Rattle.core.proofs.mem.Param.{El, R, elτ}
-use Rattle.core.proofs.slots.Leases.{args, P, block_ty, block_size, block_align, uncapped}
-use Rattle.std.proofs.raw_atomic.Walks.{proved_at, leaves}
-use Rattle.std_alloc.proofs.RcSteps.{word, word-Good}
-use Rattle.std_alloc.proofs.VecSteps.Shapes.{after}
 use Rattle.dali_ring.specs.Block.{block_owns, release_owns}
+use Rattle.dali_ring.specs.contracts.block.free.{ended, clauses, Key.name as #free}
+use Rattle.dali_ring.proofs.{Held.step, Held.mark, Held.origin_is, Held.places_is, Held.release_is, Held.emptied, block.free.Statement.statement}
 use Rattle.dali_ring.specs.contracts.block.Origin as origin
 use Rattle.dali_ring.specs.contracts.block.Places as places
 use Rattle.dali_ring.specs.contracts.block.Release as release
-use Rattle.dali_ring.specs.contracts.block.free.{ended, clauses}
-use Rattle.dali_ring.specs.contracts.block.free.Key.{name as #free}
-use Rattle.dali_ring.proofs.block.free.Statement.{statement}
 use Rattle.dali_ring.proofs.block.free.Code as code
-use Rattle.dali_ring.proofs.Held.{step, mark, origin_is, places_is, release_is, emptied}
 
 pub free_spec : {M : Type 1} → statement M
 free_spec 𝓤 𝓛 𝓜 𝓡 wired T A L K g d dd met md =

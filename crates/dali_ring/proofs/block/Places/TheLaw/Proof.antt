@@ -1,17 +1,11 @@
 -- A `&` to the places shows each value. Assumes `Logic`.
+use Rattle.core.specs.contracts.marker.PhantomData as marker
 use base.Fml.{Incl-trans}
 use contract.BorrowLft.{meet_⊑_left}
+use denote.{Param.Laws.Laws, Param.Shared.copy_shared, RattleType.RattleType, RawPtr.RawPtr, Struct.Laws.field_copy, Struct.Lending.of_Lends}
 use mathlib.Core.List.{[], ◌++◌}
-use denote.RattleType.{RattleType}
-use denote.RawPtr.{RawPtr}
-use denote.Param.Laws.{Laws}
-use denote.Param.Shared.{copy_shared}
-use denote.Struct.Laws.{field_copy}
-use denote.Struct.Lending.{of_Lends}
-use Rattle.core.specs.contracts.marker.PhantomData as marker
+use Rattle.dali_ring.proofs.{Shared.block_lends_laws, Shared.lends_block, block.Places.TheLaw.Statement.statement}
 use Rattle.dali_ring.specs.contracts.block.Places as places
-use Rattle.dali_ring.proofs.block.Places.TheLaw.Statement.{statement}
-use Rattle.dali_ring.proofs.Shared.{block_lends_laws, lends_block}
 
 pub shares : (R : RattleType) (L : Laws R) → statement R L
 shares R L =

@@ -1,48 +1,28 @@
 -- `get` shows one value of those that the places lend. Assumes `Logic`.
-use mathlib.Core.Path.{◌≡◌, refl, ◌∙◌}
-use mathlib.Core.List.{List, [], ◌∷◌, ◌++◌}
-use native.Mathlib.Omega.{arith}
+use Rattle.std.{proofs.raw_atomic.Walks.proved_at, proofs.raw_atomic.Walks.leaves, specs.Prelude.Some, specs.Prelude.length, specs.Prelude.slice_get}
+use Rattle.core.proofs.{mem.Param.El, mem.Param.R, mem.Param.args, ptr.Rows.times_below, ptr.Rows.one_below}
+use Rattle.std_alloc.proofs.{RcSteps.word, RcSteps.word-Good, VecSteps.Shapes.after}
 use Prim.Native.Nat.{ℕ, ◌+◌, ◌*◌, ◌<◌, ◌^◌}
-use base.Fraction.{full_share}
-use base.Fml.{Lft, fat}
-use base.Logic.{SProp, emp, never, id⊢}
+use base.{Fml.Lft, Fml.fat, Fraction.full_share, Logic.SProp, Logic.emp, Logic.never, Logic.id⊢}
 use contract.BorrowLft.{◌⊑◌}
-use contract.Monad.{fact, fact_i}
-use contract.Running.{tables}
-use denote.Builtin.{RefOf, usize}
-use denote.Exit.{yes, no}
-use denote.Index.{place, place_is}
-use denote.Memory.{shared_of}
-use denote.Opens.{hide, unhide}
-use denote.Param.{layout}
-use denote.RattleType.{owns}
-use denote.RawPtr.{Ptr, in_a_block}
-use denote.Signature.{plain, types_at}
-use denote.Steps.{nothing, heard}
-use denote.Triple.Entry.{alive}
+use contract.{Monad.fact, Monad.fact_i, Running.tables}
+use denote.{Builtin.RefOf, Builtin.usize, Exit.yes, Exit.no, Index.place, Index.place_is, Memory.shared_of, Opens.hide, Opens.unhide, Param.layout}
+use denote.{RattleType.owns, RawPtr.Ptr, RawPtr.in_a_block, Signature.plain, Signature.types_at, Steps.nothing, Steps.heard, Triple.Entry.alive}
 use denote.Triple.Walked.{Stays, stay_dropped, walk_of, Goes-dropped}
-use mir.MapTy.{inst_fn}
-use mir.Syntax.{Fn, w64}
-use mir.Val.{Val, vptr, vint}
+use mathlib.Core.List.{List, [], ◌∷◌, ◌++◌}
+use mathlib.Core.Path.{◌≡◌, refl, ◌∙◌}
+use mir.{MapTy.inst_fn, Syntax.Fn, Syntax.w64, Val.Val, Val.vptr, Val.vint}
+use native.Mathlib.Omega.{arith}
 use prog.Wp.{Env, WpFn}
 use types.ByLocal.{alloc_all, pass_all, free_all, look_at, get, get_in, through, sets, sets_last, take_at, give_at, env}
 use types.Kit.{‵, raw, ◌⊛◌, prop, at_ret, ◌$◌, ◌∵◌, !, qed, by, move, drop, use0, use1, split, regoal, rewrite, fsplit, fjoin, feq_i, flt_l}
-use types.Part.{whole, sub}
-use types.Run.{stop, fld, of_opd, bin, size_lit, addr, first, blocks, exec, returns, enter}
-use Rattle.std.specs.Prelude.{Some, length, slice_get}
-use Rattle.core.proofs.mem.Param.{El, R, args}
-use Rattle.core.proofs.ptr.Rows.{times_below, one_below}
-use Rattle.std.proofs.raw_atomic.Walks.{proved_at, leaves}
-use Rattle.std_alloc.proofs.RcSteps.{word, word-Good}
-use Rattle.std_alloc.proofs.VecSteps.Shapes.{after}
+use types.{Part.whole, Part.sub, Run.stop, Run.fld, Run.of_opd, Run.bin, Run.size_lit, Run.addr, Run.first, Run.blocks, Run.exec, Run.returns, Run.enter}
 use Rattle.dali_ring.specs.Block.{block_lends}
+use Rattle.dali_ring.specs.contracts.block.Places.get.{ended, clauses, Key.name as #get}
+use Rattle.dali_ring.proofs.{Held.step, Held.origin_is, Held.item_of, Held.shown, block.Places.get.Statement.statement}
 use Rattle.dali_ring.specs.contracts.block.Origin as origin
 use Rattle.dali_ring.specs.contracts.block.Places as places
-use Rattle.dali_ring.specs.contracts.block.Places.get.{ended, clauses}
-use Rattle.dali_ring.specs.contracts.block.Places.get.Key.{name as #get}
-use Rattle.dali_ring.proofs.block.Places.get.Statement.{statement}
 use Rattle.dali_ring.proofs.block.Places.get.Code as code
-use Rattle.dali_ring.proofs.Held.{step, origin_is, item_of, shown}
 
 pub get_spec : {M : Type 1} → statement M
 get_spec 𝓤 𝓛 𝓜 𝓡 wired T L =

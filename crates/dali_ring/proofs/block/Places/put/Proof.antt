@@ -1,49 +1,30 @@
 -- `put` takes a place out of the block as room, fills it, and lays it back. Assumes `Logic`.
-use mathlib.Core.Path.{◌≡◌, refl, sym, ◌∙◌}
-use mathlib.Core.List.{List, [], ◌∷◌, ◌++◌}
-use native.Mathlib.Omega.{arith}
+use Rattle.std.{proofs.raw_atomic.Walks.proved_at, proofs.raw_atomic.Walks.leaves, specs.Prelude.length}
+use Rattle.core.proofs.{mem.Param.El, mem.Param.R, mem.Param.args, mem.Param.elτ, mem.Param.lawful, mem.Param.one, ptr.Rows.times_below, ptr.Rows.one_below}
+use Rattle.std_alloc.proofs.{RcSteps.word, RcSteps.word-Good, VecSteps.Shapes.after}
 use Prim.Native.Nat.{ℕ, ◌+◌, ◌*◌, ◌<◌, ◌≤◌, ◌^◌}
-use base.Fraction.{full_share}
-use base.Fml.{Lft, Share, ftrue, fat, flft, froom}
-use base.Logic.{SProp, emp, never, id⊢}
+use base.{Fml.Lft, Fml.Share, Fml.ftrue, Fml.fat, Fml.flft, Fml.froom, Fraction.full_share, Logic.SProp, Logic.emp, Logic.never, Logic.id⊢}
 use borrow.Table.OneValue.{part_in}
 use contract.BorrowLft.{◌⊑◌}
-use contract.Monad.{fact, fact_i}
-use contract.Running.{tables}
-use denote.Builtin.{usize}
-use denote.Exit.{yes, no}
-use denote.Index.{place, place_is}
-use denote.Memory.{part_at}
-use denote.Param.{layout}
-use denote.RattleType.{RattleType, owns}
-use denote.RawPtr.{Ptr, in_a_block}
-use denote.Signature.{plain, types_at}
-use denote.Steps.{nothing, heard, opens, closes}
-use denote.Triple.Entry.{alive}
+use contract.{Monad.fact, Monad.fact_i, Running.tables}
+use denote.{Builtin.usize, Exit.yes, Exit.no, Index.place, Index.place_is, Memory.part_at, Param.layout, RattleType.RattleType, RattleType.owns, RawPtr.Ptr}
+use denote.{RawPtr.in_a_block, Signature.plain, Signature.types_at, Steps.nothing, Steps.heard, Steps.opens, Steps.closes, Triple.Entry.alive}
 use denote.Triple.Walked.{Stays, stay_dropped, stay_ref, walk_of, Goes-dropped, Goes-ref}
-use mir.MapTy.{inst_fn}
-use mir.Syntax.{Fn, w64}
-use mir.Val.{Val, vptr, vint, vunit}
+use mathlib.Core.List.{List, [], ◌∷◌, ◌++◌}
+use mathlib.Core.Path.{◌≡◌, refl, sym, ◌∙◌}
+use mir.{MapTy.inst_fn, Syntax.Fn, Syntax.w64, Val.Val, Val.vptr, Val.vint, Val.vunit}
+use native.Mathlib.Omega.{arith}
 use prog.Wp.{Env, WpFn}
 use types.ByLocal.{alloc_all, pass_all, free_all, look_at, get, get_in, through, sets, take_at, give_at, env}
 use types.Kit.{‵, raw, ◌⊛◌, prop, at_ret, ◌$◌, ◌∵◌, !, qed, by, move, drop, use0, use1, use2, split, join, regoal, rewrite, fsplit, fsplit3, fjoin, fjoin3}
-use types.Kit.{feq_i, flt_i, flt_l}
-use types.Part.{whole, sub}
+use types.{Kit.feq_i, Kit.flt_i, Kit.flt_l, Part.whole, Part.sub}
 use types.Run.{init, stop, fld, unit_lit, of_opd, bin, size_lit, assigns_last, first, blocks, exec, returns, enter}
-use Rattle.std.specs.Prelude.{length}
-use Rattle.core.proofs.mem.Param.{El, R, args, elτ, lawful, one}
-use Rattle.core.proofs.ptr.Rows.{times_below, one_below}
-use Rattle.std.proofs.raw_atomic.Walks.{proved_at, leaves}
-use Rattle.std_alloc.proofs.RcSteps.{word, word-Good}
-use Rattle.std_alloc.proofs.VecSteps.Shapes.{after}
 use Rattle.dali_ring.specs.Block.{put_at, filled, block_owns}
+use Rattle.dali_ring.specs.contracts.block.Places.put.{ended, clauses, Key.name as #put}
+use Rattle.dali_ring.proofs.{Held.step, Held.origin_is, Held.besides, Held.taken, Held.put, block.Places.put.Statement.statement}
 use Rattle.dali_ring.specs.contracts.block.Origin as origin
 use Rattle.dali_ring.specs.contracts.block.Places as places
-use Rattle.dali_ring.specs.contracts.block.Places.put.{ended, clauses}
-use Rattle.dali_ring.specs.contracts.block.Places.put.Key.{name as #put}
-use Rattle.dali_ring.proofs.block.Places.put.Statement.{statement}
 use Rattle.dali_ring.proofs.block.Places.put.Code as code
-use Rattle.dali_ring.proofs.Held.{step, origin_is, besides, taken, put}
 
 pub put_spec : {M : Type 1} → statement M
 put_spec 𝓤 𝓛 𝓜 𝓡 wired T L =

@@ -1,8 +1,7 @@
 use Rattle.std.proofs.Common.{◌≡◌, ◌<◌, length, arith, None, ap, ◌∙◌}
 use Rattle.std.proofs.lemmas.List.{length-set}
-use Rattle.dali_ring.proofs.Moves.{b_within, first_low, moved}
+use Rattle.dali_ring.proofs.{Moves.b_within, Moves.first_low, Moves.moved, links.Links.relocate.Goals.then-next-self, links.Links.relocate.Goals.else-next-self}
 use Rattle.dali_ring.proofs.links.Links.relocate.Goals as goal
-use Rattle.dali_ring.proofs.links.Links.relocate.Goals.{then-next-self, else-next-self}
 
 pub read-at-requires : goal.read-at-requires
 read-at-requires g c = let p =

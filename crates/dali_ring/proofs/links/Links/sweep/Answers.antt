@@ -1,6 +1,5 @@
 use Rattle.std.proofs.Common.{sym, ◌∙◌}
-use Rattle.dali_ring.proofs.Waiting.{place_within}
-use Rattle.dali_ring.proofs.Sweeps.{swept_first, swept_end, swept_out, swept_on, swept_place}
+use Rattle.dali_ring.proofs.{Sweeps.swept_first, Sweeps.swept_end, Sweeps.swept_out, Sweeps.swept_on, Sweeps.swept_place, Waiting.place_within}
 use Rattle.dali_ring.proofs.links.Links.sweep.Goals as goal
 
 pub loop-item-init : goal.loop-item-init

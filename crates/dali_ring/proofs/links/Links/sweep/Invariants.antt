@@ -1,6 +1,5 @@
 use Rattle.std.proofs.Common.{length}
-use Rattle.dali_ring.specs.Linked.{follow, link_at, item_at}
-use Rattle.dali_ring.proofs.Sweeps.{SweptTo}
+use Rattle.dali_ring.{specs.Linked.follow, specs.Linked.link_at, specs.Linked.item_at, proofs.Sweeps.SweptTo}
 use Rattle.dali_ring.proofs.links.Links.sweep.Given as goal
 
 abbrev pub invariant-loop-item : goal.invariant-loop-item
