@@ -1,8 +1,7 @@
-use Rattle.std.proofs.Common.{◌≡◌, ℕ, Bool, true, false, List, [], ◌∷◌, take, Option, Some, None, refl, sym, ap, subst, ◌∙◌, arith, ◌==◌}
-use Rattle.std.specs.Prelude.{if◌then◌else◌, is_some}
-use Rattle.std.proofs.lemmas.Bool.Decides.{nat_tests}
-use Rattle.dali_arbiter.specs.declared.request.Request.{Request}
+use Rattle.std.proofs.Common.{◌≡◌, ℕ, Bool, true, false, List, [], ◌∷◌, take, Option, Some, None, refl, sym, ap, subst, ◌∙◌, arith, ◌==◌, if◌then◌else◌}
+use Rattle.std.proofs.{Common.is_some, lemmas.Bool.Decides.nat_tests}
 use Rattle.dali_arbiter.specs.Arbiter.{Arbiter, next, first_waiting, without_first, rival, collision, bus_collided, bus_destroyed}
+use Rattle.dali_arbiter.specs.declared.request.Request.{Request}
 
 -- THE OTHER REQUEST OF A COLLISION has another sender, and is next once the first is taken.
 

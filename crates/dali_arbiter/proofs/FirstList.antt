@@ -1,12 +1,10 @@
 -- The first of the lists that is not empty, and what it leaves.
-use Rattle.std.proofs.Common.{◌≡◌, ℕ, zero, suc, ◌+◌, ◌-◌, Bool, true, false, List, [], ◌∷◌, drop, set, get_or}
-use Rattle.std.proofs.Common.{Option, Some, None, refl, sym, ap, subst, ◌∙◌, arith, ◌==◌}
-use Rattle.std.specs.Prelude.{is_some, IsSome, slice_get, if◌then◌else◌}
+use Rattle.std.proofs.Common.{◌≡◌, ℕ, zero, suc, ◌+◌, ◌-◌, Bool, true, false, List, [], ◌∷◌, drop, set, get_or, Option, Some, None, refl, sym, ap, subst, ◌∙◌}
+use Rattle.std.proofs.Common.{arith, ◌==◌, is_some, IsSome, slice_get, if◌then◌else◌}
 use Rattle.std.proofs.lemmas.Bool.Decides.{nat_tests}
 use Rattle.dali_ring.specs.Queues.{Queues, first_from, best, list_of, with_list}
-use Rattle.dali_arbiter.specs.declared.request.Request.{Request}
 use Rattle.dali_arbiter.specs.Arbiter.{first_waiting, without_first, rival, collision}
-use Rattle.dali_arbiter.specs.Held.{without_collision}
+use Rattle.dali_arbiter.specs.{Held.without_collision, declared.request.Request.Request}
 
 abbrev Lists : Type 0
 Lists = List (List Request)

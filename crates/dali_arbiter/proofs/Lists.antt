@@ -1,13 +1,10 @@
 -- What holds of the five lists, and of what waits of an owner, with each change.
-use Rattle.std.proofs.Common.{◌≡◌, ℕ, zero, suc, ◌+◌, ◌-◌, ◌<◌, ◌≤◌, Bool, true, false, List, [], ◌∷◌, ◌++◌, length, take, set, get_or, map, filter, not, cond}
-use Rattle.std.proofs.Common.{Option, Some, None, refl, sym, ap, subst, ◌∙◌, arith, ◌==◌}
-use Rattle.std.specs.Prelude.{IfSome, slice_get, is_some, if◌then◌else◌}
-use Rattle.std.specs.List.{AllByRecursion}
-use Rattle.std.proofs.lemmas.Bool.Decides.{nat_tests}
+use Rattle.std.proofs.Common.{◌≡◌, ℕ, zero, suc, ◌+◌, ◌-◌, ◌<◌, ◌≤◌, Bool, true, false, List, [], ◌∷◌, ◌++◌, length, set, get_or, map, filter, not, cond}
+use Rattle.std.proofs.Common.{Option, Some, None, refl, sym, ap, subst, ◌∙◌, arith, ◌==◌, is_some, if◌then◌else◌}
+use Rattle.std.{proofs.lemmas.Bool.Decides.nat_tests, specs.List.AllByRecursion}
 use Rattle.dali_ring.specs.Queues.{Queues, with_list, list_of, all_without}
-use Rattle.dali_arbiter.specs.declared.request.Request.{Request}
-use Rattle.dali_arbiter.specs.Arbiter.{first_waiting, without_first, first_emptied, put_last, bus_offered, Arbiter, collision}
-use Rattle.dali_arbiter.specs.Held.{IsHeld, without_collision}
+use Rattle.dali_arbiter.specs.Arbiter.{without_first, put_last, bus_offered, Arbiter, collision}
+use Rattle.dali_arbiter.specs.{Held.IsHeld, Held.without_collision, declared.request.Request.Request}
 
 abbrev Lists : Type 0
 Lists = List (List Request)
@@ -49,18 +46,9 @@ put_seen q q2 owner r b held least most is view =
 
 -- ---------------------------------------------------------------- list 1 is the owner's
 
-pub owner_first : (ls : Lists) → slice_get (get_or ls 0 []) 0 ≡ first_waiting (take 1 ls)
-owner_first [] = refl
-owner_first ([] ∷ ls) = refl
-owner_first ((r ∷ rs) ∷ ls) = refl
-
 pub none_owned : (owner : Option ℕ) (rs : List Request) → AllOwned owner rs → owner ≡ None → rs ≡ []
 none_owned owner [] all none = refl
 none_owned owner (r ∷ rs) all none = let e : owner ≡ Some r.sender = all.0 in absurd (cc)
-
-pub first_owned : (owner : Option ℕ) (o : ℕ) (rs : List Request) → AllOwned owner rs → owner ≡ Some o → IfSome (slice_get rs 0) (λ r. r.sender ≡ o)
-first_owned owner o [] all is = tt
-first_owned owner o (r ∷ rs) all is = let e : owner ≡ Some r.sender = all.0 in cc
 
 rest_five : (ls : Lists) → length (without_first ls) ≡ length ls
 rest_five [] = refl
@@ -76,20 +64,6 @@ pub rest_held : (q q2 : Queues Request) (owner : Option ℕ) → IsHeld q owner 
 rest_held q q2 owner held is = record {
   five = ap length is ∙ rest_five q.lists ∙ held.five;
   owned = rw is (rest_owned owner q.lists held.owned);
-}
-
-emptied_five : (ls : Lists) → length (first_emptied ls) ≡ length ls
-emptied_five [] = refl
-emptied_five (l ∷ ls) = refl
-
-emptied_owned : (owner : Option ℕ) (ls : Lists) → AllOwned owner (get_or (first_emptied ls) 0 [])
-emptied_owned owner [] = tt
-emptied_owned owner (l ∷ ls) = tt
-
-pub emptied_held : (q q2 : Queues Request) (old new : Option ℕ) → IsHeld q old → q2.lists ≡ first_emptied q.lists → IsHeld q2 new
-emptied_held q q2 old new held is = record {
-  five = ap length is ∙ emptied_five q.lists ∙ held.five;
-  owned = rw is (emptied_owned new q.lists);
 }
 
 pub collision_held : (q q2 : Queues Request) (owner : Option ℕ) → IsHeld q owner → q2.lists ≡ without_collision q.lists → IsHeld q2 owner

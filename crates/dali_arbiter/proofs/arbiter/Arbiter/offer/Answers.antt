@@ -1,6 +1,5 @@
-use Rattle.dali_arbiter.proofs.Lists.{put_seen}
+use Rattle.dali_arbiter.proofs.{Lists.put_seen, arbiter.Arbiter.offer.Goals.in-Ok, arbiter.Arbiter.offer.Goals.in-Err}
 use Rattle.dali_arbiter.proofs.arbiter.Arbiter.offer.Goals as goal
-use Rattle.dali_arbiter.proofs.arbiter.Arbiter.offer.Goals.{in-Ok, in-Err}
 
 pub returns-clause-put : goal.returns-clause-put
 returns-clause-put c = elim c.match-push.branch [

@@ -1,6 +1,5 @@
 use Rattle.std.proofs.Common.{◌≡◌, None, subst, []}
-use Rattle.dali_arbiter.specs.Arbiter.{Arbiter, first_list}
-use Rattle.dali_arbiter.proofs.Lists.{none_owned}
+use Rattle.dali_arbiter.{specs.Arbiter.Arbiter, specs.Arbiter.first_list, proofs.Lists.none_owned}
 use Rattle.dali_arbiter.proofs.arbiter.Arbiter.owner.Goals as goal
 
 pub returns-clause-free : goal.returns-clause-free
