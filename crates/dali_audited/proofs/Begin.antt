@@ -1,26 +1,12 @@
-use Rattle.std.proofs.Common.{◌≡◌, ℕ, ◌<◌, ◌≤◌, inl, inr, Bool, true, false, List, [], refl, sym, ap, subst, arith, None}
-use Rattle.std.specs.Prelude.{nat_lt}
-use Rattle.std.proofs.lemmas.List.{get_or-replicate, get_or_past, length-replicate}
-use Rattle.std.proofs.lemmas.Bool.Decides.{nat_tests}
+use Rattle.std.proofs.Common.{◌≡◌, ℕ, ◌<◌, ◌≤◌, inl, inr, Bool, true, false, List, [], refl, sym, ap, subst, arith, None, nat_lt}
+use Rattle.std.proofs.lemmas.{Bool.Decides.nat_tests, List.get_or-replicate, List.get_or_past, List.length-replicate}
 use Rattle.dali_gear.specs.Gear.{Gear}
-use Rattle.dali_script.specs.Records.{Has}
-use Rattle.dali_script.proofs.Transactions.{stage_none}
+use Rattle.dali_script.{specs.Records.Has, proofs.Transactions.stage_none}
+use Rattle.dali_audit.specs.{Bus.bus_at_first, Findings.known_at_first, Findings.findings_in, Findings.known_in, Holders.holder_at, Holders.table_at_first}
 use Rattle.dali_audit.specs.declared.holders.Holder.TheVariants as holder
-use Rattle.dali_audit.specs.Holders.{holder_at, table_at_first}
-use Rattle.dali_audit.specs.Bus.{bus_at_first}
-use Rattle.dali_audit.specs.Findings.{known_at_first, findings_in, known_in}
-use Rattle.dali_events.specs.declared.event.Event.{Event}
-use Rattle.dali_events.specs.declared.used.Used.{Used}
-use Rattle.dali_events.specs.Plan.{Plan, IsPlan}
-use Rattle.dali_events.specs.World.{start}
-use Rattle.dali_events.specs.Runs.{after}
-use Rattle.dali_events.specs.Wanted.{gear_of}
-use Rattle.dali_events.proofs.Invariant.Starting.{IsUsedOrFresh, row_at, start_count}
-use Rattle.dali_events.proofs.Invariant.Safe.{holds_start}
-use Rattle.dali_audited.specs.Capture.{capture_of}
-use Rattle.dali_audited.specs.Undisturbed.{IsUndisturbed}
-use Rattle.dali_audited.specs.Tables.{Holds, IsTableOf}
-use Rattle.dali_audited.proofs.Grammar.{Fits}
+use Rattle.dali_events.specs.{Plan.Plan, Plan.IsPlan, Runs.after, Wanted.gear_of, World.start, declared.event.Event.Event, declared.used.Used.Used}
+use Rattle.dali_events.proofs.Invariant.{Safe.holds_start, Starting.IsUsedOrFresh, Starting.row_at, Starting.start_count}
+use Rattle.dali_audited.{specs.Capture.capture_of, specs.Tables.Holds, specs.Tables.IsTableOf, specs.Undisturbed.IsUndisturbed, proofs.Grammar.Fits}
 use Rattle.dali_audited.proofs.Whole.{Agrees, Ended, Met, Any, IsToldOf, whole}
 
 -- A RUN BEGINS: the table is empty, and gear from the factory have no short address

@@ -1,48 +1,26 @@
 use Rattle.std.proofs.Common.{◌≡◌, ℕ, ◌<◌, inl, inr, Bool, true, false, List, refl, sym, ap, subst, ◌∙◌, arith, length, get_or, Option, Some, None}
-use Rattle.std.specs.Prelude.{if◌then◌else◌, ◌==◌, option_map}
-use Rattle.dali_frame.specs.declared.frames.Answer.{Answer}
+use Rattle.std.proofs.Common.{if◌then◌else◌, ◌==◌, option_map}
+use Rattle.dali_frame.specs.{Random.value_of, Random.number_of, Random.MASK24, Short.short_of, declared.frames.Answer.Answer}
 use Rattle.dali_frame.specs.declared.frames.Answer.TheVariants.{Silence, Byte, Damaged}
 use Rattle.dali_frame.specs.declared.numbers.SearchAddress.{SearchAddress}
-use Rattle.dali_frame.specs.Short.{short_of}
-use Rattle.dali_frame.specs.Random.{value_of, number_of, MASK24}
-use Rattle.dali_special.specs.declared.command.Part.{Part}
-use Rattle.dali_special.specs.declared.command.Part.TheVariants.{High, Middle, Low}
 use Rattle.dali_special.specs.declared.command.Command.{Command}
 use Rattle.dali_special.specs.declared.command.Command.TheVariants.{Compare, Verify, QueryShort, RandomByte, Program, Randomise, Other}
-use Rattle.dali_gear.specs.declared.row.Reach.TheVariants.{Everyone}
-use Rattle.dali_gear.specs.Gear.{fresh}
-use Rattle.dali_gear.specs.Row.{answers_of, heard_of}
-use Rattle.dali_script.specs.declared.block.Block.{Block}
-use Rattle.dali_script.specs.declared.stage.Stage.{Stage}
-use Rattle.dali_script.specs.declared.stage.Stage.TheVariants as stage
-use Rattle.dali_script.specs.declared.finding.Finding.{Finding}
-use Rattle.dali_script.specs.declared.finding.Finding.TheVariants.{Queried, Resolved}
-use Rattle.dali_script.specs.Records.{Assignment, Has}
+use Rattle.dali_special.specs.declared.command.Part.{Part, TheVariants.High, TheVariants.Middle, TheVariants.Low}
+use Rattle.dali_gear.specs.{Gear.fresh, Row.answers_of, Row.heard_of, declared.row.Reach.TheVariants.Everyone}
 use Rattle.dali_script.specs.Findings.{Asked, found_by, assigned}
-use Rattle.dali_script.specs.Stages.{Follows, IsSearched, IsAsked}
-use Rattle.dali_script.proofs.Members.{same_member}
-use Rattle.dali_script.proofs.Transactions.{asks_hunting, low_same, self}
-use Rattle.dali_audit.specs.declared.bus.Bus.{Bus}
-use Rattle.dali_audit.specs.declared.bus.Search.{Search}
-use Rattle.dali_audit.specs.declared.bus.Spelled.{Spelled}
-use Rattle.dali_audit.specs.declared.bus.Spelled.TheVariants as spelled
-use Rattle.dali_audit.specs.declared.holders.Change.{Change}
-use Rattle.dali_audit.specs.declared.holders.Change.TheVariants as change
-use Rattle.dali_audit.specs.Bus.{number}
-use Rattle.dali_audit.specs.Findings.{asks_one}
+use Rattle.dali_script.specs.{Records.Assignment, Records.Has, Stages.Follows, Stages.IsSearched, Stages.IsAsked, declared.block.Block.Block}
+use Rattle.dali_script.specs.declared.{finding.Finding.Finding, finding.Finding.TheVariants.Queried, finding.Finding.TheVariants.Resolved, stage.Stage.Stage}
+use Rattle.dali_script.proofs.{Members.same_member, Transactions.asks_hunting, Transactions.low_same, Transactions.self}
+use Rattle.dali_script.specs.declared.stage.Stage.TheVariants as stage
+use Rattle.dali_audit.specs.{Bus.number, Findings.asks_one}
 use Rattle.dali_audit.specs.Holders.{change_by_command, short_change, pair_told, low_change, number_told}
-use Rattle.dali_events.specs.Plan.{Plan, IsPlan}
-use Rattle.dali_events.specs.World.{World}
-use Rattle.dali_events.specs.Promise.{Names}
-use Rattle.dali_events.specs.Wanted.{gear_of}
-use Rattle.dali_events.proofs.Invariant.Drawn.{HasDrawn, are_drawn}
-use Rattle.dali_events.proofs.Invariant.Known.{found_random, search_known}
-use Rattle.dali_events.proofs.Invariant.Sending.{KnowsAll}
-use Rattle.dali_events.proofs.Invariant.Safe.{Holds as HoldsAll}
-use Rattle.dali_audited.specs.Tables.{Holds}
-use Rattle.dali_audited.proofs.Grammar.{IsAt, Fits}
-use Rattle.dali_audited.proofs.Standing.{AreApart, IsTold}
-use Rattle.dali_audited.proofs.Replies.{Replies, Two, several, somebody, query_replies, byte_replies}
+use Rattle.dali_audit.specs.declared.{bus.Bus.Bus, bus.Search.Search, bus.Spelled.Spelled, holders.Change.Change}
+use Rattle.dali_audit.specs.declared.bus.Spelled.TheVariants as spelled
+use Rattle.dali_audit.specs.declared.holders.Change.TheVariants as change
+use Rattle.dali_events.specs.{Plan.Plan, Plan.IsPlan, Promise.Names, Wanted.gear_of, World.World}
+use Rattle.dali_events.proofs.Invariant.{Drawn.HasDrawn, Drawn.are_drawn, Known.found_random, Known.search_known, Safe.Holds as HoldsAll, Sending.KnowsAll}
+use Rattle.dali_audited.{specs.Tables.Holds, proofs.Grammar.IsAt, proofs.Grammar.Fits, proofs.Replies.Replies}
+use Rattle.dali_audited.proofs.{Replies.Two, Replies.several, Replies.somebody, Replies.query_replies, Replies.byte_replies, Standing.AreApart, Standing.IsTold}
 
 -- ---------------------------------------------------------------- gear of a run
 module _ (p : Plan) (plan : IsPlan p) (w : World) (k : HoldsAll p w) where

@@ -1,39 +1,24 @@
-use Rattle.std.proofs.Common.{◌≡◌, ℕ, ◌+◌, ◌-◌, ◌<◌, ◌≤◌, Bool, true, false, List, refl, sym, ap, subst, ◌∙◌, arith, Option, Some, None}
-use Rattle.std.specs.Prelude.{◌&&◌, ◌||◌, not, ◌==◌, nat_lt, if◌then◌else◌, unwrap_or}
-use Rattle.std.proofs.lemmas.Bool.Decides.{nat_tests}
-use Rattle.dali_frame.specs.declared.frames.Forward.{Forward}
-use Rattle.dali_frame.specs.declared.frames.Answer.{Answer}
-use Rattle.dali_frame.specs.declared.frames.Answer.TheVariants.{Silence, Byte, Damaged}
-use Rattle.dali_frame.specs.declared.numbers.SearchAddress.{SearchAddress}
-use Rattle.dali_frame.specs.Short.{short_of}
-use Rattle.dali_special.specs.declared.command.Part.TheVariants.{High, Middle, Low}
-use Rattle.dali_special.specs.declared.command.Target.TheVariants.{Unaddressed}
-use Rattle.dali_special.specs.declared.command.Command.{Command}
-use Rattle.dali_special.specs.declared.command.Command.TheVariants.{Terminate, Initialise, Randomise, Compare, Withdraw, SearchHigh, SearchMiddle, SearchLow}
-use Rattle.dali_special.specs.declared.command.Command.TheVariants.{Program, QueryShort, RandomByte, Arc}
+use Rattle.std.proofs.Common.{◌≡◌, ℕ, ◌+◌, ◌-◌, ◌<◌, ◌≤◌, Bool, true, false, List, refl, sym, ap, subst, ◌∙◌, arith, Option, Some, None, ◌&&◌, ◌||◌, not, ◌==◌}
+use Rattle.std.proofs.Common.{nat_lt, if◌then◌else◌}
+use Rattle.std.{proofs.lemmas.Bool.Decides.nat_tests, specs.Prelude.unwrap_or}
+use Rattle.dali_frame.specs.{Short.short_of, declared.frames.Answer.Answer, declared.frames.Answer.TheVariants.Silence, declared.frames.Answer.TheVariants.Byte}
+use Rattle.dali_frame.specs.declared.{frames.Answer.TheVariants.Damaged, frames.Forward.Forward, numbers.SearchAddress.SearchAddress}
 use Rattle.dali_special.specs.Command.{MASK, command_of, is_question, is_send_twice}
-use Rattle.dali_special.proofs.Table.{one_frame}
-use Rattle.dali_script.specs.declared.block.Block.{Block}
-use Rattle.dali_script.specs.declared.stage.Stage.{Stage}
-use Rattle.dali_script.specs.declared.stage.Stage.TheVariants as stage
-use Rattle.dali_script.specs.Records.{Assignment}
-use Rattle.dali_script.specs.Scripts.{is_asking, MayGive}
-use Rattle.dali_script.specs.Stages.{Follows, next_stage, hunted, doubted, queried, named, verified, answered, byte_heard, bytes_heard, number_heard}
-use Rattle.dali_script.proofs.Transactions.{asks_hunting, positive, middle_next, low_next, middle_same, low_same}
-use Rattle.dali_capture.specs.declared.item.Heard.TheVariants as heard
+use Rattle.dali_special.specs.declared.command.Command.{Command, TheVariants.Terminate, TheVariants.Initialise, TheVariants.Randomise, TheVariants.Compare}
+use Rattle.dali_special.specs.declared.command.Command.TheVariants.{Withdraw, SearchHigh, SearchMiddle, SearchLow, Program, QueryShort, RandomByte, Arc}
+use Rattle.dali_special.specs.declared.command.Part.TheVariants.{High, Middle, Low}
+use Rattle.dali_special.{specs.declared.command.Target.TheVariants.Unaddressed, proofs.Table.one_frame}
 use Rattle.dali_capture.specs.declared.item.Item.{Item}
-use Rattle.dali_audit.specs.declared.seen.Seen.TheVariants as seen
-use Rattle.dali_audit.specs.declared.bus.Search.{Search}
-use Rattle.dali_audit.specs.declared.bus.First.{First}
-use Rattle.dali_audit.specs.declared.bus.Spelled.{Spelled}
+use Rattle.dali_capture.specs.declared.item.Heard.TheVariants as heard
+use Rattle.dali_script.specs.{Records.Assignment, Scripts.is_asking, Scripts.MayGive, Stages.Follows}
+use Rattle.dali_script.specs.Stages.{next_stage, hunted, doubted, queried, named, verified, answered, byte_heard, bytes_heard, number_heard, may_follow}
+use Rattle.dali_script.{specs.declared.block.Block.Block, specs.declared.stage.Stage.Stage, proofs.Giving.may_give_by}
+use Rattle.dali_script.proofs.Transactions.{asks_hunting, positive, middle_next, low_next, middle_same, low_same}
+use Rattle.dali_script.specs.declared.stage.Stage.TheVariants as stage
+use Rattle.dali_audit.specs.Bus.{number, repeats, completes, same_frame, addresses, begun_after, sent_by, byte_heard as spelled_on, same_place, same_number}
+use Rattle.dali_audit.specs.{Bus.told_apart, declared.bus.Bus.Bus, declared.bus.First.First, declared.bus.Search.Search, declared.bus.Spelled.Spelled}
 use Rattle.dali_audit.specs.declared.bus.Spelled.TheVariants as spelled
-use Rattle.dali_audit.specs.declared.bus.Bus.{Bus}
-use Rattle.dali_audit.specs.Bus.{number, repeats, completes, same_frame, addresses, begun_after, sent_by, byte_heard as spelled_on}
-use Rattle.dali_audit.specs.Bus.{same_place, same_number, told_apart, bus_after}
-use Rattle.dali_script.specs.Stages.{may_follow}
-use Rattle.dali_script.proofs.Giving.{may_give_by}
-use Rattle.dali_audited.specs.Undisturbed.{AwaitsMore}
-use Rattle.dali_audited.specs.Capture.{is_randomise, rest_before, item_at}
+use Rattle.dali_audited.specs.{Capture.is_randomise, Capture.rest_before, Capture.item_at, Undisturbed.AwaitsMore}
 
 -- WHAT A STAGE OF THE RUNNING TRANSACTION SAYS OF THE BUS as the audit knows it, variable by variable
 
@@ -135,11 +120,6 @@ bus_by c again second x f h b = record (sent_by c again second x h (passed_by c 
 
 abbrev pub item_of : ℕ → Bool → Command → Forward → Item
 item_of now drew c f = item_at (now + rest_before drew c) (heard.Forward f)
-
-pub by_command : (now : ℕ) (drew : Bool) (f : Forward) (h : Answer) (b : Bus)
-    → bus_after (item_of now drew (command_of f) f) (seen.Sent f h) b
-    ≡ bus_by (command_of f) (repeats b.half f) (completes b.half (item_of now drew (command_of f) f).until f) (item_of now drew (command_of f) f) f h b
-by_command now drew f h b = refl
 
 -- ---------------------------------------------------------------- pairs
 same : (n : ℕ) → (n == n) ≡ true

@@ -1,28 +1,17 @@
-use Rattle.std.proofs.Common.{◌≡◌, ℕ, ◌<◌, ◌⊎◌, inl, inr, Bool, true, false, List, refl, sym, ap, subst, ◌∙◌, length, get_or, Option, Some, None}
-use Rattle.std.specs.Prelude.{◌&&◌, not, nat_le, if◌then◌else◌}
-use Rattle.dali_frame.specs.declared.frames.Answer.{Answer}
-use Rattle.dali_frame.specs.declared.frames.Answer.TheVariants.{Silence, Byte, Damaged}
-use Rattle.dali_frame.specs.declared.frames.Forward.{Forward}
+use Rattle.std.proofs.Common.{◌≡◌, ℕ, ◌<◌, ◌⊎◌, inl, inr, Bool, true, false, List, refl, sym, ap, subst, ◌∙◌, length, get_or, Option, Some, None, ◌&&◌, not}
+use Rattle.std.proofs.Common.{nat_le, if◌then◌else◌}
 use Rattle.dali_frame.specs.Random.{value_of}
-use Rattle.dali_special.specs.declared.command.Target.{Target}
-use Rattle.dali_special.specs.declared.command.Command.{Command}
+use Rattle.dali_frame.specs.declared.frames.{Answer.Answer, Answer.TheVariants.Silence, Answer.TheVariants.Byte, Answer.TheVariants.Damaged, Forward.Forward}
+use Rattle.dali_special.specs.{Command.program_data, declared.command.Command.Command}
 use Rattle.dali_special.specs.declared.command.Command.TheVariants.{Terminate, Initialise, Withdraw, Compare, Verify, QueryShort}
-use Rattle.dali_special.specs.Command.{program_data}
-use Rattle.dali_gear.specs.declared.row.Reach.TheVariants.{Everyone}
-use Rattle.dali_gear.specs.declared.state.InitialisationState.{InitialisationState}
-use Rattle.dali_gear.specs.declared.state.InitialisationState.TheVariants.{Disabled, Enabled, Withdrawn}
+use Rattle.dali_special.specs.declared.command.Target.{Target}
 use Rattle.dali_gear.specs.Gear.{Gear, fresh, answer, is_active, is_enabled, is_found, is_second, concerns, has_short, state_after, YES}
-use Rattle.dali_gear.specs.Row.{answers_of, heard_of, row_after, drawn_of}
+use Rattle.dali_gear.specs.{Row.answers_of, Row.heard_of, Row.row_after, Row.drawn_of, declared.row.Reach.TheVariants.Everyone}
+use Rattle.dali_gear.specs.declared.state.InitialisationState.{InitialisationState, TheVariants.Disabled, TheVariants.Enabled, TheVariants.Withdrawn}
 use Rattle.dali_capture.specs.declared.item.Item.{Item}
-use Rattle.dali_audit.specs.declared.bus.Begun.{Begun}
-use Rattle.dali_audit.specs.declared.bus.Bus.{Bus}
-use Rattle.dali_audit.specs.Bus.{sent_by, passed, is_over}
-use Rattle.dali_audit.specs.Seen.{is_silence}
-use Rattle.dali_audit.specs.Findings.{asks_initialised}
-use Rattle.dali_events.proofs.Invariant.Takes.{Moved, stays, goes, moves_at, row_length}
-use Rattle.dali_events.proofs.Invariant.Sending.{powered_takes}
-use Rattle.dali_audited.specs.Undisturbed.{open_since}
-use Rattle.dali_audited.proofs.Replies.{Replies, somebody, several}
+use Rattle.dali_audit.specs.{Bus.sent_by, Bus.passed, Bus.is_over, Findings.asks_initialised, Seen.is_silence, declared.bus.Begun.Begun, declared.bus.Bus.Bus}
+use Rattle.dali_events.proofs.Invariant.{Sending.powered_takes, Takes.Moved, Takes.stays, Takes.goes, Takes.moves_at, Takes.row_length}
+use Rattle.dali_audited.{specs.Undisturbed.open_since, proofs.Replies.Replies, proofs.Replies.somebody, proofs.Replies.several}
 
 -- AFTER TERMINATE NO GEAR TAKES PART, until an INITIALISE is complete
 

@@ -1,17 +1,11 @@
-use Rattle.std.proofs.Common.{◌≡◌, ℕ, ◌+◌, ◌<◌, Bool, true, false, suc, List, [], ◌∷◌, refl, sym, ap, ◌∙◌, arith, length, get_or}
-use Rattle.std.proofs.Common.{Option, Some, None}
-use Rattle.std.specs.Prelude.{if◌then◌else◌, ◌&&◌, ◌==◌}
-use Rattle.dali_frame.specs.declared.frames.Answer.{Answer}
-use Rattle.dali_frame.specs.declared.frames.Answer.TheVariants.{Silence, Byte, Damaged}
-use Rattle.dali_frame.specs.declared.numbers.SearchAddress.{SearchAddress}
-use Rattle.dali_frame.specs.Random.{value_of}
-use Rattle.dali_special.specs.declared.command.Command.{Command}
-use Rattle.dali_special.specs.declared.command.Command.TheVariants.{Compare, Verify, QueryShort, RandomByte}
-use Rattle.dali_special.specs.declared.command.Part.{Part}
-use Rattle.dali_special.specs.Command.{is_question, program_data}
-use Rattle.dali_gear.specs.declared.row.Reach.TheVariants.{Everyone}
+use Rattle.std.proofs.Common.{◌≡◌, ℕ, ◌+◌, ◌<◌, Bool, true, false, suc, List, [], ◌∷◌, refl, sym, ap, ◌∙◌, arith, length, get_or, Option, Some, None}
+use Rattle.std.proofs.Common.{if◌then◌else◌, ◌&&◌, ◌==◌}
+use Rattle.dali_frame.specs.{Random.value_of, declared.frames.Answer.Answer, declared.frames.Answer.TheVariants.Silence}
+use Rattle.dali_frame.specs.declared.{frames.Answer.TheVariants.Byte, frames.Answer.TheVariants.Damaged, numbers.SearchAddress.SearchAddress}
+use Rattle.dali_special.specs.{Command.is_question, Command.program_data, declared.command.Command.Command, declared.command.Command.TheVariants.Compare}
+use Rattle.dali_special.specs.declared.command.{Command.TheVariants.Verify, Command.TheVariants.QueryShort, Command.TheVariants.RandomByte, Part.Part}
 use Rattle.dali_gear.specs.Gear.{Gear, fresh, answer, is_active, is_found, has_short, byte_at}
-use Rattle.dali_gear.specs.Row.{takes, option_cons, answers_of, heard_of}
+use Rattle.dali_gear.specs.{Row.takes, Row.option_cons, Row.answers_of, Row.heard_of, declared.row.Reach.TheVariants.Everyone}
 use Rattle.dali_script.proofs.Transactions.{equal, self}
 use Rattle.dali_events.proofs.Invariant.Sending.{takes_powered}
 

@@ -1,28 +1,17 @@
-use Rattle.std.proofs.Common.{◌≡◌, ℕ, ◌+◌, ◌-◌, ◌≤◌, Bool, true, false, refl, arith, Option, Some, None, List}
-use Rattle.std.specs.Prelude.{◌&&◌, not, nat_lt}
+use Rattle.std.proofs.Common.{◌≡◌, ℕ, ◌+◌, ◌-◌, ◌≤◌, Bool, true, false, refl, arith, Option, Some, None, List, ◌&&◌, not, nat_lt}
 use Rattle.std.proofs.lemmas.Bool.Decides.{nat_tests}
-use Rattle.dali_frame.specs.declared.frames.Forward.{Forward}
-use Rattle.dali_frame.specs.declared.frames.Answer.{Answer}
-use Rattle.dali_frame.specs.declared.frames.Answer.TheVariants.{Silence, Byte, Damaged}
-use Rattle.dali_frame.specs.declared.numbers.SearchAddress.{SearchAddress}
-use Rattle.dali_special.specs.declared.command.Part.TheVariants.{High}
-use Rattle.dali_special.specs.declared.command.Command.{Command}
+use Rattle.dali_frame.specs.declared.frames.Answer.{Answer, TheVariants.Silence, TheVariants.Byte, TheVariants.Damaged}
+use Rattle.dali_frame.specs.declared.{frames.Forward.Forward, numbers.SearchAddress.SearchAddress}
+use Rattle.dali_special.specs.{Command.command_of, declared.command.Command.Command}
 use Rattle.dali_special.specs.declared.command.Command.TheVariants.{Terminate, SearchHigh, Randomise, QueryShort, RandomByte, Arc}
-use Rattle.dali_special.specs.Command.{command_of}
-use Rattle.dali_script.specs.declared.block.Block.{Block}
-use Rattle.dali_script.specs.declared.stage.Stage.{Stage}
-use Rattle.dali_script.specs.declared.stage.Stage.TheVariants as stage
-use Rattle.dali_script.specs.Records.{Assignment}
-use Rattle.dali_script.specs.Stages.{Follows}
+use Rattle.dali_special.specs.declared.command.Part.TheVariants.{High}
 use Rattle.dali_capture.specs.declared.item.Item.{Item}
+use Rattle.dali_script.specs.{Records.Assignment, Stages.Follows, declared.block.Block.Block, declared.stage.Stage.Stage}
+use Rattle.dali_script.specs.declared.stage.Stage.TheVariants as stage
+use Rattle.dali_audit.specs.{Bus.is_addressing, Bus.in_initialisation, Bus.repeats, Bus.late_by, Bus.is_over, Findings.asks_one, Findings.damaged_answer}
+use Rattle.dali_audit.specs.Findings.{broken_pair, half_pair, late_pair, too_early, too_close, early_frame, initialisation_over, unasked, not_queried}
+use Rattle.dali_audit.specs.{Findings.settling_time, Findings.at_where, declared.bus.Begun.Begun, declared.bus.Bus.Bus, declared.bus.First.First}
 use Rattle.dali_audit.specs.declared.seen.Seen.TheVariants as seen
-use Rattle.dali_audit.specs.declared.bus.First.{First}
-use Rattle.dali_audit.specs.declared.bus.Begun.{Begun}
-use Rattle.dali_audit.specs.declared.bus.Bus.{Bus}
-use Rattle.dali_audit.specs.Bus.{is_addressing, in_initialisation, repeats, late_by, is_over}
-use Rattle.dali_audit.specs.Findings.{asks_one, damaged_answer, broken_pair, half_pair, late_pair, too_early, too_close, early_frame, initialisation_over}
-use Rattle.dali_audit.specs.Findings.{unasked, not_queried}
-use Rattle.dali_audit.specs.Findings.{settling_time, at_where}
 use Rattle.dali_audited.specs.Capture.{rest_before}
 use Rattle.dali_audited.proofs.Grammar.{Drawn, IsRested, Given, Fits, Paired, alone, twice, paired, item_of, same_frames}
 

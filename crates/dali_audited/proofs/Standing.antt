@@ -1,20 +1,14 @@
 use Rattle.std.proofs.Common.{◌≡◌, ◌≢◌, ℕ, ◌<◌, ◌⊎◌, inl, inr, Bool, true, false, zero, suc, List, [], ◌∷◌, refl, sym, ap, subst, ◌∙◌, arith, length}
-use Rattle.std.proofs.Common.{length-set, map}
-use Rattle.std.proofs.Common.{get_or-set_same, get_or-set_other, nat_eq, Option, Some, None}
-use Rattle.std.specs.Prelude.{◌&&◌, ◌||◌, not, ◌==◌, if◌then◌else◌}
-use Rattle.std.specs.List.{list_any}
-use Rattle.std.proofs.lemmas.List.{length-map}
-use Rattle.std.proofs.lemmas.Bool.Decides.{nat_tests}
+use Rattle.std.proofs.Common.{length-set, map, get_or-set_same, get_or-set_other, nat_eq, Option, Some, None, ◌&&◌, ◌||◌, not, ◌==◌, if◌then◌else◌}
+use Rattle.std.{proofs.lemmas.Bool.Decides.nat_tests, proofs.lemmas.List.length-map, specs.List.list_any}
 use Rattle.dali_gear.specs.Gear.{Gear}
 use Rattle.dali_script.proofs.Transactions.{self, equal}
-use Rattle.dali_audit.specs.Bus.{same_number}
-use Rattle.dali_audit.specs.declared.holders.Holder.{Holder}
-use Rattle.dali_audit.specs.declared.holders.Holder.TheVariants as holder
-use Rattle.dali_audit.specs.declared.holders.Change.{Change}
-use Rattle.dali_audit.specs.declared.holders.Change.TheVariants as change
+use Rattle.dali_audit.specs.{Bus.same_number, Findings.is_another, Findings.two_random, Findings.two_short, Findings.address_taken, Findings.address_moved}
 use Rattle.dali_audit.specs.Holders.{random_of, heard_of, is_other, given, left_by, told, passed_on, answered, renewed, swept, table_after, table_with}
 use Rattle.dali_audit.specs.Holders.{holder_at, is_heard, was_confirmed, is_confirmed}
-use Rattle.dali_audit.specs.Findings.{is_another, two_random, two_short, address_taken, address_moved}
+use Rattle.dali_audit.specs.declared.holders.{Change.Change, Holder.Holder}
+use Rattle.dali_audit.specs.declared.holders.Change.TheVariants as change
+use Rattle.dali_audit.specs.declared.holders.Holder.TheVariants as holder
 use Rattle.dali_events.specs.Wanted.{gear_of}
 use Rattle.dali_audited.specs.Tables.{Holds, IsTableOf}
 

@@ -1,74 +1,47 @@
 use Rattle.std.proofs.Common.{◌≡◌, ℕ, ◌+◌, ◌<◌, ◌≤◌, ◌⊎◌, inl, inr, Bool, true, false, List, [], ◌∷◌, ◌++◌, refl, sym, ap, subst, ◌∙◌, arith, length, Option}
-use Rattle.std.proofs.Common.{Some, None}
-use Rattle.std.specs.Prelude.{◌-◌, if◌then◌else◌, ◌&&◌, ◌||◌, not, ◌==◌, nat_le, is_some}
-use Rattle.std.proofs.Common.{append-nil}
+use Rattle.std.proofs.Common.{Some, None, ◌-◌, if◌then◌else◌, ◌&&◌, ◌||◌, not, ◌==◌, nat_le, is_some, append-nil}
 use Rattle.std.specs.List.{AllByRecursion}
-use Rattle.dali_frame.specs.declared.frames.Forward.{Forward}
-use Rattle.dali_frame.specs.declared.frames.Answer.{Answer}
+use Rattle.dali_frame.specs.{Random.value_of, declared.frames.Answer.Answer}
 use Rattle.dali_frame.specs.declared.frames.Answer.TheVariants.{Silence, Byte, Damaged}
-use Rattle.dali_frame.specs.declared.numbers.SearchAddress.{SearchAddress}
-use Rattle.dali_frame.specs.Random.{value_of}
-use Rattle.dali_special.specs.declared.command.Target.{Target}
-use Rattle.dali_special.specs.declared.command.Command.{Command}
+use Rattle.dali_frame.specs.declared.{frames.Forward.Forward, numbers.SearchAddress.SearchAddress}
+use Rattle.dali_special.specs.{Command.command_of, Command.is_question, declared.command.Command.Command}
 use Rattle.dali_special.specs.declared.command.Command.TheVariants.{Terminate, Initialise, Program, QueryShort, Compare, Verify, RandomByte}
-use Rattle.dali_special.specs.Command.{command_of, is_question}
-use Rattle.dali_gear.specs.declared.row.Reach.TheVariants.{Everyone}
+use Rattle.dali_special.specs.declared.command.Target.{Target}
 use Rattle.dali_gear.specs.Gear.{Gear, is_active, is_found}
-use Rattle.dali_gear.specs.Row.{row_after, answers_of, heard_of, stored_short, drawn_of}
-use Rattle.dali_arbiter.specs.Arbiter.{Arbiter, bus_lapsed}
-use Rattle.dali_script.specs.declared.block.Block.{Block}
-use Rattle.dali_script.specs.declared.orders.Input.{Input}
-use Rattle.dali_script.specs.declared.orders.Order.{Order}
-use Rattle.dali_script.specs.declared.orders.Order.TheVariants.{Put, Commit, Done, Halt}
-use Rattle.dali_script.specs.declared.trace.Entry.{Entry}
-use Rattle.dali_script.specs.declared.finding.Finding.{Finding}
-use Rattle.dali_script.specs.declared.stage.Stage.{Stage}
-use Rattle.dali_script.specs.declared.stage.Stage.TheVariants as stage
-use Rattle.dali_script.specs.Records.{Assignment}
-use Rattle.dali_script.specs.Scripts.{Lawful, MayGive}
-use Rattle.dali_script.specs.Findings.{search_of, asked_of, found_by, assigned}
-use Rattle.dali_script.specs.Stages.{Follows, next_stage, stage_of, IsSearched, may_follow}
-use Rattle.dali_script.proofs.Transactions.{self, stage_more, stage_none, program_at, initialise_at}
-use Rattle.dali_script.proofs.Found.{searched_lawful, asked_lawful}
-use Rattle.dali_capture.specs.declared.item.Heard.{Heard}
+use Rattle.dali_gear.specs.{Row.row_after, Row.answers_of, Row.heard_of, Row.stored_short, Row.drawn_of, declared.row.Reach.TheVariants.Everyone}
+use Rattle.dali_capture.specs.declared.item.{Heard.Heard, Item.Item}
 use Rattle.dali_capture.specs.declared.item.Heard.TheVariants as heard
-use Rattle.dali_capture.specs.declared.item.Item.{Item}
-use Rattle.dali_audit.specs.declared.seen.Seen.TheVariants as seen
-use Rattle.dali_audit.specs.declared.bus.Bus.{Bus}
-use Rattle.dali_audit.specs.declared.bus.Begun.{Begun}
-use Rattle.dali_audit.specs.declared.bus.First.{First}
-use Rattle.dali_audit.specs.declared.holders.Change.{Change}
+use Rattle.dali_arbiter.specs.Arbiter.{Arbiter, bus_lapsed}
+use Rattle.dali_script.specs.{Findings.search_of, Findings.asked_of, Findings.found_by, Findings.assigned, Records.Assignment, Scripts.Lawful, Scripts.MayGive}
+use Rattle.dali_script.specs.Stages.{Follows, next_stage, stage_of, IsSearched, may_follow}
+use Rattle.dali_script.specs.declared.{block.Block.Block, finding.Finding.Finding, orders.Input.Input, orders.Order.Order}
+use Rattle.dali_script.specs.declared.orders.Order.TheVariants.{Put, Commit, Done, Halt}
+use Rattle.dali_script.{specs.declared.stage.Stage.Stage, specs.declared.trace.Entry.Entry, proofs.Found.searched_lawful, proofs.Found.asked_lawful}
+use Rattle.dali_script.proofs.Transactions.{self, stage_more, stage_none, program_at, initialise_at}
+use Rattle.dali_script.specs.declared.stage.Stage.TheVariants as stage
+use Rattle.dali_audit.specs.{Bus.number, Bus.is_over, Bus.completes, Bus.repeats, Bus.frame_end, Findings.told_of, Findings.kinds, Findings.known_after}
+use Rattle.dali_audit.specs.Findings.{findings_from, known_from, first_of, address_taken, address_moved, two_random, two_short, broken_pair, too_early, unasked}
+use Rattle.dali_audit.specs.{Findings.several_programmed, Findings.not_found, Findings.is_among, Findings.asks_one, Holders.change_of, Holders.table_after}
+use Rattle.dali_audit.specs.{Holders.short_in, Seen.awaits, Seen.seen_of, Seen.answer_after, Seen.in_window, Seen.may_be_answered}
+use Rattle.dali_audit.specs.declared.{bus.Begun.Begun, bus.Bus.Bus, bus.First.First, holders.Change.Change, telling.Known.Known}
 use Rattle.dali_audit.specs.declared.holders.Change.TheVariants as change
-use Rattle.dali_audit.specs.declared.telling.Known.{Known}
-use Rattle.dali_audit.specs.Bus.{number, is_over, completes, repeats, frame_end}
-use Rattle.dali_audit.specs.Seen.{awaits, seen_of, answer_after, in_window, may_be_answered}
-use Rattle.dali_audit.specs.Holders.{change_of, table_after, short_in}
-use Rattle.dali_audit.specs.Findings.{told_of, kinds, known_after, findings_from, known_from, first_of, address_taken, address_moved, two_random, two_short}
-use Rattle.dali_audit.specs.Findings.{broken_pair}
-use Rattle.dali_audit.specs.Findings.{too_early, unasked, several_programmed, not_found, is_among, asks_one}
-use Rattle.dali_events.specs.declared.event.Event.{Event}
+use Rattle.dali_audit.specs.declared.seen.Seen.TheVariants as seen
+use Rattle.dali_events.specs.{Allowed.Allowed, Allowed.MaySend, Happens.happens, Happens.trace_running, Happens.entry, Happens.goes_on, Happens.gives_up}
+use Rattle.dali_events.specs.{Happens.put_after, Plan.Plan, Plan.IsPlan, Promise.Names, Runs.after_all, Runs.AllAllowed, Runs.LeavesUsed, Wanted.gear_of}
+use Rattle.dali_events.{specs.World.World, specs.World.controller_at, specs.declared.event.Event.Event, proofs.Invariant.Gifts.Change as GearChange}
+use Rattle.dali_events.proofs.Invariant.{Gifts.IsOwned, Known.Knows, Known.found_random, Known.search_known, Known.short_from, Safe.Holds as HoldsAll}
+use Rattle.dali_events.proofs.Invariant.{Safe.holds_step, Safe.sent_changes, Safe.found_names, Sending.KnowsAll, Sending.lawful_of, Sending.follows_of}
+use Rattle.dali_events.proofs.Invariant.{Sending.knows_running, Sending.powered_takes, Takes.Moved, Takes.stays, Takes.goes, Takes.moves_at, Takes.row_length}
 use Rattle.dali_events.specs.declared.event.Event.TheVariants as event
-use Rattle.dali_events.specs.Plan.{Plan, IsPlan}
-use Rattle.dali_events.specs.World.{World, controller_at}
-use Rattle.dali_events.specs.Happens.{happens, trace_running, entry, goes_on, gives_up, put_after}
-use Rattle.dali_events.specs.Allowed.{Allowed, MaySend}
-use Rattle.dali_events.specs.Runs.{after_all, AllAllowed, LeavesUsed}
-use Rattle.dali_events.specs.Promise.{Names}
-use Rattle.dali_events.specs.Wanted.{gear_of}
-use Rattle.dali_events.proofs.Invariant.Takes.{Moved, stays, goes, moves_at, row_length}
-use Rattle.dali_events.proofs.Invariant.Known.{Knows, found_random, search_known, short_from}
-use Rattle.dali_events.proofs.Invariant.Sending.{KnowsAll, lawful_of, follows_of, knows_running, powered_takes}
-use Rattle.dali_events.proofs.Invariant.Gifts.{Change as GearChange, IsOwned}
-use Rattle.dali_events.proofs.Invariant.Safe.{Holds as HoldsAll, holds_step, sent_changes, found_names}
 use Rattle.dali_audited.specs.Capture.{frames_of, items_from, answers_at, over_at, begins_at, ends_at, is_randomise, rest_before, item_at, WAIT}
-use Rattle.dali_audited.specs.Undisturbed.{AwaitsMore, DisturbsNothing, DisturbNothing, open_since, Within, AreInTime}
 use Rattle.dali_audited.specs.Tables.{Holds, IsTableOf}
+use Rattle.dali_audited.specs.Undisturbed.{AwaitsMore, DisturbsNothing, DisturbNothing, open_since, Within, AreInTime}
+use Rattle.dali_audited.proofs.Changes.{apart, one_answers, IsTrueChange, true_change, number_at}
 use Rattle.dali_audited.proofs.Grammar.{Fits, Paired, alone, twice, paired, completed, repeated, item_of, fits_step, leave, ended, go_on}
-use Rattle.dali_audited.proofs.Silent.{clear, in_time, no_half_pair, no_late_pair, no_early_frame, not_over, queried_next, settled_before}
-use Rattle.dali_audited.proofs.Standing.{SameGear, one_random, one_short, table_nothing, table_told, table_answered, length_after, free, unmoved, table_given}
 use Rattle.dali_audited.proofs.Idle.{AllIdle, NoneHalf, idle_taken, half_taken, initialised, closed_from, begun_from}
 use Rattle.dali_audited.proofs.Replies.{somebody, silent, query_replies, found_here}
-use Rattle.dali_audited.proofs.Changes.{apart, one_answers, IsTrueChange, true_change, number_at}
+use Rattle.dali_audited.proofs.Silent.{clear, in_time, no_half_pair, no_late_pair, no_early_frame, not_over, queried_next, settled_before}
+use Rattle.dali_audited.proofs.Standing.{SameGear, one_random, one_short, table_nothing, table_told, table_answered, length_after, free, unmoved, table_given}
 
 -- a gear that takes part, and has the random address of this search address
 pub record Stands (gs : List Gear) (r : SearchAddress) : Type 0 where

@@ -1,36 +1,20 @@
-use Rattle.std.proofs.Common.{◌≡◌, ℕ, ◌+◌, ◌<◌, Bool, true, false, List, [], ◌∷◌, ◌++◌, refl, ap, arith, Option, Some, None, is_none}
-use Rattle.std.specs.Prelude.{not, ◌==◌, ◌&&◌, nat_lt, nat_le}
-use Rattle.std.proofs.lemmas.Bool.Decides.{nat_tests}
-use Rattle.dali_frame.specs.declared.frames.Answer.{Answer}
-use Rattle.dali_frame.specs.declared.frames.Answer.TheVariants.{Silence, Byte, Damaged}
+use Rattle.std.proofs.Common.{◌≡◌, ℕ, ◌+◌, ◌<◌, Bool, true, false, List, [], ◌∷◌, ◌++◌, refl, ap, arith, Option, Some, None, is_none, not, ◌==◌, ◌&&◌, nat_lt}
+use Rattle.std.proofs.{Common.nat_le, lemmas.Bool.Decides.nat_tests}
 use Rattle.dali_frame.specs.Random.{value_of, MASK24}
-use Rattle.dali_special.specs.declared.command.Command.{Command}
-use Rattle.dali_special.specs.declared.command.Command.TheVariants.{QueryShort}
-use Rattle.dali_special.specs.Command.{command_of, frame}
-use Rattle.dali_gear.specs.declared.row.Reach.TheVariants.{Everyone}
-use Rattle.dali_gear.specs.Row.{heard_of, answers_of}
-use Rattle.dali_script.specs.declared.trace.Entry.{Entry}
-use Rattle.dali_script.specs.Findings.{search_of}
-use Rattle.dali_script.specs.Stages.{stage_of}
+use Rattle.dali_frame.specs.declared.frames.Answer.{Answer, TheVariants.Silence, TheVariants.Byte, TheVariants.Damaged}
+use Rattle.dali_special.specs.{Command.command_of, Command.frame, declared.command.Command.Command, declared.command.Command.TheVariants.QueryShort}
+use Rattle.dali_gear.specs.{Row.heard_of, Row.answers_of, declared.row.Reach.TheVariants.Everyone}
+use Rattle.dali_script.specs.{Findings.search_of, Stages.stage_of, declared.orders.End.TheVariants.AllFound, declared.orders.Order.TheVariants.Done}
+use Rattle.dali_script.{specs.declared.trace.Entry.Entry, proofs.Giving.first_of_both, proofs.Giving.second_of_both, proofs.Transactions.equal}
 use Rattle.dali_script.specs.declared.orders.Input.TheVariants as input
-use Rattle.dali_script.specs.declared.orders.Order.TheVariants.{Done}
-use Rattle.dali_script.specs.declared.orders.End.TheVariants.{AllFound}
-use Rattle.dali_script.proofs.Giving.{first_of_both, second_of_both}
-use Rattle.dali_script.proofs.Transactions.{equal}
-use Rattle.dali_audit.specs.declared.holders.Holder.TheVariants as holder
-use Rattle.dali_audit.specs.Holders.{holder_at}
+use Rattle.dali_audit.specs.{Findings.findings_in, Findings.known_in, Holders.holder_at}
 use Rattle.dali_audit.specs.declared.findings.Kind.TheVariants as kind
-use Rattle.dali_audit.specs.Findings.{findings_in, known_in}
-use Rattle.dali_events.specs.declared.event.Event.{Event}
-use Rattle.dali_events.specs.declared.event.Event.TheVariants as event
-use Rattle.dali_events.specs.Plan.{Plan, plan_of}
-use Rattle.dali_events.specs.World.{World, start}
+use Rattle.dali_audit.specs.declared.holders.Holder.TheVariants as holder
 use Rattle.dali_events.specs.Happens.{happens, gives_up, trace_running}
-use Rattle.dali_events.specs.Runs.{AllAllowed}
-use Rattle.dali_events.proofs.Plans.{plan_is}
-use Rattle.dali_events.proofs.Invariant.Growing.{leave_none}
+use Rattle.dali_events.specs.{Plan.Plan, Plan.plan_of, Runs.AllAllowed, World.World, World.start, declared.event.Event.Event}
 use Rattle.dali_events.proofs.Histories.Openings.{at_123456, opening, visit, query, silent}
-use Rattle.dali_events.proofs.Histories.Tested.{all_allowed_by}
+use Rattle.dali_events.proofs.{Histories.Tested.all_allowed_by, Invariant.Growing.leave_none, Plans.plan_is}
+use Rattle.dali_events.specs.declared.event.Event.TheVariants as event
 use Rattle.dali_audited.specs.Capture.{capture_of, frames_of, is_randomise, begins_at, ends_at, next_at}
 use Rattle.dali_audited.specs.Undisturbed.{DisturbsNothing, DisturbNothing, open_since, Within, AreInTime, IsUndisturbed}
 
