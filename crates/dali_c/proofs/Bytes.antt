@@ -1,10 +1,7 @@
 use Rattle.std.proofs.Common.{◌≡◌, ℕ, ◌<◌, ◌≤◌, ◌⊎◌, inl, inr, sym, ap, subst, ◌∙◌, length, get_or}
-use Rattle.std.proofs.lemmas.Bool.{cases_lt}
-use Rattle.std.proofs.lemmas.List.{same_lists, length-take-le, get_or-take, get_or_default}
-use Rattle.dali_script.specs.declared.pairs.Pairs.{Pairs}
-use Rattle.dali_script.specs.Records.{Assignment}
-use Rattle.dali_script.specs.Pairs.{pairs_in, IsCleared}
-use Rattle.dali_c.specs.Records.{kept_of, RecordsHaveTheirBytes}
+use Rattle.std.proofs.lemmas.{Bool.cases_lt, List.same_lists, List.length-take-le, List.get_or-take, List.get_or_default}
+use Rattle.dali_script.specs.{Pairs.pairs_in, Pairs.IsCleared, Records.Assignment, declared.pairs.Pairs.Pairs}
+use Rattle.dali_c.specs.Records.{RecordsHaveTheirBytes}
 
 -- the same pairs, and nothing behind them, are the same bytes
 list_once : (p q : Pairs) → p.count ≤ 64 → q.count ≤ 64 → length p.pairs ≡ 64 → length q.pairs ≡ 64 → IsCleared p → IsCleared q → pairs_in p ≡ pairs_in q

@@ -1,9 +1,6 @@
 use Rattle.std.proofs.Common.{◌≡◌, ℕ, ◌+◌, ◌<◌, Bool, Some, List, [], ◌∷◌, zero, suc, arith, ap, sym, ◌∙◌, subst, length, take, drop}
-use Rattle.std.proofs.Math.ListN.{set}
-use Rattle.std.proofs.lemmas.List.{length-set}
-use Rattle.std.proofs.Math.Seq.{take-length}
-use Rattle.dali_c.specs.Codes.{bool_of}
-use Rattle.dali_c.specs.Levels.{AreLevels}
+use Rattle.std.proofs.{Math.ListN.set, Math.Seq.take-length, lemmas.List.length-set}
+use Rattle.dali_c.specs.{Codes.bool_of, Levels.AreLevels}
 
 -- ONE LEVEL MORE is written.
 one_more : (codes : List ℕ) (levels : List Bool) (at code : ℕ) (low : Bool) (rest : List Bool) → at < length codes

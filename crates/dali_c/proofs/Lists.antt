@@ -1,11 +1,7 @@
-use Rattle.std.proofs.Common.{◌≡◌, ℕ, ◌<◌, Option, Some, None, List, [], ◌∷◌, refl, sym, ap, ◌∙◌, arith, subst, length, map, take, get_or, slice_index_or}
-use Rattle.std.specs.Prelude.{zero, suc, IsSome, IfNone}
-use Rattle.std.proofs.lemmas.List.{same_lists, length-map, get_or-map}
-use Rattle.dali_script.specs.declared.trace.Entry.{Entry}
-use Rattle.dali_script.specs.Scripts.{IsLawful, IsTransaction}
-use Rattle.dali_script.proofs.Senders.{sent_at}
-use Rattle.dali_c.specs.Entries.{entry_of, AreEntries}
-use Rattle.dali_c.specs.declared.entries.PlainEntry.{PlainEntry}
+use Rattle.std.proofs.Common.{◌≡◌, ℕ, ◌<◌, Option, Some, None, List, [], ◌∷◌, refl, sym, ap, ◌∙◌, arith, subst, length, map, take, get_or, slice_index_or, zero}
+use Rattle.std.proofs.{Common.suc, Common.IsSome, Common.IfNone, lemmas.List.same_lists, lemmas.List.length-map, lemmas.List.get_or-map}
+use Rattle.dali_script.{specs.Scripts.IsLawful, specs.Scripts.IsTransaction, specs.declared.trace.Entry.Entry, proofs.Senders.sent_at}
+use Rattle.dali_c.specs.{Entries.entry_of, Entries.AreEntries, declared.entries.PlainEntry.PlainEntry}
 
 -- An entry that cannot be read is in no list of entries,
 pub unread_entry : (plain : List PlainEntry) (entries : List Entry) (i : ℕ) (d : PlainEntry) → i < length plain → entry_of (get_or plain i d) ≡ None

@@ -1,21 +1,11 @@
 use Rattle.std.proofs.Common.{◌≡◌, Bool, Option, Some, refl, sym, ap, ◌∙◌, length}
-use Rattle.dali_search.specs.Least.{Search, lowest, highest, step_between}
-use Rattle.dali_search.specs.Narrowing.{answers_of}
-use Rattle.dali_search.specs.Ascending.{Ascent, ascent_of}
-use Rattle.dali_controller.specs.declared.leg.Leg.{Leg}
+use Rattle.dali_search.specs.{Ascending.Ascent, Ascending.ascent_of, Least.Search, Least.lowest, Least.highest, Least.step_between, Narrowing.answers_of}
+use Rattle.dali_controller.specs.{Legs.is_searching, Legs.way_on, Machine.Machine, States.machine_with, declared.leg.Leg.Leg}
 use Rattle.dali_controller.specs.declared.leg.Leg.TheVariants.{Revisiting, Asking, Searching, Hunting}
 use Rattle.dali_controller.specs.declared.state.State.{State}
-use Rattle.dali_controller.specs.Legs.{is_searching, way_on}
-use Rattle.dali_controller.specs.Machine.{Machine}
-use Rattle.dali_controller.specs.States.{machine_with}
-use Rattle.dali_c.specs.Ascents.{IsPlainAscent}
-use Rattle.dali_c.specs.Pairs.{random_of}
-use Rattle.dali_c.specs.declared.ascents.PlainAscent.{PlainAscent}
-use Rattle.dali_c.specs.Machines.{IsPlainSearch, HasLeg, IsPlainLeg, FillsLeg, Spells, IsHeld, Holds, IsRead}
-use Rattle.dali_c.specs.Records.{kept_of}
-use Rattle.dali_c.specs.declared.state.PlainState.{PlainState}
-use Rattle.dali_c.specs.declared.machine.PlainMachine.{PlainMachine}
-use Rattle.dali_c.proofs.Lists.{entries_once}
+use Rattle.dali_c.specs.{Ascents.IsPlainAscent, Machines.IsPlainSearch, Machines.HasLeg, Machines.IsPlainLeg, Machines.FillsLeg, Machines.Spells}
+use Rattle.dali_c.specs.{Machines.IsHeld, Machines.Holds, Machines.IsRead, Pairs.random_of, Records.kept_of, declared.ascents.PlainAscent.PlainAscent}
+use Rattle.dali_c.{specs.declared.machine.PlainMachine.PlainMachine, specs.declared.state.PlainState.PlainState, proofs.Lists.entries_once}
 
 -- THE BYTES SPELL ONE STATE.
 some_once : {A : Type 0} {o : Option A} {x y : A} → o ≡ Some x → o ≡ Some y → x ≡ y

@@ -1,6 +1,5 @@
 use Rattle.std.proofs.Common.{subst}
-use Rattle.dali_c.specs.Machines.{IsHeld}
-use Rattle.dali_c.proofs.Machines.{spells_once, read_of}
+use Rattle.dali_c.{specs.Machines.IsHeld, proofs.Machines.spells_once, proofs.Machines.read_of}
 use Rattle.dali_c.proofs.calls.dali_machine_go.Goals as goal
 
 pub go_on-requires : goal.go_on-requires

@@ -1,10 +1,6 @@
 use Rattle.std.proofs.Common.{◌≡◌, Some, refl, sym, subst, ◌∙◌}
-use Rattle.dali_controller.specs.Machine.{Machine}
-use Rattle.dali_controller.specs.States.{machine_with}
-use Rattle.dali_c.specs.Orders.{order_of, HasNoMore, IsSentSo}
-use Rattle.dali_c.specs.Calls.{Steps}
-use Rattle.dali_c.specs.Records.{kept_of}
-use Rattle.dali_c.specs.declared.machine.PlainMachine.{PlainMachine}
+use Rattle.dali_controller.specs.{Machine.Machine, States.machine_with}
+use Rattle.dali_c.specs.{Calls.Steps, Orders.order_of, Orders.HasNoMore, Orders.IsSentSo, Records.kept_of, declared.machine.PlainMachine.PlainMachine}
 use Rattle.dali_c.proofs.calls.go_on.Goals as goal
 
 pub returns-in-Some-step-clause-done : goal.returns-in-Some-step-clause-done

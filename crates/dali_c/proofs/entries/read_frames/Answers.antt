@@ -1,6 +1,5 @@
 use Rattle.std.proofs.Common.{◌∙◌, sym}
-use Rattle.dali_c.specs.Entries.{no_entry}
-use Rattle.dali_c.proofs.Lists.{unread_entry, unlawful_entry, if_none}
+use Rattle.dali_c.{specs.Entries.no_entry, proofs.Lists.unread_entry, proofs.Lists.unlawful_entry, proofs.Lists.if_none}
 use Rattle.dali_c.proofs.entries.read_frames.Goals as goal
 
 pub returns-in_err-frame-clause-none : goal.returns-in_err-frame-clause-none

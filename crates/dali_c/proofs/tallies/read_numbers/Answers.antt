@@ -1,7 +1,5 @@
 use Rattle.std.proofs.Common.{◌≡◌, ℕ, ◌<◌, slice_index_or, rules, length}
-use Rattle.dali_c.specs.Pairs.{random_of}
-use Rattle.dali_c.specs.declared.pairs.PlainRandom.{PlainRandom}
-use Rattle.dali_c.proofs.Lists.{mapped}
+use Rattle.dali_c.{specs.Pairs.random_of, specs.declared.pairs.PlainRandom.PlainRandom, proofs.Lists.mapped}
 use Rattle.dali_c.proofs.tallies.read_numbers.Goals as goal
 
 at : (c : goal.After-map) (i : ℕ) (d : PlainRandom) (e : ℕ) → i < 8 → slice_index_or c.map.result i e ≡ random_of (slice_index_or c.args.bytes i d)

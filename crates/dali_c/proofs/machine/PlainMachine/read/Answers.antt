@@ -1,8 +1,6 @@
 use Rattle.std.proofs.Common.{◌≡◌, sym, subst, ◌∙◌, true, false}
-use Rattle.dali_controller.specs.States.{machine_with}
-use Rattle.dali_controller.specs.Whole.{IsWhole}
-use Rattle.dali_c.specs.Records.{kept_of}
-use Rattle.dali_c.proofs.Machines.{spells_once, read_of}
+use Rattle.dali_controller.specs.{States.machine_with, Whole.IsWhole}
+use Rattle.dali_c.{specs.Records.kept_of, proofs.Machines.spells_once, proofs.Machines.read_of}
 use Rattle.dali_c.proofs.machine.PlainMachine.read.Goals as goal
 
 pub returns-then-is_whole : goal.returns-then-is_whole

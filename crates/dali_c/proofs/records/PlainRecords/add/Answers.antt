@@ -1,7 +1,6 @@
 use Rattle.std.proofs.Common.{◌≡◌, ◌<◌, ◌++◌, ◌∷◌, [], sym, ap, subst, ◌∙◌}
+use Rattle.dali_script.specs.{Pairs.pairs_in, Records.IsKept, Records.Fits, Records.MayAdd, Records.Assignment, Records.without_pair}
 use Rattle.dali_script.specs.declared.records.Record.TheVariants.{Reserve, Enrol, Release}
-use Rattle.dali_script.specs.Records.{IsKept, Fits, MayAdd, Assignment, without_pair}
-use Rattle.dali_script.specs.Pairs.{pairs_in}
 use Rattle.dali_script.proofs.Lists.{kept_more}
 use Rattle.dali_c.specs.Records.{kept_of}
 use Rattle.dali_c.proofs.records.PlainRecords.add.Goals as goal
