@@ -1,14 +1,9 @@
-use Rattle.std.proofs.Common.{◌≡◌, ℕ, Bool, true, false, List, [], ◌∷◌, ◌++◌, Option, Result, Ok, Err, refl, sym, ap, append_assoc, append-nil, filter}
-use Rattle.std.specs.Prelude.{◌==◌}
+use Rattle.std.proofs.Common.{◌≡◌, ℕ, Bool, true, false, List, [], ◌∷◌, ◌++◌, Option, Result, Ok, Err, refl, sym, ap, append_assoc, append-nil, filter, ◌==◌}
 use Rattle.std.specs.List.{onto_first, slice_split}
-use Rattle.dali_capture.specs.declared.fault.Reason.{Reason}
-use Rattle.dali_capture.specs.declared.fault.Mistake.{Mistake}
-use Rattle.dali_capture.specs.declared.item.Item.{Item}
-use Rattle.dali_capture.specs.declared.source.Source.{Source}
-use Rattle.dali_capture.specs.Results.{then_ok}
-use Rattle.dali_capture.specs.Sources.{source_word, source_line_end}
 use Rattle.dali_capture.specs.Captures.{SoFar, so_far_at_first, is_blank, word_told, word_end, line_told, line_end, read_bytes, read_end, capture_of}
 use Rattle.dali_capture.specs.Lines.{lines_of, has_bytes, words_of, read_words, read_lines, ended_by, capture_by_lines}
+use Rattle.dali_capture.specs.{Results.then_ok, Sources.source_word, Sources.source_line_end}
+use Rattle.dali_capture.specs.declared.{fault.Mistake.Mistake, fault.Reason.Reason, item.Item.Item, source.Source.Source}
 
 -- a word that has begun, before the first of some parts
 abbrev onto : List ℕ → List (List ℕ) → List (List ℕ)

@@ -1,18 +1,8 @@
-use Rattle.std.proofs.Common.{◌≡◌, ℕ, ◌+◌, ◌<◌, Bool, List, [], ◌∷◌, ◌++◌, length, get_or, drop, Option, Some, None, Result, Ok, Err, IfSome, refl, ap, ◌∙◌}
-use Rattle.std.proofs.Common.{add-one, length-append, arith}
-use Rattle.std.proofs.Math.Seq.{drop-cons}
+use Rattle.std.proofs.Common.{◌≡◌, ℕ, ◌+◌, Bool, List, [], ◌∷◌, ◌++◌, length, Option, Some, None, Result, Ok, Err, IfSome, refl, ap, ◌∙◌, length-append, arith}
 use Rattle.std.specs.Io.KnownBytes.{Consumes}
-use Rattle.dali_capture.specs.declared.fault.Mistake.{Mistake}
-use Rattle.dali_capture.specs.declared.fault.CaptureFault.{CaptureFault}
-use Rattle.dali_capture.specs.declared.fault.CaptureFault.TheVariants.{Bad, Memory, Read, TooLong}
-use Rattle.dali_capture.specs.Results.{then_ok}
 use Rattle.dali_capture.specs.Captures.{SoFar, so_far_at_first, read_byte, read_bytes, capture_of, IsFaultOf, IsFaultAmid}
-
--- the bytes from an index on: the one there, and then the others
-pub read_at : (wanted : Option (List ℕ)) (inverted : Bool) (r : SoFar) (bytes : List ℕ) (i : ℕ) → i < length bytes
-    → read_bytes wanted inverted r (drop i bytes)
-    ≡ then_ok (read_byte wanted inverted r (get_or bytes i 0)) (λ next. read_bytes wanted inverted next (drop (i + 1) bytes))
-read_at wanted inverted r bytes i here = rw (add-one, drop-cons bytes i 0) refl
+use Rattle.dali_capture.specs.{Results.then_ok, declared.fault.CaptureFault.CaptureFault, declared.fault.CaptureFault.TheVariants.Bad}
+use Rattle.dali_capture.specs.declared.fault.{CaptureFault.TheVariants.Memory, CaptureFault.TheVariants.Read, CaptureFault.TheVariants.TooLong, Mistake.Mistake}
 
 -- a text in two parts is read part by part
 pub read_parts : (wanted : Option (List ℕ)) (inverted : Bool) (r : SoFar) (first second : List ℕ)

@@ -1,18 +1,10 @@
 use Rattle.std.proofs.Common.{◌≡◌, ℕ, ◌*◌, ◌^◌, ◌<◌, ◌≤◌, Bool, true, false, List, [], ◌∷◌, ◌++◌, Option, Some, None, Ok, refl, arith, append_assoc, ◌∙◌}
-use Rattle.std.proofs.lemmas.Bool.Decides.{nat_tests}
-use Rattle.std.specs.Prelude.{nat_lt, decimal, codes, option_to_list}
-use Rattle.dali_capture.specs.declared.fault.Reason.TheVariants.{BadWord}
-use Rattle.dali_capture.specs.declared.header.Unit.TheVariants.{Microsecond}
-use Rattle.dali_capture.specs.declared.item.Item.{Item}
-use Rattle.dali_capture.specs.declared.ear.Ear.{Ear}
-use Rattle.dali_capture.specs.declared.dump.Dump.{Dump as Read}
-use Rattle.dali_capture.specs.declared.dump.Section.TheVariants.{Open}
-use Rattle.dali_capture.specs.declared.source.Source.TheVariants.{Dump}
-use Rattle.dali_capture.specs.Results.{then_ok}
-use Rattle.dali_capture.specs.Ears.{is_same, ear_after_level, level_told}
-use Rattle.dali_capture.specs.Sources.{source_word}
+use Rattle.std.proofs.{Common.nat_lt, Common.decimal, Common.codes, Common.option_to_list, lemmas.Bool.Decides.nat_tests}
 use Rattle.dali_capture.specs.Captures.{so_far_at_first, read_bytes, capture_of, read_end}
+use Rattle.dali_capture.specs.{Ears.is_same, Ears.ear_after_level, Ears.level_told, Results.then_ok, Sources.source_word}
 use Rattle.dali_capture.specs.Spelled.{head_text, level_text, levels_text, dump_text, AreTimes, heard_of_levels}
+use Rattle.dali_capture.specs.declared.{dump.Dump.Dump as Read, dump.Section.TheVariants.Open, ear.Ear.Ear, fault.Reason.TheVariants.BadWord}
+use Rattle.dali_capture.specs.declared.{header.Unit.TheVariants.Microsecond, item.Item.Item, source.Source.TheVariants.Dump}
 use Rattle.dali_capture.proofs.Texts.{after_word, after_told, decimal_in_word, decimal_is_number}
 
 -- a dump whose head was read

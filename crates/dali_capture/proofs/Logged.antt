@@ -1,27 +1,15 @@
 use Rattle.std.proofs.Common.{◌≡◌, ℕ, ◌+◌, ◌-◌, ◌/◌, ◌%◌, ◌^◌, ◌<◌, ◌≤◌, min, Bool, true, false, List, [], ◌∷◌, ◌++◌, Option, Some, None, Ok, refl, arith}
-use Rattle.std.proofs.Common.{append_assoc, ◌∙◌}
-use Rattle.std.proofs.lemmas.Bool.Decides.{nat_tests}
-use Rattle.std.proofs.lemmas.Fmt.{decimal_nonempty}
-use Rattle.std.specs.Prelude.{nat_lt, decimal, codes, ◌==◌}
-use Rattle.std.specs.List.{AllByRecursion}
-use Rattle.std.specs.Fmt.{digit_glyph}
-use Rattle.dali_frame.specs.declared.frames.Forward.{Forward as Frame}
-use Rattle.dali_frame.specs.Hex.{byte_text, forward_text}
-use Rattle.dali_capture.specs.declared.fault.Reason.TheVariants.{BadLine}
-use Rattle.dali_capture.specs.declared.item.Item.{Item}
-use Rattle.dali_capture.specs.declared.item.Heard.{Heard}
+use Rattle.std.proofs.Common.{append_assoc, ◌∙◌, nat_lt, decimal, codes, ◌==◌}
+use Rattle.std.{proofs.lemmas.Bool.Decides.nat_tests, proofs.lemmas.Fmt.decimal_nonempty, specs.Fmt.digit_glyph, specs.List.AllByRecursion}
+use Rattle.dali_frame.specs.{Hex.byte_text, Hex.forward_text, declared.frames.Forward.Forward as Frame}
+use Rattle.dali_capture.specs.{Captures.read_bytes, Captures.capture_of, Captures.read_end, Items.length_of, Items.heard_text, Logs.line_word, Logs.logged}
+use Rattle.dali_capture.specs.{Logs.frame_in, Logs.answer_in, Results.then_ok, Sources.source_word, Spelled.log_text, Spelled.AreBytes, Spelled.AreLogged}
+use Rattle.dali_capture.specs.declared.{fault.Reason.TheVariants.BadLine, item.Heard.Heard}
 use Rattle.dali_capture.specs.declared.item.Heard.TheVariants.{Forward, Backward, Device, Damaged}
+use Rattle.dali_capture.specs.declared.{item.Item.Item, source.Source.Source, source.Source.TheVariants.Unknown, source.Source.TheVariants.Log}
+use Rattle.dali_capture.proofs.Texts.{IsInWord, after_word, after_line, decimal_in_word, decimal_is_number, decimal_has_no_mark, glyph_in_word, no_glyph}
+use Rattle.dali_capture.proofs.Texts.{no_answer, text_is_byte}
 use Rattle.dali_capture.specs.declared.log.LogLine.TheVariants as line
-use Rattle.dali_capture.specs.declared.source.Source.{Source}
-use Rattle.dali_capture.specs.declared.source.Source.TheVariants.{Unknown, Log}
-use Rattle.dali_capture.specs.Results.{then_ok}
-use Rattle.dali_capture.specs.Items.{length_of, heard_text}
-use Rattle.dali_capture.specs.Logs.{line_word, logged, frame_in, answer_in}
-use Rattle.dali_capture.specs.Sources.{source_word}
-use Rattle.dali_capture.specs.Captures.{read_bytes, capture_of, read_end}
-use Rattle.dali_capture.specs.Spelled.{log_text, AreBytes, AreLogged}
-use Rattle.dali_capture.proofs.Texts.{IsInWord, after_word, after_line, decimal_in_word, decimal_is_number, decimal_has_no_mark}
-use Rattle.dali_capture.proofs.Texts.{glyph_in_word, no_glyph, no_answer, text_is_byte}
 
 not_less : (a b : ℕ) → b ≤ a → nat_lt a b ≡ false
 not_less a b h = grind (arith, nat_tests)

@@ -1,22 +1,12 @@
 use Rattle.std.proofs.Common.{◌≡◌, ℕ, ◌+◌, ◌-◌, ◌*◌, ◌/◌, ◌%◌, ◌^◌, ◌<◌, min, Bool, true, false, List, [], ◌∷◌, ◌++◌, length, Option, Some, None, Ok, refl}
-use Rattle.std.proofs.Common.{arith, append_assoc, append-nil, ◌∙◌}
-use Rattle.std.proofs.lemmas.Bool.Decides.{nat_tests}
-use Rattle.std.proofs.lemmas.Fmt.{digits_decimal, digits_value-decimal, decimal_nonempty}
+use Rattle.std.proofs.Common.{arith, append_assoc, append-nil, ◌∙◌, nat_lt, decimal, ◌==◌, ◌&&◌, option_to_list}
+use Rattle.std.proofs.lemmas.{Bool.Decides.nat_tests, Fmt.digits_decimal, Fmt.digits_value-decimal, Fmt.decimal_nonempty}
 use Rattle.std.proofs.lemmas.Str.Parse.{IsNumeralModel, numerals_by_value, tells_all_ascii_digits}
-use Rattle.std.specs.Prelude.{nat_lt, decimal, ◌==◌, ◌&&◌, option_to_list}
-use Rattle.std.specs.List.{AllByRecursion}
-use Rattle.std.specs.Char.{is_ascii_digit}
-use Rattle.std.specs.Fmt.{digit_glyph}
-use Rattle.std.specs.Str.{all_ascii_digits}
-use Rattle.std.specs.Str.Parse.{digits_value}
+use Rattle.std.specs.{Char.is_ascii_digit, Fmt.digit_glyph, List.AllByRecursion, Str.all_ascii_digits, Str.Parse.digits_value}
 use Rattle.dali_frame.specs.Hex.{digit_of, byte_of}
-use Rattle.dali_capture.specs.declared.fault.Reason.{Reason}
-use Rattle.dali_capture.specs.Words.{is_digits, number_of, after_mark}
-use Rattle.dali_capture.specs.declared.item.Item.{Item}
-use Rattle.dali_capture.specs.declared.source.Source.{Source}
-use Rattle.dali_capture.specs.Results.{then_ok}
-use Rattle.dali_capture.specs.Sources.{source_word, source_line_end}
 use Rattle.dali_capture.specs.Captures.{SoFar, is_blank, read_bytes, word_end, word_told, line_end}
+use Rattle.dali_capture.specs.{Results.then_ok, Sources.source_word, Sources.source_line_end, Words.is_digits, Words.number_of, Words.after_mark}
+use Rattle.dali_capture.specs.declared.{fault.Reason.Reason, item.Item.Item, source.Source.Source}
 
 own : IsNumeralModel (λ ds. all_ascii_digits ds ≡ true) (digits_value 10)
 own = numerals_by_value (λ ds. all_ascii_digits ds ≡ true) tells_all_ascii_digits

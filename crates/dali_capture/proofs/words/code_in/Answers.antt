@@ -1,7 +1,5 @@
-use Rattle.std.proofs.Common.{◌≡◌, ℕ, ◌^◌, ◌<◌, ◌≤◌, false, List, length, drop, None, refl, arith}
-use Rattle.std.proofs.Math.Seq.{drop-cons}
-use Rattle.std.proofs.lemmas.Bool.Decides.{nat_tests}
-use Rattle.std.specs.Prelude.{nat_lt}
+use Rattle.std.proofs.Common.{◌≡◌, ℕ, ◌^◌, ◌<◌, ◌≤◌, false, List, length, drop, None, refl, arith, nat_lt}
+use Rattle.std.proofs.{Math.Seq.drop-cons, lemmas.Bool.Decides.nat_tests}
 use Rattle.dali_capture.specs.Words.{code_after}
 use Rattle.dali_capture.proofs.words.code_in.Goals as goal
 

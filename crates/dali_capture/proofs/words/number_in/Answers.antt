@@ -1,14 +1,8 @@
-use Rattle.std.proofs.Common.{◌≡◌, ℕ, ◌^◌, ◌<◌, Bool, true, false, List, [], ◌∷◌, length, Err, refl, sym, arith}
-use Rattle.std.proofs.lemmas.Bool.Decides.{nat_tests}
-use Rattle.std.proofs.lemmas.Str.{IsUtf8-from_ascii}
+use Rattle.std.proofs.Common.{◌≡◌, ℕ, ◌^◌, ◌<◌, Bool, true, false, List, [], ◌∷◌, length, Err, refl, sym, arith, nat_lt, IsUtf8}
+use Rattle.std.proofs.lemmas.{Bool.Decides.nat_tests, Fmt.IsAscii-from_digits, Str.IsUtf8-from_ascii}
 use Rattle.std.proofs.lemmas.Str.Parse.{IsNumeralModel, numerals_by_value, tells_all_ascii_digits, parse_digits}
-use Rattle.std.proofs.lemmas.Fmt.{IsAscii-from_digits}
-use Rattle.std.specs.Prelude.{nat_lt, IsUtf8}
-use Rattle.std.specs.Str.{all_ascii_digits}
-use Rattle.std.specs.Str.Parse.{digits_value, ParsesUnsigned}
-use Rattle.dali_capture.specs.declared.fault.Reason.{Reason}
-use Rattle.dali_capture.specs.declared.fault.Reason.TheVariants.{TimeTooLarge}
-use Rattle.dali_capture.specs.Words.{is_digits, number_of}
+use Rattle.std.specs.Str.{all_ascii_digits, Parse.digits_value, Parse.ParsesUnsigned}
+use Rattle.dali_capture.specs.{Words.is_digits, Words.number_of, declared.fault.Reason.Reason, declared.fault.Reason.TheVariants.TimeTooLarge}
 use Rattle.dali_capture.proofs.words.number_in.Goals as goal
 
 own : IsNumeralModel (λ ds. all_ascii_digits ds ≡ true) (digits_value 10)
