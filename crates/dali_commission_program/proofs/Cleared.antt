@@ -1,11 +1,8 @@
 use Rattle.std.proofs.Common.{◌≡◌, List, [], ◌∷◌, Bool, Result, ap, subst, ◌∙◌}
 use Rattle.dali_script.specs.Records.{without_records}
-use Rattle.dali_commissioning.specs.declared.census.Reply.{Reply}
-use Rattle.dali_commissioning.specs.declared.verdict.Place.{Place}
-use Rattle.dali_commissioning.specs.Drivers.{Talk}
-use Rattle.dali_commissioning.specs.Places.{places}
-use Rattle.dali_commission_program.specs.declared.failure.Failure.{Failure}
+use Rattle.dali_commissioning.specs.{Drivers.Talk, Places.places, declared.census.Reply.Reply, declared.verdict.Place.Place}
 use Rattle.dali_commission_program.specs.Clearing.{AreCleared, IsFollowed, ClearsTo, cleared_as, all_shorts}
+use Rattle.dali_commission_program.specs.declared.failure.Failure.{Failure}
 
 -- what a clear comes to, by what was seen and told of the replies
 pub cleared : (replies seen told : List Reply) (found : Bool) (x at y : Talk) (ended : Result (Unit {0}) Failure) (stand : List Place)

@@ -1,16 +1,10 @@
 use Rattle.std.proofs.Common.{◌≡◌, List, [], ◌∷◌, Option, Some, true, refl}
 use Rattle.std.specs.Io.KnownBytes.{Appends}
-use Rattle.dali_script.specs.Due.{accepts}
+use Rattle.dali_script.specs.{Due.accepts, declared.orders.Input.Input}
 use Rattle.dali_script.specs.declared.orders.Due.TheVariants as due
-use Rattle.dali_script.specs.declared.orders.Input.{Input}
-use Rattle.dali_commissioning.specs.Drivers.{Talk}
-use Rattle.dali_commissioning.specs.Lines.{Tells, put_text}
-use Rattle.dali_commissioning.proofs.Steps.{line_told}
-use Rattle.dali_mending.specs.declared.mending.Put.{Put}
-use Rattle.dali_mending.specs.Mending.{Mending}
-use Rattle.dali_commission_program.specs.declared.eraser.Eraser.{Eraser}
-use Rattle.dali_commission_program.specs.Clearing.{HaveErased}
-use Rattle.dali_commission_program.specs.Mends.{AreFrames, HasPut}
+use Rattle.dali_commissioning.{specs.Drivers.Talk, specs.Lines.Tells, specs.Lines.put_text, proofs.Steps.line_told}
+use Rattle.dali_mending.specs.{Mending.Mending, declared.mending.Put.Put}
+use Rattle.dali_commission_program.specs.{Clearing.HaveErased, Mends.AreFrames, Mends.HasPut, declared.eraser.Eraser.Eraser}
 
 -- no frame was put, and one more
 pub none : (m : Mending) (x : Talk) → HasPut m m x x

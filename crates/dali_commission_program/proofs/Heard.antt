@@ -1,6 +1,5 @@
 use Rattle.std.proofs.Common.{◌≡◌, ◌≤◌, arith, ℕ, ◌+◌, suc, List, [], ◌++◌, length, length-append, Bool, true, false, refl, subst, ◌∙◌, ap, sym}
-use Rattle.dali_controller.specs.declared.shorts.Shorts.{Shorts}
-use Rattle.dali_controller.specs.Shorts.{has_short}
+use Rattle.dali_controller.specs.{Shorts.has_short, declared.shorts.Shorts.Shorts}
 use Rattle.dali_commission_program.specs.Reports.{heard_if, heard_below}
 
 -- no short address, and one more

@@ -1,9 +1,6 @@
 use Rattle.std.proofs.Common.{◌≡◌, ◌<◌, ◌-◌, ◌+◌, arith, ℕ, zero, suc, List, [], ◌∷◌, Option, Some, Result, Ok, Err, OnOk, refl, subst, sym, ap, ◌∙◌}
-use Rattle.dali_replacement.specs.declared.swap.Step.{Step}
-use Rattle.dali_replacement.specs.declared.swap.Step.TheVariants.{Announce, SetAside, Place, Forget}
-use Rattle.dali_replacement.specs.declared.swapping.Swap.{Swap}
-use Rattle.dali_replacement.specs.Swap.{step_after}
-use Rattle.dali_replacement.specs.Swapping.{number_of}
+use Rattle.dali_replacement.specs.{Swap.step_after, Swapping.number_of, declared.swap.Step.Step, declared.swap.Step.TheVariants.Announce}
+use Rattle.dali_replacement.specs.declared.{swap.Step.TheVariants.SetAside, swap.Step.TheVariants.Place, swap.Step.TheVariants.Forget, swapping.Swap.Swap}
 use Rattle.dali_commission_program.specs.Calls.{Call, Wrote, Renamed, Likened, Removed}
 use Rattle.dali_commission_program.specs.Settling.{new_at, journal_at, kept_at, IsNamed, IsDone, count_of, GoesOn, GoesBack}
 

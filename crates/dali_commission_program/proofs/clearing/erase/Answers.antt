@@ -1,6 +1,5 @@
 use Rattle.std.proofs.Common.{sym, ◌∙◌}
-use Rattle.dali_commission_program.specs.Erasing.{erasing_next, erasing_told}
-use Rattle.dali_commission_program.proofs.Frames.{one_more}
+use Rattle.dali_commission_program.{specs.Erasing.erasing_next, specs.Erasing.erasing_told, proofs.Frames.one_more}
 use Rattle.dali_commission_program.proofs.clearing.erase.Goals as goal
 
 pub loop-preserved : goal.loop-preserved

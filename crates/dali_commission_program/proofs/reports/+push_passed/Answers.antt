@@ -1,7 +1,6 @@
 use Rattle.std.proofs.Common.{◌≡◌, ◌≤◌, ◌-◌, ℕ, arith, ◌∷◌, [], List, drop, take, length, length-drop, get_or, ap, ◌∙◌}
 use Rattle.std.proofs.lemmas.List.{take_all}
-use Rattle.dali_commission_program.specs.declared.said.Said.{Said}
-use Rattle.dali_commission_program.specs.Said.{with_passed, with_all_passed}
+use Rattle.dali_commission_program.specs.{Said.with_passed, Said.with_all_passed, declared.said.Said.Said}
 use Rattle.dali_commission_program.proofs.reports.+push_passed.Goals as goal
 
 one_more : (numbers tail : List ℕ) (d number : ℕ) (lines mid : List Said) → 1 ≤ length numbers → tail ≡ drop 1 numbers
