@@ -1,14 +1,10 @@
 use Rattle.std.proofs.Common.{◌≡◌, ◌<◌, ◌≤◌, arith, ℕ, suc, ◌+◌, ◌*◌, List, [], ◌∷◌, ◌++◌, length, true, Option, Some, None, is_some, refl, ◌∙◌, ap, sym, subst}
 use Rattle.dali_frame.specs.declared.frames.Answer.{Answer}
-use Rattle.dali_script.specs.declared.orders.Input.{Input}
-use Rattle.dali_script.specs.declared.block.Block.{Block}
-use Rattle.dali_script.specs.Records.{Kept}
-use Rattle.dali_commissioning.specs.declared.census.Reply.{Reply}
-use Rattle.dali_commissioning.specs.declared.census.Reply.TheVariants as reply
-use Rattle.dali_script.specs.declared.sending.Half.TheVariants.{Whole}
-use Rattle.dali_commissioning.specs.Drivers.{Talk}
+use Rattle.dali_script.specs.{Records.Kept, declared.block.Block.Block, declared.orders.Input.Input, declared.sending.Half.TheVariants.Whole}
 use Rattle.dali_commissioning.specs.Census.{query_at, answer_told, IsPut, IsAsked, reply_of, reply_heard, reply_told, joined_if, one_if, AreAsked, reply_after}
 use Rattle.dali_commissioning.specs.Census.{whole_of, IsAnswered, AreLost, lost_after, IsGivenUp, IsCounted, AreCounted}
+use Rattle.dali_commissioning.specs.{Drivers.Talk, declared.census.Reply.Reply}
+use Rattle.dali_commissioning.specs.declared.census.Reply.TheVariants as reply
 
 -- a frame that was heard
 pub is_heard : (heard : Option Answer) (told : Input) (h : Answer) → heard ≡ answer_told told → heard ≡ Some h
@@ -46,9 +42,6 @@ pub record HasAsked (a : ℕ) (x y : Talk) (it : Reply) (asked lost : ℕ) : Typ
   pub counted : asked ≡ whole_of questions
   pub told : it ≡ reply_after questions
   pub are_lost : AreLost lost questions
-
-pub none_asked : (a : ℕ) (x : Talk) → HasAsked a x x reply.Noise 0 0
-none_asked a x = record { questions = []; are = refl; counted = refl; told = refl; are_lost = tt }
 
 lost_more : (lost : ℕ) (told : Option Reply) (inputs : List Input) (before : List (List Input)) → told ≡ reply_told inputs
     → AreLost lost before → AreLost (lost_after lost told) (inputs ∷ before)

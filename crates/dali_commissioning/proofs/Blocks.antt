@@ -1,11 +1,7 @@
-use Rattle.std.proofs.Common.{◌≡◌, ℕ, ◌<◌, ◌+◌, ◌⊎◌, inl, inr, true, false, Option, Some, None, List, ◌∷◌, drop, length, get_or, sym, ap, ◌∙◌}
-use Rattle.std.proofs.Common.{arith}
-use Rattle.std.specs.Prelude.{◌↔◌, IsSome, IfSome, if◌then◌else◌}
-use Rattle.std.proofs.lemmas.Bool.Decides.{nat_tests}
-use Rattle.std.proofs.lemmas.List.{drop_more}
-use Rattle.dali_script.specs.declared.block.Block.{Block}
-use Rattle.dali_script.specs.Records.{Assignment}
-use Rattle.dali_script.specs.Stages.{in_block}
+use Rattle.std.proofs.Common.{◌≡◌, ℕ, ◌<◌, ◌+◌, ◌⊎◌, inl, inr, true, false, Option, Some, None, List, ◌∷◌, drop, length, get_or, sym, ap, ◌∙◌, arith, ◌↔◌}
+use Rattle.std.proofs.Common.{IsSome, IfSome, if◌then◌else◌}
+use Rattle.std.proofs.lemmas.{Bool.Decides.nat_tests, List.drop_more}
+use Rattle.dali_script.specs.{Records.Assignment, Stages.in_block, declared.block.Block.Block}
 use Rattle.dali_commissioning.specs.Runs.{outside}
 
 -- A PAIR OUTSIDE OF A BLOCK is the first one, if those before it lie in the block.

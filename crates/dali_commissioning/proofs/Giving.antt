@@ -1,25 +1,16 @@
-use Rattle.std.proofs.Common.{◌≡◌, ◌⊎◌, ℕ, List, [], ◌∷◌, ◌++◌, Option, Some, None, refl, sym, ap, subst, ◌∙◌, inl, inr}
-use Rattle.dali_frame.specs.declared.frames.Forward.{Forward}
-use Rattle.dali_frame.specs.declared.frames.Answer.{Answer}
-use Rattle.dali_frame.specs.Random.{value_of}
-use Rattle.dali_special.specs.Command.{command_of}
-use Rattle.dali_special.specs.declared.command.Command.TheVariants.{Program}
-use Rattle.dali_script.specs.declared.block.Block.{Block}
-use Rattle.dali_script.specs.declared.trace.Entry.{Entry}
-use Rattle.dali_script.specs.declared.records.Record.{Record}
-use Rattle.dali_script.specs.declared.records.Record.TheVariants.{Reserve, Enrol, Release}
-use Rattle.dali_script.specs.declared.orders.Input.{Input}
+use Rattle.std.proofs.Common.{◌≡◌, ℕ, List, [], ◌∷◌, ◌++◌, Option, Some, None, refl, sym, ap, subst, ◌∙◌, inl, inr}
+use Rattle.dali_frame.specs.{Random.value_of, declared.frames.Answer.Answer, declared.frames.Forward.Forward}
+use Rattle.dali_special.specs.{Command.command_of, declared.command.Command.TheVariants.Program}
+use Rattle.dali_script.specs.{Due.frame_put, Due.record_ordered, Records.Assignment, Records.Has, Records.without_pair, Scripts.Lawful}
+use Rattle.dali_script.specs.declared.{block.Block.Block, orders.Input.Input}
 use Rattle.dali_script.specs.declared.orders.Input.TheVariants.{Start, Survey, Heard, Destroyed, Lapsed, Committed, CommitFailed}
-use Rattle.dali_script.specs.declared.orders.Order.{Order}
-use Rattle.dali_script.specs.declared.orders.Order.TheVariants.{Put, Commit, Done, Halt}
-use Rattle.dali_script.specs.Due.{frame_put, record_ordered}
-use Rattle.dali_script.specs.Records.{Assignment, Has, without_pair}
-use Rattle.dali_script.specs.Scripts.{Lawful}
-use Rattle.dali_script.proofs.Transactions.{program_at}
+use Rattle.dali_script.specs.declared.orders.Order.{Order, TheVariants.Put, TheVariants.Commit, TheVariants.Done, TheVariants.Halt}
+use Rattle.dali_script.specs.declared.records.Record.{Record, TheVariants.Reserve, TheVariants.Enrol, TheVariants.Release}
+use Rattle.dali_script.{specs.declared.trace.Entry.Entry, proofs.Transactions.program_at}
 use Rattle.dali_controller.specs.Machine.{Machine, machine_told, machine_heard, machine_committed}
-use Rattle.dali_controller.specs.Orders.{IsAnswered, IsAllowed, MayOrderPut, machine_after}
-use Rattle.dali_commissioning.specs.Steps.{Step, IsStep, AreSteps, last_order, record_told, committed_by}
-use Rattle.dali_commissioning.specs.Giving.{IsGiving, Gives, ReserveNothing, IsNoReservation}
+use Rattle.dali_controller.specs.Orders.{IsAnswered, IsAllowed, MayOrderPut}
+use Rattle.dali_commissioning.specs.Giving.{IsGiving, Gives, ReserveNothing}
+use Rattle.dali_commissioning.specs.Steps.{Step, AreSteps, last_order, record_told, committed_by}
 
 -- WHO RESERVES NOTHING GIVES NOTHING, step by step.
 

@@ -1,7 +1,5 @@
 use Rattle.std.proofs.Common.{◌≡◌, ◌≤◌, List, [], ◌∷◌, refl, ◌∙◌, ap, sym, subst}
-use Rattle.dali_script.specs.declared.block.Block.{Block}
-use Rattle.dali_script.specs.declared.records.Record.{Record}
-use Rattle.dali_script.specs.Records.{Kept, with_record, without_records}
+use Rattle.dali_script.specs.{Records.Kept, Records.with_record, Records.without_records, declared.block.Block.Block, declared.records.Record.Record}
 use Rattle.dali_script.proofs.Lists.{block_stays, record_wider, fits_wider, may_wider}
 use Rattle.dali_reserve.specs.Store.{replay_of, IsGood, AreGood, IsReplay}
 

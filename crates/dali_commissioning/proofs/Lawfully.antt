@@ -1,19 +1,13 @@
 use Rattle.std.proofs.Common.{◌≡◌, ◌<◌, ◌≤◌, arith, ℕ, List, [], ◌∷◌, length, refl}
 use Rattle.std.proofs.lemmas.Bool.{false≢true}
-use Rattle.dali_special.specs.declared.command.Command.{Command}
-use Rattle.dali_special.specs.declared.command.Command.TheVariants.{RandomByte, Compare}
-use Rattle.dali_special.specs.Command.{command_of}
-use Rattle.dali_special.proofs.Table.{read_written}
-use Rattle.dali_script.specs.declared.block.Block.{Block}
-use Rattle.dali_script.specs.declared.orders.Input.{Input}
+use Rattle.dali_frame.specs.{Random.high_of, Random.middle_of, Random.low_of, declared.frames.Answer.Answer, declared.numbers.SearchAddress.SearchAddress}
+use Rattle.dali_special.specs.{Command.command_of, declared.command.Command.Command, declared.command.Command.TheVariants.RandomByte}
+use Rattle.dali_special.{specs.declared.command.Command.TheVariants.Compare, proofs.Table.read_written}
+use Rattle.dali_script.specs.{Records.Assignment, Scripts.Lawful, Scripts.Resolve, Scripts.Open, Scripts.Hunt, Scripts.PassOver, Scripts.Close}
+use Rattle.dali_script.specs.{Scripts.AreAsking, Scripts.ASKING, declared.block.Block.Block, declared.orders.Input.Input}
 use Rattle.dali_script.specs.declared.orders.Input.TheVariants.{Start, Survey, Heard, Destroyed, Lapsed, Committed, CommitFailed}
-use Rattle.dali_script.specs.Records.{Assignment}
-use Rattle.dali_frame.specs.declared.frames.Answer.{Answer}
-use Rattle.dali_frame.specs.declared.numbers.SearchAddress.{SearchAddress}
-use Rattle.dali_frame.specs.Random.{high_of, middle_of, low_of}
-use Rattle.dali_script.specs.Scripts.{Lawful, Resolve, Open, Hunt, PassOver, Close, AreAsking, ASKING}
-use Rattle.dali_commissioning.specs.Unaddressed.{waking, withdrawing, comparing, ending, AreLawful}
 use Rattle.dali_commissioning.specs.Census.{AreHeard, entries_of, query_at, part_at}
+use Rattle.dali_commissioning.specs.Unaddressed.{waking, withdrawing, comparing, ending, AreLawful}
 
 queried : (a n : ℕ) → a < 64 → command_of (query_at a n) ≡ RandomByte a (part_at n)
 queried a n short = read_written (RandomByte a (part_at n)) short

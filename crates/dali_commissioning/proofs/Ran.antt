@@ -1,23 +1,15 @@
 use Rattle.std.proofs.Common.{◌≡◌, arith, ℕ, ◌+◌, suc, List, [], ◌∷◌, ◌++◌, length, Bool, true, false, ◌||◌, Option, refl, ◌∙◌, ap, sym, subst}
-use Rattle.std.proofs.lemmas.Bool.{false≢true}
-use Rattle.std.proofs.lemmas.List.{append_assoc, append-nil}
-use Rattle.dali_script.specs.declared.block.Block.{Block}
-use Rattle.dali_script.specs.declared.records.Record.{Record}
-use Rattle.dali_script.specs.declared.orders.Input.{Input}
-use Rattle.dali_script.specs.declared.orders.Input.TheVariants.{Committed}
-use Rattle.dali_script.specs.declared.orders.End.TheVariants.{AllFound}
-use Rattle.dali_script.specs.Due.{record_ordered}
-use Rattle.dali_script.specs.Records.{Kept}
-use Rattle.dali_reserve.specs.Store.{IsReplay}
+use Rattle.std.proofs.lemmas.{Bool.false≢true, List.append_assoc, List.append-nil}
 use Rattle.dali_frame.specs.declared.frames.Forward.{Forward}
+use Rattle.dali_script.specs.{Due.record_ordered, Records.Kept, declared.block.Block.Block}
+use Rattle.dali_script.specs.declared.{orders.End.TheVariants.AllFound, orders.Input.Input, orders.Input.TheVariants.Committed, records.Record.Record}
+use Rattle.dali_reserve.specs.Store.{IsReplay}
 use Rattle.dali_controller.specs.Machine.{Machine, at_first}
-use Rattle.dali_commissioning.specs.declared.conducting.Ended.TheVariants.{Done}
-use Rattle.dali_commissioning.specs.declared.conducting.PassEnd.{PassEnd}
-use Rattle.dali_commissioning.specs.Drivers.{Talk}
-use Rattle.dali_commissioning.specs.Steps.{Step, last_order, record_told, committed_by, is_kept, has_committed}
 use Rattle.dali_commissioning.specs.Conducted.{Conducted, Commits, Stays, IsAt, IsLeft, order_of}
+use Rattle.dali_commissioning.specs.Drivers.{Talk}
 use Rattle.dali_commissioning.specs.Runs.{Run, IsRun, AreRuns, HaveRun, AreAllFound, EndWith, ComeTo, AreQuiet, quiet_after, Grows, IsRead}
-use Rattle.dali_commissioning.proofs.Steps.{stays_further}
+use Rattle.dali_commissioning.specs.Steps.{Step, last_order, record_told, committed_by, is_kept, has_committed}
+use Rattle.dali_commissioning.{specs.declared.conducting.Ended.TheVariants.Done, specs.declared.conducting.PassEnd.PassEnd, proofs.Steps.stays_further}
 
 -- steps that were told of no record have committed none
 neither : (a b : Bool) → (a || b) ≡ false → (a ≡ false) × (b ≡ false)

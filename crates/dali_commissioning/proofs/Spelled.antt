@@ -1,19 +1,13 @@
 use Rattle.std.proofs.Common.{◌≡◌, ◌<◌, ◌≤◌, ◌+◌, arith, ℕ, Bool, true, false, Option, Some, None, Result, Ok, Err, ◌/◌, ◌%◌, List, [], ◌∷◌, ◌++◌, codes, refl}
 use Rattle.std.proofs.Common.{ap, sym, subst, ◌∙◌}
-use Rattle.std.proofs.lemmas.Fmt.{decimal_digit}
-use Rattle.std.specs.Fmt.{digit_glyph}
-use Rattle.std.proofs.lemmas.Bool.{false≢true}
-use Rattle.dali_frame.specs.declared.frames.Forward.{Forward}
-use Rattle.dali_frame.specs.declared.frames.Answer.TheVariants.{Silence, Byte, Damaged}
-use Rattle.dali_frame.specs.Hex.{forward_text, forward_of, joined, byte_of}
-use Rattle.dali_frame.specs.declared.hex.HexError.{HexError}
+use Rattle.std.{proofs.lemmas.Bool.false≢true, proofs.lemmas.Fmt.decimal_digit, specs.Fmt.digit_glyph}
+use Rattle.dali_frame.specs.{Hex.forward_text, Hex.forward_of, Hex.joined, Hex.byte_of, declared.frames.Answer.TheVariants.Silence}
+use Rattle.dali_frame.specs.declared.{frames.Answer.TheVariants.Byte, frames.Answer.TheVariants.Damaged, frames.Forward.Forward, hex.HexError.HexError}
 use Rattle.dali_special.specs.Command.{command_of, is_question}
-use Rattle.dali_script.specs.Due.{accepts}
-use Rattle.dali_script.specs.declared.orders.Due.TheVariants as due
-use Rattle.dali_script.specs.declared.orders.Input.{Input}
+use Rattle.dali_script.specs.{Due.accepts, declared.orders.Input.Input}
 use Rattle.dali_script.specs.declared.orders.Input.TheVariants.{Start, Survey, Heard, Destroyed, Lapsed, Committed, CommitFailed}
-use Rattle.dali_script.specs.declared.sending.Half.{Half}
-use Rattle.dali_script.specs.declared.sending.Half.TheVariants.{Whole, First, Second}
+use Rattle.dali_script.specs.declared.sending.Half.{Half, TheVariants.Whole, TheVariants.First, TheVariants.Second}
+use Rattle.dali_script.specs.declared.orders.Due.TheVariants as due
 use Rattle.dali_commissioning.specs.Lines.{asked_text, half_text, put_text, Says, told_text, told_of, IsByte}
 
 -- that a frame is read back from its four digits

@@ -1,8 +1,6 @@
 use Rattle.std.proofs.Common.{◌≡◌, arith, ℕ, ◌+◌, suc, List, [], ◌∷◌, ◌++◌, refl, subst}
-use Rattle.dali_script.specs.declared.block.Block.{Block}
-use Rattle.dali_script.specs.Records.{Kept}
-use Rattle.dali_commissioning.specs.declared.census.Reply.{Reply}
-use Rattle.dali_commissioning.specs.Places.{place_at, places_below}
+use Rattle.dali_script.specs.{Records.Kept, declared.block.Block.Block}
+use Rattle.dali_commissioning.specs.{Places.place_at, Places.places_below, declared.census.Reply.Reply}
 
 -- no short address, and one more
 pub none : (k : Kept) (others : List Block) (replies : List Reply) → places_below 0 k others replies ≡ []

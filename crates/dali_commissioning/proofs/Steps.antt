@@ -1,23 +1,16 @@
 use Rattle.std.proofs.Common.{◌≡◌, ◌⊎◌, ⊎_elim, arith, ℕ, ◌+◌, ◌≤◌, length, List, [], ◌∷◌, ◌++◌, Bool, true, false, ◌||◌, Option, Some, None, refl, ◌∙◌, ap}
-use Rattle.std.proofs.Common.{sym, subst}
-use Rattle.std.proofs.lemmas.Bool.{false≢true}
-use Rattle.dali_script.specs.Due.{accepts}
-use Rattle.dali_script.specs.declared.orders.Due.TheVariants as due
-use Rattle.dali_script.specs.declared.orders.Input.{Input}
-use Rattle.dali_script.specs.declared.orders.Input.TheVariants.{Start, Survey, Heard, Destroyed, Lapsed, Committed, CommitFailed}
-use Rattle.dali_commissioning.specs.Lines.{Tells}
-use Rattle.dali_commissioning.specs.Conducted.{Hears, Conducted, Commits, MayCommit, Stays, IsAt, IsLeft, HasTaken}
-use Rattle.dali_commissioning.specs.Steps.{Step, IsStep, last_order, open_after, order_line, written_by, opened_by, if_heard, record_told, committed_by}
-use Rattle.dali_commissioning.specs.Steps.{is_kept, AreTold, earlier}
-use Rattle.dali_commissioning.specs.Drivers.{Talk}
-use Rattle.dali_controller.specs.Machine.{Machine}
-use Rattle.dali_script.specs.declared.orders.Order.{Order}
-use Rattle.dali_script.specs.declared.records.Record.{Record}
+use Rattle.std.proofs.{Common.sym, Common.subst, KnownBytes.Appends-trans, KnownBytes.Appends-nil, KnownBytes.Consumes-trans, KnownBytes.Consumes-nil}
+use Rattle.std.proofs.lemmas.{Bool.false≢true, List.append_assoc, List.append-nil}
 use Rattle.std.specs.Io.KnownBytes.{Appends, Consumes}
-use Rattle.std.proofs.KnownBytes.{Appends-trans, Appends-nil, Consumes-trans, Consumes-nil}
-use Rattle.std.proofs.lemmas.List.{append_assoc, append-nil}
 use Rattle.dali_frame.specs.declared.frames.Forward.{Forward}
-use Rattle.dali_script.specs.Due.{record_ordered}
+use Rattle.dali_script.specs.{Due.accepts, Due.record_ordered, declared.orders.Input.Input}
+use Rattle.dali_script.specs.declared.orders.Input.TheVariants.{Start, Survey, Heard, Destroyed, Lapsed, Committed, CommitFailed}
+use Rattle.dali_script.specs.declared.{orders.Order.Order, records.Record.Record}
+use Rattle.dali_script.specs.declared.orders.Due.TheVariants as due
+use Rattle.dali_controller.specs.Machine.{Machine}
+use Rattle.dali_commissioning.specs.Conducted.{Hears, Conducted, Commits, MayCommit, Stays, IsAt, IsLeft, HasTaken}
+use Rattle.dali_commissioning.specs.{Drivers.Talk, Lines.Tells, Steps.Step, Steps.IsStep, Steps.last_order}
+use Rattle.dali_commissioning.specs.Steps.{open_after, order_line, written_by, opened_by, if_heard, record_told, committed_by, is_kept, AreTold, earlier}
 
 -- a line that was read, by what it tells
 pub line_told : (left rest : Option (List ℕ)) (told : Input) → accepts due.Bus told ≡ true

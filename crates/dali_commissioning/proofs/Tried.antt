@@ -1,23 +1,16 @@
-use Rattle.std.proofs.Common.{◌≡◌, ◌≤◌, ◌-◌, take, drop, arith, Bool, ℕ, ◌+◌, suc, List, [], ◌∷◌, length}
-use Rattle.std.proofs.Common.{Option, None, Some, refl, subst, sym, ◌∙◌, ap, inl, inr}
+use Rattle.std.proofs.Common.{◌≡◌, ◌≤◌, ◌-◌, take, drop, arith, Bool, ℕ, ◌+◌, suc, List, [], ◌∷◌, length, Option, None, Some, refl, subst, sym, ◌∙◌, ap, inl}
+use Rattle.std.proofs.{Common.inr, Math.ListN.get_or, lemmas.List.take_all}
 use Rattle.dali_frame.specs.declared.frames.Answer.{Answer}
-use Rattle.std.proofs.Math.ListN.{get_or}
-use Rattle.std.proofs.lemmas.List.{take_all}
 use Rattle.dali_script.specs.declared.orders.Input.{Input}
-use Rattle.dali_commissioning.specs.Drivers.{Talk}
-use Rattle.dali_commissioning.specs.declared.unaddressed.Putting.{Putting}
-use Rattle.dali_commissioning.specs.Census.{answer_told}
-use Rattle.dali_commissioning.specs.Unaddressed.{IsPutSo, ArePut, is_yes, joined_yes, found_at, found_by, AreTried, AreLeftOver, AreLostSo}
-use Rattle.dali_commissioning.proofs.Asked.{is_heard}
+use Rattle.dali_commissioning.specs.{Census.answer_told, Drivers.Talk}
+use Rattle.dali_commissioning.specs.Unaddressed.{IsPutSo, ArePut, is_yes, joined_yes, found_at, found_by, AreTried}
+use Rattle.dali_commissioning.{specs.declared.unaddressed.Putting.Putting, proofs.Asked.is_heard}
 
 -- all was tried so often, and lost
 pub record HaveTried (puttings : List Putting) (count : ℕ) (x y : Talk) : Type 0 where
   pub tried : List (List Input)
   pub are : AreTried puttings tried x y
   pub counted : length tried ≡ count
-
-pub none_tried : (puttings : List Putting) (x : Talk) → HaveTried puttings 0 x x
-none_tried puttings x = record { tried = []; are = refl; counted = refl }
 
 -- what putting the frames once came to
 abbrev pub ComesTo : List Putting → Option Bool → Talk → Talk → Type 0
@@ -72,11 +65,3 @@ tried_more count puttings x y z found so_far (told, put, says) none =
       are = (y, so_far.are, put, sym says ∙ none);
       counted = one ∙ ap (λ n. n + 1) so_far.counted;
     }
-
-pub found_at_last : (count : ℕ) (puttings : List Putting) (x y z : Talk) (outcome : Option Bool) (found : Bool)
-    → HaveTried puttings count x y → ComesTo puttings outcome y z → outcome ≡ Some found → AreLeftOver puttings found x z
-found_at_last count puttings x y z outcome found so_far (told, put, says) is =
-    (so_far.tried, told, y, so_far.are, put, sym says ∙ is)
-
-pub all_lost : (count : ℕ) (puttings : List Putting) (x y : Talk) → HaveTried puttings count x y → count ≡ 8 → AreLostSo puttings x y
-all_lost count puttings x y so_far is = (so_far.tried, so_far.are, so_far.counted ∙ is)

@@ -1,9 +1,8 @@
 use Rattle.std.proofs.Common.{◌<◌, ◌⊎◌, inl, inr, sym, ◌∙◌, arith}
 use Rattle.dali_script.proofs.Lists.{has_map, next_there}
-use Rattle.dali_commissioning.proofs.Blocks.{outside_here, short_is}
-use Rattle.dali_commissioning.proofs.beginning.outside.Goals as goal
-use Rattle.dali_commissioning.proofs.beginning.outside.Goals.{then-address-first-via-then-address-first}
+use Rattle.dali_commissioning.proofs.{Blocks.outside_here, Blocks.short_is, beginning.outside.Goals.then-address-first-via-then-address-first}
 use Rattle.dali_commissioning.proofs.beginning.outside.Goals.{then-address-first-via-else-address-first+then-last-address}
+use Rattle.dali_commissioning.proofs.beginning.outside.Goals as goal
 
 pub returns-then-address-first : goal.returns-then-address-first
 returns-then-address-first c =

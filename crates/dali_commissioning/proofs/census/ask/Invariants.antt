@@ -1,6 +1,5 @@
 use Rattle.std.proofs.Common.{◌<◌, ◌≤◌, ◌+◌, ◌*◌}
-use Rattle.dali_commissioning.specs.Drivers.{talk_of}
-use Rattle.dali_commissioning.proofs.Asked.{HasAsked}
+use Rattle.dali_commissioning.{specs.Drivers.talk_of, proofs.Asked.HasAsked}
 use Rattle.dali_commissioning.proofs.census.ask.Given as goal
 
 abbrev pub invariant-loop : goal.invariant-loop

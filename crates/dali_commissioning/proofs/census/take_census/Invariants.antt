@@ -1,6 +1,5 @@
 use Rattle.std.proofs.Common.{◌≡◌, length}
-use Rattle.dali_commissioning.specs.Drivers.{talk_of}
-use Rattle.dali_commissioning.specs.Census.{AreCounted}
+use Rattle.dali_commissioning.specs.{Census.AreCounted, Drivers.talk_of}
 use Rattle.dali_commissioning.proofs.census.take_census.Given as goal
 
 abbrev pub invariant-loop-number : goal.invariant-loop-number

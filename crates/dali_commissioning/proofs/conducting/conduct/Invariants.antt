@@ -1,9 +1,6 @@
-use Rattle.std.proofs.Common.{◌≡◌, Some}
-use Rattle.std.specs.Prelude.{IfSome}
-use Rattle.dali_script.specs.Due.{record_ordered}
-use Rattle.dali_script.specs.Records.{Fits}
-use Rattle.dali_commissioning.specs.Conducted.{IsAt}
-use Rattle.dali_commissioning.specs.Drivers.{talk_of}
+use Rattle.std.proofs.Common.{◌≡◌, Some, IfSome}
+use Rattle.dali_script.specs.{Due.record_ordered, Records.Fits}
+use Rattle.dali_commissioning.specs.{Conducted.IsAt, Drivers.talk_of}
 use Rattle.dali_commissioning.proofs.conducting.conduct.Given as goal
 
 abbrev pub invariant-loop : goal.invariant-loop

@@ -1,9 +1,6 @@
-use Rattle.std.proofs.Common.{subst}
-use Rattle.std.specs.Io.KnownBytes.{Appends}
+use Rattle.std.{proofs.Common.subst, specs.Io.KnownBytes.Appends}
 use Rattle.dali_script.specs.declared.sending.Half.TheVariants.{Whole}
-use Rattle.dali_commissioning.specs.Drivers.{writer_of}
-use Rattle.dali_commissioning.specs.Lines.{put_text}
-use Rattle.dali_commissioning.proofs.Steps.{line_told}
+use Rattle.dali_commissioning.{specs.Drivers.writer_of, specs.Lines.put_text, proofs.Steps.line_told}
 use Rattle.dali_commissioning.proofs.lighting.light.Goals as goal
 
 pub returns : goal.returns

@@ -1,6 +1,5 @@
 use Rattle.std.proofs.Common.{rules, sym, ◌∙◌}
-use Rattle.dali_commissioning.proofs.Steps.{stays_further}
-use Rattle.dali_commissioning.proofs.Ran.{of_block, ran_more, ended_otherwise, ended_quiet, grows_further}
+use Rattle.dali_commissioning.proofs.{Ran.of_block, Ran.ran_more, Ran.ended_otherwise, Ran.ended_quiet, Ran.grows_further, Steps.stays_further}
 use Rattle.dali_commissioning.proofs.runs.commission.Goals as goal
 
 pub returns-in-Err-clause-left : goal.returns-in-Err-clause-left

@@ -1,6 +1,5 @@
 use Rattle.std.proofs.Common.{◌≡◌, ◌<◌}
-use Rattle.dali_commissioning.specs.Drivers.{talk_of}
-use Rattle.dali_commissioning.proofs.Ran.{HasRun}
+use Rattle.dali_commissioning.{specs.Drivers.talk_of, proofs.Ran.HasRun}
 use Rattle.dali_commissioning.proofs.runs.commission.Given as goal
 
 abbrev pub invariant-loop : goal.invariant-loop

@@ -1,5 +1,4 @@
-use Rattle.dali_commissioning.proofs.Steps.{stays_further}
-use Rattle.dali_commissioning.proofs.Ran.{run_of, same_grows, left_grows}
+use Rattle.dali_commissioning.proofs.{Ran.run_of, Ran.same_grows, Ran.left_grows, Steps.stays_further}
 use Rattle.dali_commissioning.proofs.runs.run.Goals as goal
 
 pub returns-in-Err-clause-left : goal.returns-in-Err-clause-left

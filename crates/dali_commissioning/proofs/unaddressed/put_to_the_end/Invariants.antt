@@ -1,5 +1,4 @@
-use Rattle.dali_commissioning.specs.Drivers.{talk_of}
-use Rattle.dali_commissioning.proofs.Tried.{HaveTried}
+use Rattle.dali_commissioning.{specs.Drivers.talk_of, proofs.Tried.HaveTried}
 use Rattle.dali_commissioning.proofs.unaddressed.put_to_the_end.Given as goal
 
 abbrev pub invariant-loop : goal.invariant-loop
