@@ -1,11 +1,9 @@
-use Rattle.std.proofs.Common.{◌≡◌, ℕ, ◌+◌, ◌-◌, ◌<◌, ◌≤◌, subst, Bool, true, false, List, Option, Some, None, refl, sym, ap, ◌∙◌, arith}
-use Rattle.std.specs.Prelude.{◌↔◌, ◌==◌, IsSome, IfSome, MatchOption, is_some, not, ◌&&◌, ◌||◌, zero, suc, slice_index_or, if◌then◌else◌}
+use Rattle.std.proofs.Common.{◌≡◌, ℕ, ◌+◌, ◌-◌, ◌<◌, ◌≤◌, subst, Bool, true, false, List, Option, Some, None, refl, sym, ap, ◌∙◌, arith, ◌↔◌, ◌==◌, IsSome}
+use Rattle.std.proofs.Common.{IfSome, MatchOption, is_some, not, ◌&&◌, ◌||◌, zero, suc, slice_index_or, if◌then◌else◌}
 use Rattle.dali_script.specs.Records.{Assignment, Kept, Has, HasAddress, InBlock, Marks}
 use Rattle.dali_script.proofs.Lists.{has_map}
-use Rattle.dali_controller.specs.declared.shorts.Shorts.{Shorts}
-use Rattle.dali_controller.specs.Shorts.{has_short}
 use Rattle.dali_controller.specs.Course.{number_at, is_asked, asked_among, is_open, open_among, least_open, is_another, is_anothers}
-use Rattle.dali_controller.proofs.Courses.{found_number}
+use Rattle.dali_controller.{specs.Shorts.has_short, specs.declared.shorts.Shorts.Shorts, proofs.Courses.found_number}
 
 -- WHAT A SURVEY ASKS AND GIVES, one short address after the other.
 
@@ -42,9 +40,6 @@ asked_found k a small is =
     let more : 64 - a ≡ suc (64 - (a + 1)) = omega arith in
     ap (λ n. asked_among k n a) more ∙ ap (λ b. if b then Some a else asked_among k (64 - (a + 1)) (a + 1)) is
 
-pub asked_none : (k : Kept) (a : ℕ) → 64 ≤ a → asked_among k (64 - a) a ≡ None
-asked_none k a past = let none : 64 - a ≡ 0 = omega arith in ap (λ n. asked_among k n a) none
-
 -- ---------------------------------------------------------------- what is open
 
 pub open_by : (k : Kept) (heard : Shorts) (reserved enrolled : List Bool) (a : ℕ) → Marks k.reserved reserved → Marks k.enrolled enrolled → a < 64
@@ -72,9 +67,6 @@ pub open_found : (k : Kept) (heard : Shorts) (a last : ℕ) → a < last + 1 →
 open_found k heard a last small is =
     let more : last + 1 - a ≡ suc (last + 1 - (a + 1)) = omega arith in
     ap (λ n. open_among k heard n a) more ∙ ap (λ b. if b then Some a else open_among k heard (last + 1 - (a + 1)) (a + 1)) is
-
-pub open_none : (k : Kept) (heard : Shorts) (a last : ℕ) → last + 1 ≤ a → open_among k heard (last + 1 - a) a ≡ None
-open_none k heard a last past = let none : last + 1 - a ≡ 0 = omega arith in ap (λ n. open_among k heard n a) none
 
 -- ---------------------------------------------------------------- what is another's
 

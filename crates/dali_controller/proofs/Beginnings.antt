@@ -1,57 +1,33 @@
-use Rattle.std.proofs.Common.{◌≡◌, ◌⊎◌, inl, inr, ℕ, ◌<◌, ◌≤◌, Bool, true, false, refl, sym, ap, subst, ◌∙◌, arith, Option, Some, None}
-use Rattle.std.specs.Prelude.{◌==◌, ◌&&◌, is_some, nat_lt, if◌then◌else◌}
-use Rattle.std.proofs.lemmas.Bool.{ne_eqb}
-use Rattle.std.proofs.lemmas.Bool.Decides.{nat_tests}
-use Rattle.dali_frame.specs.declared.frames.Answer.{Answer}
-use Rattle.dali_frame.specs.declared.frames.Answer.TheVariants.{Silence, Byte, Damaged}
-use Rattle.dali_frame.specs.declared.numbers.SearchAddress.{SearchAddress}
-use Rattle.dali_frame.specs.Random.{value_of, MASK24}
-use Rattle.dali_script.specs.declared.stage.Stage.{Stage}
-use Rattle.dali_script.specs.declared.stage.Stage.TheVariants.{Free, Opened, DrawBarred, Probed, Hunted, Unnamed, Unanswered, Inconclusive, Withdrawn}
-use Rattle.dali_script.specs.declared.stage.Stage.TheVariants.{HighAsked}
-use Rattle.dali_script.specs.declared.stage.Stage.TheVariants.{PassedOver, MiddleAsked, Spelled}
-use Rattle.dali_frame.specs.Priority.{LATER}
+use Rattle.std.proofs.Common.{◌≡◌, ◌⊎◌, inl, inr, ℕ, ◌<◌, ◌≤◌, Bool, true, false, refl, sym, ap, subst, ◌∙◌, arith, Option, Some, None, ◌==◌, ◌&&◌, is_some}
+use Rattle.std.proofs.Common.{nat_lt, if◌then◌else◌}
+use Rattle.std.proofs.lemmas.Bool.{ne_eqb, Decides.nat_tests}
+use Rattle.dali_frame.specs.{Priority.LATER, Random.value_of, Random.MASK24, declared.frames.Answer.Answer, declared.frames.Answer.TheVariants.Silence}
+use Rattle.dali_frame.specs.declared.{frames.Answer.TheVariants.Byte, frames.Answer.TheVariants.Damaged, numbers.SearchAddress.SearchAddress}
 use Rattle.dali_special.specs.Command.{frame_of}
-use Rattle.dali_script.specs.Records.{Has, Kept}
-use Rattle.dali_script.specs.Stages.{stage_of}
-use Rattle.dali_script.specs.declared.orders.Order.{Order}
-use Rattle.dali_script.specs.declared.orders.Order.TheVariants.{Commit, Put}
-use Rattle.dali_script.specs.declared.records.Record.TheVariants.{Reserve, Release}
-use Rattle.dali_script.specs.declared.orders.End.{End}
-use Rattle.dali_script.specs.declared.orders.End.TheVariants.{AllFound, BlockFull, GaveUp}
-use Rattle.dali_search.specs.declared.step.Step.{Step}
-use Rattle.dali_search.specs.declared.step.Step.TheVariants.{Again, Found, Nobody}
-use Rattle.dali_search.specs.Ascending.{Ascent, leads_to, ascended, ascent_at_first}
-use Rattle.dali_search.specs.Least.{Search, answered}
-use Rattle.dali_controller.specs.declared.purpose.Purpose.{Purpose}
-use Rattle.dali_controller.specs.declared.purpose.Purpose.TheVariants.{Opening, Probing, Visiting, Resolving, Closing, Asking, Hunting, Calling, Drawing}
-use Rattle.dali_controller.specs.declared.way.Way.{Way}
-use Rattle.dali_controller.specs.declared.way.Way.TheVariants.{Fresh, Surveying}
-use Rattle.dali_controller.specs.Course.{Course, least_open, closing_of, after_step, address_for, is_yes, hunted, closing, resolving}
-use Rattle.dali_controller.specs.Course.{searching_first, opening_anew}
-use Rattle.dali_controller.specs.Course.{opening_at_last, drawing, calling, hunting_first, hunting_above, ask_or_call, next_asked, visiting, asking_again}
-use Rattle.dali_controller.specs.Course.{byte_to_send, bytes_to_send}
-use Rattle.dali_controller.specs.declared.leg.Leg.{Leg}
-use Rattle.dali_controller.specs.declared.leg.Leg.TheVariants as leg
-use Rattle.dali_controller.specs.declared.state.State.{State}
-use Rattle.dali_controller.specs.Legs.{ascent_on, search_on, way_on, is_searching}
-use Rattle.dali_controller.specs.States.{machine_with, course_of}
-use Rattle.dali_controller.specs.declared.tally.Tally.{Tally}
-use Rattle.dali_controller.specs.Tally.{asked_again, silent_call, heard_call}
-use Rattle.dali_controller.specs.Machine.{Machine, machine_surveying}
-use Rattle.dali_controller.specs.Next.{next_course, beginning, at_rest, compared_in, begins_at, goes_on_to, silenced, silenced_on, missed_again, is_failed}
-use Rattle.dali_controller.specs.Next.{most_silent, unanswered, has_open, may_draw}
-use Rattle.dali_controller.specs.Next.{asks_again, full, ungiven, undrawn, nobody_left, hunted_to, hunted_in, blocked, is_blocked, called_to, called_in}
-use Rattle.dali_controller.specs.Next.{asked_once}
-use Rattle.dali_controller.specs.Next.{is_hunting, question}
-use Rattle.dali_controller.specs.Orders.{Cause, IsBegun, AllAreFound, IsUndrawn, IsUngivable, IsBlockFull, IsStuck}
-use Rattle.dali_controller.specs.Orders.{IsOrdered, IsOrderedTo, machine_ordered, machine_ordered_on}
-use Rattle.dali_controller.specs.Whole.{Knows, IsSurvey, IsWithinSilence, IsWhole, IsUnstarted, Pending}
+use Rattle.dali_script.specs.{Records.Has, Records.Kept, Stages.stage_of, declared.orders.End.End, declared.orders.End.TheVariants.AllFound}
+use Rattle.dali_script.specs.declared.orders.{End.TheVariants.BlockFull, End.TheVariants.GaveUp, Order.Order, Order.TheVariants.Commit, Order.TheVariants.Put}
+use Rattle.dali_script.specs.declared.{records.Record.TheVariants.Reserve, records.Record.TheVariants.Release, stage.Stage.Stage}
+use Rattle.dali_script.specs.declared.stage.Stage.TheVariants.{Free, Opened, DrawBarred, Probed, Hunted, Unnamed, Unanswered, Inconclusive, Withdrawn}
+use Rattle.dali_script.specs.declared.stage.Stage.TheVariants.{HighAsked, PassedOver, MiddleAsked, Spelled}
+use Rattle.dali_search.specs.{Ascending.Ascent, Ascending.leads_to, Ascending.ascended, Ascending.ascent_at_first, Least.Search, Least.answered}
+use Rattle.dali_search.specs.declared.step.Step.{Step, TheVariants.Again, TheVariants.Found, TheVariants.Nobody}
+use Rattle.dali_controller.specs.Course.{Course, least_open, closing_of, after_step, address_for, is_yes, hunted, closing, resolving, searching_first}
+use Rattle.dali_controller.specs.Course.{opening_anew, opening_at_last, drawing, calling, hunting_first, hunting_above, ask_or_call, next_asked, visiting}
+use Rattle.dali_controller.specs.Course.{asking_again, byte_to_send, bytes_to_send}
+use Rattle.dali_controller.specs.{Legs.ascent_on, Legs.search_on, Legs.way_on, Legs.is_searching, Machine.Machine, Machine.machine_surveying}
 use Rattle.dali_controller.specs.Moments.{AsksNext, Begins, Begun, Enrolled, IsBetween, IsHeard, IsMoment, IsUngiven, IsNextTo}
-use Rattle.dali_controller.proofs.Courses.{goes_on_way, searches_first_way}
-use Rattle.dali_controller.proofs.Courses.{ask_way}
-use Rattle.dali_controller.proofs.Given.{goes_on_open}
+use Rattle.dali_controller.specs.Next.{next_course, beginning, at_rest, compared_in, begins_at, goes_on_to, silenced, silenced_on, missed_again, is_failed}
+use Rattle.dali_controller.specs.Next.{most_silent, unanswered, has_open, may_draw, asks_again, full, ungiven, undrawn, nobody_left, hunted_to, hunted_in}
+use Rattle.dali_controller.specs.Next.{blocked, is_blocked, called_to, called_in, asked_once, is_hunting, question}
+use Rattle.dali_controller.specs.Orders.{Cause, IsBegun, AllAreFound, IsUndrawn, IsUngivable, IsBlockFull, IsStuck, IsOrdered, IsOrderedTo, machine_ordered}
+use Rattle.dali_controller.specs.{Orders.machine_ordered_on, States.machine_with, States.course_of, Tally.asked_again, Tally.silent_call, Tally.heard_call}
+use Rattle.dali_controller.specs.Whole.{Knows, IsSurvey, IsWithinSilence, IsWhole, IsUnstarted, Pending}
+use Rattle.dali_controller.specs.declared.{leg.Leg.Leg, purpose.Purpose.Purpose}
+use Rattle.dali_controller.specs.declared.purpose.Purpose.TheVariants.{Opening, Probing, Visiting, Resolving, Closing, Asking, Hunting, Calling, Drawing}
+use Rattle.dali_controller.specs.declared.{state.State.State, tally.Tally.Tally, way.Way.Way, way.Way.TheVariants.Fresh, way.Way.TheVariants.Surveying}
+use Rattle.dali_controller.proofs.{Courses.goes_on_way, Courses.searches_first_way, Courses.ask_way, Given.goes_on_open}
 use Rattle.dali_controller.proofs.Steps.{begun_moment, begun_none, calm_less, less_calm, sends_open}
+use Rattle.dali_controller.specs.declared.leg.Leg.TheVariants as leg
 
 -- WHERE A TRANSACTION MAY BEGIN, at each stage of the one that leads there.
 

@@ -1,14 +1,8 @@
 use Rattle.std.proofs.Common.{◌≡◌, ◌↔◌, ℕ, Bool, Option, Some, IsTrue, refl}
-use Rattle.dali_frame.specs.declared.frames.Answer.{Answer}
-use Rattle.dali_frame.specs.declared.numbers.SearchAddress.{SearchAddress}
+use Rattle.dali_frame.specs.declared.{frames.Answer.Answer, numbers.SearchAddress.SearchAddress}
 use Rattle.dali_special.specs.declared.command.Command.{Command}
-use Rattle.dali_script.specs.declared.stage.Stage.{Stage}
-use Rattle.dali_script.specs.declared.stage.Stage.TheVariants.{Free}
-use Rattle.dali_script.specs.declared.stage.Stage.TheVariants.{Hunted}
-use Rattle.dali_script.specs.declared.stage.Stage.TheVariants.{Unnamed}
-use Rattle.dali_controller.specs.declared.purpose.Purpose.{Purpose}
-use Rattle.dali_controller.specs.Course.{turn_of}
-use Rattle.dali_controller.specs.Whole.{IsMet, IsChosen}
+use Rattle.dali_script.specs.declared.stage.Stage.{Stage, TheVariants.Free, TheVariants.Hunted, TheVariants.Unnamed}
+use Rattle.dali_controller.specs.{Course.turn_of, Whole.IsMet, Whole.IsChosen, declared.purpose.Purpose.Purpose}
 
 -- At a stage past the first, unless PROGRAM SHORT ADDRESS follows, the command is that of the transaction's turn.
 pub chosen : (n : SearchAddress) (p : Purpose) (s : Stage) (c : Command) (b : Bool) → (s ≡ Free → ⊥) → ((r : SearchAddress) → s ≡ Unnamed r → ⊥)

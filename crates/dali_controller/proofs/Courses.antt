@@ -1,50 +1,31 @@
-use Rattle.std.proofs.Common.{◌≡◌, ℕ, ◌+◌, ◌-◌, ◌<◌, ◌≤◌, inl, inr, Bool, true, false, List, [], ◌∷◌, ◌++◌, refl, sym, ap, subst, ◌∙◌, arith, Option, Some}
-use Rattle.std.proofs.Common.{None}
-use Rattle.std.specs.Prelude.{◌==◌, nat_lt, MatchOption, is_some, suc, if◌then◌else◌}
+use Rattle.std.proofs.Common.{◌≡◌, ℕ, ◌+◌, ◌-◌, ◌<◌, inl, inr, Bool, true, false, List, [], ◌∷◌, ◌++◌, refl, sym, ap, subst, ◌∙◌, arith, Option, Some, None}
+use Rattle.std.proofs.Common.{◌==◌, nat_lt, MatchOption, is_some, suc, if◌then◌else◌}
 use Rattle.std.proofs.lemmas.Bool.Decides.{nat_tests}
-use Rattle.dali_frame.specs.declared.frames.Forward.{Forward}
-use Rattle.dali_frame.specs.declared.frames.Answer.{Answer}
-use Rattle.dali_frame.specs.declared.numbers.SearchAddress.{SearchAddress}
-use Rattle.dali_frame.specs.Random.{value_of}
-use Rattle.dali_frame.specs.Priority.{LATER}
-use Rattle.dali_special.specs.declared.command.Command.{Command}
-use Rattle.dali_special.specs.Command.{frame_of}
-use Rattle.dali_script.specs.declared.records.Record.{Record}
-use Rattle.dali_script.specs.declared.records.Record.TheVariants.{Reserve, Enrol}
-use Rattle.dali_script.specs.declared.stage.Stage.{Stage}
+use Rattle.dali_frame.specs.{Priority.LATER, Random.value_of}
+use Rattle.dali_frame.specs.declared.{frames.Answer.Answer, frames.Forward.Forward, numbers.SearchAddress.SearchAddress}
+use Rattle.dali_special.specs.{Command.frame_of, declared.command.Command.Command}
+use Rattle.dali_script.specs.{Due.due_after, Due.frame_put, Records.Assignment, Records.Kept, Records.Has, Records.IsOnce, Records.addresses, Records.randoms}
+use Rattle.dali_script.specs.{Records.HasAddress, Records.HasRandom, Stages.stage_of}
+use Rattle.dali_script.specs.declared.orders.{End.TheVariants.AllFound, End.TheVariants.BlockFull, End.TheVariants.GaveUp, Order.Order, Order.TheVariants.Put}
+use Rattle.dali_script.specs.declared.{orders.Order.TheVariants.Commit, records.Record.TheVariants.Reserve, records.Record.TheVariants.Enrol, stage.Stage.Stage}
 use Rattle.dali_script.specs.declared.stage.Stage.TheVariants.{Free, Opened, Probed, Unnamed, Unanswered, Inconclusive, HighAsked, Spelled, Hunted, DrawBarred}
-use Rattle.dali_script.specs.declared.stage.Stage.TheVariants.{PassedOver}
-use Rattle.dali_script.specs.Records.{Assignment, Kept, Has, IsOnce, addresses, randoms, HasAddress, HasRandom}
-use Rattle.dali_script.specs.Stages.{stage_of}
-use Rattle.dali_script.proofs.Lists.{has_map}
-use Rattle.dali_script.proofs.Members.{same_member}
-use Rattle.dali_script.proofs.Transactions.{stage_none}
-use Rattle.dali_script.specs.declared.orders.Input.TheVariants as input
-use Rattle.dali_script.specs.declared.orders.Order.{Order}
-use Rattle.dali_script.specs.declared.orders.Order.TheVariants.{Put, Commit, Done, Halt}
+use Rattle.dali_script.{specs.declared.stage.Stage.TheVariants.PassedOver, proofs.Lists.has_map, proofs.Members.same_member, proofs.Transactions.stage_none}
 use Rattle.dali_script.specs.declared.orders.Due.TheVariants as due
-use Rattle.dali_script.specs.Due.{due_after, frame_put, record_ordered}
-use Rattle.dali_search.specs.declared.step.Step.{Step}
-use Rattle.dali_search.specs.declared.step.Step.TheVariants.{Again, Found, Nobody}
+use Rattle.dali_script.specs.declared.orders.Input.TheVariants as input
 use Rattle.dali_search.specs.Ascending.{leads_to, ascent_at_first}
 use Rattle.dali_search.specs.Least.{Search, step_after, probe_after, next_probe, answered}
-use Rattle.dali_controller.specs.declared.purpose.Purpose.{Purpose}
-use Rattle.dali_controller.specs.declared.purpose.Purpose.TheVariants.{Opening, Probing, Visiting, Resolving, Closing, Asking, Hunting, Calling, Drawing}
-use Rattle.dali_controller.specs.declared.purpose.Purpose.TheVariants.{PassingOver}
+use Rattle.dali_search.specs.declared.step.Step.{Step, TheVariants.Again, TheVariants.Found, TheVariants.Nobody}
 use Rattle.dali_controller.specs.Course.{Course, turn_of, call_turn, is_yes, after_step, number_at, address_for, unless_enrolled, unfinished_at}
 use Rattle.dali_controller.specs.Course.{unfinished_among, hunted, searching_on, searching_first, here_or_later, closing, going_on, ask_or_call, next_asked}
 use Rattle.dali_controller.specs.Course.{going_on_early, visit_or_opening, next_unfinished, drawing, calling, opening_at_last, opening_anew, hunting_first}
-use Rattle.dali_controller.specs.Tally.{asked_again, silent_call, heard_call}
-use Rattle.dali_controller.specs.Machine.{Machine, machine_lost, machine_committed, machine_told}
+use Rattle.dali_controller.specs.{Machine.Machine, Machine.machine_lost, Machine.machine_told, Moments.IsMoment, Moments.IsNext}
 use Rattle.dali_controller.specs.Next.{begins_at, course_by, course_on, asked_on, next_course, beginning, full, asks_again, undrawn, has_open, nobody_left}
 use Rattle.dali_controller.specs.Next.{BeginsWith, silenced, silenced_on, missed_again, is_failed, most_silent, goes_on_to, hunted_to, compared_in, called_to}
 use Rattle.dali_controller.specs.Next.{blocked, is_blocked, may_draw, ungiven, question, unanswered, at_rest, asked_once}
-use Rattle.dali_controller.specs.declared.way.Way.{Way}
-use Rattle.dali_controller.specs.declared.way.Way.TheVariants.{Fresh, Surveying}
-use Rattle.dali_script.specs.declared.orders.End.TheVariants.{AllFound, BlockFull, GaveUp}
-use Rattle.dali_controller.specs.Orders.{machine_ordered, AfterFinding, AfterEnrolled, IsFollowed, IsSought}
-use Rattle.dali_controller.specs.Moments.{IsMoment, IsNext}
-use Rattle.dali_controller.specs.Whole.{IsWhole, Pending}
+use Rattle.dali_controller.specs.Orders.{machine_ordered, AfterFinding, IsFollowed, IsSought}
+use Rattle.dali_controller.specs.{Tally.asked_again, Tally.silent_call, Tally.heard_call, Whole.IsWhole, Whole.Pending, declared.purpose.Purpose.Purpose}
+use Rattle.dali_controller.specs.declared.purpose.Purpose.TheVariants.{Opening, Probing, Visiting, Resolving, Closing, Asking, Hunting, Calling, Drawing}
+use Rattle.dali_controller.specs.declared.{purpose.Purpose.TheVariants.PassingOver, way.Way.Way, way.Way.TheVariants.Fresh, way.Way.TheVariants.Surveying}
 
 -- THE COURSE OF A MACHINE is the one of the table of moments.
 
@@ -171,9 +152,6 @@ one_found k a r small is =
     let more : 64 - a ≡ suc (64 - (a + 1)) = omega arith in
     ap (λ n. unfinished_among k n a) more ∙ ap (λ o. here_or_later a o (unfinished_among k (64 - (a + 1)) (a + 1))) is
 
-pub none_left : (k : Kept) (a : ℕ) → 64 ≤ a → unfinished_among k (64 - a) a ≡ None
-none_left k a past = let none : 64 - a ≡ 0 = omega arith in ap (λ n. unfinished_among k n a) none
-
 -- ---------------------------------------------------------------- what follows
 
 no_turn : (p : Purpose) (n : SearchAddress) (s : Stage) (c : Command) → s ≡ Free → turn_of p n s ≡ Some c → ⊥
@@ -250,40 +228,6 @@ followed_heard w mid o f h put is sent told another unconfirmed hunted called = 
       is called;
   enrolled = λ b n e. absurd (let there = subst (λ l. frame_put l ≡ Some f) (sym (heard_last w f h put) ∙ e) put in cc);
 }
-
--- a record that is kept follows no queries
-pub followed_committed : (w : Machine) (x : Record) (o : Order) → IsWhole w → record_ordered w.last ≡ Some x
-    → ((b n : ℕ) → x ≡ Enrol b n → AfterEnrolled (machine_told w input.Committed) b n o)
-    → IsFollowed (machine_told w input.Committed) o
-followed_committed w x o whole ordered enrolled = record {
-  sent = λ c e. absurd (no_turn w.course.purpose w.course.number (stage_of w.trace) c (free_stored w w.last x ordered whole)
-      (subst (λ r. turn_of (machine_committed w r).course.purpose (machine_committed w r).course.number
-      (stage_of (machine_committed w r).trace) ≡ Some c) ordered e));
-  told = λ b n s e. absurd (let there : Free ≡ Spelled b (Some n) = sym (free_stored w w.last x ordered whole)
-      ∙ subst (λ r. stage_of (machine_committed w r).trace ≡ Spelled b (Some n)) ordered s in cc);
-  another = λ b n s e. absurd (let there : Free ≡ Spelled b (Some n) = sym (free_stored w w.last x ordered whole)
-      ∙ subst (λ r. stage_of (machine_committed w r).trace ≡ Spelled b (Some n)) ordered s in cc);
-  unconfirmed = λ r y s. absurd (let there : Free ≡ Inconclusive r y = sym (free_stored w w.last x ordered whole)
-      ∙ subst (λ q. stage_of (machine_committed w q).trace ≡ Inconclusive r y) ordered s in cc);
-  hunted = λ r h left s p. absurd (let there : Free ≡ Hunted r (Some h) left = sym (free_stored w w.last x ordered whole)
-      ∙ subst (λ q. stage_of (machine_committed w q).trace ≡ Hunted r (Some h) left) ordered s in cc);
-  called = λ r h left s p y. absurd (let there : Free ≡ Hunted r (Some h) left = sym (free_stored w w.last x ordered whole)
-      ∙ subst (λ q. stage_of (machine_committed w q).trace ≡ Hunted r (Some h) left) ordered s in cc);
-  enrolled = λ b n e. enrolled b n (same x b n (sym ordered ∙ ap record_ordered (sym (committed_stays w (record_ordered w.last)) ∙ e)));
-} where
-  same : (x : Record) (b n : ℕ) → Some x ≡ Some (Enrol b n) → x ≡ Enrol b n
-  same x b n e = cc
-
-  committed_stays : (m : Machine) (r : Option Record) → (machine_committed m r).last ≡ m.last
-  committed_stays m None = refl
-  committed_stays m (Some r) = refl
-
-  free_stored : (w : Machine) (l : Option Order) (x : Record) → record_ordered l ≡ Some x → Pending w l → stage_of w.trace ≡ Free
-  free_stored w None x is p = absurd (cc)
-  free_stored w (Some (Put q f)) x is p = absurd (cc)
-  free_stored w (Some (Commit y)) x is p = p.free
-  free_stored w (Some (Done e)) x is p = absurd (cc)
-  free_stored w (Some (Halt why)) x is p = absurd (cc)
 
 -- ---------------------------------------------------------------- how a machine began
 

@@ -1,43 +1,25 @@
-use Rattle.std.proofs.Common.{arith, ◌≡◌, ◌⊎◌, inl, inr, ℕ, Bool, true, false, List, [], refl, sym, ap, subst, ◌∙◌, Option, Some, None}
-use Rattle.std.specs.Prelude.{is_some}
-use Rattle.dali_frame.specs.declared.frames.Forward.{Forward}
-use Rattle.dali_frame.specs.declared.frames.Answer.TheVariants.{Silence}
-use Rattle.dali_frame.specs.declared.numbers.SearchAddress.{SearchAddress}
-use Rattle.dali_frame.specs.Random.{value_of}
-use Rattle.dali_frame.specs.Priority.{FIRST, LATER}
-use Rattle.dali_special.specs.declared.command.Command.{Command}
-use Rattle.dali_special.specs.declared.command.Command.TheVariants.{Terminate, Program}
+use Rattle.std.proofs.Common.{arith, ◌≡◌, ◌⊎◌, inl, inr, ℕ, Bool, true, false, List, [], refl, sym, ap, subst, ◌∙◌, Option, Some, None, is_some}
+use Rattle.dali_frame.specs.{Priority.FIRST, Priority.LATER, Random.value_of}
+use Rattle.dali_frame.specs.declared.{frames.Answer.TheVariants.Silence, frames.Forward.Forward, numbers.SearchAddress.SearchAddress}
 use Rattle.dali_special.specs.Command.{command_of, frame_of}
-use Rattle.dali_script.specs.declared.records.Record.{Record}
-use Rattle.dali_script.specs.declared.records.Record.TheVariants.{Reserve, Enrol, Release}
-use Rattle.dali_script.specs.declared.stage.Stage.{Stage}
-use Rattle.dali_script.specs.declared.stage.Stage.TheVariants.{Free, Terminated, Opened, Probed, Unnamed, Unanswered, Inconclusive, Withdrawn, Spelled}
-use Rattle.dali_script.specs.Records.{Assignment, Has, HasAddress, HasRandom, IsLeastFree, IsFull, IsMap, IsFresh, MayAdd}
-use Rattle.dali_script.specs.Scripts.{Lawful}
-use Rattle.dali_script.specs.declared.finding.Finding.{Finding}
-use Rattle.dali_script.specs.declared.finding.Finding.TheVariants.{Queried, Resolved}
+use Rattle.dali_special.specs.declared.command.Command.{Command, TheVariants.Terminate, TheVariants.Program}
 use Rattle.dali_script.specs.Findings.{MayEnrol, assigned, finding_of}
-use Rattle.dali_script.specs.Stages.{leads, stage_of}
-use Rattle.dali_script.proofs.Lists.{has_map}
-use Rattle.dali_script.proofs.Members.{same_member}
-use Rattle.dali_script.proofs.Transactions.{follows_lawful, stage_none}
-use Rattle.dali_script.specs.declared.orders.Input.{Input}
-use Rattle.dali_script.specs.declared.orders.Input.TheVariants as input
-use Rattle.dali_script.specs.declared.orders.Order.{Order}
-use Rattle.dali_script.specs.declared.orders.Order.TheVariants.{Put, Commit, Done, Halt}
-use Rattle.dali_script.specs.declared.orders.End.{End}
-use Rattle.dali_script.specs.declared.orders.End.TheVariants.{BlockFull, GaveUp}
+use Rattle.dali_script.specs.Records.{Assignment, Has, HasAddress, HasRandom, IsLeastFree, IsFull, IsMap, IsFresh, MayAdd}
+use Rattle.dali_script.specs.{Scripts.Lawful, Stages.leads, Stages.stage_of, declared.finding.Finding.Finding, declared.finding.Finding.TheVariants.Queried}
+use Rattle.dali_script.specs.declared.{finding.Finding.TheVariants.Resolved, orders.End.End, orders.End.TheVariants.BlockFull, orders.End.TheVariants.GaveUp}
+use Rattle.dali_script.specs.declared.orders.{Input.Input, Order.Order, Order.TheVariants.Put, Order.TheVariants.Commit, Order.TheVariants.Done}
+use Rattle.dali_script.specs.declared.{orders.Order.TheVariants.Halt, records.Record.Record, records.Record.TheVariants.Reserve}
+use Rattle.dali_script.specs.declared.{records.Record.TheVariants.Enrol, records.Record.TheVariants.Release, stage.Stage.Stage}
+use Rattle.dali_script.specs.declared.stage.Stage.TheVariants.{Free, Terminated, Opened, Probed, Unnamed, Unanswered, Inconclusive, Withdrawn, Spelled}
+use Rattle.dali_script.proofs.{Lists.has_map, Members.same_member, Transactions.follows_lawful, Transactions.stage_none}
 use Rattle.dali_script.specs.declared.orders.Fault.TheVariants as fault
-use Rattle.dali_controller.specs.declared.purpose.Purpose.TheVariants.{Closing}
-use Rattle.dali_controller.specs.declared.way.Way.{Way}
-use Rattle.dali_controller.specs.declared.way.Way.TheVariants.{Fresh, Surveying}
+use Rattle.dali_script.specs.declared.orders.Input.TheVariants as input
 use Rattle.dali_controller.specs.Course.{Course, closing_of, turn_of, searching_on, going_on, going_on_early, visit_or_opening, next_unfinished, ask_or_call}
-use Rattle.dali_controller.specs.Course.{next_asked}
-use Rattle.dali_controller.specs.Machine.{Machine, machine_told}
+use Rattle.dali_controller.specs.{Course.next_asked, Machine.Machine, Machine.machine_told}
 use Rattle.dali_controller.specs.Next.{next_course, begins_at, course_by, course_on, beginning, BeginsWith}
 use Rattle.dali_controller.specs.Orders.{IsAllowed, MayEnrolOn, MayOrderPut, IsWarranted, IsBegun, IsCaused, Contradicts, AfterMask, AfterMaskOn, AfterFinding}
-use Rattle.dali_controller.specs.Orders.{AfterEnrolled}
-use Rattle.dali_controller.specs.Orders.{IsFollowed, IsSought, IsOrdered, IsGiven, running_close}
+use Rattle.dali_controller.specs.Orders.{AfterEnrolled, IsFollowed, IsSought, IsOrdered, IsGiven, running_close}
+use Rattle.dali_controller.specs.declared.{purpose.Purpose.TheVariants.Closing, way.Way.Way, way.Way.TheVariants.Fresh, way.Way.TheVariants.Surveying}
 
 -- WHICH ORDER A MACHINE GIVES at which stage, once it was told its input: what is told of a step leaves no other.
 pub record IsGivenBy (t : Machine) (o : Order) : Type 0 where
@@ -191,10 +173,6 @@ enrols_found t b n (Commit x) address number is = ap Commit is
 enrols_found t b n (Done e) address number is = elim is [ ]
 enrols_found t b n (Halt why) address number is = absurd (uncontradicted t.kept.enrolled b n address number is)
 
-pub withdrawn : (t : Machine) (o : Order) (r : SearchAddress) (b : ℕ) → IsGivenBy t o → stage_of t.trace ≡ Withdrawn r b
-    → (HasAddress t.kept.enrolled b → ⊥) → (HasRandom t.kept.enrolled (value_of r) → ⊥) → o ≡ Commit (Enrol b (value_of r))
-withdrawn t o r b given stage address number = enrols_found t b (value_of r) o address number (given.ordered.found r b stage)
-
 -- the same if the queries of a random address told the number that was visited
 pub spelled : (t : Machine) (o : Order) (b n : ℕ) → IsGivenBy t o → stage_of t.trace ≡ Spelled b (Some n) → IsSought t.course.purpose t.course.number n
     → (HasAddress t.kept.enrolled b → ⊥) → (HasRandom t.kept.enrolled n → ⊥) → o ≡ Commit (Enrol b n)
@@ -245,17 +223,6 @@ enrolled t o b n given last free own = go o given (given.followed.enrolled b n l
   go (Commit x) given is =
       let other : IsWarranted t (Release is.0 n) = subst (λ y. IsWarranted t y) is.2 given.ordered.allowed.warranted in
       absurd (other.2 (enrolled_once b n other.0 n (sym last ∙ other.1) ∙ sym (own is.0 is.1)))
-  go (Done e) given is = elim is [ ]
-  go (Halt why) given is = elim is [ ]
-
-pub releases : (t : Machine) (o : Order) (b n c : ℕ) → IsGivenBy t o → t.last ≡ Some (Commit (Enrol b n)) → Has t.kept.reserved (c, n) → (c ≡ b → ⊥)
-    → (a : ℕ) × Has t.kept.reserved (a, n) × (a ≡ b → ⊥) × (o ≡ Commit (Release a n))
-releases t o b n c given last has other = go o given (given.followed.enrolled b n last) where
-  go : (o : Order) → IsGivenBy t o → AfterEnrolled t b n o → (a : ℕ) × Has t.kept.reserved (a, n) × (a ≡ b → ⊥) × (o ≡ Commit (Release a n))
-  go (Put p f) given is = absurd (other (is c has))
-  go (Commit x) given is =
-      let free : IsWarranted t (Release is.0 n) = subst (λ y. IsWarranted t y) is.2 given.ordered.allowed.warranted in
-      (is.0, is.1, (λ e. free.2 (enrolled_once b n free.0 n (sym last ∙ free.1) ∙ sym e)), ap Commit is.2)
   go (Done e) given is = elim is [ ]
   go (Halt why) given is = elim is [ ]
 

@@ -1,32 +1,15 @@
-use Rattle.std.proofs.Common.{map, ◌≡◌, inl, ℕ, ◌<◌, Bool, true, false, refl, sym, ap}
-use Rattle.std.proofs.Common.{subst, ◌∙◌, arith, Some, None}
-use Rattle.std.specs.Prelude.{◌&&◌, not, is_some}
-use Rattle.dali_frame.specs.declared.numbers.SearchAddress.{SearchAddress}
-use Rattle.dali_frame.specs.Random.{value_of, MASK24}
-use Rattle.dali_frame.specs.Priority.{LATER}
-use Rattle.dali_special.specs.declared.command.Command.TheVariants.{Program}
-use Rattle.dali_special.specs.Command.{frame_of}
-use Rattle.dali_script.specs.declared.records.Record.TheVariants.{Reserve}
-use Rattle.dali_script.specs.declared.stage.Stage.TheVariants.{Unnamed}
+use Rattle.std.proofs.Common.{map, ◌≡◌, inl, ℕ, ◌<◌, Bool, true, false, refl, sym, ap, subst, ◌∙◌, arith, Some, None, ◌&&◌, not, is_some}
+use Rattle.dali_frame.specs.{Priority.LATER, Random.value_of, Random.MASK24, declared.numbers.SearchAddress.SearchAddress}
+use Rattle.dali_special.specs.{Command.frame_of, declared.command.Command.TheVariants.Program}
 use Rattle.dali_script.specs.Records.{IsKept, IsMap, InBlock, HasAddress, Kept, Has, HasRandom, Fits, MayAdd}
-use Rattle.dali_script.specs.Stages.{stage_of}
-use Rattle.dali_script.specs.declared.orders.Order.{Order}
-use Rattle.dali_script.specs.declared.orders.Order.TheVariants.{Put, Commit}
-use Rattle.dali_controller.specs.declared.purpose.Purpose.TheVariants.{Visiting}
-use Rattle.dali_controller.specs.declared.shorts.Shorts.{Shorts}
-use Rattle.dali_controller.specs.declared.way.Way.{Way}
-use Rattle.dali_controller.specs.declared.way.Way.TheVariants.{Fresh, Surveying}
-use Rattle.dali_controller.specs.Course.{Course, closing_of, address_for, least_open, is_anothers}
-use Rattle.dali_controller.specs.Machine.{Machine, is_withheld, is_withheld_by}
-use Rattle.dali_controller.specs.Next.{most_silent}
-use Rattle.dali_controller.proofs.Courses.{address_is}
-use Rattle.dali_controller.proofs.Asked.{least_open_is, open_unreserved}
-use Rattle.dali_controller.specs.Orders.{AfterReserved, AfterMaskBy, AfterMaskOn, AfterMaskSurveyed, IsOrderedTo}
-use Rattle.dali_controller.specs.Orders.{is_left_by, machine_ordered}
-use Rattle.dali_controller.specs.Whole.{Knows, IsVisitedOn}
-use Rattle.dali_controller.specs.Moments.{IsHeard, IsNext}
-use Rattle.dali_controller.specs.Moments.{IsFirstFree, IsUngiven}
-use Rattle.dali_controller.proofs.Steps.{IsMasked, calm_less, ordered_on}
+use Rattle.dali_script.specs.{Stages.stage_of, declared.orders.Order.Order, declared.orders.Order.TheVariants.Put}
+use Rattle.dali_script.specs.declared.{orders.Order.TheVariants.Commit, records.Record.TheVariants.Reserve, stage.Stage.TheVariants.Unnamed}
+use Rattle.dali_controller.specs.{Course.Course, Course.closing_of, Course.address_for, Course.least_open, Course.is_anothers, Machine.Machine}
+use Rattle.dali_controller.specs.{Machine.is_withheld, Machine.is_withheld_by, Moments.IsHeard, Moments.IsNext, Moments.IsFirstFree, Moments.IsUngiven}
+use Rattle.dali_controller.specs.{Next.most_silent, Orders.AfterReserved, Orders.AfterMaskBy, Orders.AfterMaskOn, Orders.AfterMaskSurveyed, Orders.IsOrderedTo}
+use Rattle.dali_controller.specs.{Orders.is_left_by, Orders.machine_ordered, Whole.Knows, Whole.IsVisitedOn, declared.purpose.Purpose.TheVariants.Visiting}
+use Rattle.dali_controller.specs.declared.{shorts.Shorts.Shorts, way.Way.Way, way.Way.TheVariants.Fresh, way.Way.TheVariants.Surveying}
+use Rattle.dali_controller.proofs.{Asked.least_open_is, Asked.open_unreserved, Courses.address_is, Steps.IsMasked, Steps.calm_less, Steps.ordered_on}
 
 -- GEAR THAT ANSWERED MASK is given what is reserved for it, or an address is reserved, or it is left.
 

@@ -1,33 +1,17 @@
-use Rattle.std.proofs.Common.{◌≡◌, ℕ, true, false, List, [], ◌∷◌, ◌++◌, refl, sym, ap, subst, ◌∙◌, Option, Some, None}
-use Rattle.std.specs.Prelude.{◌||◌}
-use Rattle.dali_frame.specs.declared.frames.Forward.{Forward}
-use Rattle.dali_frame.specs.declared.frames.Answer.{Answer}
-use Rattle.dali_frame.specs.declared.numbers.SearchAddress.{SearchAddress}
-use Rattle.dali_script.specs.declared.stage.Stage.{Stage}
-use Rattle.dali_script.specs.declared.trace.Entry.{Entry}
-use Rattle.dali_script.specs.Records.{Kept}
-use Rattle.dali_script.specs.Stages.{stage_of}
+use Rattle.std.proofs.Common.{◌≡◌, ℕ, true, false, List, [], ◌∷◌, ◌++◌, refl, sym, ap, subst, ◌∙◌, Option, Some, None, ◌||◌}
+use Rattle.dali_frame.specs.declared.{frames.Answer.Answer, frames.Forward.Forward, numbers.SearchAddress.SearchAddress}
+use Rattle.dali_script.specs.{Due.frame_put, Findings.later, Findings.finding_of, Records.Kept, Stages.stage_of}
+use Rattle.dali_script.specs.declared.{finding.Finding.Finding, stage.Stage.Stage, trace.Entry.Entry}
 use Rattle.dali_script.specs.declared.orders.Input.TheVariants as input
-use Rattle.dali_script.specs.Due.{frame_put}
-use Rattle.dali_search.specs.Least.{at_first}
-use Rattle.dali_search.specs.Ascending.{ascent_at_first}
-use Rattle.dali_controller.specs.declared.leg.Leg.{Leg}
-use Rattle.dali_controller.specs.declared.leg.Leg.TheVariants as leg
-use Rattle.dali_controller.specs.declared.purpose.Purpose.{Purpose}
-use Rattle.dali_controller.specs.declared.purpose.Purpose.TheVariants.{Opening, Asking}
-use Rattle.dali_controller.specs.declared.state.State.{State}
-use Rattle.dali_controller.specs.declared.way.Way.TheVariants.{Fresh, Surveying}
+use Rattle.dali_search.specs.{Ascending.ascent_at_first, Least.at_first}
 use Rattle.dali_controller.specs.Course.{closing_of}
-use Rattle.dali_controller.specs.Machine.{Machine, machine_told, asked_after, heard_after}
-use Rattle.dali_controller.specs.Machine.{is_complete, is_ended, is_passed_by, silent_after, tries_after}
-use Rattle.dali_controller.specs.declared.shorts.Shorts.{Shorts}
-use Rattle.dali_script.specs.declared.finding.Finding.{Finding}
-use Rattle.dali_script.specs.Findings.{later, finding_of}
 use Rattle.dali_controller.specs.Legs.{way_on, is_searching, from_on, silences_on, search_on, ascent_on, with_silences}
-use Rattle.dali_controller.specs.Orders.{asked_by}
-use Rattle.dali_controller.specs.States.{machine_with}
-use Rattle.dali_controller.specs.Whole.{IsOpenedOn, IsUnstarted, IsWhole, Knows, Pending}
+use Rattle.dali_controller.specs.Machine.{Machine, machine_told, asked_after, heard_after, is_complete, is_ended, is_passed_by, silent_after, tries_after}
+use Rattle.dali_controller.specs.{Orders.asked_by, States.machine_with, Whole.IsOpenedOn, Whole.IsUnstarted, Whole.IsWhole, Whole.Knows, Whole.Pending}
+use Rattle.dali_controller.specs.declared.{leg.Leg.Leg, purpose.Purpose.Purpose, purpose.Purpose.TheVariants.Opening, purpose.Purpose.TheVariants.Asking}
+use Rattle.dali_controller.specs.declared.{shorts.Shorts.Shorts, state.State.State, way.Way.TheVariants.Fresh, way.Way.TheVariants.Surveying}
 use Rattle.dali_controller.proofs.Steps.{heard_by, sending, whole_at_first}
+use Rattle.dali_controller.specs.declared.leg.Leg.TheVariants as leg
 
 -- THE LEG of a machine, and what contracts see of it.
 

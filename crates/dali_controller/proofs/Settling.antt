@@ -1,28 +1,15 @@
-use Rattle.std.proofs.Common.{◌≡◌, ◌⊎◌, inl, inr, ℕ, ◌<◌, List, refl, sym, ap}
-use Rattle.std.proofs.Common.{subst, ◌∙◌, arith, Some, None}
-use Rattle.dali_frame.specs.declared.numbers.SearchAddress.{SearchAddress}
-use Rattle.dali_frame.specs.Random.{value_of, MASK24}
+use Rattle.std.proofs.Common.{◌≡◌, ◌⊎◌, inl, inr, ℕ, ◌<◌, List, refl, sym, ap, subst, ◌∙◌, arith, Some, None}
+use Rattle.dali_frame.specs.{Random.value_of, Random.MASK24, declared.numbers.SearchAddress.SearchAddress}
+use Rattle.dali_script.specs.{Records.HasAddress, Records.Assignment, Records.Has, Records.HasRandom, Stages.stage_of}
 use Rattle.dali_script.specs.declared.finding.Finding.TheVariants.{Queried, Resolved}
-use Rattle.dali_script.specs.declared.records.Record.TheVariants.{Enrol}
-use Rattle.dali_script.specs.declared.stage.Stage.TheVariants.{Withdrawn}
-use Rattle.dali_script.specs.declared.stage.Stage.TheVariants.{Spelled}
-use Rattle.dali_script.specs.Records.{HasAddress, Assignment, Has, HasRandom}
-use Rattle.dali_script.specs.Stages.{stage_of}
-use Rattle.dali_script.proofs.Lists.{has_map}
-use Rattle.dali_script.specs.declared.orders.Order.{Order}
-use Rattle.dali_script.specs.declared.orders.Order.TheVariants.{Commit, Halt}
+use Rattle.dali_script.specs.declared.{orders.Order.Order, orders.Order.TheVariants.Commit, orders.Order.TheVariants.Halt, records.Record.TheVariants.Enrol}
+use Rattle.dali_script.{specs.declared.stage.Stage.TheVariants.Withdrawn, specs.declared.stage.Stage.TheVariants.Spelled, proofs.Lists.has_map}
 use Rattle.dali_script.specs.declared.orders.Fault.TheVariants as fault
-use Rattle.dali_controller.specs.declared.purpose.Purpose.TheVariants.{Visiting, Resolving, Asking}
-use Rattle.dali_controller.specs.declared.way.Way.{Way}
-use Rattle.dali_controller.specs.declared.way.Way.TheVariants.{Fresh, Surveying}
-use Rattle.dali_controller.specs.Course.{Course, closing_of}
-use Rattle.dali_controller.specs.Machine.{Machine}
-use Rattle.dali_controller.specs.Next.{begins_at, most_silent}
-use Rattle.dali_controller.specs.Orders.{Contradicts, IsOrderedTo, IsSought}
-use Rattle.dali_controller.specs.Orders.{MayEnrolOn, machine_ordered}
-use Rattle.dali_controller.specs.Whole.{Knows, IsReady}
-use Rattle.dali_controller.specs.Moments.{Settles, IsBetween, IsHeard, IsNext}
-use Rattle.dali_controller.proofs.Steps.{calm_less, ordered_on}
+use Rattle.dali_controller.specs.{Course.Course, Course.closing_of, Machine.Machine, Moments.Settles, Moments.IsBetween, Moments.IsHeard, Moments.IsNext}
+use Rattle.dali_controller.specs.{Next.begins_at, Next.most_silent, Orders.Contradicts, Orders.IsOrderedTo, Orders.IsSought, Orders.MayEnrolOn}
+use Rattle.dali_controller.specs.{Orders.machine_ordered, Whole.Knows, Whole.IsReady, declared.purpose.Purpose.TheVariants.Visiting}
+use Rattle.dali_controller.specs.declared.{purpose.Purpose.TheVariants.Resolving, purpose.Purpose.TheVariants.Asking, way.Way.Way, way.Way.TheVariants.Fresh}
+use Rattle.dali_controller.{specs.declared.way.Way.TheVariants.Surveying, proofs.Steps.calm_less, proofs.Steps.ordered_on}
 
 -- TO SETTLE
 same_address : (r q : SearchAddress) (b d : ℕ) → Withdrawn r b ≡ Withdrawn q d → b ≡ d

@@ -1,60 +1,36 @@
-use Rattle.std.proofs.Common.{lit<, ◌≡◌, ◌⊎◌, inl, inr, ℕ, ◌+◌, ◌<◌, ◌≤◌, Bool, true, false, List, [], ◌∷◌, ◌++◌, refl, sym, ap, ap₂}
-use Rattle.std.proofs.Common.{subst, ◌∙◌, arith, Option, Some, None}
-use Rattle.std.specs.Prelude.{◌-◌, ◌==◌, ◌||◌, is_some, unwrap_or, if◌then◌else◌}
-use Rattle.std.proofs.lemmas.Bool.Decides.{nat_tests}
-use Rattle.dali_frame.specs.declared.frames.Forward.{Forward}
-use Rattle.dali_frame.specs.declared.frames.Answer.{Answer}
+use Rattle.std.proofs.Common.{lit<, ◌≡◌, ◌⊎◌, inl, inr, ℕ, ◌+◌, ◌<◌, ◌≤◌, Bool, true, false, List, [], ◌∷◌, ◌++◌, refl, sym, ap, ap₂, subst, ◌∙◌, arith, Option}
+use Rattle.std.proofs.Common.{Some, None, ◌-◌, ◌==◌, ◌||◌, is_some, if◌then◌else◌}
+use Rattle.std.{proofs.lemmas.Bool.Decides.nat_tests, specs.Prelude.unwrap_or}
+use Rattle.dali_frame.specs.{Priority.FIRST, Priority.LATER, Random.value_of, Short.short_of, declared.frames.Answer.Answer}
 use Rattle.dali_frame.specs.declared.frames.Answer.TheVariants.{Silence, Byte, Damaged}
-use Rattle.dali_frame.specs.declared.numbers.SearchAddress.{SearchAddress}
-use Rattle.dali_frame.specs.Short.{short_of}
-use Rattle.dali_frame.specs.Random.{value_of}
-use Rattle.dali_frame.specs.Priority.{FIRST, LATER}
-use Rattle.dali_special.specs.declared.command.Target.TheVariants.{Unaddressed}
-use Rattle.dali_special.specs.declared.command.Part.TheVariants.{Middle, Low}
-use Rattle.dali_special.specs.declared.command.Command.{Command}
-use Rattle.dali_special.specs.declared.command.Command.TheVariants.{Terminate, Initialise, Randomise, Compare, Withdraw, SearchHigh, SearchMiddle, SearchLow}
-use Rattle.dali_special.specs.declared.command.Command.TheVariants.{Program}
-use Rattle.dali_special.specs.declared.command.Command.TheVariants.{QueryShort, RandomByte, Arc}
+use Rattle.dali_frame.specs.declared.{frames.Forward.Forward, numbers.SearchAddress.SearchAddress}
 use Rattle.dali_special.specs.Command.{MASK, command_of, frame_of, IsSpelled}
+use Rattle.dali_special.specs.declared.command.Command.{Command, TheVariants.Terminate, TheVariants.Initialise, TheVariants.Randomise, TheVariants.Compare}
+use Rattle.dali_special.specs.declared.command.Command.TheVariants.{Withdraw, SearchHigh, SearchMiddle, SearchLow, Program, QueryShort, RandomByte, Arc}
+use Rattle.dali_special.specs.declared.command.{Part.TheVariants.Middle, Part.TheVariants.Low, Target.TheVariants.Unaddressed}
 use Rattle.dali_special.proofs.Table.{read_written}
-use Rattle.dali_script.specs.declared.trace.Entry.{Entry}
-use Rattle.dali_script.specs.declared.finding.Finding.{Finding}
-use Rattle.dali_script.specs.declared.records.Record.{Record}
-use Rattle.dali_script.specs.declared.records.Record.TheVariants.{Reserve}
-use Rattle.dali_script.specs.declared.stage.Stage.{Stage}
-use Rattle.dali_script.specs.declared.stage.Stage.TheVariants.{Free, Terminated, InitialisedOnce, Initialised, RandomisedOnce, HighSent, MiddleSent}
-use Rattle.dali_script.specs.declared.stage.Stage.TheVariants.{NumberSent, Found, Unnamed, Unanswered, Inconclusive, Programmed, Confirmed, Withdrawn}
-use Rattle.dali_script.specs.declared.stage.Stage.TheVariants.{HighAsked, MiddleAsked, Spelled, LowSent, Hunted, Over}
-use Rattle.dali_script.specs.declared.stage.Stage.TheVariants.{WokenHigh, WokenLow, WokenMiddle, DrawFree}
-use Rattle.dali_script.specs.Records.{IsKept, with_record, Kept, Has, HasRandom, Fits, MayAdd}
-use Rattle.dali_script.specs.Scripts.{MayGive, Lawful, is_asking, ASKING}
-use Rattle.dali_script.specs.Findings.{later, finding_of}
+use Rattle.dali_script.specs.{Due.due_after, Due.frame_put, Findings.later, Findings.finding_of, Records.IsKept, Records.Kept, Records.Has, Records.Fits}
+use Rattle.dali_script.specs.{Records.MayAdd, Scripts.MayGive, Scripts.Lawful, Scripts.is_asking, Scripts.ASKING}
 use Rattle.dali_script.specs.Stages.{hunted, byte_heard, bytes_heard, finding_at, stage_of, next_stage, queried, named, verified, answered, doubted, Follows}
-use Rattle.dali_script.proofs.Transactions.{self, equal, middle_next, low_next, turn, gives, lawful_follows, stage_none, stage_more}
-use Rattle.dali_script.proofs.Found.{finding_after}
-use Rattle.dali_script.proofs.Lists.{has_map, has_last}
-use Rattle.dali_search.specs.Least.{Search}
-use Rattle.dali_search.specs.Ascending.{Ascent}
-use Rattle.dali_script.specs.declared.orders.Order.{Order}
+use Rattle.dali_script.specs.declared.{finding.Finding.Finding, orders.End.End, orders.End.TheVariants.GaveUp, orders.Order.Order}
 use Rattle.dali_script.specs.declared.orders.Order.TheVariants.{Put, Commit, Done, Halt}
-use Rattle.dali_script.specs.declared.orders.End.{End}
-use Rattle.dali_script.specs.declared.orders.End.TheVariants.{GaveUp}
+use Rattle.dali_script.specs.declared.{records.Record.Record, stage.Stage.Stage}
+use Rattle.dali_script.specs.declared.stage.Stage.TheVariants.{Free, Terminated, InitialisedOnce, Initialised, RandomisedOnce, HighSent, MiddleSent, NumberSent}
+use Rattle.dali_script.specs.declared.stage.Stage.TheVariants.{Found, Unnamed, Unanswered, Inconclusive, Programmed, Confirmed, Withdrawn, HighAsked}
+use Rattle.dali_script.specs.declared.stage.Stage.TheVariants.{MiddleAsked, Spelled, LowSent, Hunted, Over, WokenHigh, WokenLow, WokenMiddle, DrawFree}
+use Rattle.dali_script.{specs.declared.trace.Entry.Entry, proofs.Found.finding_after, proofs.Lists.has_map}
+use Rattle.dali_script.proofs.Transactions.{self, equal, middle_next, low_next, turn, gives, lawful_follows, stage_none, stage_more}
 use Rattle.dali_script.specs.declared.orders.Due.TheVariants as due
-use Rattle.dali_controller.specs.declared.purpose.Purpose.{Purpose}
-use Rattle.dali_controller.specs.declared.purpose.Purpose.TheVariants.{Opening, Probing, Visiting, Resolving, Closing, Asking, Hunting, Calling, Drawing}
-use Rattle.dali_controller.specs.declared.purpose.Purpose.TheVariants.{PassingOver}
-use Rattle.dali_controller.specs.declared.way.Way.{Way}
-use Rattle.dali_controller.specs.declared.way.Way.TheVariants.{Fresh, Surveying}
-use Rattle.dali_script.specs.Due.{due_after, frame_put}
+use Rattle.dali_search.specs.{Ascending.Ascent, Least.Search}
 use Rattle.dali_controller.specs.Course.{Course, first_of, turn_of, closing_of, address_for, least_open, byte_to_send, bytes_to_send, call_turn}
 use Rattle.dali_controller.specs.Machine.{machine_lost, machine_heard_to, Machine, silent_after, tries_after, is_complete, is_ended, is_passed_by}
-use Rattle.dali_controller.specs.Next.{at_rest, begins_at, course_by, beginning, next_course, most_silent}
-use Rattle.dali_controller.specs.Orders.{IsBegun, AfterMaskBy, AfterMaskOn, IsOrderedTo}
-use Rattle.dali_controller.specs.Orders.{is_left_by, machine_ordered, machine_ordered_on}
-use Rattle.dali_controller.specs.Orders.{running_close, asked_by}
+use Rattle.dali_controller.specs.Moments.{FoundAt, Arrived, CalmAt, IsHeard, Begins, Begun, IsNext, IsMoment, IsUngiven, IsNextTo}
+use Rattle.dali_controller.specs.{Next.at_rest, Next.begins_at, Next.course_by, Next.beginning, Next.next_course, Next.most_silent, Orders.IsBegun}
+use Rattle.dali_controller.specs.Orders.{AfterMaskBy, AfterMaskOn, IsOrderedTo, is_left_by, machine_ordered, machine_ordered_on, running_close, asked_by}
 use Rattle.dali_controller.specs.Whole.{IsWhole, Sends, AsksOn, Knows, IsWithinSilence, IsReady, IsSending, IsStoredIn, Pending}
-use Rattle.dali_controller.specs.Moments.{FoundAt, Arrived, CalmAt, IsHeard, Begins, Begun, IsNext, IsMoment}
-use Rattle.dali_controller.specs.Moments.{IsUngiven, IsNextTo}
+use Rattle.dali_controller.specs.declared.purpose.Purpose.{Purpose, TheVariants.Opening}
+use Rattle.dali_controller.specs.declared.purpose.Purpose.TheVariants.{Probing, Visiting, Resolving, Closing, Asking, Hunting, Calling, Drawing, PassingOver}
+use Rattle.dali_controller.specs.declared.way.Way.{Way, TheVariants.Fresh, TheVariants.Surveying}
 
 -- THE COMMANDS OF A TRANSACTION. A command that is sent at a stage may follow there and is read from its frame; it is no
 -- direct arc power; past the first one no close runs; and what is known where it leads to.
@@ -511,20 +487,6 @@ commit_whole w x t ready going fits may stored empty = record {
   stored = stored;
 }
 
--- TO HEAR
-most_small : (y : Way) → most_silent y < 255
-most_small Fresh = lit< tt
-most_small Surveying = lit< tt
-
-calm_small : (y : Way) (p : Purpose) (i : ℕ) → IsWithinSilence y p i → i ≤ most_silent y
-calm_small y (Closing GaveUp) i calm = calm
-calm_small y _ i calm = omega arith
-
-pub sending_small : (w : Machine) (f : Forward) → IsSending w f → w.silent < 255
-sending_small w f e =
-    let small : w.silent ≤ most_silent w.course.way = calm_small w.course.way w.course.purpose w.silent e.ready.calm in
-    let most : most_silent w.course.way < 255 = most_small w.course.way in omega (arith, small, most)
-
 found_at : (s : Stage) (earlier found : Option Finding) → found ≡ later earlier (finding_at s) → FoundAt s found
 found_at (Withdrawn r b) earlier found is = is
 found_at (Spelled b (Some n)) earlier found is = is
@@ -635,28 +597,6 @@ pub sends_program : (k : Kept) (n r : SearchAddress) (p : Purpose) (a m : ℕ) �
 sends_program k n r p a m kept visiting is h =
     let there : Has k.reserved (a, value_of r) = subst (λ v. Has k.reserved (a, v)) is h in
     (visiting.0, visiting.1, (a, kept.reserved.short a (has_map (λ q. q.0) k.reserved (a, value_of r) there), may_give k r a kept there, refl))
-
--- a command that the transaction's turn names follows no MASK
-pub turns_masked : (w : Machine) (c : Command) → turn_of w.course.purpose w.course.number (stage_of w.trace) ≡ Some c → IsMasked w (Put LATER (frame_of c))
-turns_masked w c turn q stage = absurd (none w.course.purpose (subst (λ s. turn_of w.course.purpose w.course.number s ≡ Some c) stage turn)) where
-  none : (p : Purpose) → turn_of p w.course.number (Unnamed q) ≡ Some c → ⊥
-  none Opening e = cc
-  none Probing e = cc
-  none Visiting e = cc
-  none (Resolving a) e = cc
-  none (Closing x) e = cc
-  none (Asking a) e = cc
-  none Hunting e = cc
-  none Calling e = cc
-  none Drawing e = cc
-  none PassingOver e = cc
-
--- a number is reserved once its reservation is kept
-pub reserved_kept : (w new : Machine) (x : Record) (a n m : ℕ) → x ≡ Reserve a n → new ≡ record w { kept = with_record w.kept x } → m ≡ n
-    → HasRandom new.kept.reserved m
-reserved_kept w new x a n m reserves is same =
-    let there : HasRandom (w.kept.reserved ++ (a, n) ∷ []) n = has_map (λ q. q.1) (w.kept.reserved ++ (a, n) ∷ []) (a, n) (has_last w.kept.reserved (a, n)) in
-    rw (is, reserves, same) there
 
 -- before the start
 pub whole_at_first : (w : Machine) → w.trace ≡ [] → w.last ≡ None → w.tries ≡ 0 → w.silent ≡ 0 → w.course.opened ≡ false → w.course.purpose ≡ Opening

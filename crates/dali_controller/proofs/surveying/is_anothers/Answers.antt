@@ -1,7 +1,5 @@
-use Rattle.std.proofs.Common.{◌∙◌, sym, ap, Some, None, not}
-use Rattle.std.specs.Prelude.{◌==◌, ◌||◌}
-use Rattle.dali_controller.proofs.Asked.{anothers_none, anothers_some}
-use Rattle.dali_controller.proofs.Courses.{number_is}
+use Rattle.std.proofs.Common.{◌∙◌, sym, ap, Some, None, not, ◌==◌, ◌||◌}
+use Rattle.dali_controller.proofs.{Asked.anothers_none, Asked.anothers_some, Courses.number_is}
 use Rattle.dali_controller.proofs.surveying.is_anothers.Goals as goal
 
 pub returns-else-has : goal.returns-else-has

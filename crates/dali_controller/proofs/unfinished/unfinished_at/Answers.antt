@@ -1,6 +1,5 @@
 use Rattle.std.proofs.Common.{◌∙◌, sym, Some, None}
-use Rattle.dali_script.specs.Records.{HasRandom}
-use Rattle.dali_script.proofs.Lists.{has_map}
+use Rattle.dali_script.{specs.Records.HasRandom, proofs.Lists.has_map}
 use Rattle.dali_controller.proofs.Courses.{number_is, address_is, none_reserved, unfinished_is}
 use Rattle.dali_controller.proofs.unfinished.unfinished_at.Goals as goal
 

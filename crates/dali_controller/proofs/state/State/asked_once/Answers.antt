@@ -1,7 +1,5 @@
-use Rattle.std.proofs.Common.{sym, ap, ◌∙◌}
-use Rattle.std.specs.Prelude.{◌==◌}
-use Rattle.dali_controller.specs.Next.{asked_once, begins_at}
-use Rattle.dali_controller.specs.States.{machine_with}
+use Rattle.std.proofs.Common.{sym, ap, ◌∙◌, ◌==◌}
+use Rattle.dali_controller.specs.{Next.asked_once, Next.begins_at, States.machine_with}
 use Rattle.dali_controller.proofs.Beginnings.{goes_on_moment, again_moment, high_between}
 use Rattle.dali_controller.proofs.state.State.asked_once.Goals as goal
 

@@ -1,9 +1,6 @@
 use Rattle.std.proofs.Common.{subst}
 use Rattle.dali_script.specs.declared.stage.Stage.TheVariants.{Hunted}
-use Rattle.dali_controller.proofs.Asking.{hunted_moment}
-use Rattle.dali_controller.proofs.Beginnings.{called_moment}
-use Rattle.dali_controller.specs.Moments.{IsHeard}
-use Rattle.dali_controller.specs.States.{machine_with}
+use Rattle.dali_controller.{specs.Moments.IsHeard, specs.States.machine_with, proofs.Asking.hunted_moment, proofs.Beginnings.called_moment}
 use Rattle.dali_controller.proofs.state.State.compared.Goals as goal
 
 pub returns-in-Hunting-Some-clause-moment : goal.returns-in-Hunting-Some-clause-moment

@@ -1,9 +1,6 @@
 use Rattle.std.proofs.Common.{ap₂, List, ℕ}
-use Rattle.dali_script.specs.declared.trace.Entry.{Entry}
-use Rattle.dali_script.specs.declared.orders.Order.TheVariants.{Done}
-use Rattle.dali_controller.specs.Orders.{machine_ordered}
-use Rattle.dali_controller.specs.States.{machine_with}
-use Rattle.dali_controller.proofs.Legs.{counted_leg}
+use Rattle.dali_script.specs.declared.{orders.Order.TheVariants.Done, trace.Entry.Entry}
+use Rattle.dali_controller.{specs.Orders.machine_ordered, specs.States.machine_with, proofs.Legs.counted_leg}
 use Rattle.dali_controller.proofs.state.State.done.Goals as goal
 
 pub returns-clause-state : goal.returns-clause-state

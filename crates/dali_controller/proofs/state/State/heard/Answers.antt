@@ -1,5 +1,4 @@
-use Rattle.dali_controller.proofs.Courses.{followed_heard}
-use Rattle.dali_controller.specs.States.{machine_with}
+use Rattle.dali_controller.{specs.States.machine_with, proofs.Courses.followed_heard}
 use Rattle.dali_controller.proofs.state.State.heard.Goals as goal
 
 pub returns-clause-followed : goal.returns-clause-followed

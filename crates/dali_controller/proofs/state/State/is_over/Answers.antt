@@ -1,16 +1,8 @@
-use Rattle.std.proofs.Common.{◌≡◌, ℕ, Bool, true, false, ◌∙◌, sym, refl, ap, Option, Some, None}
-use Rattle.std.specs.Prelude.{◌||◌, not, is_some}
-use Rattle.dali_frame.specs.declared.numbers.SearchAddress.{SearchAddress}
-use Rattle.dali_frame.specs.Random.{value_of}
-use Rattle.dali_script.specs.Records.{IsKept, Has, HasRandom}
-use Rattle.dali_script.specs.Stages.{may_give_some}
-use Rattle.dali_script.specs.declared.orders.End.{End}
-use Rattle.dali_script.specs.declared.stage.Stage.{Stage}
-use Rattle.dali_script.specs.declared.stage.Stage.TheVariants.{Unnamed}
-use Rattle.dali_script.proofs.Giving.{goes_on_by}
-use Rattle.dali_controller.specs.Course.{closing_of}
-use Rattle.dali_controller.specs.Machine.{Machine, is_complete, is_passed_by, is_withheld}
-use Rattle.dali_controller.specs.States.{machine_with}
+use Rattle.std.proofs.Common.{◌≡◌, ℕ, Bool, true, false, ◌∙◌, sym, refl, ap, Option, Some, None, ◌||◌, not, is_some}
+use Rattle.dali_frame.specs.{Random.value_of, declared.numbers.SearchAddress.SearchAddress}
+use Rattle.dali_script.specs.{Records.IsKept, Records.Has, Records.HasRandom, Stages.may_give_some, declared.orders.End.End, declared.stage.Stage.Stage}
+use Rattle.dali_script.{specs.declared.stage.Stage.TheVariants.Unnamed, proofs.Giving.goes_on_by}
+use Rattle.dali_controller.specs.{Course.closing_of, Machine.Machine, Machine.is_complete, Machine.is_passed_by, Machine.is_withheld, States.machine_with}
 use Rattle.dali_controller.proofs.Courses.{address_is}
 use Rattle.dali_controller.proofs.state.State.is_over.Goals as goal
 

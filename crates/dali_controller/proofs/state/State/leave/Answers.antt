@@ -1,8 +1,5 @@
 use Rattle.std.proofs.Common.{sym, ◌∙◌, subst}
-use Rattle.dali_controller.proofs.Beginnings.{ungiven_moment}
-use Rattle.dali_controller.specs.Moments.{Begun}
-use Rattle.dali_controller.specs.Next.{ungiven}
-use Rattle.dali_controller.specs.States.{machine_with}
+use Rattle.dali_controller.{specs.Moments.Begun, specs.Next.ungiven, specs.States.machine_with, proofs.Beginnings.ungiven_moment}
 use Rattle.dali_controller.proofs.state.State.leave.Goals as goal
 
 pub returns-in-Fresh : goal.returns-in-Fresh

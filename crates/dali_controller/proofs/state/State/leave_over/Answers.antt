@@ -1,8 +1,6 @@
 use Rattle.std.proofs.Common.{None, sym, ◌∙◌, subst}
+use Rattle.dali_controller.specs.{Moments.Begun, Moments.IsFirstFree, Next.ungiven, States.machine_with}
 use Rattle.dali_controller.proofs.Beginnings.{ungiven_moment, ungiven_full, none_drawn}
-use Rattle.dali_controller.specs.Moments.{Begun, IsFirstFree}
-use Rattle.dali_controller.specs.Next.{ungiven}
-use Rattle.dali_controller.specs.States.{machine_with}
 use Rattle.dali_controller.proofs.state.State.leave_over.Goals as goal
 
 pub returns-in-Fresh : goal.returns-in-Fresh

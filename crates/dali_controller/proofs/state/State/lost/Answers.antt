@@ -1,8 +1,6 @@
 use Rattle.std.proofs.Common.{◌≡◌, ◌+◌, arith}
 use Rattle.std.proofs.lemmas.Bool.Decides.{nat_tests}
-use Rattle.dali_controller.proofs.Steps.{lost_ended, lost_moment, waiting}
-use Rattle.dali_controller.proofs.Courses.{followed_lost}
-use Rattle.dali_controller.specs.States.{machine_with}
+use Rattle.dali_controller.{specs.States.machine_with, proofs.Courses.followed_lost, proofs.Steps.lost_ended, proofs.Steps.lost_moment, proofs.Steps.waiting}
 use Rattle.dali_controller.proofs.state.State.lost.Goals as goal
 
 pub returns-then-self-eq-TRIES-clause-moment : goal.returns-then-self-eq-TRIES-clause-moment

@@ -1,5 +1,4 @@
-use Rattle.dali_controller.specs.States.{machine_with}
-use Rattle.dali_controller.proofs.Beginnings.{passed_moment}
+use Rattle.dali_controller.{specs.States.machine_with, proofs.Beginnings.passed_moment}
 use Rattle.dali_controller.proofs.state.State.passed_over.Goals as goal
 
 pub returns : goal.returns

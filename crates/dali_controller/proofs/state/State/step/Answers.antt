@@ -1,8 +1,6 @@
 use Rattle.std.proofs.Common.{◌≡◌, Some, subst}
-use Rattle.dali_script.specs.declared.records.Record.TheVariants.{Reserve}
-use Rattle.dali_script.specs.declared.orders.Order.TheVariants.{Commit}
-use Rattle.dali_controller.specs.Steps.{IsBefore}
-use Rattle.dali_controller.proofs.Keeping.{visited_now}
+use Rattle.dali_script.specs.declared.{orders.Order.TheVariants.Commit, records.Record.TheVariants.Reserve}
+use Rattle.dali_controller.{specs.Steps.IsBefore, proofs.Keeping.visited_now}
 use Rattle.dali_controller.proofs.state.State.step.Goals as goal
 
 pub committed-requires-clause-reserved : goal.committed-requires-clause-reserved

@@ -1,9 +1,5 @@
-use Rattle.dali_controller.proofs.Beginnings.{survey_moment, moment_ordered, moment_state}
-use Rattle.dali_controller.proofs.Courses.{followed_survey}
-use Rattle.dali_controller.proofs.Legs.{unstarted_leg}
-use Rattle.dali_controller.specs.Machine.{machine_surveying}
-use Rattle.dali_controller.specs.Moments.{IsMoment}
-use Rattle.dali_controller.specs.States.{machine_with}
+use Rattle.dali_controller.specs.{Machine.machine_surveying, Moments.IsMoment, States.machine_with}
+use Rattle.dali_controller.proofs.{Beginnings.survey_moment, Beginnings.moment_ordered, Beginnings.moment_state, Courses.followed_survey, Legs.unstarted_leg}
 use Rattle.dali_controller.proofs.state.State.survey.Goals as goal
 
 moment : (c : goal.After-go_on)

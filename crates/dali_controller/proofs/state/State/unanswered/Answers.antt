@@ -1,8 +1,5 @@
 use Rattle.std.proofs.Common.{inl, sym, ap, ◌∙◌, Some}
-use Rattle.dali_controller.specs.Course.{address_for}
-use Rattle.dali_controller.specs.States.{machine_with}
-use Rattle.dali_controller.proofs.Beginnings.{resolved_moment}
-use Rattle.dali_controller.proofs.Courses.{address_is}
+use Rattle.dali_controller.{specs.Course.address_for, specs.States.machine_with, proofs.Beginnings.resolved_moment, proofs.Courses.address_is}
 use Rattle.dali_controller.proofs.state.State.unanswered.Goals as goal
 
 pub silenced-requires-clause-heard : goal.silenced-requires-clause-heard

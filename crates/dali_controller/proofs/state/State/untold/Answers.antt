@@ -1,7 +1,5 @@
 use Rattle.std.proofs.Common.{ap}
-use Rattle.dali_controller.specs.Next.{begins_at}
-use Rattle.dali_controller.proofs.Beginnings.{goes_on_moment, spelled_between}
-use Rattle.dali_controller.specs.States.{machine_with}
+use Rattle.dali_controller.{specs.Next.begins_at, specs.States.machine_with, proofs.Beginnings.goes_on_moment, proofs.Beginnings.spelled_between}
 use Rattle.dali_controller.proofs.state.State.untold.Goals as goal
 
 pub returns-clause-moment : goal.returns-clause-moment
