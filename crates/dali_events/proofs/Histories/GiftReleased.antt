@@ -1,25 +1,15 @@
 use Rattle.std.proofs.Common.{◌≡◌, ℕ, true, List, [], ◌∷◌, ◌++◌, Some, None, refl, inl, lit<}
 use Rattle.dali_frame.specs.declared.frames.Answer.TheVariants.{Silence, Byte}
 use Rattle.dali_special.specs.Command.{command_of}
-use Rattle.dali_script.specs.declared.finding.Finding.{Finding}
-use Rattle.dali_script.specs.declared.finding.Finding.TheVariants.{Queried}
-use Rattle.dali_script.specs.declared.records.Record.TheVariants.{Release}
-use Rattle.dali_script.specs.Records.{MayAdd}
-use Rattle.dali_script.specs.Findings.{assigned}
-use Rattle.dali_script.specs.Stages.{stage_of}
-use Rattle.dali_script.specs.declared.orders.Input.{Input}
+use Rattle.dali_script.specs.{Findings.assigned, Records.MayAdd, Stages.stage_of}
+use Rattle.dali_script.specs.declared.finding.Finding.{Finding, TheVariants.Queried}
+use Rattle.dali_script.specs.declared.{orders.Input.Input, orders.Order.TheVariants.Commit, records.Record.TheVariants.Release}
 use Rattle.dali_script.specs.declared.orders.Input.TheVariants as input
-use Rattle.dali_script.specs.declared.orders.Order.TheVariants.{Commit}
-use Rattle.dali_events.specs.declared.event.Event.{Event}
-use Rattle.dali_events.specs.declared.event.Event.TheVariants as event
-use Rattle.dali_events.specs.Plan.{Plan}
-use Rattle.dali_events.specs.World.{World, controller_at, gear_at, start}
-use Rattle.dali_events.specs.Happens.{happens, controller_informed}
-use Rattle.dali_events.specs.Allowed.{Allowed, IsUp, IsDue}
-use Rattle.dali_events.specs.Runs.{after}
-use Rattle.dali_events.specs.Promise.{KeepsPromiseNow}
+use Rattle.dali_events.specs.{Allowed.Allowed, Allowed.IsUp, Allowed.IsDue, Happens.happens, Happens.controller_informed, Plan.Plan, Promise.KeepsPromiseNow}
+use Rattle.dali_events.specs.{Runs.after, World.World, World.controller_at, World.gear_at, World.start, declared.event.Event.Event}
 use Rattle.dali_events.proofs.Histories.Openings.{first_block, at_123456, at_0abcde, query, opening, visit, two_gear}
 use Rattle.dali_events.proofs.Histories.Tested.{is_allowed, allowed_by, EachIs, after_each, each_passes, each_is_by, each_is_after}
+use Rattle.dali_events.specs.declared.event.Event.TheVariants as event
 
 -- THE OTHER ADDRESS MATTERS. A variant of the rules, in which a controller may also release what it has reserved for a gear that
 -- has this address; and a list of events that it allows, in which two gear store one address.

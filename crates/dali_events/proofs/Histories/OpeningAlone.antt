@@ -1,31 +1,17 @@
-use Rattle.std.proofs.Common.{◌≡◌, ◌⊎◌, ℕ, Bool, true, false, List, [], ◌∷◌, ◌++◌, Some, None, refl, inl, inr, lit<, lit≤}
-use Rattle.std.specs.Prelude.{◌&&◌, ◌||◌, if◌then◌else◌}
-use Rattle.dali_frame.specs.declared.frames.Forward.{Forward}
-use Rattle.dali_frame.specs.declared.frames.Answer.{Answer}
-use Rattle.dali_frame.specs.declared.frames.Answer.TheVariants.{Silence}
-use Rattle.dali_special.specs.declared.command.Target.TheVariants.{Unaddressed}
-use Rattle.dali_special.specs.declared.command.Command.{Command}
-use Rattle.dali_special.specs.declared.command.Command.TheVariants.{Initialise, Randomise}
+use Rattle.std.proofs.Common.{◌≡◌, ◌⊎◌, ℕ, Bool, true, false, List, [], ◌∷◌, ◌++◌, Some, None, refl, inl, inr, lit<, lit≤, ◌&&◌, ◌||◌, if◌then◌else◌}
+use Rattle.dali_frame.specs.declared.frames.{Answer.Answer, Answer.TheVariants.Silence, Forward.Forward}
 use Rattle.dali_special.specs.Command.{command_of}
-use Rattle.dali_gear.specs.declared.row.Reach.TheVariants.{Everyone}
-use Rattle.dali_gear.specs.Row.{answers_of}
-use Rattle.dali_script.specs.declared.block.Block.{Block}
-use Rattle.dali_script.specs.declared.trace.Entry.{Entry}
-use Rattle.dali_script.specs.Commands.{is_initialise}
-use Rattle.dali_script.specs.Records.{Assignment}
-use Rattle.dali_script.specs.Scripts.{Step, sends, IsFront, Lawful}
-use Rattle.dali_script.specs.Stages.{stage_of}
+use Rattle.dali_special.specs.declared.command.{Command.Command, Command.TheVariants.Initialise, Command.TheVariants.Randomise, Target.TheVariants.Unaddressed}
+use Rattle.dali_gear.specs.{Row.answers_of, declared.row.Reach.TheVariants.Everyone}
+use Rattle.dali_script.specs.{Commands.is_initialise, Records.Assignment, Scripts.Step, Scripts.sends, Scripts.IsFront, Scripts.Lawful, Stages.stage_of}
+use Rattle.dali_script.{specs.declared.block.Block.Block, specs.declared.trace.Entry.Entry, proofs.Firsts.first_for_all}
 use Rattle.dali_script.specs.declared.orders.Input.TheVariants as input
-use Rattle.dali_script.proofs.Firsts.{first_for_all}
-use Rattle.dali_events.specs.declared.event.Event.{Event}
-use Rattle.dali_events.specs.declared.event.Event.TheVariants as event
-use Rattle.dali_events.specs.Plan.{Plan}
-use Rattle.dali_events.specs.World.{World, controller_at, gear_at, controllers_changed, start}
-use Rattle.dali_events.specs.Happens.{happens, trace_running, entry, goes_on, sent_by, told_sent, taken_by}
-use Rattle.dali_events.specs.Allowed.{Allowed, IsUp, MaySend, HasDraws, Hears}
-use Rattle.dali_events.specs.Promise.{KeepsGifts}
+use Rattle.dali_events.specs.{Allowed.Allowed, Allowed.IsUp, Allowed.MaySend, Allowed.HasDraws, Allowed.Hears, Happens.happens, Happens.trace_running}
+use Rattle.dali_events.specs.{Happens.entry, Happens.goes_on, Happens.sent_by, Happens.told_sent, Happens.taken_by, Plan.Plan, Promise.KeepsGifts, World.World}
+use Rattle.dali_events.specs.{World.controller_at, World.gear_at, World.controllers_changed, World.start, declared.event.Event.Event}
 use Rattle.dali_events.proofs.Histories.Openings.{first_block, at_123456, silent, opening, visit, two_numbers}
 use Rattle.dali_events.proofs.Histories.Tested.{is_allowed, allowed_by, EachIs, after_each, each_is_by, each_is_after}
+use Rattle.dali_events.specs.declared.event.Event.TheVariants as event
 
 -- TERMINATE MATTERS. A variant of the rules, and a list of events that it allows, in which a gear with a short address draws
 -- another number.

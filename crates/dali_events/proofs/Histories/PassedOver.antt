@@ -1,20 +1,11 @@
 use Rattle.std.proofs.Common.{◌≡◌, true, List, [], ◌∷◌, ◌++◌, None, Some, refl, lit<}
-use Rattle.dali_frame.specs.declared.frames.Answer.TheVariants.{Silence}
-use Rattle.dali_frame.specs.declared.numbers.SearchAddress.{SearchAddress}
-use Rattle.dali_frame.specs.Random.{value_of}
+use Rattle.dali_frame.specs.{Random.value_of, declared.frames.Answer.TheVariants.Silence, declared.numbers.SearchAddress.SearchAddress}
 use Rattle.dali_special.specs.Command.{command_of, frame}
-use Rattle.dali_script.specs.declared.trace.Entry.{Entry}
-use Rattle.dali_script.specs.Findings.{search_of}
-use Rattle.dali_script.specs.Stages.{stage_of}
-use Rattle.dali_events.specs.declared.event.Event.{Event}
-use Rattle.dali_events.specs.Plan.{Plan}
-use Rattle.dali_events.specs.World.{World, gear_at, start}
-use Rattle.dali_events.specs.Happens.{entry, trace_running}
-use Rattle.dali_events.specs.Runs.{after, AllAllowed}
-use Rattle.dali_events.specs.Searching.{EachPowered, AreCalm, BreakNoPair, PassNobody, CompletesOpening, HIGHEST, number_at}
-use Rattle.dali_events.specs.Searching.{up_to_opening, up_to_compare, NobodyAnswers, HasShort}
-use Rattle.dali_events.proofs.Histories.Openings.{first_block, second_block, at_123456, silent}
-use Rattle.dali_events.proofs.Histories.Tested.{all_allowed_by}
+use Rattle.dali_script.specs.{Findings.search_of, Stages.stage_of, declared.trace.Entry.Entry}
+use Rattle.dali_events.specs.{Happens.entry, Happens.trace_running, Plan.Plan, Runs.after, Runs.AllAllowed, Searching.EachPowered, Searching.AreCalm}
+use Rattle.dali_events.specs.Searching.{BreakNoPair, PassNobody, CompletesOpening, HIGHEST, number_at, up_to_opening, up_to_compare, NobodyAnswers, HasShort}
+use Rattle.dali_events.specs.{World.World, World.gear_at, World.start, declared.event.Event.Event}
+use Rattle.dali_events.proofs.Histories.{Openings.first_block, Openings.second_block, Openings.at_123456, Openings.silent, Tested.all_allowed_by}
 
 -- PASSING OVER MATTERS. Controller 0 opens, and its COMPARE under FFFFFE is not answered, although a gear with power has no short
 -- address: controller 1, which surveys meanwhile, has passed it over. Each premise of `all_found_is_true` holds but that nobody

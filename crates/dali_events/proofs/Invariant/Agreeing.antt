@@ -1,38 +1,20 @@
 use Rattle.std.proofs.Common.{arith, inl, inr, Some, ◌≡◌, ℕ, ◌<◌, ◌==◌, true, List, [], ◌∷◌, ◌++◌, refl, sym, ap, subst, ◌∙◌, length}
-use Rattle.std.proofs.lemmas.Bool.Decides.{nat_tests}
-use Rattle.dali_frame.specs.declared.frames.Forward.{Forward}
-use Rattle.dali_frame.specs.declared.frames.Answer.TheVariants.{Byte}
-use Rattle.dali_frame.specs.declared.numbers.SearchAddress.{SearchAddress}
+use Rattle.std.{proofs.lemmas.Bool.Decides.nat_tests, specs.List.AllByRecursion}
 use Rattle.dali_frame.specs.Random.{number_of}
-use Rattle.dali_special.specs.declared.command.Command.{Command}
-use Rattle.dali_special.specs.declared.command.Command.TheVariants.{RandomByte}
+use Rattle.dali_frame.specs.declared.{frames.Answer.TheVariants.Byte, frames.Forward.Forward, numbers.SearchAddress.SearchAddress}
+use Rattle.dali_special.specs.{Command.command_of, declared.command.Command.Command, declared.command.Command.TheVariants.RandomByte}
 use Rattle.dali_special.specs.declared.command.Part.TheVariants.{High, Middle, Low}
-use Rattle.dali_special.specs.Command.{command_of}
-use Rattle.dali_script.specs.Records.{Assignment, Has}
-use Rattle.dali_script.specs.declared.finding.Finding.TheVariants.{Resolved}
-use Rattle.dali_script.specs.Findings.{Asked, two_bytes, asked_of, search_of, found_by}
-use Rattle.dali_events.specs.declared.event.Event.{Event}
-use Rattle.dali_events.specs.Plan.{Plan, IsPlan}
-use Rattle.dali_events.specs.World.{World, gear_at, controller_at, start}
-use Rattle.dali_events.specs.declared.event.Event.TheVariants.{Sent}
-use Rattle.dali_events.specs.Happens.{happens, trace_running, entry}
-use Rattle.dali_events.specs.Allowed.{Allowed}
-use Rattle.std.specs.List.{AllByRecursion}
-use Rattle.dali_events.specs.declared.used.Used.{Used}
-use Rattle.dali_events.specs.Used.{gear_of_used}
-use Rattle.dali_events.specs.Runs.{after, after_all, AllAllowed, IsRun, AreDrawn, LeavesUsed}
-use Rattle.dali_events.specs.Promise.{IsEnrolled, NamesGear, Names, IsSafe, HoldsShort}
+use Rattle.dali_script.specs.{Findings.Asked, Findings.two_bytes, Findings.asked_of, Findings.search_of, Findings.found_by, Records.Assignment, Records.Has}
+use Rattle.dali_script.{specs.declared.finding.Finding.TheVariants.Resolved, proofs.Lists.has_map, proofs.Members.same_member}
+use Rattle.dali_events.specs.{Allowed.Allowed, Happens.happens, Happens.trace_running, Happens.entry}
 use Rattle.dali_events.specs.Laws.{GiftsAreReserved, GiftsAreOwned, KeepsReserved, TablesAgree, HasFound, FindingsAgree, IsReservedFor, KeepsRecords}
-use Rattle.dali_script.proofs.Lists.{has_map}
-use Rattle.dali_script.proofs.Members.{same_member}
-use Rattle.dali_events.proofs.Invariant.Growing.{after_both, allowed_front, allowed_rest, leaves_front, leaves_rest, last_allowed}
+use Rattle.dali_events.specs.{Plan.Plan, Plan.IsPlan, Promise.IsEnrolled, Promise.NamesGear, Promise.Names, Promise.IsSafe, Promise.HoldsShort, Runs.after}
+use Rattle.dali_events.specs.{Runs.after_all, Runs.AllAllowed, Runs.IsRun, Runs.AreDrawn, Runs.LeavesUsed, Used.gear_of_used, World.World, World.gear_at}
+use Rattle.dali_events.specs.{World.controller_at, World.start, declared.event.Event.Event, declared.event.Event.TheVariants.Sent, declared.used.Used.Used}
+use Rattle.dali_events.proofs.Invariant.{Controllers.controllers_count, Drawn.drawn_in_front, Gifts.IsOwned, Growing.after_both, Growing.allowed_front}
+use Rattle.dali_events.proofs.Invariant.{Growing.allowed_rest, Growing.leaves_front, Growing.leaves_rest, Growing.last_allowed, Keeping.records_of, Safe.Holds}
+use Rattle.dali_events.proofs.Invariant.Safe.{keeps_step, stays_step, holds_step, holds_after, safe, run_front, keeps_promise, finding_named, found_names}
 use Rattle.dali_events.proofs.Invariant.Starting.{start_count, stands}
-use Rattle.dali_events.proofs.Invariant.Controllers.{controllers_count}
-use Rattle.dali_events.proofs.Invariant.Gifts.{IsOwned}
-use Rattle.dali_events.proofs.Invariant.Keeping.{records_of}
-use Rattle.dali_events.proofs.Invariant.Drawn.{drawn_in_front}
-use Rattle.dali_events.proofs.Invariant.Safe.{Holds, keeps_step, stays_step, holds_step, holds_after, safe, run_front, keeps_promise, finding_named}
-use Rattle.dali_events.proofs.Invariant.Safe.{found_names}
 
 -- GIFTS STAY RESERVED
 pub gifts_owned : (p : Plan) (capacity : ℕ) (front rest : List Event) → IsRun p capacity (front ++ rest) → GiftsAreOwned p.used (after p capacity front)

@@ -1,12 +1,9 @@
 use Rattle.std.proofs.Common.{◌≡◌, ℕ, ◌<◌, inl, inr, sym, ap, subst, ◌∙◌, map, get_or, replicate, Some, None}
 use Rattle.dali_gear.specs.Gear.{fresh}
-use Rattle.dali_script.specs.Records.{Has}
-use Rattle.dali_script.proofs.Lists.{has_map}
-use Rattle.dali_events.specs.Used.{earlier_gift, with_used}
-use Rattle.dali_events.specs.Plan.{Plan, AreUsed}
-use Rattle.dali_events.specs.World.{start}
-use Rattle.dali_events.proofs.Invariant.Starting.{IsUsedOrFresh, row_at, start_count, gear_of, shorts_of, gift_of_used, drawn_at, given_at, stands_at}
+use Rattle.dali_script.{specs.Records.Has, proofs.Lists.has_map}
+use Rattle.dali_events.specs.{Plan.Plan, Plan.AreUsed, Used.earlier_gift, Used.with_used, World.start}
 use Rattle.dali_events.proofs.Invariant.Gifts.{Gifts, IsOwned}
+use Rattle.dali_events.proofs.Invariant.Starting.{IsUsedOrFresh, row_at, start_count, gear_of, shorts_of, gift_of_used, drawn_at, given_at, stands_at}
 
 -- WHAT HOLDS OF GIFTS AT THE START: the addresses of used gear count as given before.
 held : (p : Plan) (g a : ℕ) → IsUsedOrFresh p g → (get_or (with_used (replicate p.gear fresh) p.used) g fresh).short ≡ Some a

@@ -1,19 +1,12 @@
-use Rattle.std.proofs.Common.{◌≡◌, ◌↔◌, ℕ, ◌<◌, ◌⊎◌, inl, inr, true, List, [], ◌++◌, refl, sym, ap, subst, ◌∙◌, length, map, get_or, append-nil, Some}
-use Rattle.std.proofs.Common.{None}
+use Rattle.std.proofs.Common.{◌≡◌, ◌↔◌, ℕ, ◌<◌, ◌⊎◌, inl, inr, true, List, [], ◌++◌, refl, sym, ap, subst, ◌∙◌, length, map, get_or, append-nil, Some, None}
 use Rattle.std.proofs.lemmas.List.{map-append}
 use Rattle.dali_special.specs.declared.command.Command.{Command}
-use Rattle.dali_gear.specs.declared.row.Reach.{Reach}
-use Rattle.dali_gear.specs.Gear.{Gear, fresh}
-use Rattle.dali_gear.specs.Row.{takes, row_after, drawn_of, stored_short, stored_of}
+use Rattle.dali_gear.specs.{Gear.Gear, Gear.fresh, Row.takes, Row.row_after, Row.drawn_of, Row.stored_short, Row.stored_of, declared.row.Reach.Reach}
 use Rattle.dali_script.specs.Records.{Assignment, Has, IsOnce}
 use Rattle.dali_script.proofs.Members.{Each, has_left, has_right, has_either, mapped_from, once_append, once_seconds, same_member}
-use Rattle.dali_events.proofs.Invariant.Takes.{Moved, stays, goes, moves_at, row_length}
-use Rattle.dali_events.specs.declared.used.Used.{Used}
-use Rattle.dali_events.specs.World.{Controller, nobody}
-use Rattle.dali_events.specs.Laws.{IsOfUsed}
-use Rattle.dali_events.proofs.Invariant.Answers.{stored_by, stores_at, stored_once}
-use Rattle.dali_events.proofs.Invariant.Known.{short_from, short_stored, random_stored}
-use Rattle.dali_events.proofs.Invariant.Sending.{takes_powered}
+use Rattle.dali_events.specs.{Laws.IsOfUsed, World.Controller, World.nobody, declared.used.Used.Used}
+use Rattle.dali_events.proofs.Invariant.{Answers.stored_by, Answers.stores_at, Answers.stored_once, Known.short_from, Known.short_stored, Known.random_stored}
+use Rattle.dali_events.proofs.Invariant.{Sending.takes_powered, Takes.Moved, Takes.stays, Takes.goes, Takes.moves_at, Takes.row_length}
 
 -- WHAT HOLDS OF GIFTS: a gear holds an address where it was given it; its random address it has drawn, and somebody has
 -- reserved the address for it; each gear and each address was given once.

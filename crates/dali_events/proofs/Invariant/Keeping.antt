@@ -1,23 +1,15 @@
 use Rattle.std.proofs.Common.{◌≡◌, ℕ, ◌<◌, List, refl, subst, ◌∙◌, length, Option, Some, None}
 use Rattle.std.proofs.lemmas.List.{get_or-map, length-map}
-use Rattle.dali_script.specs.declared.block.Block.{Block}
-use Rattle.dali_script.specs.declared.finding.Finding.{Finding}
-use Rattle.dali_script.specs.declared.records.Record.{Record}
-use Rattle.dali_script.specs.declared.records.Record.TheVariants.{Reserve, Enrol, Release}
-use Rattle.dali_script.specs.Records.{Assignment, Kept, InBlock, IsKept, MayAdd, Fits, address_of}
-use Rattle.dali_script.specs.Findings.{assigned}
-use Rattle.dali_script.proofs.Lists.{has_map, kept_none, kept_more, block_stays, reserved_fits}
-use Rattle.dali_script.specs.declared.orders.Order.{Order}
+use Rattle.dali_script.specs.{Findings.assigned, Records.Assignment, Records.Kept, Records.InBlock, Records.IsKept, Records.MayAdd, Records.Fits}
+use Rattle.dali_script.specs.{Records.address_of, declared.block.Block.Block, declared.finding.Finding.Finding, declared.orders.Order.Order}
 use Rattle.dali_script.specs.declared.orders.Order.TheVariants.{Put, Commit, Done, Halt}
-use Rattle.dali_events.specs.declared.event.Event.{Event}
-use Rattle.dali_events.specs.declared.event.Event.TheVariants as event
-use Rattle.dali_events.specs.Plan.{Plan, IsPlan, block_at, no_block}
-use Rattle.dali_events.specs.World.{World, Controller, controller_at, nobody, controller_begun, start}
-use Rattle.dali_events.specs.Happens.{happens, with_outstanding, controller_informed}
-use Rattle.dali_events.specs.Allowed.{Allowed, MayOrder, MayCommit}
-use Rattle.dali_events.specs.Laws.{KeepsRecords}
-use Rattle.dali_script.proofs.Members.{Each}
+use Rattle.dali_script.specs.declared.records.Record.{Record, TheVariants.Reserve, TheVariants.Enrol, TheVariants.Release}
+use Rattle.dali_script.proofs.{Lists.has_map, Lists.kept_none, Lists.kept_more, Lists.block_stays, Lists.reserved_fits, Members.Each}
+use Rattle.dali_events.specs.{Allowed.Allowed, Allowed.MayOrder, Allowed.MayCommit, Happens.happens, Happens.with_outstanding, Happens.controller_informed}
+use Rattle.dali_events.specs.{Laws.KeepsRecords, Plan.Plan, Plan.IsPlan, Plan.block_at, Plan.no_block, World.World, World.Controller, World.controller_at}
+use Rattle.dali_events.specs.{World.nobody, World.controller_begun, World.start, declared.event.Event.Event}
 use Rattle.dali_events.proofs.Invariant.Controllers.{Property, Stands, Of, AddsOrder, Adds, controllers_step, controllers_count}
+use Rattle.dali_events.specs.declared.event.Event.TheVariants as event
 
 -- RECORDS ARE KEPT, AND AN OUTSTANDING ONE MAY BE ADDED
 pub record IsNewRecord (kept : Kept) (x : Record) : Type 0 where

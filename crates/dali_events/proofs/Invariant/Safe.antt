@@ -1,47 +1,28 @@
 use Rattle.std.proofs.Common.{◌≡◌, ℕ, ◌<◌, Bool, true, false, List, [], ◌∷◌, ◌++◌, refl, sym, subst, ◌∙◌, append_assoc, append-nil, arith, length, length-set}
-use Rattle.std.proofs.Common.{get_or}
-use Rattle.std.proofs.Common.{None, Some, inl, inr, map}
-use Rattle.std.proofs.lemmas.List.{length-map}
-use Rattle.std.specs.Prelude.{if◌then◌else◌}
-use Rattle.dali_frame.specs.declared.frames.Forward.{Forward}
-use Rattle.dali_frame.specs.declared.frames.Answer.{Answer}
+use Rattle.std.proofs.Common.{get_or, None, Some, inl, inr, map, if◌then◌else◌}
+use Rattle.std.{proofs.lemmas.List.length-map, specs.List.AllByRecursion}
+use Rattle.dali_frame.specs.declared.frames.{Answer.Answer, Forward.Forward}
 use Rattle.dali_special.specs.Command.{command_of}
-use Rattle.dali_gear.specs.declared.gear_set.GearSet.{GearSet}
-use Rattle.dali_gear.specs.declared.row.Reach.TheVariants.{Everyone, Only}
-use Rattle.dali_gear.specs.Gear.{Gear, fresh, gear_expired, gear_quieted}
-use Rattle.dali_gear.specs.Row.{row_after, drawn_of, stored_of, stored_short}
-use Rattle.dali_script.specs.declared.finding.Finding.{Finding}
-use Rattle.dali_script.specs.Records.{Assignment, Has}
-use Rattle.std.specs.List.{AllByRecursion}
-use Rattle.dali_script.specs.Findings.{asked_of, search_of, found_by, assigned}
-use Rattle.dali_events.specs.declared.event.Event.{Event}
-use Rattle.dali_events.specs.declared.event.Event.TheVariants as event
-use Rattle.dali_events.specs.Plan.{Plan, IsPlan, numbers_of}
-use Rattle.dali_events.specs.World.{World, gear_at, controller_at, start, gear_changed}
-use Rattle.dali_events.specs.Happens.{happens, trace_running, gear_powered, gear_interrupted}
-use Rattle.dali_events.specs.Allowed.{Allowed, IsUp, MaySend}
-use Rattle.dali_events.specs.Runs.{after, after_all, AllAllowed, IsRun, LeavesUsed}
-use Rattle.dali_events.specs.Promise.{HoldsShort, KeepsPromiseNow, KeepsAddresses, KeepsPromiseFrom, KeepsPromise, Names, IsSafe, KeepsGifts, IsSafeFrom}
-use Rattle.dali_events.specs.Promise.{IsSafeHistory}
-use Rattle.dali_events.specs.declared.used.Used.{Used}
-use Rattle.dali_events.specs.Page.{plan_seen, LeadsTo}
-use Rattle.dali_statement.specs.Page.{Gear as PageGear, Moment, Site, start as page_start, after as page_after, are_apart}
+use Rattle.dali_gear.specs.{Gear.Gear, Gear.fresh, Gear.gear_expired, Gear.gear_quieted, Row.row_after, Row.drawn_of, Row.stored_of, Row.stored_short}
+use Rattle.dali_gear.specs.declared.{gear_set.GearSet.GearSet, row.Reach.TheVariants.Everyone, row.Reach.TheVariants.Only}
+use Rattle.dali_script.specs.{Findings.asked_of, Findings.search_of, Findings.found_by, Findings.assigned, Records.Assignment, Records.Has}
+use Rattle.dali_script.{specs.declared.finding.Finding.Finding, proofs.Members.each_changed, proofs.Members.each_map}
 use Rattle.dali_statement.specs.Gear.{gear_seen}
-use Rattle.dali_statement.proofs.Moved.{At}
-use Rattle.dali_statement.proofs.Steps.{Safe, told_gear}
-use Rattle.dali_statement.proofs.Whole.{keeps_after, reserved_after}
-use Rattle.dali_events.proofs.Invariant.Growing.{after_both, allowed_front, allowed_rest, leaves_front, leaves_rest}
-use Rattle.dali_script.proofs.Members.{each_changed, each_map}
-use Rattle.dali_events.proofs.Invariant.Drawn.{Draws, HasDrawn, draws_step, draws_start, are_drawn}
-use Rattle.dali_events.proofs.Invariant.Controllers.{controllers_count}
-use Rattle.dali_events.proofs.Invariant.Keeping.{AllKeep, AreShort, keeping_step, keeps_start, records_of}
-use Rattle.dali_events.proofs.Invariant.Sending.{IsKnown, known_step, known_start}
-use Rattle.dali_events.proofs.Invariant.Gifts.{Gifts, IsOwned, Change, SameAddresses, no_change, frame_changes, gifts_step, gift_stays, one_holder}
-use Rattle.dali_events.proofs.Invariant.Arrived.{gifts_start}
-use Rattle.dali_events.proofs.Page.Sites.{apart_seen}
-use Rattle.dali_events.proofs.Page.Bridge.{Next}
-use Rattle.dali_events.proofs.Page.Frames.{stores_reserved, found_gear}
-use Rattle.dali_events.proofs.Page.Runs.{Leads, each_event, begins, leads_on, leads_to, safe_so, to_page, from_page}
+use Rattle.dali_statement.specs.Page.{Gear as PageGear, Moment, Site, start as page_start, after as page_after, are_apart}
+use Rattle.dali_statement.proofs.{Moved.At, Steps.Safe, Steps.told_gear, Whole.keeps_after, Whole.reserved_after}
+use Rattle.dali_events.specs.{Allowed.Allowed, Allowed.IsUp, Allowed.MaySend, Happens.happens, Happens.trace_running, Happens.gear_powered}
+use Rattle.dali_events.specs.{Happens.gear_interrupted, Page.plan_seen, Page.LeadsTo, Plan.Plan, Plan.IsPlan, Plan.numbers_of, Promise.HoldsShort}
+use Rattle.dali_events.specs.Promise.{KeepsPromiseNow, KeepsAddresses, KeepsPromiseFrom, KeepsPromise, Names, IsSafe, KeepsGifts, IsSafeFrom, IsSafeHistory}
+use Rattle.dali_events.specs.{Runs.after, Runs.after_all, Runs.AllAllowed, Runs.IsRun, Runs.LeavesUsed, World.World, World.gear_at, World.controller_at}
+use Rattle.dali_events.specs.{World.start, World.gear_changed, declared.event.Event.Event, declared.used.Used.Used}
+use Rattle.dali_events.proofs.Invariant.{Arrived.gifts_start, Controllers.controllers_count, Drawn.Draws, Drawn.HasDrawn, Drawn.draws_step, Drawn.draws_start}
+use Rattle.dali_events.proofs.Invariant.{Drawn.are_drawn, Gifts.Gifts, Gifts.IsOwned, Gifts.Change, Gifts.SameAddresses, Gifts.no_change, Gifts.frame_changes}
+use Rattle.dali_events.proofs.Invariant.{Gifts.gifts_step, Gifts.gift_stays, Gifts.one_holder, Growing.after_both, Growing.allowed_front, Growing.allowed_rest}
+use Rattle.dali_events.proofs.Invariant.{Growing.leaves_front, Growing.leaves_rest, Keeping.AllKeep, Keeping.AreShort, Keeping.keeping_step}
+use Rattle.dali_events.proofs.Invariant.{Keeping.keeps_start, Keeping.records_of, Sending.IsKnown, Sending.known_step, Sending.known_start}
+use Rattle.dali_events.proofs.Page.{Bridge.Next, Frames.stores_reserved, Frames.found_gear, Runs.Leads, Runs.each_event, Runs.begins, Runs.leads_on}
+use Rattle.dali_events.proofs.Page.{Runs.leads_to, Runs.safe_so, Runs.to_page, Runs.from_page, Sites.apart_seen}
+use Rattle.dali_events.specs.declared.event.Event.TheVariants as event
 
 -- THE INVARIANT of every run: its moments are a history of the page, from which the rest follows
 pub record Holds (p : Plan) (w : World) : Type 0 where

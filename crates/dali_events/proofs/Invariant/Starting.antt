@@ -1,15 +1,10 @@
-use Rattle.std.proofs.Common.{◌≡◌, ℕ, ◌<◌, ◌⊎◌, inl, inr, Bool, true, false, List, [], ◌∷◌, refl, sym, ap, subst, ◌∙◌, arith, length, length-set, map}
-use Rattle.std.proofs.Common.{get_or, set, get_or-set_same, get_or-set_other, nat_eq, replicate}
-use Rattle.std.proofs.lemmas.List.{length-replicate, get_or-replicate}
-use Rattle.std.proofs.lemmas.Bool.Decides.{nat_tests}
+use Rattle.std.proofs.Common.{◌≡◌, ℕ, ◌<◌, ◌⊎◌, inl, inr, Bool, true, false, List, [], ◌∷◌, refl, sym, ap, subst, ◌∙◌, arith, length, length-set, map, get_or}
+use Rattle.std.proofs.Common.{set, get_or-set_same, get_or-set_other, nat_eq, replicate}
+use Rattle.std.proofs.lemmas.{Bool.Decides.nat_tests, List.length-replicate, List.get_or-replicate}
 use Rattle.dali_gear.specs.Gear.{Gear, fresh}
-use Rattle.dali_script.specs.Records.{Has, IsOnce}
-use Rattle.dali_script.proofs.Lists.{has_map}
-use Rattle.dali_script.proofs.Members.{mapped_from}
-use Rattle.dali_events.specs.declared.used.Used.{Used}
-use Rattle.dali_events.specs.Used.{used_gear, used_shorts, used_randoms, gear_of_used, earlier_draw, earlier_gift, with_used}
-use Rattle.dali_events.specs.Plan.{Plan, AreUsed}
-use Rattle.dali_events.specs.World.{start}
+use Rattle.dali_script.{specs.Records.Has, specs.Records.IsOnce, proofs.Lists.has_map, proofs.Members.mapped_from}
+use Rattle.dali_events.specs.{Plan.Plan, Plan.AreUsed, Used.used_gear, Used.used_shorts, Used.used_randoms, Used.gear_of_used, Used.earlier_draw}
+use Rattle.dali_events.specs.{Used.earlier_gift, Used.with_used, World.start, declared.used.Used.Used}
 
 -- HOW A SITE BEGINS: its row of gear, with used ones in their places, and the numbers and addresses of before.
 

@@ -1,10 +1,8 @@
 use Rattle.std.proofs.Common.{◌≡◌, ℕ, ◌+◌, ◌<◌, ◌⊎◌, inl, inr, Bool, true, false, zero, suc, List, [], ◌∷◌, ◌++◌, refl, ap, subst, arith, length, map, get_or}
-use Rattle.std.proofs.Common.{add-zero, zero-add}
-use Rattle.std.specs.Prelude.{◌&&◌}
+use Rattle.std.proofs.Common.{add-zero, zero-add, ◌&&◌}
 use Rattle.dali_special.specs.declared.command.Command.{Command}
-use Rattle.dali_gear.specs.declared.row.Reach.{Reach}
-use Rattle.dali_gear.specs.Gear.{Gear, fresh, draws_a_number, gear_taken}
-use Rattle.dali_gear.specs.Row.{takes, next_draw, one_after, left_after, row_after, row_left, drawn_one, drawn_of}
+use Rattle.dali_gear.specs.{Gear.Gear, Gear.fresh, Gear.draws_a_number, Gear.gear_taken, Row.takes, Row.next_draw, Row.one_after, Row.left_after, Row.row_after}
+use Rattle.dali_gear.specs.{Row.row_left, Row.drawn_one, Row.drawn_of, declared.row.Reach.Reach}
 use Rattle.dali_script.specs.Records.{Has}
 
 -- WHAT A FRAME DOES TO GEAR k OF A ROW: it stays as it was, or takes the command and the number r, which it draws

@@ -1,26 +1,16 @@
-use Rattle.std.proofs.Common.{◌≡◌, ◌⊎◌, inl, inr, ℕ, ◌<◌, Bool, true, false, refl, sym, ap, subst, ◌∙◌, List, [], ◌∷◌, ◌++◌, map, Option, Some, None}
-use Rattle.std.proofs.Common.{length, get_or, set, filter, length-set}
+use Rattle.std.proofs.Common.{◌≡◌, ◌⊎◌, inl, inr, ℕ, ◌<◌, Bool, true, false, refl, sym, ap, subst, ◌∙◌, List, [], ◌∷◌, ◌++◌, map, Option, Some, None, length}
+use Rattle.std.proofs.Common.{get_or, set, filter, length-set, ◌==◌, ◌&&◌, ◌||◌, not, nat_lt, if◌then◌else◌}
 use Rattle.std.proofs.lemmas.List.{get_or-set_same, get_or-set_other}
-use Rattle.std.specs.Prelude.{◌==◌, ◌&&◌, ◌||◌, not, nat_lt, if◌then◌else◌}
-use Rattle.dali_script.specs.declared.finding.Finding.{Finding}
-use Rattle.dali_script.specs.declared.records.Record.{Record}
-use Rattle.dali_script.specs.declared.records.Record.TheVariants as record_of
-use Rattle.dali_script.specs.Records.{Assignment, Kept, Has, HasAddress, MayAdd, Fits, is_pair, without_pair, with_record}
 use Rattle.dali_script.specs.Findings.{Asked, nothing, high_byte, two_bytes, asked_of, assigned}
+use Rattle.dali_script.specs.Records.{Assignment, Kept, Has, HasAddress, MayAdd, Fits, is_pair, without_pair, with_record}
+use Rattle.dali_script.{specs.declared.finding.Finding.Finding, specs.declared.records.Record.Record, proofs.Lists.has_map}
 use Rattle.dali_script.proofs.Members.{Each, has_left, has_right, has_either}
-use Rattle.dali_script.proofs.Lists.{has_map}
-use Rattle.dali_events.specs.declared.used.Used.{Used}
-use Rattle.dali_events.specs.Plan.{Plan as SitePlan, IsPlan as IsSitePlan}
-use Rattle.dali_events.specs.Used.{used_shorts}
-use Rattle.dali_events.specs.World.{World, Controller, controller_at, nobody}
-use Rattle.dali_events.specs.Laws.{KeepsRecords}
-use Rattle.dali_statement.specs.Page.{Part, High, Middle, Low, byte, Moment, Reserves, Enrols, Releases, Site, all_allowed, after}
-use Rattle.dali_statement.specs.Gear.{gear_seen}
-use Rattle.dali_statement.specs.Scripts.{said_of}
-use Rattle.dali_events.specs.Page.{plan_seen}
+use Rattle.dali_script.specs.declared.records.Record.TheVariants as record_of
+use Rattle.dali_statement.specs.{Gear.gear_seen, Page.Part, Page.High, Page.Middle, Page.Low, Page.byte, Page.Moment, Page.Reserves, Page.Enrols, Page.Releases}
+use Rattle.dali_statement.{specs.Page.Site, specs.Page.all_allowed, specs.Page.after, specs.Scripts.said_of, proofs.Steps.Told, proofs.Steps.told_so}
 use Rattle.dali_statement.proofs.Tests.{first_of_both, second_of_both, first_of_either, equal, equals, some_is, holds_by, not_true}
-use Rattle.dali_statement.proofs.Steps.{Told, told_so}
-use Rattle.dali_events.proofs.Page.Sites.{reserve_allowed}
+use Rattle.dali_events.specs.{Laws.KeepsRecords, Page.plan_seen, Plan.Plan as SitePlan, Plan.IsPlan as IsSitePlan, Used.used_shorts, World.World}
+use Rattle.dali_events.{specs.World.Controller, specs.World.controller_at, specs.World.nobody, specs.declared.used.Used.Used, proofs.Page.Sites.reserve_allowed}
 
 -- A SITE AS THE PAGE SEES IT, and a record that is kept.
 
@@ -158,11 +148,6 @@ uninformed p w s c seen there = record {
   own = seen.each c there;
   others = λ d here other. seen.each d here;
 }
-
--- the outstanding record is dropped
-dropped : {us : List Used} {reserved : ℕ → Option ℕ} {enrolled : ℕ → ℕ → Bool} {told : Told} {kept : Kept} {o : Option Record} {f : Option Finding}
-    → By us reserved enrolled told kept o f → By us reserved enrolled told kept None f
-dropped k = record { to = k.to; from = k.from; tables = k.tables; found = k.found; ordered = λ x e. absurd (cc) }
 
 module _ (p : SitePlan) (plan : IsSitePlan p) (w : World) (s : Site) (c : ℕ) (seen : Seen p w s) (records : KeepsRecords p w)
     (there : c < length w.controllers) where

@@ -1,37 +1,23 @@
-use Rattle.std.proofs.Common.{◌≡◌, ℕ, zero, suc, ◌<◌, Bool, true, false, refl, sym, ap, subst, ◌∙◌, List, [], ◌∷◌, ◌++◌, map, Option, Some, None}
-use Rattle.std.proofs.Common.{length, get_or, set, length-set}
-use Rattle.std.specs.Prelude.{◌&&◌, if◌then◌else◌}
+use Rattle.std.proofs.Common.{◌≡◌, ℕ, zero, suc, ◌<◌, Bool, true, false, refl, sym, ap, subst, ◌∙◌, List, [], ◌∷◌, ◌++◌, map, Option, Some, None, length}
+use Rattle.std.proofs.Common.{get_or, set, length-set, ◌&&◌, if◌then◌else◌}
 use Rattle.dali_frame.specs.declared.frames.Forward.{Forward}
 use Rattle.dali_gear.specs.Gear.{Gear as Real, fresh, with_power, without_power, gear_expired, gear_quieted}
 use Rattle.dali_arbiter.specs.Arbiter.{Arbiter, owns, bus_freed, bus_muted, bus_lapsed}
-use Rattle.dali_script.specs.declared.records.Record.{Record}
-use Rattle.dali_script.specs.declared.records.Record.TheVariants as record_of
-use Rattle.dali_script.specs.Records.{Kept}
-use Rattle.dali_script.specs.declared.finding.Finding.{Finding}
-use Rattle.dali_script.specs.declared.orders.Input.{Input}
+use Rattle.dali_script.specs.{Findings.asked_of, Findings.assigned, Records.Kept, declared.finding.Finding.Finding, declared.orders.Input.Input}
+use Rattle.dali_script.specs.declared.orders.Order.{Order, TheVariants.Put, TheVariants.Commit, TheVariants.Done, TheVariants.Halt}
+use Rattle.dali_script.{specs.declared.records.Record.Record, proofs.Members.Each, proofs.Members.each_changed}
 use Rattle.dali_script.specs.declared.orders.Input.TheVariants as input
-use Rattle.dali_script.specs.declared.orders.Order.{Order}
-use Rattle.dali_script.specs.declared.orders.Order.TheVariants.{Put, Commit, Done, Halt}
-use Rattle.dali_script.specs.Findings.{asked_of, assigned}
-use Rattle.dali_script.proofs.Members.{Each, each_changed}
-use Rattle.dali_events.specs.declared.event.Event.TheVariants as event
-use Rattle.dali_events.specs.declared.used.Used.{Used}
-use Rattle.dali_events.specs.Plan.{Plan as SitePlan, IsPlan as IsSitePlan}
-use Rattle.dali_events.specs.World.{World, Controller, controller_at, controllers_changed, nobody}
-use Rattle.dali_events.specs.Happens.{happens as site_after, with_outstanding, kept_after, outstanding_told, outstanding_after, controller_acted, gives_up}
-use Rattle.dali_events.specs.Happens.{put_after}
-use Rattle.dali_events.specs.Happens.{owner_told, told_lapsed, told_destroyed, gone_down, come_up, gear_interrupted, controller_informed}
+use Rattle.dali_script.specs.declared.records.Record.TheVariants as record_of
+use Rattle.dali_statement.specs.{Gear.gear_seen, Page.Gear, Page.Moment, Page.Ends, Page.Power, Page.Expires, Page.Site, Page.all_allowed, Page.allowed}
+use Rattle.dali_statement.specs.{Page.befalls, Page.after, Page.happens as page_after, Scripts.said_of}
+use Rattle.dali_statement.proofs.{Gear.power_on, Gear.expired, Steps.Told, Steps.told_so, Tests.first_of_both, Tests.second_of_both, Tests.some_is}
 use Rattle.dali_events.specs.Allowed.{MayOrder, MayCommit}
-use Rattle.dali_events.specs.Runs.{LeavesUsed}
-use Rattle.dali_events.specs.Laws.{KeepsRecords}
-use Rattle.dali_statement.specs.Page.{Gear, Moment, Ends, Power, Expires, Site, all_allowed, allowed, befalls, after, happens as page_after}
-use Rattle.dali_statement.specs.Gear.{gear_seen}
-use Rattle.dali_statement.specs.Scripts.{said_of}
-use Rattle.dali_events.specs.Page.{plan_seen}
-use Rattle.dali_statement.proofs.Tests.{first_of_both, second_of_both, some_is}
-use Rattle.dali_statement.proofs.Gear.{power_on, expired}
-use Rattle.dali_statement.proofs.Steps.{Told, told_so}
+use Rattle.dali_events.specs.Happens.{happens as site_after, with_outstanding, kept_after, outstanding_told, outstanding_after, controller_acted, gives_up}
+use Rattle.dali_events.specs.Happens.{put_after, owner_told, told_lapsed, told_destroyed, gone_down, come_up, gear_interrupted, controller_informed}
+use Rattle.dali_events.specs.{Laws.KeepsRecords, Page.plan_seen, Plan.Plan as SitePlan, Plan.IsPlan as IsSitePlan, Runs.LeavesUsed, World.World}
+use Rattle.dali_events.specs.{World.Controller, World.controller_at, World.controllers_changed, World.nobody, declared.used.Used.Used}
 use Rattle.dali_events.proofs.Page.Bridge.{Ordered, AskedSo, SeenBy, Seen, Next, Informed, each_of, uninformed, informed}
+use Rattle.dali_events.specs.declared.event.Event.TheVariants as event
 
 -- EACH EVENT but frames, as moments of the page.
 
@@ -127,9 +113,6 @@ gone : (us : List Used) (s : Site) (c : ℕ) (k : Controller) → SeenBy us s c 
 gone us s c k one = record { to = one.to; from = one.from; tables = one.tables; found = λ x e. absurd (none_found e); ordered = one.ordered }
 
 module _ (p : SitePlan) (plan : IsSitePlan p) (w : World) (s : Site) (seen : Seen p w s) where
-  abbrev All : List Controller → Type 0
-  All ks = Each nobody (SeenBy p.used s) ks
-
   pub lapsed : Next p (site_after w event.Lapsed) s
   lapsed = ended p w (site_after w event.Lapsed) s seen (counted w.bus.owner) refl refl refl (told w.bus.owner) where
     told : (o : Option ℕ) → Each nobody (SeenBy p.used s) (owner_told w.controllers o)

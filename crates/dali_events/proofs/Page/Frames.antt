@@ -1,53 +1,31 @@
 use Rattle.std.proofs.Common.{◌≡◌, ◌⊎◌, length, inl, inr, ℕ, zero, suc, ◌<◌, Bool, true, false, refl, sym, ap, subst, ◌∙◌, List, [], ◌∷◌, ◌++◌, map, Option}
-use Rattle.std.proofs.Common.{Some, None}
-use Rattle.std.proofs.Common.{length-set}
-use Rattle.std.specs.Prelude.{◌==◌, ◌&&◌, ◌||◌, if◌then◌else◌, option_map, unwrap_or, IfSome, slice_get}
-use Rattle.std.specs.List.{AllByRecursion}
-use Rattle.dali_frame.specs.declared.frames.Forward.{Forward}
-use Rattle.dali_frame.specs.declared.frames.Answer.{Answer}
+use Rattle.std.proofs.Common.{Some, None, length-set, ◌==◌, ◌&&◌, ◌||◌, if◌then◌else◌, option_map, IfSome, slice_get}
+use Rattle.std.specs.{List.AllByRecursion, Prelude.unwrap_or}
+use Rattle.dali_frame.specs.{Random.value_of, Random.number_of, Short.short_of, declared.frames.Answer.Answer, declared.frames.Forward.Forward}
 use Rattle.dali_frame.specs.declared.frames.Answer.TheVariants as answer
-use Rattle.dali_frame.specs.Random.{value_of, number_of}
-use Rattle.dali_frame.specs.Short.{short_of}
-use Rattle.dali_special.specs.declared.command.Part.TheVariants as asked
-use Rattle.dali_special.specs.declared.command.Command.{Command as Read}
-use Rattle.dali_special.specs.declared.command.Command.TheVariants as read
-use Rattle.dali_special.specs.Command.{command_of, is_send_twice, IsSpelled}
+use Rattle.dali_special.specs.{Command.command_of, Command.is_send_twice, Command.IsSpelled, declared.command.Command.Command as Read}
 use Rattle.dali_special.proofs.Table.{read_spelled, short_small}
-use Rattle.dali_gear.specs.declared.gear_set.GearSet.{GearSet}
-use Rattle.dali_gear.specs.declared.row.Reach.TheVariants.{Everyone, Only}
-use Rattle.dali_gear.specs.Gear.{Gear as Real, fresh, is_active, is_found}
-use Rattle.dali_gear.specs.Row.{row_after, stored_short, answers_of}
+use Rattle.dali_special.specs.declared.command.Command.TheVariants as read
+use Rattle.dali_special.specs.declared.command.Part.TheVariants as asked
+use Rattle.dali_gear.specs.{Gear.Gear as Real, Gear.fresh, Gear.is_active, Gear.is_found, Row.row_after, Row.stored_short, Row.answers_of}
+use Rattle.dali_gear.specs.declared.{gear_set.GearSet.GearSet, row.Reach.TheVariants.Everyone, row.Reach.TheVariants.Only}
 use Rattle.dali_arbiter.specs.Arbiter.{owns, bus_sent}
-use Rattle.dali_script.specs.declared.finding.Finding.{Finding}
-use Rattle.dali_script.specs.declared.finding.Finding.TheVariants.{Queried, Resolved}
-use Rattle.dali_script.specs.declared.trace.Entry.{Entry}
-use Rattle.dali_script.specs.Records.{Has}
 use Rattle.dali_script.specs.Findings.{Asked, nothing, high_byte, two_bytes, asked_of, asked_after, search_of, found_by, spelled_by, assigned, later}
-use Rattle.dali_script.specs.Scripts.{Lawful}
-use Rattle.dali_script.proofs.Found.{asked_more}
-use Rattle.dali_script.proofs.Members.{Each, each_changed}
+use Rattle.dali_script.specs.{Records.Has, Scripts.Lawful}
+use Rattle.dali_script.specs.declared.finding.Finding.{Finding, TheVariants.Queried, TheVariants.Resolved}
+use Rattle.dali_script.{specs.declared.trace.Entry.Entry, proofs.Found.asked_more, proofs.Members.Each, proofs.Members.each_changed}
+use Rattle.dali_statement.specs.{Gear.command_seen, Gear.gear_seen, Gear.HasShort, Page.Part, Page.High}
+use Rattle.dali_statement.specs.Page.{Middle, Low, same, byte, Command, Terminate, Initialise, Randomise, Search, Program, QueryShort, QueryRandom, Other, Gear}
+use Rattle.dali_statement.specs.Page.{takes, Heard, Byte, Nothing, Destroyed, Moment, Sent, Ends, Site, allowed, befalls, gear_after, may_miss, may_send, hears}
+use Rattle.dali_statement.specs.{Page.are_apart, Page.tells, Page.happens, Scripts.heard_seen, Scripts.entry_seen, Scripts.said_on, Scripts.said_of}
+use Rattle.dali_statement.proofs.{Gear.found, Moved.At, One.IsShort, One.vacant_by, Rows.sent_to_all, Rows.reached, Rows.heard, Scripts.rules_kept}
+use Rattle.dali_statement.proofs.{Scripts.query_tells, Steps.Safe, Steps.Told, Steps.told_so, Steps.IsTrue, Steps.told_by, Steps.told_true, Steps.bytes_tell}
+use Rattle.dali_statement.proofs.{Tests.placed, Tests.either, Tests.first_of_either, Tests.equal, Tests.equals, Tests.below_by, Tests.some_is, Whole.frame_goes}
+use Rattle.dali_events.specs.{Allowed.IsUp, Allowed.MaySend, Allowed.Hears, Happens.happens as site_after, Happens.trace_running, Happens.entry}
+use Rattle.dali_events.specs.{Happens.goes_on, Happens.taken_by, Happens.told_sent, Happens.told_destroyed, Page.plan_seen, Plan.Plan as SitePlan, World.World}
+use Rattle.dali_events.{specs.World.gear_at, specs.World.controller_at, specs.World.controllers_changed, specs.World.nobody, proofs.Invariant.Sending.lawful_of}
+use Rattle.dali_events.proofs.Page.{Bridge.More, Bridge.by_more, Bridge.AskedSo, Bridge.SeenBy, Bridge.Seen, Bridge.Next, Bridge.each_of, Sites.turn_kept}
 use Rattle.dali_events.specs.declared.event.Event.TheVariants as event
-use Rattle.dali_events.specs.Plan.{Plan as SitePlan}
-use Rattle.dali_events.specs.World.{World, gear_at, controller_at, controllers_changed, nobody}
-use Rattle.dali_events.specs.Happens.{happens as site_after, trace_running, entry, goes_on, taken_by, told_sent, told_destroyed}
-use Rattle.dali_events.specs.Allowed.{IsUp, MaySend, Hears}
-use Rattle.dali_statement.specs.Page.{Part, High, Middle, Low, same, byte, Command, Terminate, Initialise, Randomise, Search, Program, QueryShort, QueryRandom}
-use Rattle.dali_statement.specs.Page.{Other, Gear, takes, Heard, Byte, Nothing, Destroyed, Moment, Sent, Ends}
-use Rattle.dali_statement.specs.Page.{Site, allowed, befalls, gear_after, may_miss, may_send, hears, are_apart, tells, happens}
-use Rattle.dali_statement.specs.Gear.{command_seen, gear_seen, HasShort}
-use Rattle.dali_statement.specs.Scripts.{heard_seen, entry_seen, said_on, said_of}
-use Rattle.dali_events.specs.Page.{plan_seen}
-use Rattle.dali_statement.proofs.Tests.{placed, either, first_of_either, equal, equals, below_by, some_is}
-use Rattle.dali_statement.proofs.One.{IsShort, vacant_by}
-use Rattle.dali_statement.proofs.Moved.{At}
-use Rattle.dali_statement.proofs.Steps.{Safe, Told, told_so, IsTrue, told_by, told_true, bytes_tell}
-use Rattle.dali_statement.proofs.Whole.{frame_goes}
-use Rattle.dali_statement.proofs.Gear.{found}
-use Rattle.dali_statement.proofs.Rows.{sent_to_all, reached, heard}
-use Rattle.dali_statement.proofs.Scripts.{rules_kept, query_tells}
-use Rattle.dali_events.proofs.Invariant.Sending.{lawful_of}
-use Rattle.dali_events.proofs.Page.Sites.{turn_kept}
-use Rattle.dali_events.proofs.Page.Bridge.{More, by_more, AskedSo, SeenBy, Seen, Next, each_of}
 
 -- FRAMES OF A SITE, as moments of the page.
 
@@ -261,9 +239,6 @@ module _ (p : SitePlan) (w : World) (s : Site) (seen : Seen p w s) (safe : Safe 
 
     more : More s.told told_now
     more q a v e = first_of_either (s.told q a v) _ e
-
-    asked_was : AskedSo s.told (asked_of w.trace)
-    asked_was = seen.asked
 
     -- what a finding says was told
     found_told : (x : Read) → command_of f ≡ x → (g : Answer) → h ≡ g → (y : Finding) → found_by (search_of w.trace) (asked_of w.trace) x g ≡ Some y

@@ -1,27 +1,15 @@
-use Rattle.std.proofs.Common.{◌≡◌, ℕ, ◌<◌, Bool, true, refl, sym, subst, List, [], ◌∷◌, ◌++◌, map}
-use Rattle.std.proofs.Common.{get_or, length, ap, ◌∙◌, Some}
+use Rattle.std.proofs.Common.{◌≡◌, ℕ, ◌<◌, Bool, true, refl, sym, subst, List, [], ◌∷◌, ◌++◌, map, get_or, length, ap, ◌∙◌, Some, ◌&&◌, slice_get}
 use Rattle.std.proofs.lemmas.List.{length-map, get_or-map}
-use Rattle.std.specs.Prelude.{◌&&◌, slice_get}
-use Rattle.dali_events.specs.declared.event.Event.{Event}
-use Rattle.dali_events.specs.declared.event.Event.TheVariants as event
-use Rattle.dali_events.specs.Plan.{Plan as SitePlan, IsPlan as IsSitePlan, no_block}
-use Rattle.dali_events.specs.Promise.{HoldsShort}
 use Rattle.dali_gear.specs.Gear.{fresh}
-use Rattle.dali_events.specs.World.{World, gear_at, controller_begun, nobody, start as site_start}
-use Rattle.dali_events.specs.Happens.{happens as site_after}
-use Rattle.dali_events.specs.Allowed.{Allowed}
-use Rattle.dali_events.specs.Laws.{KeepsRecords}
-use Rattle.dali_events.specs.Runs.{LeavesUsed}
-use Rattle.dali_statement.specs.Page.{Moment, Plan, Gear, Site, start, all_allowed, are_apart, after, happens}
-use Rattle.dali_statement.specs.Gear.{gear_seen}
-use Rattle.dali_events.specs.Page.{plan_seen, LeadsTo}
-use Rattle.dali_statement.proofs.Tests.{first_of_both, second_of_both, mapped_at, at_index, placed}
-use Rattle.dali_statement.proofs.Steps.{Safe}
-use Rattle.dali_statement.proofs.Whole.{starts, safe_after, after_both}
-use Rattle.dali_events.proofs.Page.Sites.{plan_is_seen}
-use Rattle.dali_events.proofs.Page.Bridge.{SeenBy, Seen, Next}
-use Rattle.dali_events.proofs.Page.Events.{lapsed, down, power, expires, up, acted, collided, quiet, foreign, offered}
-use Rattle.dali_events.proofs.Page.Frames.{sent, destroyed}
+use Rattle.dali_statement.specs.{Gear.gear_seen, Page.Moment, Page.Plan, Page.Gear, Page.Site, Page.start, Page.all_allowed, Page.are_apart, Page.after}
+use Rattle.dali_statement.{specs.Page.happens, proofs.Steps.Safe, proofs.Tests.first_of_both}
+use Rattle.dali_statement.proofs.{Tests.second_of_both, Tests.mapped_at, Tests.at_index, Tests.placed, Whole.starts, Whole.safe_after, Whole.after_both}
+use Rattle.dali_events.specs.{Allowed.Allowed, Happens.happens as site_after, Laws.KeepsRecords, Page.plan_seen, Page.LeadsTo, Plan.Plan as SitePlan}
+use Rattle.dali_events.specs.{Plan.IsPlan as IsSitePlan, Plan.no_block, Promise.HoldsShort, Runs.LeavesUsed, World.World, World.gear_at, World.controller_begun}
+use Rattle.dali_events.specs.{World.nobody, World.start as site_start, declared.event.Event.Event}
+use Rattle.dali_events.proofs.Page.{Bridge.SeenBy, Bridge.Seen, Bridge.Next, Events.lapsed, Events.down, Events.power, Events.expires, Events.up, Events.acted}
+use Rattle.dali_events.proofs.Page.{Events.collided, Events.quiet, Events.foreign, Events.offered, Frames.sent, Frames.destroyed, Sites.plan_is_seen}
+use Rattle.dali_events.specs.declared.event.Event.TheVariants as event
 
 -- EACH EVENT IS MOMENTS OF THE PAGE, and a run is a history.
 

@@ -1,39 +1,23 @@
 use Rattle.std.proofs.Common.{◌≡◌, ℕ, ◌<◌, ◌⊎◌, inl, inr, Bool, true, false, List, [], ◌∷◌, ◌++◌, refl, sym, ap, subst, ◌∙◌, length, get_or, Some, None}
-use Rattle.std.specs.Prelude.{if◌then◌else◌}
-use Rattle.dali_frame.specs.declared.frames.Forward.{Forward}
-use Rattle.dali_frame.specs.declared.frames.Answer.{Answer}
-use Rattle.dali_frame.specs.declared.numbers.SearchAddress.{SearchAddress}
-use Rattle.dali_frame.specs.Random.{value_of}
-use Rattle.dali_special.specs.declared.command.Command.{Command}
-use Rattle.dali_special.specs.declared.command.Part.TheVariants.{High}
+use Rattle.std.proofs.Common.{if◌then◌else◌}
+use Rattle.dali_frame.specs.{Random.value_of, declared.frames.Answer.Answer, declared.frames.Forward.Forward, declared.numbers.SearchAddress.SearchAddress}
+use Rattle.dali_special.specs.{Command.command_of, declared.command.Command.Command}
 use Rattle.dali_special.specs.declared.command.Command.TheVariants.{Terminate, Randomise, SearchHigh, RandomByte, Arc}
-use Rattle.dali_special.specs.Command.{command_of}
-use Rattle.dali_gear.specs.declared.row.Reach.TheVariants.{Everyone}
+use Rattle.dali_special.specs.declared.command.Part.TheVariants.{High}
 use Rattle.dali_gear.specs.Gear.{Gear, fresh, half_after, gear_expired, gear_quieted}
-use Rattle.dali_gear.specs.Row.{takes, row_after, drawn_of}
-use Rattle.dali_script.specs.declared.block.Block.{Block}
-use Rattle.dali_script.specs.declared.trace.Entry.{Entry}
-use Rattle.dali_script.specs.declared.stage.Stage.{Stage}
+use Rattle.dali_gear.specs.{Row.takes, Row.row_after, Row.drawn_of, declared.row.Reach.TheVariants.Everyone}
+use Rattle.dali_script.specs.{Records.Assignment, Scripts.IsFirst, Stages.Follows, Stages.stage_of, Stages.IsBeforeDraw, declared.block.Block.Block}
+use Rattle.dali_script.{specs.declared.stage.Stage.Stage, specs.declared.trace.Entry.Entry, proofs.Firsts.first_for_all, proofs.Members.Each}
+use Rattle.dali_script.proofs.{Members.each_changed, Members.each_map, Transactions.stage_none, Transactions.follows_lawful, Transactions.randomise_at}
 use Rattle.dali_script.specs.declared.stage.Stage.TheVariants as stage
-use Rattle.dali_script.specs.Records.{Assignment}
-use Rattle.dali_script.specs.Scripts.{IsFirst}
-use Rattle.dali_script.specs.Stages.{Follows, stage_of, IsBeforeDraw}
-use Rattle.dali_script.proofs.Transactions.{stage_none, follows_lawful, randomise_at}
-use Rattle.dali_script.proofs.Firsts.{first_for_all}
-use Rattle.dali_events.specs.declared.event.Event.{Event}
-use Rattle.dali_events.specs.declared.event.Event.TheVariants as event
-use Rattle.dali_events.specs.Plan.{Plan}
-use Rattle.dali_events.specs.World.{World, gear_at, controller_at, start}
+use Rattle.dali_events.specs.{Allowed.Allowed, Allowed.MaySend, Events.frame_in}
 use Rattle.dali_events.specs.Happens.{happens, trace_running, entry, goes_on, gear_powered, gear_interrupted}
-use Rattle.dali_events.specs.Allowed.{Allowed, MaySend}
-use Rattle.dali_events.specs.Runs.{after, after_all, AllAllowed, IsRun}
-use Rattle.dali_events.specs.Events.{frame_in}
-use Rattle.dali_events.specs.Searching.{EachPowered, EachActive, number_at}
-use Rattle.dali_events.proofs.Invariant.Growing.{after_more, allowed_front, last_allowed}
-use Rattle.dali_script.proofs.Members.{Each, each_changed, each_map}
-use Rattle.dali_events.proofs.Invariant.Takes.{Moved, stays, goes, moves_at, row_length}
-use Rattle.dali_events.proofs.Invariant.Known.{Knows, IsActive, Unnumbered}
+use Rattle.dali_events.specs.{Plan.Plan, Runs.after, Runs.after_all, Runs.AllAllowed, Runs.IsRun, Searching.EachPowered, Searching.EachActive}
+use Rattle.dali_events.specs.{Searching.number_at, World.World, World.gear_at, World.controller_at, World.start, declared.event.Event.Event}
+use Rattle.dali_events.proofs.Invariant.{Growing.after_more, Growing.allowed_front, Growing.last_allowed, Known.Knows, Known.IsActive, Known.Unnumbered}
 use Rattle.dali_events.proofs.Invariant.Sending.{IsKnown, known_after, lawful_of, follows_of, knows_running, powered_takes}
+use Rattle.dali_events.proofs.Invariant.Takes.{Moved, stays, goes, moves_at, row_length}
+use Rattle.dali_events.specs.declared.event.Event.TheVariants as event
 
 -- NO HALF PAIR AFTER A FIRST FRAME
 abbrev pub Whole : ℕ → Gear → Type 0

@@ -1,14 +1,9 @@
-use Rattle.std.proofs.Common.{◌≡◌, ℕ, ◌<◌, Bool, true, List, refl, sym, subst, ◌∙◌, length}
-use Rattle.std.specs.Prelude.{◌&&◌}
+use Rattle.std.proofs.Common.{◌≡◌, ℕ, ◌<◌, true, List, refl, sym, subst, ◌∙◌, length}
 use Rattle.std.specs.List.{count_by}
 use Rattle.dali_frame.specs.Random.{MASK24}
 use Rattle.dali_special.specs.declared.command.Command.{Command}
 use Rattle.dali_special.specs.declared.command.Command.TheVariants.{Terminate, Initialise, Randomise, Withdraw, Program, SearchHigh, SearchMiddle}
-use Rattle.dali_gear.specs.declared.state.InitialisationState.{InitialisationState}
-use Rattle.dali_gear.specs.declared.state.InitialisationState.TheVariants.{Disabled, Enabled, Withdrawn}
-use Rattle.dali_gear.specs.declared.row.Reach.TheVariants.{Everyone}
-use Rattle.dali_gear.specs.Gear.{Gear, is_enabled, is_active, gear_taken}
-use Rattle.dali_gear.specs.Row.{row_after}
+use Rattle.dali_gear.specs.{Gear.Gear, Gear.is_active, Gear.gear_taken, Row.row_after, declared.row.Reach.TheVariants.Everyone}
 use Rattle.dali_events.specs.Wanted.{is_wanted, wants, is_bare, gear_of, OfPowered, IsOpened, NoneNamed, NoneNamedBut}
 use Rattle.dali_events.proofs.Invariant.Takes.{row_length}
 use Rattle.dali_events.proofs.Search.Wanted.{Enabling, Drawing, Unnamed, UnnamedBut, count_same, powered_over, wants_same, after_at}
@@ -109,11 +104,6 @@ count_bare_after c gs left leaves =
     (λ k h. bare_by (gear_of gs k) (gear_of (row_after Everyone c 0 gs left) k) (short_after_all c gs left leaves k h)) where
       bare_by : (g h : Gear) → SameShort g h → is_bare h ≡ is_bare g
       bare_by g h same = rw (same.0, same.1) refl
-
-enabled_active : (s : InitialisationState) (f : Bool) → (is_enabled s && f) ≡ true → is_active s ≡ true
-enabled_active Disabled f e = absurd (cc)
-enabled_active Enabled f e = refl
-enabled_active Withdrawn f e = refl
 
 -- THE THREE FRAMES of a search address
 abbrev pub SeekHigh : List Gear → ℕ → Type 0

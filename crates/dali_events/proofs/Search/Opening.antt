@@ -1,30 +1,19 @@
 use Rattle.std.proofs.Common.{◌≡◌, ℕ, ◌+◌, ◌<◌, ◌≤◌, ◌⊎◌, inl, inr, Bool, true, false, zero, suc, List, [], ◌∷◌, refl, sym, subst, arith, length, get_or}
-use Rattle.std.proofs.Common.{Option, Some, None, add-zero, zero-add}
-use Rattle.std.specs.Prelude.{◌-◌, ◌&&◌, ◌==◌, if◌then◌else◌, unwrap_or}
-use Rattle.dali_frame.specs.declared.frames.Answer.{Answer}
-use Rattle.dali_frame.specs.declared.frames.Answer.TheVariants.{Silence, Byte, Damaged}
-use Rattle.dali_frame.specs.declared.numbers.SearchAddress.{SearchAddress}
-use Rattle.dali_frame.specs.Short.{short_of}
-use Rattle.dali_frame.specs.Random.{value_of, MASK24}
-use Rattle.dali_special.specs.declared.command.Part.TheVariants.{High, Middle, Low}
-use Rattle.dali_special.specs.declared.command.Target.TheVariants.{Unaddressed}
-use Rattle.dali_special.specs.declared.command.Command.{Command}
-use Rattle.dali_special.specs.declared.command.Command.TheVariants.{Terminate, Initialise, Randomise, Withdraw, SearchHigh, SearchMiddle, SearchLow, Program}
-use Rattle.dali_special.specs.declared.command.Command.TheVariants.{QueryShort}
-use Rattle.dali_special.specs.declared.command.Command.TheVariants.{Compare, RandomByte}
+use Rattle.std.proofs.Common.{Option, Some, None, add-zero, zero-add, ◌-◌, ◌&&◌, ◌==◌, if◌then◌else◌}
+use Rattle.std.specs.Prelude.{unwrap_or}
+use Rattle.dali_frame.specs.{Random.value_of, Random.MASK24, Short.short_of, declared.frames.Answer.Answer, declared.frames.Answer.TheVariants.Silence}
+use Rattle.dali_frame.specs.declared.{frames.Answer.TheVariants.Byte, frames.Answer.TheVariants.Damaged, numbers.SearchAddress.SearchAddress}
 use Rattle.dali_special.specs.Command.{MASK}
-use Rattle.dali_gear.specs.declared.state.InitialisationState.TheVariants.{Enabled, Withdrawn}
-use Rattle.dali_gear.specs.declared.row.Reach.{Reach}
+use Rattle.dali_special.specs.declared.command.Command.{Command, TheVariants.Terminate, TheVariants.Initialise, TheVariants.Randomise}
+use Rattle.dali_special.specs.declared.command.Command.TheVariants.{Withdraw, SearchHigh, SearchMiddle, SearchLow, Program, QueryShort, Compare, RandomByte}
+use Rattle.dali_special.specs.declared.command.{Part.TheVariants.High, Part.TheVariants.Middle, Part.TheVariants.Low, Target.TheVariants.Unaddressed}
 use Rattle.dali_gear.specs.Gear.{Gear, fresh, is_active, is_enabled, is_found, is_second, concerns, draws_a_number, gear_taken, state_after, short_after}
-use Rattle.dali_gear.specs.Gear.{half_after}
-use Rattle.dali_gear.specs.Row.{takes, left_after, row_after, drawn_one, drawn_of, draws_needed}
-use Rattle.dali_script.specs.declared.block.Block.{Block}
-use Rattle.dali_script.specs.declared.stage.Stage.{Stage}
-use Rattle.dali_script.specs.declared.stage.Stage.TheVariants as stage
-use Rattle.dali_script.specs.Records.{Assignment, Has}
-use Rattle.dali_script.specs.Scripts.{is_asking}
-use Rattle.dali_script.proofs.Transactions.{asks_hunting}
+use Rattle.dali_gear.specs.{Gear.half_after, Row.takes, Row.left_after, Row.row_after, Row.drawn_one, Row.drawn_of, Row.draws_needed, declared.row.Reach.Reach}
+use Rattle.dali_gear.specs.declared.state.InitialisationState.TheVariants.{Enabled, Withdrawn}
+use Rattle.dali_script.specs.{Records.Assignment, Records.Has, Scripts.is_asking}
 use Rattle.dali_script.specs.Stages.{Follows, next_stage, hunted, doubted, queried, named, verified, answered, bytes_heard, number_heard}
+use Rattle.dali_script.{specs.declared.block.Block.Block, specs.declared.stage.Stage.Stage, proofs.Transactions.asks_hunting}
+use Rattle.dali_script.specs.declared.stage.Stage.TheVariants as stage
 use Rattle.dali_events.proofs.Invariant.Known.{Knows, IsActive, found_random}
 
 -- WITH NUMBERS ENOUGH, who would draw draws one of them

@@ -1,32 +1,18 @@
-use Rattle.std.proofs.Common.{◌≡◌, ℕ, ◌⊎◌, inl, inr, true, List, [], ◌∷◌, ◌++◌, refl, sym, ap, subst, ◌∙◌, arith, append_assoc, append-nil, Some, None}
-use Rattle.std.specs.Prelude.{◌==◌}
-use Rattle.std.specs.List.{AllByRecursion}
-use Rattle.std.proofs.lemmas.Bool.Decides.{nat_tests}
-use Rattle.dali_frame.specs.declared.frames.Answer.{Answer}
-use Rattle.dali_frame.specs.declared.frames.Answer.TheVariants.{Silence}
-use Rattle.dali_frame.specs.declared.numbers.SearchAddress.{SearchAddress}
+use Rattle.std.proofs.Common.{◌≡◌, ℕ, ◌⊎◌, inl, inr, true, List, [], ◌∷◌, ◌++◌, refl, sym, ap, subst, ◌∙◌, arith, append_assoc, append-nil, Some, None, ◌==◌}
+use Rattle.std.{proofs.lemmas.Bool.Decides.nat_tests, specs.List.AllByRecursion}
 use Rattle.dali_frame.specs.Random.{value_of, MASK24}
-use Rattle.dali_special.specs.declared.command.Target.TheVariants.{Unaddressed}
-use Rattle.dali_special.specs.declared.command.Command.TheVariants.{Terminate, Initialise, Compare, SearchHigh, SearchMiddle, SearchLow}
+use Rattle.dali_frame.specs.declared.{frames.Answer.Answer, frames.Answer.TheVariants.Silence, numbers.SearchAddress.SearchAddress}
 use Rattle.dali_special.specs.Command.{command_of}
-use Rattle.dali_script.specs.declared.stage.Stage.{Stage}
+use Rattle.dali_special.specs.declared.command.Command.TheVariants.{Terminate, Initialise, Compare, SearchHigh, SearchMiddle, SearchLow}
+use Rattle.dali_special.specs.declared.command.Target.TheVariants.{Unaddressed}
+use Rattle.dali_script.specs.{Scripts.IsFront, Stages.stage_of, declared.orders.Input.Input, declared.orders.Order.Order, declared.stage.Stage.Stage}
 use Rattle.dali_script.specs.declared.stage.Stage.TheVariants.{Terminated, InitialisedOnce, Initialised, WokenHigh, WokenLow, Hunted}
 use Rattle.dali_script.specs.declared.trace.Entry.{Entry}
-use Rattle.dali_script.specs.Scripts.{IsFront}
-use Rattle.dali_script.specs.declared.orders.Input.{Input}
-use Rattle.dali_script.specs.declared.orders.Order.{Order}
-use Rattle.dali_script.specs.Stages.{stage_of}
-use Rattle.dali_events.specs.declared.event.Event.{Event}
-use Rattle.dali_events.specs.declared.event.Event.TheVariants as event
-use Rattle.dali_events.specs.Plan.{Plan}
-use Rattle.dali_events.specs.World.{World, start}
-use Rattle.dali_events.specs.Happens.{happens, trace_running}
-use Rattle.dali_events.specs.Runs.{after, after_all, IsRun}
-use Rattle.dali_events.specs.Searching.{sent_event}
 use Rattle.dali_events.specs.Calling.{Runs, RunsOn, Calls, Orders, HasCalled, roll_call}
-use Rattle.dali_events.proofs.Invariant.Growing.{after_both, allowed_front, leaves_front}
-use Rattle.dali_events.proofs.Search.Called.{called}
-use Rattle.dali_events.proofs.Search.Traced.{IsAmong, traced, runs_part}
+use Rattle.dali_events.specs.{Happens.happens, Happens.trace_running, Plan.Plan, Runs.after, Runs.after_all, Runs.IsRun, Searching.sent_event, World.World}
+use Rattle.dali_events.{specs.World.start, specs.declared.event.Event.Event, proofs.Invariant.Growing.after_both, proofs.Invariant.Growing.allowed_front}
+use Rattle.dali_events.proofs.{Invariant.Growing.leaves_front, Search.Called.called, Search.Traced.IsAmong, Search.Traced.traced, Search.Traced.runs_part}
+use Rattle.dali_events.specs.declared.event.Event.TheVariants as event
 
 -- THE ROLL WAS CALLED, AND NOBODY WAS HEARD: from the frames of the transaction to the log.
 

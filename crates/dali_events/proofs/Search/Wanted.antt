@@ -1,20 +1,14 @@
 use Rattle.std.proofs.Common.{◌≡◌, ◌≢◌, ℕ, ◌+◌, ◌<◌, ◌≤◌, Bool, true, false, zero, suc, List, [], ◌∷◌, refl, sym, subst, ◌∙◌, arith, length, Option, Some, None}
-use Rattle.std.specs.Prelude.{◌&&◌, ◌||◌, ◌==◌, not, is_some, if◌then◌else◌}
+use Rattle.std.proofs.Common.{◌&&◌, ◌||◌, ◌==◌, not, is_some, if◌then◌else◌}
+use Rattle.std.proofs.lemmas.{Bool.Decides.nat_tests, List.Folds.list_any_at, List.Sums.sum_by-cons}
 use Rattle.std.specs.List.{list_any, count_by}
-use Rattle.std.proofs.lemmas.List.Folds.{list_any_at}
-use Rattle.std.proofs.lemmas.List.Sums.{sum_by-cons}
-use Rattle.std.proofs.lemmas.Bool.Decides.{nat_tests}
 use Rattle.dali_frame.specs.Random.{MASK24}
 use Rattle.dali_special.specs.declared.command.Command.{Command}
-use Rattle.dali_gear.specs.declared.state.InitialisationState.{InitialisationState}
-use Rattle.dali_gear.specs.declared.state.InitialisationState.TheVariants.{Disabled, Enabled, Withdrawn}
-use Rattle.dali_gear.specs.declared.row.Reach.TheVariants.{Everyone}
 use Rattle.dali_gear.specs.Gear.{Gear, fresh, is_enabled, is_active, gear_taken}
-use Rattle.dali_gear.specs.Row.{takes, row_after, drawn_of}
-use Rattle.dali_events.specs.Searching.{HasShort}
-use Rattle.dali_events.specs.Wanted.{is_wanted, wants, is_bare, gear_of, OfPowered, AreApart, IsOpened, NoneNamed, AreNamed}
-use Rattle.dali_events.proofs.Invariant.Takes.{Moved, stays, goes, moves_at}
-use Rattle.dali_events.proofs.Invariant.Sending.{powered_takes, takes_powered}
+use Rattle.dali_gear.specs.{Row.takes, Row.row_after, Row.drawn_of, declared.row.Reach.TheVariants.Everyone}
+use Rattle.dali_gear.specs.declared.state.InitialisationState.{InitialisationState, TheVariants.Disabled, TheVariants.Enabled, TheVariants.Withdrawn}
+use Rattle.dali_events.specs.Wanted.{is_wanted, wants, is_bare, gear_of, OfPowered, IsOpened, NoneNamed}
+use Rattle.dali_events.proofs.Invariant.{Sending.powered_takes, Sending.takes_powered, Takes.Moved, Takes.stays, Takes.goes, Takes.moves_at}
 
 -- TESTS THAT PASS TOGETHER
 pub both_pass : (a b : Bool) → (a && b) ≡ true → (a ≡ true) × (b ≡ true)
@@ -142,9 +136,6 @@ Unnamed g = g.state ≡ Enabled → g.short ≡ None
 abbrev pub UnnamedBut : ℕ → Gear → Type 0
 UnnamedBut n g = g.state ≡ Enabled → g.random ≢ n → g.short ≡ None
 
-abbrev pub Named : ℕ → Gear → Type 0
-Named n g = g.state ≡ Enabled → g.random ≡ n → HasShort g
-
 -- what goes over from one list to another
 pub powered_over : (P Q : Gear → Type 0) (gs hs : List Gear) → length hs ≡ length gs
     → ((k : ℕ) → k < length gs → (gear_of hs k).powered ≡ (gear_of gs k).powered)
@@ -206,14 +197,6 @@ count_some gs n wants = let there = wants_at gs n wants in go gs there.0 there.1
   go [] k h e = absurd (omega arith)
   go (h ∷ hs) zero in_row e = rw (count_first is_wanted h hs, e) (omega arith)
   go (h ∷ hs) (suc k) in_row e = let rest : 0 < count_by is_wanted hs = go hs k (omega arith) e in rw (count_first is_wanted h hs) (omega (arith, rest))
-
--- a gear with this random address that is wanted and has a short address: all such have one
-pub named_by : (gs : List Gear) (n k : ℕ) → AreApart gs → k < length gs → is_wanted (gear_of gs k) ≡ true → (gear_of gs k).random ≡ n → HasShort (gear_of gs k)
-    → AreNamed gs n
-named_by gs n k apart h wanted random short j in_row on enabled same =
-    let active : is_active (gear_of gs j).state ≡ true = rw enabled refl in
-    let one : k ≡ j = apart k j h in_row (wanted_powered (gear_of gs k) wanted) on (wanted_active (gear_of gs k) wanted) active (random ∙ sym same) in
-    subst (λ i. HasShort (gear_of gs i)) one short
 
 -- WHAT A FRAME DOES TO EACH GEAR, if it does so to each that has power
 moved_by : (c : Command) (P : Gear → Gear → Type 0) → ((g : Gear) → (g.powered ≡ true → ⊥) → P g g)

@@ -1,22 +1,14 @@
-use Rattle.std.proofs.Common.{◌≡◌, ◌≢◌, ℕ, ◌<◌, Bool, true, false, List, refl, sym, subst, ◌∙◌, length, Some, None}
-use Rattle.std.specs.Prelude.{◌&&◌, if◌then◌else◌}
+use Rattle.std.proofs.Common.{◌≡◌, ◌≢◌, ℕ, ◌<◌, Bool, true, false, List, refl, sym, subst, ◌∙◌, length, Some, None, ◌&&◌, if◌then◌else◌}
 use Rattle.std.specs.List.{count_by}
-use Rattle.dali_frame.specs.declared.numbers.SearchAddress.{SearchAddress}
-use Rattle.dali_frame.specs.Random.{value_of, MASK24}
+use Rattle.dali_frame.specs.{Random.value_of, Random.MASK24, declared.numbers.SearchAddress.SearchAddress}
 use Rattle.dali_special.specs.declared.command.Command.TheVariants.{Withdraw}
-use Rattle.dali_gear.specs.declared.state.InitialisationState.{InitialisationState}
-use Rattle.dali_gear.specs.declared.state.InitialisationState.TheVariants.{Disabled, Enabled, Withdrawn}
-use Rattle.dali_gear.specs.declared.row.Reach.TheVariants.{Everyone}
 use Rattle.dali_gear.specs.Gear.{Gear, is_enabled, is_active, is_found, gear_taken, state_after}
-use Rattle.dali_gear.specs.Row.{row_after}
-use Rattle.dali_events.specs.Searching.{HasShort}
-use Rattle.dali_events.specs.Wanted.{is_wanted, wants, gear_of, Seek, IsOpened, NoneNamed, NoneNamedBut, AreNamed}
-use Rattle.dali_events.proofs.Invariant.Takes.{row_length}
-use Rattle.dali_events.proofs.Invariant.Known.{found_random}
-use Rattle.dali_events.proofs.Search.Wanted.{enabled_is, wanted_powered, wanted_enabled, is_wanted_by, wants_by, wants_at, count_less, Enabling, Drawing}
-use Rattle.dali_events.proofs.Search.Wanted.{Unnamed}
-use Rattle.dali_events.proofs.Search.Wanted.{UnnamedBut, powered_over, after_at}
-use Rattle.dali_events.proofs.Search.Heard.{random_found}
+use Rattle.dali_gear.specs.{Row.row_after, declared.row.Reach.TheVariants.Everyone}
+use Rattle.dali_gear.specs.declared.state.InitialisationState.{InitialisationState, TheVariants.Disabled, TheVariants.Enabled, TheVariants.Withdrawn}
+use Rattle.dali_events.specs.{Searching.HasShort, Wanted.is_wanted, Wanted.wants, Wanted.gear_of, Wanted.Seek, Wanted.IsOpened, Wanted.NoneNamed}
+use Rattle.dali_events.{specs.Wanted.NoneNamedBut, specs.Wanted.AreNamed, proofs.Invariant.Known.found_random, proofs.Invariant.Takes.row_length}
+use Rattle.dali_events.proofs.Search.{Heard.random_found, Wanted.enabled_is, Wanted.wanted_powered, Wanted.wanted_enabled}
+use Rattle.dali_events.proofs.Search.Wanted.{is_wanted_by, wants_by, wants_at, count_less, Enabling, Drawing, Unnamed, UnnamedBut, powered_over, after_at}
 
 -- WITHDRAW: the gear after it
 abbrev pub after_withdraw : List Gear → List ℕ → List Gear

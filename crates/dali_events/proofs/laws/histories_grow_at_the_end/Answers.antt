@@ -1,5 +1,4 @@
-use Rattle.dali_events.specs.World.{start}
-use Rattle.dali_events.proofs.Invariant.Growing.{after_more, run_more}
+use Rattle.dali_events.{specs.World.start, proofs.Invariant.Growing.after_more, proofs.Invariant.Growing.run_more}
 use Rattle.dali_events.proofs.laws.histories_grow_at_the_end.Goals as goal
 
 pub returns : goal.returns

@@ -1,6 +1,4 @@
-use Rattle.dali_events.proofs.Invariant.Growing.{leaves_none}
-use Rattle.dali_events.proofs.Invariant.Starting.{from_factory}
-use Rattle.dali_events.proofs.Invariant.Agreeing.{used_kept}
+use Rattle.dali_events.proofs.Invariant.{Agreeing.used_kept, Growing.leaves_none, Starting.from_factory}
 use Rattle.dali_events.proofs.laws.used_gear_keep_their_addresses.Goals as goal
 
 pub returns : goal.returns

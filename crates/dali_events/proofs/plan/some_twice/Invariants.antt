@@ -1,5 +1,4 @@
-use Rattle.std.proofs.Common.{◌≡◌, drop}
-use Rattle.std.specs.Prelude.{◌==◌}
+use Rattle.std.proofs.Common.{◌≡◌, drop, ◌==◌}
 use Rattle.dali_events.specs.Plan.{any_pair}
 use Rattle.dali_events.proofs.plan.some_twice.Given as goal
 

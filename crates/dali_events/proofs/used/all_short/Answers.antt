@@ -1,7 +1,5 @@
-use Rattle.std.proofs.Common.{◌<◌, arith, subst}
-use Rattle.std.proofs.lemmas.List.{take_all}
-use Rattle.std.proofs.lemmas.List.Elements.{All-more}
-use Rattle.std.specs.Prelude.{All}
+use Rattle.std.proofs.Common.{◌<◌, arith, subst, All}
+use Rattle.std.proofs.lemmas.List.{take_all, Elements.All-more}
 use Rattle.dali_events.proofs.used.all_short.Goals as goal
 
 pub loop-at-preserved : goal.loop-at-preserved

@@ -1,7 +1,5 @@
-use Rattle.std.proofs.Common.{◌≡◌, drop}
-use Rattle.std.specs.Prelude.{◌==◌}
-use Rattle.dali_events.specs.Plan.{any_pair}
-use Rattle.dali_events.specs.Used.{mark_of}
+use Rattle.std.proofs.Common.{◌≡◌, drop, ◌==◌}
+use Rattle.dali_events.specs.{Plan.any_pair, Used.mark_of}
 use Rattle.dali_events.proofs.used.some_share.Given as goal
 
 abbrev pub invariant-loop-i : goal.invariant-loop-i
