@@ -1,11 +1,8 @@
 use Rattle.std.proofs.Common.{◌≡◌, ◌≢◌, ℕ, ◌<◌, ◌⊎◌, map, length, get_or, set, refl, sym, ap, ◌∙◌, zero-add, inl, inr, length-set}
-use Rattle.std.proofs.lemmas.List.{same_lists, get_or-set_same, get_or-set_other}
-use Rattle.std.proofs.lemmas.List.FromFn.{length-map-range_with_len, get_or-map-range_with_len}
-use Rattle.std.proofs.lemmas.Bool.{cases_eq}
-use Rattle.std.specs.List.{range_with_len}
+use Rattle.std.proofs.lemmas.{Bool.cases_eq, List.same_lists, List.get_or-set_same, List.get_or-set_other, List.FromFn.length-map-range_with_len}
+use Rattle.std.{proofs.lemmas.List.FromFn.get_or-map-range_with_len, specs.List.range_with_len}
 use Rattle.dali_frame.specs.declared.numbers.SearchAddress.{SearchAddress}
-use Rattle.dali_gear.specs.declared.addresses.Addresses.TheInside.{Inside}
-use Rattle.dali_gear.specs.Addresses.{address_in, all_addresses}
+use Rattle.dali_gear.specs.{Addresses.address_in, Addresses.all_addresses, declared.addresses.Addresses.TheInside.Inside}
 
 -- a list by numbers, if one place has changed, and no other has
 pub places_set : {A : Type 0} (f new : ℕ → A) (n i : ℕ) (g : A) → i < n → new i ≡ g → ((k : ℕ) → k ≢ i → new k ≡ f k)

@@ -1,26 +1,18 @@
-use Rattle.std.proofs.Common.{◌≡◌, ◌≢◌, ℕ, ◌+◌, ◌*◌, ◌%◌, ◌<◌, ◌≤◌, ◌⊎◌, Bool, true, false, ◌&&◌, ◌||◌, List, [], ◌∷◌, ◌++◌, take, length, get_or, set, drop}
-use Rattle.std.proofs.Common.{replicate, refl, sym, ap, ◌∙◌, arith, add-zero, zero-add, add_assoc, inl, inr}
+use Rattle.std.proofs.Common.{◌≡◌, ◌≢◌, ℕ, ◌+◌, ◌*◌, ◌<◌, ◌≤◌, ◌⊎◌, Bool, true, false, ◌&&◌, ◌||◌, List, [], ◌∷◌, ◌++◌, take, length, get_or, set, drop}
+use Rattle.std.proofs.Common.{replicate, refl, sym, ap, ◌∙◌, arith, add-zero, zero-add, add_assoc, inl, inr, Option, Some, None, IsSome, if◌then◌else◌, is_some}
+use Rattle.std.proofs.{Math.Seq.set_out, lemmas.Bool.cases_eq, lemmas.Bool.cases_lt, lemmas.Bool.false≢true, lemmas.Bool.true≢false}
 use Rattle.std.proofs.lemmas.List.{drop-drop, drop_more, drop-set-lt, take_more_set, same_lists, get_or-set_same, get_or-set_other, get_or_default}
-use Rattle.std.proofs.lemmas.List.{get_or-replicate, length-replicate, get_or_past, set-set}
-use Rattle.std.proofs.lemmas.List.FromFn.{length-map-range_with_len, get_or-map-range_with_len}
-use Rattle.std.proofs.lemmas.Bool.{cases_eq, cases_lt, false≢true, true≢false}
-use Rattle.std.proofs.Math.Seq.{set_out}
+use Rattle.std.proofs.lemmas.List.{get_or-replicate, length-replicate, get_or_past, set-set, FromFn.length-map-range_with_len, FromFn.get_or-map-range_with_len}
+use Rattle.std.specs.Prelude.{unwrap_or}
 use mathlib.Core.List.{append_assoc}
-use Rattle.dali_frame.specs.declared.numbers.SearchAddress.{SearchAddress}
-use Rattle.dali_frame.specs.Random.{value_of}
-use Rattle.dali_special.specs.declared.command.Command.{Command}
-use Rattle.dali_special.specs.declared.command.Command.TheVariants.{Randomise, Terminate}
-use Rattle.dali_gear.specs.declared.state.InitialisationState.TheVariants.{Disabled}
-use Rattle.dali_special.specs.Command.{is_send_twice}
-use Rattle.dali_gear.specs.declared.row.Reach.{Reach}
-use Rattle.dali_gear.specs.declared.row.Row.TheInside.{Inside}
-use Rattle.dali_gear.specs.Gear.{Gear, fresh, search_mask, draws_a_number, answer}
-use Rattle.dali_gear.specs.Columns.{gear_in, all_gear, IsRow, IsUnpaired}
-use Rattle.dali_gear.proofs.Places.{places_set}
 use mir.Val.{bool_byte}
-use Rattle.std.specs.Prelude.{Option, Some, None, IsSome, if◌then◌else◌, is_some, unwrap_or}
-use Rattle.dali_frame.specs.declared.frames.Answer.TheVariants.{Byte}
-use Rattle.dali_gear.specs.Row.{reaches, takes, one_after, row_after, draws_needed, answers_of, option_cons, heard_of, heard_by, left_after}
+use Rattle.dali_frame.specs.{Random.value_of, declared.numbers.SearchAddress.SearchAddress}
+use Rattle.dali_special.specs.Command.{is_send_twice}
+use Rattle.dali_special.specs.declared.command.Command.{Command, TheVariants.Randomise, TheVariants.Terminate}
+use Rattle.dali_gear.specs.Columns.{gear_in, all_gear, IsRow, IsUnpaired}
+use Rattle.dali_gear.specs.{Gear.Gear, Gear.fresh, Gear.search_mask, Gear.draws_a_number, Gear.answer, Row.reaches, Row.takes, Row.one_after, Row.row_after}
+use Rattle.dali_gear.specs.{Row.draws_needed, Row.answers_of, Row.option_cons, Row.left_after, declared.row.Reach.Reach, declared.row.Row.TheInside.Inside}
+use Rattle.dali_gear.{specs.declared.state.InitialisationState.TheVariants.Disabled, proofs.Places.places_set}
 
 -- ---------------------------------------------------------------- the columns
 
@@ -183,14 +175,6 @@ module _ (gs now : List Gear) (i : ℕ) (g : Gear) (here : i < length gs) (now_i
       kept (inl none) = ap (λ b. if b then (get_or gs i fresh).half else None) (is ∙ ap (λ o. is_some o) none) ∙ sym none
       kept (inr same) = ap (λ b. if b then (get_or gs i fresh).half else None) (is ∙ ap (λ o. is_some o) same) ∙ half_kept (get_or gs i fresh).half ∙ sym same
 
-  -- if it had none, it has none
-  pub put_unpaired : (get_or gs i fresh).half ≡ None → now ≡ set gs i g
-  put_unpaired none = now_is ∙ ap (λ o. set gs i (record g { half = o })) (kept stays_or_goes)
-    where
-      kept : (g.half ≡ None) ⊎ (g.half ≡ (get_or gs i fresh).half) → (get_or gs i fresh).half ≡ g.half
-      kept (inl gone) = none ∙ sym gone
-      kept (inr same) = sym same
-
 -- one gear more was looked at
 pub seen_more : (some : Bool) (paired : List Bool) (n : ℕ) → (some ≡ false → (k : ℕ) → k < n → get_or paired k false ≡ false)
     → (some || get_or paired n false) ≡ false → (k : ℕ) → k < n + 1 → get_or paired k false ≡ false
@@ -331,12 +315,6 @@ bit_bound false = omega arith
 pub byte_bound : (o : Option ℕ) → unwrap_or o 0 < 256 → unwrap_or o 0 ≤ 255 * bool_byte (is_some o)
 byte_bound None small = omega arith
 byte_bound (Some byte) small = omega arith
-
--- of a sum the last eight bits are known: they are the byte, if one gear answered
-pub heard_is : (bytes : List ℕ) (sum : ℕ) → sum ≡ total bytes % 256 → total bytes ≤ 255 * length bytes → heard_by (length bytes) sum ≡ heard_of bytes
-heard_is [] sum is small = refl
-heard_is (byte ∷ []) sum is small = ap (λ b. Byte b) (omega arith)
-heard_is (byte ∷ more ∷ rest) sum is small = refl
 
 -- ---------------------------------------------------------------- gear from the factory
 

@@ -1,6 +1,5 @@
 use Rattle.std.proofs.Common.{rules, ◌∙◌, ap, get_or}
-use Rattle.dali_gear.specs.Gear.{search_mask}
-use Rattle.dali_gear.proofs.Places.{address_is, addresses_len}
+use Rattle.dali_gear.{specs.Gear.search_mask, proofs.Places.address_is, proofs.Places.addresses_len}
 use Rattle.dali_gear.proofs.addresses.Addresses.get.Goals as goal
 
 pub returns : goal.returns

@@ -1,7 +1,6 @@
 use Rattle.std.proofs.Common.{rules, ◌≡◌, Some, ap, ◌∙◌, get_or}
 use Rattle.dali_frame.specs.Random.{value_of}
-use Rattle.dali_gear.specs.Gear.{fresh}
-use Rattle.dali_gear.proofs.RowLemmas.{gear_is, row_len, half_there, half_gone}
+use Rattle.dali_gear.{specs.Gear.fresh, proofs.RowLemmas.gear_is, proofs.RowLemmas.row_len, proofs.RowLemmas.half_there, proofs.RowLemmas.half_gone}
 use Rattle.dali_gear.proofs.row.Row.gear.Goals.{then-self-number, else-self-number}
 use Rattle.dali_gear.proofs.row.Row.gear.Goals as goal
 

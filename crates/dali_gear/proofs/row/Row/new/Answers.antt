@@ -1,8 +1,6 @@
-use Rattle.std.proofs.Common.{rules, refl, replicate, true, false, None, arith}
-use Rattle.std.proofs.lemmas.List.{get_or-replicate}
+use Rattle.std.proofs.{Common.rules, Common.refl, Common.replicate, Common.true, Common.false, Common.None, Common.arith, lemmas.List.get_or-replicate}
 use Rattle.dali_special.specs.declared.command.Command.TheVariants.{Terminate}
-use Rattle.dali_gear.specs.declared.state.InitialisationState.TheVariants.{Disabled}
-use Rattle.dali_gear.proofs.RowLemmas.{factory_is}
+use Rattle.dali_gear.{specs.declared.state.InitialisationState.TheVariants.Disabled, proofs.RowLemmas.factory_is}
 use Rattle.dali_gear.proofs.row.Row.new.Goals as goal
 
 pub returns : goal.returns

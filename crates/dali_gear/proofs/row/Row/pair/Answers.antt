@@ -1,6 +1,5 @@
 use Rattle.std.proofs.Common.{rules, ap, ◌∙◌, set, get_or, Some}
-use Rattle.dali_gear.specs.Gear.{fresh}
-use Rattle.dali_gear.proofs.RowLemmas.{pair_is, row_len}
+use Rattle.dali_gear.{specs.Gear.fresh, proofs.RowLemmas.pair_is, proofs.RowLemmas.row_len}
 use Rattle.dali_gear.proofs.row.Row.pair.Goals as goal
 
 pub returns : goal.returns

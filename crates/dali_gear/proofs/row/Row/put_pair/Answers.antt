@@ -1,7 +1,5 @@
-use Rattle.std.proofs.Common.{rules, ap, ◌∙◌, set, get_or, None}
-use Rattle.std.specs.Prelude.{if◌then◌else◌}
-use Rattle.dali_gear.specs.Gear.{fresh}
-use Rattle.dali_gear.proofs.RowLemmas.{put_pair_is, put_pair_unpaired, row_len}
+use Rattle.std.proofs.Common.{rules, ap, ◌∙◌, set, get_or, None, if◌then◌else◌}
+use Rattle.dali_gear.{specs.Gear.fresh, proofs.RowLemmas.put_pair_is, proofs.RowLemmas.put_pair_unpaired, proofs.RowLemmas.row_len}
 use Rattle.dali_gear.proofs.row.Row.put_pair.Goals as goal
 
 pub returns : goal.returns

@@ -1,8 +1,5 @@
-use Rattle.std.proofs.Common.{rules, ap₂, ◌∙◌, set, get_or}
-use Rattle.std.specs.Prelude.{List}
-use Rattle.dali_gear.specs.Gear.{Gear, fresh}
-use Rattle.dali_gear.specs.contracts.gear.Gear.{the_view}
-use Rattle.dali_gear.proofs.RowLemmas.{put_variables_is, row_len}
+use Rattle.std.proofs.Common.{rules, ap₂, ◌∙◌, set, get_or, List}
+use Rattle.dali_gear.{specs.Gear.Gear, specs.Gear.fresh, specs.contracts.gear.Gear.the_view, proofs.RowLemmas.put_variables_is, proofs.RowLemmas.row_len}
 use Rattle.dali_gear.proofs.row.Row.put_variables.Goals as goal
 
 pub returns : goal.returns

@@ -1,6 +1,5 @@
 use Rattle.std.proofs.Common.{subst}
-use Rattle.dali_gear.specs.Columns.{IsUnpaired}
-use Rattle.dali_gear.proofs.RowLemmas.{none_paired}
+use Rattle.dali_gear.{specs.Columns.IsUnpaired, proofs.RowLemmas.none_paired}
 use Rattle.dali_gear.proofs.row.Row.take.Goals as goal
 
 pub take_by_command-requires-clause-unpaired : goal.take_by_command-requires-clause-unpaired

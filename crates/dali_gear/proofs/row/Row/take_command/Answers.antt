@@ -1,6 +1,5 @@
 use Rattle.std.proofs.Common.{◌∙◌, sym, true≢false, subst}
-use Rattle.dali_gear.specs.Columns.{IsUnpaired}
-use Rattle.dali_gear.proofs.RowLemmas.{none_paired}
+use Rattle.dali_gear.{specs.Columns.IsUnpaired, proofs.RowLemmas.none_paired}
 use Rattle.dali_gear.proofs.row.Row.take_command.Goals.{then-self, else-self}
 use Rattle.dali_gear.proofs.row.Row.take_command.Goals as goal
 

@@ -1,10 +1,7 @@
 use Rattle.std.proofs.Common.{rules, refl, ◌+◌, ◌<◌, ◌&&◌, length, drop, get_or, ap, ◌∙◌, length-set}
-use Rattle.std.proofs.lemmas.List.{take_rest}
-use Rattle.std.specs.Prelude.{unwrap_or}
-use Rattle.dali_gear.specs.Gear.{fresh}
-use Rattle.dali_gear.specs.Row.{one_after}
-use Rattle.dali_gear.proofs.RowLemmas.{rest_is, next_is, Turn, gear_more, drawn_more, counted_more, summed_more, byte_bound, bit_bound, one_unpaired}
-use Rattle.dali_gear.proofs.RowLemmas.{unpaired_set}
+use Rattle.std.{proofs.lemmas.List.take_rest, specs.Prelude.unwrap_or}
+use Rattle.dali_gear.{specs.Gear.fresh, specs.Row.one_after, proofs.RowLemmas.rest_is}
+use Rattle.dali_gear.proofs.RowLemmas.{next_is, Turn, gear_more, drawn_more, counted_more, summed_more, byte_bound, bit_bound, one_unpaired, unpaired_set}
 use Rattle.dali_gear.proofs.row.Row.take_each.Goals as goal
 
 pub loop-number-preserved : goal.loop-number-preserved

@@ -1,7 +1,5 @@
 use Rattle.std.proofs.Common.{◌≡◌, ℕ, ◌≤◌, ◌+◌, ◌*◌, ◌%◌, take, drop, ◌++◌, length, false}
-use Rattle.dali_gear.specs.Columns.{IsUnpaired}
-use Rattle.dali_gear.specs.Row.{row_after, answers_of, draws_needed}
-use Rattle.dali_gear.proofs.RowLemmas.{total}
+use Rattle.dali_gear.{specs.Columns.IsUnpaired, specs.Row.row_after, specs.Row.answers_of, specs.Row.draws_needed, proofs.RowLemmas.total}
 use Rattle.dali_gear.proofs.row.Row.take_each.Given as goal
 
 abbrev pub invariant-loop-number : goal.invariant-loop-number
