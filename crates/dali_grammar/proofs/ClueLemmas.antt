@@ -1,10 +1,6 @@
 use Rattle.std.proofs.Common.{◌≡◌, ℕ, suc, ◌<◌, ◌+◌, Bool, true, false, ◌||◌, List, [], ◌∷◌, ◌++◌, length, take, drop, get_or, refl, sym, ap, ◌∙◌, subst}
-use Rattle.std.proofs.Common.{add-one}
-use Rattle.std.specs.List.{list_any}
-use Rattle.std.proofs.Math.Bool.{or-true}
-use Rattle.std.proofs.Math.Seq.{drop-cons}
-use Rattle.std.proofs.lemmas.List.{take_more, take-append-drop}
-use Rattle.std.proofs.lemmas.List.Folds.{list_any-append}
+use Rattle.std.proofs.{Common.add-one, Math.Bool.or-true, Math.Seq.drop-cons, lemmas.List.take_more, lemmas.List.take-append-drop}
+use Rattle.std.{proofs.lemmas.List.Folds.list_any-append, specs.List.list_any}
 use Rattle.dali_events.specs.Plan.{any_pair}
 
 neither_left : (a b : Bool) → (a || b) ≡ false → a ≡ false

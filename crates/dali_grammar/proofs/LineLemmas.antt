@@ -1,9 +1,6 @@
-use Rattle.std.proofs.Common.{◌≡◌, ◌≢◌, ℕ, zero, suc, ◌+◌, ◌<◌, ◌≤◌, true, false, List, [], ◌∷◌, length, get_or, take, drop, None, refl, arith, add-one}
-use Rattle.std.proofs.lemmas.Bool.Decides.{nat_tests}
-use Rattle.std.specs.Prelude.{◌==◌}
+use Rattle.std.proofs.Common.{◌≡◌, ◌≢◌, ℕ, zero, suc, ◌+◌, ◌<◌, true, false, List, [], ◌∷◌, length, get_or, take, drop, None, refl, arith, add-one, ◌==◌}
+use Rattle.std.{proofs.lemmas.Bool.Decides.nat_tests, proofs.lemmas.List.Splits.length-slice_split, specs.List.count_by}
 use Rattle.dali_grammar.specs.Lines.{lines_of, parts_of, none_of}
-use Rattle.std.specs.List.{count_by}
-use Rattle.std.proofs.lemmas.List.Splits.{length-slice_split}
 
 is_not : (b c : ℕ) → b ≢ c → (b == c) ≡ false
 is_not b c ne = grind (arith, nat_tests)

@@ -1,8 +1,6 @@
-use Rattle.std.proofs.Common.{◌≡◌, ◌+◌, ◌++◌, length}
-use Rattle.std.specs.Prelude.{option_map}
+use Rattle.std.proofs.Common.{◌≡◌, ◌+◌, ◌++◌, length, option_map}
 use Rattle.std.specs.Option.{option_map_or}
-use Rattle.dali_grammar.specs.Lines.{parts_after}
-use Rattle.dali_grammar.specs.Numbers.{blocks_of}
+use Rattle.dali_grammar.specs.{Lines.parts_after, Numbers.blocks_of}
 use Rattle.dali_grammar.proofs.heading.blocks_of.Given as goal
 
 abbrev pub invariant-loop-rest : goal.invariant-loop-rest

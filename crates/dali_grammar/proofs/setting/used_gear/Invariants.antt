@@ -1,6 +1,5 @@
 use Rattle.std.proofs.Common.{◌≡◌, ◌≤◌, ◌+◌, [], length}
-use Rattle.dali_grammar.specs.Lines.{numbered_after}
-use Rattle.dali_grammar.specs.Setting.{used_of}
+use Rattle.dali_grammar.specs.{Lines.numbered_after, Setting.used_of}
 use Rattle.dali_grammar.proofs.setting.used_gear.Given as goal
 
 abbrev pub invariant-loop-line : goal.invariant-loop-line

@@ -1,5 +1,4 @@
-use Rattle.std.proofs.Common.{sym}
-use Rattle.std.specs.Prelude.{◌==◌}
+use Rattle.std.proofs.Common.{sym, ◌==◌}
 use Rattle.dali_grammar.proofs.ClueLemmas.{none_next, pair_at}
 use Rattle.dali_grammar.proofs.reason.clue.drawn_twice.Goals as goal
 

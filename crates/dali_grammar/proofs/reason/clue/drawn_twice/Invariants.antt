@@ -1,5 +1,4 @@
-use Rattle.std.proofs.Common.{◌≡◌, false, take}
-use Rattle.std.specs.Prelude.{◌==◌}
+use Rattle.std.proofs.Common.{◌≡◌, false, take, ◌==◌}
 use Rattle.dali_events.specs.Plan.{any_pair}
 use Rattle.dali_grammar.proofs.reason.clue.drawn_twice.Given as goal
 

@@ -1,5 +1,4 @@
-use Rattle.std.proofs.Common.{◌≡◌, drop}
-use Rattle.std.specs.Prelude.{◌==◌}
+use Rattle.std.proofs.Common.{◌≡◌, drop, ◌==◌}
 use Rattle.std.specs.List.{list_any}
 use Rattle.dali_grammar.specs.Clues.{number_of}
 use Rattle.dali_grammar.proofs.reason.clue.place_in.Given as goal

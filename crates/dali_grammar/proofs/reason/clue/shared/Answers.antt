@@ -1,8 +1,6 @@
-use Rattle.std.proofs.Common.{sym, refl}
-use Rattle.std.specs.Prelude.{◌==◌}
+use Rattle.std.proofs.Common.{sym, refl, ◌==◌}
 use Rattle.std.specs.List.{list_any}
-use Rattle.dali_grammar.specs.Clues.{number_of}
-use Rattle.dali_grammar.proofs.ClueLemmas.{none_next, pair_at, any_next}
+use Rattle.dali_grammar.{specs.Clues.number_of, proofs.ClueLemmas.none_next, proofs.ClueLemmas.pair_at, proofs.ClueLemmas.any_next}
 use Rattle.dali_grammar.proofs.reason.clue.shared.Goals as goal
 
 pub returns-in-Some-place_in : goal.returns-in-Some-place_in

@@ -1,5 +1,4 @@
-use Rattle.std.proofs.Common.{◌≡◌, false, take, drop}
-use Rattle.std.specs.Prelude.{◌==◌}
+use Rattle.std.proofs.Common.{◌≡◌, false, take, drop, ◌==◌}
 use Rattle.std.specs.List.{list_any}
 use Rattle.dali_events.specs.Plan.{any_pair}
 use Rattle.dali_grammar.specs.Clues.{number_of}

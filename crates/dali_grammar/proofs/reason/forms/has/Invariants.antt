@@ -1,5 +1,4 @@
-use Rattle.std.proofs.Common.{◌≡◌, drop}
-use Rattle.std.specs.Prelude.{bytes_eq}
+use Rattle.std.proofs.Common.{◌≡◌, drop, bytes_eq}
 use Rattle.std.specs.List.{list_any}
 use Rattle.dali_grammar.proofs.reason.forms.has.Given as goal
 

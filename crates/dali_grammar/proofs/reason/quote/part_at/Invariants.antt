@@ -1,5 +1,4 @@
-use Rattle.std.proofs.Common.{◌≡◌, ◌+◌, length, slice_get}
-use Rattle.std.specs.Prelude.{option_map}
+use Rattle.std.proofs.Common.{◌≡◌, ◌+◌, length, slice_get, option_map}
 use Rattle.std.specs.Option.{option_map_or}
 use Rattle.dali_grammar.specs.Lines.{parts_of, parts_after}
 use Rattle.dali_grammar.proofs.reason.quote.part_at.Given as goal

@@ -1,7 +1,6 @@
-use Rattle.std.proofs.Common.{rules, refl, ◌≡◌, ◌∙◌, Bool, true, false, ◌||◌, Option, Some, None, is_some, IsSome}
-use Rattle.std.specs.Prelude.{if◌then◌else◌}
-use Rattle.dali_events.specs.declared.plan.PlanError.TheVariants.{UnknownGear, GearTwice, ShortTwice, RandomTooLarge, RandomTwice}
+use Rattle.std.proofs.Common.{rules, refl, ◌≡◌, ◌∙◌, Bool, true, false, ◌||◌, Option, Some, None, is_some, IsSome, if◌then◌else◌}
 use Rattle.dali_events.specs.Plan.{used_refusal_of}
+use Rattle.dali_events.specs.declared.plan.PlanError.TheVariants.{UnknownGear, GearTwice, ShortTwice, RandomTooLarge, RandomTwice}
 use Rattle.dali_grammar.proofs.reason.clue.Clue.of_used.Goals as goal
 
 there : {A : Type 0} (o : Option A) → is_some o ≡ true → IsSome o
