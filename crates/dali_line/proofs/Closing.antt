@@ -1,9 +1,7 @@
-use Rattle.std.proofs.Common.{◌≡◌, ℕ, zero, suc, ◌≤◌, List, [], ◌∷◌, length, take, refl, sym, ap, subst, ◌∙◌, arith}
-use Rattle.std.specs.Prelude.{All, ◌↔◌, IsTrue, Bool}
+use Rattle.std.proofs.Common.{◌≡◌, ℕ, zero, suc, ◌≤◌, List, [], ◌∷◌, length, take, refl, sym, ap, subst, ◌∙◌, arith, All, ◌↔◌, IsTrue, Bool}
 use Rattle.dali_events.specs.declared.event.Event.{Event}
 use Rattle.dali_world.specs.Site.{SiteState, share_of}
-use Rattle.dali_line.specs.Shares.{PortShare, port_share}
-use Rattle.dali_line.specs.Counts.{shares_of, AreInOrder}
+use Rattle.dali_line.specs.{Counts.shares_of, Counts.AreInOrder, Shares.PortShare, Shares.port_share}
 
 -- THE PORTS THAT COME BACK, where each share is what the log has.
 abbrev pub IsExact : List Event → PortShare → Type 0

@@ -1,27 +1,16 @@
-use Rattle.std.proofs.Common.{◌≡◌, ℕ, ◌+◌, ◌<◌, ◌≤◌, Bool, true, false, List, [], ◌∷◌, ◌++◌, refl, sym, ap, ◌∙◌, arith, length, Option, Some, None}
-use Rattle.std.specs.Prelude.{◌==◌, if◌then◌else◌, zero, suc, slice_set, is_none, nat_eq}
+use Rattle.std.proofs.Common.{◌≡◌, ℕ, ◌+◌, ◌<◌, ◌≤◌, Bool, true, false, List, [], ◌∷◌, ◌++◌, refl, sym, ap, ◌∙◌, arith, length, Option, Some, None, ◌==◌}
+use Rattle.std.proofs.Common.{if◌then◌else◌, zero, suc, slice_set, is_none, nat_eq}
+use Rattle.std.proofs.lemmas.{Bool.Decides.nat_tests, List.length-map, List.get_or_past, List.set_past}
 use Rattle.std.specs.Option.{option_eq}
-use Rattle.std.proofs.lemmas.Bool.Decides.{nat_tests}
-use Rattle.std.proofs.lemmas.List.{length-map, get_or_past, set_past}
-use Rattle.dali_events.specs.declared.event.Event.{Event}
-use Rattle.dali_events.specs.declared.event.Event.TheVariants as event
-use Rattle.dali_events.specs.Events.{whose_step, is_step_of}
-use Rattle.dali_events.specs.Plan.{Plan}
+use Rattle.dali_events.specs.{Allowed.Allowed, Events.whose_step, Events.is_step_of, Happens.happens, Plan.Plan, Runs.AllAllowed, Runs.IsRun}
 use Rattle.dali_events.specs.World.{World, controller_at, nobody, start}
-use Rattle.dali_events.specs.Happens.{happens}
-use Rattle.dali_events.specs.Allowed.{Allowed}
-use Rattle.dali_events.specs.Runs.{AllAllowed, IsRun}
-use Rattle.dali_events.proofs.Invariant.Controllers.{controllers_count}
-use Rattle.dali_events.specs.declared.trouble.Trouble.{Trouble}
+use Rattle.dali_events.{specs.declared.event.Event.Event, specs.declared.trouble.Trouble.Trouble, proofs.Invariant.Controllers.controllers_count}
+use Rattle.dali_events.specs.declared.event.Event.TheVariants as event
 use Rattle.dali_standing.specs.declared.report.Report.{Report}
 use Rattle.dali_standing.specs.declared.report.Report.TheVariants as report
 use Rattle.dali_world.specs.Site.{SiteState, share_of, site_logged, Logs, Pumps}
-use Rattle.dali_line.specs.Shares.{Tally, total_of, count_at, raised, raised_driver}
-use Rattle.dali_line.specs.Counts.{others_of, counts_of}
-use Rattle.dali_line.specs.Found.{events_in}
-use Rattle.dali_line.specs.Commits.{state_of}
-use Rattle.dali_line.specs.declared.commits.CommitState.{CommitState}
-use Rattle.dali_line.specs.declared.commits.CommitState.TheVariants.{Settled}
+use Rattle.dali_line.specs.{Commits.state_of, Counts.others_of, Counts.counts_of, Found.events_in, Shares.Tally, Shares.total_of, Shares.count_at}
+use Rattle.dali_line.specs.{Shares.raised, Shares.raised_driver, declared.commits.CommitState.CommitState, declared.commits.CommitState.TheVariants.Settled}
 
 -- A LOG GROWS BY ONE EVENT, and so does one of its five shares.
 

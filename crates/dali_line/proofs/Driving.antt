@@ -1,12 +1,10 @@
 use Rattle.std.proofs.Common.{◌≡◌, ℕ, ◌+◌, ◌≤◌, List, [], ◌∷◌, ◌++◌, refl, subst, arith}
 use Rattle.std.proofs.lemmas.List.{length-append}
-use Rattle.std.specs.declared.option.Option.{Option}
-use Rattle.std.specs.declared.option.Option.TheVariants.{None, Some}
+use Rattle.std.specs.declared.option.Option.{Option, TheVariants.None, TheVariants.Some}
 use Rattle.dali_events.specs.declared.trouble.Trouble.{Trouble}
 use Rattle.dali_events.specs.declared.trouble.Trouble.TheVariants as trouble
 use Rattle.dali_standing.specs.declared.report.Report.{Report}
-use Rattle.dali_line.specs.Driving.{AreDriven, Drives}
-use Rattle.dali_line.proofs.Counts.{few_events}
+use Rattle.dali_line.{specs.Driving.AreDriven, specs.Driving.Drives, proofs.Counts.few_events}
 
 -- TURNS OF A PUMPER that follow each other are one run.
 

@@ -1,15 +1,9 @@
 use Rattle.std.proofs.Common.{◌≡◌, inl, inr, List, [], ◌∷◌, ◌++◌, refl, sym, ◌∙◌, subst, ⊎_elim}
-use Rattle.std.proofs.lemmas.List.{append_assoc}
-use Rattle.std.specs.declared.option.Option.{Option}
-use Rattle.std.specs.declared.option.Option.TheVariants.{None, Some}
-use Rattle.std.specs.Option.{IsSomeAnd, IfSome}
-use Rattle.dali_script.specs.declared.records.Record.{Record}
-use Rattle.dali_script.specs.declared.records.Record.TheVariants.{Enrol}
-use Rattle.dali_script.specs.Records.{Has}
-use Rattle.dali_script.specs.Table.{Enrolled}
+use Rattle.std.{proofs.lemmas.List.append_assoc, specs.Option.IsSomeAnd, specs.Option.IfSome}
+use Rattle.std.specs.declared.option.Option.{Option, TheVariants.None, TheVariants.Some}
+use Rattle.dali_script.specs.{Records.Has, Table.Enrolled, declared.records.Record.Record, declared.records.Record.TheVariants.Enrol}
 use Rattle.dali_enrol.specs.Directory.{Pass, Keeps, known_at}
-use Rattle.dali_line.specs.Leaves.{Leaves, Learns, Posts}
-use Rattle.dali_line.proofs.Leaving.{leaves_none, leaves_more}
+use Rattle.dali_line.{specs.Leaves.Leaves, specs.Leaves.Learns, specs.Leaves.Posts, proofs.Leaving.leaves_none, proofs.Leaving.leaves_more}
 
 -- WHAT A WORKER'S PASS LEARNS, turn by turn.
 

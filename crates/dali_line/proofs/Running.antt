@@ -1,33 +1,22 @@
-use Rattle.std.proofs.Common.{◌≡◌, ℕ, ◌+◌, ◌≤◌, arith, length, ◌⊎◌, inl, inr, List, [], ◌∷◌, ◌++◌, refl, sym, ap, ◌∙◌, subst, ⊎_elim}
-use Rattle.std.specs.Prelude.{IfSome, IsSome, IsSomeAnd, MatchOption}
-use Rattle.std.proofs.lemmas.List.{append-nil, append_assoc, length-append}
-use Rattle.std.proofs.lemmas.List.Elements.{All-nil, All-cons, All-append}
-use Rattle.std.specs.declared.option.Option.{Option}
-use Rattle.std.specs.declared.option.Option.TheVariants.{None, Some}
-use Rattle.dali_script.specs.declared.block.Block.{Block}
-use Rattle.dali_script.specs.declared.records.Record.{Record}
-use Rattle.dali_script.specs.declared.orders.Input.{Input}
+use Rattle.std.proofs.Common.{◌≡◌, ℕ, ◌+◌, ◌≤◌, arith, length, ◌⊎◌, inl, inr, List, [], ◌∷◌, ◌++◌, refl, sym, ap, ◌∙◌, subst, ⊎_elim, IfSome, IsSome, IsSomeAnd}
+use Rattle.std.proofs.Common.{MatchOption}
+use Rattle.std.proofs.lemmas.List.{append-nil, append_assoc, length-append, Elements.All-nil, Elements.All-cons, Elements.All-append}
+use Rattle.std.specs.declared.option.Option.{Option, TheVariants.None, TheVariants.Some}
+use Rattle.dali_script.specs.{Due.record_ordered, Records.Has, Table.Enrolled}
+use Rattle.dali_script.specs.declared.{block.Block.Block, orders.Input.Input, orders.Order.Order, records.Record.Record}
+use Rattle.dali_script.specs.declared.records.Record.TheVariants.{Reserve, Enrol, Release}
 use Rattle.dali_script.specs.declared.orders.Input.TheVariants as input
-use Rattle.dali_script.specs.declared.orders.Order.{Order}
 use Rattle.dali_script.specs.declared.orders.Order.TheVariants as order
-use Rattle.dali_script.specs.Due.{record_ordered}
+use Rattle.dali_enrol.specs.Directory.{Pass, known_at, stands_at}
 use Rattle.dali_standing.specs.declared.refusal.Refusal.{Refusal}
 use Rattle.dali_standing.specs.declared.refusal.Refusal.TheVariants as refusal
-use Rattle.dali_line.specs.declared.outcome.Outcome.{Outcome}
-use Rattle.dali_line.specs.declared.outcome.Outcome.TheVariants as outcome
-use Rattle.dali_script.specs.Records.{Has}
-use Rattle.dali_script.specs.declared.records.Record.TheVariants.{Reserve, Enrol, Release}
-use Rattle.dali_script.specs.Table.{Enrolled}
-use Rattle.dali_enrol.specs.Directory.{Pass, known_at, stands_at}
-use Rattle.dali_line.specs.Leaves.{Leaves, Learns}
-use Rattle.dali_line.proofs.Leaving.{leaves_none, leaves_more}
-use Rattle.dali_line.proofs.Learning.{has_left, known_then, learns_wider, learns_more, posts_none, posts_more}
-use Rattle.dali_line.specs.Shares.{PortShare}
 use Rattle.dali_line.specs.Ends.{GoesOn, GoOn, EndsAt, IsEnd, IsLeft, IsCount, end_of, end_when_refused}
-use Rattle.dali_line.specs.Facts.{Facts}
-use Rattle.dali_line.specs.Posted.{IsPosted, HasPosted, ArePosted, StillStands, LearnsOf}
-use Rattle.dali_line.specs.Runs.{IsIdle, AreTaken, steps_in, IsKnownDue, Gives, Tells, Runs}
+use Rattle.dali_line.specs.{Facts.Facts, Leaves.Leaves, Leaves.Learns, Posted.IsPosted, Posted.HasPosted, Posted.ArePosted, Posted.StillStands, Posted.LearnsOf}
+use Rattle.dali_line.specs.{Runs.IsIdle, Runs.AreTaken, Runs.steps_in, Runs.IsKnownDue, Runs.Gives, Runs.Tells, Runs.Runs, Shares.PortShare}
 use Rattle.dali_line.specs.Steps.{Step, step_of, last_order, due_then, TakesIn, TakeIn, IsDueFor, AreDue, told_at, told_of, first_of}
+use Rattle.dali_line.{specs.declared.outcome.Outcome.Outcome, proofs.Learning.has_left, proofs.Learning.known_then}
+use Rattle.dali_line.proofs.{Learning.learns_wider, Learning.learns_more, Learning.posts_none, Learning.posts_more, Leaving.leaves_none, Leaving.leaves_more}
+use Rattle.dali_line.specs.declared.outcome.Outcome.TheVariants as outcome
 
 -- RUNS THAT FOLLOW EACH OTHER ARE ONE RUN.
 

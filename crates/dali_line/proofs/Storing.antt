@@ -1,14 +1,11 @@
 use Rattle.std.proofs.Common.{◌⊎◌, inl, inr, List, [], ◌∷◌, ◌++◌, ◌≡◌, refl, sym, subst, ◌∙◌}
-use Rattle.std.proofs.lemmas.List.{append-nil}
-use Rattle.dali_script.specs.declared.block.Block.{Block}
-use Rattle.dali_script.specs.declared.records.Record.{Record}
+use Rattle.std.{proofs.lemmas.List.append-nil, specs.declared.option.Option.TheVariants.Some}
 use Rattle.dali_script.specs.Records.{Kept, Has, Shows, TakesAway, with_record, without_records}
+use Rattle.dali_script.specs.declared.{block.Block.Block, records.Record.Record}
 use Rattle.dali_script.proofs.Lists.{has_last, shown_by, shown_none}
-use Rattle.dali_reserve.specs.Store.{replay_of, IsReplay}
-use Rattle.std.specs.declared.option.Option.TheVariants.{Some}
 use Rattle.dali_script.specs.declared.orders.Input.TheVariants as input
-use Rattle.dali_line.specs.Leaves.{IsStored, Stores}
-use Rattle.dali_line.specs.Steps.{TakesIn}
+use Rattle.dali_reserve.specs.Store.{replay_of, IsReplay}
+use Rattle.dali_line.specs.{Leaves.IsStored, Leaves.Stores, Steps.TakesIn}
 
 -- A RECORD THAT THE RECORDS OF A STORE SHOW STANDS IN ITS LIST, unless it takes away.
 

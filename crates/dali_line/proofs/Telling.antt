@@ -1,20 +1,14 @@
-use Rattle.std.proofs.Common.{◌≡◌, ℕ, ◌≤◌, Bool, true, false, List, [], ◌∷◌, refl, sym, subst, arith, length}
-use Rattle.std.specs.Prelude.{zero, suc, nat_lt, map, IfSome, if◌then◌else◌}
+use Rattle.std.proofs.Common.{◌≡◌, ℕ, ◌≤◌, Bool, true, false, List, [], ◌∷◌, refl, sym, subst, arith, length, zero, suc, nat_lt, map, IfSome, if◌then◌else◌}
 use Rattle.std.proofs.lemmas.Bool.Decides.{nat_tests}
-use Rattle.std.specs.declared.option.Option.{Option}
-use Rattle.std.specs.declared.option.Option.TheVariants.{None, Some}
-use Rattle.dali_script.specs.declared.block.Block.{Block}
-use Rattle.dali_script.specs.declared.orders.Input.{Input}
+use Rattle.std.specs.declared.option.Option.{Option, TheVariants.None, TheVariants.Some}
+use Rattle.dali_script.{specs.declared.block.Block.Block, specs.declared.orders.Input.Input, proofs.Members.Each, proofs.Members.each_changed}
 use Rattle.dali_script.specs.declared.orders.Input.TheVariants as input
-use Rattle.dali_script.proofs.Members.{Each, each_changed}
+use Rattle.dali_events.specs.Happens.{happens, told_sent, told_destroyed, told_lapsed, owner_told, trace_running, controller_acted, gone_down, come_up}
+use Rattle.dali_events.specs.{Runs.after_all, World.World, World.Controller, World.controller_at, World.controller_begun, World.nobody, World.start}
 use Rattle.dali_events.specs.declared.event.Event.{Event}
 use Rattle.dali_events.specs.declared.event.Event.TheVariants as event
-use Rattle.dali_events.specs.World.{World, Controller, controller_at, controller_begun, nobody, start}
-use Rattle.dali_events.specs.Happens.{happens, told_sent, told_destroyed, told_lapsed, owner_told, trace_running, controller_acted, gone_down, come_up}
-use Rattle.dali_events.specs.Runs.{after_all}
 use Rattle.dali_world.specs.Site.{SiteState, world}
-use Rattle.dali_line.specs.Steps.{IsOfBus}
-use Rattle.dali_line.proofs.Counts.{nobody_there}
+use Rattle.dali_line.{specs.Steps.IsOfBus, proofs.Counts.nobody_there}
 
 -- WHAT A CONTROLLER IS TOLD BY THE BUS is never what became of its commit.
 

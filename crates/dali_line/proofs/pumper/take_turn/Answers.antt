@@ -1,6 +1,5 @@
 use Rattle.std.proofs.Common.{ℕ, subst}
-use Rattle.dali_line.specs.Driving.{Drives}
-use Rattle.dali_line.proofs.Driving.{drives_pump}
+use Rattle.dali_line.{specs.Driving.Drives, proofs.Driving.drives_pump}
 use Rattle.dali_line.proofs.pumper.take_turn.Goals as goal
 
 pub returns-in_ok-pump-in-Next-clause-drives : goal.returns-in_ok-pump-in-Next-clause-drives

@@ -1,7 +1,6 @@
 use Rattle.std.proofs.Common.{◌∙◌, ◌≤◌, sym, ap, subst, length}
 use Rattle.dali_events.specs.Plan.{Plan}
-use Rattle.dali_line.specs.Shares.{Tally, count_at}
-use Rattle.dali_line.proofs.Counts.{count_at-counts_of}
+use Rattle.dali_line.{specs.Shares.Tally, specs.Shares.count_at, proofs.Counts.count_at-counts_of}
 use Rattle.dali_line.proofs.counted.CountedSite.audit.Goals as goal
 
 pub returns-clause-found : goal.returns-clause-found

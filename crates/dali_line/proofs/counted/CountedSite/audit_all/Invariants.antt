@@ -1,7 +1,5 @@
-use Rattle.std.proofs.Common.{◌≡◌, ◌<◌, ℕ}
-use Rattle.std.specs.Prelude.{slice_index_or}
-use Rattle.dali_line.specs.Shares.{PortShare}
-use Rattle.dali_line.proofs.Closing.{IsExact}
+use Rattle.std.proofs.Common.{◌≡◌, ◌<◌, ℕ, slice_index_or}
+use Rattle.dali_line.{specs.Shares.PortShare, proofs.Closing.IsExact}
 use Rattle.dali_line.proofs.counted.CountedSite.audit_all.Given as goal
 
 abbrev pub invariant-loop-place : goal.invariant-loop-place

@@ -1,7 +1,6 @@
 use Rattle.std.proofs.Common.{◌∙◌, ◌≤◌, sym, ap, subst, length}
 use Rattle.dali_events.specs.Plan.{Plan}
-use Rattle.dali_line.specs.Shares.{Tally}
-use Rattle.dali_line.proofs.Counts.{whole}
+use Rattle.dali_line.{specs.Shares.Tally, proofs.Counts.whole}
 use Rattle.dali_line.proofs.counted.CountedSite.audit_driver.Goals as goal
 
 pub returns-clause-found : goal.returns-clause-found

@@ -1,5 +1,4 @@
-use Rattle.dali_events.specs.Events.{event_of}
-use Rattle.dali_events.proofs.Invariant.Controllers.{nobodys_step}
+use Rattle.dali_events.{specs.Events.event_of, proofs.Invariant.Controllers.nobodys_step}
 use Rattle.dali_line.proofs.Counts.{other_counted}
 use Rattle.dali_line.proofs.counted.CountedSite.befall.Goals as goal
 

@@ -1,9 +1,6 @@
-use Rattle.std.proofs.Common.{◌≡◌, List, length, ◌∙◌, sym, subst}
-use Rattle.std.specs.Prelude.{All, ◌↔◌, IsTrue}
+use Rattle.std.proofs.Common.{◌≡◌, List, length, ◌∙◌, sym, subst, All, ◌↔◌, IsTrue}
 use Rattle.dali_world.specs.Site.{SiteState}
-use Rattle.dali_line.specs.Shares.{PortShare}
-use Rattle.dali_line.specs.Counts.{AreInOrder}
-use Rattle.dali_line.proofs.Closing.{IsExact, all_there}
+use Rattle.dali_line.{specs.Counts.AreInOrder, specs.Shares.PortShare, proofs.Closing.IsExact, proofs.Closing.all_there}
 use Rattle.dali_line.proofs.counted.CountedSite.close.Goals as goal
 
 pub returns-clause-ports : goal.returns-clause-ports

@@ -1,10 +1,8 @@
 use Rattle.std.proofs.Common.{List, refl, subst}
-use Rattle.dali_events.specs.declared.event.Event.TheVariants as event
 use Rattle.dali_events.specs.World.{controller_at}
+use Rattle.dali_events.specs.declared.event.Event.TheVariants as event
 use Rattle.dali_world.specs.Site.{SiteState, world}
-use Rattle.dali_line.specs.Commits.{state_of, MayComeUp}
-use Rattle.dali_line.specs.declared.commits.CommitState.{CommitState}
-use Rattle.dali_line.proofs.Counts.{other_counted}
+use Rattle.dali_line.{specs.Commits.state_of, specs.Commits.MayComeUp, specs.declared.commits.CommitState.CommitState, proofs.Counts.other_counted}
 use Rattle.dali_line.proofs.counted.CountedSite.up.Goals as goal
 
 pub invariant_of-self : goal.invariant_of-self

@@ -1,6 +1,5 @@
 use Rattle.std.proofs.Common.{rules, ◌≡◌, ◌∙◌, false, None, inl, inr, refl, ⊎_elim}
-use Rattle.dali_line.specs.declared.outcome.Outcome.TheVariants.{Stopped, Down}
-use Rattle.dali_line.specs.Facts.{facts_of}
+use Rattle.dali_line.specs.{Facts.facts_of, declared.outcome.Outcome.TheVariants.Stopped, declared.outcome.Outcome.TheVariants.Down}
 use Rattle.dali_line.proofs.Running.{no_steps_on, runs_ended, runs_idle, runs_acted, tells_other}
 use Rattle.dali_line.proofs.worker.Shift.take_turn.Goals as goal
 

@@ -1,8 +1,6 @@
 use Rattle.std.proofs.Common.{rules, ◌≡◌, ◌+◌, ◌≤◌, ◌∙◌, arith}
 use Rattle.std.specs.declared.option.Option.TheVariants.{None}
-use Rattle.dali_line.proofs.Leaving.{leaves_more}
-use Rattle.dali_line.proofs.Learning.{keeps_more, posts_more}
-use Rattle.dali_line.proofs.Running.{runs_more, runs_wider}
+use Rattle.dali_line.proofs.{Learning.keeps_more, Learning.posts_more, Leaving.leaves_more, Running.runs_more, Running.runs_wider}
 use Rattle.dali_line.proofs.worker.Shift.take_turns.Goals as goal
 
 pub returns-in-Some-clause-keep : goal.returns-in-Some-clause-keep

@@ -1,10 +1,7 @@
 use Rattle.std.proofs.Common.{◌≡◌}
 use Rattle.std.specs.declared.option.Option.TheVariants.{None}
 use Rattle.dali_enrol.specs.Directory.{Keeps}
-use Rattle.dali_line.specs.Leaves.{Leaves, Posts}
-use Rattle.dali_line.specs.Facts.{facts_of}
-use Rattle.dali_line.specs.Runs.{Runs}
-use Rattle.dali_line.specs.Shares.{Follows}
+use Rattle.dali_line.specs.{Facts.facts_of, Leaves.Leaves, Leaves.Posts, Runs.Runs, Shares.Follows}
 use Rattle.dali_line.proofs.worker.Shift.take_turns.Given as goal
 
 abbrev pub invariant-loop : goal.invariant-loop
