@@ -1,14 +1,12 @@
 use Rattle.std.proofs.Common.{◌≡◌, ℕ, List, [], ◌∷◌, Option, Some, None, refl}
 use Rattle.dali_frame.specs.declared.numbers.SearchAddress.{SearchAddress}
-use Rattle.dali_special.specs.declared.command.Target.TheVariants.{All, Addressed, Unaddressed}
 use Rattle.dali_special.specs.declared.command.Command.{Command}
-use Rattle.dali_special.specs.declared.command.Command.TheVariants.{Terminate, Initialise, Randomise, Compare, Withdraw, Program}
-use Rattle.dali_special.specs.declared.command.Command.TheVariants.{SearchHigh, SearchMiddle, SearchLow, Verify, QueryShort}
-use Rattle.dali_gear.specs.declared.state.InitialisationState.TheVariants.{Enabled}
-use Rattle.dali_gear.specs.declared.row.Reach.TheVariants.{Everyone, Only}
+use Rattle.dali_special.specs.declared.command.Command.TheVariants.{Terminate, Initialise, Randomise, Program, Verify, QueryShort}
+use Rattle.dali_special.specs.declared.command.Target.TheVariants.{All, Addressed}
 use Rattle.dali_gear.specs.Gear.{Gear, addressed, answer}
-use Rattle.dali_mending.specs.Transactions.{drawing, erasing, keeping, opening, under, commands_of}
+use Rattle.dali_gear.specs.declared.{row.Reach.TheVariants.Everyone, row.Reach.TheVariants.Only, state.InitialisationState.TheVariants.Enabled}
 use Rattle.dali_mending.specs.Rows.{Site, Moment, taken, sent}
+use Rattle.dali_mending.specs.Transactions.{drawing, erasing, keeping, opening, under}
 
 -- SHORT HISTORIES that break without a premise, and one that does not. They are proved by computing the definitions. All are of
 -- the short address 5, of gear with the numbers 123456 and ABCDEF.

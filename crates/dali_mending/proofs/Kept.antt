@@ -1,28 +1,21 @@
 use Rattle.std.proofs.Common.{◌≡◌, ◌≢◌, ℕ, zero, suc, ◌<◌, ◌≤◌, Bool, true, false, ◌||◌, List, [], ◌∷◌, Option, Some, None, is_some, IfSome, length}
-use Rattle.std.proofs.Common.{length-append, ◌++◌, refl, sym, ap, ◌∙◌, subst, arith}
-use Rattle.std.specs.Prelude.{if◌then◌else◌, ◌==◌, ◌+◌, nat_le, nat_lt, min, slice_get}
+use Rattle.std.proofs.Common.{length-append, ◌++◌, refl, sym, ap, ◌∙◌, subst, arith, if◌then◌else◌, ◌==◌, ◌+◌, nat_le, nat_lt, min, slice_get}
 use Rattle.std.proofs.lemmas.Bool.Decides.{nat_tests}
-use Rattle.dali_frame.specs.declared.frames.Forward.{Forward}
-use Rattle.dali_frame.specs.declared.frames.Answer.{Answer}
-use Rattle.dali_frame.specs.declared.frames.Answer.TheVariants.{Silence, Byte, Damaged}
 use Rattle.dali_frame.specs.Random.{MASK24}
+use Rattle.dali_frame.specs.declared.frames.{Answer.Answer, Answer.TheVariants.Silence, Answer.TheVariants.Byte, Answer.TheVariants.Damaged, Forward.Forward}
 use Rattle.dali_script.specs.declared.trace.Entry.{Entry}
-use Rattle.dali_search.specs.declared.step.Step.{Step}
-use Rattle.dali_search.specs.declared.step.Step.TheVariants.{Again, Found, Nobody}
 use Rattle.dali_search.specs.Ascending.{Ascent, ascent_at_first, ascended, asked_next, leads_to}
-use Rattle.dali_commissioning.specs.declared.census.Reply.{Reply}
+use Rattle.dali_search.specs.declared.step.Step.{Step, TheVariants.Again, TheVariants.Found, TheVariants.Nobody}
+use Rattle.dali_commissioning.specs.{Census.reply_of, declared.census.Reply.Reply}
 use Rattle.dali_commissioning.specs.declared.census.Reply.TheVariants as reply
-use Rattle.dali_commissioning.specs.Census.{reply_of}
-use Rattle.dali_mending.specs.declared.stage.Stage.{Stage}
-use Rattle.dali_mending.specs.declared.stage.Stage.TheVariants as stage
-use Rattle.dali_mending.specs.declared.course.Outcome.TheVariants as outcome
-use Rattle.dali_mending.specs.declared.course.Course.{Course}
-use Rattle.dali_mending.specs.Transactions.{is_own, answer_at, frame_next, frame_at, is_withheld, commands_of, as_frames}
-use Rattle.dali_mending.specs.Course.{at_stage, kept_by, keep_on, kind_of, times_after, told, unnumbered, unclear, again, answered, asked, stage_found, found}
-use Rattle.dali_mending.specs.Course.{searched, left, kept, gone_by, gone, silent, alike, unlike, unkept, queried, erased, stage_spent, spent}
-use Rattle.dali_mending.specs.Course.{IsCourse, IsFit, IsOfTable}
+use Rattle.dali_mending.specs.Course.{at_stage, kept_by, kind_of, times_after, told, unnumbered, unclear, again, answered, stage_found, found, searched, left}
+use Rattle.dali_mending.specs.Course.{kept, gone_by, gone, silent, alike, unlike, unkept, queried, erased, stage_spent, spent, IsCourse, IsFit, IsOfTable}
 use Rattle.dali_mending.specs.Mending.{Mending, is_heard, ascent_after, course_after, spent_if, IsSought, tells_apart, is_added, with_apart, left_after}
 use Rattle.dali_mending.specs.Mending.{finished}
+use Rattle.dali_mending.specs.Transactions.{is_own, answer_at, frame_next, frame_at, is_withheld, commands_of, as_frames}
+use Rattle.dali_mending.specs.declared.{course.Course.Course, stage.Stage.Stage}
+use Rattle.dali_mending.specs.declared.course.Outcome.TheVariants as outcome
+use Rattle.dali_mending.specs.declared.stage.Stage.TheVariants as stage
 
 -- A COURSE STAYS ONE, and its search goes on with the number that is asked.
 pub record IsNext (x : Ascent) (c : Course) : Type 0 where

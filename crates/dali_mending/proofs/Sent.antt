@@ -1,12 +1,10 @@
-use Rattle.std.proofs.Common.{◌≡◌, ℕ, zero, suc, ◌+◌, Bool, true, false, ◌&&◌, List, [], ◌∷◌, map, refl}
-use Rattle.std.specs.Prelude.{if◌then◌else◌}
+use Rattle.std.proofs.Common.{◌≡◌, ℕ, zero, suc, ◌+◌, Bool, true, false, ◌&&◌, List, [], ◌∷◌, map, refl, if◌then◌else◌}
 use Rattle.dali_special.specs.declared.command.Command.{Command}
-use Rattle.dali_gear.specs.declared.row.Reach.{Reach}
-use Rattle.dali_gear.specs.declared.row.Reach.TheVariants.{Everyone, Only}
 use Rattle.dali_gear.specs.Gear.{Gear, with_power, without_power, gear_expired, gear_quieted, gear_taken, draws_a_number}
 use Rattle.dali_gear.specs.Row.{reaches, takes, next_draw, one_after, left_after, row_after}
-use Rattle.dali_mending.specs.Rows.{Site, Befall, Power, Expired, Quiet, Foreign, changed, powered, interrupted, befallen, all_befallen}
-use Rattle.dali_mending.specs.Rows.{Moment, taken, put_at, is_whole, sent, Each}
+use Rattle.dali_gear.specs.declared.row.Reach.{Reach, TheVariants.Everyone, TheVariants.Only}
+use Rattle.dali_mending.specs.Rows.{Site, Befall, Power, Expired, Quiet, Foreign, changed, powered, interrupted, befallen, all_befallen, Moment, taken}
+use Rattle.dali_mending.specs.Rows.{is_whole, sent, Each}
 
 -- WHAT IS KEPT WHILE A TRANSACTION IS SENT, gear by gear: each fact speaks of a gear as it was before and as it is.
 

@@ -1,24 +1,16 @@
-use Rattle.std.proofs.Common.{◌≡◌, ◌≢◌, ℕ, ◌<◌, Bool, true, false, ◌&&◌, List, [], ◌∷◌, Option, Some, None, refl, sym, ap, ◌∙◌, subst, inl, inr, arith}
-use Rattle.std.specs.Prelude.{if◌then◌else◌, ◌==◌, ◌⊎◌}
-use Rattle.std.proofs.lemmas.Bool.Decides.{nat_tests}
-use Rattle.dali_frame.specs.Random.{value_of, high_of, middle_of, low_of, number_of, MASK24}
-use Rattle.dali_special.specs.declared.command.Part.TheVariants.{High, Middle, Low}
-use Rattle.dali_special.specs.declared.command.Target.TheVariants.{Addressed}
+use Rattle.std.proofs.Common.{◌≡◌, ℕ, Bool, true, false, ◌&&◌, List, [], ◌∷◌, Option, Some, None, refl, sym, ap, ◌∙◌, if◌then◌else◌}
+use Rattle.dali_frame.specs.Random.{high_of, middle_of, low_of, MASK24}
 use Rattle.dali_special.specs.declared.command.Command.{Command}
-use Rattle.dali_special.specs.declared.command.Command.TheVariants.{Terminate, Initialise, Randomise, Compare, Withdraw, Program}
-use Rattle.dali_special.specs.declared.command.Command.TheVariants.{SearchHigh, SearchMiddle, SearchLow, Verify, QueryShort, RandomByte, Arc, Other}
-use Rattle.dali_gear.specs.declared.state.InitialisationState.{InitialisationState}
-use Rattle.dali_gear.specs.declared.state.InitialisationState.TheVariants.{Disabled, Enabled, Withdrawn}
-use Rattle.dali_gear.specs.declared.row.Reach.TheVariants.{Everyone}
-use Rattle.dali_gear.specs.Gear.{Gear, with_power, without_power, gear_expired, gear_quieted, gear_taken, draws_a_number, is_second, is_active}
-use Rattle.dali_gear.specs.Gear.{is_found, concerns, has_short, state_after, short_after, random_after, search_after, search_mask}
+use Rattle.dali_special.specs.declared.command.Command.TheVariants.{Terminate, Initialise, Randomise, Program, SearchHigh, SearchMiddle, SearchLow, QueryShort}
+use Rattle.dali_special.specs.declared.command.Target.TheVariants.{Addressed}
+use Rattle.dali_gear.specs.Gear.{Gear, with_power, without_power, gear_expired, gear_quieted, gear_taken, draws_a_number, is_second, is_active, is_found}
+use Rattle.dali_gear.specs.{Gear.concerns, Gear.has_short, Gear.state_after, Gear.short_after, Gear.search_mask, declared.row.Reach.TheVariants.Everyone}
+use Rattle.dali_gear.specs.declared.state.InitialisationState.{InitialisationState, TheVariants.Disabled, TheVariants.Enabled}
+use Rattle.dali_mending.specs.Rows.{Site, Befall, Moment, Sending, all_befallen, put_at, all_sent, sent, Each, Keeps, takes_part}
+use Rattle.dali_mending.specs.Transactions.{commands_of, opening, under, asking, beginning, probing, keeping, closing}
 use Rattle.dali_mending.specs.declared.stage.Stage.{Stage}
+use Rattle.dali_mending.proofs.Sent.{each_takes, all_endure, Endures, Leads, Comes, AllLead, all_lead, one_more, each_weaker}
 use Rattle.dali_mending.specs.declared.stage.Stage.TheVariants as stage
-use Rattle.dali_mending.specs.declared.course.Course.{Course}
-use Rattle.dali_mending.specs.Transactions.{commands_of, opening, under, asking, drawing, beginning, probing, keeping, erasing, closing}
-use Rattle.dali_mending.specs.Course.{IsCourse, IsOfTable, IsFit, Spares}
-use Rattle.dali_mending.specs.Rows.{Site, Befall, Moment, Sending, all_befallen, put_at, AllSpare, all_sent, sent, Each, Keeps, IsGivenNone, takes_part}
-use Rattle.dali_mending.proofs.Sent.{each_takes, all_endure, Endures, Leads, Comes, AllLead, all_lead, no_more, one_more, each_weaker}
 
 -- ---------------------------------------------------------------- a gear that keeps both addresses
 

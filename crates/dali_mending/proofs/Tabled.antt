@@ -1,22 +1,20 @@
-use Rattle.std.proofs.Common.{◌≡◌, ◌≢◌, ℕ, ◌<◌, Bool, true, false, ◌&&◌, List, [], ◌∷◌, Option, Some, None, refl, sym, ap, ◌∙◌, inl, inr, arith}
-use Rattle.std.specs.Prelude.{if◌then◌else◌, ◌==◌, ◌⊎◌, ◌*◌, ◌+◌}
+use Rattle.std.proofs.Common.{◌≡◌, ◌≢◌, ℕ, Bool, true, false, ◌&&◌, List, [], ◌∷◌, Option, Some, None, refl, sym, ap, ◌∙◌, inl, inr, arith, if◌then◌else◌, ◌==◌}
+use Rattle.std.proofs.Common.{◌⊎◌}
 use Rattle.std.proofs.lemmas.Bool.Decides.{nat_tests}
-use Rattle.dali_frame.specs.declared.numbers.SearchAddress.{SearchAddress}
 use Rattle.dali_frame.specs.Random.{value_of, high_of, middle_of, low_of, number_of, MASK24}
-use Rattle.dali_special.specs.declared.command.Target.TheVariants.{Addressed}
+use Rattle.dali_frame.specs.declared.numbers.SearchAddress.{SearchAddress}
 use Rattle.dali_special.specs.declared.command.Command.{Command}
 use Rattle.dali_special.specs.declared.command.Command.TheVariants.{Terminate, Initialise, Program, SearchHigh, SearchMiddle, SearchLow, QueryShort}
-use Rattle.dali_gear.specs.declared.state.InitialisationState.TheVariants.{Disabled}
+use Rattle.dali_special.specs.declared.command.Target.TheVariants.{Addressed}
 use Rattle.dali_gear.specs.Gear.{Gear, with_power, without_power, gear_expired, gear_quieted, gear_taken, is_active, is_found, search_mask, search_after}
-use Rattle.dali_mending.specs.declared.stage.Stage.{Stage}
-use Rattle.dali_mending.specs.declared.stage.Stage.TheVariants as stage
-use Rattle.dali_mending.specs.declared.course.Course.{Course}
-use Rattle.dali_mending.specs.Transactions.{commands_of, under, asking, beginning, probing, keeping, erasing, closing}
+use Rattle.dali_gear.specs.declared.state.InitialisationState.TheVariants.{Disabled}
 use Rattle.dali_mending.specs.Course.{IsCourse, IsOfTable, IsFit, Spares}
 use Rattle.dali_mending.specs.Rows.{Site, Sending, AllSpare, all_sent, sent, Each, Keeps, IsGivenNone, takes_part}
-use Rattle.dali_mending.proofs.Sent.{Endures, Leads, Comes, AllLead, all_lead, no_more, one_more}
-use Rattle.dali_mending.proofs.Sparing.{same, onward, with_power_keeps, keeping_endures, is_harmless, harmless, harmless_leads, AllHarmless, harmless_comes}
-use Rattle.dali_mending.proofs.Sparing.{all_come, each_same, and_false}
+use Rattle.dali_mending.specs.Transactions.{commands_of, under, asking, beginning, probing, keeping, erasing, closing}
+use Rattle.dali_mending.specs.declared.{course.Course.Course, stage.Stage.Stage}
+use Rattle.dali_mending.proofs.{Sent.Endures, Sent.Leads, Sent.Comes, Sent.AllLead, Sent.all_lead, Sent.one_more, Sparing.same}
+use Rattle.dali_mending.proofs.Sparing.{onward, with_power_keeps, keeping_endures, is_harmless, harmless, harmless_leads, harmless_comes, all_come, each_same}
+use Rattle.dali_mending.specs.declared.stage.Stage.TheVariants as stage
 
 -- ---------------------------------------------------------------- gear with the number of a table
 

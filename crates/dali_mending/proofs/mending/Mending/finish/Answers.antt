@@ -1,7 +1,6 @@
 use Rattle.std.proofs.Common.{◌≡◌, List, [], ap, ◌∙◌, rules}
 use Rattle.dali_script.specs.declared.trace.Entry.{Entry}
-use Rattle.dali_mending.specs.Mending.{Mending, finished}
-use Rattle.dali_mending.proofs.Kept.{IsNext, made_is, made, has_room}
+use Rattle.dali_mending.{specs.Mending.Mending, specs.Mending.finished, proofs.Kept.IsNext, proofs.Kept.made_is, proofs.Kept.made, proofs.Kept.has_room}
 use Rattle.dali_mending.proofs.mending.Mending.finish.Goals as goal
 
 pub invariant_of-self : goal.invariant_of-self
