@@ -1,31 +1,17 @@
 use Rattle.std.proofs.Common.{◌≡◌, ℕ, ◌⊎◌, inl, inr, List, [], ◌∷◌, refl, lit<, lit≤, Some, false}
 use Rattle.dali_frame.specs.declared.frames.Answer.TheVariants.{Silence}
-use Rattle.dali_special.specs.Command.{command_of, frame}
-use Rattle.dali_special.specs.declared.command.Command.TheVariants.{Terminate}
-use Rattle.dali_arbiter.specs.declared.request.Request.{Request}
-use Rattle.dali_arbiter.specs.Arbiter.{request_of}
-use Rattle.dali_script.specs.declared.block.Block.{Block}
-use Rattle.dali_script.specs.declared.stage.Stage.TheVariants.{Free}
-use Rattle.dali_script.specs.Records.{without_records}
-use Rattle.dali_script.specs.Scripts.{Open}
-use Rattle.dali_script.specs.Stages.{stage_of}
-use Rattle.dali_script.specs.declared.orders.Input.{Input}
+use Rattle.dali_special.specs.{Command.command_of, Command.frame, declared.command.Command.TheVariants.Terminate}
+use Rattle.dali_arbiter.specs.{Arbiter.request_of, declared.request.Request.Request}
+use Rattle.dali_script.specs.{Records.without_records, Scripts.Open, Stages.stage_of}
+use Rattle.dali_script.specs.declared.{block.Block.Block, orders.End.End, orders.Input.Input, orders.Order.TheVariants.Put, stage.Stage.TheVariants.Free}
 use Rattle.dali_script.specs.declared.orders.Input.TheVariants as input
-use Rattle.dali_script.specs.declared.orders.Order.TheVariants.{Put}
-use Rattle.dali_script.specs.declared.orders.End.{End}
-use Rattle.dali_controller.specs.Machine.{at_first}
-use Rattle.dali_controller.specs.Orders.{IsGiven}
-use Rattle.dali_events.specs.declared.event.Event.{Event}
+use Rattle.dali_controller.specs.{Machine.at_first, Orders.IsGiven}
+use Rattle.dali_events.specs.{Allowed.Allowed, Allowed.IsDue, Plan.Plan, World.controller_at, declared.event.Event.Event}
+use Rattle.dali_events.proofs.{Invariant.Growing.leaves_none, Plans.plan_is}
 use Rattle.dali_events.specs.declared.event.Event.TheVariants as event
-use Rattle.dali_events.specs.Plan.{Plan}
-use Rattle.dali_events.specs.World.{controller_at}
-use Rattle.dali_events.specs.Allowed.{Allowed, IsDue}
-use Rattle.dali_events.proofs.Invariant.Growing.{leaves_none}
-use Rattle.dali_events.proofs.Plans.{plan_is}
 use Rattle.dali_world.specs.Site.{SiteState, world, next_request, site_logged}
 use Rattle.dali_progress.specs.Rounds.{IsOfRound, site_after, GoesOn, HasEnded, ByStart, BeginsAlone}
-use Rattle.dali_progress.proofs.Giving.{first_given}
-use Rattle.dali_progress.proofs.Session.{block, given_first}
+use Rattle.dali_progress.proofs.{Giving.first_given, Session.block, Session.given_first}
 
 -- ALONE MATTERS. One gear and two controllers, at their start. Each event is of a round of one of the
 -- two. The second one sends the first frame of its opening, and owns the bus from then on: the first

@@ -2,24 +2,17 @@ use Rattle.std.proofs.Common.{◌≡◌, ℕ, ◌⊎◌, inl, inr, List, [], ◌
 use Rattle.dali_frame.specs.declared.frames.Answer.TheVariants.{Silence}
 use Rattle.dali_special.specs.Command.{command_of, frame}
 use Rattle.dali_arbiter.specs.Arbiter.{request_of}
-use Rattle.dali_script.specs.Scripts.{Open}
-use Rattle.dali_script.specs.Stages.{stage_of}
+use Rattle.dali_script.specs.{Scripts.Open, Stages.stage_of, declared.orders.End.TheVariants.AllFound, declared.orders.Order.TheVariants.Put}
 use Rattle.dali_script.specs.declared.orders.Input.TheVariants as input
-use Rattle.dali_script.specs.declared.orders.Order.TheVariants.{Put}
-use Rattle.dali_script.specs.declared.orders.End.TheVariants.{AllFound}
-use Rattle.dali_events.specs.declared.event.Event.{Event}
+use Rattle.dali_events.{specs.Allowed.Allowed, specs.World.start, specs.declared.event.Event.Event, proofs.Invariant.Growing.leaves_none}
 use Rattle.dali_events.specs.declared.event.Event.TheVariants as event
-use Rattle.dali_events.specs.World.{start}
-use Rattle.dali_events.specs.Allowed.{Allowed}
 use Rattle.dali_standing.specs.Standing.{machines_at}
 use Rattle.dali_world.specs.Site.{SiteState, world, machines, site_logged}
-use Rattle.dali_events.proofs.Invariant.Growing.{leaves_none}
-use Rattle.dali_progress.specs.Rounds.{IsOfRound, Rounds, site_after, HasEnded, ByStart, BeginsAlone}
+use Rattle.dali_progress.specs.{Ends.IsTrueEnd, Rounds.IsOfRound, Rounds.Rounds, Rounds.site_after, Rounds.HasEnded, Rounds.ByStart, Rounds.BeginsAlone}
+use Rattle.dali_progress.proofs.Another.{second_block, two_controllers, shared_site, starts, given_second}
+use Rattle.dali_progress.proofs.Playing.{Plays, rounds_by, plays_by}
 use Rattle.dali_progress.proofs.Session.{block, opening, searching, compare, ending, given_first, given_initialise, given_initialise_again, given_randomise}
 use Rattle.dali_progress.proofs.Session.{given_randomise_again, given_high, given_middle, given_low, given_compare, given_close, given_done}
-use Rattle.dali_progress.proofs.Playing.{Plays, rounds_by, plays_by}
-use Rattle.dali_progress.proofs.Another.{second_block, two_controllers, shared_site, starts, given_second}
-use Rattle.dali_progress.specs.Ends.{IsTrueEnd}
 
 -- ALONE MATTERS for the end. One gear and two controllers. All events are of rounds of the first one, but
 -- those of the second one, between the opening and the search of the first: the second one sends the

@@ -1,15 +1,12 @@
+use Rattle.std.proofs.Common.{◌≡◌, ℕ, ◌+◌, ◌<◌, ◌≤◌, ◌⊎◌, inl, inr, Bool, true, false, List, refl, sym, ap, subst, ◌∙◌, arith, length, Some, None}
+use Rattle.dali_events.specs.{World.controller_at, declared.event.Event.Event}
+use Rattle.dali_world.specs.Site.{SiteState, world, next_request}
+use Rattle.dali_replay.specs.{Installation.Installation, Rounds.has_turn, Rounds.controllers}
+use Rattle.dali_replay.specs.Rounds as replay
 use Rattle.dali_progress.specs.Rounds.{most_events, Beginning, most_frames, Rounds, GoesOn, by_survey, IsAlone, bare, site_after, BeginsAlone}
 use Rattle.dali_progress.specs.Running.{HasEndedBy, WasRefused, HasBegun, begun, RanAlone}
-use Rattle.std.proofs.Common.{◌≡◌, ℕ, ◌+◌, ◌<◌, ◌≤◌, ◌⊎◌, inl, inr, Bool, true, false, List, refl, sym, ap, subst, ◌∙◌, arith, length, Some, None}
-use Rattle.dali_events.specs.declared.event.Event.{Event}
-use Rattle.dali_events.specs.World.{controller_at}
-use Rattle.dali_world.specs.Site.{SiteState, world, next_request}
-use Rattle.dali_replay.specs.Installation.{Installation}
-use Rattle.dali_replay.specs.Rounds.{has_turn, controllers}
-use Rattle.dali_replay.specs.Rounds as replay
-use Rattle.dali_progress.proofs.Running.{Comes, Came, all_played, one_more, over, due_turn}
 use Rattle.dali_progress.proofs.Beginnings.{alone_of, bounded, few_events, after, goes_on, ends, named}
-use Rattle.dali_progress.proofs.Survey.Running.{surveyed}
+use Rattle.dali_progress.proofs.{Running.Comes, Running.Came, Running.all_played, Running.one_more, Running.over, Running.due_turn, Survey.Running.surveyed}
 
 -- THE END OF A RUN OF ROUNDS, of an installation with one controller that begins alone.
 

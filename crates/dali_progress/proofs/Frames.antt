@@ -1,45 +1,31 @@
 use Rattle.std.proofs.Common.{◌≡◌, ℕ, ◌+◌, ◌<◌, ◌≤◌, inl, inr, Bool, true, false, zero, suc, List, [], ◌∷◌, refl, sym, ap, subst, ◌∙◌, arith, length, get_or}
-use Rattle.std.proofs.Common.{Option, Some, None}
-use Rattle.std.specs.Prelude.{◌==◌, if◌then◌else◌}
-use Rattle.std.specs.List.{count_by}
-use Rattle.std.proofs.lemmas.Bool.Decides.{nat_tests}
-use Rattle.dali_frame.specs.declared.frames.Answer.{Answer}
-use Rattle.dali_frame.specs.declared.frames.Answer.TheVariants.{Silence, Byte, Damaged}
-use Rattle.dali_frame.specs.declared.numbers.SearchAddress.{SearchAddress}
-use Rattle.dali_frame.specs.Random.{value_of, MASK24}
-use Rattle.dali_special.specs.declared.command.Command.{Command}
-use Rattle.dali_special.specs.declared.command.Command.TheVariants.{Terminate, Initialise, Randomise, Compare, Withdraw, SearchHigh, SearchMiddle, SearchLow}
-use Rattle.dali_special.specs.declared.command.Command.TheVariants.{Program, QueryShort}
-use Rattle.dali_special.specs.declared.command.Target.TheVariants.{Unaddressed}
+use Rattle.std.proofs.Common.{Option, Some, None, ◌==◌, if◌then◌else◌}
+use Rattle.std.{proofs.lemmas.Bool.Decides.nat_tests, specs.List.count_by}
+use Rattle.dali_frame.specs.{Random.value_of, Random.MASK24, declared.frames.Answer.Answer, declared.frames.Answer.TheVariants.Silence}
+use Rattle.dali_frame.specs.declared.{frames.Answer.TheVariants.Byte, frames.Answer.TheVariants.Damaged, numbers.SearchAddress.SearchAddress}
 use Rattle.dali_special.specs.Command.{program_data}
-use Rattle.dali_special.proofs.Table.{short_of_code}
-use Rattle.dali_gear.specs.declared.row.Reach.TheVariants.{Everyone}
-use Rattle.dali_gear.specs.declared.state.InitialisationState.TheVariants.{Enabled}
-use Rattle.dali_gear.specs.Gear.{Gear, fresh, is_active}
-use Rattle.dali_gear.specs.Row.{row_after, draws_needed, drawn_of, answers_of, heard_of}
-use Rattle.dali_script.specs.Records.{Kept, Has}
-use Rattle.dali_script.specs.declared.stage.Stage.{Stage}
+use Rattle.dali_special.specs.declared.command.Command.{Command, TheVariants.Terminate, TheVariants.Initialise}
+use Rattle.dali_special.specs.declared.command.Command.TheVariants.{Randomise, Compare, Withdraw, SearchHigh, SearchMiddle, SearchLow, Program, QueryShort}
+use Rattle.dali_special.{specs.declared.command.Target.TheVariants.Unaddressed, proofs.Table.short_of_code}
+use Rattle.dali_gear.specs.{Gear.Gear, Gear.fresh, Gear.is_active, Row.row_after, Row.draws_needed, Row.drawn_of, Row.answers_of, Row.heard_of}
+use Rattle.dali_gear.specs.declared.{row.Reach.TheVariants.Everyone, state.InitialisationState.TheVariants.Enabled}
+use Rattle.dali_script.specs.{Records.Kept, Records.Has, Stages.next_stage, Stages.queried, Stages.verified, Stages.IsSearched}
+use Rattle.dali_script.specs.declared.{orders.End.End, orders.End.TheVariants.AllFound, stage.Stage.Stage}
 use Rattle.dali_script.specs.declared.stage.Stage.TheVariants as stage
-use Rattle.dali_script.specs.Stages.{next_stage, queried, verified, IsSearched}
-use Rattle.dali_script.specs.declared.orders.End.{End}
-use Rattle.dali_script.specs.declared.orders.End.TheVariants.{AllFound}
 use Rattle.dali_search.specs.Least.{Search, Agrees, Gives, HasAtMost}
-use Rattle.dali_controller.specs.declared.purpose.Purpose.{Purpose}
+use Rattle.dali_controller.specs.{Course.sought, Course.is_yes, declared.purpose.Purpose.Purpose}
 use Rattle.dali_controller.specs.declared.purpose.Purpose.TheVariants.{Opening, Probing, Visiting, Closing}
-use Rattle.dali_controller.specs.Course.{sought, is_yes}
 use Rattle.dali_events.specs.Searching.{number_at, HasShort}
 use Rattle.dali_events.specs.Wanted.{is_wanted, wants, is_bare, OfPowered, Seek, AreApart, IsOpened, NoneNamedBut, AreNamed, gear_of}
-use Rattle.dali_events.proofs.Invariant.Takes.{row_length}
-use Rattle.dali_events.proofs.Search.Wanted as wanted
-use Rattle.dali_events.proofs.Search.Leaving as leaving
-use Rattle.dali_events.proofs.Search.Leaving.{LeavesShort, SameCore}
+use Rattle.dali_events.proofs.{Invariant.Takes.row_length, Search.Leaving.LeavesShort, Search.Leaving.SameCore}
 use Rattle.dali_events.proofs.Search.Heard as hearing
+use Rattle.dali_events.proofs.Search.Leaving as leaving
 use Rattle.dali_events.proofs.Search.Opened as opening
 use Rattle.dali_events.proofs.Search.Programming as programming
+use Rattle.dali_events.proofs.Search.Wanted as wanted
 use Rattle.dali_events.proofs.Search.Withdrawing as withdrawing
-use Rattle.dali_progress.specs.Ends.{EndsWell}
-use Rattle.dali_progress.proofs.Stands.{sent_at, search_frames, probe_frames, Opens, ProbeStage, Probes, VisitStage, IsVisited, VisitFrames, Visits, HaveShort}
-use Rattle.dali_progress.proofs.Stands.{Names, VisitsAt, Closes, At, Sends}
+use Rattle.dali_progress.{specs.Ends.EndsWell, proofs.Stands.sent_at, proofs.Stands.search_frames, proofs.Stands.probe_frames}
+use Rattle.dali_progress.proofs.Stands.{Opens, ProbeStage, Probes, VisitStage, IsVisited, VisitFrames, Visits, HaveShort, Names, VisitsAt, Closes, At, Sends}
 
 -- A FRAME IS SENT, and each gear with power takes it. The transaction goes on to its next stage, and one frame less is
 -- left to be sent.

@@ -1,27 +1,15 @@
 use Rattle.std.proofs.Common.{◌≡◌, ℕ, ◌<◌, ◌≤◌, ◌⊎◌, inl, inr, true, List, ◌++◌, refl, sym, subst, ◌∙◌, length, Option, Some, None}
 use Rattle.std.specs.List.{count_by}
-use Rattle.dali_frame.specs.declared.frames.Forward.{Forward}
-use Rattle.dali_frame.specs.declared.frames.Answer.{Answer}
-use Rattle.dali_special.specs.declared.command.Command.{Command}
-use Rattle.dali_special.specs.Command.{command_of}
-use Rattle.dali_gear.specs.declared.row.Reach.TheVariants.{Everyone}
-use Rattle.dali_gear.specs.Gear.{Gear}
-use Rattle.dali_gear.specs.Row.{row_after, drawn_of, stored_of}
-use Rattle.dali_script.specs.declared.block.Block.{Block}
-use Rattle.dali_script.specs.Records.{Assignment, Has, InBlock}
-use Rattle.dali_events.specs.declared.event.Event.TheVariants as event
-use Rattle.dali_events.specs.Plan.{block_at}
-use Rattle.dali_events.specs.World.{World, controller_at}
-use Rattle.dali_events.specs.Allowed.{Allowed}
-use Rattle.dali_events.specs.Runs.{IsRun}
-use Rattle.dali_events.specs.Wanted.{gear_of, is_bare}
-use Rattle.dali_events.proofs.Invariant.Gifts.{Change, Given}
-use Rattle.dali_events.proofs.Invariant.Safe.{Holds, holds_after, sent_changes}
+use Rattle.dali_frame.specs.declared.frames.{Answer.Answer, Forward.Forward}
+use Rattle.dali_special.specs.{Command.command_of, declared.command.Command.Command}
+use Rattle.dali_gear.specs.{Gear.Gear, Row.row_after, Row.drawn_of, Row.stored_of, declared.row.Reach.TheVariants.Everyone}
+use Rattle.dali_script.specs.{Records.Assignment, Records.Has, Records.InBlock, declared.block.Block.Block}
+use Rattle.dali_events.specs.{Allowed.Allowed, Plan.block_at, Runs.IsRun, Wanted.gear_of, Wanted.is_bare, World.World, World.controller_at}
+use Rattle.dali_events.proofs.Invariant.{Gifts.Change, Gifts.Given, Safe.Holds, Safe.holds_after, Safe.sent_changes}
 use Rattle.dali_events.proofs.Search.Wanted.{after_at, count_at_most, is_bare_by, bare_is}
-use Rattle.dali_world.specs.Site.{SiteState, world}
-use Rattle.dali_world.proofs.Logs.{records_now}
-use Rattle.dali_progress.proofs.Logged.{kept_now}
-use Rattle.dali_progress.proofs.Both.{has_address}
+use Rattle.dali_events.specs.declared.event.Event.TheVariants as event
+use Rattle.dali_world.{specs.Site.SiteState, specs.Site.world, proofs.Logs.records_now}
+use Rattle.dali_progress.proofs.{Both.has_address, Logged.kept_now}
 
 -- WHO IS GIVEN A SHORT ADDRESS by one controller: gear with power that have none, and each an address of the controller's
 -- block. All others keep theirs.

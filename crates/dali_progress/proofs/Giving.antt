@@ -1,26 +1,15 @@
 use Rattle.std.proofs.Common.{◌≡◌, ℕ, inl, inr, [], refl, sym, ap, subst, ◌∙◌, arith, Option, Some, None}
-use Rattle.dali_frame.specs.declared.frames.Forward.{Forward}
-use Rattle.dali_frame.specs.Priority.{FIRST, LATER}
-use Rattle.dali_special.specs.declared.command.Command.{Command}
-use Rattle.dali_special.specs.declared.command.Command.TheVariants.{Arc}
-use Rattle.dali_special.specs.Command.{command_of, frame_of}
-use Rattle.dali_script.specs.declared.stage.Stage.{Stage}
+use Rattle.dali_frame.specs.{Priority.FIRST, Priority.LATER, declared.frames.Forward.Forward}
+use Rattle.dali_special.specs.{Command.command_of, Command.frame_of, declared.command.Command.Command, declared.command.Command.TheVariants.Arc}
+use Rattle.dali_script.specs.{Scripts.Lawful, Stages.stage_of}
+use Rattle.dali_script.specs.declared.orders.{End.End, Input.Input, Order.Order, Order.TheVariants.Put, Order.TheVariants.Commit, Order.TheVariants.Done}
+use Rattle.dali_script.specs.declared.{records.Record.TheVariants.Enrol, stage.Stage.Stage}
 use Rattle.dali_script.specs.declared.stage.Stage.TheVariants.{Unnamed, Inconclusive, Withdrawn, Spelled, Terminated, Hunted}
-use Rattle.dali_script.specs.declared.records.Record.TheVariants.{Enrol}
-use Rattle.dali_script.specs.Scripts.{Lawful}
-use Rattle.dali_script.specs.Stages.{stage_of}
-use Rattle.dali_script.specs.declared.orders.Input.{Input}
 use Rattle.dali_script.specs.declared.orders.Input.TheVariants as input
-use Rattle.dali_script.specs.declared.orders.Order.{Order}
-use Rattle.dali_script.specs.declared.orders.Order.TheVariants.{Put, Commit, Done}
-use Rattle.dali_script.specs.declared.orders.End.{End}
-use Rattle.dali_controller.specs.declared.purpose.Purpose.{Purpose}
-use Rattle.dali_controller.specs.declared.way.Way.{Way}
-use Rattle.dali_controller.specs.declared.way.Way.TheVariants.{Fresh, Surveying}
-use Rattle.dali_controller.specs.Machine.{Machine, machine_told}
-use Rattle.dali_controller.specs.Course.{turn_of, first_of}
+use Rattle.dali_controller.specs.{Course.turn_of, Course.first_of, Machine.Machine, Machine.machine_told}
 use Rattle.dali_controller.specs.Next.{next_course, course_by, most_silent, BeginsWith}
 use Rattle.dali_controller.specs.Orders.{IsAllowed, IsAddressing, IsBegun, IsCaused, IsOrdered, IsFollowed, IsGiven, machine_after, running_close}
+use Rattle.dali_controller.specs.declared.{purpose.Purpose.Purpose, way.Way.Way, way.Way.TheVariants.Fresh, way.Way.TheVariants.Surveying}
 use Rattle.dali_progress.proofs.Later.{IsUnasked, course_stays}
 
 -- ORDERS OF A MACHINE, by what a short history has at hand: the other way round from what is read

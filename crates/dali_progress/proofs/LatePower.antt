@@ -1,18 +1,14 @@
 use Rattle.std.proofs.Common.{◌≡◌, ℕ, true, false, List, [], ◌∷◌, ◌++◌, refl, lit<, Some, None}
 use Rattle.dali_special.specs.Command.{command_of}
 use Rattle.dali_script.specs.Stages.{stage_of}
-use Rattle.dali_events.specs.declared.event.Event.{Event}
+use Rattle.dali_events.{specs.Happens.happens, specs.World.start, specs.declared.event.Event.Event, proofs.Invariant.Growing.leaves_none}
 use Rattle.dali_events.specs.declared.event.Event.TheVariants as event
-use Rattle.dali_events.specs.World.{start}
-use Rattle.dali_events.specs.Happens.{happens}
 use Rattle.dali_standing.specs.Standing.{machines_at}
 use Rattle.dali_world.specs.Site.{SiteState}
-use Rattle.dali_events.proofs.Invariant.Growing.{leaves_none}
+use Rattle.dali_progress.specs.Rounds.{ByStart, BeginsAlone}
+use Rattle.dali_progress.proofs.{Needed.plan, Needed.is_plan, Needed.up_to_compare, Playing.Plays, Playing.rounds_by, Playing.plays_by, Playing.BreaksEnd}
 use Rattle.dali_progress.proofs.Session.{block, compare, ending, given_first, given_initialise, given_initialise_again, given_randomise, given_randomise_again}
 use Rattle.dali_progress.proofs.Session.{given_high, given_middle, given_low, given_compare, given_close, given_done}
-use Rattle.dali_progress.proofs.Playing.{Plays, rounds_by, plays_by, BreaksEnd}
-use Rattle.dali_progress.proofs.Needed.{plan, is_plan, up_to_compare}
-use Rattle.dali_progress.specs.Rounds.{ByStart, BeginsAlone}
 
 -- POWER MATTERS. One gear, which has no power when the controller starts alone, and one controller. All
 -- events are of rounds, up to the end with all-found; then the gear gets power, and it has no short

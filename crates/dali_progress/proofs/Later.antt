@@ -1,23 +1,13 @@
-use Rattle.std.proofs.Common.{◌≡◌, ℕ, refl, sym, ap, ◌∙◌, Some, None, Bool, true, false, Option}
-use Rattle.dali_frame.specs.declared.frames.Answer.{Answer}
+use Rattle.std.proofs.Common.{◌≡◌, ℕ, refl, sym, ap, ◌∙◌, Some, None, Bool, true, false, Option, ◌==◌, if◌then◌else◌}
+use Rattle.dali_frame.specs.{Priority.LATER, Short.short_of, declared.frames.Answer.Answer}
 use Rattle.dali_frame.specs.declared.frames.Answer.TheVariants.{Silence, Byte, Damaged}
-use Rattle.dali_frame.specs.declared.frames.Forward.{Forward}
-use Rattle.dali_frame.specs.declared.numbers.SearchAddress.{SearchAddress}
-use Rattle.dali_frame.specs.Priority.{LATER}
-use Rattle.dali_frame.specs.Short.{short_of}
-use Rattle.dali_special.specs.declared.command.Command.{Command}
-use Rattle.dali_special.specs.Command.{MASK}
-use Rattle.dali_script.specs.declared.stage.Stage.{Stage}
-use Rattle.dali_script.specs.declared.stage.Stage.TheVariants as stage
+use Rattle.dali_frame.specs.declared.{frames.Forward.Forward, numbers.SearchAddress.SearchAddress}
+use Rattle.dali_special.specs.{Command.MASK, declared.command.Command.Command}
 use Rattle.dali_script.specs.Stages.{stage_of, named, queried, answered, verified}
-use Rattle.dali_script.specs.declared.orders.Order.TheVariants.{Put}
-use Rattle.dali_controller.specs.declared.purpose.Purpose.{Purpose}
-use Rattle.dali_controller.specs.declared.purpose.Purpose.TheVariants.{Asking, Hunting}
-use Rattle.dali_controller.specs.Course.{Course, turn_of}
-use Rattle.dali_controller.specs.Machine.{Machine}
-use Rattle.dali_controller.specs.Next.{course_on, asked_on}
-use Rattle.dali_controller.specs.Orders.{machine_ordered, asked_by}
-use Rattle.std.specs.Prelude.{◌==◌, if◌then◌else◌}
+use Rattle.dali_script.specs.declared.{orders.Order.TheVariants.Put, stage.Stage.Stage}
+use Rattle.dali_script.specs.declared.stage.Stage.TheVariants as stage
+use Rattle.dali_controller.specs.{Course.Course, Course.turn_of, Machine.Machine, Next.course_on, Next.asked_on, Orders.machine_ordered, Orders.asked_by}
+use Rattle.dali_controller.specs.declared.purpose.Purpose.{Purpose, TheVariants.Asking, TheVariants.Hunting}
 
 -- A LATER FRAME LEAVES THE COURSE, but for the next question of a hunt.
 

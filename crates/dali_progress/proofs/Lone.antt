@@ -1,29 +1,19 @@
 use Rattle.std.proofs.Common.{◌≡◌, ℕ, ◌<◌, ◌⊎◌, inl, inr, Bool, true, false, List, [], ◌∷◌, ◌++◌, refl, sym, ap, subst, ◌∙◌, arith, length-set, get_or-set_same}
-use Rattle.std.proofs.Common.{Option, Some, None}
-use Rattle.std.specs.Prelude.{◌==◌, if◌then◌else◌}
+use Rattle.std.proofs.Common.{Option, Some, None, ◌==◌, if◌then◌else◌}
 use Rattle.std.proofs.lemmas.Bool.Decides.{nat_tests}
-use Rattle.dali_frame.specs.declared.frames.Forward.{Forward}
-use Rattle.dali_frame.specs.declared.frames.Answer.{Answer}
-use Rattle.dali_frame.specs.Priority.{FIRST, LATER}
+use Rattle.dali_frame.specs.{Priority.FIRST, Priority.LATER, declared.frames.Answer.Answer, declared.frames.Forward.Forward}
 use Rattle.dali_special.specs.Command.{command_of}
-use Rattle.dali_arbiter.specs.declared.request.Request.{Request}
-use Rattle.dali_arbiter.specs.Arbiter.{Arbiter, idle, total, next, request_of}
-use Rattle.dali_script.specs.declared.trace.Entry.{Entry}
-use Rattle.dali_script.specs.declared.records.Record.{Record}
-use Rattle.dali_script.specs.declared.orders.Input.{Input}
-use Rattle.dali_script.specs.declared.orders.Input.TheVariants as input
-use Rattle.dali_script.specs.declared.orders.End.{End}
-use Rattle.dali_script.specs.declared.orders.Fault.{Fault}
-use Rattle.dali_script.specs.declared.orders.Order.{Order}
+use Rattle.dali_arbiter.specs.{Arbiter.Arbiter, Arbiter.idle, Arbiter.total, Arbiter.next, Arbiter.request_of, declared.request.Request.Request}
+use Rattle.dali_script.specs.{Due.frame_put, declared.orders.End.End, declared.orders.Fault.Fault, declared.orders.Input.Input, declared.orders.Order.Order}
 use Rattle.dali_script.specs.declared.orders.Order.TheVariants.{Put, Commit, Done, Halt}
-use Rattle.dali_script.specs.Due.{frame_put}
-use Rattle.dali_controller.specs.Machine.{Machine, machine_heard, machine_told}
-use Rattle.dali_controller.specs.Orders.{machine_after}
-use Rattle.dali_events.specs.declared.event.Event.TheVariants as event
-use Rattle.dali_events.specs.World.{World, Controller, controller_at, nobody}
+use Rattle.dali_script.specs.declared.{records.Record.Record, trace.Entry.Entry}
+use Rattle.dali_script.specs.declared.orders.Input.TheVariants as input
+use Rattle.dali_controller.specs.{Machine.Machine, Machine.machine_heard, Machine.machine_told, Orders.machine_after}
+use Rattle.dali_events.specs.Allowed.{Allowed, IsUp, IsDue, IsCommit, MayOrder}
 use Rattle.dali_events.specs.Happens.{happens, entry, controller_informed, controller_acted, outstanding_told, outstanding_after, kept_after, bus_acted}
 use Rattle.dali_events.specs.Happens.{gives_up, told_sent, trace_running, goes_on, sent_by, is_arc}
-use Rattle.dali_events.specs.Allowed.{Allowed, IsUp, IsDue, IsCommit, MayOrder}
+use Rattle.dali_events.specs.World.{World, Controller, controller_at, nobody}
+use Rattle.dali_events.specs.declared.event.Event.TheVariants as event
 use Rattle.dali_progress.specs.Rounds.{Succeeds}
 
 -- ONE CONTROLLER ALONE ON THE BUS. What waits on the bus, what was told and what is to come go together with the

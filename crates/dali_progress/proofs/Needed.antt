@@ -1,21 +1,16 @@
 use Rattle.std.proofs.Common.{◌≡◌, ℕ, List, [], ◌∷◌, ◌++◌, refl, lit<, Some, None, false}
 use Rattle.dali_special.specs.Command.{command_of, frame}
-use Rattle.dali_gear.specs.declared.row.Reach.TheVariants.{Everyone}
-use Rattle.dali_gear.specs.Row.{answers_of}
+use Rattle.dali_gear.specs.{Row.answers_of, declared.row.Reach.TheVariants.Everyone}
 use Rattle.dali_script.specs.Stages.{stage_of}
-use Rattle.dali_events.specs.declared.event.Event.{Event}
+use Rattle.dali_events.specs.{Plan.Plan, Plan.IsPlan, World.start, declared.event.Event.Event}
+use Rattle.dali_events.proofs.{Histories.Tested.allowed_by, Plans.plan_is}
 use Rattle.dali_events.specs.declared.event.Event.TheVariants as event
-use Rattle.dali_events.specs.Plan.{Plan, IsPlan}
-use Rattle.dali_events.specs.World.{start}
-use Rattle.dali_events.proofs.Plans.{plan_is}
-use Rattle.dali_events.proofs.Histories.Tested.{allowed_by}
 use Rattle.dali_standing.specs.Standing.{machines_at}
 use Rattle.dali_world.specs.Site.{SiteState, world, site_logged, machines}
 use Rattle.dali_progress.specs.Rounds.{Rounds, site_after, ByStart, BeginsAlone}
+use Rattle.dali_progress.proofs.{Logged.begins_new, Playing.Plays, Playing.rounds_by, Playing.plays_by, Playing.BreaksEnd}
 use Rattle.dali_progress.proofs.Session.{block, opening, searching, compare, ending, given_first, given_initialise, given_initialise_again, given_randomise}
 use Rattle.dali_progress.proofs.Session.{given_randomise_again, given_high, given_middle, given_low, given_compare, given_close, given_done}
-use Rattle.dali_progress.proofs.Playing.{Plays, rounds_by, plays_by, BreaksEnd}
-use Rattle.dali_progress.proofs.Logged.{begins_new}
 
 -- UNDISTURBED MATTERS. Short histories of one controller that starts alone, in which all events but
 -- one are of rounds; it ends with all-found, and a gear that has power has no short address. The gear

@@ -2,24 +2,17 @@ use Rattle.std.proofs.Common.{◌≡◌, ℕ, List, [], ◌∷◌, refl, sym, ap
 use Rattle.dali_frame.specs.declared.frames.Forward.{Forward}
 use Rattle.dali_special.specs.Command.{command_of, frame}
 use Rattle.dali_gear.specs.declared.row.Reach.TheVariants.{Everyone}
-use Rattle.dali_arbiter.specs.declared.request.Request.{Request}
-use Rattle.dali_arbiter.specs.Arbiter.{request_of}
-use Rattle.dali_script.specs.Stages.{stage_of}
-use Rattle.dali_script.specs.declared.orders.Input.{Input}
+use Rattle.dali_arbiter.specs.{Arbiter.request_of, declared.request.Request.Request}
+use Rattle.dali_script.specs.{Stages.stage_of, declared.orders.End.End, declared.orders.Input.Input}
 use Rattle.dali_script.specs.declared.orders.Input.TheVariants as input
-use Rattle.dali_script.specs.declared.orders.End.{End}
-use Rattle.dali_events.specs.declared.event.Event.{Event}
-use Rattle.dali_events.specs.declared.event.Event.TheVariants as event
-use Rattle.dali_events.specs.Plan.{Plan}
-use Rattle.dali_events.specs.World.{controller_at, start}
-use Rattle.dali_events.specs.Allowed.{Allowed, IsDue, HasDraws}
+use Rattle.dali_events.specs.{Allowed.Allowed, Allowed.IsDue, Allowed.HasDraws, Plan.Plan, World.controller_at, World.start, declared.event.Event.Event}
 use Rattle.dali_events.proofs.Plans.{plan_is}
+use Rattle.dali_events.specs.declared.event.Event.TheVariants as event
 use Rattle.dali_standing.specs.Standing.{machines_at}
 use Rattle.dali_world.specs.Site.{SiteState, world, next_request}
 use Rattle.dali_progress.specs.Rounds.{IsOfRound, Rounds, site_after, HasEnded, ByStart, BeginsAlone}
+use Rattle.dali_progress.proofs.{Logged.begins_new, Playing.Plays, Playing.rounds_by, Playing.plays_by}
 use Rattle.dali_progress.proofs.Session.{block, up_to_draw, given_first, given_initialise, given_initialise_again, given_randomise, given_randomise_again}
-use Rattle.dali_progress.proofs.Playing.{Plays, rounds_by, plays_by}
-use Rattle.dali_progress.proofs.Logged.{begins_new}
 
 -- NUMBERS TO DRAW MATTER. One gear, no number that it could draw, and one controller that starts alone.
 -- All events are of rounds; then the second RANDOMISE is next, and may not be sent.

@@ -1,32 +1,17 @@
-use Rattle.std.proofs.Common.{◌≡◌, ℕ, ◌+◌, ◌<◌, ◌≤◌, ◌⊎◌, inl, inr, Bool, true, false, zero, suc, List, [], ◌∷◌, refl, sym, ap, subst, ◌∙◌, arith, length}
-use Rattle.std.specs.Prelude.{◌==◌, slice_index_or}
-use Rattle.dali_script.specs.declared.block.Block.{Block}
+use Rattle.std.proofs.Common.{◌≡◌, ℕ, ◌+◌, ◌<◌, ◌≤◌, ◌⊎◌, inl, inr, Bool, true, false, zero, suc, List, [], ◌∷◌, refl, sym, ap, subst, ◌∙◌, arith, length, ◌==◌}
+use Rattle.std.proofs.Common.{slice_index_or}
 use Rattle.dali_script.specs.Records.{Assignment, Kept, Has, InBlock}
-use Rattle.dali_script.proofs.Lists.{has_map}
-use Rattle.dali_script.proofs.Members.{mapped_from}
-use Rattle.dali_script.specs.declared.orders.End.{End}
-use Rattle.dali_events.specs.declared.used.Used.{Used}
-use Rattle.dali_events.specs.Used.{used_gear, used_shorts}
-use Rattle.dali_events.specs.Plan.{Plan, IsPlan, block_at, no_block}
-use Rattle.dali_events.specs.World.{gear_at, controller_at}
-use Rattle.dali_events.specs.Promise.{HoldsShort}
-use Rattle.dali_events.specs.Laws.{IsReservedFor, IsOfUsed}
-use Rattle.dali_events.specs.Wanted.{gear_of, is_bare}
-use Rattle.dali_events.proofs.Invariant.Safe.{Holds, holds_after}
-use Rattle.dali_events.proofs.Invariant.Starting.{IsUsedOrFresh, row_at, start_count, stands}
+use Rattle.dali_script.{specs.declared.block.Block.Block, specs.declared.orders.End.End, proofs.Lists.has_map, proofs.Members.mapped_from}
+use Rattle.dali_events.specs.{Laws.IsReservedFor, Laws.IsOfUsed, Plan.Plan, Plan.IsPlan, Plan.block_at, Plan.no_block, Promise.HoldsShort, Used.used_gear}
+use Rattle.dali_events.specs.{Used.used_shorts, Wanted.gear_of, Wanted.is_bare, World.gear_at, World.controller_at, declared.used.Used.Used}
+use Rattle.dali_events.proofs.Invariant.{Safe.Holds, Safe.holds_after, Starting.IsUsedOrFresh, Starting.row_at, Starting.start_count, Starting.stands}
 use Rattle.dali_events.proofs.Search.Wanted.{same_number, number_same}
-use Rattle.dali_world.specs.Site.{SiteState, world, opened_site}
-use Rattle.dali_world.proofs.Logs.{records_now}
-use Rattle.dali_replay.specs.Installation.{Installation, installation_of}
-use Rattle.dali_replay.specs.Rounds.{Ran}
-use Rattle.dali_progress.specs.Rounds.{BeginsAlone, ByStart, BySurvey, HasEnded, IsSettledAt, most_events, bare}
-use Rattle.dali_progress.specs.Running.{RanAlone, HasBegun, HasRoom, HasEndedBy}
-use Rattle.dali_progress.specs.Replaced.{IsVacant, HasNew, IsReplacing, only, IsServed}
-use Rattle.dali_progress.proofs.Logged.{begins_new}
-use Rattle.dali_progress.proofs.Beginnings.{begins_settled}
-use Rattle.dali_progress.proofs.Both.{has_address}
-use Rattle.dali_progress.proofs.Survey.Replaced.{served, one_new}
-use Rattle.dali_progress.proofs.Refused.{run_commissions, ran_new, room_new}
+use Rattle.dali_world.{specs.Site.SiteState, specs.Site.world, specs.Site.opened_site, proofs.Logs.records_now}
+use Rattle.dali_replay.specs.{Installation.Installation, Installation.installation_of, Rounds.Ran}
+use Rattle.dali_progress.specs.{Replaced.IsVacant, Replaced.HasNew, Replaced.IsReplacing, Replaced.only, Replaced.IsServed, Rounds.BeginsAlone, Rounds.ByStart}
+use Rattle.dali_progress.specs.{Rounds.BySurvey, Rounds.HasEnded, Rounds.IsSettledAt, Rounds.most_events, Rounds.bare, Running.RanAlone, Running.HasBegun}
+use Rattle.dali_progress.{specs.Running.HasRoom, specs.Running.HasEndedBy, proofs.Beginnings.begins_settled, proofs.Both.has_address}
+use Rattle.dali_progress.proofs.{Logged.begins_new, Refused.run_commissions, Refused.ran_new, Refused.room_new, Survey.Replaced.served, Survey.Replaced.one_new}
 
 -- A RUN OF REPLAY in which a new gear is served.
 

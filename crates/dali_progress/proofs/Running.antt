@@ -1,35 +1,24 @@
 use Rattle.std.proofs.Common.{◌≡◌, ℕ, ◌+◌, ◌≤◌, ◌⊎◌, inl, inr, Bool, true, false, zero, suc, List, [], ◌∷◌, ◌++◌, refl, sym, ap, subst, ◌∙◌, arith, length}
-use Rattle.std.proofs.Common.{Option, Some, None, Ok}
-use Rattle.std.specs.Prelude.{if◌then◌else◌, ◌||◌}
+use Rattle.std.proofs.Common.{Option, Some, None, Ok, if◌then◌else◌, ◌||◌}
 use Rattle.dali_special.specs.Command.{command_of}
-use Rattle.dali_gear.specs.declared.gear_set.GearSet.{GearSet}
-use Rattle.dali_gear.specs.declared.row.Reach.TheVariants.{Everyone}
-use Rattle.dali_gear.specs.Row.{answers_of, heard_of}
+use Rattle.dali_gear.specs.{Row.answers_of, Row.heard_of, declared.gear_set.GearSet.GearSet, declared.row.Reach.TheVariants.Everyone}
 use Rattle.dali_arbiter.specs.Arbiter.{collision}
-use Rattle.dali_script.specs.declared.orders.Input.{Input}
-use Rattle.dali_script.specs.declared.orders.Input.TheVariants as input
-use Rattle.dali_script.specs.declared.orders.Order.{Order}
-use Rattle.dali_script.specs.declared.orders.Order.TheVariants.{Commit}
-use Rattle.dali_script.specs.declared.orders.Due.{Due}
-use Rattle.dali_script.specs.declared.orders.Due.TheVariants as due
 use Rattle.dali_script.specs.Due.{due_after}
-use Rattle.dali_events.specs.declared.event.Event.{Event}
-use Rattle.dali_events.specs.declared.event.Event.TheVariants as event
-use Rattle.dali_events.specs.Plan.{Plan}
-use Rattle.dali_events.specs.World.{Controller, controller_at}
+use Rattle.dali_script.specs.declared.orders.{Due.Due, Input.Input, Order.Order, Order.TheVariants.Commit}
+use Rattle.dali_script.specs.declared.orders.Due.TheVariants as due
+use Rattle.dali_script.specs.declared.orders.Input.TheVariants as input
 use Rattle.dali_events.specs.Allowed.{IsDue, IsCommit}
+use Rattle.dali_events.specs.{Plan.Plan, Troubles.nobody_at_all, World.Controller, World.controller_at, declared.event.Event.Event}
+use Rattle.dali_events.specs.declared.event.Event.TheVariants as event
 use Rattle.dali_events.specs.declared.trouble.Trouble.TheVariants as trouble
-use Rattle.dali_standing.specs.declared.report.Report.{Report}
+use Rattle.dali_standing.specs.{Seats.LeavesWhole, Seats.due_of, declared.report.Report.Report}
 use Rattle.dali_standing.specs.declared.report.Report.TheVariants as report
-use Rattle.dali_events.specs.Troubles.{nobody_at_all}
-use Rattle.dali_standing.specs.Seats.{LeavesWhole, due_of}
 use Rattle.dali_world.specs.Site.{SiteState, HasActed, Pumps, machine_at, world, site_logged, next_request}
-use Rattle.dali_replay.specs.declared.rounds.Round.TheVariants as round
 use Rattle.dali_replay.specs.Installation.{Installation, Goes, HasStepped, IsGiven, IsGivenBy, controller}
 use Rattle.dali_replay.specs.Rounds.{has_turn, has_turn_by, IsTurn, Turns, controllers, is_sent, came_of, IsRound}
 use Rattle.dali_replay.specs.Rounds as replay
-use Rattle.dali_progress.specs.Rounds.{Succeeds, Rounds, site_after, frames}
-use Rattle.dali_progress.specs.Running.{begun}
+use Rattle.dali_replay.specs.declared.rounds.Round.TheVariants as round
+use Rattle.dali_progress.specs.{Rounds.Succeeds, Rounds.Rounds, Rounds.site_after, Rounds.frames, Running.begun}
 
 -- A RUN OF ROUNDS on an installation with one controller is a list of events of rounds.
 

@@ -1,22 +1,14 @@
 use Rattle.std.proofs.Common.{◌≡◌, ℕ, inl, inr, List, [], ◌∷◌, ◌++◌, refl}
-use Rattle.dali_frame.specs.declared.frames.Answer.TheVariants.{Silence}
-use Rattle.dali_frame.specs.declared.numbers.SearchAddress.{SearchAddress}
+use Rattle.dali_frame.specs.declared.{frames.Answer.TheVariants.Silence, numbers.SearchAddress.SearchAddress}
 use Rattle.dali_special.specs.Command.{command_of, frame}
-use Rattle.dali_special.specs.declared.command.Target.TheVariants.{Unaddressed}
 use Rattle.dali_special.specs.declared.command.Command.TheVariants.{Terminate, Initialise, Randomise, Compare, SearchHigh, SearchMiddle, SearchLow}
-use Rattle.dali_script.specs.declared.block.Block.{Block}
+use Rattle.dali_special.specs.declared.command.Target.TheVariants.{Unaddressed}
+use Rattle.dali_script.specs.{Records.without_records, Scripts.Open, Scripts.Probe, Scripts.Close, Stages.stage_of, declared.block.Block.Block}
+use Rattle.dali_script.specs.declared.orders.{End.TheVariants.AllFound, Input.Input, Order.Order, Order.TheVariants.Put, Order.TheVariants.Done}
 use Rattle.dali_script.specs.declared.stage.Stage.TheVariants.{Free, Terminated, InitialisedOnce, Initialised, RandomisedOnce, Opened, HighSent, MiddleSent}
 use Rattle.dali_script.specs.declared.stage.Stage.TheVariants.{NumberSent, Probed}
-use Rattle.dali_script.specs.Records.{without_records}
-use Rattle.dali_script.specs.Scripts.{Open, Probe, Close}
-use Rattle.dali_script.specs.Stages.{stage_of}
-use Rattle.dali_script.specs.declared.orders.Input.{Input}
 use Rattle.dali_script.specs.declared.orders.Input.TheVariants as input
-use Rattle.dali_script.specs.declared.orders.Order.{Order}
-use Rattle.dali_script.specs.declared.orders.Order.TheVariants.{Put, Done}
-use Rattle.dali_script.specs.declared.orders.End.TheVariants.{AllFound}
-use Rattle.dali_controller.specs.Machine.{Machine, at_first}
-use Rattle.dali_controller.specs.Orders.{IsGiven, machine_after}
+use Rattle.dali_controller.specs.{Machine.Machine, Machine.at_first, Orders.IsGiven, Orders.machine_after}
 use Rattle.dali_events.specs.declared.event.Event.{Event}
 use Rattle.dali_events.specs.declared.event.Event.TheVariants as event
 use Rattle.dali_progress.proofs.Giving.{later_given, first_given, done_given}

@@ -1,25 +1,16 @@
 use Rattle.std.proofs.Common.{◌≡◌, ℕ, ◌+◌, ◌-◌, ◌*◌, ◌<◌, ◌≤◌, ◌⊎◌, Bool, true, false, zero, suc, List, ◌∷◌, length, Option, Some}
 use Rattle.std.specs.List.{count_by}
-use Rattle.dali_frame.specs.declared.frames.Answer.{Answer}
-use Rattle.dali_frame.specs.declared.numbers.SearchAddress.{SearchAddress}
-use Rattle.dali_frame.specs.Random.{value_of, MASK24}
-use Rattle.dali_special.specs.declared.command.Command.{Command}
-use Rattle.dali_special.specs.declared.command.Command.TheVariants.{Program}
+use Rattle.dali_frame.specs.{Random.value_of, Random.MASK24, declared.frames.Answer.Answer, declared.numbers.SearchAddress.SearchAddress}
+use Rattle.dali_special.specs.declared.command.Command.{Command, TheVariants.Program}
 use Rattle.dali_gear.specs.Gear.{Gear, is_active}
 use Rattle.dali_script.specs.Records.{Assignment, Kept, Has, HasRandom}
-use Rattle.dali_script.specs.declared.stage.Stage.{Stage}
+use Rattle.dali_script.specs.{Stages.IsSearched, Stages.IsTrace, Stages.stage_of, declared.orders.End.End, declared.stage.Stage.Stage}
 use Rattle.dali_script.specs.declared.stage.Stage.TheVariants as stage
-use Rattle.dali_script.specs.Stages.{IsSearched, IsTrace, stage_of}
-use Rattle.dali_script.specs.declared.orders.End.{End}
-use Rattle.dali_search.specs.declared.step.Step.TheVariants.{Again}
-use Rattle.dali_search.specs.Least.{Search, Agrees, Gives}
-use Rattle.dali_search.specs.Narrowing.{IsNarrowing}
-use Rattle.dali_controller.specs.declared.purpose.Purpose.{Purpose}
+use Rattle.dali_search.specs.{Least.Search, Least.Agrees, Least.Gives, Narrowing.IsNarrowing, declared.step.Step.TheVariants.Again}
+use Rattle.dali_controller.specs.Course.{first_of, turn_of, sought, is_yes, byte_to_send, call_turn}
+use Rattle.dali_controller.specs.{Machine.Machine, Whole.AsksOn, Whole.Sends as SendsWhole, declared.purpose.Purpose.Purpose}
 use Rattle.dali_controller.specs.declared.purpose.Purpose.TheVariants.{Opening, Probing, Visiting, Closing, Hunting, Calling}
 use Rattle.dali_controller.specs.declared.way.Way.TheVariants.{Fresh}
-use Rattle.dali_controller.specs.Course.{first_of, turn_of, sought, is_yes, byte_to_send, call_turn}
-use Rattle.dali_controller.specs.Machine.{Machine}
-use Rattle.dali_controller.specs.Whole.{AsksOn, Sends as SendsWhole}
 use Rattle.dali_events.specs.Wanted.{is_wanted, wants, is_bare, OfPowered, IsOpened, NoneNamed, NoneNamedBut}
 use Rattle.dali_events.proofs.Search.Opened.{AreOpening}
 use Rattle.dali_progress.specs.Ends.{EndsWell, AreTabled}

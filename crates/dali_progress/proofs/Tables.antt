@@ -1,32 +1,19 @@
-use Rattle.std.proofs.Common.{◌≡◌, ℕ, ◌<◌, ◌⊎◌, inl, inr, Bool, true, false, List, ◌∷◌, refl, sym, ap, subst, ◌∙◌, length, Some}
-use Rattle.std.specs.Prelude.{◌==◌}
-use Rattle.dali_frame.specs.declared.frames.Answer.{Answer}
-use Rattle.dali_frame.specs.declared.numbers.SearchAddress.{SearchAddress}
-use Rattle.dali_frame.specs.Random.{value_of}
-use Rattle.dali_special.specs.declared.command.Command.{Command}
-use Rattle.dali_special.specs.declared.command.Command.TheVariants.{Terminate, Initialise, Randomise, Compare, Withdraw, SearchHigh, SearchMiddle, SearchLow}
-use Rattle.dali_special.specs.declared.command.Command.TheVariants.{Program, QueryShort}
+use Rattle.std.proofs.Common.{◌≡◌, ℕ, ◌<◌, ◌⊎◌, inl, inr, Bool, true, false, List, ◌∷◌, refl, sym, ap, subst, ◌∙◌, length, Some, ◌==◌}
+use Rattle.dali_frame.specs.{Random.value_of, declared.frames.Answer.Answer, declared.numbers.SearchAddress.SearchAddress}
+use Rattle.dali_special.specs.declared.command.Command.{Command, TheVariants.Terminate, TheVariants.Initialise}
+use Rattle.dali_special.specs.declared.command.Command.TheVariants.{Randomise, Compare, Withdraw, SearchHigh, SearchMiddle, SearchLow, Program, QueryShort}
 use Rattle.dali_special.specs.declared.command.Target.TheVariants.{Unaddressed}
-use Rattle.dali_gear.specs.declared.row.Reach.TheVariants.{Everyone}
-use Rattle.dali_gear.specs.Gear.{Gear, is_active, draws_a_number, gear_taken}
-use Rattle.dali_gear.specs.Row.{row_after}
+use Rattle.dali_gear.specs.{Gear.Gear, Gear.is_active, Gear.draws_a_number, Gear.gear_taken, Row.row_after, declared.row.Reach.TheVariants.Everyone}
 use Rattle.dali_script.specs.Records.{Assignment, Kept, Has}
-use Rattle.dali_script.specs.declared.stage.Stage.{Stage}
+use Rattle.dali_script.specs.{Stages.next_stage, Stages.verified, declared.orders.End.End, declared.stage.Stage.Stage}
 use Rattle.dali_script.specs.declared.stage.Stage.TheVariants as stage
-use Rattle.dali_script.specs.Stages.{next_stage, verified}
 use Rattle.dali_search.specs.Least.{Search}
-use Rattle.dali_controller.specs.declared.purpose.Purpose.{Purpose}
-use Rattle.dali_controller.specs.declared.purpose.Purpose.TheVariants.{Opening, Probing, Visiting, Closing}
-use Rattle.dali_script.specs.declared.orders.End.{End}
-use Rattle.dali_events.specs.Wanted.{gear_of, OfPowered, Seek}
-use Rattle.dali_events.proofs.Invariant.Takes.{row_length}
+use Rattle.dali_controller.specs.declared.purpose.Purpose.{Purpose, TheVariants.Opening, TheVariants.Probing, TheVariants.Visiting, TheVariants.Closing}
+use Rattle.dali_events.{specs.Wanted.gear_of, specs.Wanted.OfPowered, specs.Wanted.Seek, proofs.Invariant.Takes.row_length, proofs.Search.Opened.AreOpening}
 use Rattle.dali_events.proofs.Search.Wanted.{after_at, same_number, number_same}
-use Rattle.dali_events.proofs.Search.Opened.{AreOpening}
 use Rattle.dali_events.proofs.Search.Programming as programming
-use Rattle.dali_progress.specs.Ends.{AreTabled}
+use Rattle.dali_progress.{specs.Ends.AreTabled, proofs.Frames.Seeks, proofs.Later.verified_by}
 use Rattle.dali_progress.proofs.Stands.{to_come, Opens, VisitsAt, Probes, Closes, At, Sends}
-use Rattle.dali_progress.proofs.Frames.{Seeks}
-use Rattle.dali_progress.proofs.Later.{verified_by}
 
 -- THE TABLE NAMES THE GEAR, while frames are sent. A gear that has a short address keeps it, with its random address;
 -- and the one that is given an address is the one whose entry is to come.

@@ -1,36 +1,22 @@
-use Rattle.std.proofs.Common.{◌≡◌, ℕ, ◌+◌, ◌*◌, ◌<◌, ◌≤◌, ◌⊎◌, inl, inr, Bool, true, false, [], refl, sym, ap, subst, ◌∙◌, arith, Option, Some, None}
-use Rattle.std.specs.Prelude.{◌==◌, nat_lt, zero, suc}
-use Rattle.std.proofs.Math.Nat.{mul-le-mul_left}
-use Rattle.std.proofs.lemmas.Bool.Decides.{nat_tests}
-use Rattle.dali_frame.specs.declared.frames.Answer.{Answer}
-use Rattle.dali_frame.specs.declared.frames.Answer.TheVariants.{Silence, Byte, Damaged}
-use Rattle.dali_frame.specs.declared.frames.Forward.{Forward}
-use Rattle.dali_frame.specs.declared.numbers.SearchAddress.{SearchAddress}
+use Rattle.std.proofs.Common.{◌≡◌, ℕ, ◌+◌, ◌*◌, ◌<◌, ◌≤◌, ◌⊎◌, inl, inr, Bool, true, false, [], refl, sym, ap, subst, ◌∙◌, arith, Option, Some, None, ◌==◌}
+use Rattle.std.proofs.{Common.nat_lt, Common.zero, Common.suc, Math.Nat.mul-le-mul_left, lemmas.Bool.Decides.nat_tests}
 use Rattle.dali_frame.specs.Priority.{FIRST, LATER}
-use Rattle.dali_special.specs.declared.command.Command.{Command}
-use Rattle.dali_special.specs.declared.command.Command.TheVariants.{RandomByte}
+use Rattle.dali_frame.specs.declared.frames.Answer.{Answer, TheVariants.Silence, TheVariants.Byte, TheVariants.Damaged}
+use Rattle.dali_frame.specs.declared.{frames.Forward.Forward, numbers.SearchAddress.SearchAddress}
+use Rattle.dali_special.specs.{Command.command_of, declared.command.Command.Command, declared.command.Command.TheVariants.RandomByte}
 use Rattle.dali_special.specs.declared.command.Part.TheVariants.{High, Middle, Low}
-use Rattle.dali_special.specs.Command.{command_of}
-use Rattle.dali_script.specs.declared.records.Record.{Record}
-use Rattle.dali_script.specs.declared.stage.Stage.{Stage}
-use Rattle.dali_script.specs.declared.stage.Stage.TheVariants as stage
-use Rattle.dali_script.specs.Records.{Kept}
-use Rattle.dali_script.specs.Stages.{stage_of, next_stage, byte_heard, bytes_heard, number_heard}
-use Rattle.dali_script.proofs.Transactions.{stage_more, stage_none}
-use Rattle.dali_script.specs.declared.orders.Order.{Order}
+use Rattle.dali_script.specs.{Records.Kept, Stages.stage_of, Stages.next_stage, Stages.byte_heard, Stages.bytes_heard, Stages.number_heard}
+use Rattle.dali_script.specs.declared.orders.{End.End, Fault.Fault, Order.Order}
 use Rattle.dali_script.specs.declared.orders.Order.TheVariants.{Put, Commit, Done, Halt}
-use Rattle.dali_script.specs.declared.orders.End.{End}
-use Rattle.dali_script.specs.declared.orders.Fault.{Fault}
-use Rattle.dali_controller.specs.declared.purpose.Purpose.TheVariants.{Resolving, Asking}
-use Rattle.dali_controller.specs.declared.way.Way.TheVariants.{Surveying}
-use Rattle.dali_controller.specs.Course.{Course}
-use Rattle.dali_controller.specs.Machine.{Machine, machine_heard, asked_at, asked_after_silence}
-use Rattle.dali_controller.specs.Next.{next_course, begins_at, goes_on_to, asked_once, course_on}
-use Rattle.dali_controller.specs.Orders.{IsAllowed, machine_ordered, asked_by, MayCommit}
-use Rattle.dali_controller.specs.Whole.{IsWhole, IsSending, Knows, Pending, Sends}
-use Rattle.dali_progress.proofs.Later.{IsUnasked, course_stays}
+use Rattle.dali_script.{specs.declared.records.Record.Record, specs.declared.stage.Stage.Stage, proofs.Transactions.stage_more, proofs.Transactions.stage_none}
+use Rattle.dali_script.specs.declared.stage.Stage.TheVariants as stage
+use Rattle.dali_controller.specs.{Course.Course, Machine.Machine, Machine.machine_heard, Machine.asked_at, Machine.asked_after_silence, Next.next_course}
+use Rattle.dali_controller.specs.{Next.begins_at, Next.goes_on_to, Next.asked_once, Next.course_on, Orders.IsAllowed, Orders.machine_ordered, Orders.asked_by}
+use Rattle.dali_controller.specs.{Orders.MayCommit, Whole.IsWhole, Whole.IsSending, Whole.Knows, Whole.Pending, Whole.Sends}
+use Rattle.dali_controller.specs.declared.{purpose.Purpose.TheVariants.Resolving, purpose.Purpose.TheVariants.Asking, way.Way.TheVariants.Surveying}
 use Rattle.dali_progress.proofs.Census.Left.{waits, at_stage, of_purpose, of_last, beyond, left, granted, beyond_less, beyond_most, granted_more, waits_least}
 use Rattle.dali_progress.proofs.Census.Left.{of_purpose_most, goes_moves, Further, Moves}
+use Rattle.dali_progress.proofs.Later.{IsUnasked, course_stays}
 
 -- A CENSUS IS BOUNDED: what each order leaves once a frame of it was heard.
 

@@ -1,30 +1,18 @@
-use Rattle.std.proofs.Common.{◌≡◌, ℕ, ◌+◌, ◌*◌, ◌≤◌, ◌⊎◌, inl, inr, true, List, [], ◌∷◌, refl, sym, ap, subst, ◌∙◌, arith, Option, Some, None}
-use Rattle.std.specs.Prelude.{zero, suc}
-use Rattle.dali_frame.specs.declared.frames.Answer.{Answer}
-use Rattle.dali_frame.specs.declared.frames.Answer.TheVariants.{Silence}
-use Rattle.dali_frame.specs.declared.frames.Forward.{Forward}
+use Rattle.std.proofs.Common.{◌≡◌, ℕ, ◌+◌, ◌*◌, ◌≤◌, ◌⊎◌, inl, inr, true, List, [], ◌∷◌, refl, sym, ap, subst, ◌∙◌, arith, Option, Some, None, zero, suc}
+use Rattle.dali_frame.specs.declared.frames.{Answer.Answer, Answer.TheVariants.Silence, Forward.Forward}
+use Rattle.dali_script.specs.{Due.due_after, Due.accepts, Due.frame_put, Due.record_ordered, Records.Kept}
+use Rattle.dali_script.specs.declared.orders.{Fault.Fault, Input.Input, Order.Order, Order.TheVariants.Put, Order.TheVariants.Commit, Order.TheVariants.Halt}
 use Rattle.dali_script.specs.declared.records.Record.{Record}
-use Rattle.dali_script.specs.Records.{Kept}
-use Rattle.dali_script.specs.declared.orders.Input.{Input}
-use Rattle.dali_script.specs.declared.orders.Input.TheVariants as input
-use Rattle.dali_script.specs.declared.orders.Order.{Order}
-use Rattle.dali_script.specs.declared.orders.Order.TheVariants.{Put, Commit, Halt}
-use Rattle.dali_script.specs.declared.orders.Fault.{Fault}
-use Rattle.dali_script.specs.declared.orders.Fault.TheVariants as fault
 use Rattle.dali_script.specs.declared.orders.Due.TheVariants as due
-use Rattle.dali_script.specs.Due.{due_after, accepts, frame_put, record_ordered}
-use Rattle.dali_controller.specs.declared.purpose.Purpose.TheVariants.{Asking}
-use Rattle.dali_controller.specs.declared.way.Way.TheVariants.{Surveying}
-use Rattle.dali_controller.specs.Course.{Course}
-use Rattle.dali_controller.specs.Machine.{Machine, at_first, machine_told, machine_heard, machine_committed}
+use Rattle.dali_script.specs.declared.orders.Fault.TheVariants as fault
+use Rattle.dali_script.specs.declared.orders.Input.TheVariants as input
+use Rattle.dali_controller.specs.{Course.Course, Machine.Machine, Machine.at_first, Machine.machine_told, Machine.machine_heard, Machine.machine_committed}
 use Rattle.dali_controller.specs.Orders.{IsGiven, IsAllowed, machine_after, machine_ordered}
-use Rattle.dali_controller.specs.Whole.{IsWhole}
-use Rattle.dali_progress.specs.Surveyed.{Step, IsTaken, IsCourse}
+use Rattle.dali_controller.specs.{Whole.IsWhole, declared.purpose.Purpose.TheVariants.Asking, declared.way.Way.TheVariants.Surveying}
 use Rattle.dali_progress.specs.Census.{IsSurveyed, BeginsBySurvey, AreWhole, was_sent, was_lost, frames_asked, frames_lost, IsSteady, AreSteady}
-use Rattle.dali_progress.proofs.Census.Left.{waits, of_purpose, of_last, beyond, left, granted, beyond_most}
-use Rattle.dali_progress.proofs.Census.Asked.{same_left, sent_left}
+use Rattle.dali_progress.{specs.Surveyed.Step, specs.Surveyed.IsTaken, specs.Surveyed.IsCourse, proofs.Accounted.told_keeps, proofs.Census.Asked.same_left}
+use Rattle.dali_progress.proofs.Census.{Asked.sent_left, Left.waits, Left.of_purpose, Left.of_last, Left.beyond, Left.left, Left.granted, Left.beyond_most}
 use Rattle.dali_progress.proofs.Census.Others.{Rests, asking_or, any_left, calm_left, kept_left, ordered_way, ordered_askings}
-use Rattle.dali_progress.proofs.Accounted.{told_keeps}
 
 -- A CENSUS IS BOUNDED: each step, and all of a course.
 

@@ -1,34 +1,22 @@
-use Rattle.std.proofs.Common.{◌≡◌, ℕ, ◌+◌, ◌*◌, ◌<◌, ◌≤◌, ◌⊎◌, inl, inr, Bool, true, false, refl, sym, ap, subst, ◌∙◌, arith, Option, Some, None}
-use Rattle.std.specs.Prelude.{◌==◌, ◌&&◌, ◌-◌, nat_lt, zero, suc, is_some, if◌then◌else◌}
-use Rattle.std.proofs.lemmas.Bool.Decides.{nat_tests}
-use Rattle.std.proofs.Math.Nat.{mul-le-mul_left}
-use Rattle.dali_frame.specs.declared.frames.Answer.{Answer}
-use Rattle.dali_frame.specs.declared.numbers.SearchAddress.{SearchAddress}
-use Rattle.dali_frame.specs.Random.{value_of}
-use Rattle.dali_script.specs.declared.records.Record.TheVariants.{Reserve}
-use Rattle.dali_script.specs.declared.stage.Stage.{Stage}
+use Rattle.std.proofs.Common.{◌≡◌, ℕ, ◌+◌, ◌*◌, ◌<◌, ◌≤◌, ◌⊎◌, inl, inr, Bool, true, false, refl, sym, ap, subst, ◌∙◌, arith, Option, Some, None, ◌==◌, ◌&&◌}
+use Rattle.std.proofs.Common.{◌-◌, nat_lt, zero, suc, is_some, if◌then◌else◌}
+use Rattle.std.proofs.{Math.Nat.mul-le-mul_left, lemmas.Bool.Decides.nat_tests}
+use Rattle.dali_frame.specs.{Random.value_of, declared.frames.Answer.Answer, declared.numbers.SearchAddress.SearchAddress}
+use Rattle.dali_script.specs.{Records.Kept, Stages.stage_of}
+use Rattle.dali_script.specs.declared.orders.{End.TheVariants.AllFound, End.TheVariants.BlockFull, End.TheVariants.GaveUp, Order.Order, Order.TheVariants.Put}
+use Rattle.dali_script.specs.declared.{orders.Order.TheVariants.Commit, records.Record.TheVariants.Reserve, stage.Stage.Stage}
 use Rattle.dali_script.specs.declared.stage.Stage.TheVariants as stage
-use Rattle.dali_script.specs.Records.{Kept}
-use Rattle.dali_script.specs.Stages.{stage_of}
-use Rattle.dali_script.specs.declared.orders.Order.{Order}
-use Rattle.dali_script.specs.declared.orders.Order.TheVariants.{Put, Commit}
-use Rattle.dali_script.specs.declared.orders.End.TheVariants.{AllFound, BlockFull, GaveUp}
-use Rattle.dali_search.specs.declared.step.Step.{Step}
+use Rattle.dali_search.specs.{Ascending.leads_to, Ascending.ascent_at_first, Least.answered, declared.step.Step.Step}
 use Rattle.dali_search.specs.declared.step.Step.TheVariants.{Again, Found, Nobody}
-use Rattle.dali_search.specs.Least.{answered}
-use Rattle.dali_search.specs.Ascending.{leads_to, ascent_at_first}
-use Rattle.dali_controller.specs.declared.purpose.Purpose.{Purpose}
-use Rattle.dali_controller.specs.declared.purpose.Purpose.TheVariants.{Asking, Hunting, Calling}
-use Rattle.dali_controller.specs.declared.way.Way.{Way}
-use Rattle.dali_controller.specs.declared.way.Way.TheVariants.{Fresh, Surveying}
 use Rattle.dali_controller.specs.Course.{Course, address_for, is_asked, asked_among, next_asked, is_yes, closing, going_on, going_on_early, ask_or_call}
 use Rattle.dali_controller.specs.Course.{hunting_on, hunting_first, hunting_above, searching_first, searching_on, hunted, missed, asking_again, opening_anew}
 use Rattle.dali_controller.specs.Course.{next_unfinished, opening_at_last, drawing, calling, passing_over, probed, after_step}
-use Rattle.dali_controller.specs.Tally.{asked_again, silent_call, heard_call}
-use Rattle.dali_controller.specs.Machine.{Machine}
-use Rattle.dali_controller.specs.Next.{begins_at, goes_on_to, at_rest, asked_once, silenced, silenced_on, missed_again, is_failed, most_silent, unanswered}
-use Rattle.dali_controller.specs.Next.{hunted_in, hunted_to}
+use Rattle.dali_controller.specs.{Machine.Machine, Next.begins_at, Next.goes_on_to}
+use Rattle.dali_controller.specs.Next.{at_rest, asked_once, silenced, silenced_on, missed_again, is_failed, most_silent, unanswered, hunted_in, hunted_to}
 use Rattle.dali_controller.specs.Next.{has_open, may_draw, asks_again, full, ungiven, undrawn, is_blocked, blocked, called_to, compared_in, asked_on, course_on}
+use Rattle.dali_controller.specs.Tally.{asked_again, silent_call, heard_call}
+use Rattle.dali_controller.specs.declared.purpose.Purpose.{Purpose, TheVariants.Asking, TheVariants.Hunting, TheVariants.Calling}
+use Rattle.dali_controller.specs.declared.way.Way.{Way, TheVariants.Fresh, TheVariants.Surveying}
 
 -- A CENSUS IS BOUNDED: by how many of its frames may still be sent, which each of them makes fewer. What may still be sent, and
 -- that a transaction that begins never makes it more. `u` is 3 if the gear that is there may be silent twice and answer then, and 1

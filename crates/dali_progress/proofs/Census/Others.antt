@@ -1,42 +1,25 @@
-use Rattle.std.proofs.Common.{◌≡◌, ℕ, ◌+◌, ◌≤◌, ◌⊎◌, inl, inr, Bool, true, false, [], refl, ap, ◌∙◌, arith, Option, Some, None}
-use Rattle.std.specs.Prelude.{◌==◌, nat_lt, if◌then◌else◌}
-use Rattle.dali_frame.specs.declared.frames.Answer.{Answer}
-use Rattle.dali_frame.specs.declared.frames.Forward.{Forward}
-use Rattle.dali_frame.specs.declared.numbers.SearchAddress.{SearchAddress}
-use Rattle.dali_frame.specs.Random.{value_of}
-use Rattle.dali_frame.specs.Priority.{FIRST, LATER}
-use Rattle.dali_script.specs.declared.records.Record.{Record}
-use Rattle.dali_script.specs.declared.records.Record.TheVariants.{Reserve}
-use Rattle.dali_script.specs.declared.stage.Stage.{Stage}
-use Rattle.dali_script.specs.declared.stage.Stage.TheVariants as stage
-use Rattle.dali_script.specs.Records.{Kept}
-use Rattle.dali_script.specs.Stages.{stage_of}
+use Rattle.std.proofs.Common.{◌≡◌, ℕ, ◌+◌, ◌≤◌, ◌⊎◌, inl, inr, Bool, true, false, [], refl, ap, ◌∙◌, arith, Option, Some, None, ◌==◌, nat_lt, if◌then◌else◌}
+use Rattle.dali_frame.specs.{Priority.FIRST, Priority.LATER, Random.value_of}
+use Rattle.dali_frame.specs.declared.{frames.Answer.Answer, frames.Forward.Forward, numbers.SearchAddress.SearchAddress}
+use Rattle.dali_script.specs.{Records.Kept, Stages.stage_of, declared.orders.End.TheVariants.AllFound, declared.orders.End.TheVariants.BlockFull}
+use Rattle.dali_script.specs.declared.orders.{End.TheVariants.GaveUp, Order.Order, Order.TheVariants.Put, Order.TheVariants.Commit, Order.TheVariants.Done}
+use Rattle.dali_script.specs.declared.{orders.Order.TheVariants.Halt, records.Record.Record, records.Record.TheVariants.Reserve, stage.Stage.Stage}
 use Rattle.dali_script.proofs.Transactions.{stage_none}
 use Rattle.dali_script.specs.declared.orders.Input.TheVariants as input
-use Rattle.dali_script.specs.declared.orders.Order.{Order}
-use Rattle.dali_script.specs.declared.orders.Order.TheVariants.{Put, Commit, Done, Halt}
-use Rattle.dali_script.specs.declared.orders.End.TheVariants.{AllFound, BlockFull, GaveUp}
-use Rattle.dali_search.specs.declared.step.Step.{Step}
-use Rattle.dali_search.specs.Ascending.{leads_to, ascent_at_first}
+use Rattle.dali_script.specs.declared.stage.Stage.TheVariants as stage
+use Rattle.dali_search.specs.{Ascending.leads_to, Ascending.ascent_at_first, Least.answered, declared.step.Step.Step}
 use Rattle.dali_search.specs.declared.step.Step.TheVariants.{Again, Found, Nobody}
-use Rattle.dali_search.specs.Least.{answered}
-use Rattle.dali_controller.specs.declared.purpose.Purpose.{Purpose}
-use Rattle.dali_controller.specs.declared.purpose.Purpose.TheVariants.{Asking, Hunting, Calling}
-use Rattle.dali_controller.specs.declared.way.Way.{Way}
-use Rattle.dali_controller.specs.declared.way.Way.TheVariants.{Fresh, Surveying}
 use Rattle.dali_controller.specs.Course.{Course, address_for, next_asked, is_yes, closing, going_on, going_on_early, ask_or_call, searching_on, searching_first}
 use Rattle.dali_controller.specs.Course.{hunted, hunting_first, probed, after_step, next_unfinished, visit_or_opening, asking_again, calling, drawing}
-use Rattle.dali_controller.specs.Course.{opening_anew, opening_at_last}
-use Rattle.dali_controller.specs.Machine.{Machine}
-use Rattle.dali_controller.specs.Next.{next_course, begins_at, goes_on_to, at_rest, asked_once, silenced, silenced_on, missed_again, is_failed, most_silent}
-use Rattle.dali_controller.specs.Next.{unanswered, course_on, asked_on, hunted_in, hunted_to, has_open, may_draw, asks_again, full, undrawn, ungiven}
-use Rattle.dali_controller.specs.Next.{is_blocked, blocked, called_to, compared_in}
-use Rattle.dali_controller.specs.Tally.{asked_again, silent_call, heard_call}
-use Rattle.dali_controller.specs.Orders.{IsAllowed, machine_ordered, asked_by}
-use Rattle.dali_progress.specs.Census.{was_sent, was_lost}
-use Rattle.dali_progress.proofs.Census.Left.{of_purpose, of_purpose_most, of_last, beyond, left, quiet, goes_moves, StaysOrMoves, begins_moves, on_moves}
-use Rattle.dali_progress.proofs.Census.Left.{few_askings, Moves}
-use Rattle.dali_progress.proofs.Census.Asked.{by_order, moved_left, still_left, same_left, Leaves}
+use Rattle.dali_controller.specs.{Course.opening_anew, Course.opening_at_last, Machine.Machine, Next.next_course, Next.begins_at, Next.goes_on_to, Next.at_rest}
+use Rattle.dali_controller.specs.Next.{asked_once, silenced, silenced_on, missed_again, is_failed, most_silent, unanswered, course_on, asked_on, hunted_in}
+use Rattle.dali_controller.specs.Next.{hunted_to, has_open, may_draw, asks_again, full, undrawn, ungiven, is_blocked, blocked, called_to, compared_in}
+use Rattle.dali_controller.specs.{Orders.IsAllowed, Orders.machine_ordered, Orders.asked_by, Tally.asked_again, Tally.silent_call, Tally.heard_call}
+use Rattle.dali_controller.specs.declared.purpose.Purpose.{Purpose, TheVariants.Asking, TheVariants.Hunting, TheVariants.Calling}
+use Rattle.dali_controller.specs.declared.way.Way.{Way, TheVariants.Fresh, TheVariants.Surveying}
+use Rattle.dali_progress.{specs.Census.was_sent, specs.Census.was_lost, proofs.Census.Asked.by_order}
+use Rattle.dali_progress.proofs.Census.{Asked.moved_left, Asked.still_left, Asked.same_left, Asked.Leaves, Left.of_purpose, Left.of_purpose_most}
+use Rattle.dali_progress.proofs.Census.Left.{of_last, beyond, left, quiet, goes_moves, StaysOrMoves, begins_moves, on_moves, few_askings, Moves}
 
 -- A CENSUS IS BOUNDED: what an order leaves at every other step, and if no survey counts.
 

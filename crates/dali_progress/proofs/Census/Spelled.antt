@@ -1,31 +1,16 @@
-use Rattle.std.proofs.Common.{◌≡◌, ℕ, ◌<◌, ◌≤◌, ◌⊎◌, inl, inr, Bool, true, false, List, [], ◌∷◌, refl, sym, ap, subst, ◌∙◌, arith, Some}
-use Rattle.std.specs.Prelude.{◌==◌}
-use Rattle.std.proofs.lemmas.Bool.Decides.{nat_tests}
-use Rattle.std.specs.List.{AllByRecursion}
-use Rattle.dali_frame.specs.declared.frames.Answer.{Answer}
-use Rattle.dali_frame.specs.declared.frames.Answer.TheVariants.{Byte}
-use Rattle.dali_frame.specs.declared.frames.Forward.{Forward}
-use Rattle.dali_special.specs.declared.command.Command.{Command}
-use Rattle.dali_script.specs.declared.stage.Stage.{Stage}
-use Rattle.dali_script.specs.declared.stage.Stage.TheVariants as stage
-use Rattle.dali_script.specs.Stages.{stage_of, given}
+use Rattle.std.proofs.Common.{◌≡◌, ℕ, ◌<◌, ◌≤◌, ◌⊎◌, inl, inr, Bool, true, false, List, [], ◌∷◌, refl, sym, ap, subst, ◌∙◌, arith, Some, ◌==◌}
+use Rattle.std.{proofs.lemmas.Bool.Decides.nat_tests, specs.List.AllByRecursion}
+use Rattle.dali_frame.specs.{Random.MASK24, declared.frames.Answer.Answer, declared.frames.Answer.TheVariants.Byte, declared.frames.Forward.Forward}
+use Rattle.dali_special.specs.declared.command.{Command.Command, Command.TheVariants.RandomByte, Part.TheVariants.Middle, Part.TheVariants.Low}
+use Rattle.dali_script.specs.{Due.frame_put, Stages.stage_of, Stages.given, declared.orders.Order.TheVariants.Put, declared.stage.Stage.Stage}
 use Rattle.dali_script.specs.declared.orders.Input.TheVariants as input
-use Rattle.dali_script.specs.declared.orders.Order.TheVariants.{Put}
-use Rattle.dali_script.specs.Due.{frame_put}
-use Rattle.dali_controller.specs.declared.purpose.Purpose.TheVariants.{Asking}
-use Rattle.dali_controller.specs.Machine.{Machine, machine_told, machine_heard}
-use Rattle.dali_controller.specs.Orders.{IsGiven, machine_after, machine_ordered}
-use Rattle.dali_controller.specs.Whole.{IsWhole}
-use Rattle.dali_progress.specs.Surveyed.{Step, IsTaken, IsCourse, IsPlain, ArePlain}
-use Rattle.dali_progress.specs.Census.{IsClean, WasSpelled, HasTakenCensus, IsNamed, BeginsBySurvey, AreWhole}
-use Rattle.dali_progress.proofs.Later.{IsUnasked, course_stays, turn_unasked}
+use Rattle.dali_script.specs.declared.stage.Stage.TheVariants as stage
+use Rattle.dali_controller.specs.{Course.turn_of, Machine.Machine, Machine.machine_told, Machine.machine_heard, Orders.IsGiven, Orders.machine_after}
+use Rattle.dali_controller.specs.{Orders.machine_ordered, Whole.IsWhole, declared.purpose.Purpose.TheVariants.Asking}
+use Rattle.dali_progress.specs.{Census.IsClean, Census.WasSpelled, Census.HasTakenCensus, Census.IsNamed, Census.BeginsBySurvey, Census.AreWhole, Surveyed.Step}
+use Rattle.dali_progress.{specs.Surveyed.IsTaken, specs.Surveyed.IsCourse, specs.Surveyed.IsPlain, specs.Surveyed.ArePlain, proofs.Accounted.told_enrolled}
 use Rattle.dali_progress.proofs.Census.Coming.{IsTabled, IsToCome, IsEnded, Hearing, hearing_of, Looks, watched}
-use Rattle.dali_progress.proofs.Census.Told.{who_told}
-use Rattle.dali_progress.proofs.Accounted.{told_enrolled}
-use Rattle.dali_frame.specs.Random.{MASK24}
-use Rattle.dali_special.specs.declared.command.Command.TheVariants.{RandomByte}
-use Rattle.dali_special.specs.declared.command.Part.TheVariants.{Middle, Low}
-use Rattle.dali_controller.specs.Course.{turn_of}
+use Rattle.dali_progress.proofs.{Census.Told.who_told, Later.IsUnasked, Later.course_stays, Later.turn_unasked}
 
 -- WHO ANSWERS IS NAMED: once a census is over, an address under which each answer was a byte is in the table, or told FFFFFF.
 

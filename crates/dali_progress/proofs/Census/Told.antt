@@ -1,12 +1,9 @@
 use Rattle.std.proofs.Common.{◌≡◌, ℕ, ◌<◌, inl, inr, true, List, [], ◌∷◌, sym, subst, Some}
 use Rattle.dali_frame.specs.Random.{MASK24}
+use Rattle.dali_script.specs.{Due.due_after, Due.accepts, Stages.stage_of}
 use Rattle.dali_script.specs.declared.stage.Stage.TheVariants as stage
-use Rattle.dali_script.specs.Stages.{stage_of}
-use Rattle.dali_script.specs.Due.{due_after, accepts}
-use Rattle.dali_controller.specs.Machine.{Machine, machine_told}
-use Rattle.dali_controller.specs.Orders.{IsGiven, machine_after}
-use Rattle.dali_progress.specs.Surveyed.{Step, IsTaken, IsCourse}
-use Rattle.dali_progress.specs.Census.{Spells, WasSpelled, IsNamed}
+use Rattle.dali_controller.specs.{Machine.Machine, Machine.machine_told, Orders.IsGiven, Orders.machine_after}
+use Rattle.dali_progress.specs.{Census.Spells, Census.WasSpelled, Census.IsNamed, Surveyed.Step, Surveyed.IsTaken, Surveyed.IsCourse}
 use Rattle.dali_progress.proofs.Accounted.{told_enrolled, never_due, named_by, enrolling}
 
 -- WHO TOLD ITS RANDOM ADDRESS IS IN THE TABLE.

@@ -1,53 +1,31 @@
 use Rattle.std.proofs.Common.{◌≡◌, ℕ, ◌-◌, ◌+◌, ◌*◌, ◌<◌, ◌≤◌, ◌⊎◌, inl, inr, Bool, true, false, List, [], refl, sym, ap, subst, ◌∙◌, arith, length, Option}
-use Rattle.std.proofs.Common.{Some, None}
-use Rattle.std.specs.Prelude.{not, nat_lt, if◌then◌else◌}
+use Rattle.std.proofs.Common.{Some, None, not, nat_lt, if◌then◌else◌}
 use Rattle.std.proofs.lemmas.Bool.Decides.{nat_tests}
-use Rattle.dali_frame.specs.declared.frames.Forward.{Forward}
-use Rattle.dali_frame.specs.declared.numbers.SearchAddress.{SearchAddress}
-use Rattle.dali_frame.specs.Random.{MASK24}
-use Rattle.dali_frame.specs.Priority.{LATER}
-use Rattle.dali_special.specs.declared.command.Command.{Command}
-use Rattle.dali_special.specs.Command.{frame_of}
+use Rattle.dali_frame.specs.{Priority.LATER, Random.MASK24, declared.frames.Forward.Forward, declared.numbers.SearchAddress.SearchAddress}
+use Rattle.dali_special.specs.{Command.frame_of, declared.command.Command.Command}
 use Rattle.dali_gear.specs.Gear.{Gear}
-use Rattle.dali_script.specs.declared.records.Record.{Record}
-use Rattle.dali_script.specs.declared.records.Record.TheVariants.{Reserve, Enrol, Release}
-use Rattle.dali_script.specs.Records.{Kept, Has, with_record}
-use Rattle.dali_script.specs.declared.stage.Stage.{Stage}
+use Rattle.dali_script.specs.{Records.Kept, Records.Has, Records.with_record, Stages.IsTrace, Stages.stage_of, declared.orders.End.TheVariants.BlockFull}
+use Rattle.dali_script.specs.declared.orders.Order.{Order, TheVariants.Put, TheVariants.Commit, TheVariants.Done, TheVariants.Halt}
+use Rattle.dali_script.specs.declared.records.Record.{Record, TheVariants.Reserve, TheVariants.Enrol, TheVariants.Release}
+use Rattle.dali_script.{specs.declared.stage.Stage.Stage, proofs.Found.trace_none, proofs.Transactions.stage_none}
 use Rattle.dali_script.specs.declared.stage.Stage.TheVariants as stage
-use Rattle.dali_script.specs.Stages.{IsTrace, stage_of}
-use Rattle.dali_script.proofs.Transactions.{stage_none}
-use Rattle.dali_script.proofs.Found.{trace_none}
-use Rattle.dali_script.specs.declared.orders.Order.{Order}
-use Rattle.dali_script.specs.declared.orders.Order.TheVariants.{Put, Commit, Done, Halt}
-use Rattle.dali_script.specs.declared.orders.End.TheVariants.{BlockFull}
 use Rattle.dali_search.specs.Ascending.{Ascent, ascent_at_first, above, gone_on_from, one_if}
-use Rattle.dali_controller.specs.declared.purpose.Purpose.{Purpose}
-use Rattle.dali_controller.specs.declared.purpose.Purpose.TheVariants.{Hunting, Visiting, PassingOver}
-use Rattle.dali_controller.specs.declared.tally.Tally.{Tally}
-use Rattle.dali_controller.specs.declared.shorts.Shorts.{Shorts}
-use Rattle.dali_controller.specs.declared.way.Way.TheVariants.{Surveying}
 use Rattle.dali_controller.specs.Course.{Course, is_asked, turn_of, asking, calling_first, ask_or_call, asking_again, next_asked, going_on, going_on_early}
 use Rattle.dali_controller.specs.Course.{hunting, hunting_first, hunting_above, searching_on, closing as closing_by}
-use Rattle.dali_controller.specs.Tally.{served, asked_again}
-use Rattle.dali_controller.specs.Machine.{Machine}
-use Rattle.dali_controller.specs.Next.{next_course, beginning, goes_on_to, asks_again, full, is_failed}
-use Rattle.dali_controller.specs.Orders.{machine_ordered}
-use Rattle.dali_controller.proofs.Given as given
+use Rattle.dali_controller.specs.{Machine.Machine, Next.next_course, Next.beginning, Next.goes_on_to, Next.asks_again, Next.full, Next.is_failed}
+use Rattle.dali_controller.specs.{Orders.machine_ordered, Tally.served, Tally.asked_again}
+use Rattle.dali_controller.specs.declared.purpose.Purpose.{Purpose, TheVariants.Hunting, TheVariants.Visiting, TheVariants.PassingOver}
+use Rattle.dali_controller.specs.declared.{shorts.Shorts.Shorts, tally.Tally.Tally, way.Way.TheVariants.Surveying}
 use Rattle.dali_controller.proofs.Given.{IsGivenBy}
-use Rattle.dali_events.specs.Wanted.{gear_of, is_wanted, wants}
-use Rattle.dali_events.proofs.Search.Opened.{OpenedBy}
-use Rattle.dali_progress.proofs.Later.{IsUnasked, later_leaves, turn_unasked}
+use Rattle.dali_controller.proofs.Given as given
+use Rattle.dali_events.{specs.Wanted.gear_of, specs.Wanted.is_wanted, specs.Wanted.wants, proofs.Search.Opened.OpenedBy}
 use Rattle.dali_progress.proofs.Census.Coming.{asked_later, asked_before, unasked_enrolled}
-use Rattle.dali_progress.proofs.Census.Left.{asked_within}
-use Rattle.dali_progress.proofs.Survey.Drawn.{woken_short}
-use Rattle.dali_progress.proofs.Survey.Queried.{OneShort, IsTrue}
-use Rattle.dali_progress.proofs.Survey.Stands.{AreTaken}
-use Rattle.dali_progress.proofs.Survey.Woken.{AreLow}
-use Rattle.dali_progress.proofs.Misheard.Gear.{Each, AreSought, AreBare, AreKnown}
-use Rattle.dali_progress.proofs.Misheard.Climbing as climbing
-use Rattle.dali_progress.proofs.Misheard.Stands.{IsCounted, IsSpent, HuntStage, Rises, IsReached, IsPast, HuntAt, Hunts, EndsBy, AreTabledBelow, AreSeen}
-use Rattle.dali_progress.proofs.Misheard.Stands.{IsCensus, KnownAt, At, MisheardStands}
+use Rattle.dali_progress.proofs.{Census.Left.asked_within, Later.IsUnasked, Later.later_leaves, Later.turn_unasked, Misheard.Gear.Each}
+use Rattle.dali_progress.proofs.Misheard.{Gear.AreSought, Gear.AreBare, Gear.AreKnown, Stands.IsCounted, Stands.IsSpent, Stands.HuntStage, Stands.Rises}
+use Rattle.dali_progress.proofs.Misheard.Stands.{IsReached, IsPast, HuntAt, Hunts, EndsBy, AreTabledBelow, AreSeen, IsCensus, KnownAt, At, MisheardStands}
+use Rattle.dali_progress.proofs.Survey.{Drawn.woken_short, Queried.OneShort, Queried.IsTrue, Stands.AreTaken, Woken.AreLow}
 use Rattle.dali_progress.proofs.Surveying.{roll_first, IsClear}
+use Rattle.dali_progress.proofs.Misheard.Climbing as climbing
 
 -- A TRANSACTION BEGINS, or goes on; and what is to come of an order.
 

@@ -1,9 +1,8 @@
-use Rattle.std.proofs.Common.{◌≡◌, ℕ, ◌+◌, ◌<◌, ◌≤◌, Bool, true, false, refl, subst, arith, nat_lt}
-use Rattle.std.specs.Prelude.{min, max, if◌then◌else◌}
+use Rattle.std.proofs.Common.{◌≡◌, ℕ, ◌+◌, ◌<◌, ◌≤◌, Bool, true, false, refl, subst, arith, nat_lt, min, max, if◌then◌else◌}
 use Rattle.std.proofs.lemmas.Bool.Decides.{nat_tests}
 use Rattle.dali_frame.specs.Random.{MASK24}
-use Rattle.dali_search.specs.declared.step.Step.TheVariants.{Again, Found, Nobody}
 use Rattle.dali_search.specs.Ascending.{Ascent, IsAscent, Knows, is_bounded, leads_to, ascended, ascent_at_first, above, begun_anew}
+use Rattle.dali_search.specs.declared.step.Step.TheVariants.{Again, Found, Nobody}
 use Rattle.dali_search.proofs.Ascents.{yes_is, no_is}
 
 -- A SEARCH THAT GOES UP, whichever gear are there: also some that never drew a number.

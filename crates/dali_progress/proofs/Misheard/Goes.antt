@@ -1,70 +1,38 @@
 use Rattle.std.proofs.Common.{◌≡◌, ℕ, ◌+◌, ◌<◌, ◌≤◌, ◌⊎◌, inl, inr, true, false, List, [], ◌∷◌, ◌++◌, refl, sym, ap, subst, ◌∙◌, arith, length, Option, Some}
-use Rattle.std.proofs.Common.{None}
-use Rattle.dali_frame.specs.declared.frames.Forward.{Forward}
-use Rattle.dali_frame.specs.declared.frames.Answer.{Answer}
-use Rattle.dali_special.specs.Command.{command_of}
-use Rattle.dali_gear.specs.declared.row.Reach.TheVariants.{Everyone}
-use Rattle.std.specs.Prelude.{◌==◌}
-use Rattle.dali_special.specs.declared.command.Command.{Command}
-use Rattle.dali_gear.specs.Gear.{Gear}
-use Rattle.dali_gear.specs.Row.{row_after, drawn_of}
-use Rattle.dali_script.specs.Records.{Kept}
-use Rattle.dali_script.specs.declared.stage.Stage.{Stage}
-use Rattle.dali_script.proofs.Lists.{has_before, without_has}
-use Rattle.dali_script.specs.Scripts.{IsLawful}
-use Rattle.dali_script.specs.declared.records.Record.{Record}
-use Rattle.dali_script.specs.declared.records.Record.TheVariants.{Reserve, Enrol, Release}
-use Rattle.dali_script.specs.declared.stage.Stage.TheVariants as stage
-use Rattle.dali_script.specs.Stages.{IsTrace, stage_of, next_stage}
-use Rattle.dali_script.proofs.Members.{has_right}
-use Rattle.dali_script.proofs.Transactions.{stage_more, stage_none}
-use Rattle.dali_script.proofs.Found.{trace_more}
-use Rattle.dali_script.specs.declared.orders.Input.{Input}
-use Rattle.dali_script.specs.declared.orders.Input.TheVariants as input
-use Rattle.dali_script.specs.declared.orders.Order.{Order}
+use Rattle.std.proofs.Common.{None, ◌==◌}
+use Rattle.std.proofs.lemmas.Nat.Bits.{bit_at-zero}
+use Rattle.dali_frame.specs.declared.frames.{Answer.Answer, Forward.Forward}
+use Rattle.dali_special.specs.{Command.command_of, declared.command.Command.Command}
+use Rattle.dali_gear.specs.{Gear.Gear, Row.row_after, Row.drawn_of, declared.row.Reach.TheVariants.Everyone}
+use Rattle.dali_script.specs.{Records.Kept, Scripts.IsLawful, Stages.IsTrace, Stages.stage_of, Stages.next_stage}
+use Rattle.dali_script.specs.declared.orders.{End.End, End.TheVariants.AllFound, End.TheVariants.BlockFull, End.TheVariants.GaveUp, Input.Input, Order.Order}
 use Rattle.dali_script.specs.declared.orders.Order.TheVariants.{Put, Commit, Done, Halt}
-use Rattle.dali_script.specs.declared.orders.End.{End}
-use Rattle.dali_script.specs.declared.orders.End.TheVariants.{AllFound, BlockFull, GaveUp}
-use Rattle.dali_controller.specs.Course.{visiting, Course}
-use Rattle.dali_controller.specs.declared.purpose.Purpose.{Purpose}
-use Rattle.dali_controller.specs.declared.shorts.Shorts.{Shorts}
-use Rattle.dali_controller.specs.Machine.{Machine, machine_heard, machine_surveying, machine_told, silent_after, heard_after}
-use Rattle.dali_controller.specs.Next.{begins_at, at_rest}
-use Rattle.dali_controller.specs.Orders.{machine_ordered, machine_after, AfterEnrolled}
-use Rattle.dali_controller.specs.Whole.{IsWhole, Sends}
+use Rattle.dali_script.specs.declared.records.Record.{Record, TheVariants.Reserve, TheVariants.Enrol, TheVariants.Release}
+use Rattle.dali_script.specs.declared.stage.Stage.{Stage}
+use Rattle.dali_script.proofs.{Found.trace_more, Lists.has_before, Lists.without_has, Members.has_right, Transactions.stage_more, Transactions.stage_none}
+use Rattle.dali_script.specs.declared.orders.Input.TheVariants as input
+use Rattle.dali_script.specs.declared.stage.Stage.TheVariants as stage
+use Rattle.dali_controller.specs.{Course.visiting, Course.Course, Machine.Machine, Machine.machine_heard, Machine.machine_surveying, Machine.machine_told}
+use Rattle.dali_controller.specs.{Machine.silent_after, Machine.heard_after, Next.begins_at, Next.at_rest, Orders.machine_ordered, Orders.machine_after}
+use Rattle.dali_controller.specs.{Orders.AfterEnrolled, Shorts.has_short, Whole.IsWhole, Whole.Sends, declared.purpose.Purpose.Purpose}
+use Rattle.dali_controller.{specs.declared.shorts.Shorts.Shorts, proofs.Given.IsGivenBy}
 use Rattle.dali_controller.proofs.Given as given
-use Rattle.dali_controller.proofs.Given.{IsGivenBy, IsNoEnrolment}
-use Rattle.dali_events.specs.declared.event.Event.{Event}
+use Rattle.dali_events.specs.{Allowed.Allowed, Happens.happens, Happens.entry, Happens.trace_running, Promise.KeepsPromiseNow, Runs.IsRun, Runs.LeavesUsed}
+use Rattle.dali_events.{specs.World.World, specs.World.controller_at, specs.declared.event.Event.Event, proofs.Invariant.Takes.row_length}
 use Rattle.dali_events.specs.declared.event.Event.TheVariants as event
-use Rattle.dali_events.specs.World.{World, controller_at}
-use Rattle.dali_events.specs.Happens.{happens, entry, trace_running}
-use Rattle.dali_events.specs.Promise.{KeepsPromiseNow}
-use Rattle.dali_events.specs.Allowed.{Allowed}
-use Rattle.dali_events.specs.Runs.{IsRun, LeavesUsed}
-use Rattle.dali_events.proofs.Invariant.Takes.{row_length}
 use Rattle.dali_standing.specs.Seats.{IsFound, LeavesWhole}
 use Rattle.dali_world.specs.Site.{SiteState, world, site_logged, machine_at}
-use Rattle.dali_progress.specs.Rounds.{HasEnded, GoesOn, IsAlone, Succeeds, IsOfRound, Rounds, site_after}
 use Rattle.dali_progress.specs.Misheard.{IsHeardBut, IsOfRoundBut, RoundsBut, EndsWellBut, IsTrueEndBut}
-use Rattle.dali_progress.proofs.Lone.{IsLone, lone_sent}
-use Rattle.dali_progress.proofs.Logged.{same_some, world_logged}
-use Rattle.dali_progress.proofs.Both.{never_eight, with_kept, put_no_enrolment, not_free, no_tries, IsKnown, lawful_now, no_enrolment_now}
-use Rattle.dali_progress.proofs.Frames.{Seeks}
-use Rattle.dali_progress.proofs.Census.Asked.{sending_of}
-use Rattle.dali_progress.proofs.Survey.Queried.{OneShort, IsTrue, IsAtHand}
-use Rattle.std.proofs.lemmas.Nat.Bits.{bit_at-zero}
-use Rattle.dali_controller.specs.Shorts.{has_short}
-use Rattle.dali_progress.proofs.Survey.Turns.{IsUncontradicted}
-use Rattle.dali_progress.proofs.Survey.Goes.{found_sent, acted_so, promise_now, surveyed_now, IsActedSo}
-use Rattle.dali_progress.proofs.Survey.Kept.{rest_next}
-use Rattle.dali_progress.proofs.Misheard.Gear as gear
-use Rattle.dali_progress.proofs.Misheard.Stands.{EndsBy, AreTabledBelow, KnownAt, At, MisheardStands}
-use Rattle.dali_progress.proofs.Misheard.Sent.{Taken}
-use Rattle.dali_progress.proofs.Misheard.Known.{SentTo, at_sent, known_sent}
-use Rattle.dali_progress.proofs.Misheard.Begins.{Calm, IsOwn, Keeps, IsNext, first_by, asks_on, hunts_on}
-use Rattle.dali_progress.proofs.Misheard.Visits.{turned}
+use Rattle.dali_progress.specs.Rounds.{HasEnded, GoesOn, IsAlone, Succeeds, IsOfRound, Rounds, site_after}
 use Rattle.dali_progress.proofs.Along.{RunsBy, runs_first, acted_to, frame_to, sent_to, ended_at, goes_by, HoldsBy, holds_next, acts_from}
-use Rattle.dali_progress.proofs.Both.{no_enrolment_yet, reserved_begins}
+use Rattle.dali_progress.proofs.Both.{never_eight, with_kept, put_no_enrolment, not_free, no_tries, IsKnown, lawful_now, no_enrolment_now, no_enrolment_yet}
+use Rattle.dali_progress.proofs.{Both.reserved_begins, Census.Asked.sending_of, Frames.Seeks, Logged.same_some, Logged.world_logged, Lone.IsLone}
+use Rattle.dali_progress.proofs.{Lone.lone_sent, Misheard.Begins.Calm, Misheard.Begins.IsOwn, Misheard.Begins.Keeps}
+use Rattle.dali_progress.proofs.Misheard.{Begins.IsNext, Begins.first_by, Begins.asks_on, Begins.hunts_on, Known.SentTo, Known.at_sent, Known.known_sent}
+use Rattle.dali_progress.proofs.Misheard.{Sent.Taken, Stands.EndsBy, Stands.AreTabledBelow, Stands.KnownAt, Stands.At, Stands.MisheardStands, Visits.turned}
+use Rattle.dali_progress.proofs.Survey.Goes.{found_sent, acted_so, promise_now, surveyed_now, IsActedSo}
+use Rattle.dali_progress.proofs.Survey.{Kept.rest_next, Queried.OneShort, Queried.IsTrue, Queried.IsAtHand, Turns.IsUncontradicted}
+use Rattle.dali_progress.proofs.Misheard.Gear as gear
 
 -- A SURVEY GOES ON, event by event, if gear g is misheard.
 

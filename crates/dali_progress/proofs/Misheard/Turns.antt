@@ -1,49 +1,32 @@
 use Rattle.std.proofs.Common.{◌≡◌, ℕ, ◌+◌, ◌*◌, ◌<◌, ◌≤◌, ◌⊎◌, inl, inr, Bool, true, false, List, [], ◌∷◌, ◌++◌, refl, sym, ap, subst, ◌∙◌, arith, Some, None}
-use Rattle.std.specs.Prelude.{◌==◌, ◌&&◌, not, nat_lt, if◌then◌else◌}
+use Rattle.std.proofs.Common.{◌==◌, ◌&&◌, not, nat_lt, if◌then◌else◌}
 use Rattle.std.proofs.lemmas.Bool.Decides.{nat_tests}
-use Rattle.dali_frame.specs.declared.frames.Answer.{Answer}
-use Rattle.dali_frame.specs.declared.numbers.SearchAddress.{SearchAddress}
-use Rattle.dali_frame.specs.Random.{MASK24}
+use Rattle.dali_frame.specs.{Random.MASK24, declared.frames.Answer.Answer, declared.numbers.SearchAddress.SearchAddress}
 use Rattle.dali_gear.specs.Gear.{Gear}
-use Rattle.dali_script.specs.declared.records.Record.TheVariants.{Enrol}
-use Rattle.dali_script.specs.Records.{Assignment, Kept, Has, HasAddress, IsKept, IsFresh, MayAdd, with_record}
-use Rattle.dali_script.proofs.Lists.{has_before, has_last}
-use Rattle.dali_script.proofs.Members.{same_member}
-use Rattle.dali_script.specs.declared.stage.Stage.{Stage}
+use Rattle.dali_script.specs.{Findings.finding_of, Records.Assignment, Records.Kept, Records.Has, Records.HasAddress, Records.IsKept, Records.IsFresh}
+use Rattle.dali_script.specs.{Records.MayAdd, Records.with_record, Stages.stage_of, Stages.finding_at, declared.finding.Finding.TheVariants.Resolved}
+use Rattle.dali_script.specs.declared.orders.{End.TheVariants.AllFound, End.TheVariants.GaveUp, Order.Order, Order.TheVariants.Put, Order.TheVariants.Commit}
+use Rattle.dali_script.specs.declared.{orders.Order.TheVariants.Done, orders.Order.TheVariants.Halt, records.Record.TheVariants.Enrol, stage.Stage.Stage}
+use Rattle.dali_script.proofs.{Lists.has_before, Lists.has_last, Members.same_member}
 use Rattle.dali_script.specs.declared.stage.Stage.TheVariants as stage
-use Rattle.dali_script.specs.declared.finding.Finding.TheVariants.{Resolved}
-use Rattle.dali_script.specs.Findings.{finding_of}
-use Rattle.dali_script.specs.Stages.{stage_of, finding_at}
-use Rattle.dali_script.specs.declared.orders.Order.{Order}
-use Rattle.dali_script.specs.declared.orders.Order.TheVariants.{Put, Commit, Done, Halt}
-use Rattle.dali_script.specs.declared.orders.End.TheVariants.{AllFound, GaveUp}
 use Rattle.dali_search.specs.Ascending.{one_if}
-use Rattle.dali_controller.specs.declared.purpose.Purpose.{Purpose}
-use Rattle.dali_controller.specs.declared.purpose.Purpose.TheVariants.{Asking, Calling}
-use Rattle.dali_controller.specs.declared.tally.Tally.{Tally}
-use Rattle.dali_controller.specs.declared.shorts.Shorts.{Shorts}
-use Rattle.dali_controller.specs.Shorts.{has_short}
 use Rattle.dali_controller.specs.Course.{Course, call_turn, is_yes, turn_of, calling, opening_at_last, closing as closing_by, searching_first}
-use Rattle.dali_controller.specs.Tally.{heard_call, silent_call}
-use Rattle.dali_controller.specs.Machine.{Machine}
-use Rattle.dali_controller.specs.Next.{next_course, begins_at, beginning, asked_once, blocked, is_blocked, full, has_open, may_draw, is_failed}
-use Rattle.dali_controller.specs.Orders.{machine_ordered, AfterFinding, IsSought}
-use Rattle.dali_controller.specs.Whole.{IsWhole}
-use Rattle.dali_controller.proofs.Given as given
+use Rattle.dali_controller.specs.{Machine.Machine, Next.next_course, Next.begins_at, Next.beginning, Next.asked_once, Next.blocked, Next.is_blocked, Next.full}
+use Rattle.dali_controller.specs.{Next.has_open, Next.may_draw, Next.is_failed, Orders.machine_ordered, Orders.AfterFinding, Orders.IsSought, Shorts.has_short}
+use Rattle.dali_controller.specs.{Tally.heard_call, Tally.silent_call, Whole.IsWhole, declared.purpose.Purpose.Purpose}
+use Rattle.dali_controller.specs.declared.{purpose.Purpose.TheVariants.Asking, purpose.Purpose.TheVariants.Calling, shorts.Shorts.Shorts, tally.Tally.Tally}
 use Rattle.dali_controller.proofs.Given.{IsGivenBy, IsNoEnrolment}
+use Rattle.dali_controller.proofs.Given as given
 use Rattle.dali_events.specs.Wanted.{gear_of}
 use Rattle.dali_events.proofs.Search.Wanted as wanted
 use Rattle.dali_progress.proofs.Both.{never_eight, has_address}
-use Rattle.dali_progress.proofs.Survey.Queried.{Holds, one_gear, IsAtHand}
-use Rattle.dali_progress.proofs.Survey.Turns.{IsUncontradicted, silent_next, heard_next}
-use Rattle.dali_progress.proofs.Survey.Hunting.{nothing_open}
-use Rattle.dali_progress.proofs.Survey.Stands.{AreTaken}
-use Rattle.dali_progress.proofs.Survey.Begins.{begins_whole, all_taken}
-use Rattle.dali_progress.proofs.Misheard.Gear as gear
+use Rattle.dali_progress.proofs.Misheard.Begins.{KeepsAsked, IsOwn, Keeps, IsNext, calm_of, calm_ordered, first_by, asks_on, one_most, hunts_first}
 use Rattle.dali_progress.proofs.Misheard.Gear.{AreKnown, HasOne}
 use Rattle.dali_progress.proofs.Misheard.Stands.{IsSpent, Asks, Calls, Draws, AreTabledBelow, AreSeen, IsCensus, Census, KnownAt, EndsBy, MisheardStands}
-use Rattle.dali_progress.proofs.Misheard.Begins.{KeepsAsked, IsOwn, Keeps, IsNext, calm_of, calm_ordered, first_by, asks_on, one_most, hunts_first}
+use Rattle.dali_progress.proofs.Survey.{Begins.begins_whole, Begins.all_taken, Hunting.nothing_open, Queried.Holds, Queried.one_gear, Queried.IsAtHand}
+use Rattle.dali_progress.proofs.Survey.{Stands.AreTaken, Turns.IsUncontradicted, Turns.silent_next, Turns.heard_next}
 use Rattle.dali_progress.proofs.Surveying.{roll_first, called_short, roll_over, IsClear}
+use Rattle.dali_progress.proofs.Misheard.Gear as gear
 
 -- A CONTROLLER ACTS on what it was told, and what it orders goes on with the survey.
 

@@ -1,42 +1,28 @@
-use Rattle.std.proofs.Common.{◌≡◌, ℕ, ◌<◌, ◌≤◌, ◌⊎◌, inl, inr, Bool, true, false, List, refl, sym, ap, subst, ◌∙◌, arith, length, Option, Some, None}
-use Rattle.std.specs.Prelude.{◌==◌, ◌&&◌, ◌/◌, ◌%◌, nat_lt, if◌then◌else◌}
+use Rattle.std.proofs.Common.{◌≡◌, ℕ, ◌<◌, ◌≤◌, ◌⊎◌, inl, inr, Bool, true, false, List, refl, sym, ap, subst, ◌∙◌, arith, length, Option, Some, None, ◌==◌}
+use Rattle.std.proofs.Common.{◌&&◌, ◌/◌, ◌%◌, nat_lt, if◌then◌else◌}
 use Rattle.std.proofs.lemmas.Bool.Decides.{nat_tests}
-use Rattle.dali_frame.specs.declared.frames.Answer.{Answer}
-use Rattle.dali_frame.specs.declared.frames.Answer.TheVariants.{Silence, Byte, Damaged}
-use Rattle.dali_frame.specs.declared.numbers.SearchAddress.{SearchAddress}
-use Rattle.dali_frame.specs.Short.{short_of}
-use Rattle.dali_frame.specs.Random.{value_of, MASK24}
-use Rattle.dali_special.specs.declared.command.Command.{Command}
+use Rattle.dali_frame.specs.{Random.value_of, Random.MASK24, Short.short_of, declared.frames.Answer.Answer, declared.frames.Answer.TheVariants.Silence}
+use Rattle.dali_frame.specs.declared.{frames.Answer.TheVariants.Byte, frames.Answer.TheVariants.Damaged, numbers.SearchAddress.SearchAddress}
+use Rattle.dali_special.specs.{Command.MASK, Command.program_data, declared.command.Command.Command}
 use Rattle.dali_special.specs.declared.command.Command.TheVariants.{Withdraw, SearchHigh, SearchMiddle, SearchLow, Program, QueryShort}
-use Rattle.dali_special.specs.Command.{MASK, program_data}
-use Rattle.dali_gear.specs.declared.row.Reach.TheVariants.{Everyone}
-use Rattle.dali_gear.specs.Gear.{Gear}
-use Rattle.dali_gear.specs.Row.{row_after, answers_of, heard_of}
-use Rattle.dali_script.specs.Records.{Kept}
-use Rattle.dali_script.specs.declared.stage.Stage.{Stage}
+use Rattle.dali_gear.specs.{Gear.Gear, Row.row_after, Row.answers_of, Row.heard_of, declared.row.Reach.TheVariants.Everyone}
+use Rattle.dali_script.specs.{Records.Kept, Stages.named, Stages.queried, Stages.answered, Stages.verified, declared.stage.Stage.Stage}
 use Rattle.dali_script.specs.declared.stage.Stage.TheVariants as stage
-use Rattle.dali_script.specs.Stages.{named, queried, answered, verified}
 use Rattle.dali_search.specs.Ascending.{Ascent}
-use Rattle.dali_controller.specs.declared.purpose.Purpose.{Purpose}
-use Rattle.dali_controller.specs.declared.purpose.Purpose.TheVariants.{Visiting, PassingOver}
-use Rattle.dali_controller.specs.Course.{Course, sought}
-use Rattle.dali_controller.specs.Machine.{silent_after}
-use Rattle.dali_controller.specs.Whole.{Sends}
+use Rattle.dali_controller.specs.{Course.Course, Course.sought, Machine.silent_after, Whole.Sends}
+use Rattle.dali_controller.specs.declared.purpose.Purpose.{Purpose, TheVariants.Visiting, TheVariants.PassingOver}
 use Rattle.dali_events.specs.Wanted.{gear_of, is_wanted, wants, Seek}
-use Rattle.dali_events.proofs.Search.Wanted as wanted
-use Rattle.dali_events.proofs.Search.Leaving as leaving
-use Rattle.dali_events.proofs.Search.Leaving.{SameCore}
-use Rattle.dali_events.proofs.Search.Programming.{after_program, programmed_wants, programs_at}
+use Rattle.dali_events.proofs.Search.{Leaving.SameCore, Programming.after_program, Programming.programmed_wants, Programming.programs_at}
 use Rattle.dali_events.proofs.Search.Withdrawing.{after_withdraw, withdrawn_wants, withdraws_at}
-use Rattle.dali_progress.specs.Misheard.{IsNoByte, IsHeardBut}
-use Rattle.dali_progress.proofs.Stands.{HaveShort}
-use Rattle.dali_progress.proofs.Frames.{Seeks, value_sought, some_is, mask_queried, verified_short, short_given, short_kept}
-use Rattle.dali_progress.proofs.Survey.Woken.{low_after}
-use Rattle.dali_progress.proofs.Misheard.Gear as gear
+use Rattle.dali_events.proofs.Search.Leaving as leaving
+use Rattle.dali_events.proofs.Search.Wanted as wanted
+use Rattle.dali_progress.{specs.Misheard.IsNoByte, specs.Misheard.IsHeardBut, proofs.Frames.Seeks, proofs.Frames.value_sought, proofs.Frames.some_is}
+use Rattle.dali_progress.proofs.{Frames.mask_queried, Frames.verified_short, Frames.short_given, Frames.short_kept, Later.queried_by, Later.verified_by}
 use Rattle.dali_progress.proofs.Misheard.Gear.{AreSought, AreBare, AreBareBut, AreNamedBut, HasOne}
-use Rattle.dali_progress.proofs.Misheard.Stands.{StageOf, IsCounted, IsReached, IsPast, IsOfOne, VisitStage, Visits, HuntAt, found_at, failed_at, Hunts}
 use Rattle.dali_progress.proofs.Misheard.Sent.{Taken, counted_on, told_hunts, few_on, reached_core, own_core, hunts_core, low_byte, HuntedTo}
-use Rattle.dali_progress.proofs.Later.{queried_by, verified_by}
+use Rattle.dali_progress.proofs.Misheard.Stands.{StageOf, IsCounted, IsReached, IsPast, IsOfOne, VisitStage, Visits, HuntAt, found_at, failed_at, Hunts}
+use Rattle.dali_progress.proofs.{Stands.HaveShort, Survey.Woken.low_after}
+use Rattle.dali_progress.proofs.Misheard.Gear as gear
 
 -- A FRAME OF A VISIT IS SENT. If it is gear g that is visited, anything may be heard of it; of any other it is heard what it
 -- answers.

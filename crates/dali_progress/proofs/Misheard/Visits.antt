@@ -1,68 +1,41 @@
 use Rattle.std.proofs.Common.{◌≡◌, ℕ, ◌+◌, ◌-◌, ◌*◌, ◌<◌, ◌≤◌, ◌⊎◌, inl, inr, Bool, true, false, List, refl, sym, ap, subst, ◌∙◌, arith, length, Option, Some}
-use Rattle.std.proofs.Common.{None}
-use Rattle.std.specs.Prelude.{◌==◌, not, nat_lt, MatchOption, if◌then◌else◌}
+use Rattle.std.proofs.Common.{None, ◌==◌, not, nat_lt, MatchOption, if◌then◌else◌}
 use Rattle.std.proofs.lemmas.Bool.Decides.{nat_tests}
-use Rattle.dali_frame.specs.declared.frames.Answer.{Answer}
-use Rattle.dali_frame.specs.declared.numbers.SearchAddress.{SearchAddress}
-use Rattle.dali_frame.specs.Random.{value_of, MASK24}
-use Rattle.dali_frame.specs.Priority.{LATER}
-use Rattle.dali_special.specs.declared.command.Command.{Command}
-use Rattle.dali_special.specs.declared.command.Command.TheVariants.{Program}
-use Rattle.dali_special.specs.Command.{frame_of}
-use Rattle.dali_gear.specs.declared.state.InitialisationState.TheVariants.{Enabled}
-use Rattle.dali_gear.specs.Gear.{Gear}
-use Rattle.dali_script.specs.declared.records.Record.TheVariants.{Reserve, Enrol}
-use Rattle.dali_script.specs.Records.{Has, HasRandom, IsFresh, MayAdd}
-use Rattle.dali_progress.proofs.Accounted.{open_is}
-use Rattle.dali_script.specs.declared.stage.Stage.{Stage}
-use Rattle.dali_script.specs.declared.stage.Stage.TheVariants as stage
-use Rattle.dali_script.specs.declared.finding.Finding.TheVariants.{Queried}
-use Rattle.dali_script.specs.Stages.{stage_of}
-use Rattle.dali_script.specs.declared.orders.Order.{Order}
+use Rattle.dali_frame.specs.{Priority.LATER, Random.value_of, Random.MASK24, declared.frames.Answer.Answer, declared.numbers.SearchAddress.SearchAddress}
+use Rattle.dali_special.specs.{Command.frame_of, declared.command.Command.Command, declared.command.Command.TheVariants.Program}
+use Rattle.dali_gear.specs.{Gear.Gear, declared.state.InitialisationState.TheVariants.Enabled}
+use Rattle.dali_script.specs.{Records.Has, Records.HasRandom, Records.IsFresh, Records.MayAdd, Stages.stage_of, declared.finding.Finding.TheVariants.Queried}
+use Rattle.dali_script.specs.declared.orders.{End.TheVariants.BlockFull, End.TheVariants.GaveUp, Order.Order}
 use Rattle.dali_script.specs.declared.orders.Order.TheVariants.{Put, Commit, Done, Halt}
-use Rattle.dali_script.specs.declared.orders.End.TheVariants.{BlockFull, GaveUp}
-use Rattle.dali_search.specs.declared.step.Step.{Step}
-use Rattle.dali_search.specs.declared.step.Step.TheVariants.{Again, Found, Nobody}
-use Rattle.dali_search.specs.Least.{Gives}
+use Rattle.dali_script.specs.declared.{records.Record.TheVariants.Reserve, records.Record.TheVariants.Enrol, stage.Stage.Stage}
+use Rattle.dali_script.specs.declared.stage.Stage.TheVariants as stage
 use Rattle.dali_search.specs.Ascending.{Ascent, Knows, IsAscent, ascent_at_first, asked_next, leads_to, ascended, one_if}
-use Rattle.dali_controller.specs.declared.purpose.Purpose.{Purpose}
-use Rattle.dali_controller.specs.declared.purpose.Purpose.TheVariants.{Opening, Probing, Visiting, Resolving, Closing, Hunting, Asking, Calling, Drawing}
-use Rattle.dali_controller.specs.declared.purpose.Purpose.TheVariants.{PassingOver}
-use Rattle.dali_controller.specs.declared.tally.Tally.{Tally}
-use Rattle.dali_controller.specs.Course.{Course, is_yes, byte_to_send, bytes_to_send, address_for, least_open, turn_of, ask_or_call}
-use Rattle.dali_controller.specs.Course.{asking_again, next_asked, calling, drawing, opening_anew, closing as closing_by, hunting, visiting, passing_over}
-use Rattle.dali_controller.specs.Course.{missed, hunted}
-use Rattle.dali_controller.specs.Tally.{asked_again, passed_over, drew}
+use Rattle.dali_search.specs.{Least.Gives, declared.step.Step.Step}
+use Rattle.dali_search.specs.declared.step.Step.TheVariants.{Again, Found, Nobody}
+use Rattle.dali_controller.specs.Course.{Course, is_yes, byte_to_send, bytes_to_send, address_for, least_open, turn_of, ask_or_call, asking_again, next_asked}
+use Rattle.dali_controller.specs.Course.{calling, drawing, opening_anew, closing as closing_by, hunting, visiting, passing_over, missed, hunted}
 use Rattle.dali_controller.specs.Machine.{Machine, is_withheld}
-use Rattle.dali_controller.specs.Next.{next_course, begins_at, beginning, course_by, hunted_to, nobody_left, undrawn, full, asks_again, has_open}
-use Rattle.dali_controller.specs.Next.{may_draw, silenced, silenced_on, missed_again, is_failed, unanswered, most_silent, question, is_hunting}
-use Rattle.dali_controller.specs.Orders.{machine_ordered, AfterFinding, AfterMaskOn, AfterMaskBy, AfterReserved}
-use Rattle.dali_controller.specs.Whole.{IsWhole}
+use Rattle.dali_controller.specs.Next.{next_course, begins_at, beginning, course_by, hunted_to, nobody_left, undrawn, full, asks_again, has_open, may_draw}
+use Rattle.dali_controller.specs.Next.{silenced, silenced_on, missed_again, is_failed, unanswered, most_silent, question, is_hunting}
+use Rattle.dali_controller.specs.{Orders.machine_ordered, Orders.AfterFinding, Orders.AfterMaskOn, Orders.AfterMaskBy, Orders.AfterReserved, Tally.asked_again}
+use Rattle.dali_controller.specs.{Tally.passed_over, Tally.drew, Whole.IsWhole, declared.purpose.Purpose.Purpose, declared.purpose.Purpose.TheVariants.Opening}
+use Rattle.dali_controller.specs.declared.purpose.Purpose.TheVariants.{Probing, Visiting, Resolving, Closing, Hunting, Asking, Calling, Drawing, PassingOver}
+use Rattle.dali_controller.{specs.declared.tally.Tally.Tally, proofs.Given.IsGivenBy, proofs.Given.IsNoEnrolment}
 use Rattle.dali_controller.proofs.Given as given
-use Rattle.dali_controller.proofs.Given.{IsGivenBy, IsNoEnrolment}
-use Rattle.dali_events.specs.Searching.{HasShort}
-use Rattle.dali_events.specs.Wanted.{gear_of, is_wanted, wants}
+use Rattle.dali_events.specs.{Searching.HasShort, Wanted.gear_of, Wanted.is_wanted, Wanted.wants}
 use Rattle.dali_events.proofs.Search.Wanted as wanted
-use Rattle.dali_progress.specs.Misheard.{AreServedBut}
-use Rattle.dali_progress.proofs.Both.{never_eight, close_ends}
-use Rattle.dali_progress.proofs.Frames.{value_sought}
-use Rattle.dali_progress.proofs.Survey.Drawn.{AreNumbered, DrewApart}
-use Rattle.dali_progress.proofs.Survey.Stands.{AreTaken}
-use Rattle.dali_progress.proofs.Survey.Rising.{knows_told}
-use Rattle.dali_progress.proofs.Survey.Woken.{AreLow}
-use Rattle.dali_progress.proofs.Survey.Begins.{clear_reserved, nobody_elses, begins_whole, all_taken}
-use Rattle.dali_progress.proofs.Survey.Turns.{IsUncontradicted}
-use Rattle.dali_progress.proofs.Survey.Hunting.{found_same, begins_by, nothing_open, later_asked, vain_next, asked_where, hunted_next}
-use Rattle.dali_progress.proofs.Survey.Visits.{found_address, withheld_anothers, ungiven_next}
-use Rattle.dali_progress.proofs.Survey.Queried.{IsAtHand}
-use Rattle.dali_progress.proofs.Misheard.Gear.{AreSought, AreBare, HaveDrawn, HasOne}
-use Rattle.dali_progress.proofs.Misheard.Climbing as climbing
-use Rattle.dali_progress.proofs.Misheard.Stands.{AreSeen, IsCounted, Rises, IsReached, IsOfOne, Visits, Hunts, Closes, At, Draws, MisheardStands, IsCountedFor}
-use Rattle.dali_progress.proofs.Misheard.Stands as stands
+use Rattle.dali_progress.{specs.Misheard.AreServedBut, proofs.Accounted.open_is, proofs.Both.never_eight, proofs.Both.close_ends, proofs.Frames.value_sought}
 use Rattle.dali_progress.proofs.Misheard.Begins.{KeepsPast, IsOwn, IsNext, Calm, calm_of, calm_ordered, later_by, turns_by, first_by, fills, hunts_above}
-use Rattle.dali_progress.proofs.Misheard.Begins.{hunts_on}
+use Rattle.dali_progress.proofs.Misheard.{Begins.hunts_on, Gear.AreSought, Gear.AreBare, Gear.HaveDrawn, Gear.HasOne}
+use Rattle.dali_progress.proofs.Misheard.Stands.{AreSeen, IsCounted, Rises, IsReached, IsOfOne, Visits, Hunts, At, Draws, MisheardStands, IsCountedFor}
 use Rattle.dali_progress.proofs.Misheard.Turns.{found_at, known_as, own_by, census_turns, calling_turns, drawn_turns}
+use Rattle.dali_progress.proofs.Survey.{Begins.clear_reserved, Begins.nobody_elses, Begins.begins_whole, Begins.all_taken, Drawn.AreNumbered, Drawn.DrewApart}
+use Rattle.dali_progress.proofs.Survey.Hunting.{found_same, begins_by, nothing_open, later_asked, vain_next, asked_where, hunted_next}
+use Rattle.dali_progress.proofs.Survey.{Queried.IsAtHand, Rising.knows_told, Stands.AreTaken, Turns.IsUncontradicted, Visits.found_address}
+use Rattle.dali_progress.proofs.Survey.{Visits.withheld_anothers, Visits.ungiven_next, Woken.AreLow}
 use Rattle.dali_progress.proofs.Surveying.{NoneDrawn, roll_first, IsDraws, draw_over}
+use Rattle.dali_progress.proofs.Misheard.Climbing as climbing
+use Rattle.dali_progress.proofs.Misheard.Stands as stands
 
 -- A CONTROLLER ACTS while gear are hunted and visited, and at its close; and in whatever transaction.
 

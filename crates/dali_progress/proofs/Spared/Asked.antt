@@ -1,29 +1,19 @@
 use Rattle.std.proofs.Common.{◌≡◌, ℕ, ◌+◌, ◌<◌, ◌≤◌, inl, inr, true, false, List, [], ◌∷◌, refl, sym, ap, subst, ◌∙◌, Option, Some, None, set, get_or-set_same}
-use Rattle.std.proofs.Common.{get_or-set_other, arith}
-use Rattle.std.specs.Option.{option_map}
-use Rattle.std.specs.List.{AllByRecursion}
-use Rattle.dali_script.specs.declared.orders.Input.{Input}
+use Rattle.std.{proofs.Common.get_or-set_other, proofs.Common.arith, specs.List.AllByRecursion, specs.Option.option_map}
+use Rattle.dali_script.specs.declared.orders.{Input.Input, Order.Order}
 use Rattle.dali_script.specs.declared.orders.Input.TheVariants as input
-use Rattle.dali_script.specs.declared.orders.Order.{Order}
-use Rattle.dali_controller.specs.Machine.{Machine, at_first}
-use Rattle.dali_controller.specs.Orders.{machine_after}
-use Rattle.dali_events.specs.declared.event.Event.{Event}
-use Rattle.dali_events.specs.declared.event.Event.TheVariants as event
-use Rattle.dali_events.specs.Plan.{IsPlan, block_at}
-use Rattle.dali_events.specs.World.{World, Controller, controller_at}
-use Rattle.dali_events.specs.Happens.{come_up}
+use Rattle.dali_controller.specs.{Machine.Machine, Machine.at_first, Orders.machine_after}
 use Rattle.dali_events.specs.Allowed.{Allowed, IsActed, IsDue}
+use Rattle.dali_events.specs.{Happens.come_up, Plan.IsPlan, Plan.block_at, World.World, World.Controller, World.controller_at, declared.event.Event.Event}
+use Rattle.dali_events.specs.declared.event.Event.TheVariants as event
+use Rattle.dali_standing.specs.{Seats.Waits, Standing.machine_in, Standing.machines_after}
 use Rattle.dali_standing.specs.declared.refusal.Refusal.TheVariants as refusal
-use Rattle.dali_standing.specs.Seats.{Waits}
-use Rattle.dali_standing.specs.Standing.{machine_in, machines_after}
 use Rattle.dali_world.specs.Site.{SiteState, world, machines, machine_at, site_logged, IsActRefused}
-use Rattle.dali_progress.specs.Rounds.{site_after}
-use Rattle.dali_progress.specs.Spared.{IsOfCall, AreOfCalls, HasJustBegun, IsUsedOf, HearsUsed, HasAsked, StaysBegun}
-use Rattle.dali_progress.proofs.Logged.{machines_logged, some_within}
-use Rattle.dali_progress.proofs.Spared.Lives.{IsFair, IsFewAt, lives_more, unstarted_unopened}
 use Rattle.dali_world.proofs.Rolls.{none_set, by_place}
-use Rattle.dali_progress.proofs.Spared.Calls.{IsLivedAt, Heeds, counts_after, heeded_on, none_yet, just_lived, lived_all, unrefused_now, some_same}
-use Rattle.dali_progress.proofs.Spared.Calls.{counts_more, counts_still}
+use Rattle.dali_progress.specs.{Rounds.site_after, Spared.IsOfCall, Spared.AreOfCalls, Spared.HasJustBegun, Spared.IsUsedOf, Spared.HearsUsed, Spared.HasAsked}
+use Rattle.dali_progress.{specs.Spared.StaysBegun, proofs.Logged.machines_logged, proofs.Logged.some_within}
+use Rattle.dali_progress.proofs.Spared.Calls.{IsLivedAt, Heeds, counts_after, heeded_on, none_yet, just_lived, lived_all, unrefused_now, some_same, counts_more}
+use Rattle.dali_progress.proofs.Spared.{Calls.counts_still, Lives.IsFair, Lives.IsFewAt, Lives.lives_more, Lives.unstarted_unopened}
 
 -- ONCE ITS QUESTIONS ARE OVER the gear that has an address is accounted for, whatever the controller hears if it asks again, until it
 -- begins anew.

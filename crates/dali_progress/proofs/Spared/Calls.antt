@@ -1,44 +1,27 @@
 use Rattle.std.proofs.Common.{◌≡◌, ℕ, ◌+◌, ◌<◌, ◌≤◌, ◌⊎◌, inl, inr, Bool, true, false, List, [], ◌∷◌, refl, sym, ap, subst, ◌∙◌, arith, zero, suc, Option, Some}
-use Rattle.std.proofs.Common.{None, set, get_or, get_or-set_same, get_or-set_other, nat_eq, map}
-use Rattle.std.specs.Prelude.{◌==◌, ◌&&◌, if◌then◌else◌}
-use Rattle.std.specs.Option.{option_map}
-use Rattle.std.specs.List.{AllByRecursion}
-use Rattle.std.proofs.lemmas.Bool.Decides.{nat_tests}
-use Rattle.dali_frame.specs.declared.frames.Answer.{Answer}
-use Rattle.dali_special.specs.declared.command.Part.TheVariants.{High}
-use Rattle.dali_special.specs.declared.command.Command.TheVariants.{RandomByte}
-use Rattle.dali_frame.specs.declared.frames.Answer.TheVariants.{Silence}
-use Rattle.dali_frame.specs.declared.frames.Forward.{Forward}
-use Rattle.dali_special.specs.declared.command.Command.{Command}
+use Rattle.std.proofs.Common.{None, get_or, get_or-set_same, get_or-set_other, map, ◌==◌, ◌&&◌, if◌then◌else◌}
+use Rattle.std.{proofs.lemmas.Bool.Decides.nat_tests, specs.List.AllByRecursion, specs.Option.option_map}
+use Rattle.dali_frame.specs.declared.frames.{Answer.Answer, Answer.TheVariants.Silence, Forward.Forward}
 use Rattle.dali_special.specs.Command.{command_of}
-use Rattle.dali_script.specs.declared.block.Block.{Block}
-use Rattle.dali_script.proofs.Lists.{block_stays}
-use Rattle.dali_script.specs.declared.records.Record.{Record}
-use Rattle.dali_script.specs.Records.{Kept, without_records}
-use Rattle.dali_script.specs.declared.orders.Input.{Input}
+use Rattle.dali_special.specs.declared.command.{Command.Command, Command.TheVariants.RandomByte, Part.TheVariants.High}
+use Rattle.dali_script.specs.{Due.frame_put, Records.Kept, Records.without_records, declared.block.Block.Block, declared.orders.Input.Input}
+use Rattle.dali_script.{specs.declared.orders.Order.Order, specs.declared.records.Record.Record, proofs.Lists.block_stays}
 use Rattle.dali_script.specs.declared.orders.Input.TheVariants as input
-use Rattle.dali_script.specs.declared.orders.Order.{Order}
-use Rattle.dali_script.specs.Due.{frame_put}
-use Rattle.dali_controller.specs.Machine.{Machine, at_first}
-use Rattle.dali_controller.specs.Orders.{IsGiven, machine_after}
-use Rattle.dali_events.specs.declared.event.Event.{Event}
-use Rattle.dali_events.specs.declared.event.Event.TheVariants as event
-use Rattle.dali_events.specs.Plan.{Plan, IsPlan, block_at, no_block}
-use Rattle.dali_events.specs.World.{World, Controller, controller_at, controllers_changed, controller_begun, nobody}
-use Rattle.dali_events.specs.Happens.{happens, controller_acted, told_of, told_sent, told_destroyed, told_lapsed, owner_told, trace_running, is_arc, gone_down}
-use Rattle.dali_events.specs.Happens.{come_up, kept_after, with_outstanding}
+use Rattle.dali_controller.specs.{Machine.Machine, Machine.at_first, Orders.IsGiven, Orders.machine_after}
 use Rattle.dali_events.specs.Allowed.{Allowed, IsActed, IsSent, IsDown, IsArc, IsDue}
-use Rattle.dali_events.proofs.Invariant.Drawn.{are_drawn, draws_after}
-use Rattle.dali_standing.specs.declared.refusal.Refusal.TheVariants as refusal
+use Rattle.dali_events.specs.Happens.{happens, controller_acted, told_of, told_sent, told_destroyed, told_lapsed, owner_told, trace_running, is_arc, gone_down}
+use Rattle.dali_events.specs.{Happens.come_up, Happens.kept_after, Happens.with_outstanding, Plan.Plan, Plan.IsPlan, Plan.block_at, Plan.no_block}
+use Rattle.dali_events.specs.World.{World, Controller, controller_at, controllers_changed, controller_begun, nobody}
+use Rattle.dali_events.{specs.declared.event.Event.Event, proofs.Invariant.Drawn.are_drawn, proofs.Invariant.Drawn.draws_after}
+use Rattle.dali_events.specs.declared.event.Event.TheVariants as event
 use Rattle.dali_standing.specs.Seats.{Waits, MayAnswer, LeavesWhole, ReservesUsed}
 use Rattle.dali_standing.specs.Standing.{machine_in, machines_at, machines_after}
+use Rattle.dali_standing.specs.declared.refusal.Refusal.TheVariants as refusal
 use Rattle.dali_world.specs.Site.{SiteState, opened_site, world, machines, machine_at, site_logged, IsActRefused}
 use Rattle.dali_world.proofs.Rolls.{changed_at, none_set, some_set, by_place}
-use Rattle.dali_progress.specs.Rounds.{site_after}
-use Rattle.dali_progress.specs.Spared.{IsOfCall, AreOfCalls, HasJustBegun, IsUsedOf, BeginsBySurveys, asks_first, is_silence, silences_after, IsHeardInTime}
-use Rattle.dali_progress.specs.Spared.{HearsUsed}
-use Rattle.dali_progress.proofs.Lone.{acted_there}
-use Rattle.dali_progress.proofs.Logged.{world_logged, machines_logged, some_within}
+use Rattle.dali_progress.specs.{Rounds.site_after, Spared.IsOfCall}
+use Rattle.dali_progress.specs.Spared.{AreOfCalls, HasJustBegun, IsUsedOf, BeginsBySurveys, asks_first, is_silence, silences_after, IsHeardInTime, HearsUsed}
+use Rattle.dali_progress.proofs.{Logged.world_logged, Logged.machines_logged, Logged.some_within, Lone.acted_there}
 use Rattle.dali_progress.proofs.Spared.Bytes.{AreSmall, drawn_small, IsByteOf, byte_heard_of}
 use Rattle.dali_progress.proofs.Spared.Lives.{IsWellHeard, IsFair, IsFewAt, Lives, lives_first, lives_told, lives_more, counted_asked, lives_acted, leaves_used}
 

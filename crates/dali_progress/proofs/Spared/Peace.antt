@@ -1,43 +1,25 @@
 use Rattle.std.proofs.Common.{◌≡◌, ℕ, ◌+◌, ◌<◌, inl, Bool, true, false, List, [], ◌∷◌, ◌++◌, append-nil, append_assoc, refl, sym, ap, subst, ◌∙◌, length, arith}
-use Rattle.std.proofs.Common.{zero, suc, Some, None, map, get_or}
-use Rattle.std.specs.Prelude.{◌==◌, ◌&&◌, if◌then◌else◌}
-use Rattle.std.specs.List.{AllByRecursion}
-use Rattle.std.proofs.lemmas.Bool.Decides.{nat_tests}
-use Rattle.dali_frame.specs.declared.frames.Answer.{Answer}
-use Rattle.dali_frame.specs.declared.frames.Answer.TheVariants.{Silence}
-use Rattle.dali_frame.specs.declared.frames.Forward.{Forward}
-use Rattle.dali_special.specs.declared.command.Command.{Command}
-use Rattle.dali_special.specs.declared.command.Command.TheVariants.{RandomByte}
-use Rattle.dali_special.specs.declared.command.Part.TheVariants.{High}
+use Rattle.std.proofs.Common.{zero, suc, Some, None, map, get_or, ◌==◌, ◌&&◌, if◌then◌else◌}
+use Rattle.std.{proofs.lemmas.Bool.Decides.nat_tests, specs.List.AllByRecursion}
+use Rattle.dali_frame.specs.declared.frames.{Answer.Answer, Answer.TheVariants.Silence, Forward.Forward}
 use Rattle.dali_special.specs.Command.{command_of}
-use Rattle.dali_gear.specs.declared.row.Reach.TheVariants.{Everyone}
-use Rattle.dali_gear.specs.Row.{answers_of, heard_of}
-use Rattle.dali_script.specs.declared.block.Block.{Block}
-use Rattle.dali_script.specs.Records.{InBlock, without_records}
+use Rattle.dali_special.specs.declared.command.{Command.Command, Command.TheVariants.RandomByte, Part.TheVariants.High}
+use Rattle.dali_gear.specs.{Row.answers_of, Row.heard_of, declared.row.Reach.TheVariants.Everyone}
+use Rattle.dali_script.specs.{Records.InBlock, Records.without_records, declared.block.Block.Block, declared.orders.Input.Input}
 use Rattle.dali_script.proofs.Members.{mapped_from}
-use Rattle.dali_script.specs.declared.orders.Input.{Input}
 use Rattle.dali_script.specs.declared.orders.Input.TheVariants as input
 use Rattle.dali_controller.specs.Machine.{at_first}
-use Rattle.dali_events.specs.declared.event.Event.{Event}
+use Rattle.dali_events.specs.{Allowed.Allowed, Plan.Plan, Plan.IsPlan, Plan.block_at, Promise.KeepsPromise, Runs.IsRun, Runs.LeavesUsed, World.controller_at}
+use Rattle.dali_events.specs.{World.controller_begun, World.nobody, declared.event.Event.Event}
+use Rattle.dali_events.proofs.{Invariant.Agreeing.used_kept, Invariant.Safe.keeps_promise, Search.Heard.nobody_answers}
 use Rattle.dali_events.specs.declared.event.Event.TheVariants as event
-use Rattle.dali_events.specs.Plan.{Plan, IsPlan, block_at}
-use Rattle.dali_events.specs.World.{controller_at, controller_begun, nobody}
-use Rattle.dali_events.specs.Allowed.{Allowed}
-use Rattle.dali_events.specs.Runs.{IsRun, LeavesUsed}
-use Rattle.dali_events.specs.Promise.{KeepsPromise}
-use Rattle.dali_events.proofs.Invariant.Agreeing.{used_kept}
-use Rattle.dali_events.proofs.Search.Heard.{nobody_answers}
-use Rattle.dali_events.proofs.Invariant.Safe.{keeps_promise}
+use Rattle.dali_standing.{specs.Standing.machines_at, proofs.InUse.leaves_acted}
 use Rattle.dali_standing.specs.declared.refusal.Refusal.TheVariants as refusal
-use Rattle.dali_standing.specs.Standing.{machines_at}
-use Rattle.dali_standing.proofs.InUse.{leaves_acted}
 use Rattle.dali_world.specs.Site.{SiteState, opened_site, world, site_logged, IsActRefused}
-use Rattle.dali_progress.specs.Rounds.{site_after}
-use Rattle.dali_progress.specs.Spared.{HearsUsed, IsOfCall, AreOfCalls, HasJustBegun, IsUsedOf, BeginsBySurveys, asks_first, is_silence, silences_after}
-use Rattle.dali_progress.specs.Spared.{IsHeardInTime, AsksInPeace, AllAskInPeace}
-use Rattle.dali_progress.proofs.Logged.{run_logged}
-use Rattle.dali_progress.proofs.Spared.Lives.{lives_more}
-use Rattle.dali_progress.proofs.Spared.Calls.{IsLivedAt, counts_after, none_yet, lived_on, opened_lived, start_block, lived_leaves, unrefused}
+use Rattle.dali_progress.specs.{Rounds.site_after, Spared.HearsUsed, Spared.IsOfCall, Spared.AreOfCalls, Spared.HasJustBegun}
+use Rattle.dali_progress.specs.Spared.{IsUsedOf, BeginsBySurveys, asks_first, is_silence, silences_after, IsHeardInTime, AsksInPeace, AllAskInPeace}
+use Rattle.dali_progress.proofs.{Logged.run_logged, Spared.Calls.IsLivedAt, Spared.Calls.counts_after, Spared.Calls.none_yet}
+use Rattle.dali_progress.proofs.Spared.{Calls.lived_on, Calls.opened_lived, Calls.start_block, Calls.lived_leaves, Calls.unrefused, Lives.lives_more}
 
 -- WHO IS ASKED IN PEACE IS HEARD: a used gear that has power answers, and nothing disturbs its answer.
 

@@ -1,48 +1,28 @@
 use Rattle.std.proofs.Common.{◌≡◌, ℕ, ◌+◌, ◌*◌, ◌≤◌, Bool, false, suc, List, [], ◌∷◌, ◌++◌, refl, sym, subst, ◌∙◌, arith, Option, Some, None, inl}
 use Rattle.std.specs.List.{count_by}
-use Rattle.dali_frame.specs.declared.frames.Forward.{Forward}
-use Rattle.dali_frame.specs.declared.frames.Answer.{Answer}
-use Rattle.dali_frame.specs.declared.numbers.SearchAddress.{SearchAddress}
+use Rattle.dali_frame.specs.declared.{frames.Answer.Answer, frames.Forward.Forward, numbers.SearchAddress.SearchAddress}
 use Rattle.dali_special.specs.Command.{command_of}
-use Rattle.dali_gear.specs.declared.row.Reach.TheVariants.{Everyone}
-use Rattle.dali_gear.specs.Gear.{Gear}
-use Rattle.dali_gear.specs.Row.{row_after, answers_of, heard_of}
-use Rattle.dali_script.specs.Records.{Kept, IsKept}
-use Rattle.dali_script.specs.Scripts.{IsLawful}
-use Rattle.dali_script.specs.declared.stage.Stage.{Stage}
-use Rattle.dali_script.specs.declared.stage.Stage.TheVariants as stage
-use Rattle.dali_script.specs.Stages.{IsTrace, stage_of, next_stage}
-use Rattle.dali_script.proofs.Transactions.{stage_more}
-use Rattle.dali_script.proofs.Found.{trace_more}
-use Rattle.dali_script.specs.declared.orders.Input.{Input}
+use Rattle.dali_gear.specs.{Gear.Gear, Row.row_after, Row.answers_of, Row.heard_of, declared.row.Reach.TheVariants.Everyone}
+use Rattle.dali_script.specs.{Records.Kept, Records.IsKept, Scripts.IsLawful, Stages.IsTrace, Stages.stage_of, Stages.next_stage}
+use Rattle.dali_script.specs.declared.orders.{End.End, Input.Input, Order.Order, Order.TheVariants.Put, Order.TheVariants.Commit, Order.TheVariants.Done}
+use Rattle.dali_script.{specs.declared.orders.Order.TheVariants.Halt, specs.declared.stage.Stage.Stage, proofs.Found.trace_more, proofs.Transactions.stage_more}
 use Rattle.dali_script.specs.declared.orders.Input.TheVariants as input
-use Rattle.dali_script.specs.declared.orders.Order.{Order}
-use Rattle.dali_script.specs.declared.orders.Order.TheVariants.{Put, Commit, Done, Halt}
+use Rattle.dali_script.specs.declared.stage.Stage.TheVariants as stage
 use Rattle.dali_search.specs.Least.{Search}
-use Rattle.dali_controller.specs.declared.purpose.Purpose.{Purpose}
+use Rattle.dali_controller.specs.{Course.Course, Machine.Machine, Machine.machine_heard, Machine.machine_told, Machine.silent_after, Machine.at_first}
+use Rattle.dali_controller.specs.{Next.next_course, Next.beginning, Orders.machine_ordered, Orders.machine_after, declared.purpose.Purpose.Purpose}
 use Rattle.dali_controller.specs.declared.purpose.Purpose.TheVariants.{Opening, Probing, Visiting, Closing}
-use Rattle.dali_controller.specs.Machine.{Machine, machine_heard, machine_told, silent_after, at_first}
-use Rattle.dali_controller.specs.Orders.{machine_ordered, machine_after}
-use Rattle.dali_controller.specs.Course.{Course}
-use Rattle.dali_controller.specs.Next.{next_course, beginning}
 use Rattle.dali_controller.proofs.Given.{IsGivenBy}
+use Rattle.dali_events.specs.{Allowed.Allowed, Happens.entry, Wanted.is_bare, World.World, World.controller_at}
 use Rattle.dali_events.specs.declared.event.Event.TheVariants as event
-use Rattle.dali_events.specs.World.{World, controller_at}
-use Rattle.dali_events.specs.Happens.{entry}
-use Rattle.dali_events.specs.Allowed.{Allowed}
-use Rattle.dali_events.specs.Wanted.{is_bare}
-use Rattle.dali_progress.specs.Rounds.{Succeeds, HasEnded, ByStart, bare, BeginsAlone}
-use Rattle.dali_progress.specs.Ends.{AreTabled, EndsWell, NamesAll, IsTrueEnd, table_at}
-use Rattle.dali_progress.proofs.Lone.{lone_sent}
-use Rattle.dali_progress.proofs.Stands.{search_frames, to_come, At, Stands}
-use Rattle.dali_progress.proofs.Frames.{Seeks, at_sent}
-use Rattle.dali_progress.proofs.Tables.{IsTabledTo, at_tabled}
-use Rattle.dali_progress.proofs.Start.Turns.{IsUndisturbed, IsNext, turned, started, started_begins, committed, committed_begins}
-use Rattle.dali_progress.proofs.Both.{with_kept, not_free, IsKnown, taken_of, no_tries, put_no_enrolment, lawful_now}
-use Rattle.dali_progress.proofs.Along.{Measure, Goes, slack_at, Argument, Runs, held_ended, runs_first, with_left, HoldsBy, holds_next, acts_from}
-use Rattle.dali_script.specs.declared.orders.End.{End}
 use Rattle.dali_world.specs.Site.{SiteState, world}
-use Rattle.dali_progress.proofs.Logged.{kept_now}
+use Rattle.dali_progress.specs.Ends.{AreTabled, EndsWell, NamesAll, IsTrueEnd, table_at}
+use Rattle.dali_progress.specs.Rounds.{Succeeds, HasEnded, ByStart, bare, BeginsAlone}
+use Rattle.dali_progress.proofs.Along.{Measure, Goes, slack_at, Argument, Runs, held_ended, runs_first, with_left, HoldsBy, holds_next, acts_from}
+use Rattle.dali_progress.proofs.Both.{with_kept, not_free, IsKnown, taken_of, no_tries, put_no_enrolment, lawful_now}
+use Rattle.dali_progress.proofs.{Frames.Seeks, Frames.at_sent, Logged.kept_now, Lone.lone_sent, Stands.search_frames, Stands.to_come, Stands.At, Stands.Stands}
+use Rattle.dali_progress.proofs.Start.Turns.{IsUndisturbed, IsNext, turned, started, started_begins, committed, committed_begins}
+use Rattle.dali_progress.proofs.Tables.{IsTabledTo, at_tabled}
 
 -- COMMISSIONING GOES ON, event by event.
 

@@ -1,21 +1,15 @@
-use Rattle.std.proofs.Common.{true, false, ◌≡◌, ℕ, ◌<◌, List, [], refl, sym, ap, subst, ◌∙◌, length, length-set, get_or-set_same, Some, None}
+use Rattle.std.proofs.Common.{true, false, ◌≡◌, ℕ, ◌<◌, List, [], refl, sym, ap, subst, ◌∙◌, length, length-set, get_or-set_same, Some, None, if◌then◌else◌}
 use Rattle.dali_arbiter.specs.Arbiter.{Arbiter, idle, bus_silenced, owns}
-use Rattle.std.specs.Prelude.{if◌then◌else◌}
 use Rattle.dali_script.specs.declared.orders.End.{End}
 use Rattle.dali_controller.specs.Machine.{Machine, at_first}
-use Rattle.dali_events.specs.declared.event.Event.{Event}
+use Rattle.dali_events.specs.{Allowed.IsUp, Allowed.IsDown, Happens.happens, Happens.gone_down, Happens.come_up, Runs.IsRun, World.World, World.Controller}
+use Rattle.dali_events.specs.{World.controller_at, World.nobody, declared.event.Event.Event}
 use Rattle.dali_events.specs.declared.event.Event.TheVariants as event
-use Rattle.dali_events.specs.World.{World, Controller, controller_at, nobody}
-use Rattle.dali_events.specs.Happens.{happens, gone_down, come_up}
-use Rattle.dali_events.specs.Allowed.{IsUp, IsDown}
-use Rattle.dali_events.specs.Runs.{IsRun}
 use Rattle.dali_standing.specs.Standing.{machine_in}
 use Rattle.dali_world.specs.Site.{SiteState, world, site_logged, machines, machine_at}
 use Rattle.dali_progress.specs.Rounds.{site_after, HasEnded, IsAlone, restarted, Rounds, BySurvey}
-use Rattle.dali_progress.proofs.Lone.{still, Rests}
-use Rattle.dali_progress.proofs.Logged.{world_logged, run_logged, machines_logged, some_within}
-use Rattle.dali_progress.proofs.Survey.Goes.{EndsBy, ended_by}
-use Rattle.dali_progress.proofs.Beginnings.{runs_after}
+use Rattle.dali_progress.proofs.{Beginnings.runs_after, Logged.world_logged, Logged.run_logged, Logged.machines_logged, Logged.some_within, Lone.still}
+use Rattle.dali_progress.proofs.{Lone.Rests, Survey.Goes.EndsBy, Survey.Goes.ended_by}
 
 -- A CONTROLLER THAT ENDED A SURVEY, and comes up again, surveys alone once more.
 

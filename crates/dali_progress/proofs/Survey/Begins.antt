@@ -1,61 +1,36 @@
 use Rattle.std.proofs.Common.{◌≡◌, ℕ, ◌+◌, ◌-◌, ◌*◌, ◌<◌, ◌≤◌, ◌⊎◌, inl, inr, Bool, true, false, zero, suc, List, [], ◌∷◌, ◌++◌, refl, sym, ap, subst, ◌∙◌}
-use Rattle.std.proofs.Common.{arith, Option, Some, None}
-use Rattle.std.specs.Prelude.{min, ◌==◌, ◌&&◌, ◌||◌, not, is_some, MatchOption, if◌then◌else◌}
-use Rattle.std.specs.List.{count_by}
-use Rattle.std.proofs.lemmas.Bool.Decides.{nat_tests}
-use Rattle.dali_frame.specs.declared.numbers.SearchAddress.{SearchAddress}
-use Rattle.dali_frame.specs.declared.frames.Forward.{Forward}
-use Rattle.dali_frame.specs.Random.{MASK24}
-use Rattle.dali_frame.specs.Priority.{FIRST, LATER}
-use Rattle.dali_special.specs.declared.command.Command.{Command}
-use Rattle.dali_special.specs.Command.{frame_of, command_of}
+use Rattle.std.proofs.Common.{arith, Option, Some, None, min, ◌==◌, ◌&&◌, ◌||◌, not, is_some, MatchOption, if◌then◌else◌}
+use Rattle.std.{proofs.lemmas.Bool.Decides.nat_tests, specs.List.count_by}
+use Rattle.dali_frame.specs.{Priority.FIRST, Priority.LATER, Random.MASK24, declared.frames.Forward.Forward, declared.numbers.SearchAddress.SearchAddress}
+use Rattle.dali_special.specs.{Command.frame_of, Command.command_of, declared.command.Command.Command}
 use Rattle.dali_gear.specs.Gear.{Gear}
-use Rattle.dali_script.specs.declared.records.Record.{Record}
-use Rattle.dali_script.specs.declared.records.Record.TheVariants.{Reserve, Enrol, Release}
-use Rattle.dali_script.specs.Records.{Assignment, Kept, Has, HasAddress, with_record}
-use Rattle.dali_script.specs.declared.stage.Stage.{Stage}
-use Rattle.dali_script.specs.declared.stage.Stage.TheVariants as stage
-use Rattle.dali_script.specs.Findings.{finding_of}
-use Rattle.dali_script.specs.Stages.{IsTrace, stage_of}
-use Rattle.dali_script.proofs.Lists.{has_map, has_cases}
-use Rattle.dali_script.proofs.Transactions.{stage_none}
-use Rattle.dali_script.proofs.Found.{trace_none}
-use Rattle.dali_search.specs.declared.step.Step.TheVariants.{Found}
-use Rattle.dali_search.specs.Ascending.{Ascent, IsAscent, asked_next, leads_to, ascent_at_first, above, gone_on_from}
-use Rattle.dali_script.specs.declared.orders.Order.{Order}
+use Rattle.dali_script.specs.{Findings.finding_of, Records.Assignment, Records.Kept, Records.Has, Records.HasAddress, Records.with_record, Stages.IsTrace}
+use Rattle.dali_script.specs.{Stages.stage_of, declared.orders.Order.Order}
 use Rattle.dali_script.specs.declared.orders.Order.TheVariants.{Put, Commit, Done, Halt}
+use Rattle.dali_script.specs.declared.records.Record.{Record, TheVariants.Reserve, TheVariants.Enrol, TheVariants.Release}
+use Rattle.dali_script.{specs.declared.stage.Stage.Stage, proofs.Found.trace_none, proofs.Lists.has_map, proofs.Lists.has_cases, proofs.Transactions.stage_none}
 use Rattle.dali_script.specs.declared.orders.Fault.TheVariants as fault
-use Rattle.dali_controller.specs.declared.purpose.Purpose.{Purpose}
-use Rattle.dali_controller.specs.declared.purpose.Purpose.TheVariants.{Hunting, Visiting, Asking as Counting}
-use Rattle.dali_controller.specs.declared.shorts.Shorts.{Shorts}
-use Rattle.dali_controller.specs.declared.tally.Tally.{Tally}
-use Rattle.dali_controller.specs.Shorts.{has_short}
-use Rattle.dali_controller.specs.Course.{Course, turn_of, number_at, is_open, open_among, least_open, is_another, is_anothers, is_asked}
-use Rattle.dali_controller.specs.Course.{next_asked, ask_or_call, asking, calling_first, going_on, going_on_early, sought, hunting, hunting_first, searching_on}
-use Rattle.dali_controller.specs.Tally.{served}
-use Rattle.dali_controller.specs.Machine.{Machine}
-use Rattle.dali_controller.specs.Next.{next_course, course_by, beginning, goes_on_to, BeginsWith}
-use Rattle.dali_controller.specs.Orders.{machine_ordered, asked_by, IsAllowed, IsCaused}
-use Rattle.dali_controller.specs.Whole.{IsWhole, Sends as SendsWhole}
-use Rattle.dali_controller.proofs.Courses.{found_number}
+use Rattle.dali_script.specs.declared.stage.Stage.TheVariants as stage
+use Rattle.dali_search.specs.Ascending.{Ascent, IsAscent, asked_next, leads_to, ascent_at_first, above, gone_on_from}
+use Rattle.dali_search.specs.declared.step.Step.TheVariants.{Found}
+use Rattle.dali_controller.specs.Course.{Course, turn_of, number_at, is_open, open_among, least_open, is_another, is_anothers, is_asked, next_asked}
+use Rattle.dali_controller.specs.Course.{ask_or_call, asking, calling_first, going_on, going_on_early, sought, hunting, hunting_first, searching_on}
+use Rattle.dali_controller.specs.{Machine.Machine, Next.next_course, Next.course_by, Next.beginning, Next.goes_on_to, Next.BeginsWith, Orders.machine_ordered}
+use Rattle.dali_controller.specs.{Orders.asked_by, Orders.IsAllowed, Orders.IsCaused, Shorts.has_short, Tally.served, Whole.IsWhole, Whole.Sends as SendsWhole}
+use Rattle.dali_controller.specs.declared.purpose.Purpose.{Purpose, TheVariants.Hunting, TheVariants.Visiting, TheVariants.Asking as Counting}
+use Rattle.dali_controller.specs.declared.{shorts.Shorts.Shorts, tally.Tally.Tally}
+use Rattle.dali_controller.proofs.{Courses.found_number, Given.IsGivenBy, Given.IsNoEnrolment}
 use Rattle.dali_controller.proofs.Given as given
-use Rattle.dali_controller.proofs.Given.{IsGivenBy, IsNoEnrolment}
 use Rattle.dali_events.specs.Wanted.{is_bare, is_wanted, wants, IsOpened, NoneNamed}
 use Rattle.dali_events.proofs.Search.Leaving.{SameCore}
-use Rattle.dali_progress.specs.Ends.{AreTabled}
-use Rattle.dali_progress.specs.Rounds.{IsSettled}
-use Rattle.dali_progress.proofs.Census.Coming.{asked_later, asked_before, unasked_enrolled, from_next}
-use Rattle.dali_progress.proofs.Census.Asked.{sending_of}
-use Rattle.dali_progress.proofs.Census.Left.{asked_within}
-use Rattle.dali_progress.proofs.Later.{IsUnasked, later_leaves, turn_unasked, course_stays}
-use Rattle.dali_progress.proofs.Survey.Queried.{OneShort, IsTrue, AreOwned, TabledBelow, unseen, below_all, below_named}
-use Rattle.dali_progress.proofs.Survey.Drawn.{those_drawn, is_lost, bare_split}
-use Rattle.dali_progress.proofs.Survey.Woken.{AreLow}
+use Rattle.dali_progress.{specs.Ends.AreTabled, specs.Rounds.IsSettled, proofs.Both.never_eight}
+use Rattle.dali_progress.proofs.Census.{Asked.sending_of, Coming.asked_later, Coming.asked_before, Coming.unasked_enrolled, Coming.from_next, Left.asked_within}
+use Rattle.dali_progress.proofs.{Later.IsUnasked, Later.later_leaves, Later.turn_unasked, Later.course_stays, Survey.Drawn.those_drawn}
+use Rattle.dali_progress.proofs.Survey.{Drawn.is_lost, Drawn.bare_split, Queried.OneShort, Queried.IsTrue, Queried.AreOwned, Queried.TabledBelow}
+use Rattle.dali_progress.proofs.Survey.{Queried.unseen, Queried.below_all, Queried.below_named, Rising.rises_so, Rising.rises_first, Rising.rises_above}
 use Rattle.dali_progress.proofs.Survey.Stands.{Begun, survey_frames, Counts, IsUncalled, IsFirstDraw, IsCalledFor, called_after, hunted_after, roll_frames}
 use Rattle.dali_progress.proofs.Survey.Stands.{frames_after, Rises, HuntAt, Hunts, AreTaken, SurveyEnds, IsSmooth, SurveyAt, SurveyStands}
-use Rattle.dali_progress.proofs.Survey.Rising.{rises_so, rises_first, rises_above}
-use Rattle.dali_progress.proofs.Surveying.{roll_first, IsClear}
-use Rattle.dali_progress.proofs.Both.{never_eight}
+use Rattle.dali_progress.proofs.{Survey.Woken.AreLow, Surveying.roll_first, Surveying.IsClear}
 
 -- A TRANSACTION OF A SURVEY BEGINS, or goes on; and what is to come of an order.
 

@@ -1,29 +1,19 @@
 use Rattle.std.proofs.Common.{◌≡◌, ℕ, ◌+◌, ◌*◌, ◌<◌, ◌≤◌, inl, inr, true, false, suc, List, refl, sym, ap, subst, ◌∙◌, arith}
 use Rattle.std.specs.List.{count_by}
-use Rattle.dali_frame.specs.declared.frames.Answer.{Answer}
-use Rattle.dali_frame.specs.declared.numbers.SearchAddress.{SearchAddress}
-use Rattle.dali_frame.specs.Random.{value_of}
+use Rattle.dali_frame.specs.{Random.value_of, declared.frames.Answer.Answer, declared.numbers.SearchAddress.SearchAddress}
 use Rattle.dali_special.specs.declared.command.Command.{Command}
 use Rattle.dali_special.specs.declared.command.Command.TheVariants.{Withdraw, SearchHigh, SearchMiddle, SearchLow, QueryShort}
-use Rattle.dali_gear.specs.declared.row.Reach.TheVariants.{Everyone}
-use Rattle.dali_gear.specs.Gear.{Gear}
-use Rattle.dali_gear.specs.Row.{row_after}
-use Rattle.dali_script.specs.Records.{Kept}
-use Rattle.dali_script.specs.declared.stage.Stage.{Stage}
+use Rattle.dali_gear.specs.{Gear.Gear, Row.row_after, declared.row.Reach.TheVariants.Everyone}
+use Rattle.dali_script.specs.{Records.Kept, Stages.next_stage, Stages.queried, Stages.verified, declared.stage.Stage.Stage}
 use Rattle.dali_script.specs.declared.stage.Stage.TheVariants as stage
-use Rattle.dali_script.specs.Stages.{next_stage, queried, verified}
 use Rattle.dali_search.specs.Ascending.{Ascent}
-use Rattle.dali_controller.specs.declared.purpose.Purpose.{Purpose}
-use Rattle.dali_controller.specs.declared.purpose.Purpose.TheVariants.{Visiting, Hunting}
-use Rattle.dali_events.specs.Wanted.{wants, is_wanted}
+use Rattle.dali_controller.specs.declared.purpose.Purpose.{Purpose, TheVariants.Visiting, TheVariants.Hunting}
+use Rattle.dali_events.{specs.Wanted.wants, specs.Wanted.is_wanted, proofs.Search.Leaving.SameCore}
+use Rattle.dali_events.proofs.Search.Leaving as leaving
 use Rattle.dali_events.proofs.Search.Programming as programming
 use Rattle.dali_events.proofs.Search.Withdrawing as withdrawing
-use Rattle.dali_events.proofs.Search.Leaving as leaving
-use Rattle.dali_events.proofs.Search.Leaving.{SameCore, LeavesShort}
-use Rattle.dali_progress.proofs.Stands.{search_frames, VisitFrames, VisitsAt, Sends}
-use Rattle.dali_progress.proofs.Frames.{Seeks, some_is}
-use Rattle.dali_progress.proofs.Survey.Stands.{IsBehind, IsLeastAt, IsReached, HuntAt}
-use Rattle.dali_progress.proofs.Later.{queried_by, verified_by}
+use Rattle.dali_progress.proofs.{Frames.Seeks, Frames.some_is, Later.queried_by, Later.verified_by, Stands.search_frames, Stands.VisitFrames, Stands.VisitsAt}
+use Rattle.dali_progress.proofs.{Stands.Sends, Survey.Stands.IsBehind, Survey.Stands.IsLeastAt, Survey.Stands.IsReached, Survey.Stands.HuntAt}
 
 -- THE GEAR THAT IS VISITED is the least that is wanted; and how many gear are behind: that are counted with more frames than
 -- the search needs for them.

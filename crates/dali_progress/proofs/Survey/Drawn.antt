@@ -1,26 +1,18 @@
 use Rattle.std.proofs.Common.{◌≡◌, ℕ, ◌+◌, ◌<◌, ◌⊎◌, inl, inr, Bool, true, false, zero, suc, List, [], ◌∷◌, refl, sym, ap, subst, ◌∙◌, arith, length, Option}
-use Rattle.std.proofs.Common.{Some, None}
-use Rattle.std.specs.Prelude.{◌==◌, ◌&&◌, not, is_some, nat_le, if◌then◌else◌}
-use Rattle.std.specs.List.{count_by}
-use Rattle.std.proofs.lemmas.List.Sums.{sum_by-cons}
-use Rattle.std.proofs.lemmas.Bool.Decides.{nat_tests}
-use Rattle.dali_frame.specs.declared.numbers.SearchAddress.{SearchAddress}
-use Rattle.dali_frame.specs.Random.{value_of, MASK24}
+use Rattle.std.proofs.Common.{Some, None, ◌==◌, ◌&&◌, not, is_some, nat_le, if◌then◌else◌}
+use Rattle.std.{proofs.lemmas.Bool.Decides.nat_tests, proofs.lemmas.List.Sums.sum_by-cons, specs.List.count_by}
+use Rattle.dali_frame.specs.{Random.value_of, Random.MASK24, declared.numbers.SearchAddress.SearchAddress}
 use Rattle.dali_special.specs.declared.command.Command.{Command}
 use Rattle.dali_special.specs.declared.command.Command.TheVariants.{Randomise, Compare, Withdraw, SearchHigh, SearchMiddle, SearchLow, Program, QueryShort}
-use Rattle.dali_gear.specs.declared.state.InitialisationState.TheVariants.{Disabled, Enabled}
-use Rattle.dali_gear.specs.declared.row.Reach.TheVariants.{Everyone}
 use Rattle.dali_gear.specs.Gear.{Gear, fresh, is_enabled, is_active, is_found, draws_a_number, gear_taken, answer, short_after}
 use Rattle.dali_gear.specs.Row.{takes, next_draw, one_after, left_after, row_after, option_cons, answers_of}
-use Rattle.dali_script.specs.Records.{Assignment, Has}
-use Rattle.dali_script.proofs.Members.{same_member}
+use Rattle.dali_gear.specs.declared.row.Reach.TheVariants.{Everyone}
+use Rattle.dali_gear.specs.declared.state.InitialisationState.TheVariants.{Disabled, Enabled}
+use Rattle.dali_script.{specs.Records.Assignment, specs.Records.Has, proofs.Members.same_member}
 use Rattle.dali_script.specs.declared.stage.Stage.TheVariants as stage
-use Rattle.dali_events.specs.World.{World}
-use Rattle.dali_events.specs.Runs.{AreDrawn}
-use Rattle.dali_events.specs.Wanted.{is_bare, gear_of, OfPowered, Seek, AreApart, IsOpened, NoneNamed}
-use Rattle.dali_events.proofs.Invariant.Takes.{row_length}
+use Rattle.dali_events.specs.{Runs.AreDrawn, Wanted.is_bare, Wanted.gear_of, Wanted.OfPowered, Wanted.Seek, Wanted.AreApart, Wanted.IsOpened, Wanted.NoneNamed}
+use Rattle.dali_events.{specs.World.World, proofs.Invariant.Takes.row_length, proofs.Search.Opened.AreOpening, proofs.Search.Opened.OpenedBy}
 use Rattle.dali_events.proofs.Search.Wanted.{both_pass, same_number, number_same, count_same, after_at}
-use Rattle.dali_events.proofs.Search.Opened.{AreOpening, OpenedBy}
 use Rattle.dali_progress.specs.Ends.{AreTabled}
 
 -- A HUNT sees the gear that drew a number. Gear without short address whose number is FFFFFF are left out of the row,
@@ -78,11 +70,6 @@ pub of_drawn : (P : Gear → Type 0) (gs : List Gear) → OfPowered gs (λ g. is
 of_drawn P gs all k h on =
     let seen = who_seen gs k h on in
     subst P (sym seen.same) (all k seen.there (sym (ap (λ (g : Gear). g.powered) seen.same) ∙ on) seen.drew)
-
-pub drawn_of : (P : Gear → Type 0) (gs : List Gear) → OfPowered (those_drawn gs) P → OfPowered gs (λ g. is_undrawn g ≡ false → P g)
-drawn_of P gs all k h on drew =
-    let same = kept_at gs k h drew in
-    subst P same (all k (subst (λ n. k < n) (sym (drawn_length gs)) h) (ap (λ (g : Gear). g.powered) same ∙ on))
 
 pub seek_drawn : (gs : List Gear) (r : SearchAddress) → Seek gs r → Seek (those_drawn gs) r
 seek_drawn gs r seek = of_drawn (λ g. is_active g.state ≡ true → g.search ≡ r) gs (λ k h on drew. seek k h on)

@@ -1,18 +1,10 @@
 use Rattle.std.proofs.Common.{ℕ, List, [], ◌∷◌, sym, subst, ◌∙◌, true}
-use Rattle.dali_events.specs.declared.event.Event.{Event}
+use Rattle.dali_events.specs.{Allowed.Allowed, Happens.happens, Plan.block_at, World.World, declared.event.Event.Event}
 use Rattle.dali_events.specs.declared.event.Event.TheVariants as event
-use Rattle.dali_events.specs.Plan.{block_at}
-use Rattle.dali_events.specs.World.{World}
-use Rattle.dali_events.specs.Happens.{happens}
-use Rattle.dali_events.specs.Allowed.{Allowed}
 use Rattle.dali_world.specs.Site.{SiteState, world, site_logged}
 use Rattle.dali_progress.specs.Rounds.{Rounds, IsOfRound, site_after}
-use Rattle.dali_progress.proofs.Lone.{lone_next}
-use Rattle.dali_progress.proofs.Logged.{world_logged}
-use Rattle.dali_progress.proofs.Gives.{Gives, gives_self, gives_then, frame_gives}
-use Rattle.dali_progress.proofs.Along.{Runs, runs_on}
-use Rattle.dali_progress.proofs.Survey.Stands.{Begun}
-use Rattle.dali_progress.proofs.Survey.Goes.{of_survey, argument}
+use Rattle.dali_progress.proofs.{Along.Runs, Along.runs_on, Gives.Gives, Gives.gives_self, Gives.gives_then, Gives.frame_gives, Logged.world_logged}
+use Rattle.dali_progress.proofs.{Lone.lone_next, Survey.Goes.of_survey, Survey.Goes.argument, Survey.Stands.Begun}
 
 -- WHO IS GIVEN A SHORT ADDRESS in a whole survey of one controller alone.
 

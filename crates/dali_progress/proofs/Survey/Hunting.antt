@@ -1,53 +1,36 @@
 use Rattle.std.proofs.Common.{◌≡◌, ℕ, ◌+◌, ◌*◌, ◌<◌, ◌≤◌, inl, inr, Bool, true, false, zero, suc, List, refl, sym, ap, subst, ◌∙◌, arith, Option, Some, None}
-use Rattle.std.specs.Prelude.{◌==◌, ◌&&◌, nat_lt, if◌then◌else◌, is_some}
-use Rattle.std.specs.List.{count_by}
-use Rattle.std.proofs.lemmas.Bool.Decides.{nat_tests}
-use Rattle.dali_frame.specs.declared.frames.Answer.{Answer}
-use Rattle.dali_frame.specs.declared.frames.Forward.{Forward}
-use Rattle.dali_frame.specs.declared.numbers.SearchAddress.{SearchAddress}
-use Rattle.dali_frame.specs.Random.{MASK24}
-use Rattle.dali_frame.specs.Priority.{LATER}
-use Rattle.dali_special.specs.declared.command.Command.{Command}
-use Rattle.dali_special.specs.Command.{frame_of}
+use Rattle.std.proofs.Common.{◌==◌, ◌&&◌, nat_lt, if◌then◌else◌, is_some}
+use Rattle.std.{proofs.lemmas.Bool.Decides.nat_tests, specs.List.count_by}
+use Rattle.dali_frame.specs.{Priority.LATER, Random.MASK24}
+use Rattle.dali_frame.specs.declared.{frames.Answer.Answer, frames.Forward.Forward, numbers.SearchAddress.SearchAddress}
+use Rattle.dali_special.specs.{Command.frame_of, declared.command.Command.Command}
 use Rattle.dali_gear.specs.Gear.{Gear}
-use Rattle.dali_script.specs.declared.stage.Stage.{Stage}
+use Rattle.dali_script.specs.{Stages.stage_of, declared.orders.End.TheVariants.BlockFull}
+use Rattle.dali_script.specs.declared.{orders.End.TheVariants.GaveUp, orders.Order.Order, orders.Order.TheVariants.Put, stage.Stage.Stage}
 use Rattle.dali_script.specs.declared.stage.Stage.TheVariants as stage
-use Rattle.dali_script.specs.Stages.{stage_of}
-use Rattle.dali_script.specs.declared.orders.Order.{Order}
-use Rattle.dali_script.specs.declared.orders.Order.TheVariants.{Put}
-use Rattle.dali_script.specs.declared.orders.End.TheVariants.{BlockFull, GaveUp}
-use Rattle.dali_search.specs.declared.step.Step.{Step}
-use Rattle.dali_search.specs.declared.step.Step.TheVariants.{Again, Found, Nobody}
 use Rattle.dali_search.specs.Ascending.{Ascent, asked_next, ascended, leads_to}
-use Rattle.dali_search.specs.Questions as questions
 use Rattle.dali_search.specs.Questions.{Asking, asking_next, room_left}
-use Rattle.dali_controller.specs.declared.purpose.Purpose.TheVariants.{Hunting}
+use Rattle.dali_search.specs.declared.step.Step.{Step, TheVariants.Again, TheVariants.Found, TheVariants.Nobody}
+use Rattle.dali_search.specs.Questions as questions
 use Rattle.dali_controller.specs.Course.{Course, is_yes, least_open, sought, byte_to_send, next_unfinished, searching_first, asking_again, turn_of}
 use Rattle.dali_controller.specs.Course.{bytes_to_send, hunting, hunted, visiting, calling, drawing, closing as closing_by}
-use Rattle.dali_controller.specs.Machine.{Machine}
-use Rattle.dali_controller.specs.Next.{next_course, begins_at, beginning, has_open, hunted_to, is_hunting, question, asks_again, full, undrawn, nobody_left}
-use Rattle.dali_controller.specs.Next.{compared_in, asked_on, course_on}
-use Rattle.dali_controller.specs.Orders.{machine_ordered, asked_by}
-use Rattle.dali_controller.proofs.Given as given
+use Rattle.dali_controller.specs.{Machine.Machine, Next.next_course, Next.begins_at, Next.beginning}
+use Rattle.dali_controller.specs.Next.{has_open, hunted_to, is_hunting, question, asks_again, full, undrawn, nobody_left, compared_in, asked_on, course_on}
+use Rattle.dali_controller.specs.{Orders.machine_ordered, Orders.asked_by, declared.purpose.Purpose.TheVariants.Hunting}
 use Rattle.dali_controller.proofs.Given.{IsGivenBy, IsNoEnrolment}
-use Rattle.dali_events.specs.Searching.{HasShort}
-use Rattle.dali_events.specs.Wanted.{IsOpened, NoneNamed, gear_of, is_wanted, is_bare, OfPowered}
-use Rattle.dali_events.proofs.Search.Wanted as wanted
+use Rattle.dali_controller.proofs.Given as given
+use Rattle.dali_events.specs.{Searching.HasShort, Wanted.IsOpened, Wanted.NoneNamed, Wanted.gear_of, Wanted.is_wanted, Wanted.is_bare, Wanted.OfPowered}
 use Rattle.dali_events.proofs.Search.Opened as opening
-use Rattle.dali_progress.specs.Ends.{AreTabled}
-use Rattle.dali_progress.specs.Rounds.{IsSettled}
-use Rattle.dali_progress.proofs.Stands.{search_frames}
-use Rattle.dali_progress.proofs.Frames.{value_sought}
-use Rattle.dali_progress.proofs.Both.{never_eight, visits_first}
+use Rattle.dali_events.proofs.Search.Wanted as wanted
+use Rattle.dali_progress.specs.{Ends.AreTabled, Rounds.IsSettled}
+use Rattle.dali_progress.proofs.{Both.never_eight, Both.visits_first, Frames.value_sought, Stands.search_frames}
+use Rattle.dali_progress.proofs.Survey.Begins.{Calm, IsNext, IsHunted, calm_of, smooth_as, first_by, hunts_by, hunts_first, hunted_some, called_roll, all_taken}
 use Rattle.dali_progress.proofs.Survey.Drawn.{those_drawn, is_undrawn, is_lost, bare_split, drawn_tabled, tabled_drawn, kept_at, drawn_length, undrawn_random}
 use Rattle.dali_progress.proofs.Survey.Queried.{unseen}
-use Rattle.dali_progress.proofs.Survey.Woken.{AreLow, none_bare, opened_lost, drawn_is, drawn_none_named}
-use Rattle.dali_progress.proofs.Survey.Stands.{Begun, IsFirstDraw, IsCalledFor, Draws, called_after, hunted_after, roll_frames, frames_after, Rises, Hunts}
-use Rattle.dali_progress.proofs.Survey.Stands.{IsSmooth, SurveyStands}
 use Rattle.dali_progress.proofs.Survey.Rising.{bytes_same, Answered, answered_rise, rises_new, rises_in, IsReachedAt, rise_found, rise_nobody}
-use Rattle.dali_progress.proofs.Survey.Begins.{Calm, IsNext, IsHunted, calm_of, smooth_as, first_by, hunts_by, hunts_first, hunted_some, called_roll, all_taken}
-use Rattle.dali_progress.proofs.Survey.Turns.{found_at}
-use Rattle.dali_progress.proofs.Surveying.{NoneDrawn, draw_left, roll_first, IsClear}
+use Rattle.dali_progress.proofs.Survey.Stands.{Begun, IsFirstDraw, IsCalledFor, Draws, called_after, hunted_after, roll_frames, frames_after, Rises, Hunts}
+use Rattle.dali_progress.proofs.Survey.{Stands.IsSmooth, Stands.SurveyStands, Turns.found_at, Woken.AreLow, Woken.none_bare, Woken.opened_lost, Woken.drawn_is}
+use Rattle.dali_progress.proofs.{Survey.Woken.drawn_none_named, Surveying.NoneDrawn, Surveying.draw_left, Surveying.roll_first, Surveying.IsClear}
 
 -- A CONTROLLER THAT SURVEYS ACTS, while gear draw, and while it searches.
 

@@ -1,38 +1,23 @@
 use Rattle.std.proofs.Common.{◌≡◌, ℕ, ◌+◌, ◌-◌, ◌*◌, ◌<◌, ◌≤◌, ◌⊎◌, inl, inr, Bool, true, false, List, [], ◌∷◌, ◌++◌, refl, sym, ap, subst, ◌∙◌, arith, Option}
-use Rattle.std.proofs.Common.{Some, None}
-use Rattle.std.specs.Prelude.{◌==◌, if◌then◌else◌}
+use Rattle.std.proofs.Common.{Some, None, ◌==◌, if◌then◌else◌}
 use Rattle.std.specs.List.{count_by}
-use Rattle.dali_frame.specs.Priority.{LATER}
-use Rattle.dali_frame.specs.Random.{value_of}
+use Rattle.dali_frame.specs.{Priority.LATER, Random.value_of}
 use Rattle.dali_gear.specs.Gear.{Gear}
-use Rattle.dali_script.specs.declared.records.Record.{Record}
-use Rattle.dali_script.specs.declared.records.Record.TheVariants.{Reserve, Enrol, Release}
-use Rattle.dali_script.specs.Records.{Assignment, Has, IsMap, with_record}
+use Rattle.dali_script.specs.{Records.Assignment, Records.Has, Records.IsMap, Records.with_record, Stages.stage_of, declared.orders.Input.Input}
+use Rattle.dali_script.specs.declared.orders.Order.{Order, TheVariants.Put, TheVariants.Commit, TheVariants.Done, TheVariants.Halt}
+use Rattle.dali_script.specs.declared.records.Record.{Record, TheVariants.Reserve, TheVariants.Enrol, TheVariants.Release}
+use Rattle.dali_script.proofs.{Lists.has_last, Lists.has_before, Lists.has_cases, Lists.without_has, Members.same_member, Transactions.stage_none}
 use Rattle.dali_script.specs.declared.stage.Stage.TheVariants as stage
-use Rattle.dali_script.specs.Stages.{stage_of}
-use Rattle.dali_script.proofs.Lists.{has_last, has_before, has_cases, without_has}
-use Rattle.dali_script.proofs.Members.{same_member}
-use Rattle.dali_script.proofs.Transactions.{stage_none}
-use Rattle.dali_script.specs.declared.orders.Order.{Order}
-use Rattle.dali_script.specs.declared.orders.Input.{Input}
-use Rattle.dali_script.specs.declared.orders.Order.TheVariants.{Put, Commit, Done, Halt}
 use Rattle.dali_search.specs.declared.step.Step.TheVariants.{Found}
-use Rattle.dali_controller.specs.Course.{visiting, sought}
-use Rattle.dali_controller.specs.Machine.{Machine}
-use Rattle.dali_controller.specs.Next.{next_course, begins_at, at_rest, beginning}
-use Rattle.dali_controller.specs.Orders.{machine_ordered, AfterEnrolled}
+use Rattle.dali_controller.specs.{Course.visiting, Course.sought, Machine.Machine, Next.next_course, Next.begins_at, Next.at_rest, Next.beginning}
+use Rattle.dali_controller.{specs.Orders.machine_ordered, specs.Orders.AfterEnrolled, proofs.Given.IsGivenBy}
 use Rattle.dali_controller.proofs.Given as given
-use Rattle.dali_controller.proofs.Given.{IsGivenBy}
 use Rattle.dali_progress.specs.Rounds.{IsSettled}
-use Rattle.dali_progress.proofs.Stands.{search_frames}
-use Rattle.dali_progress.proofs.Frames.{value_sought}
-use Rattle.dali_progress.proofs.Tables.{tabled_over}
 use Rattle.dali_progress.proofs.Both.{never_eight, entry_last, with_kept, no_enrolment_now, visits_first, frames_reserved, reserved_begins, enrolled_begins}
-use Rattle.dali_progress.proofs.Survey.Drawn.{those_drawn, is_lost}
-use Rattle.dali_progress.proofs.Survey.Queried.{OneShort, IsTrue, unseen}
-use Rattle.dali_progress.proofs.Survey.Stands.{Begun, survey_frames, called_after}
-use Rattle.dali_progress.proofs.Survey.Begins.{Calm, EnrolsCounted, ReleasesCounted, EnrolsHunted, ReservesHunted, SurveyCommits, IsNext, smooth_as, first_by}
-use Rattle.dali_progress.proofs.Survey.Begins.{asked_none, asks_on, hunts_on, clear_reserved}
+use Rattle.dali_progress.proofs.{Frames.value_sought, Stands.search_frames, Survey.Begins.Calm, Survey.Begins.EnrolsCounted, Survey.Begins.ReleasesCounted}
+use Rattle.dali_progress.proofs.Survey.Begins.{EnrolsHunted, ReservesHunted, SurveyCommits, IsNext, smooth_as, first_by, asked_none, asks_on, hunts_on}
+use Rattle.dali_progress.proofs.Survey.{Begins.clear_reserved, Drawn.those_drawn, Drawn.is_lost, Queried.OneShort, Queried.IsTrue, Queried.unseen, Stands.Begun}
+use Rattle.dali_progress.proofs.{Survey.Stands.survey_frames, Survey.Stands.called_after, Tables.tabled_over}
 
 -- A RECORD OF A SURVEY IS KEPT, and the next transaction begins.
 

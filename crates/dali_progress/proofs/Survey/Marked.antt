@@ -1,53 +1,27 @@
-use Rattle.std.proofs.Common.{◌≡◌, ℕ, ◌<◌, ◌⊎◌, inl, inr, Bool, true, false, List, refl, sym, ap, subst, ◌∙◌, length, Option, Some, None}
-use Rattle.std.specs.Prelude.{◌==◌, if◌then◌else◌}
+use Rattle.std.proofs.Common.{◌≡◌, ℕ, ◌<◌, ◌⊎◌, inl, inr, Bool, true, false, List, refl, sym, ap, subst, ◌∙◌, length, Option, Some, None, ◌==◌, if◌then◌else◌}
 use Rattle.std.proofs.lemmas.Nat.Bits.{bit_at-zero}
-use Rattle.dali_frame.specs.declared.frames.Answer.{Answer}
-use Rattle.dali_frame.specs.declared.frames.Answer.TheVariants.{Silence, Byte, Damaged}
-use Rattle.dali_frame.specs.declared.numbers.SearchAddress.{SearchAddress}
-use Rattle.dali_frame.specs.Random.{high_of, MASK24}
-use Rattle.dali_special.specs.declared.command.Command.{Command}
-use Rattle.dali_special.specs.declared.command.Command.TheVariants.{RandomByte}
+use Rattle.dali_frame.specs.{Random.high_of, Random.MASK24, declared.frames.Answer.Answer, declared.frames.Answer.TheVariants.Silence}
+use Rattle.dali_frame.specs.declared.{frames.Answer.TheVariants.Byte, frames.Answer.TheVariants.Damaged, numbers.SearchAddress.SearchAddress}
+use Rattle.dali_special.specs.{Command.command_of, declared.command.Command.Command, declared.command.Command.TheVariants.RandomByte}
 use Rattle.dali_special.specs.declared.command.Part.TheVariants.{High, Middle, Low}
-use Rattle.dali_special.specs.Command.{command_of}
-use Rattle.dali_gear.specs.declared.row.Reach.TheVariants.{Everyone}
-use Rattle.dali_gear.specs.Gear.{Gear}
-use Rattle.dali_gear.specs.Row.{row_after, answers_of, heard_of}
-use Rattle.dali_script.specs.declared.block.Block.{Block}
-use Rattle.dali_script.specs.Records.{Kept}
-use Rattle.dali_script.specs.declared.records.Record.{Record}
-use Rattle.dali_script.specs.declared.stage.Stage.{Stage}
-use Rattle.dali_script.specs.declared.stage.Stage.TheVariants as stage
-use Rattle.dali_script.specs.Stages.{stage_of, next_stage}
+use Rattle.dali_gear.specs.{Gear.Gear, Row.row_after, Row.answers_of, Row.heard_of, declared.row.Reach.TheVariants.Everyone}
+use Rattle.dali_script.specs.{Due.frame_put, Due.record_ordered, Records.Kept, Stages.stage_of, Stages.next_stage}
+use Rattle.dali_script.specs.declared.{block.Block.Block, orders.End.End, orders.Input.Input, orders.Order.Order, records.Record.Record, stage.Stage.Stage}
 use Rattle.dali_script.proofs.Transactions.{middle_next, low_next, stage_more}
-use Rattle.dali_script.specs.Due.{frame_put, record_ordered}
-use Rattle.dali_script.specs.declared.orders.Input.{Input}
-use Rattle.dali_script.specs.declared.orders.Order.{Order}
-use Rattle.dali_script.specs.declared.orders.End.{End}
-use Rattle.dali_controller.specs.declared.purpose.Purpose.{Purpose}
-use Rattle.dali_controller.specs.declared.purpose.Purpose.TheVariants.{Asking}
-use Rattle.dali_controller.specs.declared.shorts.Shorts.{Shorts}
-use Rattle.dali_controller.specs.Shorts.{has_short, with_short, without_short}
+use Rattle.dali_script.specs.declared.stage.Stage.TheVariants as stage
 use Rattle.dali_controller.specs.Machine.{Machine, machine_heard, machine_told, machine_committed, heard_after, marked_at, at_first}
-use Rattle.dali_events.specs.declared.event.Event.{Event}
-use Rattle.dali_events.specs.World.{World, controller_at}
-use Rattle.dali_events.specs.Happens.{entry}
-use Rattle.dali_events.specs.Plan.{block_at}
-use Rattle.dali_events.specs.Wanted.{gear_of}
+use Rattle.dali_controller.specs.Shorts.{has_short, with_short, without_short}
+use Rattle.dali_controller.specs.declared.{purpose.Purpose.Purpose, purpose.Purpose.TheVariants.Asking, shorts.Shorts.Shorts}
+use Rattle.dali_events.specs.{Happens.entry, Plan.block_at, Wanted.gear_of, World.World, World.controller_at, declared.event.Event.Event}
 use Rattle.dali_events.proofs.Search.Wanted.{same_number, number_same}
 use Rattle.dali_standing.specs.Seats.{informed_by}
 use Rattle.dali_world.specs.Site.{SiteState, world, machine_at}
-use Rattle.dali_progress.specs.Rounds.{Rounds, Succeeds, IsAlone, HasEnded, site_after}
-use Rattle.dali_progress.proofs.Lone.{Moment, IsDueOf, acts_by, due_of, ended_rests}
-use Rattle.dali_progress.proofs.Logged.{same_some}
-use Rattle.dali_progress.proofs.Stands.{Sends}
-use Rattle.dali_progress.proofs.Frames.{some_is}
-use Rattle.dali_progress.proofs.Along.{Runs, RunsAll, runs_all}
+use Rattle.dali_progress.{specs.Rounds.Rounds, specs.Rounds.Succeeds, specs.Rounds.IsAlone, specs.Rounds.HasEnded, specs.Rounds.site_after, proofs.Along.Runs}
+use Rattle.dali_progress.proofs.{Along.RunsAll, Along.runs_all, Frames.some_is, Gives.Gives, Gives.frame_gives, Logged.same_some, Lone.Moment, Lone.IsDueOf}
+use Rattle.dali_progress.proofs.{Lone.acts_by, Lone.due_of, Lone.ended_rests, Stands.Sends, Survey.Goes.of_survey, Survey.Goes.sends_now, Survey.Goes.argument}
+use Rattle.dali_progress.proofs.Survey.{Goes.one_now, Queried.Holds, Queried.Nobody, Queried.OneGear, Queried.one_gear, Stands.Begun, Stands.Counts}
+use Rattle.dali_progress.proofs.{Survey.Stands.SurveyAt, Surveying.heard_high, Surveying.with_other, Surveying.without_same, Surveying.without_other}
 use Rattle.dali_progress.proofs.Drawing as staying
-use Rattle.dali_progress.proofs.Survey.Queried.{Holds, Nobody, OneGear, one_gear}
-use Rattle.dali_progress.proofs.Survey.Stands.{Begun, Counts, SurveyAt}
-use Rattle.dali_progress.proofs.Survey.Goes.{of_survey, sends_now, argument, one_now}
-use Rattle.dali_progress.proofs.Gives.{Gives, frame_gives}
-use Rattle.dali_progress.proofs.Surveying.{heard_high, with_other, without_same, without_other}
 
 -- WHAT A SURVEY HAS MARKED, GEAR HAS, if nothing is disturbed.
 

@@ -1,23 +1,13 @@
 use Rattle.std.proofs.Common.{◌≡◌, ℕ, ◌+◌, ◌<◌, ◌≤◌, ◌⊎◌, inl, inr, Bool, true, false, zero, suc, List, [], ◌∷◌, refl, sym, ap, subst, ◌∙◌, arith, length}
-use Rattle.std.proofs.Common.{Option, Some, None}
-use Rattle.std.specs.Prelude.{◌==◌, ◌&&◌, not, nat_lt, if◌then◌else◌}
-use Rattle.std.specs.List.{list_any}
-use Rattle.std.proofs.lemmas.List.Folds.{list_any_at}
-use Rattle.std.proofs.lemmas.Bool.Decides.{nat_tests}
+use Rattle.std.proofs.Common.{Option, Some, None, ◌==◌, ◌&&◌, not, nat_lt}
+use Rattle.std.{proofs.lemmas.Bool.Decides.nat_tests, proofs.lemmas.List.Folds.list_any_at, specs.List.list_any}
 use Rattle.dali_frame.specs.Random.{MASK24}
-use Rattle.dali_special.specs.declared.command.Command.{Command}
-use Rattle.dali_special.specs.declared.command.Command.TheVariants.{RandomByte}
-use Rattle.dali_special.specs.declared.command.Part.{Part}
-use Rattle.dali_gear.specs.declared.row.Reach.TheVariants.{Everyone}
-use Rattle.dali_gear.specs.Gear.{Gear, fresh, has_short, byte_at, answer, answer_to}
-use Rattle.dali_gear.specs.Row.{option_cons, answers_of}
+use Rattle.dali_special.specs.declared.command.{Command.TheVariants.RandomByte, Part.Part}
+use Rattle.dali_gear.specs.{Gear.Gear, Gear.fresh, Gear.has_short, Gear.byte_at, Gear.answer_to, Row.answers_of, declared.row.Reach.TheVariants.Everyone}
 use Rattle.dali_script.specs.Records.{Assignment, Has, Kept, IsKept, InBlock}
-use Rattle.dali_events.specs.Wanted.{gear_of}
-use Rattle.dali_events.proofs.Search.Wanted.{both_pass, same_number, number_same, at_any}
-use Rattle.dali_events.proofs.Search.Leaving.{SameGear, SameCore}
-use Rattle.dali_events.proofs.Search.Heard.{none_answer, one_answers}
-use Rattle.dali_progress.specs.Ends.{AreTabled}
-use Rattle.dali_progress.proofs.Survey.Drawn.{AreNumbered, DrewApart}
+use Rattle.dali_events.{specs.Wanted.gear_of, proofs.Search.Heard.none_answer, proofs.Search.Heard.one_answers}
+use Rattle.dali_events.proofs.Search.{Leaving.SameGear, Leaving.SameCore, Wanted.both_pass, Wanted.same_number, Wanted.number_same, Wanted.at_any}
+use Rattle.dali_progress.{specs.Ends.AreTabled, proofs.Survey.Drawn.AreNumbered, proofs.Survey.Drawn.DrewApart}
 
 -- A SHORT ADDRESS IS ASKED FOR ITS RANDOM ADDRESS, of gear no two of which have one short address.
 

@@ -1,28 +1,17 @@
 use Rattle.std.proofs.Common.{◌≡◌, ℕ, List, [], ◌∷◌, refl, sym, ap, subst, ◌∙◌, true, Option, Some, None}
 use Rattle.std.specs.List.{AllByRecursion}
-use Rattle.dali_frame.specs.declared.frames.Forward.{Forward}
-use Rattle.dali_frame.specs.declared.frames.Answer.{Answer}
-use Rattle.dali_script.specs.declared.records.Record.{Record}
+use Rattle.dali_frame.specs.declared.frames.{Answer.Answer, Forward.Forward}
 use Rattle.dali_script.specs.Records.{Kept}
-use Rattle.dali_script.specs.declared.orders.Input.{Input}
+use Rattle.dali_script.specs.declared.{orders.End.End, orders.Input.Input, orders.Order.Order, orders.Order.TheVariants.Commit, records.Record.Record}
 use Rattle.dali_script.specs.declared.orders.Input.TheVariants as input
-use Rattle.dali_script.specs.declared.orders.Order.{Order}
-use Rattle.dali_script.specs.declared.orders.Order.TheVariants.{Commit}
-use Rattle.dali_script.specs.declared.orders.End.{End}
-use Rattle.dali_events.specs.declared.event.Event.{Event}
-use Rattle.dali_events.specs.declared.event.Event.TheVariants as event
-use Rattle.dali_events.specs.World.{World, Controller, controller_at}
-use Rattle.dali_events.specs.Happens.{happens, kept_after}
 use Rattle.dali_events.specs.Allowed.{Allowed, IsUp, IsDue, IsCommit}
+use Rattle.dali_events.specs.{Happens.happens, Happens.kept_after, World.World, World.Controller, World.controller_at, declared.event.Event.Event}
+use Rattle.dali_events.specs.declared.event.Event.TheVariants as event
 use Rattle.dali_world.specs.Site.{SiteState, world, site_logged}
-use Rattle.dali_progress.specs.Rounds.{site_after, HasEnded, IsAlone, IsOfRound, Rounds, most_frames, BySurvey, bare}
 use Rattle.dali_progress.specs.Ends.{CommitsNothing, NamesAll, table_at}
-use Rattle.dali_progress.proofs.Lone.{acted_there, sent_there, lone_next}
-use Rattle.dali_progress.proofs.Logged.{world_logged}
-use Rattle.dali_progress.proofs.Beginnings.{named}
-use Rattle.dali_progress.proofs.Along.{Runs, runs_on}
-use Rattle.dali_progress.proofs.Survey.Goes.{of_survey, argument, began_at, starts}
-use Rattle.dali_progress.proofs.Survey.Stands.{Begun}
+use Rattle.dali_progress.specs.Rounds.{site_after, HasEnded, IsAlone, IsOfRound, Rounds, most_frames, BySurvey, bare}
+use Rattle.dali_progress.proofs.{Along.Runs, Along.runs_on, Beginnings.named, Logged.world_logged, Lone.acted_there, Lone.sent_there, Lone.lone_next}
+use Rattle.dali_progress.proofs.Survey.{Goes.of_survey, Goes.argument, Goes.began_at, Goes.starts, Stands.Begun}
 
 -- A SURVEY THAT COMMITS NOTHING keeps the records that it began with.
 

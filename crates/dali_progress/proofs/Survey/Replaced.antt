@@ -1,29 +1,16 @@
 use Rattle.std.proofs.Common.{◌≡◌, ℕ, ◌+◌, ◌<◌, ◌≤◌, ◌⊎◌, inl, inr, Bool, true, false, zero, suc, List, [], ◌∷◌, refl, sym, ap, subst, ◌∙◌, arith, length, Some}
-use Rattle.std.proofs.Common.{None}
-use Rattle.std.specs.Prelude.{if◌then◌else◌}
+use Rattle.std.proofs.Common.{None, if◌then◌else◌}
 use Rattle.std.specs.List.{count_by}
 use Rattle.dali_gear.specs.Gear.{Gear}
-use Rattle.dali_script.specs.Records.{Has, InBlock}
-use Rattle.dali_script.specs.declared.orders.End.{End}
-use Rattle.dali_events.specs.declared.event.Event.{Event}
-use Rattle.dali_events.specs.Plan.{block_at}
-use Rattle.dali_events.specs.Runs.{IsRun}
-use Rattle.dali_events.specs.Promise.{HoldsShort, KeepsAddresses}
-use Rattle.dali_events.specs.Searching.{HasShort}
-use Rattle.dali_events.specs.Wanted.{gear_of, is_bare}
-use Rattle.dali_events.specs.World.{gear_at}
-use Rattle.dali_events.proofs.Invariant.Safe.{holds_after}
-use Rattle.dali_events.proofs.Search.Wanted.{bare_is}
+use Rattle.dali_script.specs.{Records.Has, Records.InBlock, declared.orders.End.End}
+use Rattle.dali_events.specs.{Plan.block_at, Promise.HoldsShort, Promise.KeepsAddresses, Runs.IsRun, Searching.HasShort, Wanted.gear_of, Wanted.is_bare}
+use Rattle.dali_events.{specs.World.gear_at, specs.declared.event.Event.Event, proofs.Invariant.Safe.holds_after, proofs.Search.Wanted.bare_is}
 use Rattle.dali_world.specs.Site.{SiteState, world}
-use Rattle.dali_progress.specs.Rounds.{Rounds, BySurvey, IsAlone, IsSettledAt, HasEnded, site_after, most_frames, bare}
 use Rattle.dali_progress.specs.Ends.{table_at, IsUnseen}
 use Rattle.dali_progress.specs.Replaced.{IsVacant, HasVacant, HasNew, only, IsServed, AreNamed}
-use Rattle.dali_progress.proofs.Beginnings.{runs_after, named}
-use Rattle.dali_progress.proofs.Survey.Drawn.{count_first, count_nothing}
-use Rattle.dali_progress.proofs.Survey.Goes.{began_at, starts, one_now, tabled}
-use Rattle.dali_progress.proofs.Gives.{Gives}
-use Rattle.dali_progress.proofs.Survey.Given.{all_give}
-use Rattle.dali_progress.proofs.Survey.Vacant.{IsOver, over, enough_found}
+use Rattle.dali_progress.specs.Rounds.{Rounds, BySurvey, IsAlone, IsSettledAt, HasEnded, site_after, most_frames, bare}
+use Rattle.dali_progress.proofs.{Beginnings.runs_after, Beginnings.named, Gives.Gives, Survey.Drawn.count_first, Survey.Drawn.count_nothing}
+use Rattle.dali_progress.proofs.Survey.{Given.all_give, Goes.began_at, Goes.starts, Goes.one_now, Goes.tabled, Vacant.IsOver, Vacant.over, Vacant.enough_found}
 
 -- A NEW GEAR IS SERVED in a survey, if an address is vacant, and the others keep what they have.
 

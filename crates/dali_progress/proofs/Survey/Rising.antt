@@ -1,47 +1,30 @@
 use Rattle.std.proofs.Common.{◌≡◌, ℕ, ◌+◌, ◌-◌, ◌*◌, ◌<◌, ◌≤◌, ◌⊎◌, inl, inr, Bool, true, false, zero, suc, List, refl, sym, ap, subst, ◌∙◌, arith, nat_lt}
-use Rattle.std.proofs.Common.{Option, Some, None}
-use Rattle.std.specs.Prelude.{◌==◌, if◌then◌else◌}
-use Rattle.std.specs.List.{count_by}
-use Rattle.std.proofs.lemmas.Bool.Decides.{nat_tests}
-use Rattle.dali_frame.specs.declared.frames.Answer.{Answer}
-use Rattle.dali_frame.specs.declared.numbers.SearchAddress.{SearchAddress}
-use Rattle.dali_frame.specs.Random.{value_of, MASK24}
-use Rattle.dali_special.specs.declared.command.Command.{Command}
-use Rattle.dali_special.specs.declared.command.Command.TheVariants.{Compare, SearchHigh, SearchMiddle, SearchLow}
-use Rattle.dali_gear.specs.declared.row.Reach.TheVariants.{Everyone}
-use Rattle.dali_gear.specs.Gear.{Gear}
-use Rattle.dali_gear.specs.Row.{row_after}
-use Rattle.dali_script.specs.Records.{Assignment, Kept}
-use Rattle.dali_script.specs.declared.stage.Stage.{Stage}
-use Rattle.dali_script.specs.declared.stage.Stage.TheVariants as stage
-use Rattle.dali_script.specs.Stages.{next_stage}
+use Rattle.std.proofs.Common.{Option, Some, None, ◌==◌, if◌then◌else◌}
+use Rattle.std.{proofs.lemmas.Bool.Decides.nat_tests, specs.List.count_by}
+use Rattle.dali_frame.specs.{Random.value_of, Random.MASK24, declared.frames.Answer.Answer, declared.numbers.SearchAddress.SearchAddress}
+use Rattle.dali_special.specs.declared.command.Command.{Command, TheVariants.Compare, TheVariants.SearchHigh, TheVariants.SearchMiddle, TheVariants.SearchLow}
+use Rattle.dali_gear.specs.{Gear.Gear, Row.row_after, declared.row.Reach.TheVariants.Everyone}
+use Rattle.dali_script.specs.{Records.Assignment, Records.Kept, Stages.next_stage, declared.stage.Stage.Stage}
 use Rattle.dali_script.proofs.Transactions.{self, equal}
-use Rattle.dali_search.specs.declared.step.Step.TheVariants.{Again, Found, Nobody}
-use Rattle.dali_search.specs.Least.{Gives, Says}
+use Rattle.dali_script.specs.declared.stage.Stage.TheVariants as stage
 use Rattle.dali_search.specs.Ascending.{Ascent, IsAscent, Knows, is_bounded, asked_next, leads_to, ascended, ascent_at_first, above}
-use Rattle.dali_search.specs.Questions.{bytes_apart, Asking, has_room, frames_to_ask, room_left, asking_next, IsTrueWay, no_question}
-use Rattle.dali_search.proofs.Ascents.{asked_drawn, says_found}
-use Rattle.dali_search.proofs.TrueAnswers.{somebody_costs, nobody_costs, first_true, above_true}
-use Rattle.dali_controller.specs.declared.purpose.Purpose.TheVariants.{Hunting}
-use Rattle.dali_controller.specs.Course.{sought, is_yes, byte_to_send, bytes_to_send}
-use Rattle.dali_events.specs.Searching.{HasShort}
-use Rattle.dali_events.specs.Wanted.{is_wanted, wants, OfPowered, IsOpened, NoneNamed}
-use Rattle.dali_events.proofs.Search.Leaving as leaving
+use Rattle.dali_search.specs.{Least.Gives, Least.Says, Questions.bytes_apart, Questions.Asking, Questions.has_room, Questions.frames_to_ask}
+use Rattle.dali_search.specs.{Questions.room_left, Questions.asking_next, Questions.IsTrueWay, Questions.no_question, declared.step.Step.TheVariants.Again}
+use Rattle.dali_search.{specs.declared.step.Step.TheVariants.Found, specs.declared.step.Step.TheVariants.Nobody, proofs.Ascents.asked_drawn}
+use Rattle.dali_search.proofs.{Ascents.says_found, TrueAnswers.somebody_costs, TrueAnswers.nobody_costs, TrueAnswers.first_true, TrueAnswers.above_true}
+use Rattle.dali_controller.specs.{Course.sought, Course.is_yes, Course.byte_to_send, Course.bytes_to_send, declared.purpose.Purpose.TheVariants.Hunting}
+use Rattle.dali_events.specs.{Searching.HasShort, Wanted.is_wanted, Wanted.wants, Wanted.OfPowered, Wanted.IsOpened, Wanted.NoneNamed}
 use Rattle.dali_events.proofs.Search.Leaving.{SameCore}
+use Rattle.dali_events.proofs.Search.Leaving as leaving
 use Rattle.dali_events.proofs.Search.Wanted as wanted
 use Rattle.dali_progress.specs.Ends.{AreTabled}
-use Rattle.dali_progress.proofs.Stands.{to_come, Sends}
 use Rattle.dali_progress.proofs.Frames.{IsTaken, Seeks, probe_says, value_sought, gives_same, some_is, nobody_short}
-use Rattle.dali_progress.proofs.Tables.{LeavesNames, tabled_left}
-use Rattle.dali_progress.proofs.Survey.Drawn.{IsSoughtBy}
-use Rattle.dali_progress.proofs.Survey.Stands.{pending, after_rise, thirds_for, RiseStage, Rises}
+use Rattle.dali_progress.proofs.{Stands.to_come, Stands.Sends, Survey.Drawn.IsSoughtBy, Survey.Stands.pending, Survey.Stands.after_rise}
+use Rattle.dali_progress.proofs.{Survey.Stands.thirds_for, Survey.Stands.RiseStage, Survey.Stands.Rises, Tables.LeavesNames, Tables.tabled_left}
 
 -- THE SEARCH THAT GOES UP, alone and undisturbed: what its questions tell, and what they cost.
 
 -- ---------------------------------------------------------------- bytes
-
-same_tests : (a b : ℕ) → (a == b) ≡ (b == a)
-same_tests a b = grind (arith, nat_tests)
 
 pub bytes_same : (a b : ℕ) → bytes_to_send (sought a) (sought b) ≡ bytes_apart b a
 unfolding bytes_apart

@@ -1,25 +1,16 @@
 use Rattle.std.proofs.Common.{◌≡◌, ℕ, suc, ◌+◌, ◌≤◌, true, false, List, [], ◌∷◌, refl, sym, ap, subst, ◌∙◌, arith, length, Option, Some, None, Ok}
-use Rattle.dali_script.specs.declared.records.Record.{Record}
-use Rattle.dali_script.specs.declared.orders.Input.{Input}
+use Rattle.dali_script.specs.declared.{orders.Input.Input, orders.Order.Order, orders.Order.TheVariants.Put, records.Record.Record}
 use Rattle.dali_script.specs.declared.orders.Input.TheVariants as input
-use Rattle.dali_script.specs.declared.orders.Order.{Order}
-use Rattle.dali_script.specs.declared.orders.Order.TheVariants.{Put}
 use Rattle.dali_controller.specs.Machine.{Machine}
-use Rattle.dali_events.specs.declared.event.Event.{Event}
+use Rattle.dali_events.specs.{Allowed.Allowed, Allowed.IsDue, Happens.happens, World.World, World.Controller, World.controller_at, declared.event.Event.Event}
 use Rattle.dali_events.specs.declared.event.Event.TheVariants as event
-use Rattle.dali_events.specs.World.{World, Controller, controller_at}
-use Rattle.dali_events.specs.Happens.{happens}
-use Rattle.dali_events.specs.Allowed.{Allowed, IsDue}
 use Rattle.dali_world.specs.Site.{SiteState, world, site_logged}
 use Rattle.dali_replay.specs.Installation.{Installation}
 use Rattle.dali_replay.specs.Installation as replayed
 use Rattle.dali_progress.specs.Rounds.{Succeeds, IsOfRound, Rounds, site_after, frames, IsAlone, most_frames, BySurvey, bare}
-use Rattle.dali_progress.proofs.Lone.{Moment, acted_last, sent_last, lone_next}
-use Rattle.dali_progress.proofs.Logged.{world_logged}
+use Rattle.dali_progress.proofs.{Along.Runs, Along.runs_on, Logged.world_logged, Lone.Moment, Lone.acted_last, Lone.sent_last, Lone.lone_next}
 use Rattle.dali_progress.proofs.Running.{IsLeft, AreLeft, Comes, Came}
-use Rattle.dali_progress.proofs.Survey.Stands.{Begun}
-use Rattle.dali_progress.proofs.Along.{Runs, runs_on}
-use Rattle.dali_progress.proofs.Survey.Goes.{of_survey, argument, began_at, starts}
+use Rattle.dali_progress.proofs.Survey.{Goes.of_survey, Goes.argument, Goes.began_at, Goes.starts, Stands.Begun}
 
 -- A RUN OF ROUNDS after a survey began, on an installation with one controller.
 

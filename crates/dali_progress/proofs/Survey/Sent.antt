@@ -1,52 +1,37 @@
 use Rattle.std.proofs.Common.{◌≡◌, ℕ, ◌+◌, ◌*◌, ◌<◌, ◌≤◌, Bool, true, false, zero, suc, List, refl, sym, subst, ◌∙◌, arith, ◌-◌, inl, inr, [], ◌∷◌, ap, Option}
-use Rattle.std.proofs.Common.{Some, None}
-use Rattle.std.specs.Prelude.{if◌then◌else◌, ◌%◌, nat_lt, ◌&&◌}
-use Rattle.std.specs.List.{count_by}
-use Rattle.dali_frame.specs.declared.frames.Answer.{Answer}
+use Rattle.std.proofs.Common.{Some, None, if◌then◌else◌, ◌%◌, nat_lt, ◌&&◌}
+use Rattle.std.{proofs.lemmas.Bool.Decides.nat_tests, specs.List.count_by}
+use Rattle.dali_frame.specs.{Random.value_of, Random.MASK24, declared.frames.Answer.Answer, declared.frames.Answer.TheVariants.Silence}
+use Rattle.dali_frame.specs.declared.{frames.Answer.TheVariants.Byte, frames.Answer.TheVariants.Damaged, numbers.SearchAddress.SearchAddress}
 use Rattle.dali_special.specs.declared.command.Command.{Command}
-use Rattle.dali_gear.specs.declared.row.Reach.TheVariants.{Everyone}
-use Rattle.dali_gear.specs.Gear.{Gear, draws_a_number}
-use Rattle.dali_gear.specs.Row.{row_after, takes, left_after, drawn_one, drawn_of, answers_of, heard_of}
-use Rattle.dali_script.specs.Records.{Kept, Has}
-use Rattle.dali_script.specs.declared.stage.Stage.{Stage}
-use Rattle.dali_script.specs.Stages.{next_stage, byte_heard, number_heard}
-use Rattle.dali_controller.specs.declared.purpose.Purpose.TheVariants.{Calling, Drawing, Opening, Probing, Visiting, Resolving, Closing, Asking, Hunting}
-use Rattle.dali_controller.specs.declared.purpose.Purpose.TheVariants.{PassingOver}
-use Rattle.dali_controller.specs.declared.shorts.Shorts.{Shorts}
-use Rattle.dali_controller.specs.Course.{Course, sought}
-use Rattle.dali_events.specs.Wanted.{is_bare, is_wanted}
-use Rattle.dali_events.proofs.Search.Leaving as leaving
-use Rattle.dali_progress.proofs.Stands.{Sends, to_come, VisitsAt}
-use Rattle.dali_progress.proofs.Frames.{IsTaken, Seeks, one_less, at_sent, value_sought, some_is}
-use Rattle.dali_progress.proofs.Tables.{tabled_left, IsTabledTo, at_tabled}
-use Rattle.dali_progress.proofs.Survey.Drawn.{those_drawn, is_lost, AreNumbered, IsSearching, IsSoughtBy, not_randomise, row_drawn, answers_drawn, searching_of}
-use Rattle.dali_progress.proofs.Survey.Drawn.{no_draw, still_of, lost_same, seek_drawn, apart_drawn, DrewApart, AreNumbered}
-use Rattle.dali_progress.proofs.Survey.Queried.{unseen, core_then, holds_back, IsAtHand, below_on}
-use Rattle.dali_progress.proofs.Survey.Woken.{bare_after, lost_after, drew_after, IsByteLow, low_after, all_left}
-use Rattle.dali_progress.proofs.Survey.Stands.{Begun, roll_frames, Calls, Draws, survey_frames, silent_left, asked_left, Counts, AskCount, called_after}
-use Rattle.dali_progress.proofs.Survey.Stands.{hunted_after, frames_after, IsCalledFor, surplus, IsBehind, HuntAt, Hunts, SurveyEnds, SurveyCloses, SurveyAt}
-use Rattle.dali_progress.proofs.Survey.Begins.{roll_some, roll_none}
-use Rattle.dali_progress.proofs.Surveying.{IsTakenBut, RollSent, DrawSent, call_sent, draw_left, roll_sent, draw_sent, draws_short, draws_tabled, AskedAt}
-use Rattle.dali_progress.proofs.Surveying.{asked_sent}
-use Rattle.std.proofs.lemmas.Bool.Decides.{nat_tests}
-use Rattle.dali_frame.specs.declared.frames.Answer.TheVariants.{Silence, Byte, Damaged}
-use Rattle.dali_frame.specs.declared.numbers.SearchAddress.{SearchAddress}
-use Rattle.dali_frame.specs.Random.{value_of, MASK24}
 use Rattle.dali_special.specs.declared.command.Command.TheVariants.{Terminate, Withdraw, SearchMiddle, SearchLow, QueryShort, RandomByte}
 use Rattle.dali_special.specs.declared.command.Part.TheVariants.{High, Middle, Low}
-use Rattle.dali_gear.proofs.RowLemmas.{needs_none}
-use Rattle.dali_script.specs.declared.stage.Stage.TheVariants as stage
-use Rattle.dali_script.proofs.Transactions.{middle_next, low_next}
-use Rattle.dali_script.specs.declared.orders.End.{End}
+use Rattle.dali_gear.specs.{Gear.Gear, Gear.draws_a_number, Row.row_after, Row.takes, Row.left_after, Row.drawn_one, Row.drawn_of, Row.answers_of, Row.heard_of}
+use Rattle.dali_gear.{specs.declared.row.Reach.TheVariants.Everyone, proofs.RowLemmas.needs_none}
+use Rattle.dali_script.specs.{Records.Kept, Records.Has, Stages.next_stage, Stages.byte_heard, Stages.number_heard, declared.orders.End.End}
 use Rattle.dali_script.specs.declared.orders.End.TheVariants.{AllFound, BlockFull, GaveUp}
-use Rattle.dali_search.specs.Least.{at_first}
-use Rattle.dali_search.specs.Ascending.{Ascent, asked_next}
-use Rattle.dali_controller.specs.declared.purpose.Purpose.{Purpose}
-use Rattle.dali_controller.specs.Machine.{heard_after, asked_after, asked_after_silence, asked_at, marked_at}
+use Rattle.dali_script.{specs.declared.stage.Stage.Stage, proofs.Transactions.middle_next, proofs.Transactions.low_next}
+use Rattle.dali_script.specs.declared.stage.Stage.TheVariants as stage
+use Rattle.dali_search.specs.{Ascending.Ascent, Ascending.asked_next, Least.at_first}
+use Rattle.dali_controller.specs.{Course.Course, Course.sought, Machine.heard_after, Machine.asked_after, Machine.asked_after_silence, Machine.asked_at}
+use Rattle.dali_controller.specs.{Machine.marked_at, declared.purpose.Purpose.Purpose}
+use Rattle.dali_controller.specs.declared.purpose.Purpose.TheVariants.{Calling, Drawing, Opening, Probing, Visiting, Resolving, Closing, Asking, Hunting}
+use Rattle.dali_controller.specs.declared.{purpose.Purpose.TheVariants.PassingOver, shorts.Shorts.Shorts}
+use Rattle.dali_events.specs.Wanted.{is_bare, is_wanted}
 use Rattle.dali_events.proofs.Search.Leaving.{SameCore, LeavesCore, LeavesShort}
-use Rattle.dali_progress.specs.Ends.{AreTabled}
-use Rattle.dali_progress.proofs.Survey.Behind.{IsHunt, least_sent, behind_sent, hunt_deep}
+use Rattle.dali_events.proofs.Search.Leaving as leaving
+use Rattle.dali_progress.{specs.Ends.AreTabled, proofs.Frames.IsTaken, proofs.Frames.Seeks}
+use Rattle.dali_progress.proofs.{Frames.one_less, Frames.at_sent, Frames.value_sought, Frames.some_is, Stands.Sends, Stands.to_come, Stands.VisitsAt}
+use Rattle.dali_progress.proofs.Survey.{Begins.roll_some, Begins.roll_none, Behind.IsHunt, Behind.least_sent, Behind.behind_sent, Behind.hunt_deep}
+use Rattle.dali_progress.proofs.Survey.Drawn.{those_drawn, is_lost, AreNumbered, IsSearching, IsSoughtBy, not_randomise, row_drawn, answers_drawn, searching_of}
+use Rattle.dali_progress.proofs.Survey.Drawn.{no_draw, still_of, lost_same, seek_drawn, apart_drawn, DrewApart}
+use Rattle.dali_progress.proofs.Survey.Queried.{unseen, core_then, holds_back, IsAtHand, below_on}
 use Rattle.dali_progress.proofs.Survey.Rising.{rises_sent, rising_one, rising_tabled, rising_sought}
+use Rattle.dali_progress.proofs.Survey.Stands.{Begun, roll_frames, Calls, Draws, survey_frames, silent_left, asked_left, Counts, AskCount, called_after}
+use Rattle.dali_progress.proofs.Survey.Stands.{hunted_after, frames_after, IsCalledFor, surplus, IsBehind, HuntAt, Hunts, SurveyEnds, SurveyCloses, SurveyAt}
+use Rattle.dali_progress.proofs.Survey.Woken.{bare_after, lost_after, drew_after, IsByteLow, low_after, all_left}
+use Rattle.dali_progress.proofs.Surveying.{IsTakenBut, RollSent, DrawSent, call_sent, draw_left, roll_sent, draw_sent, draws_short, draws_tabled, AskedAt}
+use Rattle.dali_progress.proofs.{Surveying.asked_sent, Tables.tabled_left, Tables.IsTabledTo, Tables.at_tabled}
 
 -- A FRAME OF A ROLL CALL IS SENT, or one after which gear draw, and one frame less is left.
 

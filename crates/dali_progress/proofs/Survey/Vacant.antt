@@ -1,35 +1,20 @@
 use Rattle.std.proofs.Common.{◌≡◌, ℕ, ◌+◌, ◌<◌, ◌≤◌, ◌⊎◌, inl, inr, Bool, true, false, suc, List, [], ◌∷◌, refl, sym, ap, subst, ◌∙◌, arith, length, Option}
-use Rattle.std.proofs.Common.{Some, None}
-use Rattle.std.specs.Prelude.{◌||◌, if◌then◌else◌}
+use Rattle.std.proofs.Common.{Some, None, ◌||◌, if◌then◌else◌}
 use Rattle.std.specs.List.{count_by}
 use Rattle.dali_gear.specs.Gear.{Gear, has_short as is_short}
-use Rattle.dali_script.specs.declared.block.Block.{Block}
 use Rattle.dali_script.specs.Records.{Assignment, Kept, Has, HasAddress, InBlock, IsOnce}
-use Rattle.dali_script.proofs.Members.{mapped_from}
-use Rattle.dali_script.specs.declared.orders.End.{End}
-use Rattle.dali_script.specs.declared.orders.End.TheVariants.{AllFound, BlockFull, GaveUp}
-use Rattle.dali_controller.specs.Machine.{Machine}
-use Rattle.dali_controller.specs.declared.shorts.Shorts.{Shorts}
-use Rattle.dali_controller.specs.Shorts.{has_short}
-use Rattle.dali_events.specs.declared.event.Event.{Event}
+use Rattle.dali_script.specs.declared.{block.Block.Block, orders.End.End, orders.End.TheVariants.AllFound, orders.End.TheVariants.BlockFull}
+use Rattle.dali_script.{specs.declared.orders.End.TheVariants.GaveUp, proofs.Members.mapped_from}
+use Rattle.dali_controller.specs.{Machine.Machine, Shorts.has_short, declared.shorts.Shorts.Shorts}
 use Rattle.dali_events.specs.Plan.{Plan, block_at}
-use Rattle.dali_events.specs.Searching.{HasShort}
-use Rattle.dali_events.specs.Wanted.{gear_of, is_bare, OfPowered}
-use Rattle.dali_events.specs.World.{controller_at}
+use Rattle.dali_events.specs.{Searching.HasShort, Wanted.gear_of, Wanted.is_bare, Wanted.OfPowered, World.controller_at, declared.event.Event.Event}
 use Rattle.dali_events.proofs.Search.Wanted.{is_bare_by, bare_is, count_less, same_number, number_same}
-use Rattle.dali_world.specs.Site.{SiteState, world, site_logged}
-use Rattle.dali_world.proofs.Logs.{records_now}
-use Rattle.dali_progress.specs.Rounds.{Rounds, BySurvey, IsAlone, HasEnded, IsSettled, IsSettledAt, site_after, most_frames, bare}
+use Rattle.dali_world.{specs.Site.SiteState, specs.Site.world, specs.Site.site_logged, proofs.Logs.records_now}
 use Rattle.dali_progress.specs.Replaced.{HasVacant}
-use Rattle.dali_progress.proofs.Logged.{block_now}
-use Rattle.dali_progress.proofs.Along.{Runs}
-use Rattle.dali_progress.proofs.Beginnings.{runs_after}
-use Rattle.dali_progress.proofs.Survey.Drawn.{count_first}
-use Rattle.dali_progress.proofs.Survey.Stands.{SurveyEnds, AreTaken}
-use Rattle.dali_progress.proofs.Survey.Goes.{EndsBy, began_at, starts, ended_by, true_now, of_survey}
-use Rattle.dali_progress.proofs.Gives.{Gives, bare_before}
-use Rattle.dali_progress.proofs.Survey.Given.{all_give}
-use Rattle.dali_progress.proofs.Survey.Marked.{IsHeld, AreHeld, end_held}
+use Rattle.dali_progress.specs.Rounds.{Rounds, BySurvey, IsAlone, HasEnded, IsSettled, IsSettledAt, site_after, most_frames, bare}
+use Rattle.dali_progress.proofs.{Along.Runs, Beginnings.runs_after, Gives.Gives, Gives.bare_before, Logged.block_now}
+use Rattle.dali_progress.proofs.Survey.{Drawn.count_first, Given.all_give, Goes.EndsBy, Goes.began_at, Goes.starts, Goes.ended_by, Goes.true_now}
+use Rattle.dali_progress.proofs.Survey.{Goes.of_survey, Marked.IsHeld, Marked.AreHeld, Marked.end_held, Stands.SurveyEnds, Stands.AreTaken}
 
 -- IF AN ADDRESS IS VACANT FOR EACH GEAR WITHOUT, a survey ends with all-found.
 

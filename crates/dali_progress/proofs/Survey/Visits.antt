@@ -1,53 +1,33 @@
 use Rattle.std.proofs.Common.{◌≡◌, ℕ, ◌+◌, ◌-◌, ◌*◌, ◌<◌, ◌≤◌, ◌⊎◌, inl, inr, Bool, true, false, suc, List, [], ◌∷◌, refl, sym, ap, subst, ◌∙◌, arith, Option}
-use Rattle.std.proofs.Common.{Some, None}
-use Rattle.std.specs.Prelude.{◌==◌, ◌&&◌, nat_lt, if◌then◌else◌, is_some, MatchOption}
+use Rattle.std.proofs.Common.{Some, None, ◌==◌, ◌&&◌, nat_lt, if◌then◌else◌, is_some, MatchOption}
 use Rattle.std.specs.List.{count_by}
-use Rattle.dali_frame.specs.declared.numbers.SearchAddress.{SearchAddress}
-use Rattle.dali_frame.specs.Random.{value_of, MASK24}
-use Rattle.dali_special.specs.declared.command.Command.TheVariants.{Program}
-use Rattle.dali_special.specs.declared.command.Command.{Command}
-use Rattle.dali_special.specs.Command.{frame_of}
+use Rattle.dali_frame.specs.{Random.value_of, Random.MASK24, declared.numbers.SearchAddress.SearchAddress}
+use Rattle.dali_special.specs.{Command.frame_of, declared.command.Command.Command, declared.command.Command.TheVariants.Program}
 use Rattle.dali_gear.specs.Gear.{Gear}
-use Rattle.dali_script.specs.declared.records.Record.TheVariants.{Reserve, Enrol}
-use Rattle.dali_script.specs.declared.finding.Finding.TheVariants.{Queried}
-use Rattle.dali_script.specs.Records.{Assignment, Kept, Has, HasRandom, IsKept}
-use Rattle.dali_script.specs.declared.stage.Stage.{Stage}
-use Rattle.dali_script.specs.declared.stage.Stage.TheVariants as stage
-use Rattle.dali_script.specs.Stages.{stage_of}
-use Rattle.dali_script.specs.declared.orders.Order.{Order}
+use Rattle.dali_script.specs.{Records.Assignment, Records.Kept, Records.Has, Records.HasRandom, Records.IsKept, Stages.stage_of}
+use Rattle.dali_script.specs.declared.{finding.Finding.TheVariants.Queried, orders.End.TheVariants.BlockFull, orders.Order.Order}
 use Rattle.dali_script.specs.declared.orders.Order.TheVariants.{Put, Commit, Done, Halt}
-use Rattle.dali_script.specs.declared.orders.End.TheVariants.{BlockFull}
-use Rattle.dali_script.proofs.Lists.{has_map}
-use Rattle.dali_script.proofs.Members.{same_member}
+use Rattle.dali_script.specs.declared.records.Record.TheVariants.{Reserve, Enrol}
+use Rattle.dali_script.{specs.declared.stage.Stage.Stage, proofs.Lists.has_map, proofs.Members.same_member}
+use Rattle.dali_script.specs.declared.stage.Stage.TheVariants as stage
 use Rattle.dali_search.specs.declared.step.Step.TheVariants.{Found}
-use Rattle.dali_controller.specs.declared.purpose.Purpose.{Purpose}
-use Rattle.dali_controller.specs.declared.purpose.Purpose.TheVariants.{Opening, Probing, Hunting, Visiting, Resolving, Closing, Calling, Drawing, PassingOver}
-use Rattle.dali_controller.specs.declared.purpose.Purpose.TheVariants.{Asking as Counting}
-use Rattle.dali_controller.specs.declared.way.Way.{Way}
-use Rattle.dali_controller.specs.declared.way.Way.TheVariants.{Fresh, Surveying}
 use Rattle.dali_controller.specs.Course.{address_for, least_open, is_open, is_anothers, opening_anew, closing as closing_by, turn_of}
-use Rattle.dali_controller.specs.Machine.{Machine, is_withheld, is_withheld_by}
-use Rattle.dali_controller.specs.Next.{next_course, begins_at, course_by, may_draw, full, ungiven}
-use Rattle.dali_controller.specs.Orders.{machine_ordered, AfterFinding, AfterMaskOn, AfterMaskBy, AfterReserved}
-use Rattle.dali_controller.specs.Whole.{IsWhole}
+use Rattle.dali_controller.specs.{Machine.Machine, Machine.is_withheld, Machine.is_withheld_by, Next.next_course, Next.begins_at, Next.course_by, Next.may_draw}
+use Rattle.dali_controller.specs.{Next.full, Next.ungiven, Orders.machine_ordered, Orders.AfterFinding, Orders.AfterMaskOn, Orders.AfterMaskBy}
+use Rattle.dali_controller.specs.{Orders.AfterReserved, Whole.IsWhole, declared.purpose.Purpose.Purpose}
+use Rattle.dali_controller.specs.declared.purpose.Purpose.TheVariants.{Opening, Probing, Hunting, Visiting, Resolving, Closing, Calling, Drawing, PassingOver}
+use Rattle.dali_controller.specs.declared.{purpose.Purpose.TheVariants.Asking as Counting, way.Way.Way, way.Way.TheVariants.Fresh}
+use Rattle.dali_controller.{specs.declared.way.Way.TheVariants.Surveying, proofs.Given.IsGivenBy, proofs.Given.IsNoEnrolment}
 use Rattle.dali_controller.proofs.Given as given
-use Rattle.dali_controller.proofs.Given.{IsGivenBy, IsNoEnrolment}
 use Rattle.dali_events.specs.Wanted.{is_wanted, wants, is_bare}
 use Rattle.dali_events.proofs.Search.Wanted as wanted
-use Rattle.dali_progress.specs.Ends.{AreTabled}
-use Rattle.dali_progress.specs.Rounds.{IsSettled}
-use Rattle.dali_progress.proofs.Stands.{search_frames, VisitFrames, Visits, Leaves}
-use Rattle.dali_progress.proofs.Tables.{tabled_over}
-use Rattle.dali_progress.proofs.Both.{drawn_number, close_ends, entry_twice}
-use Rattle.dali_progress.proofs.Accounted.{open_is}
-use Rattle.dali_progress.proofs.Survey.Drawn.{those_drawn, is_lost, bare_split, drawn_tabled}
-use Rattle.dali_progress.proofs.Survey.Queried.{unseen, IsAtHand}
-use Rattle.dali_progress.proofs.Survey.Stands.{Begun, called_after, Hunts, SurveyAt, SurveyStands, Draws}
+use Rattle.dali_progress.{specs.Ends.AreTabled, specs.Rounds.IsSettled, proofs.Accounted.open_is}
+use Rattle.dali_progress.proofs.{Both.drawn_number, Both.close_ends, Both.entry_twice, Stands.search_frames, Stands.VisitFrames, Stands.Visits, Stands.Leaves}
 use Rattle.dali_progress.proofs.Survey.Begins.{IsNext, IsHunted, Above, calm_of, calm_ordered, smooth_as, later_by, turns_by, first_by, hunts_on, all_taken}
-use Rattle.dali_progress.proofs.Survey.Begins.{nobody_elses}
-use Rattle.dali_progress.proofs.Survey.Turns.{IsUncontradicted, found_at, census_turns, calling_turns}
-use Rattle.dali_progress.proofs.Survey.Hunting.{never_full, hunting_turns, drawn_turns}
-use Rattle.dali_progress.proofs.Surveying.{draw_over}
+use Rattle.dali_progress.proofs.Survey.{Begins.nobody_elses, Drawn.those_drawn, Drawn.is_lost, Drawn.bare_split, Drawn.drawn_tabled, Hunting.never_full}
+use Rattle.dali_progress.proofs.Survey.{Hunting.hunting_turns, Hunting.drawn_turns, Queried.unseen, Queried.IsAtHand, Stands.Begun, Stands.called_after}
+use Rattle.dali_progress.proofs.Survey.{Stands.Hunts, Stands.SurveyAt, Stands.SurveyStands, Stands.Draws, Turns.IsUncontradicted, Turns.found_at}
+use Rattle.dali_progress.proofs.{Survey.Turns.census_turns, Survey.Turns.calling_turns, Surveying.draw_over, Tables.tabled_over}
 
 -- A CONTROLLER THAT SURVEYS ACTS, in a visit and at its close; and in whatever transaction.
 

@@ -1,33 +1,24 @@
 use Rattle.std.proofs.Common.{◌≡◌, ℕ, ◌+◌, ◌<◌, ◌≤◌, ◌⊎◌, inl, inr, Bool, true, false, zero, suc, List, [], ◌∷◌, refl, sym, ap, subst, ◌∙◌, arith, length}
-use Rattle.std.proofs.Common.{Option, Some, None}
-use Rattle.std.specs.Prelude.{◌&&◌, nat_le, if◌then◌else◌}
-use Rattle.std.specs.List.{count_by}
-use Rattle.std.proofs.lemmas.Bool.Decides.{nat_tests}
-use Rattle.dali_frame.specs.declared.frames.Answer.{Answer}
-use Rattle.dali_frame.specs.declared.frames.Answer.TheVariants.{Silence, Byte, Damaged}
-use Rattle.dali_frame.specs.declared.numbers.SearchAddress.{SearchAddress}
-use Rattle.dali_frame.specs.Random.{value_of, MASK24}
+use Rattle.std.proofs.Common.{Option, Some, None, ◌&&◌, nat_le, if◌then◌else◌}
+use Rattle.std.{proofs.lemmas.Bool.Decides.nat_tests, specs.List.count_by}
+use Rattle.dali_frame.specs.{Random.value_of, Random.MASK24, declared.frames.Answer.Answer, declared.frames.Answer.TheVariants.Silence}
+use Rattle.dali_frame.specs.declared.{frames.Answer.TheVariants.Byte, frames.Answer.TheVariants.Damaged, numbers.SearchAddress.SearchAddress}
 use Rattle.dali_special.specs.declared.command.Command.{Command}
 use Rattle.dali_special.specs.declared.command.Command.TheVariants.{Randomise, Compare, SearchHigh, SearchMiddle, SearchLow, Program}
-use Rattle.dali_gear.specs.declared.state.InitialisationState.TheVariants.{Enabled}
-use Rattle.dali_gear.specs.declared.row.Reach.TheVariants.{Everyone}
 use Rattle.dali_gear.specs.Gear.{Gear, is_enabled, is_active, gear_taken, answer, search_after}
 use Rattle.dali_gear.specs.Row.{takes, row_after, option_cons, answers_of, heard_of}
+use Rattle.dali_gear.specs.declared.{row.Reach.TheVariants.Everyone, state.InitialisationState.TheVariants.Enabled}
 use Rattle.dali_script.specs.declared.stage.Stage.TheVariants as stage
 use Rattle.dali_controller.specs.Course.{is_yes}
 use Rattle.dali_events.specs.Searching.{HasShort}
 use Rattle.dali_events.specs.Wanted.{is_bare, is_wanted, wants, gear_of, OfPowered, Seek, IsOpened, NoneNamed}
-use Rattle.dali_events.proofs.Invariant.Takes.{row_length}
-use Rattle.dali_events.proofs.Search.Wanted as wanted
-use Rattle.dali_events.proofs.Search.Wanted.{both_pass, count_same, after_at}
-use Rattle.dali_events.proofs.Search.Heard.{silent_above, heard_below}
+use Rattle.dali_events.proofs.{Invariant.Takes.row_length, Search.Heard.silent_above, Search.Heard.heard_below, Search.Leaving.LeavesShort}
+use Rattle.dali_events.proofs.Search.{Leaving.SeekMiddle, Opened.AreOpening, Opened.IsOpening, Wanted.both_pass, Wanted.count_same, Wanted.after_at}
 use Rattle.dali_events.proofs.Search.Leaving as leaving
-use Rattle.dali_events.proofs.Search.Leaving.{LeavesCore, LeavesShort, SameCore, SeekMiddle}
-use Rattle.dali_events.proofs.Search.Opened.{AreOpening, IsOpening}
+use Rattle.dali_events.proofs.Search.Wanted as wanted
+use Rattle.dali_progress.proofs.{Frames.short_left, Survey.Drawn.those_drawn}
+use Rattle.dali_progress.proofs.Survey.Drawn.{is_undrawn, is_lost, bare_split, count_first, count_nothing, of_drawn, undrawn_random, woken_short, AreNumbered}
 use Rattle.dali_progress.proofs.Tables.{LeavesNames}
-use Rattle.dali_progress.proofs.Survey.Drawn.{those_drawn, is_undrawn, is_lost, bare_split, count_first, count_nothing, of_drawn, undrawn_random, woken_short}
-use Rattle.dali_progress.proofs.Survey.Drawn.{AreNumbered}
-use Rattle.dali_progress.proofs.Frames.{short_left}
 
 -- GEAR WITHOUT SHORT ADDRESS while the roll is called, and while they draw.
 

@@ -1,5 +1,4 @@
-use Rattle.dali_progress.proofs.Ended.{run_frames, run_ends}
-use Rattle.dali_progress.proofs.Refused.{run_with_room, new_runs}
+use Rattle.dali_progress.proofs.{Ended.run_frames, Ended.run_ends, Refused.run_with_room, Refused.new_runs}
 use Rattle.dali_progress.proofs.laws.a_run_ends.Goals as goal
 
 pub returns : goal.returns

@@ -1,5 +1,4 @@
-use Rattle.dali_progress.proofs.Accounted.{accounted, never_reserved, never_given}
-use Rattle.dali_progress.proofs.Census.Silent.{reserved_silent}
+use Rattle.dali_progress.proofs.{Accounted.accounted, Accounted.never_reserved, Accounted.never_given, Census.Silent.reserved_silent}
 use Rattle.dali_progress.proofs.laws.nothing_is_given_where_somebody_was_heard.Goals as goal
 
 pub returns-clause-accounted : goal.returns-clause-accounted

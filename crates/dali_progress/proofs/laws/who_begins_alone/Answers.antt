@@ -1,6 +1,4 @@
-use Rattle.dali_progress.proofs.Logged.{begins_new}
-use Rattle.dali_progress.proofs.Beginnings.{begins_so, begins_settled}
-use Rattle.dali_progress.proofs.Survey.Again.{surveys_again, kept_again}
+use Rattle.dali_progress.proofs.{Beginnings.begins_so, Beginnings.begins_settled, Logged.begins_new, Survey.Again.surveys_again, Survey.Again.kept_again}
 use Rattle.dali_progress.proofs.laws.who_begins_alone.Goals as goal
 
 pub returns : goal.returns
