@@ -1,33 +1,19 @@
 use Rattle.std.proofs.Common.{◌≡◌, ℕ, ◌<◌, ◌⊎◌, inl, inr, Bool, true, false, List, length, map, set, get_or, Option, Some, None, Result, Ok, Err, refl, sym, ap}
-use Rattle.std.proofs.Common.{subst, ◌∙◌, length-set, get_or-set_same, get_or-set_other, nat_eq, arith}
-use Rattle.std.proofs.lemmas.List.{get_or-map, length-map, get_or_read_under, set-set}
-use Rattle.std.proofs.lemmas.Bool.Decides.{nat_tests}
-use Rattle.std.specs.Prelude.{IfOk, OnOk, OnErr, slice_index_or}
-use Rattle.dali_script.specs.declared.block.Block.{Block}
-use Rattle.dali_script.specs.declared.records.Record.{Record}
-use Rattle.dali_script.specs.Records.{Kept}
-use Rattle.dali_script.specs.declared.orders.Input.{Input}
-use Rattle.dali_script.specs.declared.orders.Input.TheVariants as input
-use Rattle.dali_script.specs.declared.orders.Order.{Order}
-use Rattle.dali_script.specs.declared.orders.Order.TheVariants.{Put, Commit, Done, Halt}
+use Rattle.std.proofs.Common.{subst, ◌∙◌, length-set, get_or-set_same, get_or-set_other, nat_eq, arith, IfOk, OnOk, OnErr, slice_index_or}
+use Rattle.std.proofs.lemmas.{Bool.Decides.nat_tests, List.get_or-map, List.length-map, List.get_or_read_under, List.set-set}
+use Rattle.dali_script.specs.{Due.record_ordered, Due.due_after, Records.Kept, declared.block.Block.Block, declared.orders.Input.Input}
+use Rattle.dali_script.specs.declared.orders.Order.{Order, TheVariants.Put, TheVariants.Commit, TheVariants.Done, TheVariants.Halt}
+use Rattle.dali_script.{specs.declared.records.Record.Record, proofs.Members.each_changed, proofs.Members.each_set}
 use Rattle.dali_script.specs.declared.orders.Due.TheVariants as due
-use Rattle.dali_script.specs.Due.{record_ordered, due_after}
-use Rattle.dali_events.specs.declared.event.Event.{Event}
-use Rattle.dali_events.specs.declared.event.Event.TheVariants as event
-use Rattle.dali_events.specs.declared.event.Outside.{Outside}
-use Rattle.dali_events.specs.declared.event.Outside.TheVariants as outside
-use Rattle.dali_events.specs.Events.{event_of}
-use Rattle.dali_events.specs.Plan.{Plan, no_block, block_at}
-use Rattle.dali_events.specs.World.{World, Controller, controller_at, nobody, controller_begun, start}
-use Rattle.dali_events.specs.Happens.{happens, controller_informed, controller_acted, with_outstanding, trace_running, told_sent, told_destroyed, told_lapsed}
-use Rattle.dali_events.specs.Happens.{owner_told, gone_down, come_up}
-use Rattle.dali_events.specs.Allowed.{IsActed, IsCommit, IsDue, MayOrder}
-use Rattle.dali_script.proofs.Members.{each_changed, each_set}
+use Rattle.dali_script.specs.declared.orders.Input.TheVariants as input
+use Rattle.dali_events.specs.{Allowed.IsActed, Allowed.IsCommit, Allowed.IsDue, Allowed.MayOrder, Events.event_of, Happens.happens, Happens.controller_informed}
+use Rattle.dali_events.specs.Happens.{controller_acted, with_outstanding, trace_running, told_sent, told_destroyed, told_lapsed, owner_told, gone_down, come_up}
+use Rattle.dali_events.specs.{Plan.Plan, Plan.no_block, Plan.block_at, World.World, World.Controller, World.controller_at, World.nobody, World.controller_begun}
+use Rattle.dali_events.specs.{World.start, declared.event.Event.Event, declared.event.Outside.Outside, declared.trouble.Trouble.Trouble}
 use Rattle.dali_events.proofs.Invariant.Growing.{after_more}
-use Rattle.dali_standing.specs.Seats.{due_of}
-use Rattle.dali_standing.specs.declared.refusal.Refusal.{Refusal}
-use Rattle.dali_events.specs.declared.trouble.Trouble.{Trouble}
-use Rattle.dali_standing.specs.declared.report.Report.{Report}
+use Rattle.dali_events.specs.declared.event.Event.TheVariants as event
+use Rattle.dali_events.specs.declared.event.Outside.TheVariants as outside
+use Rattle.dali_standing.specs.{Seats.due_of, declared.refusal.Refusal.Refusal, declared.report.Report.Report}
 use Rattle.dali_standing.specs.declared.report.Report.TheVariants as report
 use Rattle.dali_world.specs.Site.{SiteState, Receipt, world, opened_site, Logs, Befalls, HasActed, IsUpWith, Pumps}
 use Rattle.dali_replay.specs.Installation.{Store, IsInstalled, no_store, empty_store, store_settled, IsInStepBy, IsInStep, IsMade}

@@ -1,19 +1,13 @@
-use Rattle.std.proofs.Common.{◌≡◌, ℕ, ◌<◌, inl, inr, true, List, length, set, get_or, Some, Result, Ok, Err, refl, sym, ap, subst, ◌∙◌}
-use Rattle.std.proofs.lemmas.List.{get_or_read_under, set-get_or}
-use Rattle.std.specs.Prelude.{IfSome, IfOk, IfErr, OnErr}
-use Rattle.dali_script.specs.declared.block.Block.{Block}
-use Rattle.dali_script.specs.Records.{Kept, Fits}
-use Rattle.dali_script.specs.declared.orders.Input.{Input}
-use Rattle.dali_script.specs.declared.orders.Order.{Order}
-use Rattle.dali_script.specs.declared.orders.Due.{Due}
+use Rattle.std.proofs.Common.{◌≡◌, ℕ, ◌<◌, inl, inr, true, List, length, set, get_or, Some, Result, Ok, Err, refl, sym, ap, subst, ◌∙◌, IfSome, IfOk, IfErr}
+use Rattle.std.proofs.{Common.OnErr, lemmas.List.get_or_read_under, lemmas.List.set-get_or}
+use Rattle.dali_script.specs.{Due.record_ordered, Records.Kept, Records.Fits, declared.block.Block.Block}
+use Rattle.dali_script.specs.declared.orders.{Due.Due, Input.Input, Order.Order}
 use Rattle.dali_script.specs.declared.orders.Due.TheVariants as due
-use Rattle.dali_script.specs.Due.{record_ordered}
 use Rattle.dali_events.specs.Plan.{block_at}
-use Rattle.dali_standing.specs.declared.refusal.Refusal.{Refusal}
-use Rattle.dali_standing.specs.Seats.{due_of}
+use Rattle.dali_standing.specs.{Seats.due_of, declared.refusal.Refusal.Refusal}
 use Rattle.dali_world.specs.Site.{SiteState, Receipt, Acts, HasActed, IsActRefused, IsUpRefused}
-use Rattle.dali_replay.specs.Rounds.{has_turn_by, HasTurn}
 use Rattle.dali_replay.specs.Installation.{Store, Installation, no_store, store_at, controller, IsUpAt, IsInstalled, IsGivenBy, IsGiven, HasStepped, Goes}
+use Rattle.dali_replay.specs.Rounds.{has_turn_by, HasTurn}
 
 -- ---------------------------------------------------------------- what `act` says
 

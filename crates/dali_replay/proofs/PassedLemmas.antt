@@ -1,13 +1,10 @@
 use Rattle.std.proofs.Common.{ℕ, List, [], Bool, true, false, ◌∙◌, Option, Some, None, Result, Ok, Err}
 use Rattle.std.specs.Io.KnownBytes.{Appends, Keeps}
 use Rattle.dali_events.specs.Plan.{Plan}
-use Rattle.dali_grammar.specs.declared.fault.ReplayFault.{ReplayFault}
+use Rattle.dali_grammar.specs.{Setting.NumberedLines, Setting.End, Setting.Setting, declared.fault.ReplayFault.ReplayFault}
 use Rattle.dali_grammar.specs.declared.fault.ReplayFault.TheVariants.{BadLine, BadPlan, Memory, Read, Write}
-use Rattle.dali_replay.specs.declared.form.Form.{Form}
-use Rattle.dali_replay.specs.Bench.{start}
-use Rattle.dali_replay.specs.Installation.{Installation, installation_of}
-use Rattle.dali_grammar.specs.Setting.{NumberedLines, End, Setting}
-use Rattle.dali_replay.specs.Replay.{Output, Plays, PlaysSite, PlaysSetting, Replays, HavePlayed, played, nothing}
+use Rattle.dali_replay.specs.{Bench.start, Installation.Installation, Installation.installation_of, Replay.Output, Replay.Plays, Replay.PlaysSite}
+use Rattle.dali_replay.specs.{Replay.PlaysSetting, Replay.Replays, Replay.HavePlayed, Replay.played, Replay.nothing, declared.form.Form.Form}
 
 -- WHAT A RUN SAYS stays true where the bytes that were written are passed on.
 

@@ -1,17 +1,11 @@
-use Rattle.std.proofs.Common.{◌≡◌, ℕ, List, [], ◌∷◌, ◌++◌, inl, inr, length, Bool, Option, Result, Ok, Err, refl, sym, ap, subst, ◌∙◌}
-use mathlib.Core.List.{append_assoc}
+use Rattle.std.proofs.Common.{◌≡◌, ℕ, List, [], ◌∷◌, ◌++◌, inl, Bool, Result, Ok, Err, refl, sym, ap, subst, ◌∙◌}
 use Rattle.std.proofs.lemmas.List.{append-nil}
-use Rattle.dali_events.specs.declared.event.Event.{Event}
-use Rattle.dali_events.specs.Plan.{Plan}
-use Rattle.dali_grammar.specs.declared.fault.ReplayFault.{ReplayFault}
+use Rattle.dali_events.specs.{Plan.Plan, declared.event.Event.Event}
+use Rattle.dali_grammar.specs.{Setting.NumberedLines, Setting.End, Setting.Setting, Setting.PlansNot, declared.fault.ReplayFault.ReplayFault}
 use Rattle.dali_grammar.specs.declared.fault.ReplayFault.TheVariants.{BadLine, BadPlan, Memory, Read, Write}
-use Rattle.dali_replay.specs.declared.player.Player.{Player}
-use Rattle.dali_replay.specs.declared.played.PlayedLine.{PlayedLine}
-use Rattle.dali_replay.specs.declared.played.Played.{Played}
-use Rattle.dali_replay.specs.BenchReport.{with_event}
-use Rattle.dali_grammar.specs.Setting.{NumberedLines, End, Setting, PlansNot}
-use Rattle.dali_replay.specs.Player.{Turns, Takes, player_of}
-use Rattle.dali_replay.specs.Played.{Follow, IsLine, IsBadLater, StopsIn, PlaysAll, IsPlayed, IsOf, IsSame, IsPlayedBy, StopsBy, events_in}
+use Rattle.dali_replay.specs.Played.{Follow, IsBadLater, StopsIn, PlaysAll, IsPlayed, IsOf, IsSame, IsPlayedBy, StopsBy}
+use Rattle.dali_replay.specs.Player.{Takes, player_of}
+use Rattle.dali_replay.specs.declared.{played.Played.Played, played.PlayedLine.PlayedLine, player.Player.Player}
 
 -- WHAT WAS KEPT SO FAR of the lines of a script: whatever the lines that are left lead to, all lines do.
 pub record Kept (s : Player) (lines : NumberedLines) (before : List PlayedLine) (kept : List Event) (said : List ℕ) (t : Player) (left : NumberedLines)
@@ -30,30 +24,6 @@ kept_none s lines before kept said = record {
   grown = sym (append-nil before);
   follow = λ ps u end whole h. h;
   bad = λ n h. h;
-}
-
--- one line more was kept
-pub kept_more : (s t u : Player) (lines left rest : NumberedLines) (before : List PlayedLine) (kept : List Event) (said : List ℕ)
-    (now next : List PlayedLine) (all more : List Event) (text whole out : List ℕ) (k : ℕ) (line : List ℕ) (came : Option Event) (x : PlayedLine)
-    → Kept s lines before kept said t left now all text → left ≡ (k, line) ∷ rest
-    → whole ≡ text ++ out → Turns t line out came u → more ≡ with_event all came
-    → IsLine (k, line) (events_in t all) (events_in u more) (length whole) x → next ≡ now ++ x ∷ []
-    → Kept s lines before kept said u rest next more whole
-kept_more s t u lines left rest before kept said now next all more text whole out k line came x was first wrote turns adds is grew = record {
-  so_far = was.so_far ++ x ∷ [];
-  grown = grew ∙ ap (λ xs. xs ++ x ∷ []) was.grown ∙ append_assoc before was.so_far (x ∷ []);
-  follow = λ ps v end all_text h.
-      subst (λ (xs : List PlayedLine). Follow s lines kept said xs v end all_text) (sym (append_assoc was.so_far (x ∷ []) ps))
-      (was.follow (x ∷ ps) v end all_text
-      (rw first (
-        out,
-        came,
-        u,
-        turns,
-        rw (← wrote, ← adds) is,
-        rw (← wrote, ← adds) h,
-      )));
-  bad = λ n h. was.bad n (rw first (inr (out, came, u, turns, h)));
 }
 
 -- no line is left

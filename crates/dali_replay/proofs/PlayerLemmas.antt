@@ -1,24 +1,14 @@
 use Rattle.std.proofs.Common.{◌≡◌, ℕ, List, [], ◌∷◌, ◌++◌, Bool, true, false, Option, Some, Result, Ok, Err, refl, ap, subst}
 use Rattle.std.specs.Io.KnownBytes.{Appends}
-use Rattle.dali_events.specs.declared.event.Event.{Event}
-use Rattle.dali_events.specs.Plan.{Plan}
-use Rattle.dali_grammar.specs.declared.fault.ReplayFault.{ReplayFault}
-use Rattle.dali_grammar.specs.declared.fault.ReplayFault.TheVariants.{BadLine, BadPlan, Memory, Read, Write}
-use Rattle.dali_replay.specs.declared.form.Form.{Form}
-use Rattle.dali_replay.specs.declared.player.Player.{Player}
+use Rattle.dali_events.specs.{Plan.Plan, declared.event.Event.Event}
+use Rattle.dali_grammar.specs.{Lines.words_of, Setting.NumberedLines, Setting.End, Setting.Setting, SiteLine.site_line_of}
+use Rattle.dali_grammar.specs.declared.fault.ReplayFault.{ReplayFault, TheVariants.BadLine, TheVariants.BadPlan, TheVariants.Memory, TheVariants.Read}
+use Rattle.dali_grammar.specs.declared.{fault.ReplayFault.TheVariants.Write, site_line.SiteLine.SiteLine}
+use Rattle.dali_replay.specs.{BenchReport.report, Installation.Installation, Json.written, Player.Turns, Player.Takes, Player.IsBad, Player.PlaysOn}
+use Rattle.dali_replay.specs.{Player.player_of, Replay.PlaysSite, Replay.PlaysSetting, Replay.HavePlayed, Replay.Replays, Replay.played, SiteReport.Says}
+use Rattle.dali_replay.{specs.declared.form.Form.Form, specs.declared.player.Player.Player, proofs.ReplayLemmas.appends_more}
+use Rattle.dali_replay.proofs.ReplayLemmas.{plays_line, plays_bad_line, plays_done, plays_memory, have_played_none, site_bad_line, site_done, site_memory}
 use Rattle.dali_replay.specs.declared.player.Player.TheVariants as player
-use Rattle.dali_grammar.specs.declared.site_line.SiteLine.{SiteLine}
-use Rattle.dali_grammar.specs.Lines.{words_of}
-use Rattle.dali_grammar.specs.SiteLine.{site_line_of}
-use Rattle.dali_replay.specs.Installation.{Installation}
-use Rattle.dali_replay.specs.SiteReport.{Says}
-use Rattle.dali_grammar.specs.Setting.{NumberedLines, End, Setting}
-use Rattle.dali_replay.specs.BenchReport.{report}
-use Rattle.dali_replay.specs.Json.{written}
-use Rattle.dali_replay.specs.Replay.{PlaysSite, PlaysSetting, HavePlayed, Replays, played}
-use Rattle.dali_replay.specs.Player.{Turns, Takes, IsBad, PlaysOn, player_of}
-use Rattle.dali_replay.proofs.ReplayLemmas.{appends_more, plays_line, plays_bad_line, plays_done, plays_memory}
-use Rattle.dali_replay.proofs.ReplayLemmas.{have_played_none, site_bad_line, site_done, site_memory}
 
 -- whatever playing the rest leaves behind, playing the whole does
 abbrev pub LeadsOn : Form → Player → NumberedLines → Option (List ℕ) → Player → NumberedLines → Option (List ℕ) → Type 0

@@ -1,22 +1,13 @@
 use Rattle.std.proofs.Common.{◌≡◌, ℕ, List, [], ◌∷◌, ◌++◌, Option, Some, None, Result, Ok, Err, refl, sym, ap, subst, ◌∙◌, Bool, true, false, ◌⊎◌, inl, inr}
+use Rattle.std.{proofs.Common.IfSome, proofs.Common.IsErrOf, proofs.lemmas.List.append-nil, specs.Io.KnownBytes.Appends, specs.Io.KnownBytes.Keeps}
 use mathlib.Core.List.{append_assoc}
-use Rattle.std.specs.Prelude.{IfSome, IsErrOf}
-use Rattle.std.proofs.lemmas.List.{append-nil}
-use Rattle.std.specs.Io.KnownBytes.{Appends, Keeps}
 use Rattle.dali_events.specs.Plan.{Plan}
-use Rattle.dali_grammar.specs.declared.fault.ReplayFault.{ReplayFault}
+use Rattle.dali_grammar.specs.{BenchLine.bench_line_of, Lines.words_of, Setting.NumberedLines, Setting.End, Setting.Setting, Setting.PlansNot}
+use Rattle.dali_grammar.specs.{Setting.setting_of, SiteLine.site_line_of, declared.bench_line.BenchLine.BenchLine, declared.fault.ReplayFault.ReplayFault}
 use Rattle.dali_grammar.specs.declared.fault.ReplayFault.TheVariants.{BadLine, BadPlan, Memory, Read, Write}
-use Rattle.dali_grammar.specs.declared.bench_line.BenchLine.{BenchLine}
-use Rattle.dali_grammar.specs.Lines.{words_of}
-use Rattle.dali_grammar.specs.BenchLine.{bench_line_of}
-use Rattle.dali_grammar.specs.SiteLine.{site_line_of}
+use Rattle.dali_replay.specs.{Bench.BenchState, Bench.start, Bench.after, Installation.Installation, Installation.installation_of}
+use Rattle.dali_replay.specs.Replay.{Output, Plays, PlaysSite, PlaysSetting, Replays, Tells, HavePlayed, IsBadAt, wrote, played}
 use Rattle.dali_replay.specs.declared.form.Form.{Form}
-use Rattle.dali_replay.specs.Bench.{BenchState, start, after}
-use Rattle.dali_replay.specs.Installation.{Installation, installation_of}
-use Rattle.dali_grammar.specs.Setting.{NumberedLines, End, Setting, PlansNot}
-use Rattle.dali_replay.specs.Replay.{Output, Plays, PlaysSite, PlaysSetting, Replays, Tells, HavePlayed, IsBadAt}
-use Rattle.dali_grammar.specs.Setting.{setting_of}
-use Rattle.dali_replay.specs.Replay.{wrote, played}
 
 -- ---------------------------------------------------------------- texts
 

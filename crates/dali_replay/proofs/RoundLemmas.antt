@@ -1,14 +1,10 @@
 use Rattle.std.proofs.Common.{◌≡◌, ℕ, suc, ◌+◌, ◌<◌, ◌≤◌, inl, inr, Bool, true, false, List, [], ◌++◌, Option, Some, None, Ok, Err, refl, sym, ap, subst, ◌∙◌}
-use Rattle.std.proofs.Common.{add-one, arith}
-use Rattle.std.specs.Prelude.{if◌then◌else◌, ◌||◌}
-use mathlib.Core.List.{append_assoc}
+use Rattle.std.proofs.Common.{add-one, arith, if◌then◌else◌, ◌||◌}
 use Rattle.std.proofs.lemmas.List.{append-nil}
-use Rattle.dali_replay.specs.declared.rounds.Round.{Round}
+use mathlib.Core.List.{append_assoc}
+use Rattle.dali_replay.specs.{Installation.Installation, Rounds.IsTurn, Rounds.Turns, Rounds.controllers, Rounds.AreTurns, Rounds.IsRoundOf, Rounds.Rounds}
+use Rattle.dali_replay.{specs.Rounds.Ends, specs.Rounds.Ran, specs.Text.Writes, specs.declared.rounds.Round.Round, proofs.InstallationLemmas.goes_plan}
 use Rattle.dali_replay.specs.declared.rounds.Round.TheVariants as round
-use Rattle.dali_replay.specs.Installation.{Installation}
-use Rattle.dali_replay.specs.Rounds.{IsTurn, Turns, controllers, AreTurns, IsRoundOf, Rounds, Ends, Ran}
-use Rattle.dali_replay.specs.Text.{Writes}
-use Rattle.dali_replay.proofs.InstallationLemmas.{goes_plan}
 
 -- ---------------------------------------------------------------- texts
 

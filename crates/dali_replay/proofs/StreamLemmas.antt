@@ -1,14 +1,7 @@
-use Rattle.std.proofs.Common.{◌≡◌, ℕ, List, ◌⊎◌, inl, inr, Option, Some, None, Err, refl}
-use Rattle.std.specs.Prelude.{IfSome}
-use Rattle.dali_grammar.specs.declared.fault.ReplayFault.{ReplayFault}
-use Rattle.dali_grammar.specs.declared.fault.ReplayFault.TheVariants.{Memory, Read}
-use Rattle.dali_grammar.specs.declared.reason.Explained.{Explained}
-use Rattle.dali_grammar.specs.declared.reason.Reason.{Reason}
-use Rattle.dali_grammar.specs.Reason.{Gives}
-use Rattle.dali_grammar.specs.Setting.{setting_of}
-use Rattle.dali_replay.specs.declared.form.Form.{Form}
-use Rattle.dali_replay.specs.Replay.{Replays}
-use Rattle.dali_replay.specs.Streams.{Explains}
+use Rattle.std.proofs.Common.{◌≡◌, ℕ, List, ◌⊎◌, inl, inr, Option, Some, None, Err, refl, IfSome}
+use Rattle.dali_grammar.specs.{Reason.Gives, Setting.setting_of, declared.fault.ReplayFault.ReplayFault, declared.fault.ReplayFault.TheVariants.Memory}
+use Rattle.dali_grammar.specs.declared.{fault.ReplayFault.TheVariants.Read, reason.Explained.Explained, reason.Reason.Reason}
+use Rattle.dali_replay.specs.{Replay.Replays, Streams.Explains, declared.form.Form.Form}
 use Rattle.dali_replay.proofs.ReplayLemmas.{tells_of_replays, tells_fault}
 
 -- the input was not read: then there is no reason

@@ -1,6 +1,5 @@
 use Rattle.std.specs.Prelude.{codes}
-use Rattle.dali_replay.specs.Json.{json_numbers, json_short}
-use Rattle.dali_replay.proofs.TextLemmas.{then_two}
+use Rattle.dali_replay.{specs.Json.json_numbers, specs.Json.json_short, proofs.TextLemmas.then_two}
 use Rattle.dali_replay.proofs.json.push_addresses.Goals as goal
 
 pub returns : goal.returns

@@ -1,6 +1,5 @@
 use Rattle.std.specs.Prelude.{codes}
-use Rattle.dali_replay.specs.Json.{json_controller, json_entries}
-use Rattle.dali_replay.proofs.TextLemmas.{then_two}
+use Rattle.dali_replay.{specs.Json.json_controller, specs.Json.json_entries, proofs.TextLemmas.then_two}
 use Rattle.dali_replay.proofs.json.push_json_table.Goals as goal
 
 pub returns : goal.returns

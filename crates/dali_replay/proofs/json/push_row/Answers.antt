@@ -1,7 +1,6 @@
 use Rattle.std.proofs.Common.{rules, ◌<◌, length, refl, string_bytes}
 use Rattle.dali_gear.specs.Gear.{fresh}
-use Rattle.dali_replay.specs.Json.{json_gear, json_row}
-use Rattle.dali_replay.proofs.TextLemmas.{one_more}
+use Rattle.dali_replay.{specs.Json.json_gear, specs.Json.json_row, proofs.TextLemmas.one_more}
 use Rattle.dali_replay.proofs.json.push_row.Goals as goal
 
 pub loop-number-preserved : goal.loop-number-preserved

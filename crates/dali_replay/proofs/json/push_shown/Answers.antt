@@ -1,6 +1,5 @@
 use Rattle.std.specs.Prelude.{codes}
-use Rattle.dali_replay.specs.Json.{json_number, json_state}
-use Rattle.dali_replay.proofs.TextLemmas.{then_two}
+use Rattle.dali_replay.{specs.Json.json_number, specs.Json.json_state, proofs.TextLemmas.then_two}
 use Rattle.dali_replay.proofs.json.push_shown.Goals as goal
 
 pub returns : goal.returns

@@ -1,6 +1,5 @@
 use Rattle.std.proofs.Common.{◌≡◌, Err, ap, rules, string_bytes}
-use Rattle.dali_grammar.specs.Lines.{numbered_after}
-use Rattle.dali_grammar.specs.ReplayFault.{fault_of, with_fault}
+use Rattle.dali_grammar.specs.{Lines.numbered_after, ReplayFault.fault_of, ReplayFault.with_fault}
 use Rattle.dali_replay.proofs.PlayedLemmas.{kept_none, all_kept, stops_all}
 use Rattle.dali_replay.proofs.played.play_all.Goals as goal
 

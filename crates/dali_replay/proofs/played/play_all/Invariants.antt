@@ -1,7 +1,6 @@
 use Rattle.std.proofs.Common.{◌≡◌, ◌+◌, ◌≤◌, length, string_bytes}
 use Rattle.dali_grammar.specs.Lines.{numbered_after}
-use Rattle.dali_replay.specs.Played.{events_in}
-use Rattle.dali_replay.proofs.PlayedLemmas.{Kept}
+use Rattle.dali_replay.{specs.Played.events_in, proofs.PlayedLemmas.Kept}
 use Rattle.dali_replay.proofs.played.play_all.Given as goal
 
 abbrev pub invariant-loop-line : goal.invariant-loop-line

@@ -1,7 +1,5 @@
 use Rattle.std.proofs.Common.{◌≡◌, Ok, Err, ap, rules, string_bytes}
-use Rattle.dali_grammar.specs.Lines.{numbered_after}
-use Rattle.dali_grammar.specs.ReplayFault.{fault_of, with_fault}
-use Rattle.dali_grammar.specs.declared.fault.ReplayFault.TheVariants.{Memory}
+use Rattle.dali_grammar.specs.{Lines.numbered_after, ReplayFault.fault_of, ReplayFault.with_fault, declared.fault.ReplayFault.TheVariants.Memory}
 use Rattle.dali_grammar.specs.declared.fault.Stop.TheVariants as stop
 use Rattle.dali_replay.proofs.PlayerLemmas.{leads_more, plays_end, plays_fault, plays_want}
 use Rattle.dali_replay.proofs.replay.play.Goals as goal

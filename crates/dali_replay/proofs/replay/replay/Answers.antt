@@ -1,9 +1,7 @@
 use Rattle.std.proofs.Common.{◌≡◌, Err, ap, rules, zero-add}
-use Rattle.dali_grammar.specs.ReplayFault.{fault_of, with_fault}
-use Rattle.dali_grammar.specs.declared.fault.ReplayFault.TheVariants.{Memory}
+use Rattle.dali_grammar.specs.{ReplayFault.fault_of, ReplayFault.with_fault, declared.fault.ReplayFault.TheVariants.Memory}
 use Rattle.dali_grammar.specs.declared.fault.Stop.TheVariants as stop
-use Rattle.dali_replay.proofs.ReplayLemmas.{replays_no_plan, replays_want}
-use Rattle.dali_replay.proofs.PlayerLemmas.{replays_all}
+use Rattle.dali_replay.proofs.{PlayerLemmas.replays_all, ReplayLemmas.replays_no_plan, ReplayLemmas.replays_want}
 use Rattle.dali_replay.proofs.replay.replay.Goals as goal
 
 pub returns-in_err-is_bench : goal.returns-in_err-is_bench

@@ -1,6 +1,5 @@
 use Rattle.std.proofs.Common.{◌≤◌, ◌-◌, string_bytes}
-use Rattle.dali_replay.specs.Rounds.{Rounds}
-use Rattle.dali_replay.specs.Text.{Writes}
+use Rattle.dali_replay.specs.{Rounds.Rounds, Text.Writes}
 use Rattle.dali_replay.proofs.rounds.rounds.Given as goal
 
 abbrev pub invariant-loop-played : goal.invariant-loop-played

@@ -1,7 +1,6 @@
 use Rattle.std.proofs.Common.{Ok}
 use Rattle.dali_grammar.specs.ReplayFault.{fault_of}
-use Rattle.dali_replay.proofs.ReplayLemmas.{tells_some, tells_of_replays}
-use Rattle.dali_replay.proofs.StreamLemmas.{explains_unread, explains_fault}
+use Rattle.dali_replay.proofs.{ReplayLemmas.tells_some, ReplayLemmas.tells_of_replays, StreamLemmas.explains_unread, StreamLemmas.explains_fault}
 use Rattle.dali_replay.proofs.streams.replay_through.Goals as goal
 
 pub returns-in-Err-clause-told : goal.returns-in-Err-clause-told

@@ -1,5 +1,4 @@
-use Rattle.std.proofs.Common.{rules, ◌<◌, length}
-use Rattle.std.specs.Prelude.{string_bytes}
+use Rattle.std.proofs.Common.{rules, ◌<◌, length, string_bytes}
 use Rattle.dali_replay.proofs.TextLemmas.{gear_texts_more}
 use Rattle.dali_replay.proofs.text.push_all_gear.Goals as goal
 

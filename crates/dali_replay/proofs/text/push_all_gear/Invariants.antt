@@ -1,5 +1,4 @@
-use Rattle.std.proofs.Common.{◌≡◌, ◌++◌, drop}
-use Rattle.std.specs.Prelude.{string_bytes}
+use Rattle.std.proofs.Common.{◌≡◌, ◌++◌, drop, string_bytes}
 use Rattle.dali_replay.specs.Text.{gear_texts}
 use Rattle.dali_replay.proofs.text.push_all_gear.Given as goal
 

@@ -1,6 +1,5 @@
 use Rattle.std.specs.Prelude.{codes, decimal}
-use Rattle.dali_replay.specs.Text.{heard_text}
-use Rattle.dali_replay.proofs.TextLemmas.{two_more}
+use Rattle.dali_replay.{specs.Text.heard_text, proofs.TextLemmas.two_more}
 use Rattle.dali_replay.proofs.text.push_sent.Goals as goal
 
 pub returns : goal.returns

@@ -1,7 +1,6 @@
 use Rattle.std.proofs.Common.{◌≡◌, ◌<◌, length, Err, refl, rules}
-use Rattle.dali_replay.specs.Installation.{Installation}
+use Rattle.dali_replay.{specs.Installation.Installation, proofs.InStepLemmas.act_installed}
 use Rattle.dali_replay.proofs.InstallationLemmas.{acted_of, refused_of, fits_store, block_read, store_read, stepped_of, stores_there}
-use Rattle.dali_replay.proofs.InStepLemmas.{act_installed}
 use Rattle.dali_replay.proofs.installation.Installation.act.Goals as goal
 
 pub returns-in_err-receipt-clause-refused : goal.returns-in_err-receipt-clause-refused

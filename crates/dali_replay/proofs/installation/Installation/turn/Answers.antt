@@ -1,6 +1,5 @@
 use Rattle.std.proofs.Common.{◌≡◌, true, rules}
-use Rattle.dali_replay.specs.Installation.{controller}
-use Rattle.dali_replay.proofs.InstallationLemmas.{gone}
+use Rattle.dali_replay.{specs.Installation.controller, proofs.InstallationLemmas.gone}
 use Rattle.dali_replay.proofs.installation.Installation.turn.Goals as goal
 
 pub returns : goal.returns

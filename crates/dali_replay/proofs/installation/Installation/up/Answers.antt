@@ -1,7 +1,6 @@
 use Rattle.std.proofs.Common.{◌≡◌, ◌<◌, length, Err, rules}
-use Rattle.dali_replay.specs.Installation.{Installation}
+use Rattle.dali_replay.{specs.Installation.Installation, proofs.InStepLemmas.up_installed}
 use Rattle.dali_replay.proofs.InstallationLemmas.{store_read, stores_there, up_refused}
-use Rattle.dali_replay.proofs.InStepLemmas.{up_installed}
 use Rattle.dali_replay.proofs.installation.Installation.up.Goals as goal
 
 pub invariant_of-self-2 : goal.invariant_of-self-2
