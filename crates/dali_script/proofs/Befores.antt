@@ -1,10 +1,7 @@
 use Rattle.std.proofs.Common.{◌≡◌, ℕ, ◌+◌, ◌<◌, ◌≤◌, ◌⊎◌, inl, inr, Bool, true, false, List, [], ◌∷◌, refl, sym, ap, subst, ◌∙◌, arith, length, get_or, ◌≢◌}
-use Rattle.std.proofs.Common.{replicate, take, set, length-set, get_or-set_same, get_or-set_other}
-use Rattle.std.specs.Prelude.{zero, suc, nat_lt}
-use Rattle.std.proofs.lemmas.Bool.{cases_eq}
-use Rattle.std.proofs.lemmas.List.{get_or-take, get_or-replicate, length-take-le}
-use Rattle.dali_script.specs.Records.{Assignment, HasRandom}
-use Rattle.dali_script.specs.Pairs.{last_bits, random_at, IsLast, AreBefore, AreLast}
+use Rattle.std.proofs.Common.{replicate, set, length-set, get_or-set_same, get_or-set_other, zero, suc, nat_lt}
+use Rattle.std.proofs.lemmas.{Bool.cases_eq, List.get_or-replicate}
+use Rattle.dali_script.specs.{Pairs.last_bits, Pairs.random_at, Pairs.IsLast, Pairs.AreBefore, Pairs.AreLast, Records.Assignment, Records.HasRandom}
 use Rattle.dali_script.proofs.Lists.{has_at, has_map}
 
 -- A RANDOM ADDRESS IS LOOKED FOR among the pairs, from the last one with its last bits on: those that come after are others.
@@ -57,31 +54,6 @@ place_of (x ∷ xs) r (inr has) = let k = place_of xs r has in (suc k.0, omega (
 
 pub searched_none : (xs : List Assignment) (r : ℕ) → Searched xs r 0 → HasRandom xs r → ⊥
 searched_none xs r s has = let k = place_of xs r has in s.others k.0 (omega arith) k.1 k.2
-
--- THE PAIRS BEFORE A PLACE as a list of their own
-front_random : (xs : List Assignment) (n i : ℕ) → i < n → random_at (take n xs) i ≡ random_at xs i
-front_random xs n i before = ap (λ p. p.1) (get_or-take n xs i (0, 0) before)
-
-front_last : (xs : List Assignment) (n m bits at : ℕ) → m ≤ n → IsLast xs m bits at → IsLast (take n xs) m bits at
-front_last xs n m bits at few l = record {
-  inside = l.inside;
-  there = λ i is. ap last_bits (front_random xs n i (omega (arith, is, l.inside))) ∙ l.there i is;
-  none_after = λ i from before same. l.none_after i from before (sym (ap last_bits (front_random xs n i (omega arith))) ∙ same);
-}
-
-front_length : (xs : List Assignment) (n : ℕ) → n < length xs → length (take n xs) ≡ n
-front_length xs n inside = length-take-le n xs (omega arith)
-
-pub last_of_front : (xs : List Assignment) (n bits at : ℕ) → n < length xs → IsLast xs n bits at → IsLast (take n xs) (length (take n xs)) bits at
-last_of_front xs n bits at inside l = subst (λ m. IsLast (take n xs) m bits at) (sym (front_length xs n inside)) (front_last xs n n bits at (omega arith) l)
-
-pub before_of_front : (xs : List Assignment) (n : ℕ) (befores : List ℕ) → n < length xs → AreBefore xs n befores
-    → AreBefore (take n xs) (length (take n xs)) befores
-before_of_front xs n befores inside b = subst (λ m. AreBefore (take n xs) m befores) (sym (front_length xs n inside)) (record {
-  all = b.all;
-  before = λ i less. subst (λ r. IsLast (take n xs) i (last_bits r) (get_or befores i 0)) (sym (front_random xs n i less))
-      (front_last xs n i (last_bits (random_at xs i)) (get_or befores i 0) (omega arith) (b.before i less));
-})
 
 -- ONE PAIR MORE
 last_none : (xs : List Assignment) (bits : ℕ) → IsLast xs 0 bits 0

@@ -1,14 +1,8 @@
-use Rattle.std.proofs.Common.{◌≡◌, ℕ, ◌<◌, Bool, true, false, refl, subst, arith, Option, Some, None, rules}
-use Rattle.std.specs.Prelude.{◌==◌, if◌then◌else◌}
+use Rattle.std.proofs.Common.{◌≡◌, ℕ, Bool, true, false, refl, subst, arith, Option, Some, None, rules, ◌==◌, if◌then◌else◌}
 use Rattle.std.proofs.lemmas.Bool.Decides.{nat_tests}
-use Rattle.dali_script.specs.declared.records.Record.{Record}
-use Rattle.dali_script.specs.declared.records.Record.TheVariants.{Reserve}
-use Rattle.dali_script.specs.declared.orders.End.{End}
-use Rattle.dali_script.specs.declared.orders.End.TheVariants.{AllFound}
-use Rattle.dali_script.specs.declared.orders.Fault.{Fault}
-use Rattle.dali_script.specs.declared.orders.Fault.TheVariants.{Conflict}
-use Rattle.dali_script.specs.Records.{address_of, random_of}
 use Rattle.dali_script.specs.Names.{record_code, record_by, IsRecordOf, end_code, end_by, fault_code, fault_by}
+use Rattle.dali_script.specs.{Records.address_of, Records.random_of, declared.orders.End.End, declared.orders.End.TheVariants.AllFound}
+use Rattle.dali_script.specs.declared.{orders.Fault.Fault, orders.Fault.TheVariants.Conflict, records.Record.Record, records.Record.TheVariants.Reserve}
 
 -- CODES ARE READ BACK.
 
@@ -38,11 +32,6 @@ pub record_back : (code a r : ℕ) (x : Record) → record_by code a r ≡ Some 
 record_back code a r x e =
     let all : Each (IsRecordOf code a r) (record_by code a r) = search (rules, each_tested, each_none) in
     all.each x e
-
--- a code fits a byte
-pub record_small : (x : Record) → record_code x < 256
-record_small (Reserve a r) = omega arith
-record_small _ = omega arith
 
 pub end_there : (e : End) → end_by (end_code e) ≡ Some e
 end_there AllFound = refl

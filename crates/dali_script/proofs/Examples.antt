@@ -1,14 +1,10 @@
 -- Worked examples of what may follow: block 4 to 7, with 4 reserved for the random address 0ABCDE; and a hunt.
 use Rattle.std.proofs.Common.{◌≡◌, inl, true, ℕ, List, [], ◌∷◌, refl, lit<, lit≤}
-use Rattle.dali_frame.specs.declared.frames.Answer.{Answer}
-use Rattle.dali_frame.specs.declared.frames.Answer.TheVariants.{Silence, Byte, Damaged}
-use Rattle.dali_special.specs.declared.command.Command.TheVariants.{SearchHigh, SearchLow, Compare}
+use Rattle.dali_frame.specs.declared.frames.Answer.{Answer, TheVariants.Silence, TheVariants.Byte, TheVariants.Damaged}
 use Rattle.dali_special.specs.Command.{command_of, frame}
-use Rattle.dali_script.specs.declared.block.Block.{Block}
-use Rattle.dali_script.specs.declared.trace.Entry.{Entry}
-use Rattle.dali_script.specs.Records.{Assignment}
-use Rattle.dali_script.specs.Scripts.{Look, Give, Hunt, Lawful}
-use Rattle.dali_script.specs.Stages.{stage_of, follows}
+use Rattle.dali_special.specs.declared.command.Command.TheVariants.{SearchHigh, SearchLow, Compare}
+use Rattle.dali_script.specs.{Records.Assignment, Scripts.Look, Scripts.Give, Scripts.Hunt, Scripts.Lawful, Stages.stage_of, Stages.follows}
+use Rattle.dali_script.specs.declared.{block.Block.Block, trace.Entry.Entry}
 use Rattle.dali_script.proofs.Transactions.{follows_lawful, follows_test}
 
 block : Block

@@ -1,21 +1,12 @@
-use Rattle.std.proofs.Common.{◌≡◌, ◌⊎◌, inl, inr, ℕ, Bool, true, false, List, [], ◌∷◌, refl, ap}
-use Rattle.std.specs.Prelude.{map}
+use Rattle.std.proofs.Common.{◌≡◌, ◌⊎◌, inl, inr, ℕ, Bool, true, false, List, [], ◌∷◌, refl, ap, map}
 use Rattle.dali_frame.specs.declared.frames.Forward.{Forward}
-use Rattle.dali_special.specs.declared.command.Part.TheVariants.{High}
-use Rattle.dali_special.specs.declared.command.Command.{Command}
-use Rattle.dali_special.specs.declared.command.Command.TheVariants.{Terminate, Compare, SearchHigh, SearchMiddle, SearchLow}
-use Rattle.dali_special.specs.declared.command.Command.TheVariants.{RandomByte, Arc}
-use Rattle.dali_special.specs.Command.{command_of, frame_of}
-use Rattle.dali_special.proofs.Table.{read_written}
-use Rattle.dali_script.specs.declared.block.Block.{Block}
-use Rattle.dali_script.specs.declared.trace.Entry.{Entry}
-use Rattle.dali_script.specs.declared.stage.Stage.{Stage}
-use Rattle.dali_script.specs.declared.stage.Stage.TheVariants.{Free, Initialised, Hunted}
-use Rattle.dali_script.specs.Records.{Assignment}
-use Rattle.dali_script.specs.Scripts.{Step, sends, Script, Open, Call, Draw, Probe, Hunt, Look, Give, PassOver, Resolve}
-use Rattle.dali_script.specs.Scripts.{AreAsking, Close, ArcPower, steps, MaySend, IsFront, Lawful, IsFirst}
-use Rattle.dali_script.specs.Stages.{IsHunting}
-use Rattle.dali_script.specs.Stages.{stage_of, Follows}
+use Rattle.dali_special.specs.{Command.command_of, Command.frame_of, declared.command.Command.Command}
+use Rattle.dali_special.specs.declared.command.Command.TheVariants.{Terminate, Compare, SearchHigh, SearchMiddle, SearchLow, RandomByte, Arc}
+use Rattle.dali_special.{specs.declared.command.Part.TheVariants.High, proofs.Table.read_written}
+use Rattle.dali_script.specs.{Records.Assignment, Scripts.Step, Scripts.sends, Scripts.Script}
+use Rattle.dali_script.specs.Scripts.{Open, Call, Draw, Probe, Hunt, Look, Give, PassOver, Resolve, AreAsking, Close, ArcPower, steps, MaySend, IsFront, Lawful}
+use Rattle.dali_script.specs.{Scripts.IsFirst, Stages.IsHunting, Stages.stage_of, Stages.Follows, declared.block.Block.Block, declared.stage.Stage.Stage}
+use Rattle.dali_script.specs.declared.{stage.Stage.TheVariants.Free, stage.Stage.TheVariants.Initialised, stage.Stage.TheVariants.Hunted, trace.Entry.Entry}
 use Rattle.dali_script.proofs.Transactions.{asks_hunting, follows_lawful, lawful_follows, stage_none, turn}
 
 -- WHICH FRAMES STAND FIRST.

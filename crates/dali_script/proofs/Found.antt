@@ -1,37 +1,24 @@
-use Rattle.std.proofs.Common.{◌≡◌, ℕ, Bool, true, false, List, [], ◌∷◌, ◌++◌, refl, sym, ap, subst, ◌∙◌, Option, Some, None}
-use Rattle.std.specs.Prelude.{◌<◌, ◌-◌, ◌==◌, if◌then◌else◌, option_map, unwrap_or}
-use Rattle.dali_frame.specs.declared.frames.Forward.{Forward}
-use Rattle.dali_frame.specs.declared.frames.Answer.{Answer}
+use Rattle.std.proofs.Common.{◌≡◌, ℕ, Bool, true, false, List, [], ◌∷◌, ◌++◌, refl, sym, ap, subst, ◌∙◌, Option, Some, None, ◌<◌, ◌-◌, ◌==◌, if◌then◌else◌}
+use Rattle.std.{proofs.Common.option_map, specs.Prelude.unwrap_or}
+use Rattle.dali_frame.specs.{Random.value_of, Short.short_of, declared.frames.Answer.Answer}
 use Rattle.dali_frame.specs.declared.frames.Answer.TheVariants.{Silence, Byte, Damaged}
-use Rattle.dali_frame.specs.declared.numbers.SearchAddress.{SearchAddress}
-use Rattle.dali_frame.specs.Short.{short_of}
-use Rattle.dali_frame.specs.Random.{value_of}
-use Rattle.dali_special.specs.declared.command.Target.TheVariants.{Unaddressed}
-use Rattle.dali_special.specs.declared.command.Part.TheVariants.{High, Middle, Low}
-use Rattle.dali_special.specs.declared.command.Command.{Command}
-use Rattle.dali_special.specs.declared.command.Command.TheVariants.{Terminate, Initialise, Randomise, Compare, Withdraw, SearchHigh, SearchMiddle, SearchLow}
-use Rattle.dali_special.specs.declared.command.Command.TheVariants.{Program, QueryShort, RandomByte, Arc}
+use Rattle.dali_frame.specs.declared.{frames.Forward.Forward, numbers.SearchAddress.SearchAddress}
 use Rattle.dali_special.specs.Command.{MASK, command_of, IsSpelled}
-use Rattle.dali_special.proofs.Table.{read_spelled}
-use Rattle.dali_script.specs.declared.block.Block.{Block}
-use Rattle.dali_script.specs.declared.trace.Entry.{Entry}
-use Rattle.dali_script.specs.declared.stage.Stage.{Stage}
-use Rattle.dali_script.specs.declared.stage.Stage.TheVariants.{Free, Terminated, InitialisedOnce, Initialised, RandomisedOnce, HighSent, MiddleSent, LowSent}
-use Rattle.dali_script.specs.declared.stage.Stage.TheVariants.{Hunted, NumberSent, WokenHigh, WokenLow, WokenMiddle, DrawFree}
-use Rattle.dali_script.specs.declared.stage.Stage.TheVariants.{Found, Unnamed, Inconclusive, Programmed, Confirmed, HighAsked, MiddleAsked, Spelled, Over}
-use Rattle.dali_script.specs.declared.finding.Finding.{Finding}
-use Rattle.dali_script.specs.declared.finding.Finding.TheVariants.{Queried, Resolved}
-use Rattle.dali_script.specs.Records.{Assignment}
-use Rattle.dali_script.specs.Scripts.{is_asking, Step, steps, IsFront, Lawful, IsLawful}
+use Rattle.dali_special.specs.declared.command.Command.{Command, TheVariants.Terminate, TheVariants.Initialise, TheVariants.Randomise, TheVariants.Compare}
+use Rattle.dali_special.specs.declared.command.Command.TheVariants.{Withdraw, SearchHigh, SearchMiddle, SearchLow, Program, QueryShort, RandomByte, Arc}
+use Rattle.dali_special.specs.declared.command.Part.TheVariants.{High, Middle, Low}
+use Rattle.dali_special.{specs.declared.command.Target.TheVariants.Unaddressed, proofs.Table.read_spelled}
 use Rattle.dali_script.specs.Findings.{search_after, at_power_on, search_from, search_of, Asked, nothing, asked_after, asked_from, asked_of, found_by, later}
-use Rattle.dali_script.specs.Findings.{finding_from, finding_of}
-use Rattle.dali_script.proofs.Transactions.{positive, asks_hunting, self, equal, middle_next, low_next, middle_same, low_same, Tracks, tracks, follows_lawful}
-use Rattle.dali_script.proofs.Transactions.{stage_none, stage_more}
-use Rattle.dali_script.proofs.Senders.{sent_more}
+use Rattle.dali_script.specs.{Findings.finding_from, Findings.finding_of, Records.Assignment}
+use Rattle.dali_script.specs.Scripts.{is_asking, Step, steps, IsFront, Lawful, IsLawful}
 use Rattle.dali_script.specs.Stages.{hunted, doubted, named, queried, answered, verified, byte_heard, bytes_heard, number_heard, next_stage, stage_from}
-use Rattle.dali_script.specs.Stages.{stage_of}
-use Rattle.dali_script.specs.Stages.{Follows}
-use Rattle.dali_script.specs.Stages.{finding_at, IsSearched, IsAsked, IsTrace}
+use Rattle.dali_script.specs.{Stages.stage_of, Stages.Follows, Stages.finding_at, Stages.IsSearched, Stages.IsAsked, Stages.IsTrace, declared.block.Block.Block}
+use Rattle.dali_script.specs.declared.{finding.Finding.Finding, finding.Finding.TheVariants.Queried, finding.Finding.TheVariants.Resolved, stage.Stage.Stage}
+use Rattle.dali_script.specs.declared.stage.Stage.TheVariants.{Free, Terminated, InitialisedOnce, Initialised, RandomisedOnce, HighSent, MiddleSent, LowSent}
+use Rattle.dali_script.specs.declared.stage.Stage.TheVariants.{Hunted, NumberSent, WokenHigh, WokenLow, WokenMiddle, DrawFree, Found, Unnamed, Inconclusive}
+use Rattle.dali_script.specs.declared.stage.Stage.TheVariants.{Programmed, Confirmed, HighAsked, MiddleAsked, Spelled, Over}
+use Rattle.dali_script.{specs.declared.trace.Entry.Entry, proofs.Senders.sent_more, proofs.Transactions.positive, proofs.Transactions.asks_hunting}
+use Rattle.dali_script.proofs.Transactions.{self, equal, middle_next, low_next, middle_same, low_same, Tracks, tracks, follows_lawful, stage_none, stage_more}
 
 -- What is kept beside the stage of a trace: the search address, what queries of a random address were heard as, and the
 -- finding. They grow by a frame, and the stage of a lawful trace says them.
@@ -48,9 +35,6 @@ asked_from_more q (x ∷ t) e = asked_from_more (asked_after (command_of x.frame
 
 pub asked_more : (t : List Entry) (e : Entry) → asked_of (t ++ e ∷ []) ≡ asked_after (command_of e.frame) e.heard (asked_of t)
 asked_more t e = asked_from_more nothing t e
-
-later_none : (o : Option Finding) → later o None ≡ o
-later_none o = refl
 
 none_later : (o : Option Finding) → later None o ≡ o
 none_later None = refl

@@ -1,14 +1,12 @@
 use Rattle.std.proofs.Common.{◌≡◌, ℕ, ◌+◌, ◌<◌, ◌≤◌, ◌⊎◌, inl, inr, Bool, true, false, Option, Some, None, List, [], ◌∷◌, ◌++◌, refl, sym, ap, subst, ◌∙◌}
-use Rattle.std.proofs.Common.{arith, length, map, get_or, ◌≢◌, replicate, take, drop, set, ◌-◌, length-set, take-take, get_or-set_same, get_or-set_other}
-use Rattle.std.specs.Prelude.{suc, ◌↔◌, IsSome, IfSome, MatchOption}
-use Rattle.std.proofs.lemmas.Bool.{cases_eq, cases_lt}
+use Rattle.std.proofs.Common.{arith, length, map, get_or, ◌≢◌, replicate, take, drop, set, ◌-◌, length-set, take-take, get_or-set_same, get_or-set_other, suc}
+use Rattle.std.proofs.Common.{◌↔◌, IsSome, IfSome, MatchOption}
+use Rattle.std.proofs.{Math.Seq.paste, lemmas.Bool.cases_eq, lemmas.Bool.cases_lt, lemmas.List.take_more, lemmas.List.get_or-replicate}
+use Rattle.std.proofs.lemmas.List.{length-replicate, get_or_past, get_or-drop, drop-take, length-drop, Edits.take-paste, Edits.drop-paste, Edits.length-paste}
 use Rattle.std.specs.List.{remove}
-use Rattle.std.proofs.Math.Seq.{paste}
-use Rattle.std.proofs.lemmas.List.{take_more, get_or-replicate, length-replicate, get_or_past, get_or-drop, drop-take, length-drop}
-use Rattle.std.proofs.lemmas.List.Edits.{take-paste, drop-paste, length-paste}
 use Rattle.dali_frame.specs.Random.{MASK24}
-use Rattle.dali_script.specs.declared.block.Block.{Block}
 use Rattle.dali_script.specs.Records.{Assignment, Has, HasAddress, HasRandom, InBlock, Marks, IsFresh, AreEnrolled}
+use Rattle.dali_script.specs.declared.block.Block.{Block}
 use Rattle.dali_script.proofs.Lists.{has_map, next_there, next_fresh, map_none, map_more, all_more}
 
 -- THE PAIR AT A PLACE

@@ -1,13 +1,9 @@
 use Rattle.std.proofs.Common.{◌≡◌, ℕ, ◌<◌, ◌≤◌, ◌⊎◌, inl, inr, Bool, true, false, List, [], ◌∷◌, refl, sym, ap, subst, ◌∙◌, arith, nat_lt, Option, Some, None}
-use Rattle.std.specs.Prelude.{◌==◌, ◌||◌, ◌&&◌, MatchOption, is_some}
-use Rattle.std.specs.List.{list_any}
-use Rattle.std.proofs.lemmas.Bool.Decides.{nat_tests}
-use Rattle.dali_frame.specs.declared.numbers.SearchAddress.{SearchAddress}
-use Rattle.dali_frame.specs.Random.{value_of, MASK24}
-use Rattle.dali_script.specs.declared.block.Block.{Block}
+use Rattle.std.proofs.Common.{◌==◌, ◌||◌, ◌&&◌, MatchOption, is_some}
+use Rattle.std.{proofs.lemmas.Bool.Decides.nat_tests, specs.List.list_any}
+use Rattle.dali_frame.specs.{Random.value_of, Random.MASK24, declared.numbers.SearchAddress.SearchAddress}
 use Rattle.dali_script.specs.Records.{Assignment, Has, IsOnce, randoms, HasAddress, HasRandom, InBlock, IsMap, AllDrawn}
-use Rattle.dali_script.specs.Scripts.{MayGive}
-use Rattle.dali_script.specs.Stages.{in_block, may_give, may_give_some}
+use Rattle.dali_script.specs.{Scripts.MayGive, Stages.in_block, Stages.may_give, Stages.may_give_some, declared.block.Block.Block}
 use Rattle.dali_script.proofs.Lists.{has_map}
 
 both : (a b : Bool) → a ≡ true → b ≡ true → (a && b) ≡ true

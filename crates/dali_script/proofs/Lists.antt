@@ -1,17 +1,13 @@
 use Rattle.std.proofs.Common.{◌≡◌, ℕ, ◌+◌, ◌<◌, ◌≤◌, ◌⊎◌, inl, inr, Bool, true, false, Option, Some, None, List, [], ◌∷◌, ◌++◌, refl, sym, ap, subst, ◌∙◌}
 use Rattle.std.proofs.Common.{arith, length, length-append, map, get_or, nat_eq, Decides, Result, Ok, Err, ◌≢◌, replicate, take, drop, set, length-set}
-use Rattle.std.proofs.Common.{get_or-set_same, get_or-set_other}
-use Rattle.std.specs.Prelude.{◌==◌, ◌&&◌, not, cond, ◌↔◌, MatchOption, OnOk, OnErr, if◌then◌else◌, zero, suc}
+use Rattle.std.proofs.Common.{get_or-set_same, get_or-set_other, ◌==◌, ◌&&◌, not, cond, ◌↔◌, MatchOption, OnOk, OnErr, if◌then◌else◌, zero, suc}
+use Rattle.std.proofs.lemmas.{Bool.cases_eq, Bool.Decides.nat_tests, List.drop_more, List.at_drop_all, List.get_or-replicate}
 use Rattle.std.specs.Option.{is_some}
-use Rattle.std.proofs.lemmas.Bool.{cases_eq}
-use Rattle.std.proofs.lemmas.Bool.Decides.{nat_tests}
-use Rattle.std.proofs.lemmas.List.{drop_more, at_drop_all, get_or-replicate}
 use Rattle.dali_frame.specs.Random.{MASK24}
-use Rattle.dali_script.specs.declared.block.Block.{Block}
-use Rattle.dali_script.specs.declared.records.Record.{Record}
-use Rattle.dali_script.specs.declared.records.Record.TheVariants.{Reserve, Enrol, Release}
 use Rattle.dali_script.specs.Records.{Kept, IsKept, without_records, Fits, MayAdd, address_of, with_record, Assignment, Has, IsOnce, addresses, randoms}
 use Rattle.dali_script.specs.Records.{HasAddress, HasRandom, InBlock, IsMap, Marks, is_pair, without_pair, IsFresh, Shows, TakesAway}
+use Rattle.dali_script.specs.declared.{block.Block.Block, records.Record.Record}
+use Rattle.dali_script.specs.declared.records.Record.TheVariants.{Reserve, Enrol, Release}
 
 -- membership and an append
 pub has_last : {A : Type 0} (xs : List A) (x : A) → Has (xs ++ x ∷ []) x
@@ -198,15 +194,6 @@ without_has x (z ∷ xs) y h = go (is_pair x z) h (without_has x xs y) where
   go false (inl e) rest = inl e
   go false (inr k) rest = inr (rest k)
 
-pub without_other : (x : Assignment) (xs : List Assignment) (y : Assignment) → Has xs y → (y ≡ x → ⊥) → Has (without_pair x xs) y
-without_other x [] y h other = h
-without_other x (z ∷ xs) y h other = go (is_pair x z) refl h (λ k. without_other x xs y k other) where
-  go : (b : Bool) → is_pair x z ≡ b → Has (z ∷ xs) y → (Has xs y → Has (without_pair x xs) y) → Has (cond (not b) (z ∷ without_pair x xs) (without_pair x xs)) y
-  go true is (inl e) rest = absurd (other (sym e ∙ (pairs_decide z x).0 is))
-  go true is (inr k) rest = rest k
-  go false is (inl e) rest = inl e
-  go false is (inr k) rest = inr (rest k)
-
 pub without_none : (x : Assignment) (xs : List Assignment) → (Has xs x → ⊥) → without_pair x xs ≡ xs
 without_none x [] none = refl
 without_none x (z ∷ xs) none = go (is_pair x z) refl (without_none x xs (λ h. none (inr h))) where
@@ -318,13 +305,6 @@ reserved_by k (Reserve a r) p has = go (has_cases k.reserved (a, r) p has) where
   go (inr same) = inr (ap (λ (q : Assignment). Reserve q.0 q.1) same)
 reserved_by k (Release a r) p has = inl (without_has (a, r) k.reserved p has)
 reserved_by k _ p has = inl has
-
--- each address stays reserved once
-pub once_by : (k : Kept) (x : Record) → IsOnce (addresses k.reserved) → ((a r : ℕ) → x ≡ Reserve a r → HasAddress k.reserved a → ⊥)
-    → IsOnce (addresses (with_record k x).reserved)
-once_by k (Reserve a r) once fresh = subst IsOnce (sym (map_append (λ p. p.0) k.reserved (a, r))) (once_more (addresses k.reserved) a once (fresh a r refl))
-once_by k (Release a r) once fresh = once_left (λ p. p.0) (a, r) k.reserved once
-once_by k _ once fresh = once
 
 pub enrolled_by : (k : Kept) (x : Record) (p : Assignment) → Has (with_record k x).enrolled p → Has k.enrolled p ⊎ (x ≡ Enrol p.0 p.1)
 enrolled_by k (Enrol a r) p has = go (has_cases k.enrolled (a, r) p has) where

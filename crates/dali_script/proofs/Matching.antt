@@ -1,16 +1,11 @@
-use Rattle.std.proofs.Common.{◌≡◌, ◌≢◌, ℕ, ◌+◌, ◌<◌, ◌≤◌, ◌⊎◌, inl, inr, Bool, true, false, List, ◌∷◌, refl, sym, ap, subst, ◌∙◌}
-use Rattle.std.proofs.Common.{length, get_or, set, length-set, get_or-set_same, get_or-set_other, replicate, drop}
-use Rattle.std.proofs.lemmas.Bool.{cases_eq}
-use Rattle.std.proofs.lemmas.List.{drop_more, at_drop_all}
-use Rattle.dali_script.specs.Records.{Assignment, Has, HasRandom, MayBeUnmatched}
+use Rattle.std.proofs.Common.{◌≡◌, ◌≢◌, ℕ, ◌+◌, ◌<◌, ◌⊎◌, inl, inr, Bool, true, false, List, ◌∷◌, sym, ap, subst, ◌∙◌, length, get_or, set, length-set}
+use Rattle.std.proofs.{Common.get_or-set_same, Common.get_or-set_other, Common.drop, lemmas.Bool.cases_eq, lemmas.List.drop_more}
+use Rattle.dali_script.specs.Records.{Assignment, Has, HasRandom}
 
 -- WHICH PAIRS MAY BE UNMATCHED, while these are still to be looked at.
 pub record Matching (xs rest ys : List Assignment) (marks : List Bool) : Type 0 where
   pub all : length marks ≡ 64
   pub told : (a r : ℕ) → Has xs (a, r) → (get_or marks a false ≡ true) ⊎ (HasRandom ys r ⊎ Has rest (a, r))
-
-pub matching_none : (xs ys : List Assignment) → Matching xs xs ys (replicate 64 false)
-matching_none xs ys = record { all = refl; told = λ a r h. inr (inr h) }
 
 -- the next pair is matched
 pub matching_one : (xs ys : List Assignment) (i : ℕ) (p : Assignment) (marks : List Bool) → i < length xs → p ≡ get_or xs i p → HasRandom ys p.1
@@ -46,10 +41,3 @@ matching_marked xs ys i p marks inside is small m = record {
   go a r (inr not_it) (inl marked) = inl (get_or-set_other marks p.0 a true false not_it ∙ marked)
   go a r (inr not_it) (inr (inl found)) = inr (inl found)
   go a r (inr not_it) (inr (inr later)) = inr (inr (this a r not_it (subst (λ zs. Has zs (a, r)) (drop_more xs i p inside) later)))
-
-pub matching_all : (xs ys : List Assignment) (i : ℕ) (marks : List Bool) → length xs ≤ i → Matching xs (drop i xs) ys marks → MayBeUnmatched xs ys marks
-matching_all xs ys i marks past m = record { all = m.all; matched = λ a r h unmarked. go a r unmarked (m.told a r h) } where
-  go : (a r : ℕ) → get_or marks a false ≡ false → (get_or marks a false ≡ true) ⊎ (HasRandom ys r ⊎ Has (drop i xs) (a, r)) → HasRandom ys r
-  go a r unmarked (inl marked) = absurd (let no : false ≡ true = sym unmarked ∙ marked in cc)
-  go a r unmarked (inr (inl found)) = found
-  go a r unmarked (inr (inr later)) = absurd (subst (λ zs. Has zs (a, r)) (at_drop_all (λ zs. zs) xs i past) later)

@@ -1,9 +1,7 @@
 use Rattle.std.proofs.Common.{◌≡◌, ℕ, ◌<◌, ◌⊎◌, inl, inr, Bool, true, false, List, [], ◌∷◌, ◌++◌, refl, sym, ap, subst, ◌∙◌, arith, length, length-set, map}
 use Rattle.std.proofs.Common.{get_or, set, get_or-set_same, get_or-set_other, nat_eq}
-use Rattle.std.proofs.lemmas.List.{get_or-map, length-map}
-use Rattle.std.proofs.lemmas.Bool.Decides.{nat_tests}
-use Rattle.dali_script.specs.Records.{Has, IsOnce}
-use Rattle.dali_script.proofs.Lists.{has_map}
+use Rattle.std.proofs.lemmas.{Bool.Decides.nat_tests, List.get_or-map, List.length-map}
+use Rattle.dali_script.{specs.Records.Has, specs.Records.IsOnce, proofs.Lists.has_map}
 
 -- MEMBERS OF A LIST
 pub has_left : {A : Type 0} (xs ys : List A) (x : A) → Has xs x → Has (xs ++ ys) x

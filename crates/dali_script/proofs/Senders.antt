@@ -1,31 +1,20 @@
-use Rattle.std.proofs.Common.{◌≡◌, ℕ, ◌+◌, ◌<◌, ◌≤◌, ◌∙◌, Bool, true, false, Option, Some, None, List, [], ◌∷◌, ◌++◌, refl, sym, subst, arith}
-use Rattle.std.proofs.Common.{length, length-append, append-nil}
-use Rattle.std.proofs.Common.{get_or, take, inl}
-use Rattle.std.specs.Prelude.{zero, suc, IfSome, nat_lt, is_some, ◌==◌, ◌&&◌, ◌-◌, if◌then◌else◌}
-use mathlib.Core.List.{append_assoc}
+use Rattle.std.proofs.Common.{◌≡◌, ℕ, ◌+◌, ◌<◌, ◌≤◌, ◌∙◌, Bool, true, false, Option, Some, None, List, [], ◌∷◌, ◌++◌, refl, sym, subst, arith, length}
+use Rattle.std.proofs.Common.{length-append, append-nil, get_or, take, inl, zero, suc, IfSome, nat_lt, is_some, ◌==◌, ◌&&◌, ◌-◌, if◌then◌else◌}
 use Rattle.std.proofs.lemmas.Bool.Decides.{nat_tests}
-use Rattle.dali_frame.specs.declared.frames.Forward.{Forward}
-use Rattle.dali_frame.specs.declared.numbers.SearchAddress.{SearchAddress}
+use mathlib.Core.List.{append_assoc}
 use Rattle.dali_frame.specs.Random.{value_of, MASK24}
-use Rattle.dali_frame.specs.declared.frames.Answer.{Answer}
-use Rattle.dali_frame.specs.declared.frames.Answer.TheVariants.{Silence}
-use Rattle.dali_special.specs.declared.command.Command.{Command}
-use Rattle.dali_special.specs.declared.command.Command.TheVariants.{Arc, Compare, Initialise, Program, QueryShort, RandomByte, Randomise}
-use Rattle.dali_special.specs.declared.command.Command.TheVariants.{SearchHigh, SearchLow, SearchMiddle, Terminate, Withdraw}
-use Rattle.dali_special.specs.declared.command.Part.TheVariants.{High, Middle, Low}
-use Rattle.dali_special.specs.declared.command.Target.TheVariants.{Unaddressed}
-use Rattle.dali_special.specs.Command.{command_of}
-use Rattle.dali_script.specs.declared.block.Block.{Block}
-use Rattle.dali_script.specs.declared.trace.Entry.{Entry}
-use Rattle.dali_script.specs.declared.stage.Stage.{Stage}
-use Rattle.dali_script.specs.declared.stage.Stage.TheVariants.{Confirmed, DrawFree, Found, Free, HighAsked, HighSent, Hunted, Initialised}
-use Rattle.dali_script.specs.declared.stage.Stage.TheVariants.{InitialisedOnce, LowSent, MiddleAsked, MiddleSent, NumberSent, Programmed}
-use Rattle.dali_script.specs.declared.stage.Stage.TheVariants.{RandomisedOnce, Spelled, Terminated, Unnamed, WokenHigh, WokenLow, WokenMiddle}
-use Rattle.dali_script.specs.Records.{Assignment}
-use Rattle.dali_script.specs.Scripts.{MayGive, IsLawful, AreSent, IsTransaction}
+use Rattle.dali_frame.specs.declared.{frames.Answer.Answer, frames.Answer.TheVariants.Silence, frames.Forward.Forward, numbers.SearchAddress.SearchAddress}
+use Rattle.dali_special.specs.{Command.command_of, declared.command.Command.Command}
+use Rattle.dali_special.specs.declared.command.Command.TheVariants.{Arc, Compare, Initialise, Program, QueryShort, RandomByte, Randomise, SearchHigh, SearchLow}
+use Rattle.dali_special.specs.declared.command.Command.TheVariants.{SearchMiddle, Terminate, Withdraw}
+use Rattle.dali_special.specs.declared.command.{Part.TheVariants.High, Part.TheVariants.Middle, Part.TheVariants.Low, Target.TheVariants.Unaddressed}
+use Rattle.dali_script.specs.{Records.Assignment, Scripts.MayGive, Scripts.IsLawful, Scripts.AreSent, Scripts.IsTransaction}
 use Rattle.dali_script.specs.Stages.{leads, given, hunted, bytes_heard, number_heard, is_drawn_if, may_come, stage_of, Follows}
-use Rattle.dali_script.proofs.Giving.{first_of_both, second_of_both}
-use Rattle.dali_script.proofs.Transactions.{follows_lawful, lawful_follows, room}
+use Rattle.dali_script.specs.declared.{block.Block.Block, stage.Stage.Stage, stage.Stage.TheVariants.Confirmed, stage.Stage.TheVariants.DrawFree}
+use Rattle.dali_script.specs.declared.stage.Stage.TheVariants.{Found, Free, HighAsked, HighSent, Hunted, Initialised, InitialisedOnce, LowSent, MiddleAsked}
+use Rattle.dali_script.specs.declared.stage.Stage.TheVariants.{MiddleSent, NumberSent, Programmed, RandomisedOnce, Spelled, Terminated, Unnamed, WokenHigh}
+use Rattle.dali_script.specs.declared.{stage.Stage.TheVariants.WokenLow, stage.Stage.TheVariants.WokenMiddle, trace.Entry.Entry}
+use Rattle.dali_script.proofs.{Giving.first_of_both, Giving.second_of_both, Transactions.follows_lawful, Transactions.lawful_follows, Transactions.room}
 
 -- SOME SENDER may send a command: one that has reserved what is given, in a block of that one address.
 drawn_by : (b : Block) (xs : List Assignment) (o : Option (SearchAddress × ℕ)) → IfSome o (λ g. MayGive b xs g.0 g.1) → is_drawn_if o ≡ true

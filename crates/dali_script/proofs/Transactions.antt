@@ -1,41 +1,27 @@
 use Rattle.std.proofs.Common.{◌≡◌, ◌⊎◌, inl, inr, ℕ, ◌<◌, ◌≤◌, Bool, true, false, List, [], ◌∷◌, ◌++◌, refl, sym, ap, subst, ◌∙◌, arith, length, lit<, lit≤}
-use Rattle.std.proofs.Common.{Option, Some, None}
-use Rattle.std.specs.Prelude.{◌==◌, ◌-◌, if◌then◌else◌, not, map, unwrap_or, is_some, IfSome}
-use Rattle.std.proofs.lemmas.Bool.Decides.{nat_tests}
-use Rattle.std.proofs.lemmas.List.{length-map}
-use Rattle.dali_frame.specs.declared.frames.Forward.{Forward}
-use Rattle.dali_frame.specs.declared.frames.Answer.{Answer}
+use Rattle.std.proofs.Common.{Option, Some, None, ◌==◌, ◌-◌, if◌then◌else◌, not, map, is_some, IfSome}
+use Rattle.std.{proofs.lemmas.Bool.Decides.nat_tests, proofs.lemmas.List.length-map, specs.Prelude.unwrap_or}
+use Rattle.dali_frame.specs.{Random.value_of, Short.code_of, Short.short_of, declared.frames.Answer.Answer}
 use Rattle.dali_frame.specs.declared.frames.Answer.TheVariants.{Silence, Byte, Damaged}
-use Rattle.dali_frame.specs.declared.numbers.SearchAddress.{SearchAddress}
-use Rattle.dali_frame.specs.Short.{code_of, short_of}
-use Rattle.dali_frame.specs.Random.{value_of}
-use Rattle.dali_special.specs.declared.command.Target.TheVariants.{Unaddressed}
-use Rattle.dali_special.specs.declared.command.Target.{Target}
-use Rattle.dali_special.specs.declared.command.Part.TheVariants.{High, Middle, Low}
-use Rattle.dali_special.specs.declared.command.Command.{Command}
-use Rattle.dali_special.specs.declared.command.Command.TheVariants.{Terminate, Initialise, Randomise, Compare, Withdraw, SearchHigh, SearchMiddle, SearchLow}
-use Rattle.dali_special.specs.declared.command.Command.TheVariants.{Program, QueryShort, RandomByte, Arc}
+use Rattle.dali_frame.specs.declared.{frames.Forward.Forward, numbers.SearchAddress.SearchAddress}
 use Rattle.dali_special.specs.Command.{MASK, command_of, frame_of, IsSpelled}
+use Rattle.dali_special.specs.declared.command.Command.{Command, TheVariants.Terminate, TheVariants.Initialise, TheVariants.Randomise, TheVariants.Compare}
+use Rattle.dali_special.specs.declared.command.Command.TheVariants.{Withdraw, SearchHigh, SearchMiddle, SearchLow, Program, QueryShort, RandomByte, Arc}
+use Rattle.dali_special.specs.declared.command.Part.TheVariants.{High, Middle, Low}
+use Rattle.dali_special.specs.declared.command.Target.{Target, TheVariants.Unaddressed}
 use Rattle.dali_special.proofs.Table.{code_of_short, short_of_code, short_small, read_spelled, read_written}
-use Rattle.dali_script.specs.declared.block.Block.{Block}
-use Rattle.dali_script.specs.declared.trace.Entry.{Entry}
-use Rattle.dali_script.specs.declared.stage.Stage.{Stage}
-use Rattle.dali_script.specs.declared.stage.Stage.TheVariants.{Free, Terminated, InitialisedOnce, Initialised, RandomisedOnce, Opened, HighSent, MiddleSent}
-use Rattle.dali_script.specs.declared.stage.Stage.TheVariants.{LowSent, Hunted}
-use Rattle.dali_script.specs.declared.stage.Stage.TheVariants.{WokenHigh, WokenLow, WokenMiddle, DrawFree}
-use Rattle.dali_script.specs.declared.stage.Stage.TheVariants.{NumberSent, Probed, Found, Unnamed, Unanswered, Inconclusive, Programmed, Confirmed}
-use Rattle.dali_script.specs.declared.stage.Stage.TheVariants.{HighAsked, MiddleAsked, Spelled, Over}
 use Rattle.dali_script.specs.Records.{Assignment, HasAddress}
 use Rattle.dali_script.specs.Scripts.{nobody, no_address, some_address, address, IsHeard, Step, sends, queries, search_at, Script, Open, Call, Draw, Probe}
-use Rattle.dali_script.specs.Scripts.{Hunt, Look, Give, PassOver, Resolve, woken, drawing, hunts, CALLING}
-use Rattle.dali_script.specs.Scripts.{is_asking, AreAsking, ASKING, Close, ArcPower, steps, MayGive, MaySend, IsFront, Lawful, IsComplete, IsFrame}
-use Rattle.dali_script.specs.Scripts.{GoesOn}
-use Rattle.dali_script.proofs.Lists.{has_map}
-use Rattle.dali_script.proofs.Giving.{first_of_both, second_of_both, may_give_by, may_give_from, may_give_some_by, may_give_some_from}
+use Rattle.dali_script.specs.Scripts.{Hunt, Look, Give, PassOver, Resolve, woken, drawing, hunts, CALLING, is_asking, AreAsking, ASKING, Close, ArcPower, steps}
+use Rattle.dali_script.specs.Scripts.{MayGive, MaySend, IsFront, Lawful, IsComplete, IsFrame, GoesOn}
 use Rattle.dali_script.specs.Stages.{leads, hunted, IsHunting, IsBeforeDraw, IsDoubting, given, may_give_if, follows, may_follow, doubted, named, queried}
-use Rattle.dali_script.specs.Stages.{answered, verified, byte_heard}
-use Rattle.dali_script.specs.Stages.{bytes_heard, number_heard}
-use Rattle.dali_script.specs.Stages.{next_stage, stage_from, stage_of, Follows}
+use Rattle.dali_script.specs.Stages.{answered, verified, byte_heard, bytes_heard, number_heard, next_stage, stage_from, stage_of, Follows}
+use Rattle.dali_script.specs.declared.{block.Block.Block, stage.Stage.Stage}
+use Rattle.dali_script.specs.declared.stage.Stage.TheVariants.{Free, Terminated, InitialisedOnce, Initialised, RandomisedOnce, Opened, HighSent, MiddleSent}
+use Rattle.dali_script.specs.declared.stage.Stage.TheVariants.{LowSent, Hunted, WokenHigh, WokenLow, WokenMiddle, DrawFree, NumberSent, Probed, Found, Unnamed}
+use Rattle.dali_script.specs.declared.stage.Stage.TheVariants.{Unanswered, Inconclusive, Programmed, Confirmed, HighAsked, MiddleAsked, Spelled, Over}
+use Rattle.dali_script.{specs.declared.trace.Entry.Entry, proofs.Giving.first_of_both, proofs.Giving.second_of_both}
+use Rattle.dali_script.proofs.{Giving.may_give_by, Giving.may_give_from, Giving.may_give_some_by, Giving.may_give_some_from, Lists.has_map}
 
 pub turn : {b : Block} {xs : List Assignment} {s : Stage} {c : Command} → is_some (leads s c Silence) ≡ true → given s c ≡ None → Follows b xs s c
 turn {b} {xs} {s} {c} on none = record { leads_on = on; may = rw none tt }

@@ -1,7 +1,5 @@
-use Rattle.std.proofs.Common.{◌≡◌, ◌<◌, take, length, get_or, sym, ap, subst, ◌∙◌, arith}
-use Rattle.std.specs.Prelude.{IsTrue}
-use Rattle.dali_script.specs.Records.{HasRandom, IsFresh}
-use Rattle.dali_script.specs.Pairs.{random_at, last_bits, IsLast}
+use Rattle.std.proofs.Common.{◌≡◌, ◌<◌, take, length, get_or, sym, ap, subst, ◌∙◌, arith, IsTrue}
+use Rattle.dali_script.specs.{Pairs.random_at, Pairs.last_bits, Pairs.IsLast, Records.HasRandom, Records.IsFresh}
 use Rattle.dali_script.proofs.Befores.{random_here, before_none, are_last_none, before_more, last_more}
 use Rattle.dali_script.proofs.Fronts.{enrolled_none, enrolled_more, next_enrolled, marks_none, marks_more, unmarked}
 use Rattle.dali_script.proofs.checks.are_enrolled.Goals.{then-not-is_free-via-then-not-is_free, then-not-is_free-via-else-not-is_free+then-is_among}

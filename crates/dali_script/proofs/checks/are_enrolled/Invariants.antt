@@ -1,6 +1,5 @@
 use Rattle.std.proofs.Common.{take}
-use Rattle.dali_script.specs.Records.{AreEnrolled, Marks}
-use Rattle.dali_script.specs.Pairs.{AreBefore, AreLast}
+use Rattle.dali_script.specs.{Pairs.AreBefore, Pairs.AreLast, Records.AreEnrolled, Records.Marks}
 use Rattle.dali_script.proofs.checks.are_enrolled.Given as goal
 
 -- those that were looked at

@@ -1,8 +1,7 @@
 use Rattle.std.proofs.Common.{◌≤◌, arith}
-use Rattle.dali_script.specs.Records.{InBlock}
-use Rattle.dali_script.proofs.Fronts.{address_at, within_more}
-use Rattle.dali_script.proofs.checks.are_within.Goals as goal
+use Rattle.dali_script.{specs.Records.InBlock, proofs.Fronts.address_at, proofs.Fronts.within_more}
 use Rattle.dali_script.proofs.checks.are_within.Goals.{then-address-first-via-then-address-first, then-address-first-via-else-address-first+then-last-address}
+use Rattle.dali_script.proofs.checks.are_within.Goals as goal
 
 pub returns-then-address-first : goal.returns-then-address-first
 returns-then-address-first c = (

@@ -1,5 +1,4 @@
-use Rattle.dali_script.proofs.Lists.{kept_none, kept_more}
-use Rattle.dali_script.proofs.Giving.{one_address}
+use Rattle.dali_script.proofs.{Giving.one_address, Lists.kept_none, Lists.kept_more}
 use Rattle.dali_script.proofs.laws.records_stay_kept.Goals as goal
 
 pub returns : goal.returns

@@ -1,6 +1,5 @@
+use Rattle.dali_script.proofs.{Firsts.free_is_empty, Found.searched_more, Found.asked_more, Found.finding_more}
 use Rattle.dali_script.proofs.Transactions.{stage_none, stage_more}
-use Rattle.dali_script.proofs.Firsts.{free_is_empty}
-use Rattle.dali_script.proofs.Found.{searched_more, asked_more, finding_more}
 use Rattle.dali_script.proofs.laws.traces_grow_by_a_frame.Goals as goal
 
 pub returns : goal.returns

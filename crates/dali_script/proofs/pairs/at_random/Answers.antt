@@ -1,6 +1,5 @@
 use Rattle.std.proofs.Common.{◌≡◌, ◌<◌, ◌∙◌, length, arith}
-use Rattle.dali_script.proofs.Lists.{pair_here}
-use Rattle.dali_script.proofs.Fronts.{address_at, short_found}
+use Rattle.dali_script.proofs.{Fronts.address_at, Fronts.short_found, Lists.pair_here}
 use Rattle.dali_script.proofs.pairs.at_random.Goals as goal
 
 pub returns-then-shares_random : goal.returns-then-shares_random

@@ -1,6 +1,5 @@
 use Rattle.std.proofs.Common.{◌<◌, length, arith}
-use Rattle.dali_script.proofs.Lists.{marking_none, marking_more, marking_all}
-use Rattle.dali_script.proofs.Fronts.{address_at}
+use Rattle.dali_script.proofs.{Fronts.address_at, Lists.marking_none, Lists.marking_more, Lists.marking_all}
 use Rattle.dali_script.proofs.pairs.marks.Goals as goal
 
 pub bounds-marks-from : goal.bounds-marks-from

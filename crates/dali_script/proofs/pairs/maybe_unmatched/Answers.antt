@@ -1,8 +1,7 @@
 use Rattle.std.proofs.Common.{◌<◌, length, arith}
-use Rattle.dali_script.proofs.Fronts.{address_at}
-use Rattle.dali_script.proofs.Matching.{matching_one, matching_marked}
-use Rattle.dali_script.proofs.pairs.maybe_unmatched.Goals as goal
+use Rattle.dali_script.proofs.{Fronts.address_at, Matching.matching_one, Matching.matching_marked}
 use Rattle.dali_script.proofs.pairs.maybe_unmatched.Goals.{then-not-shares_random_at, else-not-shares_random_at}
+use Rattle.dali_script.proofs.pairs.maybe_unmatched.Goals as goal
 
 pub bounds-places-address : goal.bounds-places-address
 bounds-places-address c =

@@ -1,6 +1,5 @@
 use Rattle.std.proofs.Common.{refl}
-use Rattle.dali_script.specs.Records.{Has}
-use Rattle.dali_script.proofs.Lists.{has_place}
+use Rattle.dali_script.{specs.Records.Has, proofs.Lists.has_place}
 use Rattle.dali_script.proofs.pairs.not_there.Goals as goal
 
 there : (c : goal.In-Some) → Has c.args.pairs.now (c.args.address, c.args.random)

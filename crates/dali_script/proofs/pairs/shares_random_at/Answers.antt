@@ -1,6 +1,5 @@
 use Rattle.std.proofs.Common.{◌<◌, length, subst}
-use Rattle.dali_script.specs.Records.{HasRandom}
-use Rattle.dali_script.proofs.Lists.{has_map, next_there}
+use Rattle.dali_script.{specs.Records.HasRandom, proofs.Lists.has_map, proofs.Lists.next_there}
 use Rattle.dali_script.proofs.pairs.shares_random_at.Goals as goal
 
 pub returns-then-place-pairs : goal.returns-then-place-pairs

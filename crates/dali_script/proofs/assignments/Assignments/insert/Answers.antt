@@ -1,7 +1,5 @@
-use Rattle.std.proofs.Common.{◌≡◌, ◌+◌, ◌∷◌, [], ap, sym, ◌∙◌, arith, length, length-append, true, false}
-use Rattle.std.specs.Prelude.{◌<◌}
-use Rattle.dali_script.specs.Records.{IsMap, HasAddress, HasRandom}
-use Rattle.dali_script.specs.Pairs.{pairs_in}
+use Rattle.std.proofs.Common.{◌≡◌, ◌+◌, ◌∷◌, [], ap, sym, ◌∙◌, arith, length, length-append, true, false, ◌<◌}
+use Rattle.dali_script.specs.{Pairs.pairs_in, Records.IsMap, Records.HasAddress, Records.HasRandom}
 use Rattle.dali_script.proofs.Lists.{map_more, room_more}
 use Rattle.dali_script.proofs.assignments.Assignments.insert.Goals as goal
 

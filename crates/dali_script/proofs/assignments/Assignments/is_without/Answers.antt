@@ -1,6 +1,5 @@
 use Rattle.std.proofs.Common.{◌≡◌, ◌+◌, ◌++◌, arith, suc}
-use Rattle.dali_script.specs.Records.{Assignment, without_pair}
-use Rattle.dali_script.proofs.Lists.{without_none, without_place}
+use Rattle.dali_script.{specs.Records.Assignment, specs.Records.without_pair, proofs.Lists.without_none, proofs.Lists.without_place}
 use Rattle.dali_script.proofs.assignments.Assignments.is_without.Goals as goal
 
 pub returns-in-Some : goal.returns-in-Some

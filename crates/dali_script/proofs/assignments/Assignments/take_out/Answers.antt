@@ -1,8 +1,6 @@
 use Rattle.std.proofs.Common.{◌≡◌, ◌∙◌, ◌+◌, ap, arith, length, refl}
-use Rattle.std.specs.List.{remove}
-use Rattle.std.proofs.lemmas.List.Edits.{length-remove}
-use Rattle.dali_script.specs.Records.{IsMap, Assignment, without_pair}
-use Rattle.dali_script.specs.Pairs.{pairs_in}
+use Rattle.std.{proofs.lemmas.List.Edits.length-remove, specs.List.remove}
+use Rattle.dali_script.specs.{Pairs.pairs_in, Records.IsMap, Records.Assignment, Records.without_pair}
 use Rattle.dali_script.proofs.Lists.{has_place, map_left, without_place}
 use Rattle.dali_script.proofs.assignments.Assignments.take_out.Goals as goal
 

@@ -1,7 +1,6 @@
 use Rattle.std.proofs.Common.{◌<◌, ℕ, subst, sym}
 use Rattle.dali_frame.specs.Random.{MASK24}
-use Rattle.dali_script.specs.Records.{InBlock, HasAddress}
-use Rattle.dali_script.proofs.Lists.{all_after, all_left}
+use Rattle.dali_script.{specs.Records.InBlock, specs.Records.HasAddress, proofs.Lists.all_after, proofs.Lists.all_left}
 use Rattle.dali_script.proofs.kept.Kept.add.Goals as goal
 
 pub invariant_of-self : goal.invariant_of-self

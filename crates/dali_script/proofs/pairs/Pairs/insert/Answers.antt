@@ -1,7 +1,5 @@
-use Rattle.std.proofs.Common.{◌≡◌, ap, ◌∙◌, sym, arith, length}
-use Rattle.std.specs.Prelude.{◌<◌}
-use Rattle.dali_script.specs.Pairs.{pairs_in}
-use Rattle.dali_script.proofs.Lists.{room_more}
+use Rattle.std.proofs.Common.{◌≡◌, ap, ◌∙◌, sym, arith, length, ◌<◌}
+use Rattle.dali_script.{specs.Pairs.pairs_in, proofs.Lists.room_more}
 use Rattle.dali_script.proofs.pairs.Pairs.insert.Goals as goal
 
 pub push-requires : goal.push-requires

@@ -1,5 +1,4 @@
-use Rattle.std.proofs.Common.{rules, ◌≡◌, ◌∙◌, length, arith}
-use Rattle.std.specs.Prelude.{◌≤◌}
+use Rattle.std.proofs.Common.{rules, ◌≡◌, ◌∙◌, length, arith, ◌≤◌}
 use Rattle.std.proofs.lemmas.List.{take-set}
 use Rattle.dali_script.proofs.Fronts.{removed, cleared}
 use Rattle.dali_script.proofs.pairs.Pairs.remove.Goals as goal

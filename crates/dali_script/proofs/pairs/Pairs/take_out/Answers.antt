@@ -1,6 +1,5 @@
 use Rattle.std.proofs.Common.{◌∙◌}
-use Rattle.dali_script.specs.Pairs.{pairs_in}
-use Rattle.dali_script.proofs.Lists.{without_place}
+use Rattle.dali_script.{specs.Pairs.pairs_in, proofs.Lists.without_place}
 use Rattle.dali_script.proofs.pairs.Pairs.take_out.Goals as goal
 
 pub returns-in-Some-clause-pairs : goal.returns-in-Some-clause-pairs

@@ -1,7 +1,5 @@
 use Rattle.std.proofs.Common.{◌≡◌, ℕ, ◌<◌, ◌≤◌, true, false, arith, subst, sym, ◌∙◌}
-use Rattle.dali_script.specs.Records.{HasAddress, IsLeastFree}
-use Rattle.dali_script.proofs.Lists.{reserved_more}
-use Rattle.dali_script.proofs.Fronts.{least_found}
+use Rattle.dali_script.{specs.Records.HasAddress, specs.Records.IsLeastFree, proofs.Fronts.least_found, proofs.Lists.reserved_more}
 use Rattle.dali_script.proofs.reading.Records.first_free.Goals as goal
 
 pub loop-number-preserved : goal.loop-number-preserved

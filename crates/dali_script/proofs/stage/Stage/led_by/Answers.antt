@@ -1,6 +1,5 @@
 use Rattle.std.proofs.Common.{◌≡◌, false, true, sym, ◌∙◌}
-use Rattle.dali_script.specs.Stages.{given, is_drawn_if}
-use Rattle.dali_script.proofs.Senders.{comes_if, comes_not}
+use Rattle.dali_script.{specs.Stages.given, specs.Stages.is_drawn_if, proofs.Senders.comes_if, proofs.Senders.comes_not}
 use Rattle.dali_script.proofs.stage.Stage.led_by.Goals as goal
 
 pub returns-then-is_given_drawn-clause-comes : goal.returns-then-is_given_drawn-clause-comes

@@ -1,8 +1,5 @@
 use Rattle.std.proofs.Common.{◌≡◌, ◌<◌, true, refl, length, arith}
-use Rattle.dali_script.specs.Stages.{may_come}
-use Rattle.dali_script.proofs.Transactions.{room}
-use Rattle.dali_script.proofs.Senders.{lawful_comes, comes_lawful}
-use Rattle.dali_script.proofs.Found.{trace_more}
+use Rattle.dali_script.{specs.Stages.may_come, proofs.Found.trace_more, proofs.Senders.lawful_comes, proofs.Senders.comes_lawful, proofs.Transactions.room}
 use Rattle.dali_script.proofs.trace.Trace.add.Goals as goal
 
 pub push-requires : goal.push-requires

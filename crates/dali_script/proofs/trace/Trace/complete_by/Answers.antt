@@ -1,7 +1,5 @@
-use Rattle.std.proofs.Common.{◌≡◌, ◌∙◌, sym, true, false, Bool, refl}
-use Rattle.std.specs.Prelude.{not}
-use Rattle.dali_script.specs.Stages.{may_follow, stage_of}
-use Rattle.dali_script.proofs.Transactions.{complete_at, goes_on_at}
+use Rattle.std.proofs.Common.{◌≡◌, ◌∙◌, sym, true, false, Bool, refl, not}
+use Rattle.dali_script.{specs.Stages.may_follow, specs.Stages.stage_of, proofs.Transactions.complete_at, proofs.Transactions.goes_on_at}
 use Rattle.dali_script.proofs.trace.Trace.complete_by.Goals as goal
 
 false_where_not : (b : Bool) → not b ≡ true → b ≡ false

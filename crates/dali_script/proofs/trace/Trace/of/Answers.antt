@@ -1,8 +1,6 @@
 use Rattle.std.proofs.Common.{◌∙◌, sym, subst, get_or}
 use Rattle.dali_frame.specs.declared.frames.Answer.TheVariants.{Silence}
-use Rattle.dali_script.specs.declared.trace.Entry.{Entry}
-use Rattle.dali_script.specs.Scripts.{IsLawful}
-use Rattle.dali_script.proofs.Senders.{sent_at}
+use Rattle.dali_script.{specs.Scripts.IsLawful, specs.declared.trace.Entry.Entry, proofs.Senders.sent_at}
 use Rattle.dali_script.proofs.trace.Trace.of.Goals as goal
 
 pub returns-then-not-add-clause-sent : goal.returns-then-not-add-clause-sent

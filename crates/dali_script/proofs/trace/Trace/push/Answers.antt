@@ -1,6 +1,5 @@
 use Rattle.std.proofs.Common.{◌<◌, length, arith}
-use Rattle.dali_script.proofs.Transactions.{room}
-use Rattle.dali_script.proofs.Found.{trace_more}
+use Rattle.dali_script.proofs.{Found.trace_more, Transactions.room}
 use Rattle.dali_script.proofs.trace.Trace.push.Goals as goal
 
 pub push-requires : goal.push-requires
