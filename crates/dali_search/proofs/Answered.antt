@@ -1,11 +1,9 @@
-use Rattle.std.proofs.Common.{◌≡◌, ℕ, ◌+◌, ◌<◌, ◌≤◌, Bool, true, false, [], ◌∷◌, ◌++◌, refl, sym, ◌∙◌, arith, length, nat_lt}
-use Rattle.std.specs.Prelude.{◌==◌, if◌then◌else◌}
+use Rattle.std.proofs.Common.{◌≡◌, ℕ, ◌+◌, ◌<◌, ◌≤◌, Bool, true, false, [], ◌∷◌, ◌++◌, refl, sym, ◌∙◌, arith, length, nat_lt, ◌==◌, if◌then◌else◌}
 use Rattle.std.proofs.lemmas.Bool.Decides.{nat_tests}
-use Rattle.dali_search.specs.declared.step.Step.TheVariants.{Again, Found, Nobody}
 use Rattle.dali_search.specs.Least.{Search, at_first, lowest, highest, step_between, probe_between, next_probe, answered, IsBelow, Agrees, Says, NumberOf}
-use Rattle.dali_search.specs.Narrowing.{IsNarrowing}
-use Rattle.dali_search.proofs.Narrowing.{lowest_yes, lowest_no, highest_yes, highest_no, narrows_at_first, narrows_more, probe_inside, least_told, more_to_come}
-use Rattle.dali_search.proofs.Narrowing.{below_told}
+use Rattle.dali_search.specs.{Narrowing.IsNarrowing, declared.step.Step.TheVariants.Again, declared.step.Step.TheVariants.Found}
+use Rattle.dali_search.{specs.declared.step.Step.TheVariants.Nobody, proofs.Narrowing.lowest_yes}
+use Rattle.dali_search.proofs.Narrowing.{lowest_no, highest_yes, highest_no, narrows_at_first, narrows_more, probe_inside, least_told, more_to_come, below_told}
 
 -- WHAT IS TRUE OF EACH SEARCH THAT WAS ANSWERED, over the definitions alone
 

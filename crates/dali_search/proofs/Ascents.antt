@@ -1,11 +1,9 @@
-use Rattle.std.proofs.Common.{◌≡◌, ◌⊎◌, inl, inr, ℕ, ◌+◌, ◌-◌, ◌<◌, ◌≤◌, Bool, true, false, refl, ap, subst, ◌∙◌, arith, nat_lt}
-use Rattle.std.specs.Prelude.{◌==◌, ◌||◌, if◌then◌else◌}
+use Rattle.std.proofs.Common.{◌≡◌, ◌⊎◌, inl, inr, ℕ, ◌+◌, ◌-◌, ◌<◌, ◌≤◌, Bool, true, false, refl, ap, subst, ◌∙◌, arith, nat_lt, ◌==◌, ◌||◌, if◌then◌else◌}
 use Rattle.std.proofs.lemmas.Bool.Decides.{nat_tests}
-use Rattle.dali_search.specs.declared.step.Step.TheVariants.{Again, Found, Nobody}
-use Rattle.dali_search.specs.Least.{IsBelow, HasAtMost, IsLeast, Says}
-use Rattle.dali_search.specs.Ascending.{Ascent, IsAscent, Knows, with_ones, apart, scale, from_known, asked_next, leads_to, is_bounded}
-use Rattle.dali_search.specs.Ascending.{told_yes, told_no, steps_after, silent_after, answers_left, one_if, end_of_block}
-use Rattle.dali_search.proofs.Blocks.{ones_from, ones_below, apart_most, halves}
+use Rattle.dali_search.specs.Ascending.{Ascent, IsAscent, Knows, with_ones, apart, scale, from_known, asked_next, leads_to, is_bounded, told_yes, told_no}
+use Rattle.dali_search.specs.{Ascending.steps_after, Ascending.silent_after, Ascending.answers_left, Ascending.one_if, Ascending.end_of_block, Least.IsBelow}
+use Rattle.dali_search.specs.{Least.HasAtMost, Least.IsLeast, Least.Says, declared.step.Step.TheVariants.Again, declared.step.Step.TheVariants.Found}
+use Rattle.dali_search.{specs.declared.step.Step.TheVariants.Nobody, proofs.Blocks.ones_from, proofs.Blocks.apart_most, proofs.Blocks.halves}
 
 -- Of an ascent: where the number lies that it asks, and what an answer leaves.
 
@@ -80,16 +78,6 @@ from_drawn a small = found (a.found == 0) where
       → (if b then 0xFFFFFE else (if a.is_anew then a.top else (if nat_lt a.steps 4 then end_of_block (scale a + a.steps) a.low else 0xFFFFFE))) < 0xFFFFFF
   found true = omega arith
   found false = anew a.is_anew
-
--- it is of 24 bits, also after an end
-pub asked_fits : (a : Ascent) → IsAscent a → asked_next a < 0x1000000
-asked_fits a is = at (is_bounded a) where
-  at : (b : Bool) → (if b then with_ones (apart a.low a.high - 1) a.low else from_known a) < 0x1000000
-  at true =
-      let most : apart a.low a.high ≤ 24 = most_apart a.low a.high in
-      let small : a.low ≤ 0xFFFFFF = is.low in
-      ones_below (apart a.low a.high - 1) 24 a.low (omega (arith, most)) (omega (arith, small))
-  at false = let drawn : from_known a < 0xFFFFFF = from_drawn a is.top in omega (arith, drawn)
 
 -- and while it goes on one that gear draw
 pub asked_drawn : (a : Ascent) → IsAscent a → leads_to a ≡ Again → asked_next a < 0xFFFFFF

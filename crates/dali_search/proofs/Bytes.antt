@@ -1,10 +1,7 @@
-use Rattle.std.proofs.Common.{◌≡◌, ℕ, zero, suc, ◌+◌, ◌-◌, ◌*◌, ◌/◌, ◌%◌, ◌^◌, ◌<◌, ◌≤◌, Bool, true, false, refl, sym, ap, subst, ◌∙◌, arith}
-use Rattle.std.specs.Prelude.{◌==◌, not, nat_le, if◌then◌else◌}
-use Rattle.std.proofs.Math.Nat.{div-div-eq-div-mul, pow-succ'}
-use Rattle.std.proofs.lemmas.Nat.{pow-add}
-use Rattle.std.proofs.lemmas.Bool.Decides.{nat_tests}
-use Rattle.dali_search.specs.Ascending.{with_ones, apart_below, one_if}
-use Rattle.dali_search.specs.Questions.{bytes_apart, IsOnes, AgreeAbove}
+use Rattle.std.proofs.Common.{◌≡◌, ℕ, zero, suc, ◌+◌, ◌-◌, ◌*◌, ◌/◌, ◌%◌, ◌^◌, ◌<◌, ◌≤◌, Bool, true, false, refl, sym, ap, subst, ◌∙◌, arith, ◌==◌, not, nat_le}
+use Rattle.std.proofs.Common.{if◌then◌else◌}
+use Rattle.std.proofs.{Math.Nat.div-div-eq-div-mul, Math.Nat.pow-succ', lemmas.Bool.Decides.nat_tests, lemmas.Nat.pow-add}
+use Rattle.dali_search.specs.{Ascending.with_ones, Ascending.apart_below, Ascending.one_if, Questions.bytes_apart, Questions.IsOnes, Questions.AgreeAbove}
 use Rattle.dali_search.proofs.Blocks.{ones_are, apart_none, halves}
 
 -- Two numbers that agree above some bit, and of which both have ones below another: in how many bytes they differ.

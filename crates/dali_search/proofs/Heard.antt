@@ -1,8 +1,6 @@
-use Rattle.std.proofs.Common.{◌≡◌, ℕ, ◌+◌, ◌<◌, ◌≤◌, Bool, true, false, [], ◌∷◌, ◌++◌, refl, sym, ap, subst, ◌∙◌, arith, nat_lt}
-use Rattle.std.specs.Prelude.{if◌then◌else◌, zero, suc}
+use Rattle.std.proofs.Common.{◌≡◌, ℕ, ◌+◌, ◌<◌, ◌≤◌, Bool, true, false, [], ◌∷◌, ◌++◌, refl, sym, ap, subst, ◌∙◌, arith, nat_lt, if◌then◌else◌, zero, suc}
 use Rattle.std.proofs.lemmas.Bool.Decides.{nat_tests}
-use Rattle.dali_search.specs.Least.{probe_between}
-use Rattle.dali_search.specs.Narrowing.{asked_of, answer_of, left_by, left_of, answers_of}
+use Rattle.dali_search.specs.{Least.probe_between, Narrowing.asked_of, Narrowing.answer_of, Narrowing.left_by, Narrowing.left_of, Narrowing.answers_of}
 
 pub asked_within : (l : ℕ × ℕ) → l.0 ≤ l.1 → l.1 ≤ 0xFFFFFF → l.0 ≤ asked_of l + 1 × asked_of l ≤ l.1
 asked_within l order top = (grind (arith, nat_tests), grind (arith, nat_tests))

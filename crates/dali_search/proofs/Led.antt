@@ -1,11 +1,9 @@
 use Rattle.std.proofs.Common.{◌≡◌, ℕ, ◌+◌, ◌-◌, ◌*◌, ◌^◌, ◌<◌, ◌≤◌, Bool, true, false, [], ◌∷◌, ◌++◌, refl, sym, ap, subst, ◌∙◌, arith, nat_lt, nat_le, length}
-use Rattle.std.proofs.Common.{length-append, add-one, inl, inr}
-use Rattle.std.specs.Prelude.{◌==◌, ◌/◌, ◌⊎◌, if◌then◌else◌, zero, suc}
+use Rattle.std.proofs.Common.{length-append, add-one, inl, inr, ◌==◌, ◌/◌, ◌⊎◌, if◌then◌else◌, zero, suc}
 use Rattle.std.proofs.lemmas.Bool.Decides.{nat_tests}
 use Rattle.dali_search.specs.Least.{Search, lowest, highest, step_between, probe_between}
-use Rattle.dali_search.specs.declared.step.Step.{Step}
-use Rattle.dali_search.specs.declared.step.Step.TheVariants.{Again, Found, Nobody}
 use Rattle.dali_search.specs.Narrowing.{Narrows, IsSearch, asked_of, left_by, left_of, answer_of, answers_of}
+use Rattle.dali_search.specs.declared.step.Step.{Step, TheVariants.Again, TheVariants.Found, TheVariants.Nobody}
 use Rattle.dali_search.proofs.Heard.{asked_within, narrowed_no, narrowed_yes, left_within}
 use Rattle.dali_search.proofs.Narrowing.{lowest_yes, lowest_no, highest_yes, highest_no}
 

@@ -1,12 +1,9 @@
 use Rattle.std.proofs.Common.{◌≡◌, ℕ, ◌+◌, ◌*◌, ◌/◌, ◌^◌, ◌<◌, ◌≤◌, Bool, true, false, List, [], ◌∷◌, ◌++◌, refl, sym, ap, subst, ◌∙◌, arith, length}
-use Rattle.std.proofs.Common.{length-append, add-one, nat_lt, max, min}
-use Rattle.std.specs.Prelude.{◌==◌, if◌then◌else◌, zero, suc}
+use Rattle.std.proofs.Common.{length-append, add-one, nat_lt, max, min, ◌==◌, if◌then◌else◌, zero, suc}
 use Rattle.std.proofs.lemmas.Bool.Decides.{nat_tests}
-use Rattle.dali_search.specs.declared.step.Step.{Step}
-use Rattle.dali_search.specs.declared.step.Step.TheVariants.{Again, Found, Nobody}
 use Rattle.dali_search.specs.Least.{Search, IsBelow, HasAtMost, Agrees, IsLeast, Says, NumberOf, lowest, highest, step_between, step_after, probe_between}
-use Rattle.dali_search.specs.Least.{probe_after}
-use Rattle.dali_search.specs.Narrowing.{Narrows, left_of, answers_of}
+use Rattle.dali_search.specs.{Least.probe_after, Narrowing.Narrows, Narrowing.left_of, Narrowing.answers_of, declared.step.Step.Step}
+use Rattle.dali_search.specs.declared.step.Step.TheVariants.{Again, Found, Nobody}
 use Rattle.dali_search.proofs.Heard.{heard_more}
 
 -- a further answer

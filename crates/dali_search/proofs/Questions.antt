@@ -1,19 +1,14 @@
 use Rattle.std.proofs.Common.{◌≡◌, ◌⊎◌, inl, inr, ℕ, zero, suc, ◌+◌, ◌-◌, ◌*◌, ◌/◌, ◌^◌, ◌<◌, ◌≤◌, Bool, true, false, List, [], ◌∷◌, refl, sym, subst, ◌∙◌}
-use Rattle.std.proofs.Common.{arith, nat_lt, lit<, lit≤}
-use Rattle.std.specs.Prelude.{◌==◌, if◌then◌else◌}
+use Rattle.std.proofs.Common.{arith, nat_lt, lit<, lit≤, ◌==◌, if◌then◌else◌}
 use Rattle.std.proofs.lemmas.Bool.Decides.{nat_tests}
-use Rattle.dali_search.specs.declared.step.Step.{Step}
-use Rattle.dali_search.specs.declared.step.Step.TheVariants.{Again, Found, Nobody}
 use Rattle.dali_search.specs.Ascending.{Ascent, IsAscent, with_ones, apart_below, apart, end_of_block, scale, from_known, asked_next, leads_to, is_bounded}
 use Rattle.dali_search.specs.Ascending.{told_yes, told_no, ascended, ascent_at_first, above}
-use Rattle.dali_search.specs.Questions.{bytes_apart, Asking, frames_to_ask, room_left, asking_next, is_again, frames_asked, HasBegun, IsOnes}
-use Rattle.dali_search.specs.Questions.{AgreeAbove}
-use Rattle.dali_search.specs.Questions.{IsHalved, IsUnderWay}
-use Rattle.dali_search.specs.Questions.{thirds_of_room, thirds_of_bits, thirds_of_last, steps_left, thirds_of_steps, thirds_left}
-use Rattle.dali_search.proofs.Blocks.{apart_most, Halves, halves}
-use Rattle.dali_search.proofs.Bytes.{ones_less, ones_fewer, above_from, above_ones, above_apart, apart_of_ones, no_leaves}
-use Rattle.dali_search.proofs.Bytes.{three_most, near_one, near_two, near_last}
+use Rattle.dali_search.specs.Questions.{bytes_apart, Asking, frames_to_ask, room_left, asking_next, is_again, frames_asked, HasBegun, IsOnes, AgreeAbove}
+use Rattle.dali_search.specs.Questions.{IsHalved, IsUnderWay, thirds_of_room, thirds_of_bits, thirds_of_last, steps_left, thirds_of_steps, thirds_left}
+use Rattle.dali_search.specs.declared.step.Step.{Step, TheVariants.Again, TheVariants.Found, TheVariants.Nobody}
 use Rattle.dali_search.proofs.Ascents.{IsHalving, IsStepping, going_on, asked_drawn, from_fourth, yes_is, no_is}
+use Rattle.dali_search.proofs.{Blocks.apart_most, Blocks.Halves, Blocks.halves, Bytes.ones_less}
+use Rattle.dali_search.proofs.Bytes.{ones_fewer, above_from, above_ones, above_apart, apart_of_ones, no_leaves, three_most, near_one, near_two, near_last}
 
 -- What the questions of an ascent cost: with each of them the frames that are left at most become fewer, by what it takes.
 

@@ -1,18 +1,12 @@
-use Rattle.std.proofs.Common.{◌≡◌, inl, inr, ℕ, ◌+◌, ◌-◌, ◌*◌, ◌<◌, ◌≤◌, Bool, true, false, refl, sym, subst, ◌∙◌}
-use Rattle.std.proofs.Common.{arith, nat_lt, lit≤}
-use Rattle.std.specs.Prelude.{◌==◌, min, if◌then◌else◌}
+use Rattle.std.proofs.Common.{◌≡◌, inl, inr, ℕ, ◌+◌, ◌-◌, ◌*◌, ◌<◌, ◌≤◌, Bool, true, false, refl, sym, subst, ◌∙◌, arith, nat_lt, lit≤, ◌==◌, min}
+use Rattle.std.proofs.Common.{if◌then◌else◌}
 use Rattle.std.proofs.lemmas.Bool.Decides.{nat_tests}
-use Rattle.dali_search.specs.declared.step.Step.TheVariants.{Again}
-use Rattle.dali_search.specs.Ascending.{Ascent, IsAscent, apart, asked_next, leads_to, is_bounded}
-use Rattle.dali_search.specs.Ascending.{told_yes, told_no, ascended, ascent_at_first, above}
-use Rattle.dali_search.specs.Questions.{bytes_apart, Asking, has_room, frames_to_ask, room_left, asking_next}
-use Rattle.dali_search.specs.Questions.{IsUnderWay}
-use Rattle.dali_search.specs.Questions.{IsTrueWay, steps_to_somebody, thirds_to_somebody, thirds_to_nobody}
-use Rattle.dali_search.specs.Questions.{thirds_of_room, thirds_of_bits, thirds_of_last, steps_left, thirds_left}
-use Rattle.dali_search.proofs.Bytes.{same_bytes, three_most}
-use Rattle.dali_search.proofs.Ascents.{IsHalving, IsStepping, going_on, asked_drawn, from_fourth}
-use Rattle.dali_search.proofs.Questions.{above_begun, apart_most_of, begun_is, first_begun, last_most, most_bits, question_costs}
-use Rattle.dali_search.proofs.Questions.{takes_new, takes_three, taken, Costs}
+use Rattle.dali_search.specs.Ascending.{Ascent, IsAscent, apart, asked_next, leads_to, is_bounded, told_yes, told_no, ascended, ascent_at_first, above}
+use Rattle.dali_search.specs.Questions.{bytes_apart, Asking, has_room, frames_to_ask, room_left, asking_next, IsUnderWay, IsTrueWay, steps_to_somebody}
+use Rattle.dali_search.specs.Questions.{thirds_to_somebody, thirds_to_nobody, thirds_of_room, thirds_of_bits, thirds_of_last, steps_left, thirds_left}
+use Rattle.dali_search.{specs.declared.step.Step.TheVariants.Again, proofs.Ascents.IsHalving, proofs.Ascents.IsStepping}
+use Rattle.dali_search.proofs.{Ascents.going_on, Ascents.asked_drawn, Ascents.from_fourth, Bytes.same_bytes, Bytes.three_most, Questions.above_begun}
+use Rattle.dali_search.proofs.Questions.{apart_most_of, begun_is, first_begun, last_most, most_bits, question_costs, takes_new, takes_three, taken, Costs}
 
 -- WHAT THE QUESTIONS COST IF ALL ANSWERS ARE TRUE.
 

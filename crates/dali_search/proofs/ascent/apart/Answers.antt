@@ -1,8 +1,7 @@
 use Rattle.std.proofs.Common.{arith}
-use Rattle.dali_search.proofs.Blocks.{counted, counted_all}
 use Rattle.dali_search.specs.Ascending.{apart, apart_below}
+use Rattle.dali_search.proofs.{Blocks.counted, Blocks.counted_all, ascent.apart.Goals.then-one-other, ascent.apart.Goals.else-one-other}
 use Rattle.dali_search.proofs.ascent.apart.Goals as goal
-use Rattle.dali_search.proofs.ascent.apart.Goals.{then-one-other, else-one-other}
 
 pub loop-preserved : goal.loop-preserved
 loop-preserved c =

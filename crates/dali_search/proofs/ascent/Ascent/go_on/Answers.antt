@@ -1,6 +1,5 @@
 use Rattle.std.proofs.Common.{◌≡◌, sym, ◌∙◌, ap, refl, subst}
-use Rattle.dali_search.specs.Ascending.{gone_on_from, leads_to}
-use Rattle.dali_search.specs.declared.step.Step.TheVariants.{Again, Found}
+use Rattle.dali_search.specs.{Ascending.gone_on_from, Ascending.leads_to, declared.step.Step.TheVariants.Again, declared.step.Step.TheVariants.Found}
 use Rattle.dali_search.proofs.ascent.Ascent.go_on.Goals as goal
 
 pub returns-in-Found-clause-changed : goal.returns-in-Found-clause-changed

@@ -1,7 +1,6 @@
 use Rattle.std.proofs.Common.{◌≡◌, sym, subst}
-use Rattle.dali_search.specs.declared.step.Step.TheVariants.{Again}
 use Rattle.dali_search.specs.Ascending.{asked_next, leads_to, steps_after, silent_after}
-use Rattle.dali_search.proofs.Ascents.{no_told}
+use Rattle.dali_search.{specs.declared.step.Step.TheVariants.Again, proofs.Ascents.no_told}
 use Rattle.dali_search.proofs.ascent.Ascent.told_no.Goals as goal
 
 pub invariant_of-result : goal.invariant_of-result

@@ -1,7 +1,5 @@
 use Rattle.std.proofs.Common.{◌≡◌, sym, subst}
-use Rattle.dali_search.specs.declared.step.Step.TheVariants.{Again}
-use Rattle.dali_search.specs.Ascending.{asked_next, leads_to}
-use Rattle.dali_search.proofs.Ascents.{yes_told}
+use Rattle.dali_search.{specs.Ascending.asked_next, specs.Ascending.leads_to, specs.declared.step.Step.TheVariants.Again, proofs.Ascents.yes_told}
 use Rattle.dali_search.proofs.ascent.Ascent.told_yes.Goals as goal
 
 pub invariant_of-result : goal.invariant_of-result

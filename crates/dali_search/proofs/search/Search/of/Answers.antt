@@ -1,7 +1,6 @@
 use Rattle.std.proofs.Common.{◌≡◌, ◌∙◌, ◌<◌, ◌≤◌, ap, sym, refl, arith, Some}
 use Rattle.std.proofs.lemmas.Bool.Decides.{nat_tests}
-use Rattle.dali_search.specs.Least.{lowest, step_between}
-use Rattle.dali_search.specs.Narrowing.{left_of, answers_of}
+use Rattle.dali_search.specs.{Least.lowest, Least.step_between, Narrowing.left_of, Narrowing.answers_of}
 use Rattle.dali_search.proofs.Led.{narrows_led, is_of, answers_length, told_left, asks_next, asks_other}
 use Rattle.dali_search.proofs.search.Search.of.Goals as goal
 
