@@ -1,38 +1,21 @@
 -- What the three texts make of a connection.
-use Rattle.std.proofs.Common.{◌≡◌, inl, inr, ℕ, ◌+◌, ℤ, List, [], ◌∷◌, ◌++◌, map, flat_map, length}
-use Rattle.std.proofs.Common.{false, None, Ok, Err, Result, IfOk, IfErr, IsTrue, IsPermutation, refl, sym, ap}
-use Rattle.std.proofs.Common.{subst, ◌∙◌, arith, append-nil}
-use Rattle.std.specs.Prelude.{if◌then◌else◌}
+use Rattle.std.proofs.Common.{◌≡◌, inl, inr, ℕ, ◌+◌, ℤ, List, [], ◌∷◌, ◌++◌, map, flat_map, length, false, None, Ok, Err, Result, IfOk, IfErr, IsTrue}
+use Rattle.std.proofs.Common.{IsPermutation, refl, sym, ap, subst, ◌∙◌, arith, append-nil, if◌then◌else◌}
 use Rattle.std.proofs.lemmas.List.Sorted.{IsPermutation-refl, IsPermutation-sym, IsPermutation-map, IsPermutation-trans, IsPermutation-append_left}
 use Rattle.std.proofs.lemmas.List.Sorted.{IsPermutation-to_front}
-use Rattle.sqlite.specs.declared.types.Value.TheVariants.{Null, Int}
-use Rattle.sqlite.specs.Order.{Row, column}
-use Rattle.sqlite.specs.Tree.{Trees}
-use Rattle.sqlite.specs.Source.TheVariants.{Values}
-use Rattle.sqlite.specs.Command.{Command}
-use Rattle.sqlite.specs.Command.TheVariants.{Insert, CreateTable}
-use Rattle.sqlite.specs.Term.{Env}
-use Rattle.sqlite.specs.Query.{IsAnswer, Output, output}
-use Rattle.sqlite.specs.Program.{overlay}
-use Rattle.sqlite.specs.Table.{Table}
-use Rattle.sqlite.specs.Schema.{Schema}
-use Rattle.sqlite.specs.Change.{created, next_tree}
-use Rattle.sqlite.specs.Does.{Tally, Does, lacks_sequence}
-use Rattle.sqlite.specs.Effect.{Database, IsDatabase}
-use Rattle.sqlite.specs.Listing.{understood}
-use Rattle.sqlite.specs.State.{State, IsUnchanged, Shows, Executes, Shown, FailsToQuery, CommitsBy, CommitsShowing, text_of, mode_of}
-use Rattle.sqlite.specs.declared.error.Error.{Error}
 use Rattle.sqlite.proofs.Callers.{IsPlain, command_of, statement_of, runs_as, reads_as, never_commits}
+use Rattle.sqlite.specs.{Change.created, Change.next_tree, Command.TheVariants.Insert, Command.TheVariants.CreateTable, Does.Tally, Does.Does}
+use Rattle.sqlite.specs.{Does.lacks_sequence, Effect.Database, Effect.IsDatabase, Listing.understood, Order.Row, Program.overlay, Query.IsAnswer, Query.Output}
+use Rattle.sqlite.specs.{Query.output, Source.TheVariants.Values}
+use Rattle.sqlite.specs.State.{State, IsUnchanged, Shows, Executes, Shown, FailsToQuery, CommitsBy, CommitsShowing, text_of, mode_of}
+use Rattle.sqlite.specs.{Term.Env, Tree.Trees, declared.error.Error.Error, declared.types.Value.TheVariants.Null, declared.types.Value.TheVariants.Int}
 use Rattle.sqlite_keyed.proofs.ListLemmas.{map-map}
 use Rattle.dali_script.specs.declared.records.Record.{Record}
-use Rattle.dali_sqlite.specs.Table.{record_table, record_schema, no_schema}
-use Rattle.dali_sqlite.specs.Rows.{row_of, rows_after, shown_of, four_of}
-use Rattle.dali_sqlite.specs.Stored.{IsTableOf, HasTable, Holds, Lists}
-use Rattle.dali_sqlite.proofs.Texts.{create_text, create_is, create_plain, insert_text, insert_is, insert_plain, select_text, select_is, select_plain, terms}
-use Rattle.dali_sqlite.proofs.Texts.{query, objects_text, objects_plain}
-use Rattle.dali_sqlite.proofs.Open.{same_has, shown_open, query_stays, stays_open, stays_holds}
-use Rattle.dali_sqlite.proofs.Ordered.{keyed, in_order, rows_more}
-use Rattle.dali_sqlite.proofs.Inserted.{gave, the_same, given, put_in, inserts}
+use Rattle.dali_sqlite.specs.{Rows.row_of, Rows.rows_after, Rows.shown_of, Rows.four_of, Stored.IsTableOf, Stored.HasTable, Stored.Holds, Stored.Lists}
+use Rattle.dali_sqlite.{specs.Table.record_table, specs.Table.record_schema, specs.Table.no_schema, proofs.Inserted.gave, proofs.Inserted.the_same}
+use Rattle.dali_sqlite.proofs.{Inserted.given, Inserted.put_in, Inserted.inserts, Open.same_has, Open.shown_open, Open.query_stays, Open.stays_open}
+use Rattle.dali_sqlite.proofs.{Open.stays_holds, Ordered.keyed, Ordered.in_order, Ordered.rows_more, Texts.create_text, Texts.create_is, Texts.create_plain}
+use Rattle.dali_sqlite.proofs.Texts.{insert_text, insert_is, insert_plain, select_text, select_is, select_plain, terms, query, objects_text, objects_plain}
 
 -- ---- CREATE TABLE
 

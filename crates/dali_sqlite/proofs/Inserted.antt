@@ -1,29 +1,13 @@
 -- What the three texts do.
 use Rattle.std.proofs.Common.{◌≡◌, ◌⊎◌, inl, inr, ℕ, ℤ, List, [], ◌∷◌, Bool, true, false, not, cond, Option, None, Ok, Err, Result, Ordering, Less, Equal}
-use Rattle.std.proofs.Common.{Greater, is_eq, IsPermutation, refl, sym, ap, subst, ◌∙◌}
-use Rattle.std.proofs.lemmas.Bool.{or_parts}
-use Rattle.std.specs.Prelude.{◌&&◌}
-use Rattle.std.specs.Ordering.{match_ordering}
-use Rattle.std.specs.List.{list_any}
-use Rattle.std.proofs.lemmas.List.Sorted.{IsPermutation-refl, IsPermutation-cons, IsPermutation-trans, IsPermutation-middle}
-use Rattle.sqlite.specs.declared.types.Value.{Value}
-use Rattle.sqlite.specs.declared.types.Value.TheVariants.{Null, Int}
-use Rattle.sqlite.specs.Order.{Row, value_cmp}
-use Rattle.sqlite.specs.Ops.{unary}
-use Rattle.sqlite.specs.Kind.TheVariants.{Integer}
-use Rattle.sqlite.specs.Cast.{cast}
-use Rattle.sqlite.specs.Source.TheVariants.{Values}
-use Rattle.sqlite.specs.Command.TheVariants.{Insert}
-use Rattle.sqlite.specs.Tree.{Trees, rowid, put_row}
-use Rattle.sqlite.specs.Edit.{edit_of, is_taken}
-use Rattle.sqlite.specs.Rowids.TheVariants.{Chosen}
-use Rattle.sqlite.specs.Does.{Tally, Does}
-use Rattle.sqlite.specs.Rows.{Written}
-use Rattle.sqlite.specs.Effect.{Database}
-use Rattle.sqlite.specs.declared.run.Mode.{Mode}
-use Rattle.sqlite.proofs.Callers.{one_step}
-use Rattle.dali_sqlite.specs.Table.{record_table, record_schema}
-use Rattle.dali_sqlite.proofs.Texts.{terms}
+use Rattle.std.proofs.Common.{Greater, is_eq, IsPermutation, refl, sym, ap, subst, ◌∙◌, ◌&&◌}
+use Rattle.std.proofs.lemmas.{Bool.or_parts, List.Sorted.IsPermutation-refl, List.Sorted.IsPermutation-cons, List.Sorted.IsPermutation-trans}
+use Rattle.std.{proofs.lemmas.List.Sorted.IsPermutation-middle, specs.List.list_any, specs.Ordering.match_ordering}
+use Rattle.sqlite.{proofs.Callers.one_step, specs.Cast.cast, specs.Command.TheVariants.Insert}
+use Rattle.sqlite.specs.{Does.Tally, Does.Does, Edit.edit_of, Edit.is_taken, Effect.Database, Kind.TheVariants.Integer, Ops.unary, Order.Row, Order.value_cmp}
+use Rattle.sqlite.specs.{Rowids.TheVariants.Chosen, Rows.Written, Source.TheVariants.Values, Tree.Trees, Tree.rowid, Tree.put_row, declared.run.Mode.Mode}
+use Rattle.sqlite.specs.declared.types.Value.{Value, TheVariants.Null, TheVariants.Int}
+use Rattle.dali_sqlite.{specs.Table.record_table, specs.Table.record_schema, proofs.Texts.terms}
 
 -- ---- a row with a new rowid, put where it belongs, is one row more
 

@@ -1,16 +1,11 @@
 -- What is known of the list that a database holds.
 use Rattle.std.proofs.Common.{◌≡◌, ℕ, ◌+◌, Bool, false, List, [], ◌∷◌, ◌++◌, map, length, ◌<◌, refl, sym, ap, subst, ◌∙◌, arith, length-append}
 use Rattle.std.proofs.lemmas.List.{length-map}
-use Rattle.sqlite.specs.Order.{Row}
-use Rattle.sqlite.specs.State.{State}
-use Rattle.dali_script.specs.declared.block.Block.{Block}
-use Rattle.dali_script.specs.declared.records.Record.{Record}
+use Rattle.sqlite.specs.{Order.Row, State.State}
 use Rattle.dali_script.specs.Records.{Kept, without_records, with_record, Fits, MayAdd, address_of}
-use Rattle.dali_reserve.specs.Store.{replay_of, AreGood, IsReplay}
-use Rattle.dali_reserve.proofs.Replays.{block_replayed, replay_after}
-use Rattle.dali_sqlite.specs.Rows.{rows_after, four_of}
-use Rattle.dali_sqlite.specs.Stored.{Holds, IsKnown, IsStored}
-use Rattle.dali_sqlite.proofs.Ordered.{one_list}
+use Rattle.dali_script.specs.declared.{block.Block.Block, records.Record.Record}
+use Rattle.dali_reserve.{specs.Store.replay_of, specs.Store.AreGood, specs.Store.IsReplay, proofs.Replays.block_replayed, proofs.Replays.replay_after}
+use Rattle.dali_sqlite.{specs.Rows.rows_after, specs.Rows.four_of, specs.Stored.Holds, specs.Stored.IsKnown, specs.Stored.IsStored, proofs.Ordered.one_list}
 
 -- ---- from the rows that were read
 

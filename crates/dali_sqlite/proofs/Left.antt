@@ -1,29 +1,16 @@
 -- What two files hold, and what a stop leaves of them.
 use Rattle.std.proofs.Common.{◌≡◌, ◌⊎◌, inl, inr, ⊎_elim, ℕ, zero, suc, ◌+◌, ◌<◌, ◌≤◌, IsTrue, List, [], length, slice_index, ap, ◌∙◌, subst, arith}
-use Rattle.std.proofs.lemmas.List.{ext_get_or}
-use Rattle.std.proofs.Math.Logic.{∥∥₁_elim, ∥∥₁_map}
-use Rattle.sqlite_disk.specs.declared.Disk.{Ghosts}
-use Rattle.sqlite_disk.specs.declared.Files.{Files}
-use Rattle.sqlite_disk.specs.Disk.{Holds, Torn}
-use Rattle.sqlite.specs.Recovery.{Image}
-use Rattle.sqlite.specs.WalReads.{AreClean}
-use Rattle.sqlite.specs.WalFiles.{outcomes}
-use Rattle.sqlite.specs.Tree.{Trees}
-use Rattle.sqlite.specs.View.{IsClean, IsQuiet}
-use Rattle.sqlite_trees.proofs.Doubt.{no_doubt}
-use Rattle.sqlite_trees.specs.Props.{Trees-set}
-use Rattle.sqlite_pool.specs.declared.pool.Pool.{Pool}
-use Rattle.sqlite_pool.specs.Pool.{state, files}
-use Rattle.sqlite_store.specs.declared.store.FileStore.{FileStore}
-use Rattle.sqlite_store.specs.FileStore.{view, faults, recovers, is_shielded}
-use Rattle.sqlite_store.specs.FileStore as store
-use Rattle.sqlite.specs.Held.{Held, AreDatabases}
+use Rattle.std.proofs.{Math.Logic.∥∥₁_elim, Math.Logic.∥∥₁_map, lemmas.List.ext_get_or}
+use Rattle.sqlite.{proofs.Theorems.opens_again, specs.Closing.HoldsAlone}
 use Rattle.sqlite.specs.Files.{HoldsDatabase, Finds, file_state, image_of}
-use Rattle.sqlite.specs.Closing.{HoldsAlone}
-use Rattle.sqlite.proofs.Theorems.{opens_again}
+use Rattle.sqlite.specs.{Held.Held, Held.AreDatabases, Recovery.Image, Tree.Trees, View.IsClean, View.IsQuiet, WalFiles.outcomes, WalReads.AreClean}
+use Rattle.sqlite_disk.specs.{Disk.Holds, Disk.Torn, declared.Disk.Ghosts, declared.Files.Files}
+use Rattle.sqlite_pool.specs.{Pool.state, Pool.files, declared.pool.Pool.Pool}
+use Rattle.sqlite_store.specs.{FileStore.view, FileStore.faults, FileStore.recovers, FileStore.is_shielded, declared.store.FileStore.FileStore}
+use Rattle.sqlite_store.specs.FileStore as store
+use Rattle.sqlite_trees.{proofs.Doubt.no_doubt, specs.Props.Trees-set}
 use Rattle.dali_script.specs.declared.records.Record.{Record}
-use Rattle.dali_sqlite.specs.Stored.{IsTableOf}
-use Rattle.dali_sqlite.specs.Files.{HoldRecords, HoldRecordsAlone}
+use Rattle.dali_sqlite.specs.{Files.HoldRecords, Files.HoldRecordsAlone, Stored.IsTableOf}
 
 at_least : (n m : ℕ) → (0 < n → n ≤ m) → n ≤ m
 at_least zero m more = omega arith

@@ -1,16 +1,13 @@
 -- A call that leaves the connection open found it open, and a refused one leaves the rows.
 use Rattle.std.proofs.Common.{◌≡◌, ◌⊎◌, inl, inr, ℕ, List, Bool, true, false, Option, Some, None, Ok, Err, Result, IsTrue, sym, ap, subst, ◌∙◌, arith}
-use Rattle.std.specs.Prelude.{MatchBool}
-use Rattle.sqlite.specs.Order.{Row}
+use Rattle.std.proofs.Common.{MatchBool}
 use Rattle.sqlite.specs.Command.{Command}
 use Rattle.sqlite.specs.Command.TheVariants.{Select, Insert, InsertOr, Update, Delete, CreateTable, CreateIndex, DropTable, DropIndex, Begin, Commit, Rollback}
 use Rattle.sqlite.specs.Command.TheVariants.{Savepoint as Save, Release, RollbackTo, Nothing, CreateView, DropView, Rows}
+use Rattle.sqlite.specs.{Effect.Database, Order.Row, State.State, State.IsUnchanged, State.IsRolledBack, State.Runs}
+use Rattle.sqlite.specs.State.{RunsCommand, IsNotRun, ExecutesIn, Executes, shows_rows, FailsToShow, FailsToQuery, ShowsRows, Shown, Survives, HasCleanDisk}
+use Rattle.sqlite.specs.{Tree.Trees, declared.error.Error.Error}
 use Rattle.sqlite_schema.specs.declared.command.Returning.{Returning}
-use Rattle.sqlite.specs.declared.error.Error.{Error}
-use Rattle.sqlite.specs.Effect.{Database}
-use Rattle.sqlite.specs.State.{State, IsUnchanged, IsRolledBack, Runs, RunsCommand, IsNotRun, ExecutesIn, Executes, shows_rows, FailsToShow, FailsToQuery}
-use Rattle.sqlite.specs.State.{ShowsRows, Shown, Survives, HasCleanDisk}
-use Rattle.sqlite.specs.Tree.{Trees}
 use Rattle.dali_script.specs.declared.records.Record.{Record}
 use Rattle.dali_sqlite.specs.Stored.{HasTable, Holds, Lists, IsUp}
 

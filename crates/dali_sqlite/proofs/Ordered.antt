@@ -1,26 +1,16 @@
 -- The rows of a list rise by their first value, so a list is known from its rows, and from them in any order.
 use Rattle.std.proofs.Common.{◌≡◌, ℕ, zero, suc, ◌+◌, ◌<◌, ◌≤◌, pos, List, [], ◌∷◌, ◌++◌, map, length, Ordering, Less, is_lt, IsPermutation, IsSorted, refl}
 use Rattle.std.proofs.Common.{sym, ap, ◌∙◌, arith, Some}
-use Rattle.std.specs.List.{AllByRecursion}
-use Rattle.std.specs.Cmp.{IsTotalOrder}
-use Rattle.std.specs.Ordering.{ordering_reverse}
-use Rattle.std.proofs.lemmas.Int.{ints}
-use Rattle.std.proofs.lemmas.Bool.Decides.{nat_tests}
-use Rattle.std.proofs.lemmas.List.Sorted.{IsPermutation-sym, IsPermutation-map, IsPermutation-trans}
-use Rattle.sqlite.specs.declared.types.Value.TheVariants.{Int}
+use Rattle.std.proofs.lemmas.{Bool.Decides.nat_tests, Int.ints, List.Sorted.IsPermutation-sym, List.Sorted.IsPermutation-map, List.Sorted.IsPermutation-trans}
+use Rattle.std.specs.{Cmp.IsTotalOrder, List.AllByRecursion, Ordering.ordering_reverse}
 use Rattle.sqlite.specs.Order.{Row, column, value_cmp}
-use Rattle.sqlite_value.proofs.OrderLemmas.{value_cmp-Int}
-use Rattle.sqlite.specs.Tree.{Trees, IsAscending}
-use Rattle.sqlite.specs.Query.{Output, output_cmp}
-use Rattle.sqlite_sql.proofs.QueryLemmas.{output_cmp_total}
+use Rattle.sqlite.specs.{Query.Output, Query.output_cmp, Tree.Trees, Tree.IsAscending, declared.types.Value.TheVariants.Int}
 use Rattle.sqlite_keyed.proofs.SortLemmas.{sorted_unique}
-use Rattle.dali_script.specs.declared.records.Record.{Record}
-use Rattle.dali_script.specs.Records.{address_of, random_of}
-use Rattle.dali_script.specs.Names.{record_code}
+use Rattle.sqlite_sql.proofs.QueryLemmas.{output_cmp_total}
+use Rattle.sqlite_value.proofs.OrderLemmas.{value_cmp-Int}
+use Rattle.dali_script.specs.{Names.record_code, Records.address_of, Records.random_of, declared.records.Record.Record}
 use Rattle.dali_script.proofs.Codes.{record_there}
-use Rattle.dali_sqlite.specs.Rows.{row_of, rows_after}
-use Rattle.dali_sqlite.specs.Stored.{Lists}
-use Rattle.dali_sqlite.proofs.Texts.{query}
+use Rattle.dali_sqlite.{specs.Rows.row_of, specs.Rows.rows_after, specs.Stored.Lists, proofs.Texts.query}
 
 -- a row as ORDER BY seq sees it
 abbrev pub keyed : Row → Output

@@ -1,17 +1,11 @@
 -- The rows that list a schema say which one it is.
 use Rattle.std.proofs.Common.{◌≡◌, ◌+◌, List, [], ◌∷◌, IsTrue, refl, sym, ap, ap₂, subst, ◌∙◌, arith}
 use Rattle.std.specs.List.{AllZip}
-use Rattle.sqlite.specs.Order.{Row}
-use Rattle.sqlite.specs.Tree.{Trees}
-use Rattle.sqlite.specs.Table.{Table}
-use Rattle.sqlite.specs.Schema.{Schema}
-use Rattle.sqlite.specs.Compile.{table_defined_by}
-use Rattle.sqlite.specs.Effect.{Database, IsDatabase}
-use Rattle.sqlite.specs.State.{State, IsLive, Opens}
+use Rattle.sqlite.specs.{Compile.table_defined_by, Effect.Database, Effect.IsDatabase, Order.Row, Schema.Schema, State.State, State.IsLive, State.Opens}
+use Rattle.sqlite.specs.{Table.Table, Tree.Trees}
 use Rattle.sqlite_catalog.specs.Listing.{IsTableRow}
 use Rattle.dali_script.specs.declared.records.Record.{Record}
-use Rattle.dali_sqlite.specs.Table.{record_schema}
-use Rattle.dali_sqlite.specs.Stored.{IsTableOf, Holds, Lists}
+use Rattle.dali_sqlite.specs.{Stored.IsTableOf, Stored.Holds, Stored.Lists, Table.record_schema}
 
 none_zipped : {A B C : Type 0} (R : A → B → Type 0) (S : A → C → Type 0) (xs : List A) (ys : List C) → AllZip R xs [] → AllZip S xs ys → ys ≡ []
 none_zipped R S [] [] none some = refl

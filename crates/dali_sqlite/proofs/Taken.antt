@@ -2,11 +2,9 @@
 use Rattle.std.proofs.Common.{◌≡◌, ℕ, ◌+◌, ◌<◌, ◌≤◌, List, [], ◌∷◌, map, length, drop, get_or, refl, sym, ap, subst, ◌∙◌}
 use Rattle.std.proofs.lemmas.List.{drop_more, drop_all}
 use Rattle.sqlite.specs.Order.{Row}
-use Rattle.dali_script.specs.declared.records.Record.{Record}
-use Rattle.dali_script.specs.Records.{Kept, with_record}
+use Rattle.dali_script.specs.{Records.Kept, Records.with_record, declared.records.Record.Record}
 use Rattle.dali_reserve.specs.Store.{replay_of, IsGood, AreGood}
-use Rattle.dali_sqlite.specs.Rows.{row_of, rows_after, four_of}
-use Rattle.dali_sqlite.proofs.Ordered.{same_record}
+use Rattle.dali_sqlite.{specs.Rows.row_of, specs.Rows.rows_after, specs.Rows.four_of, proofs.Ordered.same_record}
 
 -- the rows from this one on are those of a list that may be added
 abbrev pub Makes : Kept → List Row → ℕ → List Record → Type 0
@@ -16,9 +14,6 @@ pub record HasTaken (first kept : Kept) (rows : List Row) (before : ℕ) : Type 
   pub left : (xs : List Record) → Makes first rows 0 xs → (more : List Record) × Makes kept (drop before rows) before more
   pub whole : (more : List Record) → Makes kept (drop before rows) before more
       → (xs : List Record) × Makes first rows 0 xs × (replay_of kept more ≡ replay_of first xs)
-
-pub taken_none : (first : Kept) (rows : List Row) → HasTaken first first rows 0
-taken_none first rows = record { left = λ xs makes. (xs, makes); whole = λ xs makes. (xs, makes, refl) }
 
 -- the row that comes next is that of the record that comes next
 next_is : (kept : Kept) (row : Row) (rows : List Row) (before : ℕ) (more : List Record) → Makes kept (row ∷ rows) before more

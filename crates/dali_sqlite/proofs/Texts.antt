@@ -1,16 +1,11 @@
 use Rattle.std.proofs.Common.{◌≡◌, ℕ, pos, negsuc, List, [], ◌∷◌, ◌++◌, codes, false, Some, None, Ok, refl}
-use Rattle.sqlite.specs.declared.types.Value.TheVariants.{Null, Int}
-use Rattle.sqlite.specs.Term.{Term, lit, col}
-use Rattle.sqlite.specs.Query.{Query, inner, end}
-use Rattle.sqlite.specs.Source.TheVariants.{Values}
+use Rattle.sqlite.{proofs.Callers.IsPlain, proofs.Callers.command_of, proofs.Callers.statement_of, specs.Collation.TheVariants.Binary}
 use Rattle.sqlite.specs.Command.TheVariants.{Insert, Select, CreateTable}
-use Rattle.sqlite.specs.Compile.{table_defined_by}
+use Rattle.sqlite.specs.{Compile.table_defined_by, Listing.understood, Listing.reads_listing, Listing.listing_schema, Query.Query, Query.inner, Query.end}
+use Rattle.sqlite.specs.{Source.TheVariants.Values, Term.Term, Term.lit, Term.col, declared.types.Value.TheVariants.Null, declared.types.Value.TheVariants.Int}
 use Rattle.sqlite_schema.specs.Names.{table_named, same_name}
-use Rattle.sqlite_value.specs.Keys.{ascending}
-use Rattle.sqlite.specs.Collation.TheVariants.{Binary}
 use Rattle.sqlite_tied.specs.Compute.{everything}
-use Rattle.sqlite.specs.Listing.{understood, reads_listing, listing_schema}
-use Rattle.sqlite.proofs.Callers.{IsPlain, command_of, statement_of}
+use Rattle.sqlite_value.specs.Keys.{ascending}
 use Rattle.dali_sqlite.specs.Table.{record_table, record_schema, no_schema}
 
 -- THE TEXTS that the code hands to SQLite.

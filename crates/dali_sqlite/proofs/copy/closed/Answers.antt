@@ -1,5 +1,4 @@
-use Rattle.dali_sqlite.proofs.Schemas.{committed_table}
-use Rattle.dali_sqlite.proofs.Left.{alone_of}
+use Rattle.dali_sqlite.proofs.{Left.alone_of, Schemas.committed_table}
 use Rattle.dali_sqlite.proofs.copy.closed.Goals as goal
 
 pub returns-in-Ok-clause-up : goal.returns-in-Ok-clause-up

@@ -1,8 +1,6 @@
 use Rattle.std.proofs.Common.{[]}
 use Rattle.sqlite.specs.Held.{state}
-use Rattle.dali_sqlite.proofs.Texts.{create_text}
-use Rattle.dali_sqlite.proofs.Open.{was_up, executes_open}
-use Rattle.dali_sqlite.proofs.Effects.{creates}
+use Rattle.dali_sqlite.proofs.{Effects.creates, Open.was_up, Open.executes_open, Texts.create_text}
 use Rattle.dali_sqlite.proofs.statements.create.Goals as goal
 
 pub returns-in-Ok-clause-made : goal.returns-in-Ok-clause-made

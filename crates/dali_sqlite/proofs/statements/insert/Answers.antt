@@ -1,10 +1,8 @@
 use Rattle.std.proofs.Common.{inl, inr, pos, w64, [], ◌∷◌, ◌++◌, sym, subst}
 use Rattle.std.proofs.lemmas.Int.{to_z-of_z}
 use Rattle.sqlite.specs.Held.{state}
-use Rattle.dali_sqlite.specs.Stored.{IsTableOf}
-use Rattle.dali_sqlite.proofs.Texts.{insert_text}
-use Rattle.dali_sqlite.proofs.Open.{was_up, executes_open, executes_stays, stays_holds}
-use Rattle.dali_sqlite.proofs.Effects.{adds, stops, endures}
+use Rattle.dali_sqlite.{specs.Stored.IsTableOf, proofs.Effects.adds}
+use Rattle.dali_sqlite.proofs.{Effects.stops, Effects.endures, Open.was_up, Open.executes_open, Open.executes_stays, Open.stays_holds, Texts.insert_text}
 use Rattle.dali_sqlite.proofs.statements.insert.Goals as goal
 
 pub returns-in-Ok-clause-added : goal.returns-in-Ok-clause-added

@@ -1,7 +1,6 @@
 use Rattle.std.proofs.Common.{sym, subst}
 use Rattle.sqlite.specs.Held.{state}
-use Rattle.dali_sqlite.specs.Stored.{IsTableOf}
-use Rattle.dali_sqlite.proofs.Schemas.{committed_table}
+use Rattle.dali_sqlite.{specs.Stored.IsTableOf, proofs.Schemas.committed_table}
 use Rattle.dali_sqlite.proofs.statements.leaves_list.Goals as goal
 
 pub returns : goal.returns

@@ -1,5 +1,4 @@
-use Rattle.dali_sqlite.proofs.Open.{was_up}
-use Rattle.dali_sqlite.proofs.Effects.{asks_held, asks_open}
+use Rattle.dali_sqlite.proofs.{Effects.asks_held, Effects.asks_open, Open.was_up}
 use Rattle.dali_sqlite.proofs.statements.objects.Goals as goal
 
 pub returns-clause-same : goal.returns-clause-same

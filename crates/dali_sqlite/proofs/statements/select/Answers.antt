@@ -1,8 +1,7 @@
 use Rattle.std.proofs.Common.{◌⊎◌, inl, inr, [], arith}
 use Rattle.sqlite.specs.Held.{state}
-use Rattle.dali_sqlite.proofs.Texts.{select_text}
-use Rattle.dali_sqlite.proofs.Open.{was_up, shown_open, query_stays, stays_open, stays_holds}
 use Rattle.dali_sqlite.proofs.Effects.{selects_exactly, selects_found, selects_quietly}
+use Rattle.dali_sqlite.proofs.{Open.was_up, Open.shown_open, Open.query_stays, Open.stays_open, Open.stays_holds, Texts.select_text}
 use Rattle.dali_sqlite.proofs.statements.select.Goals as goal
 
 or_never : {A B : Type 0} → A ⊎ B → (B → ⊥) → A

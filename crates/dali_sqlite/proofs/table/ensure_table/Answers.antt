@@ -1,9 +1,7 @@
-use Rattle.std.proofs.Common.{◌≡◌, inl, inr, Bool, true, false, not, Result, Ok, Err, OnOk, refl, sym, ap, ◌∙◌, codes, true≢false}
-use Rattle.std.specs.Prelude.{is_some}
+use Rattle.std.proofs.Common.{◌≡◌, inl, inr, Bool, true, false, not, Result, Ok, Err, OnOk, refl, sym, ap, ◌∙◌, codes, true≢false, is_some}
 use Rattle.sqlite.specs.Schema.{Schema}
 use Rattle.sqlite_schema.specs.Names.{table_named}
-use Rattle.dali_sqlite.specs.Table.{record_schema}
-use Rattle.dali_sqlite.proofs.Texts.{named}
+use Rattle.dali_sqlite.{specs.Table.record_schema, proofs.Texts.named}
 use Rattle.dali_sqlite.proofs.table.ensure_table.Goals as goal
 
 outside : (told within : Bool) → told ≡ not within → told ≡ true → within ≡ false

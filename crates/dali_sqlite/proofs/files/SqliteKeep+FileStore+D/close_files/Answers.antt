@@ -1,8 +1,6 @@
 use Rattle.std.proofs.Common.{sym, subst}
 use Rattle.sqlite.specs.Files.{file_state}
-use Rattle.dali_sqlite.specs.Stored.{Holds}
-use Rattle.dali_sqlite.proofs.Schemas.{committed_table}
-use Rattle.dali_sqlite.proofs.Left.{alone_of}
+use Rattle.dali_sqlite.{specs.Stored.Holds, proofs.Left.alone_of, proofs.Schemas.committed_table}
 use Rattle.dali_sqlite.proofs.files.SqliteKeep+FileStore+D.close_files.Goals as goal
 
 pub returns-in-Ok-clause-held : goal.returns-in-Ok-clause-held

@@ -1,12 +1,7 @@
 use Rattle.std.proofs.Common.{subst}
-use Rattle.sqlite.specs.WalFiles.{outcomes}
-use Rattle.sqlite.specs.WalReads.{AreClean}
-use Rattle.sqlite.specs.FileStore.{recovers}
-use Rattle.sqlite.specs.Files.{file_state}
+use Rattle.sqlite.specs.{FileStore.recovers, Files.file_state, WalFiles.outcomes, WalReads.AreClean}
 use Rattle.sqlite_store.specs.Laws.{settled_at}
-use Rattle.dali_sqlite.specs.Keep.{connection_of}
-use Rattle.dali_sqlite.proofs.Schemas.{committed_table}
-use Rattle.dali_sqlite.proofs.Left.{stopped, left_records, either_records}
+use Rattle.dali_sqlite.{specs.Keep.connection_of, proofs.Left.stopped, proofs.Left.left_records, proofs.Left.either_records, proofs.Schemas.committed_table}
 use Rattle.dali_sqlite.proofs.files.SqliteKeep+FileStore+D.into_files.Goals as goal
 
 pub returns-clause-allowed : goal.returns-clause-allowed

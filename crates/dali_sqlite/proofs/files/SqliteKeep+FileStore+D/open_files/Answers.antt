@@ -1,7 +1,6 @@
 use Rattle.std.proofs.Common.{inr, Result, Ok, Err, IfOk}
 use Rattle.sqlite.specs.Files.{file_state}
-use Rattle.dali_sqlite.proofs.Schemas.{opened_holds}
-use Rattle.dali_sqlite.proofs.Left.{finds_records}
+use Rattle.dali_sqlite.proofs.{Left.finds_records, Schemas.opened_holds}
 use Rattle.dali_sqlite.proofs.files.SqliteKeep+FileStore+D.open_files.Goals as goal
 
 of_three : {T E : Type 0} (r : Result T E) (A B C Q : T → Type 0) → ((k : T) → A k → B k → C k → Q k) → IfOk r A → IfOk r B → IfOk r C → IfOk r Q

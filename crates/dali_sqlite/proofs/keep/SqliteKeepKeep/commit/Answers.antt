@@ -1,7 +1,6 @@
 use Rattle.std.proofs.Common.{false, refl, subst}
 use Rattle.sqlite.specs.Held.{state}
-use Rattle.dali_sqlite.specs.Stored.{IsStored}
-use Rattle.dali_sqlite.proofs.Known.{more_stored}
+use Rattle.dali_sqlite.{specs.Stored.IsStored, proofs.Known.more_stored}
 use Rattle.dali_sqlite.proofs.keep.SqliteKeepKeep.commit.Goals as goal
 
 pub returns-clause-sound : goal.returns-clause-sound
