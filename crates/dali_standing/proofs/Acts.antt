@@ -1,38 +1,24 @@
-use Rattle.std.proofs.Common.{◌≡◌, ℕ, ◌<◌, ◌⊎◌, inl, inr, Bool, true, false, List, [], ◌∷◌, ◌++◌, refl, sym, ap, subst, ◌∙◌, arith, Option, Some, None}
-use Rattle.std.specs.Prelude.{◌==◌, if◌then◌else◌}
+use Rattle.std.proofs.Common.{◌≡◌, ℕ, ◌<◌, ◌⊎◌, inl, inr, Bool, true, false, List, [], ◌∷◌, ◌++◌, refl, sym, ap, subst, ◌∙◌, arith, Option, Some, None, ◌==◌}
+use Rattle.std.proofs.Common.{if◌then◌else◌}
 use Rattle.std.proofs.lemmas.Bool.Decides.{nat_tests}
-use Rattle.dali_frame.specs.declared.frames.Forward.{Forward}
-use Rattle.dali_frame.specs.declared.frames.Answer.{Answer}
-use Rattle.dali_frame.specs.Random.{MASK24}
-use Rattle.dali_frame.specs.Priority.{LATER}
-use Rattle.dali_special.specs.declared.command.Command.{Command}
-use Rattle.dali_special.specs.declared.command.Command.TheVariants.{Arc}
-use Rattle.dali_special.specs.Command.{command_of}
+use Rattle.dali_frame.specs.{Priority.LATER, Random.MASK24, declared.frames.Answer.Answer, declared.frames.Forward.Forward}
+use Rattle.dali_special.specs.{Command.command_of, declared.command.Command.Command, declared.command.Command.TheVariants.Arc}
 use Rattle.dali_arbiter.specs.Arbiter.{owns}
-use Rattle.dali_script.specs.declared.trace.Entry.{Entry}
-use Rattle.dali_script.specs.declared.finding.Finding.{Finding}
-use Rattle.dali_script.specs.declared.records.Record.{Record}
-use Rattle.dali_script.specs.declared.records.Record.TheVariants.{Reserve, Enrol, Release}
-use Rattle.dali_script.specs.Records.{Kept, InBlock, MayAdd}
-use Rattle.dali_script.specs.Findings.{finding_of, later}
-use Rattle.dali_script.specs.Scripts.{Lawful, IsFirst}
-use Rattle.dali_script.specs.Stages.{stage_of, may_follow}
-use Rattle.dali_script.proofs.Transactions.{over, follows_lawful}
-use Rattle.dali_script.specs.declared.orders.Input.{Input}
-use Rattle.dali_script.specs.declared.orders.Input.TheVariants as input
-use Rattle.dali_script.specs.declared.orders.Order.{Order}
+use Rattle.dali_script.specs.{Due.due_after, Due.accepts, Due.frame_put, Due.record_ordered, Findings.finding_of, Findings.later, Records.Kept, Records.InBlock}
+use Rattle.dali_script.specs.{Records.MayAdd, Scripts.Lawful, Scripts.IsFirst, Stages.stage_of, Stages.may_follow}
+use Rattle.dali_script.specs.declared.{finding.Finding.Finding, orders.Input.Input, orders.Order.Order}
 use Rattle.dali_script.specs.declared.orders.Order.TheVariants.{Put, Commit, Done, Halt}
-use Rattle.dali_script.specs.Due.{due_after, accepts, frame_put, record_ordered}
+use Rattle.dali_script.specs.declared.records.Record.{Record, TheVariants.Reserve, TheVariants.Enrol, TheVariants.Release}
+use Rattle.dali_script.{specs.declared.trace.Entry.Entry, proofs.Transactions.over, proofs.Transactions.follows_lawful}
+use Rattle.dali_script.specs.declared.orders.Input.TheVariants as input
 use Rattle.dali_controller.specs.Machine.{Machine, machine_told, machine_heard, machine_committed}
 use Rattle.dali_controller.specs.Orders.{IsOrdered, IsAnswered, IsAllowed, IsAddressing, trace_by, machine_ordered, machine_after}
-use Rattle.dali_events.specs.World.{World, Controller}
-use Rattle.dali_events.specs.Happens.{entry, controller_informed, outstanding_told, outstanding_after, is_arc}
-use Rattle.dali_events.specs.Allowed.{IsDue, IsCommit, MayOrder}
 use Rattle.dali_controller.proofs.Given.{enrols_assigned}
+use Rattle.dali_events.specs.{Allowed.IsDue, Allowed.IsCommit, Allowed.MayOrder, Happens.entry, Happens.controller_informed, Happens.outstanding_told}
+use Rattle.dali_events.specs.{Happens.outstanding_after, Happens.is_arc, World.World, World.Controller}
 use Rattle.dali_standing.specs.Seats.{IsRunning, IsSeat, IsTold, IsOutstanding, IsFound, IsEnrolling, MayAnswer, seat_by, machine_in, acted_in, informed_by}
-use Rattle.dali_standing.specs.declared.seat.Place.{Place}
-use Rattle.dali_standing.specs.declared.seat.Place.TheVariants.{Up, Down}
 use Rattle.dali_standing.specs.Settled.{IsOwning, IsApart, IsPlacedBy}
+use Rattle.dali_standing.specs.declared.seat.Place.{Place, TheVariants.Up, TheVariants.Down}
 
 -- WHAT A CONTROLLER ORDERS, the table of events allows.
 

@@ -1,50 +1,32 @@
-use Rattle.std.proofs.Common.{◌≡◌, ℕ, ◌<◌, ◌≤◌, ◌⊎◌, inl, inr, Bool, true, false, List, [], ◌∷◌, ◌++◌, refl, sym, ap, subst, ◌∙◌, length, length-set}
-use Rattle.std.proofs.Common.{get_or, Option, Some, None, IfSome, ◌↔◌}
-use Rattle.std.specs.Prelude.{if◌then◌else◌}
+use Rattle.std.proofs.Common.{◌≡◌, ℕ, ◌<◌, ◌≤◌, ◌⊎◌, inl, inr, Bool, true, false, List, [], ◌∷◌, ◌++◌, refl, sym, ap, subst, ◌∙◌, length, length-set, get_or}
+use Rattle.std.proofs.Common.{Option, Some, None, IfSome, ◌↔◌, if◌then◌else◌}
 use Rattle.std.proofs.lemmas.List.{get_or_read_under, length-map}
-use Rattle.dali_frame.specs.declared.frames.Forward.{Forward}
-use Rattle.dali_frame.specs.declared.frames.Answer.{Answer}
-use Rattle.dali_special.specs.Command.{command_of}
-use Rattle.dali_gear.specs.declared.gear_set.GearSet.{GearSet}
+use Rattle.dali_frame.specs.declared.frames.{Answer.Answer, Forward.Forward}
+use Rattle.dali_special.{specs.Command.command_of, specs.declared.command.Command.TheVariants.Arc, proofs.Table.arc_of}
+use Rattle.dali_gear.specs.{Row.answers_of, Row.draws_needed, Row.heard_of, declared.gear_set.GearSet.GearSet}
 use Rattle.dali_gear.specs.declared.row.Reach.TheVariants.{Everyone, Only}
-use Rattle.dali_gear.specs.Row.{answers_of, draws_needed, heard_of}
-use Rattle.dali_arbiter.specs.declared.request.Request.{Request}
 use Rattle.dali_arbiter.specs.Arbiter.{Arbiter, owns, total, next, request_of, bus_lapsed, bus_offered, bus_sent, bus_destroyed, bus_collided, collision}
-use Rattle.dali_arbiter.specs.Arbiter.{bus_silenced, bus_freed, bus_muted}
-use Rattle.dali_script.specs.declared.trace.Entry.{Entry}
-use Rattle.dali_script.specs.Scripts.{IsLawful, IsFirst}
-use Rattle.dali_script.specs.declared.stage.Stage.{Stage}
-use Rattle.dali_script.specs.Stages.{stage_of, may_follow, IsReached}
-use Rattle.dali_script.specs.declared.orders.Input.{Input}
+use Rattle.dali_arbiter.specs.{Arbiter.bus_silenced, Arbiter.bus_freed, Arbiter.bus_muted, declared.request.Request.Request}
+use Rattle.dali_script.specs.{Due.frame_put, Records.Kept, Scripts.IsLawful, Scripts.IsFirst, Stages.stage_of, Stages.may_follow, Stages.IsReached}
+use Rattle.dali_script.specs.declared.orders.{Input.Input, Order.Order, Order.TheVariants.Put, Order.TheVariants.Commit, Order.TheVariants.Done}
+use Rattle.dali_script.specs.declared.{orders.Order.TheVariants.Halt, stage.Stage.Stage, trace.Entry.Entry}
 use Rattle.dali_script.specs.declared.orders.Input.TheVariants as input
-use Rattle.dali_script.specs.declared.orders.Order.{Order}
-use Rattle.dali_script.specs.declared.orders.Order.TheVariants.{Put, Commit, Done, Halt}
-use Rattle.dali_script.specs.Due.{frame_put}
-use Rattle.dali_events.specs.declared.event.Event.{Event}
-use Rattle.dali_events.specs.declared.event.Event.TheVariants as event
-use Rattle.dali_events.specs.World.{World, Controller}
-use Rattle.dali_events.specs.Happens.{happens, entry, gives_up, put_after, is_arc, told_sent, told_destroyed, told_lapsed, sent_by}
+use Rattle.dali_controller.specs.Machine.{Machine}
 use Rattle.dali_events.specs.Allowed.{Allowed, IsUp, Hears, MaySend, IsDue, IsArc, HasOutstanding}
+use Rattle.dali_events.specs.Happens.{happens, entry, gives_up, put_after, is_arc, told_sent, told_destroyed, told_lapsed, sent_by}
+use Rattle.dali_events.specs.{Troubles.heard_under, Troubles.nobody_at_all, World.World, World.Controller, declared.event.Event.Event}
+use Rattle.dali_events.{specs.declared.trouble.Trouble.Trouble, proofs.Invariant.Growing.plain_hearing, proofs.Invariant.Sending.lawful_of}
+use Rattle.dali_events.specs.declared.event.Event.TheVariants as event
+use Rattle.dali_events.specs.declared.trouble.Trouble.TheVariants as trouble
 use Rattle.dali_standing.specs.FittedGear.{FittedGear, taken_at}
-use Rattle.dali_script.specs.Records.{Kept}
 use Rattle.dali_standing.specs.Seats.{Seat, Agrees, IsRunning, IsTied, MayAnswer, LeavesWhole, acted_at, told_at, down_at, up_at, trace_of}
+use Rattle.dali_standing.specs.Settled.{IsAccepted, IsHearing, IsOwning, IsPlacedBy, IsPlaced, IsPlacedOn, Settled, FollowsItsMachine}
 use Rattle.dali_standing.specs.Standing.{Seated, seat_in, empty_seat, seated, running_told, running_at, running_by, Standing, flat, stand_of, controller_on}
 use Rattle.dali_standing.specs.Standing.{machine_in, machines_after, Moves, MayBeSent, WasOrdered}
-use Rattle.dali_standing.proofs.Seats.{seat_at, world_of, with_seat, running_in, goes_on_in, has_acted, has_offered, has_sent, has_lost, has_collided}
-use Rattle.dali_standing.proofs.Seats.{has_lapsed, has_gone_down, has_come_up, IsMove}
-use Rattle.dali_standing.specs.Settled.{IsAccepted, IsHearing, IsOwning, IsPlacedBy, IsPlaced, IsPlacedOn, Settled, FollowsItsMachine}
-use Rattle.dali_events.specs.declared.trouble.Trouble.{Trouble}
-use Rattle.dali_events.specs.declared.trouble.Trouble.TheVariants as trouble
-use Rattle.dali_events.specs.Troubles.{heard_under, nobody_at_all}
-use Rattle.dali_standing.proofs.Moves.{MaySendAt, is_up, controller_in, machine_of, up_there, place_elsewhere, moves_acted, moves_offered, moves_sent}
-use Rattle.dali_standing.proofs.Moves.{moves_lost, moves_collided, moves_lapsed, moves_down, moves_up}
-use Rattle.dali_special.specs.declared.command.Command.TheVariants.{Arc}
-use Rattle.dali_special.proofs.Table.{arc_of}
-use Rattle.dali_controller.specs.Machine.{Machine}
-use Rattle.dali_events.proofs.Invariant.Growing.{plain_hearing}
-use Rattle.dali_events.proofs.Invariant.Sending.{lawful_of}
-use Rattle.dali_standing.proofs.Placing.{running_is, owner_acted}
-use Rattle.dali_standing.proofs.Acts.{owner_owns}
+use Rattle.dali_standing.proofs.{Acts.owner_owns, Moves.MaySendAt, Moves.is_up, Moves.controller_in, Moves.machine_of, Moves.up_there}
+use Rattle.dali_standing.proofs.Moves.{place_elsewhere, moves_acted, moves_offered, moves_sent, moves_lost, moves_collided, moves_lapsed, moves_down, moves_up}
+use Rattle.dali_standing.proofs.{Placing.running_is, Placing.owner_acted, Seats.seat_at, Seats.world_of, Seats.with_seat, Seats.running_in}
+use Rattle.dali_standing.proofs.Seats.{goes_on_in, has_acted, has_offered, has_sent, has_lost, has_collided, has_lapsed, has_gone_down, has_come_up, IsMove}
 use Rattle.dali_standing.proofs.Settling.{next_at, owner_put, is_collision, is_arc_of, arc_tells, may_ask, accepted, settled_acted, settled_offered}
 use Rattle.dali_standing.proofs.Settling.{settled_sent, settled_lost, settled_collided, settled_lapsed, settled_down, settled_up}
 

@@ -1,26 +1,16 @@
-use Rattle.std.proofs.Common.{◌≡◌, ℕ, ◌<◌, inl, inr, Bool, true, false, Option, Some, None, List, [], ◌∷◌, refl, sym, ap, subst, ◌∙◌, arith}
-use Rattle.std.proofs.lemmas.Bool.Decides.{nat_tests}
-use Rattle.std.specs.Prelude.{◌==◌, ◌||◌, nat_lt}
-use Rattle.std.specs.List.{list_any}
-use Rattle.dali_frame.specs.declared.numbers.SearchAddress.{SearchAddress}
-use Rattle.dali_frame.specs.Random.{value_of}
-use Rattle.dali_script.specs.declared.block.Block.{Block}
+use Rattle.std.proofs.Common.{◌≡◌, ℕ, ◌<◌, inl, inr, Bool, true, false, Option, Some, None, List, [], ◌∷◌, refl, sym, ap, subst, ◌∙◌, arith, ◌==◌, ◌||◌, nat_lt}
+use Rattle.std.{proofs.lemmas.Bool.Decides.nat_tests, specs.List.list_any}
+use Rattle.dali_frame.specs.{Random.value_of, declared.numbers.SearchAddress.SearchAddress}
+use Rattle.dali_script.specs.{Records.Assignment, Records.Has, Records.HasRandom, Records.IsLeastFree, declared.block.Block.Block, declared.orders.Input.Input}
+use Rattle.dali_script.specs.declared.orders.Order.{Order, TheVariants.Put, TheVariants.Commit, TheVariants.Done, TheVariants.Halt}
 use Rattle.dali_script.specs.declared.records.Record.TheVariants.{Reserve, Enrol, Release}
-use Rattle.dali_script.specs.Records.{Assignment, Has, HasRandom, IsLeastFree}
 use Rattle.dali_script.proofs.Lists.{has_map}
-use Rattle.dali_script.specs.declared.orders.Input.{Input}
 use Rattle.dali_script.specs.declared.orders.Input.TheVariants as input
-use Rattle.dali_script.specs.declared.orders.Order.{Order}
-use Rattle.dali_script.specs.declared.orders.Order.TheVariants.{Put, Commit, Done, Halt}
-use Rattle.dali_controller.specs.declared.way.Way.{Way}
-use Rattle.dali_controller.specs.declared.way.Way.TheVariants.{Fresh, Surveying}
-use Rattle.dali_controller.specs.Course.{Course, address_for, least_open}
-use Rattle.dali_controller.specs.Machine.{Machine, machine_told, is_withheld}
+use Rattle.dali_controller.specs.{Course.Course, Course.address_for, Course.least_open, Machine.Machine, Machine.machine_told, Machine.is_withheld}
 use Rattle.dali_controller.specs.Orders.{AfterMask, AfterReserved, AfterMaskBy, AfterMaskSurveyed, AfterMaskOn, IsOrdered, IsAnswered}
+use Rattle.dali_controller.specs.declared.way.Way.{Way, TheVariants.Fresh, TheVariants.Surveying}
+use Rattle.dali_events.specs.{Runs.LeavesUsed, Used.used_shorts, declared.used.Used.Used}
 use Rattle.dali_events.specs.declared.event.Event.TheVariants as event
-use Rattle.dali_events.specs.declared.used.Used.{Used}
-use Rattle.dali_events.specs.Used.{used_shorts}
-use Rattle.dali_events.specs.Runs.{LeavesUsed}
 use Rattle.dali_standing.specs.Seats.{MayAnswer, ReservesUsed, MayReserveUsed}
 
 -- ---------------------------------------------------------------- short addresses that used gear have

@@ -1,34 +1,21 @@
 use Rattle.std.proofs.Common.{◌≡◌, ℕ, ◌+◌, ◌<◌, ◌≤◌, Bool, true, false, List, [], ◌∷◌, refl, sym, ap, subst, ◌∙◌, arith, length, map, get_or, set}
-use Rattle.std.proofs.Common.{get_or-set_same, get_or-set_other, Option, Some, None}
-use Rattle.std.specs.Prelude.{zero, suc}
-use Rattle.std.specs.Option.{option_map}
-use Rattle.std.proofs.lemmas.List.{length-map}
-use Rattle.dali_frame.specs.declared.frames.Forward.{Forward}
-use Rattle.dali_frame.specs.declared.frames.Answer.{Answer}
+use Rattle.std.proofs.Common.{get_or-set_same, get_or-set_other, Option, Some, None, zero, suc}
+use Rattle.std.{proofs.lemmas.List.length-map, specs.Option.option_map}
+use Rattle.dali_frame.specs.declared.frames.{Answer.Answer, Forward.Forward}
 use Rattle.dali_special.specs.Command.{command_of}
-use Rattle.dali_gear.specs.declared.gear_set.GearSet.{GearSet}
+use Rattle.dali_gear.specs.{Row.answers_of, Row.draws_needed, declared.gear_set.GearSet.GearSet}
 use Rattle.dali_gear.specs.declared.row.Reach.TheVariants.{Everyone, Only}
-use Rattle.dali_gear.specs.Row.{answers_of, draws_needed}
 use Rattle.dali_arbiter.specs.Arbiter.{owns}
-use Rattle.dali_script.specs.declared.block.Block.{Block}
-use Rattle.dali_script.specs.Records.{without_records}
-use Rattle.dali_events.specs.Plan.{Plan}
-use Rattle.dali_script.specs.Scripts.{IsFirst}
-use Rattle.dali_script.specs.declared.orders.Input.{Input}
-use Rattle.dali_script.specs.declared.orders.Order.{Order}
-use Rattle.dali_controller.specs.Machine.{Machine, at_first}
-use Rattle.dali_controller.specs.Orders.{machine_after}
-use Rattle.dali_events.specs.declared.event.Event.TheVariants as event
-use Rattle.dali_events.specs.World.{World, Controller, nobody, controllers_changed, controller_begun, start}
-use Rattle.dali_events.specs.Happens.{happens, controller_informed, controller_acted, told_sent, told_destroyed, told_lapsed, owner_told}
-use Rattle.dali_events.specs.Happens.{gone_down, come_up}
+use Rattle.dali_script.specs.{Records.without_records, Scripts.IsFirst, declared.block.Block.Block, declared.orders.Input.Input, declared.orders.Order.Order}
+use Rattle.dali_controller.specs.{Machine.Machine, Machine.at_first, Orders.machine_after}
 use Rattle.dali_events.specs.Allowed.{Hears, IsUp, IsDue, IsArc, MaySend, MayOrder, HasOutstanding}
-use Rattle.dali_standing.specs.Seats.{Seat, IsTied, MayAnswer, acted_at, down_at, up_at, told_at}
+use Rattle.dali_events.specs.Happens.{happens, controller_informed, controller_acted, told_sent, told_destroyed, told_lapsed, owner_told, gone_down, come_up}
+use Rattle.dali_events.specs.{Plan.Plan, World.World, World.Controller, World.nobody, World.controllers_changed, World.controller_begun, World.start}
+use Rattle.dali_events.specs.declared.event.Event.TheVariants as event
+use Rattle.dali_standing.specs.{Seats.Seat, Seats.IsTied, Seats.MayAnswer, Seats.acted_at, Seats.down_at, Seats.up_at, Seats.told_at, Settled.IsPlaced}
 use Rattle.dali_standing.specs.Standing.{Seated, empty_seat, seat_in, controllers_of, machines_of, machine_in, flat, stand_of, seats_from, machines_at}
-use Rattle.dali_standing.proofs.Seats.{seat_at, world_of, with_seat, running_in, has_acted, has_offered, has_sent, has_lost, has_collided, owner_lapsed}
-use Rattle.dali_standing.proofs.Seats.{has_lapsed, has_gone_down, has_come_up, IsMove, seated_at}
-use Rattle.dali_standing.specs.Settled.{IsPlaced}
-use Rattle.dali_standing.proofs.Acts.{may_order}
+use Rattle.dali_standing.proofs.{Acts.may_order, Seats.seat_at, Seats.world_of, Seats.with_seat, Seats.running_in, Seats.has_acted}
+use Rattle.dali_standing.proofs.Seats.{has_offered, has_sent, has_lost, has_collided, owner_lapsed, has_lapsed, has_gone_down, has_come_up, IsMove, seated_at}
 
 -- WHAT HAPPENS TO WHAT STANDS IS WHAT THE DEFINITIONS SAY OF ITS WORLD.
 

@@ -1,21 +1,16 @@
-use Rattle.std.proofs.Common.{◌≡◌, ℕ, ◌⊎◌, inl, inr, Bool, true, false, not, List, [], ◌∷◌, ◌++◌, refl, sym, ap, subst, arith, Option, Some, None}
-use Rattle.std.specs.Prelude.{◌&&◌, if◌then◌else◌}
+use Rattle.std.proofs.Common.{◌≡◌, ℕ, ◌⊎◌, inl, inr, Bool, true, false, not, List, [], ◌∷◌, ◌++◌, refl, sym, ap, subst, arith, Option, Some, None, ◌&&◌}
+use Rattle.std.proofs.Common.{if◌then◌else◌}
 use Rattle.std.proofs.lemmas.Bool.Decides.{nat_tests}
-use Rattle.dali_frame.specs.declared.frames.Forward.{Forward}
-use Rattle.dali_frame.specs.declared.frames.Answer.{Answer}
+use Rattle.dali_frame.specs.declared.frames.{Answer.Answer, Forward.Forward}
 use Rattle.dali_special.specs.Command.{command_of}
 use Rattle.dali_arbiter.specs.Arbiter.{Arbiter, owns, bus_lapsed}
-use Rattle.dali_script.specs.declared.trace.Entry.{Entry}
-use Rattle.dali_script.specs.Stages.{stage_of, may_follow}
-use Rattle.dali_script.specs.declared.orders.Input.{Input}
-use Rattle.dali_script.specs.declared.orders.Input.TheVariants as input
-use Rattle.dali_script.specs.declared.orders.Order.{Order}
+use Rattle.dali_script.specs.{Stages.stage_of, Stages.may_follow, declared.orders.Input.Input, declared.orders.Order.Order}
 use Rattle.dali_script.specs.declared.orders.Order.TheVariants.{Put, Commit, Done, Halt}
-use Rattle.dali_controller.specs.Machine.{Machine}
-use Rattle.dali_controller.specs.Orders.{machine_after}
-use Rattle.dali_events.specs.World.{World, Controller}
-use Rattle.dali_events.specs.Happens.{entry, controller_informed, controller_acted, gives_up, keeps_bus, bus_acted, told_sent, is_arc}
-use Rattle.dali_events.specs.Allowed.{IsDue}
+use Rattle.dali_script.specs.declared.trace.Entry.{Entry}
+use Rattle.dali_script.specs.declared.orders.Input.TheVariants as input
+use Rattle.dali_controller.specs.{Machine.Machine, Orders.machine_after}
+use Rattle.dali_events.specs.{Allowed.IsDue, Happens.entry, Happens.controller_informed, Happens.controller_acted, Happens.gives_up, Happens.keeps_bus}
+use Rattle.dali_events.specs.{Happens.bus_acted, Happens.told_sent, Happens.is_arc, World.World, World.Controller}
 use Rattle.dali_standing.specs.Seats.{Seat, IsTied, MayAnswer, acted_at, told_at, trace_of}
 use Rattle.dali_standing.specs.Settled.{IsOwning, IsApart, IsPlacedBy, IsPlaced}
 use Rattle.dali_standing.proofs.Acts.{IsLeft, may_order, owner_is, owner_owns, other_owns}

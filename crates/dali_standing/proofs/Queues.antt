@@ -1,18 +1,12 @@
 use Rattle.std.proofs.Common.{◌≡◌, ℕ, ◌+◌, ◌<◌, ◌≤◌, ◌⊎◌, inl, inr, Bool, true, false, not, List, [], ◌∷◌, ◌++◌, length, map, filter, take, Option, Some, None}
-use Rattle.std.proofs.Common.{refl, sym, ap, subst, ◌∙◌, arith, suc, ◌==◌}
-use Rattle.std.specs.Prelude.{◌&&◌, if◌then◌else◌, is_some}
-use Rattle.std.specs.List.{AllByRecursion}
-use Rattle.std.proofs.lemmas.Bool.Decides.{nat_tests}
-use Rattle.std.proofs.lemmas.List.Elements.{filter-append}
-use Rattle.std.proofs.lemmas.List.{append-nil}
+use Rattle.std.proofs.Common.{refl, sym, ap, subst, ◌∙◌, arith, suc, ◌==◌, ◌&&◌, if◌then◌else◌, is_some}
+use Rattle.std.{proofs.lemmas.Bool.Decides.nat_tests, proofs.lemmas.List.append-nil, proofs.lemmas.List.Elements.filter-append, specs.List.AllByRecursion}
 use Rattle.dali_frame.specs.declared.frames.Forward.{Forward}
 use Rattle.dali_special.specs.Command.{command_of}
-use Rattle.dali_arbiter.specs.declared.request.Request.{Request}
-use Rattle.dali_arbiter.specs.Arbiter.{Arbiter, owns, request_of, idle, bus_offered, put_last, bus_freed, first_emptied, bus_lapsed, without_first}
-use Rattle.dali_arbiter.specs.Arbiter.{next, first_waiting, collision, bus_destroyed, bus_silenced, bus_muted, without_sender}
-use Rattle.dali_arbiter.proofs.Collisions.{unequal, collision_first, first_of_all, collision_apart}
-use Rattle.dali_script.specs.declared.orders.Input.{Input}
-use Rattle.dali_script.specs.declared.orders.Order.{Order}
+use Rattle.dali_arbiter.specs.Arbiter.{Arbiter, owns, request_of, idle, bus_offered, put_last, bus_freed, first_emptied, bus_lapsed, without_first, next}
+use Rattle.dali_arbiter.specs.Arbiter.{first_waiting, collision, bus_destroyed, bus_silenced, bus_muted, without_sender}
+use Rattle.dali_arbiter.{specs.declared.request.Request.Request, proofs.Collisions.unequal, proofs.Collisions.first_of_all}
+use Rattle.dali_script.specs.declared.orders.{Input.Input, Order.Order}
 use Rattle.dali_script.specs.declared.orders.Order.TheVariants.{Put, Commit, Done, Halt}
 use Rattle.dali_events.specs.Happens.{bus_acted, gives_up, put_after, sent_by, is_arc}
 use Rattle.dali_standing.specs.Seats.{Seat}
@@ -315,9 +309,6 @@ module _ (lists : List (List Request)) (owner : Option ℕ) (place place' : ℕ 
       → IsServed (first_emptied (without_first lists)) None place'
   left_free left elsewhere gone = subst (λ ls. IsServed (first_emptied ls) None place') (sym left.whole) (left_rest left elsewhere gone)
 
-  left_first : IsTaken lists owner place r → Elsewhere place place' r.sender → Gone owner place place' r → IsServed (without_first lists) None place'
-  left_first left elsewhere gone = subst (λ ls. IsServed ls None place') (sym left.whole) (left_rest left elsewhere gone)
-
   left_owned : IsTaken lists owner place r → Elsewhere place place' r.sender → is_arc (command_of r.frame) ≡ false
       → awaited_requests r.sender (place' r.sender).controller ≡ [] → IsServed (without_first lists) (Some r.sender) place'
   left_owned left elsewhere scripted none = subst (λ ls. IsServed ls (Some r.sender) place') (sym left.whole) (sym none, λ d. go d (decided d r.sender)) where
@@ -345,40 +336,6 @@ pub served_destroyed : (b : Arbiter) (place place' : ℕ → Seat) (r : Request)
     → Elsewhere place place' r.sender → Gone b.owner place place' r → IsServed (bus_destroyed b).lists (bus_destroyed b).owner place'
 served_destroyed b place place' r served first elsewhere gone =
     left_free b.lists b.owner place place' r (taken_is b.lists b.owner place r served first) elsewhere gone
-
--- two frames collided: the one that is next left, and then the other
-module _ (lists : List (List Request)) (place place' : ℕ → Seat) (r q : Request) where
-  abbrev between : ℕ → Seat
-  between d = if d == r.sender then place' d else place d
-
-  between_own : (d : ℕ) → d ≡ r.sender → between d ≡ place' d
-  between_own d is = let test : (d == r.sender) ≡ true = rw is (same_test r.sender) in rw test refl
-
-  between_other : (d : ℕ) → (d ≡ r.sender → ⊥) → between d ≡ place d
-  between_other d other = rw (apart_test d r.sender other) refl
-
-  gone_before : Gone None place place' r → Gone None place between r
-  gone_before (inl g) = inl (g.0, subst (λ p. awaited_requests r.sender p.controller ≡ []) (sym (between_own r.sender refl)) g.1)
-  gone_before (inr g) = inr (g.0, between_own r.sender refl ∙ g.1, refl)
-
-  gone_after : (q.sender ≡ r.sender → ⊥) → Gone None place place' q → Gone None between place' q
-  gone_after apart (inl g) = inl g
-  gone_after apart (inr g) = inr (g.0, g.1 ∙ sym (between_other q.sender apart), refl)
-
-  left_both : IsServed lists None place → first_waiting lists ≡ Some r → collision lists ≡ Some q
-      → ((d : ℕ) → (d ≡ r.sender → ⊥) → (d ≡ q.sender → ⊥) → place' d ≡ place d) → Gone None place place' r → Gone None place place' q
-      → IsServed (first_emptied (without_first (without_first lists))) None place'
-  left_both served first second elsewhere gone other_gone =
-      left_free (without_first lists) None between place' q
-      (taken_is (without_first lists) None between q before (collision_first lists q second))
-      (λ d other. go d other (decided d r.sender))
-      (gone_after (λ e. collision_apart lists r q first second (sym e)) other_gone) where
-        before : IsServed (without_first lists) None between
-        before = left_first lists None place between r (taken_is lists None place r served first) between_other (gone_before gone)
-
-        go : (d : ℕ) → (d ≡ q.sender → ⊥) → (d ≡ r.sender) ⊎ (d ≡ r.sender → ⊥) → place' d ≡ between d
-        go d other (inl is) = sym (between_own d is)
-        go d other (inr apart) = elsewhere d apart other ∙ sym (between_other d apart)
 
 -- ---------------------------------------------------------------- the owner loses the bus
 

@@ -1,17 +1,13 @@
-use Rattle.std.proofs.Common.{◌≡◌, ℕ, ◌+◌, ◌<◌, List, [], ◌∷◌, ◌++◌, map, take, drop, length, get_or, set, refl, sym, ap, subst, ◌∙◌, arith, Option, Some, None}
-use Rattle.std.proofs.Common.{Bool, true, false, inl, inr, zero-add}
-use Rattle.std.specs.Prelude.{◌&&◌, if◌then◌else◌, zero, suc}
-use Rattle.std.proofs.lemmas.List.{drop-drop, drop_more, drop-set-lt, take_more_set, length-append}
+use Rattle.std.proofs.Common.{◌≡◌, ℕ, ◌+◌, ◌<◌, List, [], ◌∷◌, ◌++◌, drop, length, get_or, refl, sym, ap, subst, ◌∙◌, arith, Option, None, Bool, true, false}
+use Rattle.std.proofs.Common.{inl, inr, zero-add, ◌&&◌, if◌then◌else◌, zero, suc}
+use Rattle.std.proofs.lemmas.List.{drop-drop}
 use Rattle.dali_frame.specs.Random.{MASK24}
-use mathlib.Core.List.{append_assoc}
-use Rattle.dali_special.specs.declared.command.Command.{Command}
-use Rattle.dali_gear.specs.declared.row.Reach.{Reach}
-use Rattle.dali_gear.specs.Gear.{Gear, gear_quieted, draws_a_number}
-use Rattle.dali_special.specs.declared.command.Command.TheVariants.{Program}
-use Rattle.dali_gear.specs.Row.{takes, left_after, row_left, row_after, draws_needed, stored_short, stored_one, stored_of}
+use Rattle.dali_special.specs.declared.command.Command.{Command, TheVariants.Program}
+use Rattle.dali_gear.specs.{Gear.Gear, Gear.draws_a_number, Row.takes, Row.left_after, Row.row_left, Row.row_after, Row.draws_needed, Row.stored_short}
+use Rattle.dali_gear.specs.{Row.stored_one, Row.stored_of, declared.row.Reach.Reach}
 use Rattle.dali_script.specs.Records.{Has}
 use Rattle.dali_events.specs.Plan.{Plan, IsPlan}
-use Rattle.dali_standing.specs.FittedGear.{FittedGear, taken_at, gift_of}
+use Rattle.dali_standing.specs.FittedGear.{FittedGear, taken_at}
 
 -- no gear stores a short address at a command other than PROGRAM SHORT ADDRESS
 no_store : (x : Command) → ((short : Option ℕ) → x ≡ Program short → ⊥) → (g : Gear) → stored_short x g ≡ None
@@ -26,24 +22,6 @@ pub none_stored : (reach : Reach) (x : Command) (k : ℕ) (gs : List Gear) → (
 none_stored reach x k [] other = refl
 none_stored reach x k (g ∷ gs) other =
     stored_none (takes reach k g) k (stored_short x g) (stored_of reach x (k + 1) gs) (no_store x other g) ∙ none_stored reach x (k + 1) gs other
-
--- gear n of the row has become quiet
-pub quiet_more : (gs : List Gear) (n : ℕ) (d : Gear) (whole : List Gear) → n < length gs
-    → take n gs ++ map gear_quieted (drop n gs) ≡ whole
-    → take (n + 1) (set gs n (gear_quieted (get_or gs n d))) ++ map gear_quieted (drop (n + 1) (set gs n (gear_quieted (get_or gs n d)))) ≡ whole
-quiet_more gs n d whole here so_far =
-    let beyond : n < n + 1 = omega arith in
-    let known = rw (drop_more gs n d here) at so_far in
-    rw (take_more_set gs n (gear_quieted (get_or gs n d)) here, append_assoc, drop-set-lt (n + 1) gs n (gear_quieted (get_or gs n d)) beyond) known
-
-pub has_room : (reach : Reach) (x : Command) (gs : List Gear) (n : ℕ) (d : Gear) (gifts whole : List (ℕ × ℕ)) (a : ℕ) → n < length gs
-    → gift_of reach x n (get_or gs n d) ≡ Some a
-    → gifts ++ stored_of reach x n (drop n gs) ≡ whole
-    → length gifts < length whole
-has_room reach x gs n d gifts whole a here some so_far =
-    let known = rw (drop_more gs n d here, some) at so_far in
-    let counted : length gifts + length ((n, a) ∷ stored_of reach x (n + 1) (drop (n + 1) gs)) ≡ length whole = sym (length-append gifts _) ∙ ap length known in
-    omega arith
 
 -- what is left are the numbers that were left, without those that were drawn
 left_is : (reach : Reach) (x : Command) (k : ℕ) (gs : List Gear) (left : List ℕ) → row_left reach x k gs left ≡ drop (draws_needed reach x k gs) left

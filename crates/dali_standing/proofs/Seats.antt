@@ -1,21 +1,12 @@
 use Rattle.std.specs.Prelude.{◌≡◌, ℕ, Bool, List, [], ◌∷◌, ◌++◌, slice_set, Option, Some, None, if◌then◌else◌}
-use Rattle.dali_frame.specs.declared.frames.Forward.{Forward}
-use Rattle.dali_frame.specs.declared.frames.Answer.{Answer}
+use Rattle.dali_frame.specs.declared.frames.{Answer.Answer, Forward.Forward}
 use Rattle.dali_special.specs.Command.{command_of}
-use Rattle.dali_gear.specs.declared.gear_set.GearSet.{GearSet}
-use Rattle.dali_gear.specs.declared.row.Reach.TheVariants.{Everyone, Only}
+use Rattle.dali_gear.specs.declared.{gear_set.GearSet.GearSet, row.Reach.TheVariants.Everyone, row.Reach.TheVariants.Only}
 use Rattle.dali_arbiter.specs.Arbiter.{owns, idle, request_of, bus_offered, bus_destroyed, bus_collided, bus_lapsed, bus_silenced}
-use Rattle.dali_script.specs.declared.trace.Entry.{Entry}
-use Rattle.dali_script.specs.Stages.{stage_of, may_follow}
-use Rattle.dali_script.specs.declared.orders.Input.{Input}
-use Rattle.dali_script.specs.declared.orders.Order.{Order}
-use Rattle.dali_events.specs.declared.event.Event.{Event}
-use Rattle.dali_events.specs.Plan.{Plan}
-use Rattle.dali_events.specs.World.{World}
-use Rattle.dali_events.specs.Happens.{happens, entry, gives_up, bus_acted, sent_by, told_sent, told_destroyed, told_lapsed}
-use Rattle.dali_events.specs.Allowed.{Allowed}
-use Rattle.dali_standing.specs.FittedGear.{FittedGear, fitted_at, taken_at}
-use Rattle.dali_standing.specs.Seats.{Seat, acted_at, down_at, up_at, told_at}
+use Rattle.dali_script.specs.{Stages.stage_of, Stages.may_follow, declared.orders.Input.Input, declared.orders.Order.Order, declared.trace.Entry.Entry}
+use Rattle.dali_events.specs.{Allowed.Allowed, Happens.happens, Happens.entry, Happens.gives_up, Happens.bus_acted, Happens.sent_by, Happens.told_sent}
+use Rattle.dali_events.specs.{Happens.told_destroyed, Happens.told_lapsed, Plan.Plan, World.World, declared.event.Event.Event}
+use Rattle.dali_standing.specs.{FittedGear.fitted_at, FittedGear.taken_at, Seats.Seat, Seats.acted_at, Seats.down_at, Seats.up_at, Seats.told_at}
 use Rattle.dali_standing.specs.Standing.{Seated, seat_in, controllers_of, machines_of, machines_after, seats_from}
 
 -- WHAT HAPPENS TO PLACES: each call, on what stands with a place for each controller.
@@ -92,9 +83,6 @@ owner_lapsed seats (Some c) = with_seat seats c (told_at told_lapsed (seat_in se
 
 abbrev pub has_lapsed : Seated → Seated
 has_lapsed s = record { fitted = s.fitted; bus = bus_lapsed s.bus; trace = []; seats = owner_lapsed s.seats s.bus.owner }
-
-abbrev pub with_gear : Seated → FittedGear → Seated
-with_gear s fitted = record { fitted = fitted; bus = s.bus; trace = s.trace; seats = s.seats }
 
 abbrev pub has_gone_down : Seated → ℕ → Seated
 has_gone_down s c = record {

@@ -1,51 +1,33 @@
 use Rattle.std.proofs.Common.{◌≡◌, ℕ, ◌+◌, ◌<◌, ◌≤◌, ◌⊎◌, inl, inr, Bool, true, false, List, [], ◌∷◌, ◌++◌, refl, sym, ap, subst, ◌∙◌, arith, length, nat_eq}
-use Rattle.std.proofs.Common.{sum_by, is_some, Option, Some, None}
-use Rattle.std.specs.Prelude.{◌==◌, if◌then◌else◌, zero, suc}
-use Rattle.std.proofs.lemmas.Bool.Decides.{nat_tests}
-use Rattle.std.proofs.lemmas.List.Sums.{sum_by-cons}
-use Rattle.dali_frame.specs.declared.frames.Forward.{Forward}
-use Rattle.dali_frame.specs.declared.frames.Answer.{Answer}
-use Rattle.dali_special.specs.declared.command.Command.{Command}
-use Rattle.dali_special.specs.declared.command.Command.TheVariants.{Arc}
-use Rattle.dali_special.specs.Command.{command_of}
-use Rattle.std.specs.Option.{option_map}
+use Rattle.std.proofs.Common.{sum_by, is_some, Option, Some, None, ◌==◌, if◌then◌else◌, zero, suc}
+use Rattle.std.{proofs.lemmas.Bool.Decides.nat_tests, proofs.lemmas.List.Sums.sum_by-cons, specs.Option.option_map}
+use Rattle.dali_frame.specs.declared.frames.{Answer.Answer, Forward.Forward}
+use Rattle.dali_special.specs.{Command.command_of, declared.command.Command.Command, declared.command.Command.TheVariants.Arc}
 use Rattle.dali_gear.specs.declared.gear_set.GearSet.{GearSet}
-use Rattle.dali_arbiter.specs.declared.request.Request.{Request}
 use Rattle.dali_arbiter.specs.Arbiter.{Arbiter, owns, total, next, request_of, offer_refusal, is_barred, bus_lapsed, first_emptied, collision, bus_collided}
-use Rattle.dali_arbiter.specs.Arbiter.{bus_destroyed, bus_silenced, bus_freed, bus_muted}
-use Rattle.dali_script.specs.declared.block.Block.{Block}
-use Rattle.dali_script.specs.declared.trace.Entry.{Entry}
-use Rattle.dali_events.specs.Plan.{Plan}
-use Rattle.dali_script.specs.declared.records.Record.{Record}
-use Rattle.dali_script.specs.Records.{Kept}
-use Rattle.dali_script.specs.Scripts.{Lawful, IsFirst}
-use Rattle.dali_script.specs.Stages.{stage_of, may_follow}
-use Rattle.dali_script.proofs.Transactions.{stage_more, stage_none}
-use Rattle.dali_script.proofs.Firsts.{first_by}
-use Rattle.dali_script.specs.declared.orders.Input.{Input}
+use Rattle.dali_arbiter.specs.{Arbiter.bus_destroyed, Arbiter.bus_silenced, Arbiter.bus_freed, Arbiter.bus_muted, declared.request.Request.Request}
+use Rattle.dali_arbiter.proofs.Collisions.{collision_differs, rival_next, collided_is}
+use Rattle.dali_script.specs.{Records.Kept, Scripts.Lawful, Scripts.IsFirst, Stages.stage_of, Stages.may_follow, declared.block.Block.Block}
+use Rattle.dali_script.specs.declared.orders.{Input.Input, Order.Order, Order.TheVariants.Put, Order.TheVariants.Commit, Order.TheVariants.Done}
+use Rattle.dali_script.specs.declared.{orders.Order.TheVariants.Halt, records.Record.Record, trace.Entry.Entry}
+use Rattle.dali_script.proofs.{Firsts.first_by, Transactions.stage_more, Transactions.stage_none}
 use Rattle.dali_script.specs.declared.orders.Input.TheVariants as input
-use Rattle.dali_script.specs.declared.orders.Order.{Order}
-use Rattle.dali_script.specs.declared.orders.Order.TheVariants.{Put, Commit, Done, Halt}
-use Rattle.dali_controller.specs.Machine.{Machine}
-use Rattle.dali_controller.specs.Orders.{machine_after}
-use Rattle.dali_events.specs.World.{World, Controller}
-use Rattle.dali_events.specs.Happens.{entry, controller_informed, gives_up, bus_acted, is_arc, told_sent, told_destroyed, told_lapsed, sent_by}
+use Rattle.dali_controller.specs.{Machine.Machine, Orders.machine_after}
 use Rattle.dali_events.specs.Allowed.{IsDue, IsCommit, IsArc}
+use Rattle.dali_events.specs.Happens.{entry, controller_informed, gives_up, bus_acted, is_arc, told_sent, told_destroyed, told_lapsed, sent_by}
+use Rattle.dali_events.specs.{Plan.Plan, Troubles.nobody_at_all, World.World, World.Controller}
 use Rattle.dali_standing.specs.Seats.{Seat, IsTied, MayAnswer, acted_at, told_at, down_at, up_at, begun_at}
-use Rattle.dali_standing.specs.Standing.{Seated, seat_in, seats_from, empty_seat}
-use Rattle.dali_standing.proofs.Seats.{seat_at, world_of, with_seat, running_in, goes_on_in, owner_lapsed, has_acted, has_offered, has_sent, has_lost}
-use Rattle.dali_standing.proofs.Seats.{has_collided, has_lapsed, has_gone_down, has_come_up, seated_at}
 use Rattle.dali_standing.specs.Settled.{IsOwning, IsApart, IsPlacedBy, IsPlaced, awaited_requests, awaited_requests_by, IsServed, IsSettled, IsAccepted}
-use Rattle.dali_standing.specs.Settled.{Settled}
+use Rattle.dali_standing.specs.{Settled.Settled, Standing.Seated, Standing.seat_in, Standing.seats_from, Standing.empty_seat}
 use Rattle.dali_standing.proofs.Acts.{IsLeft, may_order, owner_owns, owner_is, other_owns, committed_last}
 use Rattle.dali_standing.proofs.Moves.{MaySendAt, controller_in, place_here, place_elsewhere, up_there}
 use Rattle.dali_standing.proofs.Placing.{kept_bus, IsOthers, placed_apart, placed_other, placed_acted, acted_other, placed_sent, placed_told}
-use Rattle.dali_arbiter.proofs.Collisions.{collision_differs, rival_next, collided_is}
 use Rattle.dali_standing.proofs.Queues.{Elsewhere, MayAsk, Gone, next_is, next_owned, collision_owned, served_same, served_start, served_sent, served_destroyed}
 use Rattle.dali_standing.proofs.Queues.{served_lapsed, served_idle, served_silenced, served_offered, served_acted, five_lapsed, five_offered, five_acted}
 use Rattle.dali_standing.proofs.Queues.{five_destroyed, five_sent, five_silenced, up_more, up_lapsed, up_offered, up_acted, up_destroyed, up_sent, up_silenced}
 use Rattle.dali_standing.proofs.Queues.{up_start, next_up}
-use Rattle.dali_events.specs.Troubles.{nobody_at_all}
+use Rattle.dali_standing.proofs.Seats.{seat_at, world_of, with_seat, running_in, goes_on_in, owner_lapsed, has_acted, has_offered, has_sent, has_lost}
+use Rattle.dali_standing.proofs.Seats.{has_collided, has_lapsed, has_gone_down, has_come_up, seated_at}
 
 -- BUS AND CONTROLLERS STAY SETTLED, whatever happens on a site.
 

@@ -1,11 +1,8 @@
 use Rattle.std.proofs.Common.{◌≡◌, refl, ap, ◌∙◌, ◌++◌, ◌∷◌, [], List, Option, Some, None}
-use Rattle.dali_frame.specs.declared.frames.Forward.{Forward}
-use Rattle.dali_frame.specs.declared.frames.Answer.{Answer}
+use Rattle.dali_frame.specs.declared.frames.{Answer.Answer, Forward.Forward}
 use Rattle.dali_special.specs.Command.{command_of}
-use Rattle.dali_script.specs.declared.trace.Entry.{Entry}
-use Rattle.dali_script.specs.declared.finding.Finding.{Finding}
 use Rattle.dali_script.specs.Findings.{search_of, asked_of, found_by, later, finding_of}
-use Rattle.dali_script.proofs.Found.{finding_more}
+use Rattle.dali_script.{specs.declared.finding.Finding.Finding, specs.declared.trace.Entry.Entry, proofs.Found.finding_more}
 use Rattle.dali_events.specs.Happens.{entry}
 
 -- A controller that has the finding of its trace already has, after one more frame, what that frame found.

@@ -1,8 +1,6 @@
 use Rattle.std.proofs.Common.{sym, subst, ◌∙◌}
-use Rattle.dali_script.specs.declared.records.Record.{Record}
-use Rattle.dali_script.specs.declared.orders.Order.TheVariants.{Commit}
-use Rattle.dali_standing.specs.Seats.{ReservesUsed}
-use Rattle.dali_standing.proofs.InUse.{in_use}
+use Rattle.dali_script.specs.declared.{orders.Order.TheVariants.Commit, records.Record.Record}
+use Rattle.dali_standing.{specs.Seats.ReservesUsed, proofs.InUse.in_use}
 use Rattle.dali_standing.proofs.standing.has_used.Goals as goal
 
 pub returns-in-Reserve-clause-yes : goal.returns-in-Reserve-clause-yes

@@ -1,7 +1,6 @@
 use Rattle.std.proofs.Common.{rules, ◌≡◌, ◌∙◌, ap, arith, length, List}
 use Rattle.dali_gear.specs.Gear.{Gear}
-use Rattle.dali_events.specs.declared.used.Used.{Used}
-use Rattle.dali_events.proofs.Invariant.Starting.{start_count}
+use Rattle.dali_events.{specs.declared.used.Used.Used, proofs.Invariant.Starting.start_count}
 use Rattle.dali_standing.proofs.Rows.{drawn_below}
 use Rattle.dali_standing.proofs.fitted.FittedGear.new.Goals as goal
 

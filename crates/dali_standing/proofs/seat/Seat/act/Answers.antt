@@ -1,7 +1,6 @@
 use Rattle.std.proofs.Common.{sym, subst}
 use Rattle.dali_events.specs.Allowed.{IsDue}
-use Rattle.dali_standing.specs.Seats.{Seat}
-use Rattle.dali_standing.proofs.Acts.{seat_acted}
+use Rattle.dali_standing.{specs.Seats.Seat, proofs.Acts.seat_acted}
 use Rattle.dali_standing.proofs.seat.Seat.act.Goals as goal
 
 pub invariant_of-self : goal.invariant_of-self

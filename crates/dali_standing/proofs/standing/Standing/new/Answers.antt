@@ -1,5 +1,4 @@
-use Rattle.dali_standing.proofs.Moves.{start_stands}
-use Rattle.dali_standing.proofs.Settling.{settled_start}
+use Rattle.dali_standing.proofs.{Moves.start_stands, Settling.settled_start}
 use Rattle.dali_standing.proofs.standing.Standing.new.Goals as goal
 
 pub invariant_of-result : goal.invariant_of-result

@@ -1,6 +1,4 @@
-use Rattle.dali_standing.specs.Standing.{machine_in}
-use Rattle.dali_standing.proofs.InUse.{reserves_alone}
-use Rattle.dali_standing.proofs.Done.{act_answers}
+use Rattle.dali_standing.{specs.Standing.machine_in, proofs.Done.act_answers, proofs.InUse.reserves_alone}
 use Rattle.dali_standing.proofs.standing.Standing.would_reserve_used.Goals as goal
 
 pub returns-clause-no : goal.returns-clause-no
