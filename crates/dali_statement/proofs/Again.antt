@@ -1,13 +1,10 @@
-use Rattle.std.proofs.Common.{◌≡◌, ◌⊎◌, inl, inr, ℕ, zero, suc, ◌<◌, Bool, true, false, refl, sym, ap, subst, map, ◌∙◌, List, [], ◌∷◌, Option, Some, None}
-use Rattle.std.specs.Prelude.{◌==◌, ◌&&◌, ◌||◌, not, nat_lt, unwrap_or, slice_get, slice_set}
-use Rattle.std.specs.List.{list_any, list_all}
-use Rattle.dali_statement.specs.Page.{Gear, holds, Plan, Moment, start, after, differ, are_apart, IsPlan, IsHistory}
-use Rattle.dali_statement.specs.Again.{ended, IsReplaced}
-use Rattle.dali_statement.proofs.Tests.{first_of_both, equal, equals, below_by, some_is, holds_is, holds_by, any_at, any_by, all_at, all_by}
-use Rattle.dali_statement.proofs.Tests.{differ_at, differ_by}
-use Rattle.dali_statement.proofs.Moved.{At}
-use Rattle.dali_statement.proofs.Steps.{Safe}
-use Rattle.dali_statement.proofs.Whole.{starts, safe_after}
+use Rattle.std.proofs.Common.{◌≡◌, ◌⊎◌, inl, inr, ℕ, zero, suc, ◌<◌, Bool, true, false, refl, sym, ap, subst, map, ◌∙◌, List, [], ◌∷◌, Option, Some, None, ◌==◌}
+use Rattle.std.proofs.Common.{◌&&◌, ◌||◌, not, nat_lt, slice_get, slice_set}
+use Rattle.std.specs.{List.list_any, List.list_all, Prelude.unwrap_or}
+use Rattle.dali_statement.specs.{Again.ended, Again.IsReplaced, Page.Gear, Page.holds, Page.Plan, Page.Moment, Page.start, Page.after, Page.differ}
+use Rattle.dali_statement.{specs.Page.are_apart, specs.Page.IsPlan, specs.Page.IsHistory, proofs.Moved.At, proofs.Steps.Safe}
+use Rattle.dali_statement.proofs.Tests.{first_of_both, equal, equals, below_by, some_is, holds_is, holds_by, any_at, any_by, all_at, all_by, differ_at}
+use Rattle.dali_statement.proofs.{Tests.differ_by, Whole.starts, Whole.safe_after}
 
 -- HISTORIES BEGIN WITH RECORDS.
 

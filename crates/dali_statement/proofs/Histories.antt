@@ -1,12 +1,11 @@
-use Rattle.std.proofs.Common.{◌≡◌, ℕ, true, false, List, [], ◌∷◌, ◌++◌, Option, Some, None, refl, sym, ap, ◌∙◌, append-nil, arith, lit<, ◌<◌}
-use Rattle.std.specs.Prelude.{nat_lt, if◌then◌else◌, slice_get, unwrap_or, not, ◌==◌}
-use Rattle.dali_statement.specs.Page.{High, Middle, Low, Command, Terminate, Initialise, Randomise, Search, Program, QueryShort, Gear}
-use Rattle.dali_statement.specs.Page.{Byte, Nothing, Destroyed, Moment, Sent, Ends, Reserves, Enrols, Releases, Plan, Site, start}
-use Rattle.dali_statement.specs.Page.{is_told, IsPlan, after, Holds, KeepsPromise}
-use Rattle.dali_statement.specs.Weaker.{BreakUnder, BreakApart, BreakAllTheSame, with_program, unnumbered, initialised_since, unqueried}
-use Rattle.dali_statement.specs.Weaker.{searched_since, programmed_since, unreserved, erasing, initialising_all, with_randomise, none_programmed}
-use Rattle.dali_statement.specs.Weaker.{is_terminated, enrolling, with_reserve, twice, elsewhere, used, beyond, undrawn, with_release, mishearing}
-use Rattle.dali_statement.specs.Weaker.{drawing_alike, anyone, the_owner}
+use Rattle.std.proofs.Common.{◌≡◌, ℕ, true, false, List, [], ◌∷◌, ◌++◌, Option, Some, None, refl, sym, ap, ◌∙◌, append-nil, arith, lit<, ◌<◌, nat_lt}
+use Rattle.std.proofs.Common.{if◌then◌else◌, slice_get, not, ◌==◌}
+use Rattle.std.specs.Prelude.{unwrap_or}
+use Rattle.dali_statement.specs.Page.{High, Middle, Low, Command, Terminate, Initialise, Randomise, Search, Program, QueryShort, Gear, Byte, Nothing, Destroyed}
+use Rattle.dali_statement.specs.Page.{Moment, Sent, Ends, Reserves, Enrols, Releases, Plan, Site, start, is_told, IsPlan, after, Holds, KeepsPromise}
+use Rattle.dali_statement.specs.Weaker.{BreakUnder, BreakApart, BreakAllTheSame, with_program, unnumbered, initialised_since, unqueried, searched_since}
+use Rattle.dali_statement.specs.Weaker.{programmed_since, unreserved, erasing, initialising_all, with_randomise, none_programmed, is_terminated, enrolling}
+use Rattle.dali_statement.specs.Weaker.{with_reserve, twice, elsewhere, used, beyond, undrawn, with_release, mishearing, drawing_alike, anyone, the_owner}
 use Rattle.dali_statement.specs.Whole.{IsKeptByAll}
 
 -- SHORT HISTORIES, proved by computing: one that keeps all rules, and for each clause of a rule one that keeps all else and breaks

@@ -1,23 +1,16 @@
-use Rattle.std.proofs.Common.{◌≡◌, ℕ, ◌+◌, ◌*◌, ◌/◌, ◌%◌, Bool, true, false, refl, sym, ap, subst, ◌∙◌, arith, List, [], ◌∷◌, map, Option, Some, None}
-use Rattle.std.specs.Prelude.{◌==◌, ◌&&◌, if◌then◌else◌, option_map, nat_lt}
-use Rattle.dali_frame.specs.declared.frames.Forward.{Forward}
-use Rattle.dali_frame.specs.declared.frames.Answer.{Answer}
+use Rattle.std.proofs.Common.{◌≡◌, ℕ, ◌+◌, ◌*◌, ◌/◌, ◌%◌, Bool, true, false, refl, sym, ap, subst, ◌∙◌, arith, List, [], ◌∷◌, map, Option, Some, None, ◌==◌}
+use Rattle.std.proofs.Common.{◌&&◌, if◌then◌else◌, option_map, nat_lt}
+use Rattle.dali_frame.specs.{Random.value_of, Short.short_of}
+use Rattle.dali_frame.specs.declared.{frames.Answer.Answer, frames.Forward.Forward, numbers.SearchAddress.SearchAddress}
 use Rattle.dali_frame.specs.declared.frames.Answer.TheVariants as answer
-use Rattle.dali_frame.specs.declared.numbers.SearchAddress.{SearchAddress}
-use Rattle.dali_frame.specs.Random.{value_of}
-use Rattle.dali_frame.specs.Short.{short_of}
-use Rattle.dali_special.specs.declared.command.Command.{Command as Read}
+use Rattle.dali_special.specs.{Command.command_of, Command.MASK, declared.command.Command.Command as Read}
 use Rattle.dali_special.specs.declared.command.Command.TheVariants as read
-use Rattle.dali_special.specs.Command.{command_of, MASK}
-use Rattle.dali_script.specs.declared.block.Block.{Block}
-use Rattle.dali_script.specs.declared.trace.Entry.{Entry}
-use Rattle.dali_script.specs.Records.{Assignment, Has}
-use Rattle.dali_script.specs.Findings.{search_after, at_power_on, search_from, search_of}
-use Rattle.dali_script.specs.Scripts.{Step, sends, is_asking, AreAsking, Script, Open, Call, Draw, Probe, Hunt, Look, Give, PassOver, Resolve, Close}
-use Rattle.dali_script.specs.Scripts.{ArcPower, steps, IsHeard, MaySend, IsFront, Lawful}
-use Rattle.dali_statement.specs.Page.{Part, High, Middle, Low, byte, Command, Search, QueryShort}
-use Rattle.dali_statement.specs.Page.{code, holds, Heard, Byte, Site, number_sent, is_vacant, tells, may_send}
-use Rattle.dali_statement.specs.Gear.{command_seen}
+use Rattle.dali_script.specs.{Findings.search_after, Findings.at_power_on, Findings.search_from, Findings.search_of, Records.Assignment, Records.Has}
+use Rattle.dali_script.specs.Scripts.{Step, sends, is_asking, AreAsking, Script, Open, Call, Draw, Probe, Hunt, Look, Give, PassOver, Resolve, Close, ArcPower}
+use Rattle.dali_script.specs.Scripts.{steps, IsHeard, MaySend, IsFront, Lawful}
+use Rattle.dali_script.specs.declared.{block.Block.Block, trace.Entry.Entry}
+use Rattle.dali_statement.specs.{Gear.command_seen, Page.Part, Page.High}
+use Rattle.dali_statement.specs.Page.{Middle, Low, byte, Command, Search, QueryShort, code, holds, Heard, Byte, Site, number_sent, is_vacant, tells, may_send}
 use Rattle.dali_statement.specs.Scripts.{heard_seen, entry_seen, said_on, said_of}
 use Rattle.dali_statement.proofs.Tests.{first_of_both, equal, equals, holds_by, some_is}
 

@@ -1,14 +1,11 @@
-use Rattle.std.proofs.Common.{◌≡◌, ◌⊎◌, inl, inr, ℕ, ◌<◌, ◌+◌, ◌*◌, Bool, true, false, refl, sym, ap, subst, ◌∙◌, arith, List, ◌∷◌, Option, Some, None}
-use Rattle.std.specs.Prelude.{◌==◌, ◌&&◌, nat_lt, if◌then◌else◌, option_map, unwrap_or}
-use Rattle.dali_statement.specs.Page.{Part, High, Middle, Low, same, byte, Command, QueryShort}
-use Rattle.dali_statement.specs.Page.{QueryRandom, Gear, is_found, takes, holds, answer, code, Heard, Byte, Destroyed, Sent}
-use Rattle.dali_statement.specs.Page.{Plan, Site, number_sent, is_told, tells, gear_after}
-use Rattle.dali_statement.specs.Page.{hears, may_send}
+use Rattle.std.proofs.Common.{◌≡◌, ◌⊎◌, inl, inr, ℕ, ◌<◌, ◌+◌, ◌*◌, Bool, true, false, refl, sym, ap, subst, ◌∙◌, arith, List, ◌∷◌, Option, Some, None, ◌==◌}
+use Rattle.std.proofs.Common.{◌&&◌, nat_lt, if◌then◌else◌, option_map}
+use Rattle.std.specs.Prelude.{unwrap_or}
+use Rattle.dali_statement.specs.Page.{Part, High, Middle, Low, same, byte, Command, QueryShort, QueryRandom, Gear, is_found, takes, holds, answer, code, Heard}
+use Rattle.dali_statement.specs.Page.{Byte, Destroyed, Sent, Plan, Site, number_sent, is_told, tells, gear_after, hears, may_send}
+use Rattle.dali_statement.proofs.{Moved.At, Moved.Takes, Moved.taken, Moved.taking, One.Knows, One.Given, One.HeardOf, One.kept_by, One.new_by, One.knows_after}
+use Rattle.dali_statement.proofs.{One.knows_missed, One.searched, One.found_live, One.found_random, Sound.Sound, Sound.Moves, Sound.one_at, Sound.same_bytes}
 use Rattle.dali_statement.proofs.Tests.{first_of_both, second_of_both, equal, below, below_by, holds_is, any_at, all_at}
-use Rattle.dali_statement.proofs.One.{Knows, Given, HeardOf, kept_by, new_by, knows_after, knows_missed, searched, found_live}
-use Rattle.dali_statement.proofs.One.{found_random}
-use Rattle.dali_statement.proofs.Moved.{At, Takes, taken, taking}
-use Rattle.dali_statement.proofs.Sound.{Sound, Moves, one_at, same_bytes}
 
 -- EACH MOMENT that is allowed keeps what is sound.
 

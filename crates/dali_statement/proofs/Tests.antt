@@ -1,9 +1,6 @@
 use Rattle.std.proofs.Common.{◌≡◌, ◌⊎◌, inl, inr, ℕ, ◌<◌, zero, suc, Bool, true, false, refl, sym, ap, subst, ◌∙◌, arith, List, [], ◌∷◌, map, Option, Some}
-use Rattle.std.proofs.Common.{length, get_or, ◌≤◌}
-use Rattle.std.proofs.Common.{None}
-use Rattle.std.specs.Prelude.{◌==◌, ◌&&◌, ◌||◌, not, nat_lt, slice_get, nat_le}
-use Rattle.std.specs.List.{list_any, list_all}
-use Rattle.std.proofs.lemmas.Bool.Decides.{nat_tests}
+use Rattle.std.proofs.Common.{length, get_or, ◌≤◌, None, ◌==◌, ◌&&◌, ◌||◌, not, nat_lt, slice_get, nat_le}
+use Rattle.std.{proofs.lemmas.Bool.Decides.nat_tests, specs.List.list_any, specs.List.list_all}
 use Rattle.dali_statement.specs.Page.{same, holds, differ}
 
 -- WHAT TESTS SAY.

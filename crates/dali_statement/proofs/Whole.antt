@@ -1,18 +1,13 @@
-use Rattle.std.proofs.Common.{◌≡◌, ◌⊎◌, inl, inr, ℕ, ◌<◌, Bool, true, false, refl, sym, ap, subst, ◌∙◌, List, [], ◌∷◌, ◌++◌, map, Option}
-use Rattle.std.proofs.Common.{Some, None}
-use Rattle.std.specs.Prelude.{◌==◌, ◌&&◌, ◌||◌, not, nat_lt, if◌then◌else◌, unwrap_or, is_none}
-use Rattle.dali_statement.specs.Page.{Part, byte, Command, Gear, holds, Heard, Byte, Nothing, Destroyed, Moment, Sent, Ends, Reserves, Enrols, Releases}
-use Rattle.dali_statement.specs.Page.{Power, Expires, Plan, Site, start, is_told, tells, befalls, gear_after, happens, hears, differ, are_apart, may_send}
-use Rattle.dali_statement.specs.Page.{allowed}
+use Rattle.std.proofs.Common.{◌≡◌, ◌⊎◌, inl, inr, ℕ, ◌<◌, Bool, true, false, refl, sym, ap, subst, ◌∙◌, List, [], ◌∷◌, ◌++◌, map, Option, Some, None, ◌==◌}
+use Rattle.std.proofs.Common.{◌&&◌, ◌||◌, not, nat_lt, if◌then◌else◌, is_none}
+use Rattle.std.specs.Prelude.{unwrap_or}
+use Rattle.dali_statement.specs.Page.{Part, byte, Command, Gear, holds, Heard, Byte, Nothing, Destroyed, Moment, Sent, Ends, Reserves, Enrols, Releases, Power}
+use Rattle.dali_statement.specs.Page.{Expires, Plan, Site, start, is_told, tells, befalls, gear_after, happens, hears, differ, are_apart, may_send, allowed}
 use Rattle.dali_statement.specs.Page.{IsPlan, after, all_allowed, IsHistory, KeepsNow, KeepsAddresses, KeepsPromise}
-use Rattle.dali_statement.proofs.Tests.{first_of_both, second_of_both, either, equal, equals, below, some_is, holds_is, holds_by, any_at, any_by, all_at}
-use Rattle.dali_statement.proofs.Tests.{differ_at}
-use Rattle.dali_statement.proofs.Tests.{not_true}
-use Rattle.dali_statement.proofs.One.{Knows, knows_nothing}
-use Rattle.dali_statement.proofs.Moved.{At, Becomes, befallen, befalling}
-use Rattle.dali_statement.proofs.Sound.{Sound, Moves, sound_after, one_at, apart_at}
-use Rattle.dali_statement.proofs.Steps.{Safe, frame_moves, frame_knows, told_true, told_gear}
-use Rattle.dali_statement.proofs.Records.{enrols, reserves, releases}
+use Rattle.dali_statement.proofs.{Moved.At, Moved.Becomes, Moved.befallen, Moved.befalling, One.Knows, One.knows_nothing, Records.enrols, Records.reserves}
+use Rattle.dali_statement.proofs.{Records.releases, Sound.Sound, Sound.Moves, Sound.sound_after, Sound.one_at, Sound.apart_at, Steps.Safe, Steps.frame_moves}
+use Rattle.dali_statement.proofs.{Steps.frame_knows, Steps.told_true, Steps.told_gear, Tests.first_of_both}
+use Rattle.dali_statement.proofs.Tests.{second_of_both, either, equal, equals, below, some_is, holds_is, holds_by, any_at, any_by, all_at, differ_at, not_true}
 
 -- EVERY HISTORY KEEPS THE PROMISE.
 
