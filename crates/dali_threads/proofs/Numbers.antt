@@ -1,13 +1,9 @@
-use Rattle.std.proofs.Common.{◌≡◌, ◌==◌, ◌+◌, ◌*◌, ◌%◌, ◌^◌, ◌<◌, ◌≤◌, ℕ, Bool, true, false, List, [], ◌∷◌, ◌++◌, All, length}
-use Rattle.std.proofs.Common.{nat_eq, nat_lt, refl, arith, zero, suc, if◌then◌else◌}
+use Rattle.std.proofs.Common.{◌≡◌, ◌==◌, ◌+◌, ◌*◌, ◌%◌, ◌^◌, ◌<◌, ◌≤◌, ℕ, Bool, true, false, List, [], ◌∷◌, ◌++◌, All, length, nat_eq, nat_lt, refl, arith}
+use Rattle.std.proofs.Common.{zero, suc, if◌then◌else◌}
+use Rattle.std.proofs.{Math.Nat.mod-lt, lemmas.Bool.Decides.nat_tests, lemmas.List.length-append, lemmas.List.Elements.All-cons}
 use Rattle.std.specs.List.{list_any, AllByRecursion, IsDistinct}
-use Rattle.std.proofs.lemmas.Bool.Decides.{nat_tests}
-use Rattle.std.proofs.lemmas.List.{length-append}
-use Rattle.std.proofs.lemmas.List.Elements.{All-cons}
-use Rattle.std.proofs.Math.Nat.{mod-lt}
 use Rattle.rand_core.specs.Pcg32Seed.{pcg32_seed}
-use Rattle.rand_pcg.specs.Lcg.{Lcg}
-use Rattle.rand_pcg.specs.Pcg.{pcg32, pcg32_of_seed}
+use Rattle.rand_pcg.specs.{Lcg.Lcg, Pcg.pcg32, Pcg.pcg32_of_seed}
 use Rattle.dali_frame.specs.Random.{MASK24}
 use Rattle.dali_events.specs.Plan.{refusal_of}
 use Rattle.dali_threads.specs.Drawn.{AreDrawn, StandOnce, with_number, drawn_on, numbers_of}

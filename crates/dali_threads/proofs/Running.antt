@@ -1,20 +1,12 @@
-use Rattle.std.proofs.Common.{◌≡◌, ◌<◌, ◌≤◌, ◌∙◌, ℕ, zero, suc, min, Bool, List, [], ◌∷◌, map, length, slice_index_or, Option, Some, None}
-use Rattle.std.proofs.Common.{refl, sym, ap, subst, arith, inl}
-use Rattle.std.proofs.lemmas.List.{length-take, get_or-take, get_or-map, length-map}
-use Rattle.dali_script.specs.declared.block.Block.{Block}
-use Rattle.dali_script.specs.declared.orders.Order.{Order}
-use Rattle.dali_script.specs.declared.records.Record.{Record}
+use Rattle.std.proofs.Common.{◌≡◌, ◌<◌, ◌∙◌, ℕ, zero, suc, min, Bool, List, [], ◌∷◌, map, length, slice_index_or, Option, Some, None, refl, sym, ap, subst}
+use Rattle.std.proofs.{Common.arith, Common.inl, lemmas.List.length-take, lemmas.List.get_or-take, lemmas.List.get_or-map, lemmas.List.length-map}
+use Rattle.dali_script.specs.declared.{block.Block.Block, orders.Order.Order, records.Record.Record}
 use Rattle.dali_enrol.specs.Directory.{Pass}
 use Rattle.dali_world.specs.Site.{SiteState, share_of}
-use Rattle.dali_line.specs.declared.outcome.Outcome.{Outcome}
-use Rattle.dali_line.specs.declared.outcome.Outcome.TheVariants as outcome
-use Rattle.dali_line.specs.Calls.{PumpsFrom, LapsesFrom}
-use Rattle.dali_line.specs.Counts.{others_of, share_in, shares_of}
-use Rattle.dali_line.specs.Driving.{Drives}
-use Rattle.dali_line.specs.Facts.{Facts}
+use Rattle.dali_line.specs.{Calls.PumpsFrom, Calls.LapsesFrom, Counts.others_of, Counts.share_in, Counts.shares_of, Driving.Drives, Facts.Facts}
 use Rattle.dali_line.specs.Found.{FromDriver, IsStuck, IsGivenBack}
-use Rattle.dali_line.specs.Runs.{Runs}
-use Rattle.dali_line.specs.Shares.{PortShare, port_share, no_share}
+use Rattle.dali_line.specs.{Runs.Runs, Shares.PortShare, Shares.port_share, Shares.no_share, declared.outcome.Outcome.Outcome}
+use Rattle.dali_line.specs.declared.outcome.Outcome.TheVariants as outcome
 use Rattle.dali_threads.specs.Ran.{HasRun, EachHasRun, HaveRun, line_facts}
 
 -- what a worker's contract says of its run, without its store and its pass
@@ -50,9 +42,6 @@ share_there s c d inside =
 
 no_steps : (s : SiteState) (c : ℕ) → s.log ≡ [] → share_in s c ≡ port_share c 0
 no_steps s c empty = ap (λ log. port_share c (share_of c log)) empty
-
-pub all_shares : (s : SiteState) → length s.plan.blocks ≤ 4 → length (shares_of s) ≡ length s.plan.blocks
-all_shares s few = length_shares s ∙ omega (arith, few)
 
 pub have_run : (turns : ℕ) (surveys : Bool) (site s : SiteState) (ended : List (Outcome × PortShare)) (outcomes : List Outcome)
     (ports : List PortShare) (driver : ℕ)

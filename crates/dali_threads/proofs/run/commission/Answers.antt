@@ -1,10 +1,6 @@
 use Rattle.std.proofs.Common.{◌≡◌, ◌∙◌, ap, subst, arith, length}
-use Rattle.dali_line.specs.Calls.{PumpsFrom, LapsesFrom}
-use Rattle.dali_line.specs.Counts.{others_of, shares_of}
-use Rattle.dali_line.specs.Driving.{Drives}
-use Rattle.dali_line.specs.Found.{FromDriver, IsStuck}
-use Rattle.dali_threads.specs.Ran.{EachHasRun, line_facts}
-use Rattle.dali_threads.proofs.Running.{have_run}
+use Rattle.dali_line.specs.{Calls.PumpsFrom, Calls.LapsesFrom, Counts.others_of, Counts.shares_of, Driving.Drives, Found.FromDriver, Found.IsStuck}
+use Rattle.dali_threads.{specs.Ran.EachHasRun, specs.Ran.line_facts, proofs.Running.have_run}
 use Rattle.dali_threads.proofs.run.commission.Goals as goal
 
 -- The workers and the pumper ran over the line that is closed, with the ports and the driver that it gave.
