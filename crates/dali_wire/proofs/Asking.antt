@@ -1,14 +1,8 @@
 use Rattle.std.proofs.Common.{◌≡◌, ℕ, ◌+◌, ◌-◌, ◌^◌, ◌<◌, ◌≤◌, min, Bool, true, false, Option, Some, None, refl, arith, nat_lt}
-use Rattle.std.specs.Option.{option_map}
-use Rattle.std.proofs.lemmas.Bool.Decides.{nat_tests}
-use Rattle.dali_frame.specs.declared.frames.Answer.{Answer}
-use Rattle.dali_frame.specs.declared.frames.Answer.TheVariants.{Silence, Byte, Damaged}
-use Rattle.dali_wire.specs.declared.receiver.Reading.{Reading}
-use Rattle.dali_wire.specs.declared.receiver.Frame.{Frame}
-use Rattle.dali_wire.specs.declared.receiver.Told.{Told}
-use Rattle.dali_wire.specs.declared.window.Window.{Window}
-use Rattle.dali_wire.specs.Reception.{frame_read}
-use Rattle.dali_wire.specs.Windows.{heard_after, window_after, window_at}
+use Rattle.std.{proofs.lemmas.Bool.Decides.nat_tests, specs.Option.option_map}
+use Rattle.dali_frame.specs.declared.frames.Answer.{Answer, TheVariants.Silence, TheVariants.Byte, TheVariants.Damaged}
+use Rattle.dali_wire.specs.{Reception.frame_read, Windows.heard_after, Windows.window_after, Windows.window_at}
+use Rattle.dali_wire.specs.declared.{receiver.Frame.Frame, receiver.Reading.Reading, receiver.Told.Told, window.Window.Window}
 
 -- WHEN A FRAME BEGAN is the same, whenever it is told.
 pub begun : (elapsed since lasted : ℕ) → elapsed + since < 2 ^ 32 → min (elapsed + since) (2 ^ 32 - 1) - since - lasted ≡ elapsed - lasted

@@ -1,21 +1,13 @@
-use Rattle.std.proofs.Common.{◌≡◌, ℕ, ◌+◌, ◌*◌, ◌<◌, ◌≤◌, Bool, true, false, List}
-use Rattle.std.proofs.Common.{[], ◌∷◌, refl, sym, subst, arith, nat_lt, nat_le}
-use Rattle.std.specs.Prelude.{if◌then◌else◌}
+use Rattle.std.proofs.Common.{◌≡◌, ℕ, ◌+◌, ◌*◌, ◌<◌, ◌≤◌, Bool, true, false, List, [], ◌∷◌, refl, sym, subst, arith, nat_lt, nat_le, if◌then◌else◌}
 use Rattle.std.proofs.lemmas.Bool.Decides.{nat_tests}
 use Rattle.dali_frame.specs.declared.frames.Forward.{Forward as Sent}
-use Rattle.dali_wire.specs.declared.receiver.Span.{Span}
-use Rattle.dali_wire.specs.declared.receiver.Span.TheVariants.{Half, Whole}
-use Rattle.dali_wire.specs.declared.receiver.Reading.{Reading}
-use Rattle.dali_wire.specs.declared.receiver.Reading.TheVariants.{Idle, First, Between, Middle, Spoilt}
-use Rattle.dali_wire.specs.declared.receiver.Frame.{Frame}
-use Rattle.dali_wire.specs.declared.receiver.Frame.TheVariants.{Forward, Backward}
-use Rattle.dali_wire.specs.Reception.{span_of, with_bit, read_edge, frame_of}
-use Rattle.dali_wire.specs.Levels.{bits_of}
-use Rattle.dali_wire.specs.Grid.{value_of}
+use Rattle.dali_wire.specs.{Grid.value_of, Levels.bits_of, Reception.span_of, Reception.with_bit, Reception.read_edge, Reception.frame_of}
 use Rattle.dali_wire.specs.Times.{IsHalf, IsWhole, AreTimes, HasRead}
-use Rattle.dali_wire.proofs.Spans.{half_is, soon}
-use Rattle.dali_wire.proofs.Values.{value_grows, is_above}
+use Rattle.dali_wire.specs.declared.receiver.{Frame.Frame, Frame.TheVariants.Forward, Frame.TheVariants.Backward, Reading.Reading}
+use Rattle.dali_wire.specs.declared.receiver.Reading.TheVariants.{Idle, First, Between, Middle, Spoilt}
+use Rattle.dali_wire.specs.declared.receiver.Span.{Span, TheVariants.Half, TheVariants.Whole}
 use Rattle.dali_wire.proofs.ReadBack.{quiet, idle_quiet, idle_is, byte_told, frame_told}
+use Rattle.dali_wire.proofs.{Spans.half_is, Spans.soon, Values.value_grows, Values.is_above}
 
 -- EVERY FRAME IS READ BACK, whatever each of its times is within the tolerance.
 

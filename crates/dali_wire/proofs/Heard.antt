@@ -1,25 +1,15 @@
-use Rattle.std.proofs.Common.{◌≡◌, ℕ, ◌+◌, ◌-◌, ◌*◌, ◌^◌, ◌<◌, ◌≤◌, min, Bool, true, false, Some, List, [], ◌∷◌, length}
-use Rattle.std.proofs.Common.{refl, sym, ap, subst, ◌∙◌, arith, nat_lt, nat_le}
-use Rattle.std.specs.Prelude.{if◌then◌else◌}
-use Rattle.std.specs.List.{AllByRecursion}
-use Rattle.std.proofs.lemmas.Bool.Decides.{nat_tests}
+use Rattle.std.proofs.Common.{◌≡◌, ℕ, ◌+◌, ◌-◌, ◌*◌, ◌^◌, ◌<◌, ◌≤◌, min, Bool, true, false, Some, List, [], ◌∷◌, length, refl, sym, ap, subst, ◌∙◌, arith}
+use Rattle.std.proofs.Common.{nat_lt, nat_le, if◌then◌else◌}
+use Rattle.std.{proofs.lemmas.Bool.Decides.nat_tests, specs.List.AllByRecursion}
 use Rattle.dali_frame.specs.declared.frames.Answer.TheVariants.{Silence, Byte}
-use Rattle.dali_wire.specs.declared.receiver.Span.{Span}
-use Rattle.dali_wire.specs.declared.receiver.Span.TheVariants.{Short, Half, Whole, Wrong}
-use Rattle.dali_wire.specs.declared.receiver.Reading.{Reading}
-use Rattle.dali_wire.specs.declared.receiver.Reading.TheVariants.{Idle, First, Between, Middle, Spoilt}
-use Rattle.dali_wire.specs.declared.receiver.Frame.{Frame}
-use Rattle.dali_wire.specs.declared.receiver.Frame.TheVariants.{Backward}
-use Rattle.dali_wire.specs.declared.window.Window.{Window}
-use Rattle.dali_wire.specs.Reception.{span_of, span_before, with_bit, read_edge, frame_read, longer}
-use Rattle.dali_wire.specs.Levels.{bits_of}
-use Rattle.dali_wire.specs.Times.{IsHalf, AreTimes, HasRead}
+use Rattle.dali_wire.specs.{Edges.window_after_all, Edges.by_turns, Levels.bits_of, Reception.span_of, Reception.span_before, Reception.with_bit}
+use Rattle.dali_wire.specs.{Reception.read_edge, Reception.frame_read, Reception.longer, Times.IsHalf, Times.AreTimes, Times.HasRead}
 use Rattle.dali_wire.specs.Windows.{is_idle, passed, window_after, window_at_first, told_after}
-use Rattle.dali_wire.specs.Edges.{window_after_all, by_turns}
-use Rattle.dali_wire.proofs.Spans.{soon, late}
-use Rattle.dali_wire.proofs.Values.{length_bits}
-use Rattle.dali_wire.proofs.EachTime.{backward_read}
-use Rattle.dali_wire.proofs.Asking.{begun}
+use Rattle.dali_wire.specs.declared.receiver.{Frame.Frame, Frame.TheVariants.Backward, Reading.Reading}
+use Rattle.dali_wire.specs.declared.receiver.Reading.TheVariants.{Idle, First, Between, Middle, Spoilt}
+use Rattle.dali_wire.specs.declared.receiver.Span.{Span, TheVariants.Short, TheVariants.Half, TheVariants.Whole, TheVariants.Wrong}
+use Rattle.dali_wire.specs.declared.window.Window.{Window}
+use Rattle.dali_wire.proofs.{Asking.begun, EachTime.backward_read, Spans.soon, Spans.late, Values.length_bits}
 
 -- AN ANSWER ALONE IS HEARD. While its edges come nothing is told, and the window knows when it began.
 abbrev window_through : Window → Bool → List ℕ → Window

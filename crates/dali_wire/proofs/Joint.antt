@@ -1,16 +1,12 @@
-use Rattle.std.proofs.Common.{◌≡◌, ℕ, zero, suc, ◌+◌, ◌*◌, ◌/◌, ◌%◌, ◌<◌, ◌≤◌, Bool, true, false, List}
-use Rattle.std.proofs.Common.{[], ◌∷◌, ◌++◌, length, ◌⊎◌, inl, inr, refl, sym, ap, subst, ◌∙◌, arith, nat_lt, nat_le}
-use Rattle.std.specs.Prelude.{◌&&◌, if◌then◌else◌}
-use Rattle.std.specs.List.{AllByRecursion}
-use Rattle.std.proofs.lemmas.Bool.Decides.{nat_tests}
+use Rattle.std.proofs.Common.{◌≡◌, ℕ, zero, suc, ◌+◌, ◌*◌, ◌/◌, ◌%◌, ◌<◌, ◌≤◌, Bool, true, false, List, [], ◌∷◌, ◌++◌, length, ◌⊎◌, inl, inr, refl, sym, ap}
+use Rattle.std.proofs.Common.{subst, ◌∙◌, arith, nat_lt, nat_le, ◌&&◌, if◌then◌else◌}
+use Rattle.std.{proofs.lemmas.Bool.Decides.nat_tests, specs.List.AllByRecursion}
 use Rattle.dali_frame.specs.declared.frames.Forward.{Forward as Sent}
-use Rattle.dali_wire.specs.declared.receiver.Reading.TheVariants.{Idle}
-use Rattle.dali_wire.specs.declared.receiver.Frame.TheVariants.{Forward, Backward, Device, Damaged}
-use Rattle.dali_wire.specs.Reception.{frame_of}
-use Rattle.dali_wire.specs.Levels.{bits_of, levels_of, highs, backward_bits}
 use Rattle.dali_wire.specs.Grid.{Tells, value_of, begun_at, Within, low_where, answer_levels, bus_of, first_low, IsHeard}
+use Rattle.dali_wire.specs.{Levels.bits_of, Levels.levels_of, Levels.highs, Levels.backward_bits, Reception.frame_of}
+use Rattle.dali_wire.specs.declared.receiver.Frame.TheVariants.{Forward, Backward, Device, Damaged}
+use Rattle.dali_wire.{specs.declared.receiver.Reading.TheVariants.Idle, proofs.Sound.from_idle}
 use Rattle.dali_wire.proofs.Values.{few_bits, length_bits, value_back, start_first}
-use Rattle.dali_wire.proofs.Sound.{from_idle}
 
 -- ANSWERS THAT DRIVE THE BUS TOGETHER. The lows of each lie within the lows of the bus, which has one low in each bit that is told, and
 -- none after the last of them.

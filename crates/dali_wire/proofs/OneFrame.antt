@@ -1,30 +1,17 @@
-use Rattle.std.proofs.Common.{◌≡◌, ℕ, ◌+◌, ◌*◌, ◌%◌, ◌-◌, ◌^◌, ◌<◌, ◌≤◌, min, Bool, true, false, Some, List, [], ◌∷◌, ◌++◌, length}
-use Rattle.std.proofs.Common.{◌⊎◌, inl, inr, refl, sym, ap, subst, ◌∙◌, arith, nat_lt, nat_le}
-use Rattle.std.specs.Prelude.{◌&&◌, if◌then◌else◌}
-use Rattle.std.proofs.Math.Pow.{pow_mono}
-use Rattle.std.proofs.lemmas.Bool.Decides.{nat_tests}
-use Rattle.dali_frame.specs.declared.frames.Answer.{Answer}
-use Rattle.dali_frame.specs.declared.frames.Answer.TheVariants.{Silence, Byte, Damaged}
-use Rattle.dali_wire.specs.declared.receiver.Span.{Span}
-use Rattle.dali_wire.specs.declared.receiver.Span.TheVariants.{Short, Half, Whole, Wrong}
-use Rattle.dali_wire.specs.declared.receiver.Reading.{Reading}
-use Rattle.dali_wire.specs.declared.receiver.Reading.TheVariants.{Idle, First, Between, Middle, Spoilt}
-use Rattle.dali_wire.specs.declared.receiver.Frame.{Frame}
-use Rattle.dali_wire.specs.declared.receiver.Frame.TheVariants.{Forward, Backward, Device}
-use Rattle.dali_wire.specs.declared.receiver.Frame.TheVariants.{Damaged as Broken}
-use Rattle.dali_wire.specs.Reception.{span_of, span_before, with_bit, read_edge, frame_of, frame_read, longer, reading_at}
-use Rattle.dali_wire.specs.Levels.{bits_of}
-use Rattle.dali_wire.specs.Grid.{value_of}
-use Rattle.dali_wire.specs.Times.{IsHalf, IsWhole, AreTimes}
-use Rattle.dali_wire.specs.Windows.{answer_in, heard_beside, heard_with, is_idle, window_after, window_at_first, told_after}
+use Rattle.std.proofs.Common.{◌≡◌, ℕ, ◌+◌, ◌*◌, ◌%◌, ◌-◌, ◌^◌, ◌<◌, ◌≤◌, min, Bool, true, false, Some, List, [], ◌∷◌, ◌++◌, length, ◌⊎◌, inl, inr, refl, sym}
+use Rattle.std.proofs.Common.{ap, subst, ◌∙◌, arith, nat_lt, nat_le, ◌&&◌, if◌then◌else◌}
+use Rattle.std.proofs.{Math.Pow.pow_mono, lemmas.Bool.Decides.nat_tests}
+use Rattle.dali_frame.specs.declared.frames.Answer.{Answer, TheVariants.Silence, TheVariants.Byte, TheVariants.Damaged}
 use Rattle.dali_wire.specs.Edges.{window_after_all, time_of, by_turns, AtMostOnePulse, high_before, IsOneAnswer}
-use Rattle.dali_wire.proofs.Spans.{lately}
-use Rattle.dali_wire.proofs.Values.{few_bits, bits_back, below, above}
-use Rattle.dali_wire.proofs.Joint.{byte_is}
-use Rattle.dali_wire.proofs.Asking.{begun}
-use Rattle.dali_wire.proofs.Heard.{longer_is}
-use Rattle.dali_wire.proofs.Rests.{state, TellsOf, told_is, damaged_tells, goes_on, step, falls, IsBusy, not_idle, edge_busy, IsNeverBusy, never_busy}
-use Rattle.dali_wire.proofs.Rests.{idle_falls, idle_missed, rises_short, first_ends, frame_not_silent, spoilt_tells}
+use Rattle.dali_wire.specs.{Grid.value_of, Levels.bits_of, Reception.span_of, Reception.span_before, Reception.with_bit, Reception.read_edge}
+use Rattle.dali_wire.specs.{Reception.frame_of, Reception.frame_read, Reception.longer, Reception.reading_at, Times.IsHalf, Times.IsWhole, Times.AreTimes}
+use Rattle.dali_wire.specs.Windows.{answer_in, heard_beside, heard_with, is_idle, window_after, window_at_first, told_after}
+use Rattle.dali_wire.specs.declared.receiver.Frame.{Frame, TheVariants.Forward, TheVariants.Backward, TheVariants.Device, TheVariants.Damaged as Broken}
+use Rattle.dali_wire.specs.declared.receiver.Reading.{Reading, TheVariants.Idle, TheVariants.First, TheVariants.Between, TheVariants.Middle, TheVariants.Spoilt}
+use Rattle.dali_wire.specs.declared.receiver.Span.{Span, TheVariants.Short, TheVariants.Half, TheVariants.Whole, TheVariants.Wrong}
+use Rattle.dali_wire.proofs.{Asking.begun, Heard.longer_is, Joint.byte_is, Rests.state, Rests.TellsOf, Rests.told_is, Rests.damaged_tells}
+use Rattle.dali_wire.proofs.Rests.{goes_on, step, falls, IsBusy, not_idle, edge_busy, IsNeverBusy, never_busy, idle_falls, idle_missed, rises_short, first_ends}
+use Rattle.dali_wire.proofs.{Rests.frame_not_silent, Rests.spoilt_tells, Spans.lately, Values.few_bits, Values.bits_back, Values.below, Values.above}
 
 -- A BYTE IS HEARD of one backward frame alone, that began in its time, and of at most one pulse beside it.
 in_time : (f : Frame) (begun byte : ℕ) → answer_in f begun ≡ Byte byte → (f ≡ Backward byte) × (2400 ≤ begun) × (begun ≤ 12400)

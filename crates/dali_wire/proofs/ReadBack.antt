@@ -1,17 +1,12 @@
-use Rattle.std.proofs.Common.{◌≡◌, ℕ, zero, suc, ◌+◌, ◌*◌, ◌/◌, ◌%◌, ◌<◌, ◌≤◌, Bool, true, false}
-use Rattle.std.proofs.Common.{List, [], ◌∷◌, ◌++◌, Some, None, refl, sym, subst, arith, nat_lt, nat_le}
-use Rattle.std.specs.Prelude.{if◌then◌else◌}
+use Rattle.std.proofs.Common.{◌≡◌, ℕ, zero, suc, ◌+◌, ◌*◌, ◌/◌, ◌%◌, ◌<◌, ◌≤◌, Bool, true, false, List, [], ◌∷◌, ◌++◌, Some, None, refl, sym, subst, arith}
+use Rattle.std.proofs.Common.{nat_lt, nat_le, if◌then◌else◌}
 use Rattle.std.proofs.lemmas.Bool.Decides.{nat_tests}
 use Rattle.dali_frame.specs.declared.frames.Forward.{Forward as Sent}
-use Rattle.dali_wire.specs.declared.receiver.Span.{Span}
-use Rattle.dali_wire.specs.declared.receiver.Reading.{Reading}
-use Rattle.dali_wire.specs.declared.receiver.Reading.TheVariants.{Idle, First, Between, Middle, Spoilt}
-use Rattle.dali_wire.specs.declared.receiver.Frame.{Frame}
-use Rattle.dali_wire.specs.declared.receiver.Frame.TheVariants.{Forward, Backward}
+use Rattle.dali_wire.specs.{Grid.Tells, Grid.value_of, Levels.bits_of, Levels.levels_of, Levels.highs, Levels.forward_bits, Levels.backward_bits}
 use Rattle.dali_wire.specs.Reception.{span_of, with_bit, read_edge, frame_of, frame_read, ended}
-use Rattle.dali_wire.specs.Levels.{bits_of, levels_of, highs, forward_bits, backward_bits}
-use Rattle.dali_wire.specs.Grid.{Tells, value_of}
-use Rattle.dali_wire.proofs.Spans.{half_is, whole_is, soon, late}
+use Rattle.dali_wire.specs.declared.receiver.{Frame.Frame, Frame.TheVariants.Forward, Frame.TheVariants.Backward, Reading.Reading}
+use Rattle.dali_wire.specs.declared.receiver.Reading.TheVariants.{Idle, First, Between, Middle, Spoilt}
+use Rattle.dali_wire.{specs.declared.receiver.Span.Span, proofs.Spans.half_is, proofs.Spans.whole_is, proofs.Spans.soon, proofs.Spans.late}
 use Rattle.dali_wire.proofs.Values.{value_grows, value_back, start_first, is_above, is_below}
 
 -- EVERY FRAME IS READ BACK from its levels.

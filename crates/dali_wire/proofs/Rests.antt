@@ -1,21 +1,14 @@
-use Rattle.std.proofs.Common.{◌≡◌, ℕ, ◌+◌, ◌*◌, ◌-◌, ◌^◌, ◌<◌, min, Bool, true, false, Option, Some, None, List, [], ◌∷◌, ◌⊎◌, inl, inr}
-use Rattle.std.proofs.Common.{refl, sym, ap, subst, ◌∙◌, arith, nat_lt, nat_le}
-use Rattle.std.specs.Prelude.{◌&&◌, ◌||◌, if◌then◌else◌}
+use Rattle.std.proofs.Common.{◌≡◌, ℕ, ◌+◌, ◌*◌, ◌-◌, ◌^◌, ◌<◌, min, Bool, true, false, Option, Some, None, List, [], ◌∷◌, ◌⊎◌, inl, inr, refl, sym, ap, subst}
+use Rattle.std.proofs.Common.{◌∙◌, arith, nat_lt, nat_le, ◌&&◌, ◌||◌, if◌then◌else◌}
 use Rattle.std.proofs.lemmas.Bool.Decides.{nat_tests}
-use Rattle.dali_frame.specs.declared.frames.Answer.{Answer}
-use Rattle.dali_frame.specs.declared.frames.Answer.TheVariants.{Silence, Byte, Damaged}
-use Rattle.dali_wire.specs.declared.receiver.Span.{Span}
-use Rattle.dali_wire.specs.declared.receiver.Span.TheVariants.{Short, Half, Whole, Wrong}
-use Rattle.dali_wire.specs.declared.receiver.Reading.{Reading}
-use Rattle.dali_wire.specs.declared.receiver.Reading.TheVariants.{Idle, First, Between, Middle, Spoilt}
-use Rattle.dali_wire.specs.declared.receiver.Frame.{Frame}
-use Rattle.dali_wire.specs.declared.receiver.Frame.TheVariants.{Forward, Backward, Device}
-use Rattle.dali_wire.specs.declared.receiver.Frame.TheVariants.{Damaged as Broken}
-use Rattle.dali_wire.specs.declared.receiver.Told.{Told}
-use Rattle.dali_wire.specs.declared.window.Window.{Window}
+use Rattle.dali_frame.specs.declared.frames.Answer.{Answer, TheVariants.Silence, TheVariants.Byte, TheVariants.Damaged}
+use Rattle.dali_wire.specs.Edges.{window_after_all, IsAtRest}
 use Rattle.dali_wire.specs.Reception.{span_of, span_before, with_bit, read_edge, frame_of, frame_read, longer, reading_at}
 use Rattle.dali_wire.specs.Windows.{answer_in, heard_after, heard_beside, heard_with, is_idle, window_after, window_at_first, told_after}
-use Rattle.dali_wire.specs.Edges.{window_after_all, IsAtRest}
+use Rattle.dali_wire.specs.declared.receiver.Frame.{Frame, TheVariants.Forward, TheVariants.Backward, TheVariants.Device, TheVariants.Damaged as Broken}
+use Rattle.dali_wire.specs.declared.receiver.Reading.{Reading, TheVariants.Idle, TheVariants.First, TheVariants.Between, TheVariants.Middle, TheVariants.Spoilt}
+use Rattle.dali_wire.specs.declared.receiver.Span.{Span, TheVariants.Short, TheVariants.Half, TheVariants.Whole, TheVariants.Wrong}
+use Rattle.dali_wire.specs.declared.{receiver.Told.Told, window.Window.Window}
 
 -- WHAT IS TOLD OF ANY EDGES, but for a frame: a bus at rest.
 abbrev pub state : Reading → Bool → ℕ → ℕ → Answer → Bool → Window

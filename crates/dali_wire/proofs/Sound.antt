@@ -1,15 +1,10 @@
-use Rattle.std.proofs.Common.{◌≡◌, ℕ, zero, suc, ◌+◌, ◌*◌, ◌<◌, ◌≤◌, Bool, true, false, List, [], ◌∷◌}
-use Rattle.std.proofs.Common.{Some, None, ◌⊎◌, inl, inr, refl, sym, ap, subst, arith, nat_lt, nat_le}
-use Rattle.std.specs.Prelude.{if◌then◌else◌}
+use Rattle.std.proofs.Common.{◌≡◌, ℕ, zero, suc, ◌+◌, ◌*◌, ◌<◌, ◌≤◌, Bool, true, false, List, [], ◌∷◌, Some, None, ◌⊎◌, inl, inr, refl, sym, ap, subst, arith}
+use Rattle.std.proofs.Common.{nat_lt, nat_le, if◌then◌else◌}
 use Rattle.std.specs.List.{AllByRecursion}
-use Rattle.dali_wire.specs.declared.receiver.Span.{Span}
-use Rattle.dali_wire.specs.declared.receiver.Reading.{Reading}
-use Rattle.dali_wire.specs.declared.receiver.Reading.TheVariants.{Idle, First, Between, Middle, Spoilt}
-use Rattle.dali_wire.specs.declared.receiver.Frame.{Frame}
-use Rattle.dali_wire.specs.declared.receiver.Frame.TheVariants.{Damaged}
+use Rattle.dali_wire.specs.{Grid.Tells, Grid.IsWritten, Grid.IsHeard, Grid.IsPassedOver, Levels.highs}
 use Rattle.dali_wire.specs.Reception.{span_of, with_bit, read_edge, frame_of, frame_read, ended, reading_at}
-use Rattle.dali_wire.specs.Levels.{highs}
-use Rattle.dali_wire.specs.Grid.{Tells, IsWritten, IsHeard, IsPassedOver}
+use Rattle.dali_wire.specs.declared.receiver.{Frame.Frame, Frame.TheVariants.Damaged, Reading.Reading, Reading.TheVariants.Idle, Reading.TheVariants.First}
+use Rattle.dali_wire.specs.declared.receiver.{Reading.TheVariants.Between, Reading.TheVariants.Middle, Reading.TheVariants.Spoilt, Span.Span}
 use Rattle.dali_wire.proofs.Spans.{half_is, whole_is, short_is, soon, IsLong, long_between, long_middle, long_first}
 
 -- WHAT IS TOLD WAS ON THE BUS: a frame that is not damaged is told of the levels of its bits and of a stop condition.

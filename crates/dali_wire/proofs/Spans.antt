@@ -1,10 +1,8 @@
 use Rattle.std.proofs.Common.{◌≡◌, ℕ, ◌+◌, ◌<◌, ◌≤◌, Bool, true, false, refl, arith, nat_lt}
 use Rattle.std.proofs.lemmas.Bool.Decides.{nat_tests}
-use Rattle.dali_wire.specs.declared.receiver.Span.{Span}
-use Rattle.dali_wire.specs.declared.receiver.Span.TheVariants.{Short, Half, Whole, Wrong}
-use Rattle.dali_wire.specs.declared.receiver.Reading.{Reading}
+use Rattle.dali_wire.specs.{Reception.span_of, Reception.read_edge, declared.receiver.Reading.Reading}
 use Rattle.dali_wire.specs.declared.receiver.Reading.TheVariants.{First, Between, Middle, Spoilt}
-use Rattle.dali_wire.specs.Reception.{span_of, read_edge}
+use Rattle.dali_wire.specs.declared.receiver.Span.{Span, TheVariants.Short, TheVariants.Half, TheVariants.Whole, TheVariants.Wrong}
 
 -- THE TIMES OF ONE, TWO AND MORE HALF BITS.
 pub half_is : (t : ℕ) → 334 ≤ t → t ≤ 500 → span_of t ≡ Half

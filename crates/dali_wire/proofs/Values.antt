@@ -1,10 +1,7 @@
-use Rattle.std.proofs.Common.{◌≡◌, ℕ, zero, suc, ◌+◌, ◌-◌, ◌*◌, ◌^◌, ◌<◌, ◌≤◌, Bool}
-use Rattle.std.proofs.Common.{true, false, List, [], ◌∷◌, length, refl, ap, ◌∙◌, arith, nat_le}
-use Rattle.std.specs.Prelude.{if◌then◌else◌}
-use Rattle.std.proofs.Math.Nat.{pow-succ'}
-use Rattle.std.proofs.lemmas.Bool.Decides.{nat_tests}
-use Rattle.dali_wire.specs.Levels.{bits_of}
-use Rattle.dali_wire.specs.Grid.{value_of}
+use Rattle.std.proofs.Common.{◌≡◌, ℕ, zero, suc, ◌+◌, ◌-◌, ◌*◌, ◌^◌, ◌<◌, ◌≤◌, Bool, true, false, List, [], ◌∷◌, length, refl, ap, ◌∙◌, arith, nat_le}
+use Rattle.std.proofs.Common.{if◌then◌else◌}
+use Rattle.std.proofs.{Math.Nat.pow-succ', lemmas.Bool.Decides.nat_tests}
+use Rattle.dali_wire.specs.{Grid.value_of, Levels.bits_of}
 
 -- THE NUMBER THAT BITS WRITE, and the bits of a number.
 

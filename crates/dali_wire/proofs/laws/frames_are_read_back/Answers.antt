@@ -1,5 +1,4 @@
-use Rattle.dali_wire.proofs.ReadBack.{backward_back, forward_back}
-use Rattle.dali_wire.proofs.EachTime.{backward_read, forward_read}
+use Rattle.dali_wire.proofs.{EachTime.backward_read, EachTime.forward_read, ReadBack.backward_back, ReadBack.forward_back}
 use Rattle.dali_wire.proofs.laws.frames_are_read_back.Goals as goal
 
 pub returns-clause-backward : goal.returns-clause-backward

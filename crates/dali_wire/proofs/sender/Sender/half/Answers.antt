@@ -1,8 +1,7 @@
 use Rattle.std.proofs.Common.{rules, ◌≡◌, ℕ, ◌-◌, ◌*◌, ◌%◌, ◌^◌, ◌<◌, ◌≤◌, ◌∷◌, Bool, true, false, sym, ◌∙◌, subst, arith, nat_le}
 use Rattle.std.proofs.Math.Pow.{shl_exact}
-use Rattle.dali_wire.specs.Levels.{to_send}
-use Rattle.dali_wire.proofs.Sending.{first_half, second_of_one, second_of_zero, all_over, stop_goes_on}
-use Rattle.dali_wire.proofs.Values.{is_below, is_above}
+use Rattle.dali_wire.{specs.Levels.to_send, proofs.Sending.first_half}
+use Rattle.dali_wire.proofs.{Sending.second_of_one, Sending.second_of_zero, Sending.all_over, Sending.stop_goes_on, Values.is_below, Values.is_above}
 use Rattle.dali_wire.proofs.sender.Sender.half.Goals as goal
 
 weight_is : (left : ℕ) → left < 33 → (1 * 2 ^ (left - 1)) % 4294967296 ≡ 2 ^ (left - 1)
