@@ -1,26 +1,13 @@
 use Rattle.std.proofs.Common.{◌≡◌, ℕ, ◌<◌, inl, inr, Bool, List, [], append-nil, refl, sym, ap, subst, ◌∙◌, length, Some}
-use Rattle.dali_script.specs.declared.trace.Entry.{Entry}
-use Rattle.dali_script.specs.declared.finding.Finding.{Finding}
-use Rattle.dali_script.specs.declared.records.Record.{Record}
-use Rattle.dali_script.specs.Records.{Assignment}
-use Rattle.dali_script.specs.Findings.{assigned, finding_of}
-use Rattle.dali_script.specs.declared.orders.Input.{Input}
-use Rattle.dali_script.specs.declared.orders.Input.TheVariants as input
-use Rattle.dali_script.specs.declared.orders.Order.TheVariants.{Commit, Halt}
+use Rattle.dali_script.specs.{Findings.assigned, Findings.finding_of, Records.Assignment, declared.finding.Finding.Finding, declared.orders.Input.Input}
+use Rattle.dali_script.specs.declared.{orders.Order.TheVariants.Commit, orders.Order.TheVariants.Halt, records.Record.Record, trace.Entry.Entry}
 use Rattle.dali_script.specs.declared.orders.Fault.TheVariants as fault
-use Rattle.dali_controller.specs.Machine.{Machine, machine_told}
-use Rattle.dali_controller.specs.Orders.{IsOrdered, IsAnswered, Contradicts}
-use Rattle.dali_events.specs.declared.event.Event.{Event}
-use Rattle.dali_events.specs.Plan.{Plan}
-use Rattle.dali_events.specs.World.{World, Controller, controller_at}
-use Rattle.dali_events.specs.Allowed.{IsDue}
-use Rattle.dali_events.specs.Runs.{after, IsRun}
-use Rattle.dali_events.specs.Laws.{HasFound, FindingsAgree}
-use Rattle.dali_events.proofs.Invariant.Agreeing.{findings_agree_in}
-use Rattle.dali_standing.specs.Seats.{IsRunning}
-use Rattle.dali_standing.specs.Settled.{IsPlacedBy}
-use Rattle.dali_standing.proofs.Acts.{start_first, IsOfBus, IsPut, bus_put, committed_last, told_accepted, placed_start, placed_commit, later_some, bus_kept}
-use Rattle.dali_standing.proofs.Acts.{found_told}
+use Rattle.dali_script.specs.declared.orders.Input.TheVariants as input
+use Rattle.dali_controller.specs.{Machine.Machine, Machine.machine_told, Orders.IsOrdered, Orders.IsAnswered, Orders.Contradicts}
+use Rattle.dali_events.specs.{Allowed.IsDue, Laws.HasFound, Laws.FindingsAgree, Plan.Plan, Runs.after, Runs.IsRun, World.World, World.Controller}
+use Rattle.dali_events.{specs.World.controller_at, specs.declared.event.Event.Event, proofs.Invariant.Agreeing.findings_agree_in}
+use Rattle.dali_standing.{specs.Seats.IsRunning, specs.Settled.IsPlacedBy, proofs.Acts.start_first}
+use Rattle.dali_standing.proofs.Acts.{IsOfBus, IsPut, bus_put, committed_last, told_accepted, placed_start, placed_commit, later_some, bus_kept, found_told}
 
 -- NO MACHINE OF A SITE HALTS WITH A CONFLICT.
 

@@ -1,38 +1,19 @@
-use Rattle.std.proofs.Common.{◌≡◌, ℕ, ◌<◌, ◌⊎◌, inl, inr, true, false, List, [], ◌∷◌, ◌++◌, refl, sym, ap, subst, ◌∙◌, arith}
-use Rattle.std.proofs.Common.{Option, Some, None}
-use Rattle.std.specs.Prelude.{if◌then◌else◌}
-use Rattle.dali_frame.specs.declared.frames.Forward.{Forward}
-use Rattle.dali_frame.specs.declared.frames.Answer.{Answer}
-use Rattle.dali_frame.specs.declared.frames.Answer.TheVariants.{Silence, Byte, Damaged}
-use Rattle.dali_frame.specs.declared.numbers.SearchAddress.{SearchAddress}
+use Rattle.std.proofs.Common.{◌≡◌, ℕ, ◌<◌, ◌⊎◌, inl, inr, true, false, List, [], ◌∷◌, ◌++◌, refl, sym, ap, subst, ◌∙◌, arith, Option, Some, None, if◌then◌else◌}
 use Rattle.dali_frame.specs.Priority.{FIRST, LATER}
-use Rattle.dali_special.specs.declared.command.Command.{Command}
-use Rattle.dali_special.specs.declared.command.Command.TheVariants.{Compare}
-use Rattle.dali_special.specs.Command.{command_of, frame_of}
-use Rattle.dali_script.specs.declared.trace.Entry.{Entry}
-use Rattle.dali_script.specs.declared.records.Record.{Record}
-use Rattle.dali_script.specs.declared.stage.Stage.{Stage}
-use Rattle.dali_script.specs.declared.stage.Stage.TheVariants.{Free, Hunted}
-use Rattle.dali_script.specs.Records.{Kept}
-use Rattle.dali_script.specs.Scripts.{IsFront}
-use Rattle.dali_script.specs.Stages.{stage_of}
-use Rattle.dali_script.proofs.Transactions.{stage_none}
-use Rattle.dali_script.specs.declared.orders.Input.{Input}
+use Rattle.dali_frame.specs.declared.frames.Answer.{Answer, TheVariants.Silence, TheVariants.Byte, TheVariants.Damaged}
+use Rattle.dali_frame.specs.declared.{frames.Forward.Forward, numbers.SearchAddress.SearchAddress}
+use Rattle.dali_special.specs.{Command.command_of, Command.frame_of, declared.command.Command.Command, declared.command.Command.TheVariants.Compare}
+use Rattle.dali_script.specs.{Due.due_after, Due.accepts, Due.frame_put, Due.record_ordered, Records.Kept, Scripts.IsFront, Stages.stage_of}
+use Rattle.dali_script.specs.declared.orders.{Input.Input, Order.Order, Order.TheVariants.Put, Order.TheVariants.Commit, Order.TheVariants.Done}
+use Rattle.dali_script.specs.declared.{orders.Order.TheVariants.Halt, records.Record.Record, stage.Stage.Stage, stage.Stage.TheVariants.Free}
+use Rattle.dali_script.{specs.declared.stage.Stage.TheVariants.Hunted, specs.declared.trace.Entry.Entry, proofs.Transactions.stage_none}
 use Rattle.dali_script.specs.declared.orders.Input.TheVariants as input
-use Rattle.dali_script.specs.declared.orders.Order.{Order}
-use Rattle.dali_script.specs.declared.orders.Order.TheVariants.{Put, Commit, Done, Halt}
-use Rattle.dali_script.specs.Due.{due_after, accepts, frame_put, record_ordered}
-use Rattle.dali_controller.specs.declared.purpose.Purpose.{Purpose}
-use Rattle.dali_controller.specs.declared.purpose.Purpose.TheVariants.{Calling, Hunting}
-use Rattle.dali_controller.specs.Course.{Course, byte_to_send}
-use Rattle.dali_controller.specs.Machine.{Machine, machine_told, machine_heard, machine_committed}
+use Rattle.dali_controller.specs.{Course.Course, Course.byte_to_send, Machine.Machine, Machine.machine_told, Machine.machine_heard, Machine.machine_committed}
 use Rattle.dali_controller.specs.Next.{next_course, begins_at, compared_in, hunted_in, course_by, course_on, asked_on, question, has_room, beginning}
-use Rattle.dali_controller.specs.Orders.{IsGiven, IsAnswered, IsFollowed, MayOrderPut}
-use Rattle.dali_controller.specs.Orders.{machine_after, trace_by}
-use Rattle.dali_controller.specs.Whole.{IsWhole, Sends, Knows}
-use Rattle.dali_controller.proofs.Given.{IsGivenBy, given_by}
-use Rattle.dali_events.specs.Happens.{entry}
-use Rattle.dali_events.specs.Calling.{roll_call}
+use Rattle.dali_controller.specs.Orders.{IsGiven, IsAnswered, IsFollowed, MayOrderPut, machine_after, trace_by}
+use Rattle.dali_controller.specs.{Whole.IsWhole, Whole.Sends, Whole.Knows, declared.purpose.Purpose.Purpose, declared.purpose.Purpose.TheVariants.Calling}
+use Rattle.dali_controller.{specs.declared.purpose.Purpose.TheVariants.Hunting, proofs.Given.IsGivenBy, proofs.Given.given_by}
+use Rattle.dali_events.specs.{Calling.roll_call, Happens.entry}
 use Rattle.dali_events.proofs.Search.Rolled.{stage_1, stage_2, stage_3, stage_4, stage_5, stage_6, stage_7, stage_8}
 use Rattle.dali_world.specs.Site.{IsCalling}
 

@@ -1,12 +1,8 @@
-use Rattle.std.proofs.Common.{◌≡◌, ℕ, Bool, true, false, refl, is_some}
-use Rattle.std.specs.Prelude.{if◌then◌else◌}
+use Rattle.std.proofs.Common.{◌≡◌, ℕ, Bool, true, false, refl, is_some, if◌then◌else◌}
 use Rattle.dali_arbiter.specs.Arbiter.{Arbiter, owns, bus_lapsed, bus_freed, bus_muted, bus_taken, collision, bus_collided, bus_silenced}
-use Rattle.dali_script.specs.declared.orders.Order.{Order}
-use Rattle.dali_script.specs.declared.orders.Order.TheVariants.{Put, Commit, Done, Halt}
-use Rattle.dali_events.specs.declared.event.Event.{Event}
+use Rattle.dali_script.specs.declared.orders.Order.{Order, TheVariants.Put, TheVariants.Commit, TheVariants.Done, TheVariants.Halt}
+use Rattle.dali_events.specs.{Happens.happens, Happens.gives_up, Happens.bus_acted, World.World, declared.event.Event.Event}
 use Rattle.dali_events.specs.declared.event.Event.TheVariants as event
-use Rattle.dali_events.specs.World.{World}
-use Rattle.dali_events.specs.Happens.{happens, gives_up, bus_acted}
 
 -- AS MANY REQUESTS MAY WAIT as at the start, whatever happens.
 

@@ -1,24 +1,12 @@
-use Rattle.std.proofs.Common.{◌≡◌, ℕ, ◌<◌, [], ◌∷◌, ◌++◌, sym, ap, subst, length, get_or-set_same, Some}
-use Rattle.std.specs.Prelude.{IfSome}
-use Rattle.dali_script.specs.declared.block.Block.{Block}
-use Rattle.dali_script.specs.declared.records.Record.{Record}
-use Rattle.dali_script.specs.Records.{Fits}
-use Rattle.dali_script.specs.declared.orders.Input.{Input}
-use Rattle.dali_script.specs.declared.orders.Order.{Order}
+use Rattle.std.proofs.Common.{◌≡◌, ℕ, ◌<◌, [], ◌∷◌, ◌++◌, sym, ap, subst, length, get_or-set_same, Some, IfSome}
+use Rattle.dali_script.specs.{Due.record_ordered, Records.Fits, declared.block.Block.Block, declared.orders.Input.Input, declared.orders.Order.Order}
 use Rattle.dali_script.specs.declared.orders.Order.TheVariants.{Put, Commit, Done, Halt}
-use Rattle.dali_script.specs.Due.{record_ordered}
-use Rattle.dali_events.specs.declared.event.Event.{Event}
+use Rattle.dali_script.specs.declared.records.Record.{Record}
+use Rattle.dali_events.specs.{Allowed.Allowed, Happens.happens, Happens.controller_acted, Laws.KeepsRecords, Plan.Plan, Plan.block_at, Runs.IsRun}
+use Rattle.dali_events.specs.{Runs.LeavesUsed, World.World, World.Controller, World.controller_at, World.nobody, World.start, declared.event.Event.Event}
+use Rattle.dali_events.proofs.Invariant.{Controllers.controllers_count, Growing.after_more, Growing.run_more}
 use Rattle.dali_events.specs.declared.event.Event.TheVariants as event
-use Rattle.dali_events.specs.Plan.{Plan, block_at}
-use Rattle.dali_events.specs.World.{World, Controller, controller_at, nobody, start}
-use Rattle.dali_events.specs.Happens.{happens, controller_acted}
-use Rattle.dali_events.specs.Allowed.{Allowed}
-use Rattle.dali_events.specs.Runs.{IsRun, LeavesUsed}
-use Rattle.dali_events.specs.Laws.{KeepsRecords}
-use Rattle.dali_events.proofs.Invariant.Growing.{after_more, run_more}
-use Rattle.dali_events.proofs.Invariant.Controllers.{controllers_count}
-use Rattle.dali_world.specs.Site.{SiteState, Receipt, world, HasActed}
-use Rattle.dali_world.proofs.Logs.{records_now}
+use Rattle.dali_world.{specs.Site.SiteState, specs.Site.Receipt, specs.Site.world, specs.Site.HasActed, proofs.Logs.records_now}
 
 -- A RECORD THAT IS ORDERED FITS the block that the plan gives to its controller: it is outstanding once it is ordered, and what is outstanding fits.
 keeps_after : (s : SiteState) (e : Event) → IsRun s.plan s.queue s.log → Allowed (world s) e → LeavesUsed s.plan.used e

@@ -1,61 +1,35 @@
 use Rattle.std.proofs.Common.{◌≡◌, ℕ, ◌+◌, ◌<◌, ◌≤◌, ◌⊎◌, inl, inr, Bool, true, false, List, [], ◌∷◌, ◌++◌, refl, sym, ap, subst, ◌∙◌, arith, length}
-use Rattle.std.proofs.Common.{length-append, length-set, set, get_or, get_or-set_same, get_or-set_other, nat_eq, Option, Some, None}
-use Rattle.std.specs.Prelude.{◌==◌, if◌then◌else◌, zero, suc}
-use Rattle.std.proofs.lemmas.Bool.Decides.{nat_tests}
-use Rattle.std.proofs.lemmas.List.{length-map, append-nil}
-use Rattle.dali_script.specs.declared.orders.Input.{Input}
-use Rattle.dali_script.specs.declared.orders.Input.TheVariants as input
-use Rattle.dali_script.specs.declared.orders.Order.{Order}
-use Rattle.dali_script.specs.Due.{due_after, accepts}
-use Rattle.dali_controller.specs.Machine.{Machine}
-use Rattle.dali_events.specs.declared.event.Event.{Event}
-use Rattle.dali_events.specs.declared.event.Event.TheVariants as event
-use Rattle.dali_events.specs.declared.event.Outside.{Outside}
-use Rattle.dali_events.specs.declared.event.Outside.TheVariants as outside
-use Rattle.dali_events.specs.Events.{whose_step, is_step_of, event_of}
-use Rattle.dali_events.specs.Plan.{Plan, IsPlan}
-use Rattle.dali_events.specs.World.{World, Controller, controller_at, start}
-use Rattle.dali_events.specs.Happens.{happens}
-use Rattle.dali_events.specs.Allowed.{Allowed, IsUp, IsDue, MaySend}
-use Rattle.dali_events.specs.declared.used.Used.{Used}
-use Rattle.dali_events.specs.Runs.{after, after_all, IsRun, LeavesUsed}
-use Rattle.dali_events.specs.Promise.{IsSafe}
-use Rattle.dali_events.specs.Page.{plan_seen, LeadsTo}
-use Rattle.dali_statement.specs.Page.{Moment, KeepsPromise as KeepsPagePromise}
-use Rattle.dali_statement.proofs.Whole.{every_history_keeps_the_promise}
-use Rattle.dali_events.proofs.Invariant.Starting.{start_count}
-use Rattle.dali_events.proofs.Invariant.Growing.{after_more, run_more}
-use Rattle.dali_events.proofs.Invariant.Controllers.{controllers_count}
-use Rattle.dali_events.proofs.Invariant.Safe.{safe_history, safe, holds_after, every_run_is_a_history}
-use Rattle.dali_events.proofs.Invariant.Agreeing.{tables_agree_in, records_kept}
-use Rattle.dali_events.specs.Laws.{TablesAgree, KeepsRecords}
-use Rattle.dali_standing.specs.Standing.{Standing, stand_of, machines_at, machines_after, machine_in, controller_on, Moves, MayBeSent, MayBefall}
-use Rattle.dali_world.proofs.Capacity.{capacity_kept}
-use Rattle.dali_world.proofs.Room.{gear_count, gifts_fit_after}
-use Rattle.dali_world.proofs.Rolls.{IsKnownOf, remembers_more, remembers_start, found_called}
-use Rattle.dali_frame.specs.declared.frames.Answer.{Answer}
-use Rattle.dali_frame.specs.declared.frames.Answer.TheVariants.{Silence}
+use Rattle.std.proofs.Common.{length-append, length-set, set, get_or, get_or-set_same, get_or-set_other, nat_eq, Option, Some, None, ◌==◌, if◌then◌else◌, zero}
+use Rattle.std.proofs.{Common.suc, lemmas.Bool.Decides.nat_tests, lemmas.List.length-map, lemmas.List.append-nil}
+use Rattle.dali_frame.specs.declared.frames.Answer.{Answer, TheVariants.Silence}
 use Rattle.dali_special.specs.Command.{command_of}
-use Rattle.dali_gear.specs.declared.gear_set.GearSet.{GearSet}
-use Rattle.dali_gear.specs.declared.row.Reach.{Reach}
-use Rattle.dali_gear.specs.declared.row.Reach.TheVariants.{Everyone, Only}
-use Rattle.dali_gear.specs.Row.{draws_needed, stored_of}
-use Rattle.dali_arbiter.specs.declared.request.Request.{Request}
-use Rattle.dali_arbiter.specs.Arbiter.{owns, total, collision}
-use Rattle.dali_standing.specs.Seats.{MayAnswer, LeavesWhole, MayReserveUsed, IsRunning, IsTold, Waits}
-use Rattle.dali_standing.proofs.InUse.{leaves_acted}
-use Rattle.dali_standing.proofs.Acts.{told_accepted, start_first, committed_last}
-use Rattle.dali_standing.specs.Settled.{IsPlacedBy, IsPlacedOn, FollowsItsMachine}
-use Rattle.dali_world.proofs.Agreeing.{no_conflict}
-use Rattle.dali_script.specs.declared.orders.Order.TheVariants.{Halt, Done}
-use Rattle.dali_script.specs.declared.orders.End.TheVariants.{AllFound}
-use Rattle.dali_controller.specs.declared.way.Way.TheVariants.{Surveying}
+use Rattle.dali_gear.specs.{Row.draws_needed, Row.stored_of, declared.gear_set.GearSet.GearSet}
+use Rattle.dali_gear.specs.declared.row.Reach.{Reach, TheVariants.Everyone, TheVariants.Only}
+use Rattle.dali_arbiter.specs.{Arbiter.owns, Arbiter.total, Arbiter.collision, declared.request.Request.Request}
+use Rattle.dali_script.specs.Due.{due_after, accepts}
+use Rattle.dali_script.specs.declared.orders.{End.TheVariants.AllFound, Input.Input, Order.Order, Order.TheVariants.Halt, Order.TheVariants.Done}
 use Rattle.dali_script.specs.declared.orders.Fault.TheVariants as fault
+use Rattle.dali_script.specs.declared.orders.Input.TheVariants as input
+use Rattle.dali_controller.specs.{Machine.Machine, declared.way.Way.TheVariants.Surveying}
+use Rattle.dali_statement.{specs.Page.Moment, specs.Page.KeepsPromise as KeepsPagePromise, proofs.Whole.every_history_keeps_the_promise}
+use Rattle.dali_events.specs.Allowed.{Allowed, IsUp, IsDue, MaySend}
+use Rattle.dali_events.specs.{Events.whose_step, Events.is_step_of, Events.event_of, Happens.happens, Laws.TablesAgree, Laws.KeepsRecords, Page.plan_seen}
+use Rattle.dali_events.specs.{Page.LeadsTo, Plan.Plan, Plan.IsPlan, Promise.IsSafe, Runs.after, Runs.after_all, Runs.IsRun, Runs.LeavesUsed}
+use Rattle.dali_events.specs.{Troubles.reach_under, World.World, World.Controller, World.controller_at, World.start}
+use Rattle.dali_events.specs.declared.{event.Event.Event, event.Outside.Outside, trouble.Trouble.Trouble, used.Used.Used}
+use Rattle.dali_events.proofs.Invariant.{Agreeing.tables_agree_in, Agreeing.records_kept, Controllers.controllers_count, Growing.after_more, Growing.run_more}
+use Rattle.dali_events.proofs.Invariant.{Safe.safe_history, Safe.safe, Safe.holds_after, Safe.every_run_is_a_history, Starting.start_count}
+use Rattle.dali_events.specs.declared.event.Event.TheVariants as event
+use Rattle.dali_events.specs.declared.event.Outside.TheVariants as outside
+use Rattle.dali_events.specs.declared.trouble.Trouble.TheVariants as trouble
+use Rattle.dali_standing.specs.Seats.{MayAnswer, LeavesWhole, MayReserveUsed, IsRunning, IsTold, Waits}
+use Rattle.dali_standing.specs.Settled.{IsPlacedBy, IsPlacedOn, FollowsItsMachine}
+use Rattle.dali_standing.specs.Standing.{Standing, stand_of, machines_at, machines_after, machine_in, controller_on, Moves, MayBeSent, MayBefall}
+use Rattle.dali_standing.proofs.{Acts.told_accepted, Acts.start_first, Acts.committed_last, InUse.leaves_acted}
 use Rattle.dali_world.specs.Site.{SiteState, world, site_logged, machines_all, machines, machine_at, share_of, IsSite, opened_site, HasRoom, Remember}
 use Rattle.dali_world.specs.Site.{IsCrowded, IsOutside, Logs, Receipt, HasActed, IsSpent, IsSendable, RollWasCalled}
-use Rattle.dali_events.specs.Troubles.{reach_under}
-use Rattle.dali_events.specs.declared.trouble.Trouble.{Trouble}
-use Rattle.dali_events.specs.declared.trouble.Trouble.TheVariants as trouble
+use Rattle.dali_world.proofs.{Agreeing.no_conflict, Capacity.capacity_kept, Rolls.IsKnownOf, Rolls.remembers_more, Rolls.remembers_start, Rolls.found_called}
+use Rattle.dali_world.proofs.Room.{gear_count, gifts_fit_after}
 
 -- A LOG GROWS BY ONE EVENT, and all that is read from it follows.
 

@@ -1,60 +1,30 @@
-use Rattle.std.proofs.Common.{◌≡◌, ℕ, ◌+◌, ◌⊎◌, inl, inr, Bool, true, false, List, [], ◌∷◌, ◌++◌, refl, sym, ap, subst, ◌∙◌, arith, append_assoc}
-use Rattle.std.proofs.Common.{append-nil, Option, Some, None, set, get_or, get_or-set_same, get_or-set_other, nat_eq, zero, suc}
-use Rattle.std.specs.Prelude.{if◌then◌else◌, map}
-use Rattle.std.specs.Option.{option_map}
-use Rattle.std.specs.List.{AllByRecursion}
-use Rattle.std.proofs.lemmas.Bool.Decides.{nat_tests}
-use Rattle.dali_frame.specs.declared.frames.Forward.{Forward}
-use Rattle.dali_frame.specs.declared.frames.Answer.{Answer}
-use Rattle.dali_frame.specs.declared.frames.Answer.TheVariants.{Silence}
-use Rattle.dali_frame.specs.declared.numbers.SearchAddress.{SearchAddress}
-use Rattle.dali_frame.specs.Random.{value_of, MASK24}
-use Rattle.dali_frame.specs.Priority.{FIRST, LATER}
-use Rattle.dali_special.specs.declared.command.Command.TheVariants.{Terminate, Compare}
+use Rattle.std.proofs.Common.{◌≡◌, ℕ, ◌+◌, ◌⊎◌, inl, inr, Bool, true, false, List, [], ◌∷◌, ◌++◌, refl, sym, ap, subst, ◌∙◌, arith, append_assoc, append-nil}
+use Rattle.std.proofs.Common.{Option, Some, None, set, get_or, get_or-set_same, get_or-set_other, nat_eq, zero, suc, if◌then◌else◌, map}
+use Rattle.std.{proofs.lemmas.Bool.Decides.nat_tests, specs.List.AllByRecursion, specs.Option.option_map}
+use Rattle.dali_frame.specs.{Priority.FIRST, Priority.LATER, Random.value_of, Random.MASK24}
+use Rattle.dali_frame.specs.declared.{frames.Answer.Answer, frames.Answer.TheVariants.Silence, frames.Forward.Forward, numbers.SearchAddress.SearchAddress}
 use Rattle.dali_special.specs.Command.{command_of, frame_of}
-use Rattle.dali_special.proofs.Table.{read_written}
+use Rattle.dali_special.{specs.declared.command.Command.TheVariants.Terminate, specs.declared.command.Command.TheVariants.Compare, proofs.Table.read_written}
 use Rattle.dali_arbiter.specs.Arbiter.{owns}
-use Rattle.dali_script.specs.declared.block.Block.{Block}
-use Rattle.dali_script.specs.declared.trace.Entry.{Entry}
-use Rattle.dali_script.specs.declared.records.Record.{Record}
-use Rattle.dali_script.specs.declared.stage.Stage.TheVariants.{Free, Hunted, Terminated}
-use Rattle.dali_script.specs.Scripts.{IsFront}
-use Rattle.dali_script.specs.Stages.{stage_of}
-use Rattle.dali_script.proofs.Transactions.{stage_none}
-use Rattle.dali_script.specs.declared.orders.Input.{Input}
-use Rattle.dali_script.specs.declared.orders.Input.TheVariants as input
-use Rattle.dali_script.specs.declared.orders.Order.{Order}
+use Rattle.dali_script.specs.{Due.due_after, Due.accepts, Due.frame_put, Due.record_ordered, Scripts.IsFront, Stages.stage_of, declared.block.Block.Block}
+use Rattle.dali_script.specs.declared.orders.{End.End, End.TheVariants.AllFound, End.TheVariants.GaveUp, Input.Input, Order.Order}
 use Rattle.dali_script.specs.declared.orders.Order.TheVariants.{Put, Commit, Done, Halt}
-use Rattle.dali_script.specs.declared.orders.End.{End}
-use Rattle.dali_script.specs.declared.orders.End.TheVariants.{AllFound, GaveUp}
-use Rattle.dali_script.specs.Due.{due_after, accepts, frame_put, record_ordered}
-use Rattle.dali_controller.specs.declared.purpose.Purpose.{Purpose}
-use Rattle.dali_controller.specs.declared.purpose.Purpose.TheVariants.{Opening, Calling, Closing}
-use Rattle.dali_controller.specs.declared.way.Way.TheVariants.{Surveying}
-use Rattle.dali_controller.specs.Course.{Course, closing_of, turn_of}
-use Rattle.dali_controller.specs.Machine.{Machine, machine_told, at_first}
-use Rattle.dali_controller.specs.Next.{course_by}
-use Rattle.dali_controller.specs.Orders.{IsGiven, IsAnswered, IsOrdered, IsFollowed, MayOrderPut, IsCaused, IsBegun, IsSilentCall, AllAreFound}
-use Rattle.dali_controller.specs.Orders.{running_close, machine_after}
-use Rattle.dali_controller.specs.Whole.{IsWhole}
-use Rattle.dali_controller.proofs.Courses.{keeps_way}
-use Rattle.dali_controller.proofs.Given.{IsGivenBy}
-use Rattle.dali_events.specs.declared.event.Event.{Event}
+use Rattle.dali_script.specs.declared.{records.Record.Record, stage.Stage.TheVariants.Free, stage.Stage.TheVariants.Hunted, stage.Stage.TheVariants.Terminated}
+use Rattle.dali_script.{specs.declared.trace.Entry.Entry, proofs.Transactions.stage_none}
+use Rattle.dali_script.specs.declared.orders.Input.TheVariants as input
+use Rattle.dali_controller.specs.{Course.Course, Course.closing_of, Course.turn_of, Machine.Machine, Machine.machine_told, Machine.at_first, Next.course_by}
+use Rattle.dali_controller.specs.Orders.{IsGiven, IsAnswered, IsOrdered, IsFollowed, MayOrderPut, IsCaused, IsBegun, IsSilentCall, AllAreFound, running_close}
+use Rattle.dali_controller.specs.{Orders.machine_after, Whole.IsWhole, declared.purpose.Purpose.Purpose, declared.purpose.Purpose.TheVariants.Opening}
+use Rattle.dali_controller.specs.declared.{purpose.Purpose.TheVariants.Calling, purpose.Purpose.TheVariants.Closing, way.Way.TheVariants.Surveying}
+use Rattle.dali_controller.proofs.{Courses.keeps_way, Given.IsGivenBy, Silences.IsSilent, Silences.next_silent, Silences.later_silent}
+use Rattle.dali_events.specs.{Allowed.Allowed, Allowed.IsDue, Calling.IsClosing, Calling.Orders, Calling.HasCalled, Calling.roll_call, Happens.happens}
+use Rattle.dali_events.specs.Happens.{trace_running, entry, is_arc, told_sent, told_destroyed, told_lapsed, owner_told, controller_acted, gone_down, come_up}
+use Rattle.dali_events.specs.{Runs.after, Runs.IsRun, Searching.sent_event, World.World, World.Controller, World.controller_at, World.controller_begun}
+use Rattle.dali_events.specs.{World.nobody, World.controllers_changed, World.start, declared.event.Event.Event}
+use Rattle.dali_events.proofs.{Invariant.Growing.after_more, Search.Rolled.IsWholeCall, Search.Rolled.whole_call, Search.Rolled.IsRolled}
+use Rattle.dali_events.proofs.Search.Rolled.{rolled, orders_more, orders_none, orders_all, orders_front, called_more, called_all, IsBehind, sent_behind}
 use Rattle.dali_events.specs.declared.event.Event.TheVariants as event
-use Rattle.dali_events.specs.World.{World, Controller, controller_at, controller_begun, nobody, controllers_changed, start}
-use Rattle.dali_events.specs.Happens.{happens, trace_running, entry, is_arc, told_sent, told_destroyed, told_lapsed, owner_told, controller_acted}
-use Rattle.dali_events.specs.Happens.{gone_down, come_up}
-use Rattle.dali_events.specs.Allowed.{Allowed, IsDue}
-use Rattle.dali_events.specs.Runs.{after, IsRun}
-use Rattle.dali_events.specs.Searching.{sent_event}
-use Rattle.dali_events.specs.Calling.{IsClosing, Orders, HasCalled, roll_call}
-use Rattle.dali_events.proofs.Search.Rolled.{IsWholeCall, whole_call}
-use Rattle.dali_events.proofs.Search.Rolled.{IsRolled, rolled, orders_more, orders_none, orders_all, orders_front, called_more, called_all, IsBehind}
-use Rattle.dali_events.proofs.Search.Rolled.{sent_behind}
-use Rattle.dali_events.proofs.Invariant.Growing.{after_more}
-use Rattle.dali_standing.specs.Seats.{MayAnswer}
-use Rattle.dali_standing.specs.Standing.{machine_in, machines_at, machines_after}
-use Rattle.dali_controller.proofs.Silences.{IsSilent, next_silent, later_silent}
+use Rattle.dali_standing.specs.{Seats.MayAnswer, Standing.machine_in, Standing.machines_at, Standing.machines_after}
 use Rattle.dali_world.specs.Site.{SiteState, world, machines, machine_at, site_logged, RollWasCalled, IsCalling, WasSent, WasSilent, Remembers, Remember}
 use Rattle.dali_world.proofs.Calling.{HeardOf, told_calling, heard_course, committed_course, told_purpose, told_way, survey_first, heard_trace, put_first}
 use Rattle.dali_world.proofs.Calling.{put_later, put_given, calling_kept}

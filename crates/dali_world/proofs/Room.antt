@@ -1,20 +1,12 @@
 use Rattle.std.proofs.Common.{◌≡◌, ℕ, ◌<◌, ◌≤◌, List, map, length, length-set, refl, subst}
 use Rattle.std.proofs.lemmas.List.{length-map}
 use Rattle.dali_special.specs.Command.{command_of}
-use Rattle.dali_gear.specs.declared.row.Reach.TheVariants.{Everyone, Only}
-use Rattle.dali_gear.specs.Gear.{gear_quieted}
-use Rattle.dali_script.specs.Records.{Has}
-use Rattle.dali_script.proofs.Lists.{few}
+use Rattle.dali_gear.specs.{Gear.gear_quieted, declared.row.Reach.TheVariants.Everyone, declared.row.Reach.TheVariants.Only}
+use Rattle.dali_script.{specs.Records.Has, proofs.Lists.few, proofs.Members.mapped_from}
+use Rattle.dali_events.specs.{Allowed.Allowed, Happens.happens, Happens.gear_interrupted, Plan.Plan, Runs.after, Runs.IsRun, Runs.LeavesUsed, World.World}
 use Rattle.dali_events.specs.declared.event.Event.{Event}
+use Rattle.dali_events.proofs.Invariant.{Safe.Holds, Safe.holds_step, Safe.holds_after, Takes.row_length}
 use Rattle.dali_events.specs.declared.event.Event.TheVariants as event
-use Rattle.dali_events.specs.Plan.{Plan}
-use Rattle.dali_events.specs.World.{World}
-use Rattle.dali_events.specs.Happens.{happens, gear_interrupted}
-use Rattle.dali_events.specs.Allowed.{Allowed}
-use Rattle.dali_events.specs.Runs.{after, IsRun, LeavesUsed}
-use Rattle.dali_script.proofs.Members.{mapped_from}
-use Rattle.dali_events.proofs.Invariant.Takes.{row_length}
-use Rattle.dali_events.proofs.Invariant.Safe.{Holds, holds_step, holds_after}
 
 -- THERE ARE AT MOST AS MANY GIFTS AS GEAR.
 

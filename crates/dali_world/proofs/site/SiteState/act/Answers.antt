@@ -2,12 +2,10 @@ use Rattle.std.proofs.Common.{rules, ◌≡◌, refl, sym, ap, subst, ◌∙◌,
 use Rattle.dali_script.specs.declared.orders.Order.TheVariants.{Halt}
 use Rattle.dali_script.specs.declared.orders.Fault.TheVariants as fault
 use Rattle.dali_events.specs.Allowed.{IsDue}
-use Rattle.dali_standing.specs.Seats.{MayAnswer}
-use Rattle.dali_standing.specs.Standing.{controller_on, machine_in}
-use Rattle.dali_world.specs.Site.{Receipt}
 use Rattle.dali_events.specs.declared.event.Event.TheVariants as event
+use Rattle.dali_standing.specs.{Seats.MayAnswer, Standing.controller_on, Standing.machine_in}
+use Rattle.dali_world.{specs.Site.Receipt, proofs.Fitting.fits_acted}
 use Rattle.dali_world.proofs.Logs.{step_few, step_goes_on, act_leaves, act_site, never_conflicts, own_records, act_waits, act_known, act_found}
-use Rattle.dali_world.proofs.Fitting.{fits_acted}
 use Rattle.dali_world.proofs.site.SiteState.act.Goals as goal
 
 pub count-number-requires-clause-few : goal.count-number-requires-clause-few

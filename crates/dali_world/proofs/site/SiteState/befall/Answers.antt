@@ -1,7 +1,5 @@
-use Rattle.dali_events.specs.Events.{event_of}
-use Rattle.dali_events.proofs.Invariant.Controllers.{nobodys_step}
-use Rattle.dali_world.specs.Site.{SiteState}
-use Rattle.dali_world.proofs.Logs.{site_goes_on, may_befall, nothing_known}
+use Rattle.dali_events.{specs.Events.event_of, proofs.Invariant.Controllers.nobodys_step}
+use Rattle.dali_world.{specs.Site.SiteState, proofs.Logs.site_goes_on, proofs.Logs.may_befall, proofs.Logs.nothing_known}
 use Rattle.dali_world.proofs.site.SiteState.befall.Goals as goal
 
 pub befall-requires : goal.befall-requires
