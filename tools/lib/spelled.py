@@ -188,7 +188,6 @@ PLACES = (
     Place("adapters/template", block("# So this ends with", "def "), "Answer", "return lines.{UPPER}", "Byte"),
     Place("adapters/template", block("# So this ends with", "def "), "Input", "return lines.{UPPER}", NOT_OF_FRAMES),
     Place("adapters/testing.py", line("                if told[-1] in"), "Input", '"{kebab}"', NOT_OF_FRAMES),
-    Place("tools/measure/replay", block("words[1] in (", ")"), "Answer", '"{kebab}"'),
     # Stories: their format, the schema of a line, and the words of the viewer.
     Place(FORMAT, line("- **The end**"), "End", "`{name}`"),
     Place(FORMAT, line("- **The end**"), "Fault", "`halt-{name}`"),

@@ -1,5 +1,6 @@
 /* Runs a program, and writes what it took to a file: usage FILE PROGRAM ARGUMENTS. The file gets one line: seconds by the clock,
-   seconds of processor time, and peak memory in KiB. A small program of its own, since the peak of a program that a larger one
+   seconds of processor time, peak memory in KiB, and how many pages it touched. The peak is off by up to 128 KiB for each
+   processor, the pages are exact. A small program of its own, since the peak of a program that a larger one
    starts begins with the memory of that. */
 #include <stdio.h>
 #include <sys/resource.h>
@@ -27,8 +28,8 @@ int main(int argc, char **argv) {
     clock_gettime(CLOCK_MONOTONIC, &end);
     file = fopen(argv[1], "w");
     if (file == NULL) return 125;
-    fprintf(file, "%.6f %.6f %ld\n", end.tv_sec - begin.tv_sec + (end.tv_nsec - begin.tv_nsec) / 1e9,
-            seconds_of(usage.ru_utime) + seconds_of(usage.ru_stime), usage.ru_maxrss);
+    fprintf(file, "%.6f %.6f %ld %ld\n", end.tv_sec - begin.tv_sec + (end.tv_nsec - begin.tv_nsec) / 1e9,
+            seconds_of(usage.ru_utime) + seconds_of(usage.ru_stime), usage.ru_maxrss, usage.ru_minflt);
     fclose(file);
     return WIFEXITED(status) ? WEXITSTATUS(status) : 126;
 }
