@@ -238,6 +238,7 @@ impl Stage {
     }
 
     /// Whether some command may come next, for a sender with these records.
+    #[inline(always)]
     pub fn goes_on(self, kept: &Records<'_>) -> bool
         ensures { result ≡ may_follow kept.now.block kept.now.reserved self }
     {

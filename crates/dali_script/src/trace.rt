@@ -162,6 +162,7 @@ impl Trace {
 
     /// How far the transaction is once one more frame was sent, and this was heard after it. The frame must be one that
     /// some records allow here.
+    #[inline(always)]
     pub fn after(&self, frame: Forward, heard: Answer) -> Stage
         requires { IsLawful self.now frame }
         ensures { IsReached result (self.now ++ (record { frame = frame; heard = heard }) ∷ []) }
