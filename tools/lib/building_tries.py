@@ -131,7 +131,7 @@ TAKEN, SIZE = "docs/pictures/building.png", (1000, 820)
 # within how many frames of a bus it is killed.
 CALLS, ENDED, FRAMES = 4, (0, 13), 3000
 # The processes of a building, by what their command lines have.
-KINDS = {"what joins each program and its driver": b"join_alone", "the drivers": b"adapters/simulated", "the command": b"tools/building"}
+KINDS = {"what joins each program and its driver": b"forked.serve", "the drivers": b"adapters/simulated", "the command": b"tools/building"}
 
 
 class Many(Room):
@@ -170,6 +170,10 @@ class Many(Room):
             with contextlib.suppress(OSError, AttributeError):
                 size = re.search(r"^Pss:\s+(\d+)", pathlib.Path(f"/proc/{it}/smaps_rollup").read_text(), re.M)
                 sums[kind] = sums.get(kind, 0) + int(size[1])
+        for it in pathlib.Path(f"/proc/{top}/fd").iterdir():
+            with contextlib.suppress(OSError):
+                if os.readlink(it).startswith("/memfd:story"):
+                    sums["the stories of what is heard"] = sums.get("the stories of what is heard", 0) + it.stat().st_blocks // 2
         for kind, size in sums.items():
             self.most[kind] = max(self.most.get(kind, 0), size)
 

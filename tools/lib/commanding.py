@@ -10,7 +10,7 @@ import threading
 import time
 import typing
 
-from lib import ROOT, following, joining, marks, places, serials, texts
+from lib import ROOT, following, forked, joining, marks, places, serials, texts
 
 if typing.TYPE_CHECKING:
     from lib import walking
@@ -147,10 +147,8 @@ class Command:
         self.number, self.name, self.address, self.begun, self.said, self.before = number, name, address, time.time(), [], before
         self.found = self.left = self.status = self.ended = None
         self.is_stopped, self.report, self.lock = False, {}, threading.Lock()
-        how = {"stdin": subprocess.DEVNULL, "stdout": subprocess.PIPE, "stderr": subprocess.PIPE, "start_new_session": True}
         self.story, self.follower, self.since = os.memfd_create("story"), following.Follower(), None
-        call = joining.alone([site.program, *words], site.driver, site.seconds, COMMANDS[name], self.story)
-        self.process = subprocess.Popen(call, pass_fds=(*kept, self.story), **how)
+        self.process = forked.Process([[site.program, *words], site.driver, site.seconds, COMMANDS[name]], (self.story, *kept))
 
     def follow(self) -> None:
         """Hears what it says until it has ended."""

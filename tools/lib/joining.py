@@ -23,8 +23,8 @@ SAME = 0.3
 ANSWERS = 10
 # The exit statuses that are not the program's.
 UNWRITTEN, AT_FAULT, NOT_STARTED = 3, 4, 127
-# A process that joins: behind it stand the folder of this package, and what `join_alone` takes as JSON.
-ALONE = "import json, sys; sys.path[0] = sys.argv[1]; from lib import joining; sys.exit(joining.join_alone(*json.loads(sys.argv[2])))"
+# A process that joins: behind it stand the folder of this package, and what `join` takes as JSON.
+ALONE = "import json, sys; sys.path[0] = sys.argv[1]; from lib import joining; sys.exit(joining.join(*json.loads(sys.argv[2])))"
 
 
 def say(text: str) -> None:
@@ -49,6 +49,7 @@ class Signals:
         for number in PASSED:
             if signal.getsignal(number) != signal.SIG_IGN:
                 signal.signal(number, self.take)
+        signal.pthread_sigmask(signal.SIG_UNBLOCK, PASSED)
 
     def take(self, number: int, _frame: types.FrameType | None) -> None:
         now = time.monotonic()
@@ -131,15 +132,9 @@ def say_end(title: str, driver: subprocess.Popen[bytes], fault: relay.Fault | No
         say(f"{title}: {fault}")
 
 
-def alone(program: list[str], driver: list[str], seconds: float, is_gentle: bool, story: int | None = None) -> list[str]:
-    """The words of a process of its own that joins these two, and tells of their frames in the file of this descriptor, which it inherits."""
-    return [sys.executable, "-S", "-c", ALONE, str(ROOT / "tools"), json.dumps([program, driver, seconds, is_gentle, story])]
-
-
-def join_alone(program: list[str], driver: list[str], seconds: float, is_gentle: bool, story: int | None) -> int:
-    """What a process of its own does."""
-    files = {} if story is None else {"story": os.fdopen(story, "wb", buffering=0)}
-    return join(program, driver, seconds, is_gentle, files)
+def alone(program: list[str], driver: list[str], seconds: float, is_gentle: bool) -> list[str]:
+    """The words of a process of its own that joins these two."""
+    return [sys.executable, "-S", "-c", ALONE, str(ROOT / "tools"), json.dumps([program, driver, seconds, is_gentle])]
 
 
 def join(
