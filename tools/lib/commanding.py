@@ -174,9 +174,17 @@ class Command:
         elif line and not (self.is_stopped and INPUT_ENDED.fullmatch(line)):
             self.said = [*self.said[1 - LINES :], line]
 
+    def statuses(self) -> list[int]:
+        """What each turn counts for. If a block is full, the next controller serves the rest; and a check hears none at the addresses of a controller
+        that has no gear, if another one's gear answer."""
+        turns = (*self.before, self)
+        is_heard = self.name == "check" and any(it.status in WHOLE for it in turns)
+        is_well = lambda it: it.status == BLOCK_FULL and it is not self or is_heard and it.status == NOBODY and not it.report.get("missing")
+        return [DONE if is_well(it) else it.status for it in turns]
+
     def outcome(self) -> int | None:
-        """The worst status of all turns. If a block is full, the next controller serves the rest."""
-        return None if self.status is None else max([self.status, *(it.status for it in self.before if it.status != BLOCK_FULL)])
+        """The worst status of all turns."""
+        return None if self.status is None else max(self.statuses())
 
     def told(self, begin: int) -> bytes:
         """The lines of its story from a byte on, as far as they are whole."""

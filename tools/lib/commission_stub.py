@@ -88,6 +88,8 @@ def check(records: dict[str, str], gear: list[str]) -> None:
     strangers = [it for it in gear if it not in records.values()]
     others = [{"address": 63 - at, "is": "stranger", "random": it} for at, it in enumerate(strangers)]
     others += [{"address": it, "is": "unclear" if str(it) in records else "unclear-strangers", "random": None} for it in beside("odd")]
+    if not gear:
+        ended("nobody-answered", 10, records, missing=missing, unaddressed=False)
     end, status = ("shared", 13) if beside("odd") else ("not-as-recorded", 1) if missing or others else ("as-recorded", 0)
     ended(end, status, records, missing=missing, strangers=others, unaddressed=False)
 

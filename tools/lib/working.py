@@ -53,7 +53,7 @@ class Job:
     """What is done on one bus, by each of its controllers in turn; a replacement is of all of them at once.
 
     reports   what the program wrote of each, as an object
-    statuses  how each ended
+    statuses  what the end of each counts for
     said      what was said last, if one did not end well
     """
 
@@ -96,9 +96,9 @@ class Job:
                 break
         # The bus has its lock until it has learnt what came of it.
         with bus.lock:
-            for it in (*bus.command.before, bus.command):
+            for it, status in zip((*bus.command.before, bus.command), bus.command.statuses()):
                 self.reports.append(it.report)
-                self.end(it.status, said_of(it))
+                self.end(status, said_of(it))
             if self.stopped and len(self.reports) <= len(more) and self.command in commanding.IN_TURN:
                 self.end(commanding.STOPPED + self.stopped, "stopped")
 
@@ -120,8 +120,8 @@ class Job:
         self.rows = places.rows([rows[it] for it in sorted(rows)], names)
 
     def status(self) -> int:
-        """The worst one. A controller whose block is full is none that went wrong if a later one served the rest."""
-        return max([it for it in self.statuses[:-1] if it != commanding.BLOCK_FULL] + self.statuses[-1:], default=0)
+        """The worst one."""
+        return max(self.statuses, default=0)
 
     def far(self) -> str:
         """How far it is, in a few words."""
@@ -137,7 +137,9 @@ class Job:
     def came_to(self) -> str:
         """What it came to, in a line."""
         report = self.reports[-1] if self.reports else {}
-        parts = [report["end"]] if "end" in report else []
+        # The last of the worst ends, and of these one that counts for what it is.
+        ends = [(status, one.get("status") == status, at, one["end"]) for at, (one, status) in enumerate(zip(self.reports, self.statuses)) if "end" in one]
+        parts = [max(ends)[-1]] if ends else []
         # A run whose driver is gone reports no table.
         parts += [f"{len(report['table'])} in the table"] if report.get("table") else []
         for key, word in (("left_alone", "left alone"), ("missing", "missing"), ("strangers", "not as recorded")):
