@@ -9,7 +9,6 @@ import os
 import pathlib
 import random
 import re
-import resource
 import signal
 import subprocess
 import sys
@@ -131,7 +130,8 @@ TAKEN, SIZE = "docs/pictures/building.png", (1000, 820)
 # within how many frames of a bus it is killed.
 CALLS, ENDED, FRAMES = 4, (0, 13), 3000
 # The processes of a building, by what their command lines have.
-KINDS = {"what joins each program and its driver": b"forked.serve", "the drivers": b"adapters/simulated", "the command": b"tools/building"}
+DRIVERS = "the drivers"
+KINDS = {"what joins each program and its driver": b"forked.serve", DRIVERS: b"adapters/simulated", "the command": b"tools/building"}
 
 
 class Many(Room):
@@ -144,7 +144,8 @@ class Many(Room):
         driver = f"{ROOT}/adapters/simulated {{}}/gear.json --gear {{}} {trouble}"
         drivers = {it.replace(".", "_"): driver.format(it, self.counts[it]) for it in self.counts}
         super().__init__(folder, list(self.counts), program, **drivers)
-        self.most, self.slow, self.chance = {}, slow, random.Random()
+        # How many kB all processes had at most, by what they are, and how many seconds of a processor each took in this run, by its number.
+        self.most, self.used, self.slow, self.chance = {}, {}, slow, random.Random()
 
     def processes(self, top: int) -> dict[int, bytes]:
         """The processes below one, each with its command line."""
@@ -163,24 +164,27 @@ class Many(Room):
         return found
 
     def weigh(self, top: int) -> None:
-        """Keeps how many bytes all processes had at most, by what they are."""
+        """Keeps how many kB all processes had at most, by what they are, and what each took."""
         sums = {}
         for it, words in self.processes(top).items():
             kind = next((kind for kind, mark in KINDS.items() if mark in words), "the programs")
-            with contextlib.suppress(OSError, AttributeError):
+            with contextlib.suppress(OSError, TypeError):
                 size = re.search(r"^Pss:\s+(\d+)", pathlib.Path(f"/proc/{it}/smaps_rollup").read_text(), re.M)
                 sums[kind] = sums.get(kind, 0) + int(size[1])
+                times = pathlib.Path(f"/proc/{it}/stat").read_text().rpartition(")")[2].split()[11:13]
+                self.used[it] = sum(map(int, times)) / os.sysconf("SC_CLK_TCK")
+        # What is told of each bus is a file in memory.
         for it in pathlib.Path(f"/proc/{top}/fd").iterdir():
             with contextlib.suppress(OSError):
                 if os.readlink(it).startswith("/memfd:story"):
-                    sums["the stories of what is heard"] = sums.get("the stories of what is heard", 0) + it.stat().st_blocks // 2
+                    sums["the stories"] = sums.get("the stories", 0) + it.stat().st_blocks // 2
         for kind, size in sums.items():
             self.most[kind] = max(self.most.get(kind, 0), size)
 
     def run(self, names: collections.abc.Sequence[str] = (), kills: collections.abc.Iterable[float] = (), is_whole: bool = False) -> None:
         """Runs these buses, or all. At each of these moments, in seconds, a program is killed, or with it all that goes on."""
         begun, kills = time.monotonic(), sorted(kills)
-        used = sum(resource.getrusage(resource.RUSAGE_CHILDREN)[:2])
+        self.used = {}
         with open(self.folder / "wrote", "w") as wrote, open(self.folder / "said", "a") as said:
             process, looks = self.begun("run", "--json", *names, stdout=wrote, stderr=said), 0
             while process.poll() is None:
@@ -192,7 +196,7 @@ class Many(Room):
                 while kills and time.monotonic() - begun > kills[0]:
                     kills.pop(0)
                     self.kill(process.pid, is_whole)
-        seconds, used = time.monotonic() - begun, sum(resource.getrusage(resource.RUSAGE_CHILDREN)[:2]) - used
+        seconds, used = time.monotonic() - begun, sum(self.used.values())
         print(f"{len(names or self.counts)} buses: status {process.returncode} after {seconds:.0f} s, {used:.0f} s of processor; "
               f"{self.longest() if process.returncode >= 0 else 'killed'}; load {os.getloadavg()[0]:.0f}", flush=True)
 
@@ -234,8 +238,9 @@ def try_many(chosen: argparse.Namespace, program: str) -> int:
             checks.say(found[name]["status"] in ENDED, f"{name} ended: {found[name]['said']}")
         check_tables(checks, room)
         open_ends = sum(it["status"] != 0 for it in found.values())
-        sizes = ", ".join(f"{kind} {size / 1e6:.2f} GB" for kind, size in sorted(room.most.items()))
-        print(f"{open_ends} of them left an address alone; memory at most {sum(room.most.values()) / 1e6:.2f} GB: {sizes}")
+        sizes = ", ".join(f"{kind} {size / 1000:.0f} MB" for kind, size in sorted(room.most.items()))
+        own = sum(size for kind, size in room.most.items() if kind != DRIVERS) / 1000
+        print(f"{open_ends} of them left an address alone; memory at most {own:.0f} MB without the drivers: {sizes}")
     print(f"{checks.right} right, {checks.wrong} wrong")
     return 1 if checks.wrong else 0
 
