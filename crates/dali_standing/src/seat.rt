@@ -1,5 +1,5 @@
 ghost use Rattle.std.specs.Prelude.{◌≡◌, ◌++◌, ◌∷◌, [], Bool, true, false, ◌↔◌, Some, None};
-ghost use Rattle.std.specs.Prelude.{IsTrue, MatchOption};
+ghost use Rattle.std.specs.Prelude.{IsTrue, MatchOption, IfSome};
 ghost use Rattle.dali_special.specs.Command.{command_of};
 ghost use Rattle.dali_script.specs.Findings.{later};
 ghost use Rattle.dali_script.specs.Scripts.{IsLawful};
@@ -70,7 +70,7 @@ impl Seat {
     }
 
     /// Whether the controller may act on this input.
-    pub(crate) fn may_act(&self, input: Input) -> bool
+    pub fn may_act(&self, input: Input) -> bool
         ensures { IsTrue result ↔ IsDue self.now.controller input }
     {
         match input {
@@ -192,11 +192,15 @@ impl Seat {
         reached.goes_on(&self.kept().view())
     }
 
-    /// What the bus has told the controller, if the controller has not acted on it.
+    /// What the bus has told the controller, if the controller has not acted on it. None while it is down.
     pub fn told(&self) -> Option<Input>
-        ensures { result ≡ self.now.controller.told }
+        ensures told { result ≡ self.now.controller.told }
+        ensures up { IfSome result (λ _. self.now.controller.up ≡ true) }
     {
-        self.told
+        match &self.place {
+            Place::Up(_) => self.told,
+            Place::Down(_) => None,
+        }
     }
 
     /// Whether the controller is up.

@@ -36,7 +36,7 @@ use std::marker::Model;
 /// The frames of the running transaction are those of the machine that owns the bus.
 ///
 /// Controllers and gear are named by their numbers, which must be there. The caller tests what its call asks for.
-/// It tests `Seat::is_up` and `may_act` before `act`, and `is_crowded` before `act` and `offer`. It tests
+/// It tests `Seat::is_up` and `Seat::may_act` before `act`, and `is_crowded` before `act` and `offer`. It tests
 /// `next_request` and `is_spent` before a request is sent, destroyed or collides, and `agreement` before `up`.
 #[derive(Drop)]
 pub struct Standing {
@@ -124,14 +124,6 @@ impl Standing {
         self.arbiter.len() == self.arbiter.capacity()
     }
 
-    /// Whether the controller may act on this input.
-    pub fn may_act(&self, c: u8, input: Input) -> bool
-        requires { c < length self.now.controllers }
-        ensures { IsTrue result ↔ IsDue (controller_on self.now c) input }
-    {
-        self.seats[c as usize].may_act(input)
-    }
-
     /// Whether a controller would order, at this input, to reserve a short address that one of these used gear has.
     pub fn would_reserve_used(&self, c: u8, input: Input, used: &[Used]) -> bool
         requires up { (controller_on self.now c).up ≡ true }
@@ -139,6 +131,10 @@ impl Standing {
         ensures yes { result ≡ true → MayReserveUsed used.now (machine_in self.now.machines c) input }
         ensures no { result ≡ false → MayReserveUsed used.now (machine_in self.now.machines c) input → ⊥ }
     {
+        // Without used gear no machine is copied.
+        if used.is_empty() {
+            return false;
+        }
         reserves_used(&self.seats[c as usize].would_order(input), used)
     }
 

@@ -228,12 +228,11 @@ not_crowded s was old shares room view site free crowded =
     omega arith
 
 -- an order that the machine gives reserves no address of used gear, where it may give none that does
-pub act_leaves : (s was : SiteState) (old : Standing) (shares : List ℕ) (room c : ℕ) (i : Input) (o : Order) → s ≡ was → IsSite s old shares room
-    → MayAnswer (machine_in old.machines c) i o → (MayReserveUsed was.plan.used (machine_at was c) i → ⊥) → LeavesUsed was.plan.used (event.Acted c i o)
-act_leaves s was old shares room c i o view site answer none =
-    let given : MayAnswer (machine_at was c) i o =
-    subst (λ (w : SiteState). MayAnswer (machine_at w c) i o) view (subst (λ (t : Standing). MayAnswer (machine_in t.machines c) i o) site.stands answer) in
-    leaves_acted was.plan.used c i o (λ reserves. none (o, given, reserves))
+pub act_leaves : (s was : SiteState) (m : Option Machine) (us : List Used) (c : ℕ) (i : Input) (o : Order) → s ≡ was → us ≡ s.plan.used → MayAnswer m i o
+    → (MayReserveUsed us m i → ⊥) → LeavesUsed was.plan.used (event.Acted c i o)
+act_leaves s was m us c i o view is answer none =
+    subst (λ (xs : List Used). LeavesUsed xs (event.Acted c i o)) (is ∙ ap (λ (w : SiteState). w.plan.used) view)
+    (leaves_acted us c i o (λ reserves. none (o, answer, reserves)))
 
 pub act_site : (s was : SiteState) (old new : Standing) (shares shares' : List ℕ) (room number c : ℕ) (i : Input) (o : Order) (r : Receipt) (log' : List Event)
     → s ≡ was → IsSite s old shares room

@@ -5,7 +5,7 @@ ghost use Rattle.std.specs.Vec.{vec_capacity};
 ghost use Rattle.dali_events.specs.declared.event.Event.TheVariants as event;
 ghost use Rattle.dali_events.specs.Foreign.{is_foreign};
 ghost use Rattle.dali_events.specs.World.{gear_at, controller_at};
-ghost use Rattle.dali_events.specs.Allowed.{IsUp, IsDue, MaySend};
+ghost use Rattle.dali_events.specs.Allowed.{IsUp, MaySend};
 ghost use Rattle.dali_statement.specs.Page.{Moment, KeepsPromise as KeepsPagePromise};
 ghost use Rattle.dali_events.specs.Page.{plan_seen, LeadsTo};
 ghost use Rattle.dali_events.specs.Runs.{IsRun};
@@ -71,7 +71,7 @@ impl Model for SiteState {
 
 impl SiteState {
     ghost use Rattle.dali_arbiter.specs.declared.request.Request.{Request};
-    ghost use Rattle.dali_standing.specs.Seats.{due_of, MayReserveUsed, Waits};
+    ghost use Rattle.dali_standing.specs.Seats.{due_of, Waits};
     ghost use Rattle.dali_world.specs.Site.{SiteState, world, opened_site, site_logged, machine_at, share_of, IsSound};
     ghost use Rattle.dali_world.specs.Site.{Acts, IsArcRefused, IsDownRefused, IsUpRefused, IsGearRefused, IsBarred};
     ghost use Rattle.dali_world.specs.Site.{Befalls, IsBefallRefused, IsOutside, IsLogFull};
@@ -136,14 +136,14 @@ impl SiteState {
         ensures unchanged { OnErr result (self.new ≡ self.old) }
     {
         self.check_up(c)?;
-        if !self.standing.may_act(c, input) {
+        if !self.standing.seat(c).may_act(input) {
             return Err(Refusal::NotDue);
         }
         if self.standing.is_crowded() {
             return Err(Refusal::QueueFull);
         }
         self.check_room()?;
-        if self.would_reserve_used(c, input) {
+        if self.standing.would_reserve_used(c, input, self.plan.used()) {
             return Err(Refusal::AddressInUse);
         }
         let order = self.standing.act(c, input);
@@ -319,7 +319,8 @@ impl SiteState {
     /// started. This is the input that `act` takes. None while it is down.
     pub fn next(&self, c: u8) -> Option<Input>
         requires { c < length self.now.plan.blocks }
-        ensures { result ≡ (controller_at (world self.now) c).told }
+        ensures told { result ≡ (controller_at (world self.now) c).told }
+        ensures up { IfSome result (λ _. (controller_at (world self.now) c).up ≡ true) }
     {
         self.standing.seat(c).told()
     }
@@ -398,6 +399,7 @@ impl SiteState {
         ensures records { KeepsRecords self.now.plan (world self.now) }
         ensures gear { length (world self.now).gear ≡ self.now.plan.gear }
         ensures controllers { length (world self.now).controllers ≡ length self.now.plan.blocks }
+        ensures few { length self.now.plan.blocks ≤ 4 }
     {
         // For the prover: what holds of a site's fields is known once one is read.
         let _log = &self.log;
@@ -424,20 +426,6 @@ impl SiteState {
         ensures room { result ≡ false → IsCrowded self.now → ⊥ }
     {
         self.standing.is_crowded()
-    }
-
-    /// Whether controller `c` would order, at this input, to reserve a short address that used gear have.
-    fn would_reserve_used(&self, c: u8, input: Input) -> bool
-        requires up { (controller_at (world self.now) c).up ≡ true }
-        requires due { IsDue (controller_at (world self.now) c) input }
-        ensures yes { result ≡ true → MayReserveUsed self.now.plan.used (machine_at self.now c) input }
-        ensures no { result ≡ false → MayReserveUsed self.now.plan.used (machine_at self.now c) input → ⊥ }
-    {
-        let used = self.plan.used();
-        if used.is_empty() {
-            return false;
-        }
-        self.standing.would_reserve_used(c, input, used)
     }
 
     /// The request that is next is sent.
@@ -538,8 +526,7 @@ impl SiteState {
 
     /// Controller `c` is there, and is up.
     fn check_up(&self, c: u8) -> Result<(), Refusal>
-        ensures ok { OnOk result (IsUp (world self.now) c × (c < length self.now.plan.blocks)
-            × (length self.now.plan.blocks ≤ 4)) }
+        ensures ok { OnOk result (IsUp (world self.now) c × (c < length self.now.plan.blocks) × (c < 4)) }
         ensures refused { IfErr result (λ e. IsBarred self.now c e) }
     {
         if (c as usize) >= self.standing.controllers() {
