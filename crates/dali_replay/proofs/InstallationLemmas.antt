@@ -35,20 +35,19 @@ answers n given m c i (Ok o) up is stepped refused same = (up, i, given, is, ste
 answers n given m c i (Err e) up is stepped refused same =
     rw same (inr (inr (up, i, is, refused)))
 
-pub goes : (n given m : Installation) (c d : ℕ) (i : Input) (result : Result Order Refusal) → d ≡ c → IsUpAt n c → IsGiven n d i given
+pub goes : (n given m : Installation) (c d : ℕ) (i : Input) (result : Result Order Refusal) → d ≡ c → IsUpAt n d → IsGiven n d i given
     → IfOk result (λ o. HasStepped given d i o m) → IfErr result (λ e. IsActRefused given.site d i e) → OnErr result (m ≡ given) → Goes n c result m
 goes n given m c d i result number up is stepped refused same =
-    subst (λ (k : ℕ). Goes n k result m) number
-    (answers n given m d i result (subst (λ (k : ℕ). IsUpAt n k) (sym number) up) is stepped refused same)
+    subst (λ (k : ℕ). Goes n k result m) number (answers n given m d i result up is stepped refused same)
 
 -- who is given something has a turn
 given_turn : (d : Due) (n given : Installation) (c : ℕ) (i : Input) → IsGivenBy d n c i given → has_turn_by d (controller n c) ≡ true
 given_turn due.Store n given c i is = refl
 given_turn _ n given c i is = rw (is.0) refl
 
-pub gone : (n given m : Installation) (c : ℕ) (i : Input) (o : Order) → c < length n.site.plan.blocks → (controller n c).up ≡ true → IsGiven n c i given
-    → HasStepped given c i o m → HasTurn n c (Ok (Some o)) m
-gone n given m c i o there up is stepped = (given_turn (due_of (controller n c)) n given c i is, ((there, up), i, given, is, stepped))
+pub gone : (n given m : Installation) (c : ℕ) (i : Input) (o : Order) → IsUpAt n c → IsGiven n c i given → HasStepped given c i o m
+    → HasTurn n c (Ok (Some o)) m
+gone n given m c i o up is stepped = (given_turn (due_of (controller n c)) n given c i is, (up, i, given, is, stepped))
 
 -- the store of a controller, as it is read
 pub store_read : (n : Installation) (c : ℕ) (x : Store) → x ≡ get_or n.stores c x → c < length n.stores → x ≡ store_at n c

@@ -158,11 +158,12 @@ impl Installation {
     pub fn go(&mut self, c: u32) -> Result<Order, Refusal>
         ensures { Goes self.old c result self.new }
     {
-        let c = self.check_up(c)?;
-        let Some(input) = self.given(c) else {
+        let known = self.check_known(c)?;
+        let Some(input) = self.given(known) else {
+            self.check_up(c)?;
             return Err(Refusal::NotDue);
         };
-        self.act(c, input)
+        self.act(known, input)
     }
 
     /// `store c`: the commit that is outstanding is made, and the controller is not told.
@@ -256,9 +257,6 @@ impl Installation {
         ensures { ComesUp self.old c result self.new }
     {
         let c = self.check_known(c)?;
-        if self.site.table(c).is_some() {
-            return Err(Refusal::ControllerUp);
-        }
         let copy = self.stores[c as usize].read();
         self.site.up(c, &copy)?;
         self.stores[c as usize].settle();
@@ -296,14 +294,9 @@ impl Installation {
         requires { c < length self.old.site.plan.blocks }
         ensures { HasTurn self.old c result self.new }
     {
-        let up = self.site.table(c).is_some();
         let Some(input) = self.given(c) else {
             return Ok(None);
         };
-        // One that is down is given nothing, but no contract of the site says so.
-        if !up {
-            return Err(Refusal::ControllerDown);
-        }
         let order = self.act(c, input)?;
         Ok(Some(order))
     }
@@ -352,10 +345,11 @@ impl Installation {
         self.stores[c as usize].commit();
     }
 
-    /// What is due for a controller, if anything; if it waits for a commit, that is made.
+    /// What is due for a controller, if anything; if it waits for a commit, that is made. Nothing is while it is down.
     fn given(&mut self, c: u8) -> Option<Input>
         requires { c < length self.old.site.plan.blocks }
         ensures given { IfSome result (λ input. IsGiven self.old c input self.new) }
+        ensures up { IfSome result (λ _. IsUpAt self.old c) }
         ensures none { IfNone result (HasNone self.old c × (self.new ≡ self.old)) }
         ensures site { self.new.site ≡ self.old.site }
     {
