@@ -62,9 +62,8 @@ impl<P0: Ledger, P1: Ledger, P2: Ledger, P3: Ledger, D: Ledger> CountedSite<P0, 
         ensures port { port.new ≡ port.old }
         ensures commits { self.new.commits ≡ self.old.commits }
     {
-        // Both for the prover: what is promised of the site, and that it has at most four controllers.
+        // For the prover: what is promised of the site.
         self.site.is_safe();
-        let _blocks = self.site.plan().blocks();
         self.tally.audit(port);
     }
 
@@ -214,9 +213,8 @@ impl<P0: Ledger, P1: Ledger, P2: Ledger, P3: Ledger, D: Ledger> CountedSite<P0, 
         ensures driver { driver.new ≡ driver.old }
         ensures commits { self.new.commits ≡ self.old.commits }
     {
-        // Both for the prover, as in `audit`.
+        // For the prover, as in `audit`.
         self.site.is_safe();
-        let _blocks = self.site.plan().blocks();
         self.tally.audit_driver(driver);
     }
 
