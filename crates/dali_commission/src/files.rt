@@ -10,9 +10,11 @@ use dali_commission_program::{Actor, Borrower, Failure, Holder, Seen, StoreFault
 use dali_reserve::{Keep, KeepError};
 use dali_script::{Block, Kept};
 use dali_sqlite::{CopyError, SqliteKeep, open_copy};
-use sqlite::{Alter, Connection, Error, ErrorCode, File, FileStore};
+use sqlite::{Alter, Connection, Error, ErrorCode, File, FileStore, Options, Unknown};
+use sqlite_std_file::OpenError;
 use std::alloc::Global;
 use std::fs::TryLockError;
+use std::hash::{BuildHasher, RandomState};
 use std::io::{ErrorKind, Write};
 use std::{fs, io};
 
@@ -21,6 +23,9 @@ const MOST_BYTES: u64 = 64 * 1024 * 1024;
 
 /// How many bytes are tried when a store failed.
 const TRIED: usize = 8192;
+
+/// How many pages of a file are in memory: it is small.
+const PAGES: usize = 64;
 
 /// How often a file is read until two readings agree.
 const READINGS: u8 = 10;
@@ -171,8 +176,28 @@ fn written_fault(rt: &HostRuntime, name: &str) -> StoreFault {
     }
 }
 
+/// How a file is kept in memory: `Connection::open` takes 8 MB for each bus of a building.
+fn options(rt: &HostRuntime) -> Result<Options, StoreFault> {
+    let state = RandomState::new(rt).map_err(|_| StoreFault::CannotOpen)?;
+    Ok(Options {
+        cache_pages: PAGES,
+        spill_pages: PAGES,
+        ..Options::new(BuildHasher::hash_one(&state, &0u8))
+    })
+}
+
 fn opened(rt: &HostRuntime, name: &str) -> Result<Connection<FileStore<File>>, StoreFault> {
-    Connection::open(rt, name).map_err(|error| why_closed(rt, name, error))
+    let options = options(rt)?;
+    let files = match sqlite_std_file::open(rt, name, Unknown) {
+        Ok(files) => files,
+        Err(OpenError::Busy) => return Err(StoreFault::Locked),
+        Err(OpenError::OutOfMemory) => return Err(NO_MEMORY),
+        Err(_) => return Err(written_fault(rt, name)),
+    };
+    match Connection::open_files(rt.alloc(), files, options) {
+        Ok(conn) => Ok(conn),
+        Err((error, _)) => Err(why_closed(rt, name, error)),
+    }
 }
 
 /// Lends the records in a database, and answers what the borrower ended with, and the database.
