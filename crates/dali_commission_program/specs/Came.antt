@@ -1,4 +1,4 @@
-use Rattle.std.specs.Prelude.{◌≡◌, ◌⊎◌, ℕ, ◌-◌, ◌*◌, Bool, true, List, [], ◌∷◌, ◌++◌, Result}
+use Rattle.std.specs.Prelude.{◌≡◌, ◌⊎◌, ℕ, ◌-◌, ◌*◌, Bool, true, false, List, [], ◌∷◌, ◌++◌, Result}
 use Rattle.std.specs.Prelude.{Ok, Err, length, IsErr}
 use Rattle.std.specs.List.{list_any}
 use Rattle.dali_script.specs.declared.block.Block.{Block}
@@ -16,7 +16,8 @@ use Rattle.dali_commissioning.specs.declared.conducting.Ended.TheVariants.{Done}
 use Rattle.dali_commissioning.specs.declared.conducting.PassEnd.{PassEnd}
 use Rattle.dali_commissioning.specs.declared.fault.CommissionFault.{CommissionFault}
 use Rattle.dali_commissioning.specs.declared.verdict.Place.{Place}
-use Rattle.dali_commissioning.specs.Census.{IsPut, is_sent}
+use Rattle.dali_commissioning.specs.declared.census.Reply.{Reply}
+use Rattle.dali_commissioning.specs.Census.{IsPut, IsAnswered, is_sent, is_silent}
 use Rattle.dali_commissioning.specs.Drivers.{Talk}
 use Rattle.dali_commissioning.specs.Places.{places}
 use Rattle.dali_commissioning.specs.Runs.{Run, AreRuns, EndWith, ComeTo, AreQuiet, IsBegun}
@@ -69,21 +70,22 @@ HasBegun is_up is_sound holds block others wanted was keep x y start.Survey
 
 -- HOW A RUN ENDS, as the last machine did: at last gear are asked until one answers, and it does
 -- not end well if none does
-abbrev pub EndsSo : PassEnd → Result (Unit {0}) Failure → Talk → Talk → Type 0
-EndsSo pass ended x y =
-    (found : Bool)
-    × HasAsked found x y
+abbrev pub EndsSo : PassEnd → Kept → Result (Unit {0}) Failure → Talk → Talk → Type 0
+EndsSo pass after ended x y =
+    (heard : Bool)
+    × (found : Bool)
+    × HasAsked pass.ended after.enrolled heard found x y
     × (ended ≡ or_shared (ended_as pass.ended found) (has_any pass.heard))
 
 -- WHAT A RUN COMES TO that began so: gear that no record names are said, and nothing else is done
 -- beside them; else it ends as its last machine, or, if that cannot be told, without success
-abbrev pub ComesTo : Kept → List Block → Result Begun CommissionFault → Talk → Talk → List Said
-    → Result (Unit {0}) Failure → Type 0
-ComesTo k others (Ok (begun.Addressed replies)) x y lines ended =
+abbrev pub ComesTo : Kept → List Block → Result Begun CommissionFault → Kept → Talk → Talk
+    → List Said → Result (Unit {0}) Failure → Type 0
+ComesTo k others (Ok (begun.Addressed replies)) after x y lines ended =
     (lines ≡ addressed_said (places k others replies.items)) × (ended ≡ Err AddressedBefore)
-ComesTo k others (Ok (begun.Commissioned pass)) x y lines ended =
-    IsErr ended ⊎ EndsSo pass ended x y
-ComesTo k others (Err fault) x y lines ended = IsErr ended
+ComesTo k others (Ok (begun.Commissioned pass)) after x y lines ended =
+    IsErr ended ⊎ EndsSo pass after ended x y
+ComesTo k others (Err fault) after x y lines ended = IsErr ended
 
 -- WHAT IS SAID OF A RUN: whom its last survey left alone, why it ended so, and how many gear were
 -- enrolled, from one table to another
@@ -98,3 +100,9 @@ RunSaid pass before after aim frames lines =
 abbrev pub IsLit : ℕ → ℕ → Talk → Talk → Type 0
 IsLit a level x y =
     (told : Input) × IsPut 2 (frame (2 * a) level) half.Whole told x y × (is_sent told ≡ true)
+
+-- A GEAR WAS SHOWN: one answered to the short address, and it was lit the most at last
+abbrev pub HasShown : ℕ → Type 0
+HasShown a =
+    ((heard : Reply) × (x y : Talk) × IsAnswered a heard x y × (is_silent heard ≡ false))
+    × ((x y : Talk) × IsLit a 254 x y)

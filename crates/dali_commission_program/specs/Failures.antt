@@ -102,10 +102,10 @@ refused_name task.Clear records = None
 refused_name _ records = option_map (λ name. string_bytes name) (slice_get records 0)
 
 -- a result that cannot be written is a failure, if there was none before
-abbrev pub or_refused : Result (Unit {0}) Failure → Bool → Result (Unit {0}) Failure
-or_refused (Ok done) true = Ok done
-or_refused (Ok done) false = Err (Console Refused)
-or_refused (Err failure) told = Err failure
+abbrev pub or_refused : Result (Unit {0}) Failure → Result (Unit {0}) Failure
+    → Result (Unit {0}) Failure
+or_refused (Ok done) written = written
+or_refused (Err failure) written = Err failure
 
 -- an exchange of files that stopped is to be gone on with, whatever stopped it
 abbrev pub or_unfinished : {T : Type 0} → Result T Failure → Result T Failure

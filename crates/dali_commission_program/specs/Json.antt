@@ -25,14 +25,10 @@ gear_text row =
     ++ (decimal row.0 ++ (codes ",\"random\":\"" ++ (random_text row.1
     ++ (codes "\",\"given\":" ++ (bool_text row.2 ++ codes "}")))))
 
-abbrev pub gears_text : Bool → List (ℕ × ℕ × Bool) → List ℕ
-gears_text first [] = []
-gears_text first (row ∷ more) = (comma first ++ gear_text row) ++ gears_text false more
-
--- short addresses
-abbrev pub numbers_text : Bool → List ℕ → List ℕ
-numbers_text first [] = []
-numbers_text first (a ∷ more) = (comma first ++ decimal a) ++ numbers_text false more
+-- one entry after the other, by the text of each
+abbrev pub list_text : {T : Type 0} → (T → List ℕ) → Bool → List T → List ℕ
+list_text text first [] = []
+list_text text first (x ∷ more) = (comma first ++ text x) ++ list_text text false more
 
 -- EACH SHORT ADDRESS WHOSE GEAR IS MISSING, from one on
 abbrev pub missing_text : Bool → ℕ → List Place → List ℕ
@@ -97,8 +93,8 @@ head_text end status report =
 unfoldable pub known_text : Report → List ℕ
 known_text report =
     label Table
-    ++ (gears_text true report.table.items
-    ++ (label LeftAlone ++ numbers_text true report.left_alone.items))
+    ++ (list_text gear_text true report.table.items
+    ++ (label LeftAlone ++ list_text (λ a. decimal a) true report.left_alone.items))
 
 unfoldable pub seen_text : Report → List ℕ
 seen_text report =

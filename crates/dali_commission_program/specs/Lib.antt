@@ -1,6 +1,7 @@
 pub mod Calls
 pub mod Came
 pub mod Clearing
+pub mod Done
 pub mod Ending
 pub mod Erasing
 pub mod Failures

@@ -83,9 +83,13 @@ abbrev pub mended_as : Ended → Bool → Shorts → List Mending → Result (Un
 mended_as ended found heard ms =
     or_shared (ended_as ended found) (has_any heard || is_any_left ms)
 
-abbrev pub MendedSo : PassEnd → List Mending → Result (Unit {0}) Failure → Talk → Talk → Type 0
-MendedSo pass ms ended x y =
-    (found : Bool) × HasAsked found x y × (ended ≡ mended_as pass.ended found pass.heard ms)
+abbrev pub MendedSo : PassEnd → Kept → List Mending → Result (Unit {0}) Failure → Talk → Talk
+    → Type 0
+MendedSo pass after ms ended x y =
+    (heard : Bool)
+    × (found : Bool)
+    × HasAsked pass.ended after.enrolled heard found x y
+    × (ended ≡ mended_as pass.ended found pass.heard ms)
 
 -- WHAT FOLLOWS once short addresses were mended: no survey if gear were not told apart where one
 -- would enrol a gear
@@ -99,7 +103,7 @@ Follows {S = S} is_up is_sound holds kept_of block table ms was keep x y ended =
     × (mid : S)
     × (at : Talk)
     × HasSurveyed is_up is_sound holds kept_of block table mid x at pass
-    × MendedSo pass ms ended at y))
+    × MendedSo pass (kept_of keep) ms ended at y))
 
 -- WHAT A MEND COMES TO: first each short address is asked. If what was heard lets none be mended,
 -- nothing else is put, and the records are as they were. Else each that is meant is mended, and

@@ -14,8 +14,8 @@ use Rattle.dali_commissioning.specs.declared.conducting.Ended.TheVariants.{Done,
 use Rattle.dali_commissioning.specs.declared.conducting.PassEnd.{PassEnd}
 use Rattle.dali_commissioning.specs.Places.{random_at}
 use Rattle.dali_console.specs.declared.fault.ConsoleFault.TheVariants.{BadCommandLine}
-use Rattle.dali_commissioning.specs.declared.driver.DriverFault.TheVariants.{BadLine, LongLine}
-use Rattle.dali_commissioning.specs.declared.driver.DriverFault.TheVariants.{TornLine}
+use Rattle.dali_commissioning.specs.declared.driver.DriverFault.{DriverFault}
+use Rattle.dali_commissioning.specs.declared.driver.DriverFault.TheVariants as driver
 use Rattle.dali_commissioning.specs.declared.verdict.Place.{Place}
 use Rattle.dali_commissioning.specs.declared.verdict.Place.TheVariants as place
 use Rattle.dali_commission_program.specs.declared.failure.Failure.{Failure}
@@ -129,10 +129,17 @@ abbrev pub WhySaid : List Said → PassEnd → Kept → Aim → List Said → Ty
 WhySaid lines pass k aim new = WhySaidAt pass.ended lines pass k aim new
 
 -- A LINE OF THE DRIVER is said if it was refused
+abbrev pub wrote_by : DriverFault → Bor (List ℕ) → Option Said
+wrote_by driver.BadLine line = Some (said.Wrote line)
+wrote_by driver.LongLine line = Some (said.Wrote line)
+wrote_by driver.TornLine line = Some (said.Wrote line)
+wrote_by driver.Ended line = None
+wrote_by driver.Read line = None
+wrote_by driver.Write line = None
+wrote_by driver.Memory line = None
+
 abbrev pub wrote_said : Failure → Bor (List ℕ) → Option Said
-wrote_said (failure.Driver n BadLine) line = Some (said.Wrote line)
-wrote_said (failure.Driver n LongLine) line = Some (said.Wrote line)
-wrote_said (failure.Driver n TornLine) line = Some (said.Wrote line)
+wrote_said (failure.Driver n fault) line = wrote_by fault line
 wrote_said _ line = None
 
 -- WHY THE PROGRAM ENDS: a bad command line `clap` has told; what is wrong with records has their
@@ -142,6 +149,14 @@ why_said (failure.Console BadCommandLine) records = None
 why_said (failure.Store fault) (Some name) = Some (said.Refused name fault)
 why_said (failure.Store fault) None = None
 why_said other records = Some (said.Why other)
+
+-- A LINE IS SAID, and a text is written: no contract sees what a system does with them, so only who
+-- says or writes them may tell
+unfoldable pub IsTold : {S : Type 0} → S → Said → Type 0
+IsTold on line = Unit {0}
+
+unfoldable pub IsWritten : {S : Type 0} → S → List ℕ → Type 0
+IsWritten on text = Unit {0}
 
 -- LINES ARE SAID, by what tells that one was
 abbrev pub AreTold : (Said → Type 0) → List Said → Type 0

@@ -1,10 +1,17 @@
 use Rattle.std.specs.Prelude.{ℕ, zero, suc, Bool, true, false, List, []}
-use Rattle.std.specs.Prelude.{◌∷◌, ◌++◌, Option, Some, None, codes, decimal}
+use Rattle.std.specs.Prelude.{◌∷◌, ◌++◌, Option, Some, None, codes, decimal, string_bytes}
+use Rattle.std.specs.declared.alloc.Global.{Global}
+use Rattle.std.specs.declared.string.String.{String}
 use Rattle.dali_frame.specs.Hex.{random_text}
 use Rattle.dali_script.specs.Records.{Assignment}
 use Rattle.dali_commissioning.specs.Places.{random_at}
 use Rattle.dali_commission_program.specs.declared.tasks.TableForm.{TableForm}
 use Rattle.dali_commission_program.specs.declared.tasks.TableForm.TheVariants.{Text, Csv, Json}
+
+-- its records: the first name, or an empty one
+abbrev pub only : List (String Global) → List ℕ
+only [] = []
+only (name ∷ more) = string_bytes name
 
 -- THE ROWS of a table: what is enrolled, by short address from 0 on.
 abbrev pub at_if : ℕ → Option ℕ → List Assignment

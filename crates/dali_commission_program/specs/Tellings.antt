@@ -12,14 +12,15 @@ use Rattle.dali_commissioning.specs.declared.conducting.PassEnd.{PassEnd}
 use Rattle.dali_commissioning.specs.declared.fault.CommissionFault.{CommissionFault}
 use Rattle.dali_commissioning.specs.Drivers.{Talk}
 use Rattle.dali_mending.specs.declared.course.Outcome.{Outcome}
+use Rattle.dali_replacement.specs.declared.confirmed.Confirmed.{Confirmed}
+use Rattle.dali_replacement.specs.Permit.{confirmed_at, confirmed_random}
 use Rattle.dali_mending.specs.Mending.{Mending, outcome_at}
 use Rattle.dali_commission_program.specs.declared.failure.Failure.{Failure}
 use Rattle.dali_commission_program.specs.declared.failure.Failure.TheVariants.{Shared}
 use Rattle.dali_commission_program.specs.declared.said.Said.{Said}
 use Rattle.dali_commission_program.specs.declared.said.Said.TheVariants as said
 use Rattle.dali_commission_program.specs.declared.tasks.Mend.{Mend}
-use Rattle.dali_commission_program.specs.declared.tasks.Task.{Task}
-use Rattle.dali_commission_program.specs.declared.tasks.Task.TheVariants as task
+use Rattle.dali_commission_program.specs.declared.tasks.Setup.{Setup}
 use Rattle.dali_commission_program.specs.Came.{ComesTo, check_ended, check_said}
 use Rattle.dali_commission_program.specs.Mends.{mended_as}
 use Rattle.dali_commission_program.specs.Said.{AreTold, why_said}
@@ -46,10 +47,13 @@ abbrev pub FinishTold : (Said → Type 0) → ℕ → Bool → Type 0
 FinishTold told a true = told (said.Exchanged a)
 FinishTold told a false = told (said.TakenBack a)
 
--- which gear has a short address now, by the first of its tables
+-- which gear has a short address now, and how many are in the first of its tables
+abbrev pub gear_in : List Kept → ℕ
+gear_in [] = 0
+gear_in (new ∷ more) = length new.enrolled
+
 abbrev pub ConfirmedTold : (Said → Type 0) → ℕ → ℕ → List Kept → Type 0
-ConfirmedTold told a r [] = Unit {0}
-ConfirmedTold told a r (new ∷ more) = told (said.Replaced a r (length new.enrolled))
+ConfirmedTold told a r news = told (said.Replaced a r (gear_in news))
 
 -- WHY THE PROGRAM ENDED was said, if it did not end well and that needs to be said
 abbrev pub WhyTold : (Said → Type 0) → Result (Unit {0}) Failure → Option (Bor (List ℕ)) → Type 0
@@ -80,11 +84,20 @@ abbrev pub HasRun : (Said → Type 0) → List Block → Result (Unit {0}) Failu
 HasRun told others ended =
     (before : Kept)
     × (begun : Result Begun CommissionFault)
+    × (after : Kept)
     × (x : Talk)
     × (y : Talk)
     × (lines : List Said)
-    × ComesTo before others begun x y lines ended
+    × ComesTo before others begun after x y lines ended
     × AreTold told lines
+
+-- A REPLACEMENT THAT ENDED WELL has said which gear, that was heard, has the short address now
+abbrev pub HasReplaced : (Said → Type 0) → ℕ → Type 0
+HasReplaced told a =
+    (seen : Confirmed)
+    × (news : List Kept)
+    × (confirmed_at seen ≡ a)
+    × ConfirmedTold told (confirmed_at seen) (confirmed_random seen) news
 
 -- A MEND THAT ENDED WELL has asked each short address and was not refused by what was heard; all
 -- gear were told apart, and it has said what came of each address
@@ -98,16 +111,19 @@ HasMended told others wanted =
     × ((pass : PassEnd) × (found : Bool) × (mended_as pass.ended found pass.heard ms ≡ Ok tt))
     × AreMendsTold told ms
 
--- WHAT ENDED WELL has said what it came to, by the task
-abbrev pub HasRunWell : (Said → Type 0) → List Block → Bool → Type 0
-HasRunWell told others mends =
-    HasRun told others (Ok tt) ⊎ ((mends ≡ true) × HasRun told others (Err Shared))
+-- the same of all gear that share a short address
+abbrev pub HasMendedAll : (Said → Type 0) → List Block → Block → Type 0
+HasMendedAll told others block =
+    (wanted : Mend)
+    × (wanted.named.items ≡ [])
+    × (wanted.missing.items ≡ [])
+    × (wanted.block ≡ block)
+    × HasMended told others wanted
 
-abbrev pub HasDone : (Said → Type 0) → List Block → Task → Type 0
-HasDone told others (task.Run setup) = HasRunWell told others setup.mends
-HasDone told others task.Check = HasChecked told others (Ok tt)
-HasDone told others (task.Identify a) = Unit {0}
-HasDone told others (task.Table form) = Unit {0}
-HasDone told others (task.Replace wanted) = Unit {0}
-HasDone told others (task.Mend wanted) = HasMended told others wanted
-HasDone told others task.Clear = Unit {0}
+-- A RUN THAT ENDED WELL, or that has mended what gear shared
+abbrev pub HasRunWell : (Said → Type 0) → List Block → Setup → Type 0
+HasRunWell told others setup =
+    HasRun told others (Ok tt)
+    ⊎ ((setup.mends ≡ true)
+    × HasRun told others (Err Shared)
+    × HasMendedAll told others setup.block)

@@ -1,17 +1,16 @@
 //! Files of records are put aside, before anything changes that makes them wrong.
 
-ghost use Rattle.std.specs.Prelude.{◌≡◌, OnOk, IsTrue, ◌↔◌, ℕ, []};
+ghost use Rattle.std.specs.Prelude.{◌≡◌, OnOk, IsTrue, ◌↔◌, []};
 ghost use Rattle.dali_commission_program.specs.Calls.{AreMade};
-ghost use Rattle.dali_commission_program.specs.Clearing.{asides};
+ghost use Rattle.dali_commission_program.specs.Clearing.{asides, AddsFilled, AreFilled, ArePutAside};
 
 use crate::failure::{Failure, add};
-use crate::finishing::read;
-use crate::said::{Said, say, say_refused};
+use crate::finishing::{read, say_kept};
+use crate::said::{Voice, say_refused};
 use crate::settling::free_number;
 use crate::stores::{Holder, Stores};
 use dali_replacement::kept_of;
 use dali_script::Kept;
-use std::io::Eprint;
 
 /// No file of records has a gear any more: those that had were put aside.
 #[derive(Drop)]
@@ -20,7 +19,7 @@ pub(crate) struct Aside {
 }
 
 /// Gives each file the name under which it is kept.
-fn rename_all<S: Eprint + AllocGlobal, F: Stores>(
+fn rename_all<S: Voice + AllocGlobal, F: Stores>(
     system: &S,
     stores: &mut F,
     names: &[String],
@@ -38,7 +37,7 @@ fn rename_all<S: Eprint + AllocGlobal, F: Stores>(
     }
 }
 
-/// Who puts files aside that are not empty.
+/// Who puts files aside.
 #[derive(Drop)]
 struct Setting<'a, S> {
     system: &'a S,
@@ -46,31 +45,30 @@ struct Setting<'a, S> {
     names: &'a [String],
 }
 
-impl<S: Eprint + AllocGlobal, F: Stores> Holder<F> for Setting<'_, S> {
-    type Due = ();
+impl<'a, S: Voice + AllocGlobal, F: Stores> Holder<F> for Setting<'a, S> {
+    type Due = &'a [String];
 
-    type Out = Aside;
+    type Out = u32;
 
-    ghost dues = { λ _ _ _. Unit {0} };
+    ghost use Rattle.std.specs.Prelude.{◌≡◌};
+    ghost use Rattle.dali_commission_program.specs.Clearing.{AreRenamed};
 
-    ghost ends = { λ setting from to _ _. (number : ℕ) × AreMade F.made (asides setting.names.now number) from to };
+    ghost dues = { λ setting _ due. due.now ≡ setting.names.now };
+
+    ghost ends = { λ _ from to due number. AreRenamed F.made F.saw due.now number from to };
 
     fn refused(&self, name: &str, failure: Failure) -> Failure {
         say_refused(self.system, name, failure)
     }
 
-    fn take(&mut self, _stores: &mut F, _all: &[Kept]) -> Result<(), Failure> {
-        Ok(())
+    fn take(&mut self, _stores: &mut F, _all: &[Kept]) -> Result<&'a [String], Failure> {
+        Ok(self.names)
     }
 
-    fn then(self, stores: &mut F, _due: ()) -> Result<Aside, Failure> {
-        let (system, alloc) = (self.system, self.system.alloc());
-        let number = free_number(alloc, stores, self.names)?;
-        rename_all(system, stores, self.names, number)?;
-        for name in self.names {
-            say(system, &Said::KeptAs(name, &kept_of(alloc, name, number)?));
-        }
-        Ok(Aside { _ended: () })
+    fn then(self, stores: &mut F, names: &'a [String]) -> Result<u32, Failure> {
+        let number = free_number(self.system.alloc(), stores, names)?;
+        rename_all(self.system, stores, names, number)?;
+        Ok(number)
     }
 }
 
@@ -81,37 +79,60 @@ fn is_empty(kept: &Kept) -> bool
     kept.reserved().is_empty() && kept.enrolled().is_empty()
 }
 
-/// Where the files of these names lie that are there and not empty.
-fn filled<S: Eprint + AllocGlobal, F: Stores>(
+/// Adds where the file of a name lies, if it is there and not empty.
+fn add_filled<S: Voice + AllocGlobal, F: Stores>(
+    system: &S,
+    stores: &F,
+    name: &str,
+    places: &mut Vec<String>,
+) -> Result<(), Failure>
+    ensures { OnOk result (AddsFilled F.saw stores.now name.now places.old.items places.new.items) }
+{
+    let place = match stores.place_of(system.alloc(), name) {
+        Ok(place) => place,
+        Err(failure) => return Err(say_refused(system, name, failure)),
+    };
+    if !stores.has(&place) {
+        return Ok(());
+    }
+    if is_empty(&read(system, stores, &place)?) {
+        Ok(())
+    } else {
+        add(places, place)
+    }
+}
+
+/// Adds where the files of these names lie that are there and not empty.
+fn push_filled<S: Voice + AllocGlobal, F: Stores>(
     system: &S,
     stores: &F,
     records: &[String],
-) -> Result<Vec<String>, Failure> {
-    let mut names = Vec::new(system.alloc());
-    for name in records {
-        let place = stores
-            .place_of(system.alloc(), name)
-            .map_err(|failure| say_refused(system, name, failure))?;
-        if stores.has(&place) && !is_empty(&read(system, stores, &place)?) {
-            add(&mut names, place)?;
-        }
-    }
-    Ok(names)
+    places: &mut Vec<String>,
+) -> Result<(), Failure>
+    ensures { OnOk result (AreFilled F.saw stores.now places.old.items records.now places.new.items) }
+{
+    let [name, more @ ..] = records else {
+        return Ok(());
+    };
+    add_filled(system, stores, name, places)?;
+    push_filled(system, stores, more, places)
 }
 
-/// Puts the files of these names aside that are not empty.
-pub(crate) fn put_aside<S: Eprint + AllocGlobal, F: Stores>(
+/// Puts the files of these names aside that are not empty, and says where they are kept.
+pub(crate) fn put_aside<S: Voice + AllocGlobal, F: Stores>(
     system: &S,
     stores: &mut F,
     records: &[String],
-) -> Result<Aside, Failure> {
-    let names = filled(system, stores, records)?;
-    if names.is_empty() {
-        return Ok(Aside { _ended: () });
-    }
+) -> Result<Aside, Failure>
+    ensures { OnOk result (ArePutAside F.made F.saw (S.told system.now) records.now stores.old stores.new) }
+{
+    let mut names = Vec::new(system.alloc());
+    push_filled(system, stores, records, &mut names)?;
     let setting = Setting {
         system,
         names: &names,
     };
-    stores.hold(system.alloc(), &names, setting)
+    let number = stores.hold(system.alloc(), &names, setting)?;
+    say_kept(system, &names, number)?;
+    Ok(Aside { _ended: () })
 }

@@ -1,22 +1,24 @@
 //! `clear`: all gear lose their short addresses.
 
-ghost use Rattle.std.specs.Prelude.{◌≡◌, ◌≤◌, [], None, IfOk, OnOk, length};
+ghost use Rattle.std.specs.Prelude.{◌≡◌, ◌≤◌, [], None, Ok, IfOk, OnOk, length, not};
 ghost use Rattle.std.specs.List.{list_any};
 ghost use Rattle.dali_script.specs.Records.{without_records};
+ghost use Rattle.dali_commissioning.specs.Census.{is_silent};
 ghost use Rattle.dali_commissioning.specs.Drivers.{talk_of};
 ghost use Rattle.dali_commissioning.specs.Places.{places};
-ghost use Rattle.dali_commission_program.specs.Clearing.{is_addressed};
 ghost use Rattle.dali_commission_program.specs.Erasing.{erasing_next};
 ghost use Rattle.dali_commission_program.specs.Clearing.{HaveErased, IsRound, AreCleared, IsFollowed, cleared_as};
-ghost use Rattle.dali_commission_program.specs.Clearing.{ClearsTo, all_shorts};
+ghost use Rattle.dali_commission_program.specs.Clearing.{ClearsTo, HasCleared, all_shorts};
+ghost use Rattle.dali_commission_program.specs.Said.{places_said};
 
 use crate::aside::{Aside, put_aside};
 use crate::eraser::Eraser;
 use crate::failure::{Failure, failure_of};
+use crate::identifying::is_silent;
 use crate::progress::{Manner, Progress};
 use crate::report::{Came, Report};
 use crate::reports::{Which, push_places};
-use crate::said::Said;
+use crate::said::{Said, Voice};
 use crate::stores::Stores;
 use arrayvec::ArrayVec;
 use dali_commissioning::{
@@ -24,7 +26,7 @@ use dali_commissioning::{
 };
 use dali_script::{Block, Kept};
 use std::io;
-use std::io::{Eprint, Read, Write};
+use std::io::{Read, Write};
 
 /// How many frames a round may put: some 8,000 take 64 gear their short addresses.
 const MOST_FRAMES: u32 = 40_000;
@@ -79,22 +81,13 @@ fn round<R: Read, W: Write>(
 
 /// Whether gear answered at a short address.
 fn is_any(replies: &[Reply]) -> bool
-    ensures { result ≡ list_any (λ reply. is_addressed reply) replies.now }
+    ensures { result ≡ list_any (λ reply. not (is_silent reply)) replies.now }
 {
-    replies.iter().any(|reply| is_addressed(*reply))
-}
-
-fn is_addressed(reply: Reply) -> bool
-    ensures { result ≡ is_addressed reply }
-{
-    match reply {
-        Reply::Silence => false,
-        Reply::Noise | Reply::Unclear | Reply::Random(_) | Reply::Several => true,
-    }
+    replies.iter().any(|reply| !is_silent(*reply))
 }
 
 /// Goes round after round until no gear answers at a short address. What was heard behind the last one.
-fn clear_all<S: Eprint, R: Read, W: Write>(
+fn clear_all<S: Voice, R: Read, W: Write>(
     driver: &mut DriverLink<R, W>,
     progress: &Progress<'_, S>,
     rounds: &[u8],
@@ -150,6 +143,7 @@ fn came_of(replies: &[Reply], is_there: bool) -> Came
     requires { length replies.now ≤ 64 }
     ensures ended { result.ended ≡ cleared_as replies.now is_there }
     ensures places { result.report.places.items ≡ places (without_records all_shorts) [] replies.now }
+    ensures said { result.report.said.items ≡ places_said Which.All 0 result.report.places.items }
 {
     let places = places(&no_records(), &[], replies);
     let mut said = ArrayVec::new();
@@ -165,12 +159,12 @@ fn came_of(replies: &[Reply], is_there: bool) -> Came
 }
 
 /// Takes the short addresses of all gear away. The files of records were put aside before.
-fn came_to<S: Eprint, R: Read, W: Write>(
+fn came_to<S: Voice, R: Read, W: Write>(
     driver: &mut DriverLink<R, W>,
     progress: &Progress<'_, S>,
     _aside: &Aside,
 ) -> Result<Came, CommissionFault>
-    ensures { IfOk result (λ came. ClearsTo came.ended came.report.places.items
+    ensures { IfOk result (λ came. ClearsTo came.ended came.report.said.items came.report.places.items
         (talk_of R.remaining W.contents driver.old) (talk_of R.remaining W.contents driver.new)) }
 {
     let replies = clear_all(driver, progress, &ROUNDS, ArrayVec::new())?;
@@ -187,8 +181,9 @@ pub(crate) fn clears<S, F>(
     report: &mut Report,
 ) -> Result<(), Failure>
 where
-    S: Input + Print + Eprint + AllocGlobal,
+    S: Input + Print + Voice + AllocGlobal,
     F: Stores,
+    ensures { IfOk result (λ done. HasCleared F.made F.saw (S.told system.now) records.now (Ok done)) }
 {
     let aside = put_aside(system, stores, records)?;
     let mut driver = DriverLink::new(system.alloc(), system.reader(), io::writer(system));

@@ -10,7 +10,7 @@ ghost use Rattle.dali_replacement.specs.Permit.{others_at, others_come, others_t
 ghost use Rattle.dali_replacement.specs.Permit.{confirmed_at, confirmed_random, confirmed_table};
 ghost use Rattle.dali_replacement.specs.Tables.{AreGiven};
 ghost use Rattle.dali_commission_program.specs.Failures.{fault_of, not_given};
-ghost use Rattle.dali_commission_program.specs.Tellings.{ConfirmedTold};
+ghost use Rattle.dali_commission_program.specs.Tellings.{ConfirmedTold, gear_in};
 
 use crate::failure::{Failure, failure_of};
 use crate::progress::Manner;
@@ -25,6 +25,16 @@ use dali_replacement::{
 };
 use dali_script::Kept;
 use std::io::{Read, Write};
+
+/// How many gear are in the first of some tables.
+fn gear_in(tables: &[Kept]) -> usize
+    ensures { result ≡ gear_in tables.now }
+{
+    match tables {
+        [table, ..] => table.enrolled().len(),
+        [] => 0,
+    }
+}
 
 /// Who asks the bus.
 #[derive(Drop)]
@@ -136,10 +146,7 @@ impl<S: Voice> Asking<'_, S> {
         ensures { ConfirmedTold (S.told self.now.system.now) (confirmed_at confirmed.now)
             (confirmed_random confirmed.now) news.now }
     {
-        if let [new, ..] = news {
-            let (short, random) = (confirmed.short().number(), confirmed.random());
-            let said = Said::Replaced(short, random, new.enrolled().len());
-            say(self.system, &said);
-        }
+        let (short, random) = (confirmed.short().number(), confirmed.random());
+        say(self.system, &Said::Replaced(short, random, gear_in(news)));
     }
 }

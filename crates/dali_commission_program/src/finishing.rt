@@ -10,7 +10,7 @@ ghost use Rattle.dali_replacement.specs.Tables.{AreGiven};
 ghost use Rattle.dali_commission_program.specs.Calls.{Read};
 ghost use Rattle.dali_commission_program.specs.Failures.{although_exchanged};
 ghost use Rattle.dali_commission_program.specs.Settling.{IsSettled};
-ghost use Rattle.dali_commission_program.specs.Tellings.{AreKeptTold, FinishTold};
+ghost use Rattle.dali_commission_program.specs.Tellings.{AreKeptTold, FinishTold, HasReplaced};
 
 use crate::confirming::Asking;
 use crate::failure::{Failure, add};
@@ -166,7 +166,8 @@ pub(crate) fn confirms<S, F>(
 where
     S: Input + Print + Voice + AllocGlobal,
     F: Stores,
-    ensures { IfOk result (λ seen. confirmed_at seen ≡ asking.now.wanted.now.short) }
+    ensures short { IfOk result (λ seen. confirmed_at seen ≡ asking.now.wanted.now.short) }
+    ensures told { IfOk result (λ _. HasReplaced (S.told asking.now.system.now) asking.now.wanted.now.short) }
 {
     let system = asking.system;
     let mut tables = Vec::new(system.alloc());

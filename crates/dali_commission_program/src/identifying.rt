@@ -4,7 +4,7 @@ ghost use Rattle.std.specs.Prelude.{◌≡◌, false, OnOk};
 ghost use Rattle.dali_commissioning.specs.declared.census.Reply.{Reply};
 ghost use Rattle.dali_commissioning.specs.Census.{IsAnswered, is_silent};
 ghost use Rattle.dali_commissioning.specs.Drivers.{Talk, talk_of};
-ghost use Rattle.dali_commission_program.specs.Came.{IsLit};
+ghost use Rattle.dali_commission_program.specs.Came.{IsLit, HasShown};
 
 use crate::failure::{Failure, failure_of};
 use crate::report::{Came, Report};
@@ -62,7 +62,8 @@ fn blinks<S: Clock, R: Read, W: Write>(
     lit(driver, short, BRIGHT)
 }
 
-fn is_silent(reply: Reply) -> bool
+/// Whether no gear answered.
+pub(crate) fn is_silent(reply: Reply) -> bool
     ensures { result ≡ is_silent reply }
 {
     match reply {
@@ -114,7 +115,7 @@ pub(crate) fn identify<S: Input + Print + Voice + AllocGlobal + Clock>(
     short: Short,
     report: &mut Report,
 ) -> Result<(), Failure>
-    ensures { OnOk result ((before : Talk) × (after : Talk) × IsLit short 254 before after) }
+    ensures { OnOk result (HasShown short) }
 {
     let mut driver = DriverLink::new(system.alloc(), system.reader(), io::writer(system));
     let ended = shows(system, &mut driver, short);

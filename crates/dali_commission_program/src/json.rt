@@ -1,17 +1,17 @@
 //! What a task came to, as one object of JSON on a line.
 
-ghost use Rattle.std.specs.Prelude.{◌≡◌, ◌++◌, ◌+◌, ◌≤◌, OnOk, IsTrue, decimal, length, option_map, string_bytes};
-ghost use Rattle.std.specs.Io.KnownBytes.{Appends};
-ghost use Rattle.dali_commission_program.specs.Json.{comma, bool_text, gear_text, gears_text, numbers_text};
+ghost use Rattle.std.specs.Prelude.{◌≡◌, ◌++◌, ◌+◌, ◌≤◌, OnOk, decimal, length, option_map, string_bytes};
+ghost use Rattle.dali_commission_program.specs.Json.{comma, bool_text, gear_text, list_text};
 ghost use Rattle.dali_commission_program.specs.Json.{missing_text, oddity, odd_text, random_text_or, strangers_text};
 ghost use Rattle.dali_commission_program.specs.Json.{unaddressed_text, label, head_text, known_text, seen_text};
 ghost use Rattle.dali_commission_program.specs.Json.{tail_text, report_text};
 
+use crate::failure::Failure;
 use crate::report::{Report, Row};
+use crate::said::Voice;
 use dali_commissioning::Place;
 use dali_frame::Random24;
-use std::alloc::{AllocError, Global};
-use std::io::Write;
+use std::alloc::AllocError;
 
 fn comma(is_first: bool) -> &'static str
     ensures { result.now ≡ comma is_first }
@@ -37,46 +37,53 @@ fn push_row(text: &mut String, row: Row) -> Result<(), AllocError>
     )
 }
 
-#[tactic(auto, using(std::proofs::lemmas::List::append_assoc))]
-fn push_gear(text: &mut String, is_first: bool, row: Row) -> Result<(), AllocError>
-    ensures { OnOk result (string_bytes text.new ≡ string_bytes text.old ++ (comma is_first ++ gear_text row)) }
-{
-    text.push_str(comma(is_first))?;
-    push_row(text, row)
+/// What stands in a list.
+trait Entry {
+    ghost use Rattle.std.specs.Prelude.{ℕ, List};
+
+    ghost text: { Self → List ℕ };
+
+    /// Adds its text.
+    fn push(&self, to: &mut String) -> Result<(), AllocError>
+        ensures { OnOk result (string_bytes to.new ≡ string_bytes to.old ++ text self.now) };
 }
 
-/// The gear in the table.
-#[tactic(auto, using(std::proofs::lemmas::List::append_assoc))]
-fn push_table(text: &mut String, is_first: bool, rows: &[Row]) -> Result<(), AllocError>
-    ensures { OnOk result (string_bytes text.new ≡ string_bytes text.old ++ gears_text is_first rows.now) }
-{
-    match rows {
-        [] => Ok(()),
-        [row, more @ ..] => {
-            push_gear(text, is_first, *row)?;
-            push_table(text, false, more)
-        }
+impl Entry for Row {
+    ghost text = { gear_text };
+
+    fn push(&self, to: &mut String) -> Result<(), AllocError> {
+        push_row(to, *self)
+    }
+}
+
+/// A short address.
+impl Entry for u8 {
+    ghost text = { λ number. decimal number };
+
+    fn push(&self, to: &mut String) -> Result<(), AllocError> {
+        let number = *self;
+        write!(to, "{number}")
     }
 }
 
 #[tactic(auto, using(std::proofs::lemmas::List::append_assoc))]
-fn push_number(text: &mut String, is_first: bool, number: u8) -> Result<(), AllocError>
-    ensures { OnOk result (string_bytes text.new ≡ string_bytes text.old ++ (comma is_first ++ decimal number)) }
+fn push_one<T: Entry>(text: &mut String, is_first: bool, entry: &T) -> Result<(), AllocError>
+    ensures { OnOk result (string_bytes text.new ≡ string_bytes text.old ++ (comma is_first ++ T.text entry.now)) }
 {
     text.push_str(comma(is_first))?;
-    write!(text, "{number}")
+    entry.push(text)
 }
 
-/// The short addresses that were left alone.
+/// A list: the gear in the table, or the short addresses that were left alone.
 #[tactic(auto, using(std::proofs::lemmas::List::append_assoc))]
-fn push_numbers(text: &mut String, is_first: bool, numbers: &[u8]) -> Result<(), AllocError>
-    ensures { OnOk result (string_bytes text.new ≡ string_bytes text.old ++ numbers_text is_first numbers.now) }
+fn push_all<T: Entry>(text: &mut String, is_first: bool, list: &[T]) -> Result<(), AllocError>
+    ensures { OnOk result (string_bytes text.new ≡ string_bytes text.old ++ list_text T.text is_first list.now) }
 {
-    match numbers {
+    match list {
         [] => Ok(()),
-        [number, more @ ..] => {
-            push_number(text, is_first, *number)?;
-            push_numbers(text, false, more)
+        [entry, more @ ..] => {
+            push_one(text, is_first, entry)?;
+            push_all(text, false, more)
         }
     }
 }
@@ -96,7 +103,7 @@ fn push_missing(
     match places {
         [] => Ok(()),
         [Place::Missing(_), more @ ..] => {
-            push_number(text, is_first, number)?;
+            push_one(text, is_first, &number)?;
             push_missing(text, false, number + 1, more)
         }
         [_, more @ ..] => push_missing(text, is_first, number + 1, more),
@@ -227,9 +234,9 @@ fn push_known(text: &mut String, report: &Report) -> Result<(), AllocError>
     ensures { OnOk result (string_bytes text.new ≡ string_bytes text.old ++ known_text report.now) }
 {
     text.push_str(label(Part::Table))?;
-    push_table(text, true, &report.table)?;
+    push_all(text, true, &report.table)?;
     text.push_str(label(Part::LeftAlone))?;
-    push_numbers(text, true, &report.left_alone)
+    push_all(text, true, &report.left_alone)
 }
 
 #[tactic(auto, using(std::proofs::lemmas::List::append_assoc), unfolding(crate::specs::Json::seen_text))]
@@ -264,21 +271,15 @@ fn push_report(text: &mut String, report: &Report, end: &str, status: u8) -> Res
 
 /// Writes what a task came to: how it ended and its exit status, and how many frames were put and how many gear
 /// enrolled. It also writes the gear in the table, and the short addresses that need to be looked at.
-/// Whether all of it was written.
-#[tactic(auto, using(crate::proofs::Flushed::appends_kept))]
-pub(crate) fn write_report<W: Write>(
-    alloc: Global,
-    writer: &mut W,
+pub(crate) fn write_report<S: Voice + AllocGlobal>(
+    system: &S,
     report: &Report,
     end: &str,
     status: u8,
-) -> bool
-    ensures { IsTrue result → Appends (W.contents writer.old) (W.contents writer.new)
-        (report_text end.now status report.now) }
+) -> Result<(), Failure>
+    ensures { OnOk result (S.wrote system.now (report_text end.now status report.now)) }
 {
-    let mut text = String::new(alloc);
-    if push_report(&mut text, report, end, status).is_err() {
-        return false;
-    }
-    writer.write_all(text.as_bytes()).is_ok() && writer.flush().is_ok()
+    let mut text = String::new(system.alloc());
+    push_report(&mut text, report, end, status)?;
+    system.write(&text)
 }

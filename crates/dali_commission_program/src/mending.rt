@@ -201,7 +201,7 @@ fn end_so<K: Keep, R: Read, W: Write>(
     mended: &[Mending],
     pass: &PassEnd,
 ) -> Result<Came, Failure>
-    ensures { IfOk result (λ came. MendedSo pass.now mended.now came.ended
+    ensures { IfOk result (λ came. MendedSo pass.now (K.kept store.new) mended.now came.ended
         (talk_of R.remaining W.contents driver.old) (talk_of R.remaining W.contents driver.new)) }
 {
     let after = kept(store)?;

@@ -1,18 +1,18 @@
 //! The program: what it reads of the system, does, and says.
 
 ghost use Rattle.std.specs.Borrow.{Bor};
-ghost use Rattle.std.specs.Prelude.{◌≡◌, ℕ, List, Option, true, false, IsTrue, OnOk, option_map, slice_get};
+ghost use Rattle.std.specs.Prelude.{◌≡◌, ℕ, List, Option, true, OnOk, option_map, slice_get};
 ghost use Rattle.std.specs.Prelude.{string_bytes};
-ghost use Rattle.std.specs.Io.KnownBytes.{Appends};
 ghost use Rattle.dali_console.specs.Status.{status_after};
 ghost use Rattle.dali_commission_program.specs.Failures.{status_of, end_name, or_refused, refused_name};
 ghost use Rattle.dali_commission_program.specs.Json.{report_text};
-ghost use Rattle.dali_commission_program.specs.Tables.{table_text};
-ghost use Rattle.dali_commission_program.specs.Tellings.{WhyTold, HasDone};
+ghost use Rattle.dali_commission_program.specs.Tables.{only};
+ghost use Rattle.dali_commission_program.specs.Tellings.{WhyTold};
+ghost use Rattle.dali_commission_program.specs.Done.{HasTabled, HasDone, HasAnswered, HasServed};
 
 use crate::checking::checks;
 use crate::clearing::clears;
-use crate::failure::{Failure, REFUSED};
+use crate::failure::Failure;
 use crate::identifying::identify;
 use crate::json::write_report;
 use crate::mending::mends;
@@ -26,27 +26,23 @@ use crate::stores::Stores;
 use crate::table::push_table;
 use crate::tasks::{Asked, TableForm, Task};
 use crate::words::{PROGRAM, asked_of};
-use dali_script::Kept;
-use dali_words::asked;
-use std::alloc::Global;
+use dali_words::{Shows, asked};
 use std::env::Env;
-use std::io;
-use std::io::Write;
 use std::time::Clock;
 
-/// Writes the table of the gear that are enrolled.
-fn write_table<W: Write>(
-    alloc: Global,
-    writer: &mut W,
+/// Writes the table of the gear that are enrolled, by the records of a name.
+fn writes_table<S: Voice + AllocGlobal, F: Stores>(
+    system: &S,
+    stores: &F,
+    name: &str,
     form: TableForm,
-    kept: &Kept,
 ) -> Result<(), Failure>
-    ensures { OnOk result (Appends (W.contents writer.old) (W.contents writer.new)
-        (table_text form kept.now.enrolled)) }
+    ensures { OnOk result (HasTabled F.saw (S.wrote system.now) name.now form) }
 {
-    let mut text = String::new(alloc);
-    push_table(&mut text, form, kept)?;
-    writer.write_all(text.as_bytes()).map_err(|_| REFUSED)
+    let kept = lend_copy(system.alloc(), stores, name, Reading)?;
+    let mut text = String::new(system.alloc());
+    push_table(&mut text, form, &kept)?;
+    system.write(&text)
 }
 
 /// Does what the words of the command line ask for, and notes what it came to.
@@ -60,7 +56,8 @@ fn does<S, F>(
 where
     S: Input + Print + Voice + AllocGlobal + Clock,
     F: Stores,
-    ensures { OnOk result (HasDone (S.told system.now) asked.now.others.items asked.now.task) }
+    ensures { OnOk result (HasDone F.made F.saw (S.told system.now) (S.wrote system.now) asked.now.records.items
+        asked.now.others.items asked.now.task) }
 {
     let (alloc, others) = (system.alloc(), asked.others.as_slice());
     let name = first(&asked.records);
@@ -73,20 +70,11 @@ where
                 manner,
                 report,
             };
-            lend(
-                alloc,
-                stores,
-                name.unwrap_or_default(),
-                setup.block,
-                running,
-            )
+            lend(alloc, stores, only(&asked.records), setup.block, running)
         }
         Task::Check => checks(system, stores, name, others, report),
         Task::Identify(short) => identify(system, *short, report),
-        Task::Table(form) => {
-            let kept = lend_copy(alloc, stores, name.unwrap_or_default(), Reading)?;
-            write_table(alloc, &mut io::writer(system), *form, &kept)
-        }
+        Task::Table(form) => writes_table(system, stores, only(&asked.records), *form),
         Task::Replace(wanted) => {
             let _heard = replaces(system, stores, manner, &asked.records, wanted, report)?;
             note_first(alloc, stores, name, report);
@@ -104,6 +92,16 @@ fn first(records: &[String]) -> Option<&str>
     match records {
         [name, ..] => Some(name),
         [] => None,
+    }
+}
+
+/// The same, or an empty one. `clap` has seen that it is there.
+fn only(records: &[String]) -> &str
+    ensures { result.now ≡ only records.now }
+{
+    match records {
+        [name, ..] => name,
+        [] => "",
     }
 }
 
@@ -134,35 +132,30 @@ fn end(task: &Task, ended: &Result<(), Failure>) -> (u8, &'static str)
     }
 }
 
-/// Writes what a task came to as JSON, if that is asked for. Whether it is written.
-fn is_told<W: Write>(
-    alloc: Global,
-    writer: &mut W,
+/// Writes what a task came to as JSON, if that is asked for.
+fn writes<S: Voice + AllocGlobal>(
+    system: &S,
     asked: &Asked,
     report: &Report,
     ended: &Result<(), Failure>,
-) -> bool
-    ensures told { IsTrue result → asked.now.as_json ≡ true
-        → Appends (W.contents writer.old) (W.contents writer.new)
-        (report_text (end_name asked.now.task ended.now) (status_after status_of ended.now) report.now) }
-    ensures not_told { asked.now.as_json ≡ false → (result ≡ true) × (writer.new ≡ writer.old) }
+) -> Result<(), Failure>
+    ensures { OnOk result (asked.now.as_json ≡ true → S.wrote system.now
+        (report_text (end_name asked.now.task ended.now) (status_after status_of ended.now) report.now)) }
 {
-    if asked.as_json {
-        let (status, name) = end(&asked.task, ended);
-        write_report(alloc, writer, report, name, status)
-    } else {
-        true
+    if !asked.as_json {
+        return Ok(());
     }
+    let (status, name) = end(&asked.task, ended);
+    write_report(system, report, name, status)
 }
 
-/// A result that cannot be written is a failure if there was none before.
-fn or_refused(ended: Result<(), Failure>, is_told: bool) -> Result<(), Failure>
-    ensures { result ≡ or_refused ended is_told }
+/// How a task ends whose result was written, or could not be: that is a failure if there was none before.
+fn or_refused(ended: Result<(), Failure>, written: Result<(), Failure>) -> Result<(), Failure>
+    ensures { result ≡ or_refused ended written }
 {
-    if is_told {
-        ended
-    } else {
-        ended.and(Err(REFUSED))
+    match ended {
+        Ok(()) => written,
+        Err(failure) => Err(failure),
     }
 }
 
@@ -176,14 +169,14 @@ fn does_and_tells<S, F>(
 where
     S: Input + Print + Voice + AllocGlobal + Clock,
     F: Stores,
-    ensures { (name : Option (Bor (List ℕ))) × WhyTold (S.told system.now) result name }
+    ensures why { (name : Option (Bor (List ℕ))) × WhyTold (S.told system.now) result name }
+    ensures done { OnOk result (HasAnswered F.made F.saw (S.told system.now) (S.wrote system.now) asked.now) }
 {
     let mut report = Report::new();
     let manner = Manner::of(asked.is_quiet, is_terminal);
     let done = does(system, stores, manner, asked, &mut report);
-    let (alloc, mut writer) = (system.alloc(), io::writer(system));
-    let is_told = is_told(alloc, &mut writer, asked, &report, &done);
-    ended(system, or_refused(done, is_told), refused_name(asked))
+    let written = writes(system, asked, &report, &done);
+    ended(system, or_refused(done, written), refused_name(asked))
 }
 
 /// Says why the program ended, if that needs to be said.
@@ -207,13 +200,17 @@ fn ended<S: Voice>(
 /// is the system's input and output.
 pub fn run_and_say<S, F>(system: &S, stores: &mut F, is_terminal: bool) -> Result<(), Failure>
 where
-    S: Env + Input + Print + Voice + AllocGlobal + Clock,
+    S: Env + Input + Shows + Voice + AllocGlobal + Clock,
     F: Stores,
-    ensures { (name : Option (Bor (List ℕ))) × WhyTold (S.told system.now) result name }
+    ensures why { (name : Option (Bor (List ℕ))) × WhyTold (S.told system.now) result name }
+    ensures done { OnOk result (HasServed F.made F.saw (S.told system.now) (S.wrote system.now) (S.shown system.now)) }
 {
-    match asked(system, &PROGRAM, asked_of) {
-        Ok(Some(asked)) => does_and_tells(system, stores, is_terminal, &asked),
-        Ok(None) => Ok(()),
-        Err(fault) => ended(system, Err(Failure::Console(fault)), None),
+    let found = match asked(system, &PROGRAM, asked_of) {
+        Ok(found) => found,
+        Err(fault) => return ended(system, Err(Failure::Console(fault)), None),
+    };
+    match found {
+        Some(asked) => does_and_tells(system, stores, is_terminal, &asked),
+        None => Ok(()),
     }
 }

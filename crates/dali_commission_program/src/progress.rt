@@ -245,5 +245,7 @@ impl<S: Voice> Watch for Progress<'_, S> {
         }
     }
 
-    fn told(&mut self, _told: Input) {}
+    fn told(&mut self, _told: Input)
+        ensures { self.new ≡ self.old }
+    {}
 }

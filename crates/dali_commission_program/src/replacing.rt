@@ -1,7 +1,7 @@
 //! `replace`: a new luminaire gets the short address of one that is gone.
 
 ghost use Rattle.std.specs.Prelude.{◌≡◌, ◌↔◌, ◌⊎◌, ℕ, List, true, Some, IsTrue, IfOk, OnOk};
-ghost use Rattle.std.specs.Prelude.{string_bytes};
+ghost use Rattle.std.specs.Prelude.{string_bytes, option_map, slice_get};
 ghost use Rattle.dali_replacement.specs.Permit.{confirmed_at};
 ghost use Rattle.dali_replacement.specs.Tables.{IsGathered, Lacks};
 ghost use Rattle.dali_commission_program.specs.Calls.{Lies, Read};
@@ -10,6 +10,7 @@ ghost use Rattle.dali_commission_program.specs.Reports.{own_rows};
 ghost use Rattle.dali_commission_program.specs.Tables.{rows};
 ghost use Rattle.dali_commission_program.specs.Seen.{ComeSo};
 ghost use Rattle.dali_commission_program.specs.Settling.{new_at};
+ghost use Rattle.dali_commission_program.specs.Tellings.{HasReplaced};
 
 use crate::confirming::Asking;
 use crate::failure::{Failure, REFUSED, add, ended_as, failure_of};
@@ -173,7 +174,12 @@ impl<S: Input + Print + Voice + AllocGlobal> Replacing<'_, S> {
     }
 
     /// How far an earlier call has come. No other new file has another gear there than the giver's.
-    fn all_come<F: Stores>(&self, stores: &F, all: &[Kept], giver: usize) -> Result<Come, Failure> {
+    fn all_come<F: Stores>(&self, stores: &F, all: &[Kept], giver: usize) -> Result<Come, Failure>
+        ensures { IfOk result (λ come. (name : List ℕ) × (old : Kept)
+            × (option_map (λ it. string_bytes it) (slice_get self.now.names.now giver) ≡ Some name)
+            × (slice_get all.now giver ≡ Some old)
+            × ComeSo F.saw stores.now name old true self.now.asking.now.wanted.now.short come) }
+    {
         let (Some(name), Some(old)) = (self.names.get(giver), all.get(giver)) else {
             return Err(REFUSED);
         };
@@ -278,7 +284,11 @@ impl<S: Input + Print + Voice + AllocGlobal> Replacing<'_, S> {
         driver: &mut DriverLink<R, W>,
         giver: usize,
         others: &OthersThere,
-    ) -> Result<Kept, Failure> {
+    ) -> Result<Kept, Failure>
+        ensures { IfOk result (λ kept. (name : List ℕ)
+            × (option_map (λ it. string_bytes it) (slice_get self.now.names.now giver) ≡ Some name)
+            × F.saw stores.new (Read (new_at name) kept)) }
+    {
         let Some(name) = self.names.get(giver) else {
             return Err(REFUSED);
         };
@@ -373,7 +383,7 @@ fn put_aside<S: Voice + AllocGlobal, F: Stores>(
 impl<S: Input + Print + Voice + AllocGlobal, F: Stores> Holder<F> for Replacing<'_, S> {
     type Due = DueSwap;
 
-    type Out = Confirmed;
+    type Out = DueSwap;
 
     ghost use Rattle.std.specs.Prelude.{◌≡◌};
     ghost use Rattle.dali_commission_program.specs.Replacing.{IsDue};
@@ -381,7 +391,7 @@ impl<S: Input + Print + Voice + AllocGlobal, F: Stores> Holder<F> for Replacing<
 
     ghost dues = { λ replacing all due. IsDue replacing.asking.now.wanted.now.short all due };
 
-    ghost ends = { λ _ from to due out. IsExchanged F.made due.swap from to × (out ≡ due.confirmed) };
+    ghost ends = { λ _ from to due out. IsExchanged F.made due.swap from to × (out ≡ due) };
 
     fn refused(&self, name: &str, failure: Failure) -> Failure {
         say_refused(self.asking.system, name, failure)
@@ -400,13 +410,10 @@ impl<S: Input + Print + Voice + AllocGlobal, F: Stores> Holder<F> for Replacing<
         self.report.note_lines(system, &driver, gave)
     }
 
-    /// Exchanges the files, and says which gear has the short address.
-    fn then(self, stores: &mut F, due: DueSwap) -> Result<Confirmed, Failure> {
-        let system = self.asking.system;
-        exchange(system, stores, &due.swap)?;
-        self.asking.say_confirmed(&due.confirmed, &due.news);
-        let _ = say_kept(system, due.swap.names(), due.swap.number());
-        Ok(due.confirmed)
+    /// Exchanges the files.
+    fn then(self, stores: &mut F, due: DueSwap) -> Result<DueSwap, Failure> {
+        exchange(self.asking.system, stores, &due.swap)?;
+        Ok(due)
     }
 }
 
@@ -488,7 +495,8 @@ pub(crate) fn replaces<S, F>(
 where
     S: Input + Print + Voice + AllocGlobal,
     F: Stores,
-    ensures { IfOk result (λ seen. confirmed_at seen ≡ wanted.now.short) }
+    ensures short { IfOk result (λ seen. confirmed_at seen ≡ wanted.now.short) }
+    ensures told { IfOk result (λ _. HasReplaced (S.told system.now) wanted.now.short) }
 {
     let asking = Asking {
         system,
@@ -510,5 +518,8 @@ where
         names: &names,
         report,
     };
-    stores.hold(system.alloc(), &names, replacing)
+    let done = stores.hold(system.alloc(), &names, replacing)?;
+    asking.say_confirmed(&done.confirmed, &done.news);
+    let _ = say_kept(system, done.swap.names(), done.swap.number());
+    Ok(done.confirmed)
 }

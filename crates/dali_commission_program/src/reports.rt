@@ -208,9 +208,14 @@ pub fn push_why_ended(said: &mut Saying, pass: &PassEnd, kept: &Kept, aim: Aim)
 pub fn wrote_said(failure: Failure, line: &[u8]) -> Option<Said<'_>>
     ensures { result ≡ wrote_said failure line.entry }
 {
-    match failure {
-        Failure::Driver(_, DriverFault::BadLine | DriverFault::LongLine | DriverFault::TornLine) =>
-            Some(Said::Wrote(line)),
-        _ => None,
+    // No other failure is one of a line.
+    let Failure::Driver(_, fault) = failure else {
+        return None;
+    };
+    match fault {
+        DriverFault::BadLine | DriverFault::LongLine | DriverFault::TornLine => {
+            Some(Said::Wrote(line))
+        }
+        DriverFault::Ended | DriverFault::Read | DriverFault::Write | DriverFault::Memory => None,
     }
 }

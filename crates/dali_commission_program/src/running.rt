@@ -1,11 +1,12 @@
 //! `run`: gear are given short addresses.
 
-ghost use Rattle.std.specs.Prelude.{◌≡◌, ◌+◌, ◌-◌, IfOk, length};
+ghost use Rattle.std.specs.Prelude.{◌≡◌, ◌+◌, ◌-◌, Err, IfOk, IsTrue, OnOk, length};
 ghost use Rattle.dali_commissioning.specs.Drivers.{talk_of};
+ghost use Rattle.dali_commission_program.specs.declared.failure.Failure.TheVariants.{Shared};
 ghost use Rattle.dali_commission_program.specs.Failures.{ended_as};
 ghost use Rattle.dali_commission_program.specs.Sharing.{has_any, or_shared};
 ghost use Rattle.dali_commission_program.specs.Came.{HasBegun, EndsSo, ComesTo, RunSaid};
-ghost use Rattle.dali_commission_program.specs.Tellings.{HasRun};
+ghost use Rattle.dali_commission_program.specs.Tellings.{HasRun, HasMendedAll};
 
 use crate::ending::is_any_there;
 use crate::failure::{Failure, ended_as, failure_of};
@@ -85,7 +86,7 @@ fn ended_so<K: Keep, R: Read, W: Write>(
     before: &Kept,
     aim: Aim,
 ) -> Result<Came, Failure>
-    ensures { IfOk result (λ came. EndsSo pass.now came.ended
+    ensures { IfOk result (λ came. EndsSo pass.now (K.kept store.new) came.ended
         (talk_of R.remaining W.contents driver.old) (talk_of R.remaining W.contents driver.new)) }
 {
     let after = kept(store)?;
@@ -106,7 +107,7 @@ fn came_to<K: Keep, R: Read, W: Write>(
     others: &[Block],
     begun: Result<Begun, CommissionFault>,
 ) -> Came
-    ensures { ComesTo before.now others.now begun (talk_of R.remaining W.contents driver.old)
+    ensures { ComesTo before.now others.now begun (K.kept store.new) (talk_of R.remaining W.contents driver.old)
         (talk_of R.remaining W.contents driver.new) result.report.said.items result.ended }
 {
     match begun {
@@ -119,6 +120,16 @@ fn came_to<K: Keep, R: Read, W: Write>(
             Err(failure) => Came::bare(Err(failure)),
         },
         Err(fault) => Came::bare(Err(failure_of(fault, driver.lines()))),
+    }
+}
+
+/// Whether it ended so because gear share a short address.
+fn has_shared(ended: &Result<(), Failure>) -> bool
+    ensures { IsTrue result → ended.now ≡ Err Shared }
+{
+    match ended {
+        Ok(()) => false,
+        Err(failure) => matches!(failure, Failure::Shared),
     }
 }
 
@@ -140,7 +151,8 @@ impl<S: Input + Print + Voice + AllocGlobal> Running<'_, S> {
         driver: &mut DriverLink<R, W>,
         before: &Kept,
     ) -> Result<(), Failure>
-        ensures { HasRun (S.told self.old.system.now) self.old.others.now result }
+        ensures told { HasRun (S.told self.old.system.now) self.old.others.now result }
+        ensures same { self.new ≡ record self.old { report = self.new.report } }
     {
         let (system, others) = (self.system, self.others);
         let mut progress = Progress::new(system, self.manner, left_of(before));
@@ -157,7 +169,10 @@ impl<S: Input + Print + Voice + AllocGlobal> Running<'_, S> {
         self,
         store: &mut K,
         driver: &mut DriverLink<R, W>,
-    ) -> Result<(), Failure> {
+    ) -> Result<(), Failure>
+        ensures { OnOk result (HasMendedAll (S.told self.entry.system.now) self.entry.others.now
+            self.entry.setup.now.block) }
+    {
         let alloc = self.system.alloc();
         let wanted = Mend {
             named: Vec::new(alloc),
@@ -184,14 +199,14 @@ impl<S: Input + Print + Voice + AllocGlobal> Borrower for Running<'_, S> {
 
     ghost use Rattle.dali_commission_program.specs.Tellings.{HasRunWell};
 
-    ghost came = { λ running _ _. HasRunWell (S.told running.system.now) running.others.now running.setup.now.mends };
+    ghost came = { λ running _ _. HasRunWell (S.told running.system.now) running.others.now running.setup.now };
 
     fn take<K: Keep>(mut self, store: &mut K) -> Result<(), Failure> {
         let (system, mends) = (self.system, self.setup.mends);
         let before = kept(store)?;
         let mut driver = DriverLink::new(system.alloc(), system.reader(), io::writer(system));
         let ended = self.runs(store, &mut driver, &before);
-        if mends && matches!(ended, Err(Failure::Shared)) {
+        if mends && has_shared(&ended) {
             self.mends(store, &mut driver)
         } else {
             ended

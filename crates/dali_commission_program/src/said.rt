@@ -1,9 +1,9 @@
 //! All that the program says on standard error but how it uses its command line: each a value, with its text.
 
-ghost use Rattle.std.specs.Prelude.{◌≡◌};
+ghost use Rattle.std.specs.Prelude.{◌≡◌, OnOk};
 ghost use Rattle.dali_commission_program.specs.Said.{why_said, AreTold};
 
-use crate::failure::Failure;
+use crate::failure::{Failure, REFUSED};
 use crate::progress::{Aim, Far};
 use crate::stores::StoreFault;
 use dali_commissioning::Place;
@@ -206,22 +206,39 @@ fn write_lost<W: fmt::Write>(
     }
 }
 
-/// Who says what the program says. Contracts see which lines were said.
-pub trait Voice: Eprint {
+/// Who says and writes what the program does. Contracts see which lines were said, and which texts were written.
+pub trait Voice: Eprint + Print {
+    ghost use Rattle.std.specs.Prelude.{ℕ, List};
     ghost use Rattle.dali_commission_program.specs.declared.said.Said.{Said};
 
     ghost told: { Self → Said → Type 0 };
 
+    ghost wrote: { Self → List ℕ → Type 0 };
+
     /// Says a line. If it cannot be said, nothing else changes.
     fn tell(&self, said: &Said<'_>)
         ensures { told self.now said.now };
+
+    /// Writes a text on standard output.
+    fn write(&self, text: &str) -> Result<(), Failure>
+        ensures { OnOk result (wrote self.now text.now) };
 }
 
-impl<S: Eprint> Voice for S {
-    ghost told = { λ _ _. Unit {0} };
+impl<S: Eprint + Print> Voice for S {
+    ghost use Rattle.dali_commission_program.specs.Said.{IsTold, IsWritten};
 
+    ghost told = { IsTold };
+
+    ghost wrote = { IsWritten };
+
+    #[tactic(auto, unfolding(crate::specs::Said::IsTold))]
     fn tell(&self, said: &Said<'_>) {
         let _ = eprintln!(self; "{said}");
+    }
+
+    #[tactic(auto, unfolding(crate::specs::Said::IsWritten))]
+    fn write(&self, text: &str) -> Result<(), Failure> {
+        self.write_all(text.as_bytes()).map_err(|_| REFUSED)
     }
 }
 

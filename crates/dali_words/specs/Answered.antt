@@ -1,4 +1,4 @@
-use Rattle.std.specs.Prelude.{Bool, true, false, Option, Some, None, Result, Ok, Err}
+use Rattle.std.specs.Prelude.{Option, Some, None}
 use Rattle.clap.specs.declared.error.kind.ErrorKind.{ErrorKind}
 use Rattle.clap.specs.declared.error.kind.ErrorKind.TheVariants.{DisplayHelp, DisplayVersion}
 use Rattle.clap.specs.declared.error.kind.ErrorKind.TheVariants.{OutOfMemory}
@@ -9,17 +9,17 @@ use Rattle.dali_console.specs.declared.fault.ConsoleFault.TheVariants.{BadComman
 use Rattle.dali_words.specs.declared.line.LineFault.{LineFault}
 use Rattle.dali_words.specs.declared.line.LineFault.TheVariants as fault
 
--- what a command line comes to that `clap` answers itself: help or the version, which are printed
--- or cannot be; want of memory; or why the line is bad
-abbrev pub if_printed : {T : Type 0} → Bool → Result (Option T) ConsoleFault
-if_printed true = Ok None
-if_printed false = Err Refused
+-- what help was shown on: no contract sees what a system shows, so only who shows it may say so
+unfoldable pub IsShown : {S : Type 0} → S → Type 0
+IsShown on = Unit {0}
 
-abbrev pub answered : {T : Type 0} → ErrorKind → Bool → Result (Option T) ConsoleFault
-answered DisplayHelp printed = if_printed printed
-answered DisplayVersion printed = if_printed printed
-answered OutOfMemory printed = Err Refused
-answered _ printed = Err BadCommandLine
+-- what is wrong with a command line that `clap` answers: help or the version cannot be shown,
+-- memory is wanted, or the line is bad
+abbrev pub fault_by : ErrorKind → ConsoleFault
+fault_by DisplayHelp = Refused
+fault_by DisplayVersion = Refused
+fault_by OutOfMemory = Refused
+fault_by _ = BadCommandLine
 
 -- how `clap` tells what is wrong with a line that it took
 abbrev pub kind_of_fault : LineFault → Option ErrorKind

@@ -9,4 +9,4 @@ mod reading;
 
 pub use line::{CommandLine, LineFault, conflict, no_task, wrong_value};
 pub use program::{Program, Subcommand, Value, Word, WordKind};
-pub use reading::asked;
+pub use reading::{Shows, asked};

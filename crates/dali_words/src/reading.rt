@@ -1,10 +1,11 @@
 //! A command line is read, and it is said what is wrong with it.
 
-ghost use Rattle.std.specs.Prelude.{◌≡◌, Some, Ok, IfOk, IfSome, option_map, find, bytes_eq, string_bytes};
+ghost use Rattle.std.specs.Prelude.{◌≡◌, Some, None, Ok, IfOk, IfErr, OnOk, IfSome, MatchOption};
+ghost use Rattle.std.specs.Prelude.{option_map, find, bytes_eq, string_bytes};
 ghost use Rattle.clap.specs.declared.builder.command.Command.{Command};
 ghost use Rattle.clap.specs.Built.{IsParsedFrom};
 ghost use Rattle.clap.specs.Words.{subcommand_name_of, kind_of};
-ghost use Rattle.dali_words.specs.Answered.{answered, kind_of_fault};
+ghost use Rattle.dali_words.specs.Answered.{fault_by, kind_of_fault};
 ghost use Rattle.dali_words.specs.Arguments.{IsProgram};
 
 use crate::line::{CommandLine, LineFault, NO_SUBCOMMAND};
@@ -14,6 +15,7 @@ use clap::{ArgMatches, Error};
 use dali_console::{ConsoleFault, Plain, words};
 use std::alloc::{AllocError, Global};
 use std::env::Env;
+use std::fmt::Display;
 use std::io;
 use std::io::Eprint;
 
@@ -96,40 +98,61 @@ fn read<T, F: FnOnce(Global, &CommandLine) -> Result<T, LineFault>>(
     }
 }
 
-/// What a command line comes to that `clap` answered, with its answer printed or not.
-fn answered<T>(kind: ErrorKind, printed: bool) -> Result<Option<T>, ConsoleFault>
-    ensures { result ≡ answered kind printed }
-{
-    match kind {
-        ErrorKind::DisplayHelp | ErrorKind::DisplayVersion if printed => Ok(None),
-        ErrorKind::DisplayHelp | ErrorKind::DisplayVersion => Err(ConsoleFault::Refused),
-        ErrorKind::OutOfMemory => Err(ConsoleFault::Refused),
-        _ => Err(ConsoleFault::BadCommandLine),
+/// On what help is shown. Contracts see that it was.
+pub trait Shows: Print {
+    ghost shown: { Self → Type 0 };
+
+    /// Shows help, or the version.
+    fn show<D: Display + Drop>(&self, help: D) -> io::Result<()>
+        ensures { OnOk result (shown self.now) };
+}
+
+impl<S: Print> Shows for S {
+    ghost use Rattle.dali_words.specs.Answered.{IsShown};
+
+    ghost shown = { IsShown };
+
+    #[tactic(auto, unfolding(crate::specs::Answered::IsShown))]
+    fn show<D: Display + Drop>(&self, help: D) -> io::Result<()> {
+        self.print(help)
     }
 }
 
-/// Prints help, or says on standard error what is wrong, with the control characters of arguments by their numbers.
-fn print<S: Print + Eprint + AllocGlobal>(system: &S, error: &Error) -> io::Result<()> {
-    if error.use_stderr() {
-        let text = error.to_string(system.alloc())?;
-        system.eprint(Plain(text))
-    } else {
-        error.print(system)
+/// What a command line comes to that `clap` answered: help is shown, and what is wrong is said on standard error, with
+/// the control characters of arguments by their numbers.
+fn answered<S: Shows + Eprint + AllocGlobal, T>(
+    system: &S,
+    error: &Error,
+) -> Result<Option<T>, ConsoleFault>
+    ensures help { IfOk result (λ found. (found ≡ None) × S.shown system.now) }
+    ensures wrong { IfErr result (λ fault. fault ≡ fault_by (kind_of error.now)) }
+{
+    let fault = match error.kind() {
+        ErrorKind::DisplayHelp | ErrorKind::DisplayVersion => match system.show(error) {
+            Ok(()) => return Ok(None),
+            Err(_) => return Err(ConsoleFault::Refused),
+        },
+        ErrorKind::OutOfMemory => ConsoleFault::Refused,
+        _ => ConsoleFault::BadCommandLine,
+    };
+    if let Ok(text) = error.to_string(system.alloc()) {
+        let _ = system.eprint(Plain(text));
     }
+    Err(fault)
 }
 
 /// What the command line asks for: what `task` makes of what stands on it. None if it asks for help or the version,
 /// which is printed. What is wrong is said on standard error, but that a word is not UTF-8, or cannot be read.
 pub fn asked<S, T, F>(system: &S, program: &Program, task: F) -> Result<Option<T>, ConsoleFault>
 where
-    S: Env + Print + Eprint + AllocGlobal,
+    S: Env + Shows + Eprint + AllocGlobal,
     F: FnOnce(Global, &CommandLine) -> Result<T, LineFault>,
     requires { F.IsAlwaysCallable task }
-    ensures { IfOk result (λ found. IfSome found (λ asked. (alloc : _) × (line : _)
+    ensures { IfOk result (λ found. MatchOption found (S.shown system.now) (λ asked. (alloc : _) × (line : _)
         × F.post task alloc line (Ok asked))) }
 {
     match read(system.alloc(), program, &words(system)?, task) {
         Ok(task) => Ok(Some(task)),
-        Err(error) => answered(error.kind(), print(system, &error).is_ok()),
+        Err(error) => answered(system, &error),
     }
 }
