@@ -133,14 +133,16 @@ impl Trace {
         self.stage.allows(records, Command::read(frame))
     }
 
-    /// Adds a frame that was sent, and what was heard after it. The frame must be one that some records allow here.
+    /// Adds a frame that was sent, and what was heard after it. The frame must be one that some records allow here, and
+    /// `reached` how far the transaction is with it: `after` tells that.
     #[inline(always)]
-    pub fn push(&mut self, frame: Forward, heard: Answer)
-        requires { IsLawful self.old frame }
+    pub fn push(&mut self, frame: Forward, heard: Answer, reached: Stage)
+        requires lawful { IsLawful self.old frame }
+        requires reached { IsReached reached (self.old ++ (record { frame = frame; heard = heard }) ∷ []) }
         ensures { self.new ≡ self.old ++ (record { frame = frame; heard = heard }) ∷ [] }
     {
         self.entries.push(Entry { frame, heard });
-        self.stage.advance(Command::read(frame), heard);
+        self.stage = reached;
     }
 
     /// Adds a frame that was sent, and what was heard after it, if some records allow it here. Else nothing changes.
@@ -161,14 +163,15 @@ impl Trace {
     }
 
     /// How far the transaction is once one more frame was sent, and this was heard after it. The frame must be one that
-    /// some records allow here.
+    /// some records allow here, and `command` the one that it is read as.
     #[inline(always)]
-    pub fn after(&self, frame: Forward, heard: Answer) -> Stage
-        requires { IsLawful self.now frame }
+    pub fn after(&self, frame: Forward, command: Command, heard: Answer) -> Stage
+        requires lawful { IsLawful self.now frame }
+        requires read { command ≡ command_of frame }
         ensures { IsReached result (self.now ++ (record { frame = frame; heard = heard }) ∷ []) }
     {
         let mut stage = self.stage;
-        stage.advance(Command::read(frame), heard);
+        stage.advance(command, heard);
         stage
     }
 
