@@ -3,7 +3,9 @@ ghost use Rattle.dali_script.specs.Records.{Fits, MayAdd};
 ghost use Rattle.dali_controller.specs.Steps.{with_some};
 ghost use Rattle.dali_script.specs.Table.{table_of};
 ghost use Rattle.dali_script.specs.Due.{due_after, accepts, record_ordered};
-ghost use Rattle.dali_controller.specs.Machine.{at_first};
+ghost use Rattle.dali_controller.specs.Machine.{at_first, machine_told};
+ghost use Rattle.dali_script.specs.Stages.{IsReached};
+ghost use Rattle.dali_script.specs.declared.orders.Input.TheVariants as input;
 ghost use Rattle.dali_controller.specs.Next.{BeginsWith};
 ghost use Rattle.dali_controller.specs.States.{machine_with};
 ghost use Rattle.dali_controller.specs.Whole.{IsWhole};
@@ -13,7 +15,8 @@ use crate::error::StepError;
 use crate::shorts::Shorts;
 use crate::state::State;
 use crate::tally::Tally;
-use dali_script::{Due, Finding, Input, Kept, Order, Record, Table, Trace};
+use dali_frame::Answer;
+use dali_script::{Due, Finding, Input, Kept, Order, Record, Stage, Table, Trace};
 use std::marker::Model;
 
 /// The machine of one application controller, which gives the short addresses of its block to the gear on a bus.
@@ -128,6 +131,21 @@ impl Machine {
         let added = self.state.kept_by(input);
         keep(&mut self.kept, added);
         self.state.step(&self.kept.view(), input)
+    }
+
+    /// Takes what was heard after the frame that it put, as `step` does by `Heard`, of a transaction that is so far with
+    /// this frame: a caller that has to know the stage finds it once.
+    ///
+    /// `NotDue`: it put no frame last, and nothing changed.
+    pub fn hear(&mut self, heard: Answer, reached: Stage) -> Result<Order, StepError>
+        requires { IsReached reached (machine_told self.old (input.Heard heard)).trace }
+        ensures due { IsOk result ↔ (accepts (due_after self.old.last) (input.Heard heard) ≡ true) }
+        ensures not_due { OnErr result (self.new ≡ self.old) }
+        ensures given { IfOk result (IsGiven self.old (input.Heard heard)) }
+        ensures state { IfOk result (λ order. self.new ≡ machine_after self.old (input.Heard heard) order) }
+        ensures whole { IsWhole self.new }
+    {
+        self.state.step_heard(&self.kept.view(), heard, reached)
     }
 
     /// What it would order at an input. Nothing changes.

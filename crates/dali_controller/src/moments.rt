@@ -1,4 +1,4 @@
-ghost use Rattle.std.specs.Prelude.{◌≡◌, ◌⊎◌, ℕ, ◌<◌, true, false, Option, Some, None};
+ghost use Rattle.std.specs.Prelude.{◌≡◌, ◌⊎◌, ℕ, ◌<◌, true, false, Option, Some, None, ◌++◌, ◌∷◌, []};
 ghost use Rattle.dali_frame.specs.Random.{MASK24};
 ghost use Rattle.dali_frame.specs.declared.numbers.SearchAddress.{SearchAddress};
 ghost use Rattle.dali_frame.specs.declared.frames.Answer.{Answer};
@@ -69,7 +69,7 @@ impl State {
     ghost use Rattle.dali_script.specs.declared.records.Record.TheVariants.{Reserve, Enrol};
     ghost use Rattle.dali_script.specs.declared.orders.Order.TheVariants.{Commit};
     ghost use Rattle.dali_script.specs.declared.stage.Stage.TheVariants.{Inconclusive, Spelled, Hunted};
-    ghost use Rattle.dali_script.specs.Stages.{stage_of};
+    ghost use Rattle.dali_script.specs.Stages.{stage_of, IsReached};
 
     /// The start: visits to what is unfinished, and then an opening.
     pub(crate) fn start(&mut self, kept: &Records<'_>) -> Order
@@ -160,7 +160,30 @@ impl State {
             (machine_with self.new kept.now) }
         ensures whole { IsWhole (machine_with self.new kept.now) }
     {
-        let stage = self.hear(kept, frame, heard);
+        let reached = self.trace.after(frame, Command::read(frame), heard);
+        self.heard_at(kept, frame, heard, reached)
+    }
+
+    /// The same, if it is known how far the transaction is with this frame.
+    pub(crate) fn heard_at(
+        &mut self,
+        kept: &Records<'_>,
+        frame: Forward,
+        heard: Answer,
+        reached: Stage,
+    ) -> Order
+        requires whole { IsWhole (machine_with self.old kept.now) }
+        requires put { frame_put self.old.last ≡ Some frame }
+        requires reached { IsReached reached (self.old.trace ++ (record { frame = frame; heard = heard }) ∷ []) }
+
+        ensures followed { IsFollowed (machine_told (machine_with self.old kept.now) (input.Heard heard))
+            result }
+        ensures begins { BeginsWith (course_of self.new) result }
+        ensures step { IsStep (machine_with self.old kept.now) (input.Heard heard) result
+            (machine_with self.new kept.now) }
+        ensures whole { IsWhole (machine_with self.new kept.now) }
+    {
+        let stage = self.hear(kept, frame, heard, reached);
         self.after(kept, stage)
     }
 

@@ -1,11 +1,11 @@
-ghost use Rattle.std.specs.Prelude.{◌≡◌, ◌+◌, ◌<◌, ◌||◌, Some};
+ghost use Rattle.std.specs.Prelude.{◌≡◌, ◌+◌, ◌<◌, ◌||◌, Some, ◌++◌, ◌∷◌, []};
 ghost use Rattle.dali_frame.specs.Priority.{FIRST, LATER};
 ghost use Rattle.dali_special.specs.Command.{frame_of};
 ghost use Rattle.dali_frame.specs.declared.numbers.SearchAddress.{SearchAddress};
 ghost use Rattle.dali_script.specs.declared.stage.Stage.TheVariants.{Free, Unnamed};
 ghost use Rattle.dali_script.specs.Findings.{later, finding_of};
 ghost use Rattle.dali_script.specs.Records.{Fits, MayAdd};
-ghost use Rattle.dali_script.specs.Stages.{stage_of};
+ghost use Rattle.dali_script.specs.Stages.{stage_of, IsReached};
 ghost use Rattle.dali_script.specs.declared.orders.Input.TheVariants as input;
 ghost use Rattle.dali_script.specs.declared.orders.Order.TheVariants as order;
 ghost use Rattle.dali_controller.specs.declared.purpose.Purpose.TheVariants as purpose;
@@ -198,16 +198,23 @@ impl State {
         }
     }
 
-    /// Takes what was heard after the frame that was put, and says how far the transaction is.
-    pub(crate) fn hear(&mut self, kept: &Records<'_>, frame: Forward, heard: Answer) -> Stage
+    /// Takes what was heard after the frame that was put, and says how far the transaction is: `reached`.
+    pub(crate) fn hear(
+        &mut self,
+        kept: &Records<'_>,
+        frame: Forward,
+        heard: Answer,
+        reached: Stage,
+    ) -> Stage
         requires whole { IsWhole (machine_with self.old kept.now) }
         requires put { frame_put self.old.last ≡ Some frame }
+        requires reached { IsReached reached (self.old.trace ++ (record { frame = frame; heard = heard }) ∷ []) }
 
         ensures told { machine_with self.new kept.now
             ≡ machine_told (machine_with self.old kept.now) (input.Heard heard) }
         ensures heard { IsHeard (machine_with self.new kept.now) result }
     {
-        self.trace.push(frame, heard);
+        self.trace.push(frame, heard, reached);
         self.note_finding();
         self.tries = self.tries_after(kept);
         self.silent = self.silent_after();

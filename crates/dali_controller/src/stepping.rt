@@ -1,6 +1,9 @@
 ghost use Rattle.std.specs.Prelude.{◌≡◌, ◌↔◌, true, None, IsOk, IfOk, OnErr, IfSome, Some};
 ghost use Rattle.dali_script.specs.Records.{Kept, Fits};
 ghost use Rattle.dali_script.specs.Due.{due_after, accepts, record_ordered};
+ghost use Rattle.dali_script.specs.Stages.{IsReached};
+ghost use Rattle.dali_script.specs.declared.orders.Input.TheVariants as input;
+ghost use Rattle.dali_controller.specs.Machine.{machine_told};
 ghost use Rattle.dali_controller.specs.Orders.{IsGiven, machine_after};
 
 use crate::error::StepError;
@@ -9,8 +12,8 @@ use crate::purpose::Purpose;
 use crate::shorts::Shorts;
 use crate::state::State;
 use crate::tally::Tally;
-use dali_frame::SearchAddress;
-use dali_script::{Due, Input, Order, Record, Records, Trace};
+use dali_frame::{Answer, SearchAddress};
+use dali_script::{Due, Input, Order, Record, Records, Stage, Trace};
 
 impl State {
     ghost use Rattle.dali_controller.specs.Machine.{at_first};
@@ -60,6 +63,34 @@ impl State {
             | Input::Destroyed
             | Input::Lapsed
             | Input::CommitFailed => None,
+        }
+    }
+
+    /// Takes what was heard after the frame that was put, as `step` does by `Heard`, of a transaction that is so far with
+    /// this frame.
+    ///
+    /// `NotDue`: no frame was put last, and nothing changed.
+    pub(crate) fn step_heard(
+        &mut self,
+        kept: &Records<'_>,
+        heard: Answer,
+        reached: Stage,
+    ) -> Result<Order, StepError>
+        requires whole { IsWhole (machine_with self.old kept.now) }
+        requires reached { IsReached reached (machine_told (machine_with self.old kept.now) (input.Heard heard)).trace }
+
+        ensures due { IsOk result ↔ (accepts (due_after self.old.last) (input.Heard heard) ≡ true) }
+        ensures not_due { OnErr result (self.new ≡ self.old) }
+        ensures given { IfOk result (IsGiven (machine_with self.old kept.now) (input.Heard heard)) }
+        ensures state { IfOk result (λ order. machine_with self.new kept.now
+            ≡ machine_after (machine_with self.old kept.now) (input.Heard heard) order) }
+        ensures whole { IsWhole (machine_with self.new kept.now) }
+    {
+        match self.last {
+            Some(Order::Put(_, frame)) => Ok(self.heard_at(kept, frame, heard, reached)),
+            None | Some(Order::Commit(_) | Order::Done(_) | Order::Halt(_)) => Err(
+                StepError::NotDue,
+            ),
         }
     }
 

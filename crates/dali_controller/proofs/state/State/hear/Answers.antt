@@ -4,8 +4,8 @@ use Rattle.dali_controller.specs.{Machine.Machine, Moments.IsHeard, States.machi
 use Rattle.dali_controller.proofs.{Legs.hears_told, Legs.told_is, Steps.hear_heard, Steps.heard_by, Steps.sending, Steps.sending_lawful}
 use Rattle.dali_controller.proofs.state.State.hear.Goals as goal
 
-pub push-requires : goal.push-requires
-push-requires c =
+pub push-requires-clause-lawful : goal.push-requires-clause-lawful
+push-requires-clause-lawful c =
     let w = (machine_with c.args.self.now c.args.kept.now) in
     (w.kept.block, w.kept.reserved, sending_lawful w c.args.frame (sending w w.last c.args.frame c.requires.put c.requires.whole))
 

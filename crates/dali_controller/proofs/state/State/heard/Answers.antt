@@ -1,8 +1,7 @@
-use Rattle.dali_controller.{specs.States.machine_with, proofs.Courses.followed_heard}
+use Rattle.dali_controller.{specs.States.machine_with, proofs.{Steps.sending, Steps.sending_lawful}}
 use Rattle.dali_controller.proofs.state.State.heard.Goals as goal
 
-pub returns-clause-followed : goal.returns-clause-followed
-returns-clause-followed c =
-    followed_heard (machine_with c.args.self.now c.args.kept.now) (machine_with c.hear-stage.new.self c.args.kept.now)
-    c.after.result c.args.frame c.args.heard c.requires.put c.hear-stage.ensures.told c.after.ensures.sent c.after.ensures.told c.after.ensures.another
-    c.after.ensures.unconfirmed c.after.ensures.hunted c.after.ensures.called
+pub after-reached-requires-clause-lawful : goal.after-reached-requires-clause-lawful
+after-reached-requires-clause-lawful c =
+    let w = (machine_with c.args.self.now c.args.kept.now) in
+    (w.kept.block, w.kept.reserved, sending_lawful w c.args.frame (sending w w.last c.args.frame c.requires.put c.requires.whole))
