@@ -183,6 +183,7 @@ pub extern "C" fn dali_machine_go(
 {
     match machine.state.read() {
         Some(mut state) => go_on(machine, &mut state, input, byte, order),
+        // It is required that the struct holds a machine, so its state can be read.
         None => unreachable!(),
     }
 }

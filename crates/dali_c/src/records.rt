@@ -57,6 +57,7 @@ impl PlainRecords {
         ensures { result ≡ kept_of self.now }
     {
         let (Some(first), Some(last)) = (Short::of(self.first), Short::of(self.last)) else {
+            // Both are below 64, as it is required.
             unreachable!();
         };
         Records::known(

@@ -91,6 +91,7 @@ pub(crate) fn heard_of(heard: Shorts) -> ArrayVec<u8, 64>
     let mut numbers = ArrayVec::new();
     for number in 0..64u8 {
         let Some(short) = Short::of(number) else {
+            // Each number of the loop is below 64.
             unreachable!();
         };
         add_heard(&mut numbers, number, heard.has(short));

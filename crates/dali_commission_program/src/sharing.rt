@@ -110,6 +110,7 @@ fn push_meant(meant: &mut ArrayVec<Short, 64>, number: u8, named: &[Short], repl
 {
     if let [reply, more @ ..] = replies {
         let Some(short) = Short::of(number) else {
+            // A reply is left, so the number is below 64.
             unreachable!();
         };
         push_if(meant, short, is_meant(named, short, *reply));
@@ -199,6 +200,7 @@ pub(crate) fn refused_from(
         return None;
     };
     let Some(short) = Short::of(number) else {
+        // A reply is left, so the number is below 64.
         unreachable!();
     };
     match why_not(table, others, wanted, short, *reply) {

@@ -28,6 +28,7 @@ pub(crate) fn rows(kept: &Kept) -> ArrayVec<(Short, Random24), 64>
     let mut rows = ArrayVec::new();
     for number in 0..64u8 {
         let Some(short) = Short::of(number) else {
+            // Each number of the loop is below 64.
             unreachable!();
         };
         add_if(&mut rows, short, random_at(kept.enrolled(), short));

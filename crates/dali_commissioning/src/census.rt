@@ -284,6 +284,7 @@ pub fn take_census<R: Read, W: Write>(
     let mut replies = ArrayVec::new();
     for number in 0..64u8 {
         let Some(short) = Short::of(number) else {
+            // Each number of the loop is below 64.
             unreachable!();
         };
         replies.push(count(driver, kept, others, short)?);

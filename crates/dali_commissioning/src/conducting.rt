@@ -149,6 +149,7 @@ fn answer<K: Keep, R: Read, W: Write>(
             }
             Err(error) => Err(CommissionFault::Store(error)),
         },
+        // The machine waits for an answer, and after an end it waits for nothing.
         Order::Done(_) | Order::Halt(_) => unreachable!(),
     }
 }

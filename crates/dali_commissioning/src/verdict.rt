@@ -138,6 +138,7 @@ pub fn places(kept: &Kept, others: &[Block], replies: &[Reply]) -> ArrayVec<Plac
     let mut places = ArrayVec::new();
     for number in 0..64u8 {
         let Some(short) = Short::of(number) else {
+            // Each number of the loop is below 64.
             unreachable!();
         };
         places.push(place_of(kept, others, short, reply_at(replies, number)));

@@ -71,6 +71,7 @@ impl State {
             result (machine_with self.new kept.now) }
     {
         let Leg::Hunting(ascent) = &mut self.leg else {
+            // It is required that the leg is a hunt.
             unreachable!()
         };
         ascent.go_on();
@@ -92,6 +93,7 @@ impl State {
         }
         self.tally.note_miss(random);
         let Leg::Hunting(ascent) = &mut self.leg else {
+            // It is required that the leg is a hunt.
             unreachable!()
         };
         ascent.begin_anew();
@@ -141,6 +143,7 @@ impl State {
         match (self.purpose, last) {
             (Purpose::Hunting, Some(heard)) => self.answered(kept, sent, heard, left),
             (Purpose::Calling, Some(heard)) => self.called(kept, heard),
+            // No other purpose has this stage. If COMPARE was not sent last, the turn is not over.
             _ => unreachable!(),
         }
     }
@@ -161,6 +164,7 @@ impl State {
             sent left result (machine_with self.new kept.now) }
     {
         let Leg::Hunting(ascent) = &mut self.leg else {
+            // It is required that the leg is a hunt.
             unreachable!()
         };
         match ascent.answer(is_yes(heard)) {

@@ -224,6 +224,7 @@ impl State {
             Stage::HighAsked(..) => self.asked_once(kept),
             Stage::MiddleAsked(..) => self.unheard(kept),
             Stage::Spelled(short, number) => self.resolved(kept, short, number),
+            // At these the turn sends the next command, or no transaction of a machine comes there.
             Stage::Free
             | Stage::InitialisedOnce
             | Stage::Initialised
@@ -251,6 +252,7 @@ impl State {
         ensures order { result ≡ order.Put LATER (frame_of command) }
         ensures moment { IsMoment (machine_with self.old kept.now) result (machine_with self.new kept.now) }
     {
+        // For the prover: the clauses speak of the stage.
         let _ = stage;
         self.put(kept, command)
     }
@@ -264,6 +266,7 @@ impl State {
     {
         match self.purpose.end() {
             Some(end) => self.done(kept, end),
+            // Only a close ends with TERMINATE, and it has an end.
             None => unreachable!(),
         }
     }

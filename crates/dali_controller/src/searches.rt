@@ -71,6 +71,7 @@ impl State {
         ensures { IsMoment (machine_with self.old kept.now) result (machine_with self.new kept.now) }
     {
         let Leg::Searching(search) = &mut self.leg else {
+            // Only a search probes.
             unreachable!()
         };
         match search.answer(is_yes(heard)) {

@@ -141,6 +141,7 @@ impl State {
         ensures has { IsTrue result ↔ Has kept.now.reserved (address, number) }
         ensures small { address < 64 }
     {
+        // For the prover: a short address is below 64.
         let _ = address.number();
         match kept.reserved_at(address) {
             Some(reserved) => reserved == number,

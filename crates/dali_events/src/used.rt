@@ -76,6 +76,7 @@ pub(crate) fn all_short(used: &[Used])
     ensures { All (λ u. u.short < 64) used.now }
 {
     for at in 0..used.len() {
+        // For the prover: a short address is below 64.
         let _number = used[at].short.number();
     }
 }

@@ -36,6 +36,7 @@ fn add_other(all: &mut Kept, pair: Pair, number: u8) -> Result<(), Short>
     ensures lacks { OnOk result (Lacks number all.old → Lacks number all.new) }
 {
     let Some(address) = Short::of(pair.address()) else {
+        // It is required that the address is below 64.
         unreachable!();
     };
     if pair.address() == number {
@@ -106,6 +107,7 @@ fn enrol<K: Keep>(store: &mut K, kept: &Kept, pair: Pair) -> Result<(), KeepErro
     ensures block { K.block store.new ≡ K.block store.old }
 {
     let Some(address) = Short::of(pair.address()) else {
+        // It is required that the address is below 64.
         unreachable!();
     };
     let record = Record::Enrol(address, pair.random());
@@ -157,6 +159,7 @@ fn reserve<K: Keep>(store: &mut K, kept: &Kept, pair: Pair) -> Result<(), KeepEr
     ensures block { K.block store.new ≡ K.block store.old }
 {
     let Some(address) = Short::of(pair.address()) else {
+        // It is required that the address is below 64.
         unreachable!();
     };
     let record = Record::Reserve(address, pair.random());

@@ -50,6 +50,7 @@ fn hear_all<R: Read, W: Write>(
     let mut replies = ArrayVec::new();
     for number in 0..64u8 {
         let Some(short) = Short::of(number) else {
+            // Each number of the loop is below 64.
             unreachable!();
         };
         replies.push(hear(driver, table, short)?);

@@ -84,6 +84,7 @@ impl Trace {
                 entries,
                 stage: self.stage,
             },
+            // A trace has eight entries at most, and the array has room for eight.
             Err(_) => unreachable!(),
         }
     }

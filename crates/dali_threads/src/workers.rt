@@ -163,6 +163,7 @@ where
                     break;
                 };
                 let Ok(()) = workers.push(worker) else {
+                    // There is room for a worker of each port.
                     unreachable!()
                 };
             }
