@@ -133,8 +133,8 @@ impl Machine {
         self.state.step(&self.kept.view(), input)
     }
 
-    /// Takes what was heard after the frame that it put, as `step` does by `Heard`, of a transaction that is so far with
-    /// this frame: a caller that has to know the stage finds it once.
+    /// Takes what was heard after the frame that it put, as `step` does by `Heard`. `reached` is how far the
+    /// transaction is with this frame: a caller that knows it spares the machine to find it again.
     ///
     /// `NotDue`: it put no frame last, and nothing changed.
     pub fn hear(&mut self, heard: Answer, reached: Stage) -> Result<Order, StepError>

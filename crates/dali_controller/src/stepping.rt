@@ -66,8 +66,8 @@ impl State {
         }
     }
 
-    /// Takes what was heard after the frame that was put, as `step` does by `Heard`, of a transaction that is so far with
-    /// this frame.
+    /// Takes what was heard after the frame that was put, as `step` does by `Heard`. `reached` is how far the
+    /// transaction is with this frame.
     ///
     /// `NotDue`: no frame was put last, and nothing changed.
     pub(crate) fn step_heard(
