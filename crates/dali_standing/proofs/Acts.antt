@@ -6,7 +6,7 @@ use Rattle.dali_special.specs.{Command.command_of, declared.command.Command.Comm
 use Rattle.dali_arbiter.specs.Arbiter.{owns}
 use Rattle.dali_script.specs.{Due.due_after, Due.accepts, Due.frame_put, Due.record_ordered, Findings.finding_of, Findings.later, Records.Kept, Records.InBlock}
 use Rattle.dali_script.specs.{Records.MayAdd, Scripts.Lawful, Scripts.IsFirst, Stages.stage_of, Stages.may_follow}
-use Rattle.dali_script.specs.declared.{finding.Finding.Finding, orders.Input.Input, orders.Order.Order}
+use Rattle.dali_script.specs.declared.{finding.Finding.Finding, orders.Input.Input, orders.Order.Order, stage.Stage.Stage}
 use Rattle.dali_script.specs.declared.orders.Order.TheVariants.{Put, Commit, Done, Halt}
 use Rattle.dali_script.specs.declared.records.Record.{Record, TheVariants.Reserve, TheVariants.Enrol, TheVariants.Release}
 use Rattle.dali_script.{specs.declared.trace.Entry.Entry, proofs.Transactions.over, proofs.Transactions.follows_lawful}
@@ -289,11 +289,11 @@ running_acted m outstanding found told i o tied due answer = go i due answer whe
   go input.Lapsed is order =
       ordered_running (machine_told m input.Lapsed) o outstanding found order.allowed (found_told k m input.Lapsed is tied.found) (bus_none input.Lapsed tt is)
 
-pub seat_acted : (place : Place) (outstanding : Option Record) (found : Option Finding) (told : Option Input) (i : Input) (o : Order)
-    → IsSeat place outstanding found told → IsDue (seat_by place outstanding found told).controller i → MayAnswer (machine_in place) i o
-    → IsSeat (acted_in place i o) (outstanding_after (outstanding_told outstanding i) o) found None
-seat_acted (Down k) outstanding found told i o seat due answer = elim answer [ ]
-seat_acted (Up m) outstanding found told i o seat due answer = running_acted m outstanding found told i o seat due answer.answered
+pub seat_acted : (place : Place) (outstanding : Option Record) (found : Option Finding) (told : Option Input) (s : Stage) (i : Input) (o : Order)
+    → IsSeat place outstanding found told s → IsDue (seat_by place outstanding found told).controller i → MayAnswer (machine_in place) i o
+    → IsSeat (acted_in place i o) (outstanding_after (outstanding_told outstanding i) o) found None s
+seat_acted (Down k) outstanding found told s i o seat due answer = elim answer [ ]
+seat_acted (Up m) outstanding found told s i o seat due answer = (running_acted m outstanding found told i o seat.0 due answer.answered, tt)
 
 informed_bus : (w : World) (c : ℕ) (k : Controller) (m : Machine) (i : Input) → IsOfBus i → k.told ≡ Some i → IsRunning k m
     → IsPlacedBy (owns w.bus.owner c) w.trace k (Some m)

@@ -3,6 +3,8 @@ use Rattle.std.specs.Prelude.{if◌then◌else◌}
 use Rattle.std.specs.Option.{option_map}
 use Rattle.dali_script.specs.declared.block.Block.{Block}
 use Rattle.dali_script.specs.declared.trace.Entry.{Entry}
+use Rattle.dali_script.specs.declared.stage.Stage.{Stage}
+use Rattle.dali_script.specs.Stages.{IsReached}
 use Rattle.dali_script.specs.declared.finding.Finding.{Finding}
 use Rattle.dali_script.specs.declared.records.Record.{Record}
 use Rattle.dali_script.specs.declared.records.Record.TheVariants.{Reserve, Enrol, Release}
@@ -107,9 +109,24 @@ seat_by place outstanding finding unread = record {
   machine = machine_in place;
 }
 
-abbrev pub IsSeat : Place → Option Record → Option Finding → Option Input → Type 0
-IsSeat place outstanding finding unread =
+-- how far the transaction is with the frame after which this was heard, if the machine is told that
+abbrev pub IsReachedIn : Option Input → Option Machine → Stage → Type 0
+IsReachedIn None m s = Unit {0}
+IsReachedIn (Some (input.Heard h)) None s = Unit {0}
+IsReachedIn (Some (input.Heard h)) (Some m) s =
+    IsReached s (machine_told m (input.Heard h)).trace
+IsReachedIn (Some input.Start) m s = Unit {0}
+IsReachedIn (Some input.Survey) m s = Unit {0}
+IsReachedIn (Some input.Destroyed) m s = Unit {0}
+IsReachedIn (Some input.Lapsed) m s = Unit {0}
+IsReachedIn (Some input.Committed) m s = Unit {0}
+IsReachedIn (Some input.CommitFailed) m s = Unit {0}
+
+abbrev pub IsSeat :
+    Place → Option Record → Option Finding → Option Input → Stage → Type 0
+IsSeat place outstanding finding unread reached =
     IsTied (seat_by place outstanding finding unread).controller (machine_in place)
+    × IsReachedIn unread (machine_in place) reached
 
 -- the machine that is there has acted on an input, with this order
 abbrev pub acted_in : Place → Input → Order → Place

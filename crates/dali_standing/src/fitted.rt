@@ -1,7 +1,6 @@
 ghost use Rattle.std.specs.Prelude.{◌≡◌, ◌↔◌, ◌<◌, ◌≤◌, ◌++◌, [], length, map, true, IfOk};
 ghost use Rattle.std.specs.Prelude.{IfErr, IsTrue};
 ghost use Rattle.std.specs.Vec.{vec_capacity};
-ghost use Rattle.dali_special.specs.Command.{command_of};
 ghost use Rattle.dali_gear.specs.Gear.{gear_expired, gear_quieted};
 ghost use Rattle.dali_gear.specs.Row.{draws_needed, answers_of, heard_of, stored_short, stored_of};
 ghost use Rattle.dali_events.specs.Used.{earlier_gift};
@@ -63,24 +62,24 @@ impl FittedGear {
         })
     }
 
-    /// Whether the gear that the frame reaches would draw more numbers than are left.
-    pub(crate) fn is_spent(&self, frame: Forward, reach: Reach) -> bool
-        ensures { IsTrue result ↔ (length self.now.left < draws_needed reach (command_of frame) 0 self.now.gear) }
+    /// Whether the gear that the frame of this command reaches would draw more numbers than are left.
+    pub(crate) fn is_spent(&self, command: &Command, reach: Reach) -> bool
+        ensures { IsTrue result ↔ (length self.now.left < draws_needed reach command.now 0 self.now.gear) }
     {
-        self.draws.len() - self.used < self.gear.draws_needed(&Command::read(frame), reach)
+        self.draws.len() - self.used < self.gear.draws_needed(command, reach)
     }
 
-    /// The gear that the frame reaches take it. Answers what is heard if nothing disturbs the backward frames.
-    pub(crate) fn take(&mut self, frame: Forward, reach: Reach) -> Answer
-        requires draws { draws_needed reach (command_of frame) 0 self.old.gear ≤ length self.old.left }
+    /// The gear that the frame of this command reaches take it. Answers what is heard if nothing disturbs the backward
+    /// frames.
+    pub(crate) fn take(&mut self, command: &Command, reach: Reach) -> Answer
+        requires draws { draws_needed reach command.now 0 self.old.gear ≤ length self.old.left }
         requires room { length (self.old.gifts
-            ++ stored_of reach (command_of frame) 0 self.old.gear) ≤ length self.old.gear }
-        ensures state { self.new ≡ taken_at reach (command_of frame) self.old }
-        ensures answer { result ≡ heard_of (answers_of reach (command_of frame) 0 self.old.gear) }
+            ++ stored_of reach command.now 0 self.old.gear) ≤ length self.old.gear }
+        ensures state { self.new ≡ taken_at reach command.now self.old }
+        ensures answer { result ≡ heard_of (answers_of reach command.now 0 self.old.gear) }
     {
-        let command = Command::read(frame);
-        note_gifts(&mut self.gifts, &self.gear, &command, &reach);
-        let heard = self.gear.take(&command, reach, &self.draws[self.used..]);
+        note_gifts(&mut self.gifts, &self.gear, command, &reach);
+        let heard = self.gear.take(command, reach, &self.draws[self.used..]);
         self.used += heard.drawn;
         heard.answer
     }

@@ -11,11 +11,12 @@ ghost use Rattle.dali_script.specs.declared.orders.Input.TheVariants as input;
 ghost use Rattle.dali_events.specs.Happens.{told_sent, told_lapsed, entry, is_arc, outstanding_told, outstanding_after};
 ghost use Rattle.dali_events.specs.Allowed.{IsDue};
 ghost use Rattle.dali_standing.specs.declared.seat.Place.TheVariants.{Up};
-ghost use Rattle.dali_standing.specs.Seats.{due_of, machine_in, acted_in, MayAnswer, LeavesWhole, Waits};
+ghost use Rattle.dali_standing.specs.Seats.{due_of, machine_in, acted_in, MayAnswer, LeavesWhole, Waits, IsReachedIn};
 
 use dali_controller::Machine;
 use dali_frame::{Answer, Forward};
 use dali_script::{Block, Due, Finding, Input, Kept, Order, Record, Stage, Table, Trace};
+use dali_special::Command;
 use std::marker::Model;
 
 /// A controller that is up has a machine, which has its records; of one that is down there are the records alone.
@@ -25,13 +26,15 @@ pub(crate) enum Place {
     Down(Kept),
 }
 
-/// A controller's place on a site, and what the bus has told the controller.
+/// A controller's place on a site, and what the bus has told the controller; if that is what was heard, then also how
+/// far its transaction is.
 #[derive(Drop)]
 pub struct Seat {
     place: Place,
     outstanding: Option<Record>,
     finding: Option<Finding>,
     told: Option<Input>,
+    reached: Stage,
 }
 
 impl Model for Seat {
@@ -41,7 +44,7 @@ impl Model for Seat {
 
     ghost view = { λ s. seat_by s.place s.outstanding s.finding s.told };
 
-    ghost invariant = { λ s. IsSeat s.place s.outstanding s.finding s.told };
+    ghost invariant = { λ s. IsSeat s.place s.outstanding s.finding s.told s.reached };
 }
 
 impl Seat {
@@ -66,6 +69,7 @@ impl Seat {
             outstanding: None,
             finding: None,
             told: Some(Input::Start),
+            reached: Stage::Free,
         }
     }
 
@@ -104,7 +108,7 @@ impl Seat {
         ensures state { self.new ≡ acted_at self.old input result }
         ensures tied { IsTied self.old.controller self.old.machine }
     {
-        let order = stepped(&mut self.place, input);
+        let order = stepped(&mut self.place, input, self.reached);
         note(&mut self.outstanding, input, &order);
         self.told = None;
         order
@@ -121,6 +125,7 @@ impl Seat {
     {
         self.finding = later(self.finding, reached.finding());
         self.told = Some(Input::Heard(heard));
+        self.reached = *reached;
     }
 
     /// Its frame was destroyed.
@@ -173,14 +178,21 @@ impl Seat {
     }
 
     /// How far its transaction is once its frame was sent, and this was heard. It is the transaction that its machine
-    /// goes on with, if it owns the bus, or a new one.
-    pub(crate) fn reached(&self, owned: bool, frame: Forward, heard: Answer) -> Stage
-        requires { IsLawful (running_if owned self.now.machine) frame }
+    /// goes on with, if it owns the bus, or a new one. `command` is the one that the frame is read as.
+    pub(crate) fn reached(
+        &self,
+        owned: bool,
+        frame: Forward,
+        command: &Command,
+        heard: Answer,
+    ) -> Stage
+        requires lawful { IsLawful (running_if owned self.now.machine) frame }
+        requires read { command.now ≡ command_of frame }
         ensures { IsReached result (running_if owned self.now.machine ++ entry frame heard ∷ []) }
     {
         match &self.place {
-            Place::Up(machine) if owned => machine.trace().after(frame, heard),
-            Place::Up(_) | Place::Down(_) => Trace::new().after(frame, heard),
+            Place::Up(machine) if owned => machine.trace().after(frame, *command, heard),
+            Place::Up(_) | Place::Down(_) => Trace::new().after(frame, *command, heard),
         }
     }
 
@@ -262,15 +274,25 @@ impl Seat {
     }
 }
 
-/// A machine acts on an input that it waits for.
-fn stepped(place: &mut Place, input: Input) -> Order
-    requires { Waits (machine_in place.old) input }
+/// A machine acts on an input that it waits for. `reached` is how far its transaction is, if it was told what was
+/// heard.
+fn stepped(place: &mut Place, input: Input, reached: Stage) -> Order
+    requires waits { Waits (machine_in place.old) input }
+    requires reached { IsReachedIn (Some input) (machine_in place.old) reached }
     ensures answer { MayAnswer (machine_in place.old) input result }
     ensures whole { LeavesWhole (machine_in place.old) input result }
     ensures state { place.new ≡ acted_in place.old input result }
 {
     match place {
-        Place::Up(machine) => machine.step(input).unwrap(),
+        Place::Up(machine) => match input {
+            Input::Heard(heard) => machine.hear(heard, reached).unwrap(),
+            Input::Start
+            | Input::Survey
+            | Input::Destroyed
+            | Input::Lapsed
+            | Input::Committed
+            | Input::CommitFailed => machine.step(input).unwrap(),
+        },
         // Only a machine waits.
         Place::Down(_) => unreachable!(),
     }

@@ -174,16 +174,17 @@ impl Standing {
         self.arbiter.pick()
     }
 
-    /// Whether the gear that a frame reaches would draw more numbers than are left.
-    pub fn is_spent(&self, frame: Forward, reach: Reach) -> bool
-        ensures { IsTrue result ↔ (length self.now.left < draws_needed reach (command_of frame) 0 self.now.gear) }
+    /// Whether the gear that the frame of a command reaches would draw more numbers than are left.
+    pub fn is_spent(&self, command: &Command, reach: Reach) -> bool
+        ensures { IsTrue result ↔ (length self.now.left < draws_needed reach command.now 0 self.now.gear) }
     {
-        self.fitted.is_spent(frame, reach)
+        self.fitted.is_spent(command, reach)
     }
 
-    /// The request that is next is sent. Answers what was heard.
-    pub fn send(&mut self, request: Request, trouble: Trouble) -> Answer
+    /// The request that is next is sent. Answers what was heard. `command` is the one that the frame is read as.
+    pub fn send(&mut self, request: Request, command: &Command, trouble: Trouble) -> Answer
         requires next { next self.old.bus ≡ Some request }
+        requires read { command.now ≡ command_of request.frame }
         requires draws { draws_needed Everyone (command_of request.frame) 0 self.old.gear ≤ length self.old.left }
         requires room { length (self.old.gifts
             ++ stored_of Everyone (command_of request.frame) 0 self.old.gear) ≤ length self.old.gear }
@@ -192,35 +193,39 @@ impl Standing {
         ensures moves { Moves self.old (event.Sent request.sender request.frame result) self.new }
         ensures goes_on { FollowsItsMachine self.old request }
     {
-        let plain = self.fitted.take(request.frame, Reach::Everyone);
+        let plain = self.fitted.take(command, Reach::Everyone);
         let heard = trouble.heard(plain);
         let owned = owns(&self.arbiter, request.sender);
         let seat = &mut self.seats[request.sender as usize];
-        let reached = seat.reached(owned, request.frame, heard);
-        hear(seat, request.frame, heard, &reached);
+        let reached = seat.reached(owned, request.frame, command, heard);
+        hear(seat, request.frame, command, heard, &reached);
         let more = seat.goes_on(&reached);
         self.arbiter.sent(more);
         heard
     }
 
     /// The request that is next is destroyed on the bus. The powered gear of the set take its frame all the same.
-    pub fn destroy(&mut self, request: Request, set: GearSet)
+    /// `command` is the one that the frame is read as.
+    pub fn destroy(&mut self, request: Request, command: &Command, set: GearSet)
         requires next { next self.old.bus ≡ Some request }
+        requires read { command.now ≡ command_of request.frame }
         requires draws { draws_needed (Only set) (command_of request.frame) 0 self.old.gear ≤ length self.old.left }
         requires room { length (self.old.gifts
             ++ stored_of (Only set) (command_of request.frame) 0 self.old.gear) ≤ length self.old.gear }
         ensures { Moves self.old (event.Destroyed request.sender request.frame set) self.new }
     {
-        self.fitted.take(request.frame, Reach::Only(set));
+        self.fitted.take(command, Reach::Only(set));
         self.arbiter.destroyed();
         let seat = &mut self.seats[request.sender as usize];
-        lose(seat, request.frame);
+        lose(seat, request.frame, command);
     }
 
     /// The request that is next collides with the one behind it in its list, if another controller has put that
-    /// there. Else it is destroyed, and no gear takes its frame. Answers the other request.
-    pub fn collide(&mut self, request: Request) -> Option<Request>
+    /// there. Else it is destroyed, and no gear takes its frame. Answers the other request. `command` is the one that
+    /// the frame is read as.
+    pub fn collide(&mut self, request: Request, command: &Command) -> Option<Request>
         requires next { next self.old.bus ≡ Some request }
+        requires read { command.now ≡ command_of request.frame }
         requires draws { draws_needed (Only nobody_at_all) (command_of request.frame)
             0 self.old.gear ≤ length self.old.left }
         requires room { length (self.old.gifts
@@ -232,14 +237,14 @@ impl Standing {
     {
         let other = self.arbiter.collided();
         let seat = &mut self.seats[request.sender as usize];
-        lose(seat, request.frame);
+        lose(seat, request.frame, command);
         match &other {
             Some(second) => {
                 let seat = &mut self.seats[second.sender as usize];
-                lose(seat, second.frame);
+                lose(seat, second.frame, &Command::read(second.frame));
             }
             None => {
-                self.fitted.take(request.frame, Reach::Only(GearSet::NONE));
+                self.fitted.take(command, Reach::Only(GearSet::NONE));
             }
         }
         other
@@ -384,38 +389,40 @@ fn request(arbiter: &mut Arbiter, c: u8, order: &Order)
     }
 }
 
-/// Whether a frame is direct arc power, of which a controller is told nothing.
-fn is_arc(frame: Forward) -> bool
-    ensures { result ≡ is_arc (command_of frame) }
+/// Whether a command is direct arc power, of which a controller is told nothing.
+fn is_arc(command: &Command) -> bool
+    ensures { result ≡ is_arc command.now }
 {
-    matches!(Command::read(frame), Command::Arc(_))
+    matches!(*command, Command::Arc(_))
 }
 
 /// Whether a frame is direct arc power.
 pub fn is_arc_power(frame: Forward) -> bool
     ensures { IsTrue result ↔ IsArc frame }
 {
-    is_arc(frame)
+    is_arc(&Command::read(frame))
 }
 
 /// The sender of a frame is told what was heard. `reached` is how far its transaction is, with this frame.
 #[tactic(auto, using(crate::proofs::Settling::arc_tells))]
-fn hear(seat: &mut Seat, frame: Forward, heard: Answer, reached: &Stage)
-    requires { IsHearing seat.old frame heard reached.now }
+fn hear(seat: &mut Seat, frame: Forward, command: &Command, heard: Answer, reached: &Stage)
+    requires read { command.now ≡ command_of frame }
+    requires hearing { IsHearing seat.old frame heard reached.now }
     ensures { seat.new ≡ told_at (told_sent (trace_of seat.old.machine) frame heard) seat.old }
 {
-    if !is_arc(frame) {
+    if !is_arc(command) {
         seat.hear(frame, heard, reached);
     }
 }
 
 /// The sender of a frame is told that it was destroyed.
 #[tactic(auto, using(crate::proofs::Settling::arc_loses))]
-fn lose(seat: &mut Seat, frame: Forward)
-    requires { is_arc (command_of frame) ≡ false → frame_put seat.old.controller.last ≡ Some frame }
+fn lose(seat: &mut Seat, frame: Forward, command: &Command)
+    requires read { command.now ≡ command_of frame }
+    requires put { is_arc (command_of frame) ≡ false → frame_put seat.old.controller.last ≡ Some frame }
     ensures { seat.new ≡ told_at (told_destroyed frame) seat.old }
 {
-    if !is_arc(frame) {
+    if !is_arc(command) {
         seat.lose();
     }
 }

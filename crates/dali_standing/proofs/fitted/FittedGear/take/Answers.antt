@@ -9,11 +9,10 @@ invariant_of-self c =
     let same : length c.take-heard.new.self ≡ length c.self.inside.gear = ap (λ gs. length gs) c.take-heard.ensures.gear ∙ row_length _ _ _ _ _ in
     let enough = rw (← c.self.view_is, length-drop) at c.requires.draws in
     let used = c.self.invariant.0 in
-    let drawn = rw c.read-command.ensures.table at c.take-heard.ensures.drawn in
     (omega arith, search rules, c.self.invariant.2, search rules)
 
 pub returns-clause-state : goal.returns-clause-state
 returns-clause-state c =
-    let taken = rw (take_rest, c.deref.ensures.value, c.read-command.ensures.table) at c.take-heard.ensures.gear in
+    let taken = rw (take_rest, c.deref.ensures.value) at c.take-heard.ensures.gear in
     taken_is c.args.reach _ _ c.self.inside.gear _ c.self.inside.draws.items c.self.inside.used c.take-heard.result.drawn c.self.inside.gifts.items _
     c.self.view_is (search rules) taken (search rules)

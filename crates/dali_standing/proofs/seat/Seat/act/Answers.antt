@@ -7,5 +7,5 @@ pub invariant_of-self : goal.invariant_of-self
 invariant_of-self c =
     let s = c.self.inside in
     rw (c.stepped-order.ensures.state, c.note.ensures)
-    (seat_acted s.place s.outstanding s.finding s.told c.args.input c.stepped-order.result c.self.invariant
+    (seat_acted s.place s.outstanding s.finding s.told s.reached c.args.input c.stepped-order.result c.self.invariant
     (subst (λ (p : Seat). IsDue p.controller c.args.input) (sym c.self.view_is) c.requires.due) c.stepped-order.ensures.answer)

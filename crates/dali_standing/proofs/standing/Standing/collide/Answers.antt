@@ -8,8 +8,8 @@ index_mut-seat-requires c =
     let len : c.self.inside.seats.len ≡ length c.self.inside.seats.items = search rules in
     subst (λ n. c.args.request.sender < n) (sym len) (sender_there _ _ c.args.request c.self.view_is c.self.invariant c.requires.next)
 
-pub lose-requires : goal.lose-requires
-lose-requires c = sender_loses _ _ c.args.request _ c.self.view_is c.self.invariant c.requires.next c.index_mut-seat.ensures.value
+pub lose-requires-clause-put : goal.lose-requires-clause-put
+lose-requires-clause-put c = sender_loses _ _ c.args.request _ c.self.view_is c.self.invariant c.requires.next c.index_mut-seat.ensures.value
 
 pub index_mut-seat-requires-in-Some : goal.index_mut-seat-requires-in-Some
 index_mut-seat-requires-in-Some c =
@@ -17,8 +17,8 @@ index_mut-seat-requires-in-Some c =
     let both : collision c.self.inside.arbiter.lists ≡ Some c.in-Some.second = sym c.collided-other.ensures.other ∙ c.in-Some.is in
     subst (λ n. c.in-Some.second.sender < n) (sym len) (rival_there _ _ c.args.request c.in-Some.second c.self.view_is c.self.invariant c.requires.next both)
 
-pub lose-requires-in-Some : goal.lose-requires-in-Some
-lose-requires-in-Some c =
+pub lose-requires-in-Some-clause-put : goal.lose-requires-in-Some-clause-put
+lose-requires-in-Some-clause-put c =
     let both : collision c.self.inside.arbiter.lists ≡ Some c.in-Some.second = sym c.collided-other.ensures.other ∙ c.in-Some.is in
     rival_loses _ _ c.args.request c.in-Some.second _ c.lose.new.seat _ c.self.view_is c.self.invariant c.requires.next both
     c.index_mut-seat.ensures.value c.lose.ensures c.index_mut-seat-in-Some.ensures.value
@@ -33,7 +33,7 @@ pub invariant_of-self-in-None : goal.invariant_of-self-in-None
 invariant_of-self-in-None c =
     let none : collision c.self.inside.arbiter.lists ≡ None = sym c.collided-other.ensures.other ∙ c.in-None.is in
     (alone_done _ _ c.args.request _ _ _ _ c.self.view_is c.self.invariant c.requires.next c.requires.draws none
-    c.index_mut-seat.ensures.value c.take.ensures.state c.lose.ensures c.collided-other.ensures.bus).settled
+    c.index_mut-seat.ensures.value (rw c.requires.read at c.take.ensures.state) c.lose.ensures c.collided-other.ensures.bus).settled
 
 pub returns-in-Some-clause-moves : goal.returns-in-Some-clause-moves
 returns-in-Some-clause-moves c =
@@ -47,4 +47,4 @@ returns-in-None-clause-moves c =
     let none : collision c.self.inside.arbiter.lists ≡ None = sym c.collided-other.ensures.other ∙ c.in-None.is in
     rw c.in-None.is
     (alone_done _ _ c.args.request _ _ _ _ c.self.view_is c.self.invariant c.requires.next c.requires.draws none
-    c.index_mut-seat.ensures.value c.take.ensures.state c.lose.ensures c.collided-other.ensures.bus).moves
+    c.index_mut-seat.ensures.value (rw c.requires.read at c.take.ensures.state) c.lose.ensures c.collided-other.ensures.bus).moves
