@@ -2,6 +2,7 @@ ghost use Rattle.std.specs.Prelude.{◌≡◌, ◌+◌, ◌<◌, ◌≤◌, leng
 ghost use Rattle.std.specs.Prelude.{IfErr, IfSome, IsTrue, ◌↔◌, ◌++◌, ◌∷◌, [], vec_len, MatchOption, slice_index_or};
 ghost use Rattle.std.specs.Prelude.{List, slice_set};
 ghost use Rattle.std.specs.Vec.{vec_capacity};
+ghost use Rattle.dali_special.specs.Command.{command_of};
 ghost use Rattle.dali_events.specs.declared.event.Event.TheVariants as event;
 ghost use Rattle.dali_events.specs.Foreign.{is_foreign};
 ghost use Rattle.dali_events.specs.World.{gear_at, controller_at};
@@ -29,6 +30,7 @@ use dali_events::{Event, Outside, Plan, Trouble, is_foreign};
 use dali_frame::{Forward, Short};
 use dali_gear::{Gear, GearSet};
 use dali_script::{Due, Input, Kept, Record, Table};
+use dali_special::Command;
 use dali_standing::{Refusal, Report, Standing, is_arc_power};
 use std::alloc::Global;
 use std::marker::Model;
@@ -191,14 +193,17 @@ impl SiteState {
         let Some(request) = self.standing.next_request() else {
             return Ok(Report::Idle);
         };
-        if self.standing.is_spent(request.frame, trouble.reach()) {
+        let command = Command::read(request.frame);
+        if self.standing.is_spent(&command, trouble.reach()) {
             return Err(Refusal::DrawsSpent);
         }
         self.check_room()?;
         match trouble {
-            Trouble::Destroyed(set) => Ok(self.destroy(request, set)),
-            Trouble::Collision => Ok(self.collide(request)),
-            Trouble::None | Trouble::AnswerLost | Trouble::Noise => Ok(self.send(request, trouble)),
+            Trouble::Destroyed(set) => Ok(self.destroy(request, &command, set)),
+            Trouble::Collision => Ok(self.collide(request, &command)),
+            Trouble::None | Trouble::AnswerLost | Trouble::Noise => Ok(self.send(
+                request, &command, trouble,
+            )),
         }
     }
 
@@ -428,9 +433,11 @@ impl SiteState {
         self.standing.is_crowded()
     }
 
-    /// The request that is next is sent.
-    fn send(&mut self, request: Request, trouble: Trouble) -> Report
+    /// The request that is next is sent. Here, in `destroy` and in `collide`, `command` is the one that its frame is
+    /// read as.
+    fn send(&mut self, request: Request, command: &Command, trouble: Trouble) -> Report
         requires next { next_request self.old ≡ Some request }
+        requires read { command.now ≡ command_of request.frame }
         requires may { IsUp (world self.old) request.sender × MaySend (world self.old) request.sender request.frame }
         requires draws { IsSpent self.old request trouble → ⊥ }
         requires room { HasRoom self.old }
@@ -439,14 +446,15 @@ impl SiteState {
     {
         let c = request.sender;
         let frame = request.frame;
-        let heard = self.standing.send(request, trouble);
+        let heard = self.standing.send(request, command, trouble);
         append(&mut self.log, &Event::Sent(c, frame, heard));
         Report::Sent(c, frame, heard)
     }
 
     /// The request that is next is destroyed.
-    fn destroy(&mut self, request: Request, set: GearSet) -> Report
+    fn destroy(&mut self, request: Request, command: &Command, set: GearSet) -> Report
         requires next { next_request self.old ≡ Some request }
+        requires read { command.now ≡ command_of request.frame }
         requires may { IsUp (world self.old) request.sender × MaySend (world self.old) request.sender request.frame }
         requires draws { IsSpent self.old request (trouble.Destroyed set) → ⊥ }
         requires room { HasRoom self.old }
@@ -454,14 +462,15 @@ impl SiteState {
     {
         let c = request.sender;
         let frame = request.frame;
-        self.standing.destroy(request, set);
+        self.standing.destroy(request, command, set);
         append(&mut self.log, &Event::Destroyed(c, frame, set));
         Report::Destroyed(c, frame)
     }
 
     /// The request that is next collides, if another one is sent with it; else it is destroyed.
-    fn collide(&mut self, request: Request) -> Report
+    fn collide(&mut self, request: Request, command: &Command) -> Report
         requires next { next_request self.old ≡ Some request }
+        requires read { command.now ≡ command_of request.frame }
         requires may { IsUp (world self.old) request.sender × MaySend (world self.old) request.sender request.frame }
         requires draws { IsSpent self.old request trouble.Collision → ⊥ }
         requires room { HasRoom self.old }
@@ -469,7 +478,7 @@ impl SiteState {
     {
         let c = request.sender;
         let frame = request.frame;
-        match self.standing.collide(request) {
+        match self.standing.collide(request, command) {
             Some(other) => {
                 let d = other.sender;
                 let rival = other.frame;

@@ -11,6 +11,7 @@ collide-requires-clause-may c = request_may _ _ _ _ _ c.in-Some.request c.self.v
 pub send-requires : goal.send-requires
 send-requires c = record {
   next = search rules;
+  read = c.read-command.ensures.table;
   may = request_may _ _ _ _ _ c.in-Some.request c.self.view_is c.self.invariant (rw c.in-Some.is at c.next_request.ensures.may);
   draws = search rules;
   room = c.in_ok-check_room.ensures.ok;
