@@ -4,7 +4,8 @@ ghost use Rattle.std.specs.Prelude.{◌≡◌, ◌+◌, ◌≤◌, [], ◌∷◌
 ghost use Rattle.dali_grammar.specs.Lines.{lines_of, numbered_after};
 ghost use Rattle.dali_grammar.specs.ReplayFault.{fault_of};
 ghost use Rattle.dali_grammar.specs.declared.fault.ReplayFault.TheVariants.{BadLine};
-ghost use Rattle.dali_grammar.specs.Setting.{PlansNot, planned, used_of, then_used};
+ghost use Rattle.dali_grammar.specs.Heading.{draws_of, shown};
+ghost use Rattle.dali_grammar.specs.Setting.{PlansNot, planned, next_as, then_draws, used_of, then_used};
 
 use crate::fault::Stop;
 use crate::heading::{Heading, draws_of, heading_of, is_used_line, used_of};
@@ -33,6 +34,23 @@ pub fn plan(alloc: Global, script: &mut Script) -> Result<(bool, Plan), Stop>
         Ok(heading) => heading,
         Err(wrong) => return Err(Stop::Line(script.number(), Place::First, wrong)),
     };
+    with_draws(alloc, &heading, script)
+}
+
+/// The plan of what the first line sets up, by the second one, and by those of used gear that follow.
+fn with_draws(alloc: Global, heading: &Heading, script: &mut Script) -> Result<(bool, Plan), Stop>
+    requires { script.old.read + length script.old.rest.now ≤ 1048576 }
+    ensures planned { IfOk result
+        (λ setting. then_draws (shown heading.now) (next_as draws_of
+        (script.old.read + length (lines_of script.old.rest.now) + 1)
+        (numbered_after script.old.read script.old.rest.now))
+        ≡ Ok (setting, numbered_after script.new.read script.new.rest.now)) }
+    ensures refused { IfErr result
+        (λ stop. PlansNot (then_draws (shown heading.now) (next_as draws_of
+        (script.old.read + length (lines_of script.old.rest.now) + 1)
+        (numbered_after script.old.read script.old.rest.now))) (fault_of stop)) }
+    ensures range { script.new.read + length script.new.rest.now ≤ 1048576 }
+{
     let Some(line) = script.next() else {
         return Err(missing(script.number(), Place::Second));
     };
@@ -41,7 +59,7 @@ pub fn plan(alloc: Global, script: &mut Script) -> Result<(bool, Plan), Stop>
         Err(wrong) => return Err(Stop::Line(script.number(), Place::Second, wrong)),
     };
     match Plan::new(alloc, heading.gear, &heading.blocks, &draws) {
-        Ok(plan) => with_used(alloc, &heading, &draws, plan, script),
+        Ok(plan) => with_used(alloc, heading, &draws, plan, script),
         Err(PlanError::NoMemory) => Err(Stop::Memory),
         Err(error) => Err(Stop::Plan(error, Clue::of(error, &heading.blocks, &draws))),
     }
