@@ -1,6 +1,6 @@
 //! Decimal numbers, blocks of short addresses, and sets of gear.
 
-ghost use Rattle.std.specs.Prelude.{◌≡◌};
+ghost use Rattle.std.specs.Prelude.{◌≡◌, ◌≤◌, IfSome};
 ghost use Rattle.dali_grammar.specs.Numbers.{number_in, number_to, starts_plain, block_of, set_of};
 
 use crate::lines::cut;
@@ -70,7 +70,8 @@ pub fn block_of(word: &[u8]) -> Option<(u8, u8)>
 
 /// A number of a gear, at most 127.
 fn gear_number(word: &[u8]) -> Option<u32>
-    ensures { result ≡ number_to 127 word.now }
+    ensures number { result ≡ number_to 127 word.now }
+    ensures within { IfSome result (λ number. number ≤ 127) }
 {
     let number = number_in(word)?;
     if number > 127 {
