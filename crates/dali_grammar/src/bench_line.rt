@@ -6,7 +6,7 @@ ghost use Rattle.dali_grammar.specs.Lines.{words_of, parts_after};
 ghost use Rattle.dali_grammar.specs.BenchLine.{bench_line, bench_line_of};
 
 use crate::lines::cut;
-use crate::words::{Wanted, Wrong, ended, frame, number};
+use crate::words::{Wanted, Wrong, ended, frame, is_name, number};
 use dali_frame::Forward;
 
 /// A line of a bench, after the two of its plan.
@@ -30,17 +30,17 @@ fn bench_line(name: &[u8], rest: Option<&[u8]>) -> Result<BenchLine, Wrong>
     ensures { result_ok result
         ≡ bench_line name.now (parts_after 32 (option_map (λ rest. rest.now) rest.entry)) }
 {
-    if name == b"frame".as_slice() {
+    if is_name(name, b"frame") {
         Ok(BenchLine::Frame(frame(rest, 2)?))
-    } else if name == b"off".as_slice() {
+    } else if is_name(name, b"off") {
         Ok(BenchLine::Off(number(rest)?))
-    } else if name == b"on".as_slice() {
+    } else if is_name(name, b"on") {
         Ok(BenchLine::On(number(rest)?))
-    } else if name == b"expire".as_slice() {
+    } else if is_name(name, b"expire") {
         Ok(BenchLine::Expire(number(rest)?))
-    } else if name == b"quiet".as_slice() {
+    } else if is_name(name, b"quiet") {
         ended(BenchLine::Quiet, rest, 2)
-    } else if name == b"show".as_slice() {
+    } else if is_name(name, b"show") {
         ended(BenchLine::Show, rest, 2)
     } else {
         Err(Wrong::at(1, Wanted::Name))

@@ -9,7 +9,7 @@ ghost use Rattle.dali_grammar.specs.Heading.{is_used_line, used_line_of};
 
 use crate::lines::cut;
 use crate::numbers::{block_of, number_in};
-use crate::words::{Wanted, Wrong, next, number, short_and_random};
+use crate::words::{Wanted, Wrong, is_name, next, number, short_and_random};
 use dali_events::{DRAW_LIMIT, Used};
 use dali_frame::Random24;
 use std::alloc::{AllocError, Global};
@@ -92,9 +92,9 @@ pub fn heading_of(alloc: Global, line: &[u8]) -> Result<Result<Heading, Wrong>, 
     ensures { IfOk result (λ heading. option_map shown (result_ok heading) ≡ heading_of (words_of line.now)) }
 {
     let (name, rest) = cut(line, b' ');
-    if name == b"bench".as_slice() {
+    if is_name(name, b"bench") {
         bench_of(alloc, rest)
-    } else if name == b"site".as_slice() {
+    } else if is_name(name, b"site") {
         site_of(alloc, rest)
     } else {
         Ok(Err(Wrong::at(1, Wanted::Name)))
@@ -108,7 +108,7 @@ pub fn draws_of(alloc: Global, line: &[u8]) -> Result<Result<Vec<u32>, Wrong>, A
     ensures few { IfOk result (λ draws. IfOk draws (λ draws. length draws.items ≤ 1024)) }
 {
     let (name, rest) = cut(line, b' ');
-    if name != b"draws".as_slice() {
+    if !is_name(name, b"draws") {
         return Ok(Err(Wrong::at(1, Wanted::Name)));
     }
     drawn_of(alloc, rest)
@@ -141,7 +141,7 @@ pub fn is_used_line(line: &[u8]) -> bool
     ensures { result ≡ is_used_line (words_of line.now) }
 {
     let (name, _) = cut(line, b' ');
-    name == b"used".as_slice()
+    is_name(name, b"used")
 }
 
 /// The gear in the line `used G A RRRRRR`, of which the first word is known, or its first wrong word.

@@ -3,10 +3,11 @@
 ghost use Rattle.std.specs.Prelude.{◌≡◌, option_map};
 ghost use Rattle.std.specs.Result.{result_ok};
 ghost use Rattle.dali_grammar.specs.Lines.{words_of, parts_after};
+ghost use Rattle.dali_grammar.specs.GearLine.{gear_line};
 ghost use Rattle.dali_grammar.specs.SiteLine.{controller_line, site_line, site_line_of};
 
 use crate::lines::cut;
-use crate::words::{Wanted, Wrong, ended, frame, number, number_and_frame, trouble};
+use crate::words::{Wanted, Wrong, ended, frame, is_name, number, number_and_frame, trouble};
 use dali_events::{Outside, Trouble};
 use dali_frame::Forward;
 
@@ -44,20 +45,42 @@ fn controller_line(name: &[u8], rest: Option<&[u8]>) -> Result<SiteLine, Wrong>
     ensures { result_ok result
         ≡ controller_line name.now (parts_after 32 (option_map (λ rest. rest.now) rest.entry)) }
 {
-    if name == b"go".as_slice() {
+    if is_name(name, b"go") {
         Ok(SiteLine::Go(number(rest)?))
-    } else if name == b"survey".as_slice() {
+    } else if is_name(name, b"survey") {
         Ok(SiteLine::Survey(number(rest)?))
-    } else if name == b"store".as_slice() {
+    } else if is_name(name, b"store") {
         Ok(SiteLine::Store(number(rest)?))
-    } else if name == b"fail".as_slice() {
+    } else if is_name(name, b"fail") {
         Ok(SiteLine::Fail(number(rest)?))
-    } else if name == b"down".as_slice() {
+    } else if is_name(name, b"down") {
         Ok(SiteLine::Down(number(rest)?))
-    } else if name == b"up".as_slice() {
+    } else if is_name(name, b"up") {
         Ok(SiteLine::Up(number(rest)?))
     } else {
         Err(Wrong::at(1, Wanted::Name))
+    }
+}
+
+/// A line that benches have too, or one of a controller alone.
+fn gear_line(name: &[u8], rest: Option<&[u8]>) -> Result<SiteLine, Wrong>
+    ensures { result_ok result ≡ gear_line (λ on g. SiteLine.Outside (Outside.Power g on))
+        (λ g. SiteLine.Outside (Outside.Expire g)) (SiteLine.Outside Outside.Quiet) SiteLine.Show name.now
+        (parts_after 32 (option_map (λ rest. rest.now) rest.entry))
+        (controller_line name.now (parts_after 32 (option_map (λ rest. rest.now) rest.entry))) }
+{
+    if is_name(name, b"off") {
+        Ok(SiteLine::Outside(Outside::Power(number(rest)?, false)))
+    } else if is_name(name, b"on") {
+        Ok(SiteLine::Outside(Outside::Power(number(rest)?, true)))
+    } else if is_name(name, b"expire") {
+        Ok(SiteLine::Outside(Outside::Expire(number(rest)?)))
+    } else if is_name(name, b"quiet") {
+        ended(SiteLine::Outside(Outside::Quiet), rest, 2)
+    } else if is_name(name, b"show") {
+        ended(SiteLine::Show, rest, 2)
+    } else {
+        controller_line(name, rest)
     }
 }
 
@@ -65,29 +88,19 @@ fn site_line(name: &[u8], rest: Option<&[u8]>) -> Result<SiteLine, Wrong>
     ensures { result_ok result
         ≡ site_line name.now (parts_after 32 (option_map (λ rest. rest.now) rest.entry)) }
 {
-    if name == b"pump".as_slice() {
+    if is_name(name, b"pump") {
         Ok(SiteLine::Pump(trouble(rest)?))
-    } else if name == b"lapse".as_slice() {
+    } else if is_name(name, b"lapse") {
         ended(SiteLine::Lapse, rest, 2)
-    } else if name == b"arc".as_slice() {
+    } else if is_name(name, b"arc") {
         let (c, frame) = number_and_frame(rest)?;
         Ok(SiteLine::Arc(c, frame))
-    } else if name == b"foreign".as_slice() {
+    } else if is_name(name, b"foreign") {
         Ok(SiteLine::Outside(Outside::Foreign(frame(rest, 2)?)))
-    } else if name == b"run".as_slice() {
+    } else if is_name(name, b"run") {
         Ok(SiteLine::Run(number(rest)?))
-    } else if name == b"off".as_slice() {
-        Ok(SiteLine::Outside(Outside::Power(number(rest)?, false)))
-    } else if name == b"on".as_slice() {
-        Ok(SiteLine::Outside(Outside::Power(number(rest)?, true)))
-    } else if name == b"expire".as_slice() {
-        Ok(SiteLine::Outside(Outside::Expire(number(rest)?)))
-    } else if name == b"quiet".as_slice() {
-        ended(SiteLine::Outside(Outside::Quiet), rest, 2)
-    } else if name == b"show".as_slice() {
-        ended(SiteLine::Show, rest, 2)
     } else {
-        controller_line(name, rest)
+        gear_line(name, rest)
     }
 }
 

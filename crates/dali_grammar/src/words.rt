@@ -1,6 +1,6 @@
 //! The words of a line, taken from left to right: what each is to be, and the first that is wrong.
 
-ghost use Rattle.std.specs.Prelude.{◌≡◌, ◌<◌, ◌+◌, [], ◌∷◌, IfOk, IfErr, option_map};
+ghost use Rattle.std.specs.Prelude.{◌≡◌, ◌<◌, ◌+◌, [], ◌∷◌, IfOk, IfErr, bytes_eq, option_map};
 ghost use Rattle.std.specs.Result.{result_ok};
 ghost use Rattle.dali_frame.specs.Hex.{random_of};
 ghost use Rattle.dali_grammar.specs.Lines.{parts_after, none_of, one_of, two_of};
@@ -56,6 +56,14 @@ impl Wrong {
     {
         Wrong::at(words.saturating_add(more).saturating_add(1), wanted)
     }
+}
+
+/// Whether a word is this name.
+#[inline(always)]
+pub fn is_name(word: &[u8], name: &[u8]) -> bool
+    ensures { result ≡ bytes_eq word.now name.now }
+{
+    word == name
 }
 
 /// The next word, and what follows it.
