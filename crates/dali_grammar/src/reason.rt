@@ -39,21 +39,18 @@ pub struct Reason {
 
 impl fmt::Display for Reason {
     fn fmt<W: fmt::Write>(&self, f: &mut fmt::Formatter<W>) -> fmt::Result {
-        if let Some(word) = self.word {
-            let excerpt = word.excerpt;
+        if let Some(word) = &self.word {
             if self.mistake.is_of_name() {
-                write!(f, "`{excerpt}` ")?;
+                write!(f, "`{}` ", word.excerpt)?;
             } else {
                 write!(f, "{word}: ")?;
             }
         }
         f.write_str(self.mistake.text())?;
-        if let Some(beside) = self.beside {
-            let line = beside.line;
-            write!(f, "; see line {line}, {beside}")?;
+        if let Some(beside) = &self.beside {
+            write!(f, "; see line {}, {beside}", beside.line)?;
         }
-        let hint = self.hint;
-        write!(f, "{hint}")
+        fmt::Display::fmt(&self.hint, f)
     }
 }
 
@@ -156,16 +153,14 @@ impl Failed for Explained {
 
 impl fmt::Display for Explained {
     fn fmt<W: fmt::Write>(&self, f: &mut fmt::Formatter<W>) -> fmt::Result {
-        let fault = self.fault;
-        write!(f, "{fault}")?;
-        let Some(reason) = self.reason else {
+        fmt::Display::fmt(&self.fault, f)?;
+        let Some(reason) = &self.reason else {
             return Ok(());
         };
         f.write_str(": ")?;
-        if let (ReplayFault::BadPlan(_), Some(word)) = (fault, reason.word) {
-            let line = word.line;
-            write!(f, "line {line}, ")?;
+        if let (ReplayFault::BadPlan(_), Some(word)) = (&self.fault, &reason.word) {
+            write!(f, "line {}, ", word.line)?;
         }
-        write!(f, "{reason}")
+        fmt::Display::fmt(reason, f)
     }
 }

@@ -188,21 +188,20 @@ impl fmt::Display for LineForm {
     }
 }
 
-/// Writes the names of these forms, but of two words.
+/// Writes the names of these forms, but of two words, behind a colon.
 fn write_names<W: fmt::Write>(f: &mut fmt::Formatter<W>, forms: &[LineForm]) -> fmt::Result {
     let count = forms.iter().filter(|form| form.is_one_word()).count();
     let mut written = 0usize;
     for form in forms {
         if form.is_one_word() {
             let mark = if written == 0 {
-                "those are "
+                ": those are "
             } else if written.saturating_add(1) == count {
                 " and "
             } else {
                 ", "
             };
-            let name = form.0;
-            write!(f, "{mark}`{name}`")?;
+            write!(f, "{mark}`{}`", form.0)?;
             written = written.saturating_add(1);
         }
     }
@@ -219,10 +218,7 @@ impl fmt::Display for Hint {
                 f.write_str(": those are `bench N` and `site N BLOCK ..`")
             }
             Hint::Names(Place::Second) => f.write_str(": that is `draws RRRRRR ..`"),
-            Hint::Names(place) => {
-                f.write_str(": ")?;
-                write_names(f, place.forms())
-            }
+            Hint::Names(place) => write_names(f, place.forms()),
         }
     }
 }

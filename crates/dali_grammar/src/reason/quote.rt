@@ -77,12 +77,10 @@ pub(super) fn quoted_at(input: &[u8], spot: Spot) -> Option<Quote>
 
 impl fmt::Display for Quote {
     fn fmt<W: fmt::Write>(&self, f: &mut fmt::Formatter<W>) -> fmt::Result {
-        let word = self.word;
-        write!(f, "word {word}")?;
+        write!(f, "word {}", self.word)?;
         if self.excerpt.is_empty() {
             return Ok(());
         }
-        let excerpt = self.excerpt;
-        write!(f, ": `{excerpt}`")
+        write!(f, ": `{}`", self.excerpt)
     }
 }
