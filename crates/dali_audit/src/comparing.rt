@@ -11,7 +11,7 @@ use dali_gear::{Reach, Row};
 use dali_special::Command;
 
 /// What happens on a bench.
-#[derive(Clone, Copy, PartialEq)]
+#[derive(Clone, Copy)]
 pub enum Move {
     /// A gear has power again.
     On(u8),
@@ -27,7 +27,7 @@ pub enum Move {
 }
 
 /// A move, and its time in the capture in µs.
-#[derive(Clone, Copy, PartialEq)]
+#[derive(Clone, Copy)]
 pub struct Step {
     pub at: u64,
     pub what: Move,

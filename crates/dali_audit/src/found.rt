@@ -34,7 +34,7 @@ impl Found {
     pub fn contains(&self, number: Random24) -> bool
         ensures { result ≡ is_among self.now number }
     {
-        self.numbers.iter().any(|own| *own == number)
+        self.numbers.contains(&number)
     }
 
     pub(crate) fn note(&mut self, number: Option<Random24>) -> Result<(), AllocError>

@@ -1,7 +1,7 @@
 //! A bench of a capture as a script, which `dali_sim replay` plays.
 #![tactic(auto, using(std::proofs::lemmas::List::append_assoc))]
 
-ghost use Rattle.std.specs.Prelude.{◌≡◌, ◌++◌, OnOk, IfOk, string_bytes};
+ghost use Rattle.std.specs.Prelude.{◌≡◌, ◌++◌, OnOk, IfOk, codes, decimal, string_bytes};
 ghost use Rattle.dali_audit.specs.Script.{gear_head, bench_head, script_text};
 ghost use Rattle.dali_audit.specs.Script.{step_text, steps_text, used_text, all_used_text, draws_text};
 
@@ -14,13 +14,21 @@ use std::alloc::{AllocError, Global};
 /// How many bytes a script has at the most.
 pub const SCRIPT_LIMIT: usize = 1_048_576;
 
+/// What happens to a gear alone.
+fn push_turn(text: &mut String, word: &str, gear: u8) -> Result<(), AllocError>
+    ensures { OnOk result (string_bytes text.new
+        ≡ string_bytes text.old ++ (word.now ++ (codes " " ++ (decimal gear ++ codes "\n")))) }
+{
+    write!(text, "{word} {gear}\n")
+}
+
 fn push_step(text: &mut String, step: &Step) -> Result<(), AllocError>
     ensures { OnOk result (string_bytes text.new ≡ string_bytes text.old ++ step_text step.now) }
 {
     match step.what {
-        Move::On(gear) => write!(text, "on {gear}\n"),
-        Move::Off(gear) => write!(text, "off {gear}\n"),
-        Move::Expire(gear) => write!(text, "expire {gear}\n"),
+        Move::On(gear) => push_turn(text, "on", gear),
+        Move::Off(gear) => push_turn(text, "off", gear),
+        Move::Expire(gear) => push_turn(text, "expire", gear),
         Move::Quiet => text.push_str("quiet\n"),
         Move::Frame(frame, _) => write!(text, "frame {frame}\n"),
     }
@@ -39,12 +47,8 @@ fn push_steps(text: &mut String, steps: &[Step]) -> Result<(), AllocError>
 fn push_used(text: &mut String, number: usize, place: &Place) -> Result<(), AllocError>
     ensures { OnOk result (string_bytes text.new ≡ string_bytes text.old ++ used_text number place.now) }
 {
-    let random = place.random;
     match place.short {
-        Some(short) => {
-            let address = short.number();
-            write!(text, "used {number} {address} {random}\n")
-        }
+        Some(short) => write!(text, "used {number} {} {}\n", short.number(), place.random),
         None => Ok(()),
     }
 }
@@ -64,8 +68,7 @@ fn push_draws(text: &mut String, draws: &[Random24]) -> Result<(), AllocError>
     ensures { OnOk result (string_bytes text.new ≡ string_bytes text.old ++ draws_text draws.now) }
 {
     for draw in draws {
-        let draw = *draw;
-        write!(text, " {draw}")?;
+        write!(text, " {}", *draw)?;
     }
     Ok(())
 }
@@ -74,8 +77,7 @@ fn push_draws(text: &mut String, draws: &[Random24]) -> Result<(), AllocError>
 fn push_gear(text: &mut String, places: &[Place], draws: &[Random24]) -> Result<(), AllocError>
     ensures { OnOk result (string_bytes text.new ≡ string_bytes text.old ++ gear_head places.now draws.now) }
 {
-    let count = places.len();
-    write!(text, "bench {count}\ndraws")?;
+    write!(text, "bench {}\ndraws", places.len())?;
     push_draws(text, draws)?;
     text.push_str("\n")?;
     push_all_used(text, places)
