@@ -128,34 +128,40 @@ fn write_line<W: fmt::Write>(line: &&[u8], f: &mut fmt::Formatter<W>) -> fmt::Re
     f.write_str("'")
 }
 
-/// What stands under a short address.
-fn write_place<W: fmt::Write>(
-    address: &u8,
-    place: &Place,
+/// What is so of a short address, and of the gear with a random address, if it is known.
+fn write_gear<W: fmt::Write>(
     f: &mut fmt::Formatter<W>,
+    at: &u8,
+    random: Option<Random24>,
+    text: &str,
 ) -> fmt::Result {
-    match *place {
-        Place::NotAsked | Place::Nobody => write!(f, "{address} - "),
-        Place::There(random) => write!(f, "{address} {random} there"),
-        Place::Missing(random) => write!(f, "{address} {random} missing"),
-        Place::Another(random, heard) => write!(
-            f,
-            "{address} {random} another gear answers: {heard}"
-        ),
-        Place::Several(random) => write!(f, "{address} {random} several gear answer"),
-        Place::Unclear(random) => write!(
-            f,
-            "{address} {random} several gear answer, or the bus is disturbed"
-        ),
-        Place::Unfinished(random) => write!(
-            f,
-            "{address} {random} is reserved, and not in the table; a gear answers"
-        ),
-        Place::Stranger(random) => write!(f, "{address} {random} stranger"),
-        Place::Strangers => write!(f, "{address} - several strangers"),
-        Place::Garbled => write!(f, "{address} - strangers that were not understood"),
-        Place::Noise => write!(f, "{address} - several strangers, or a disturbed bus"),
+    match random {
+        Some(random) => write!(f, "{at} {random} {text}"),
+        None => write!(f, "{at} - {text}"),
     }
+}
+
+/// What stands under a short address.
+fn write_place<W: fmt::Write>(at: &u8, place: &Place, f: &mut fmt::Formatter<W>) -> fmt::Result {
+    let (random, text) = match *place {
+        Place::NotAsked | Place::Nobody => (None, ""),
+        Place::There(random) => (Some(random), "there"),
+        Place::Missing(random) => (Some(random), "missing"),
+        Place::Another(random, heard) => {
+            return write!(f, "{at} {random} another gear answers: {heard}");
+        }
+        Place::Several(random) => (Some(random), "several gear answer"),
+        Place::Unclear(random) => (Some(random), "several gear answer, or the bus is disturbed"),
+        Place::Unfinished(random) => (
+            Some(random),
+            "is reserved, and not in the table; a gear answers",
+        ),
+        Place::Stranger(random) => (Some(random), "stranger"),
+        Place::Strangers => (None, "several strangers"),
+        Place::Garbled => (None, "strangers that were not understood"),
+        Place::Noise => (None, "several strangers, or a disturbed bus"),
+    };
+    write_gear(f, at, random, text)
 }
 
 /// How the mending of a short address has ended.
@@ -164,24 +170,21 @@ fn write_mended<W: fmt::Write>(
     outcome: &Outcome,
     f: &mut fmt::Formatter<W>,
 ) -> fmt::Result {
-    match *outcome {
-        Outcome::Kept(random) => write!(f, "{at} {random} one gear alone answers, and keeps it"),
-        Outcome::Nobody => write!(f, "{at} - no gear answers any more"),
-        Outcome::Another(heard) => write!(
-            f,
-            "{at} {heard} answers alone, but the table has another gear there: replace it"
-        ),
-        Outcome::Missing(random) => write!(
-            f,
-            "{at} {random} is in the table and does not answer, but other gear do"
-        ),
-        Outcome::Twins(random) => write!(
-            f,
-            "{at} {random} several gear have this random address: take all but one from the bus"
-        ),
-        Outcome::Lost => write!(f, "{at} - given up: frames were lost eight times in a row"),
-        Outcome::Spent => write!(f, "{at} - given up: no gear was told apart any more"),
-    }
+    let text = match outcome {
+        Outcome::Kept(_) => "one gear alone answers, and keeps it",
+        Outcome::Nobody => "no gear answers any more",
+        Outcome::Another(_) => "answers alone, but the table has another gear there: replace it",
+        Outcome::Missing(_) => "is in the table and does not answer, but other gear do",
+        Outcome::Twins(_) => "several gear have this random address: take all but one from the bus",
+        Outcome::Lost => "given up: frames were lost eight times in a row",
+        Outcome::Spent => "given up: no gear was told apart any more",
+    };
+    let random = match *outcome {
+        Outcome::Kept(it) | Outcome::Another(it) | Outcome::Missing(it) | Outcome::Twins(it) =>
+            Some(it),
+        Outcome::Nobody | Outcome::Lost | Outcome::Spent => None,
+    };
+    write_gear(f, at, random, text)
 }
 
 /// Who has lost a short address.
@@ -192,17 +195,15 @@ fn write_lost<W: fmt::Write>(
     f: &mut fmt::Formatter<W>,
 ) -> fmt::Result {
     if *random == Random24::MASK {
-        return write!(
-            f,
-            "{at} - gear without random address lost it, and draw one"
-        );
+        let text = "gear without random address lost it, and draw one";
+        return write_gear(f, at, None, text);
     }
     match now {
         Some(short) => {
             let number = short.number();
             write!(f, "{at} {random} lost it, and has {number} now")
         }
-        None => write!(f, "{at} {random} lost it, and has none yet"),
+        None => write_gear(f, at, Some(*random), "lost it, and has none yet"),
     }
 }
 
