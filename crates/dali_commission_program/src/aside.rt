@@ -6,7 +6,7 @@ ghost use Rattle.dali_commission_program.specs.Clearing.{asides, AddsFilled, Are
 
 use crate::failure::{Failure, add};
 use crate::finishing::{read, say_kept};
-use crate::said::{Voice, say_refused};
+use crate::said::{Voice, or_say, say_refused};
 use crate::settling::free_number;
 use crate::stores::{Holder, Stores};
 use dali_replacement::kept_of;
@@ -31,10 +31,9 @@ fn rename_all<S: Voice + AllocGlobal, F: Stores>(
         return Ok(());
     };
     let alloc = system.alloc();
-    match stores.rename(alloc, name, &kept_of(alloc, name, number)?) {
-        Ok(()) => rename_all(system, stores, more, number),
-        Err(failure) => Err(say_refused(system, name, failure)),
-    }
+    let kept = kept_of(alloc, name, number)?;
+    or_say(system, name, stores.rename(alloc, name, &kept))?;
+    rename_all(system, stores, more, number)
 }
 
 /// Who puts files aside.

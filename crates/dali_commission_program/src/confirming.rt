@@ -93,13 +93,14 @@ impl<S: Voice> Asking<'_, S> {
         if self.manner != Manner::Quiet {
             say(self.system, &Said::AsksTables);
         }
-        let vacant = Vacant::ask(driver, self.wanted.short, come).map_err(|fault| self.fault(
-            fault, driver,
-        ))?;
-        let standing = Standing::ask(driver, table).map_err(|fault| failure_of(
-            fault,
-            driver.lines(),
-        ))?;
+        let vacant = match Vacant::ask(driver, self.wanted.short, come) {
+            Ok(vacant) => vacant,
+            Err(fault) => return Err(self.fault(fault, driver)),
+        };
+        let standing = match Standing::ask(driver, table) {
+            Ok(standing) => standing,
+            Err(fault) => return Err(failure_of(fault, driver.lines())),
+        };
         if standing.are_there(&self.wanted.missing) {
             Ok(vacant.beside(standing, &self.wanted.missing))
         } else if driver.has_heard() {
@@ -138,7 +139,10 @@ impl<S: Voice> Asking<'_, S> {
         ensures short { IfOk result (λ seen. confirmed_at seen ≡ others_at others) }
         ensures table { IfOk result (λ seen. confirmed_table seen ≡ others_table others) }
     {
-        Confirmed::ask(driver, others, news).map_err(|fault| self.fault(fault, driver))
+        match Confirmed::ask(driver, others, news) {
+            Ok(confirmed) => Ok(confirmed),
+            Err(fault) => Err(self.fault(fault, driver)),
+        }
     }
 
     /// Says which gear has the short address, and how many are in each new table.

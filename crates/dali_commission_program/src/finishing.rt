@@ -16,7 +16,7 @@ use crate::confirming::Asking;
 use crate::failure::{Failure, add};
 use crate::records::{Reading, lend_copy};
 use crate::report::Report;
-use crate::said::{Said, Voice, say, say_refused};
+use crate::said::{Said, Voice, or_say, say};
 use crate::settling::{found, settle};
 use crate::stores::Stores;
 use dali_commissioning::DriverLink;
@@ -34,9 +34,11 @@ pub(crate) fn read<S: Voice + AllocGlobal, F: Stores>(
 ) -> Result<Kept, Failure>
     ensures { IfOk result (λ kept. F.saw stores.now (Read name.now kept)) }
 {
-    lend_copy(system.alloc(), stores, name, Reading).map_err(|failure| say_refused(
-        system, name, failure,
-    ))
+    or_say(
+        system,
+        name,
+        lend_copy(system.alloc(), stores, name, Reading),
+    )
 }
 
 /// Says where the old files of these names are kept.
@@ -105,10 +107,7 @@ pub(crate) fn exchanged<S: Voice + AllocGlobal, F: Stores>(
     let [name, more @ ..] = names else {
         return Ok(None);
     };
-    let found = found(system.alloc(), stores, name).map_err(|failure| say_refused(
-        system, name, failure,
-    ))?;
-    let done = match found {
+    let done = match or_say(system, name, found(system.alloc(), stores, name))? {
         Some(swap) => finished(system, stores, swap, short)?,
         None => None,
     };
@@ -138,10 +137,10 @@ fn heard<S: Voice, R: Read, W: Write>(
     let Some(random) = random else {
         return Err(asking.refusal(ReplaceRefusal::NotGiven));
     };
-    let table = gathered(tables, short).map_err(|other| Failure::NotReplaced(
-        other,
-        ReplaceRefusal::Disagree,
-    ))?;
+    let table = match gathered(tables, short) {
+        Ok(table) => table,
+        Err(other) => return Err(Failure::NotReplaced(other, ReplaceRefusal::Disagree)),
+    };
     let others = asking.others_there(driver, Come::Given(random), table, report)?;
     asking.confirm(driver, others, tables)
 }

@@ -21,7 +21,7 @@ use crate::records::{kept, lend};
 use crate::report::{Came, Report, heard_of, own_rows};
 use crate::reports::{Which, push_places};
 use crate::running::left_of;
-use crate::said::{Said, Voice, say, say_refused};
+use crate::said::{Said, Voice, or_say, say};
 use crate::sharing::{
     MendRefusal, has_any, is_any_bare, is_any_left, meant_of, or_shared, refused_from, reserved_in,
     with_left,
@@ -330,10 +330,10 @@ impl<S: Input + Print + Voice + AllocGlobal> Mender<'_, S> {
         let (system, mut tables) = (self.system, self.tables);
         let before = kept(store)?;
         add(&mut tables, before.copy())?;
-        let table = gathered_whole(&tables).map_err(|short| Failure::NotMended(
-            short,
-            MendRefusal::Disagree,
-        ))?;
+        let table = match gathered_whole(&tables) {
+            Ok(table) => table,
+            Err(short) => return Err(Failure::NotMended(short, MendRefusal::Disagree)),
+        };
         let site = Site {
             table: &table,
             before: &before,
@@ -397,7 +397,6 @@ where
         tables,
         report,
     };
-    lend(system.alloc(), stores, name, wanted.block, mender).map_err(|failure| say_refused(
-        system, name, failure,
-    ))
+    let done = lend(system.alloc(), stores, name, wanted.block, mender);
+    or_say(system, name, done)
 }

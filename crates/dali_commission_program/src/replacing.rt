@@ -2,7 +2,7 @@
 
 ghost use Rattle.std.specs.Prelude.{◌≡◌, ◌↔◌, ◌⊎◌, ℕ, List, true, Some, IsTrue, IfOk, OnOk};
 ghost use Rattle.std.specs.Prelude.{string_bytes, option_map, slice_get};
-ghost use Rattle.dali_replacement.specs.Permit.{confirmed_at};
+ghost use Rattle.dali_replacement.specs.Permit.{confirmed_at, others_at};
 ghost use Rattle.dali_replacement.specs.Tables.{IsGathered, Lacks};
 ghost use Rattle.dali_commission_program.specs.Calls.{Lies, Read};
 ghost use Rattle.dali_commission_program.specs.Replacing.{IsAnywhere, IsGiver, IsDue, IsAside, AreAside};
@@ -18,7 +18,7 @@ use crate::finishing::{confirms, exchanged, read, say_kept};
 use crate::progress::{Manner, Progress};
 use crate::records::{Filling, Reading, kept, lend, lend_copy};
 use crate::report::{Report, ended_said};
-use crate::said::{Said, Voice, say, say_all, say_refused};
+use crate::said::{Said, Voice, or_say, say, say_all, say_refused};
 use crate::settling::{exchange, found, free_aside, free_number};
 use crate::stores::{Borrower, Holder, StoreFault, Stores};
 use crate::tasks::Replacement;
@@ -68,8 +68,10 @@ impl<S: Voice, R: Read, W: Write> Borrower for Giving<'_, S, R, W> {
         let mut progress = Progress::new(system, self.manner, 1);
         let came = permit.give(store, self.driver, &mut progress, table);
         progress.end();
-        let lines = self.driver.lines();
-        let pass = came.map_err(|fault| failure_of(fault, lines))?;
+        let pass = match came {
+            Ok(pass) => pass,
+            Err(fault) => return Err(failure_of(fault, self.driver.lines())),
+        };
         say_all(system, &ended_said(&pass, &kept(store)?, progress.aim()));
         match pass.ended {
             Ended::Done(End::BlockFull) => Ok(()),
@@ -132,7 +134,10 @@ fn table(wanted: &Replacement, all: &[Kept]) -> Result<Kept, Failure>
             return Err(Failure::NotReplaced(*gone, ReplaceRefusal::NotMissing));
         }
     }
-    gathered(all, short).map_err(|short| Failure::NotReplaced(short, ReplaceRefusal::Disagree))
+    match gathered(all, short) {
+        Ok(table) => Ok(table),
+        Err(short) => Err(Failure::NotReplaced(short, ReplaceRefusal::Disagree)),
+    }
 }
 
 /// Who replaces a luminaire in the records of a site.
@@ -213,13 +218,10 @@ impl<S: Input + Print + Voice + AllocGlobal> Replacing<'_, S> {
     ) -> Result<Kept, Failure>
         ensures { IfOk result (λ kept. F.saw stores.new (Read (new_at name.now) kept)) }
     {
-        let (system, new) = (
-            self.asking.system,
-            new_of(self.asking.system.alloc(), name)?,
-        );
-        lend(self.asking.system.alloc(), stores, &new, block, borrower).map_err(
-            |failure| say_refused(system, &new, failure),
-        )?;
+        let system = self.asking.system;
+        let new = new_of(system.alloc(), name)?;
+        let done = lend(system.alloc(), stores, &new, block, borrower);
+        or_say(system, &new, done)?;
         read(system, stores, &new)
     }
 
@@ -264,9 +266,10 @@ impl<S: Input + Print + Voice + AllocGlobal> Replacing<'_, S> {
         ensures { IfOk result (λ kept. F.saw stores.new (Read (new_at name.now) kept)) }
     {
         let asking = self.asking;
-        let permit = others
-            .look(driver)
-            .map_err(|fault| asking.fault(fault, driver))?;
+        let permit = match others.look(driver) {
+            Ok(permit) => permit,
+            Err(fault) => return Err(asking.fault(fault, driver)),
+        };
         let giving = Giving {
             system: asking.system,
             driver,
@@ -306,7 +309,32 @@ impl<S: Input + Print + Voice + AllocGlobal> Replacing<'_, S> {
         }
     }
 
-    /// Gives the short address, and makes the new tables complete. The swap that is due then.
+    /// Makes the new tables complete, once the giver's new file has this one. The swap that is due then.
+    fn due<F: Stores, R: Read, W: Write>(
+        &self,
+        stores: &mut F,
+        driver: &mut DriverLink<R, W>,
+        all: &[Kept],
+        others: OthersThere,
+        first: &Kept,
+    ) -> Result<DueSwap, Failure>
+        ensures { IfOk result (IsDue (others_at others) all.now) }
+    {
+        let asking = self.asking;
+        let news = self.news(stores, all, first)?;
+        let confirmed = asking.confirm(driver, others, &news)?;
+        let number = free_number(asking.system.alloc(), stores, self.names)?;
+        match Swap::of(&confirmed, all, &news, number, self.copied_names()?) {
+            Ok(swap) => Ok(DueSwap {
+                swap,
+                confirmed,
+                news,
+            }),
+            Err(refusal) => Err(asking.refusal(refusal)),
+        }
+    }
+
+    /// Gives the short address. The swap that is due then.
     fn gives<F: Stores, R: Read, W: Write>(
         &mut self,
         stores: &mut F,
@@ -327,17 +355,7 @@ impl<S: Input + Print + Voice + AllocGlobal> Replacing<'_, S> {
         if first.enrolled_at(asking.wanted.short).is_none() {
             return Err(asking.not_given(driver));
         }
-        let news = self.news(stores, all, &first)?;
-        let confirmed = asking.confirm(driver, others, &news)?;
-        let number = free_number(self.asking.system.alloc(), stores, self.names)?;
-        let swap = Swap::of(&confirmed, all, &news, number, self.copied_names()?).map_err(
-            |refusal| asking.refusal(refusal),
-        )?;
-        Ok(DueSwap {
-            swap,
-            confirmed,
-            news,
-        })
+        self.due(stores, driver, all, others, &first)
     }
 }
 
@@ -356,11 +374,8 @@ fn put_one_aside<S: Voice + AllocGlobal, F: Stores>(
     }
     let aside = free_aside(alloc, stores, name)?;
     // Once it is closed, nothing of it lies in a log.
-    let done = match lend(alloc, stores, &new, Block::ALL, Reading) {
-        Ok(_) => stores.rename(alloc, &new, &aside),
-        Err(failure) => Err(failure),
-    };
-    done.map_err(|failure| say_refused(system, &new, failure))?;
+    or_say(system, &new, lend(alloc, stores, &new, Block::ALL, Reading))?;
+    or_say(system, &new, stores.rename(alloc, &new, &aside))?;
     say(system, &Said::Aside(&new, &aside));
     Ok(())
 }
@@ -425,17 +440,12 @@ fn place_of<S: Voice + AllocGlobal, F: Stores>(
 ) -> Result<String, Failure>
     ensures { IfOk result (λ at. F.saw stores.now (Lies name.now (string_bytes at))) }
 {
-    match stores.place_of(system.alloc(), name) {
-        Ok(place) => {
-            // A journal names each file on a line.
-            if place.contains("\n") {
-                Err(say_refused(system, name, Failure::Store(StoreFault::CannotOpen)))
-            } else {
-                Ok(place)
-            }
-        }
-        Err(failure) => Err(say_refused(system, name, failure)),
+    let place = or_say(system, name, stores.place_of(system.alloc(), name))?;
+    // A journal names each file on a line.
+    if place.contains("\n") {
+        return Err(say_refused(system, name, Failure::Store(StoreFault::CannotOpen)));
     }
+    Ok(place)
 }
 
 /// Where the files of these names lie.
@@ -455,11 +465,11 @@ fn places_of<S: Voice + AllocGlobal, F: Stores>(
 fn are_apart(alloc: Global, names: &[String]) -> Result<bool, Failure> {
     for (number, name) in names.iter().enumerate() {
         let new = new_of(alloc, name)?;
-        let are_same = names.iter().enumerate().any(|(at, other)| {
-            (at != number && other.as_str() == name.as_str()) || other.as_str() == new.as_str()
-        });
-        if are_same {
-            return Ok(false);
+        for (at, other) in names.iter().enumerate() {
+            let is_same = at != number && other.as_str() == name.as_str();
+            if is_same || other.as_str() == new.as_str() {
+                return Ok(false);
+            }
         }
     }
     Ok(true)

@@ -1,6 +1,6 @@
 //! All that the program says on standard error but how it uses its command line: each a value, with its text.
 
-ghost use Rattle.std.specs.Prelude.{◌≡◌, OnOk};
+ghost use Rattle.std.specs.Prelude.{◌≡◌, Err, OnOk};
 ghost use Rattle.dali_commission_program.specs.Said.{why_said, AreTold};
 
 use crate::failure::{Failure, REFUSED};
@@ -283,4 +283,16 @@ pub fn say_refused<S: Voice>(system: &S, name: &str, failure: Failure) -> Failur
         say(system, &Said::Refused(name, fault));
     }
     failure
+}
+
+/// Says why something was not done under a name, if it was not.
+pub fn or_say<T, S: Voice>(system: &S, name: &str, done: Result<T, Failure>) -> Result<T, Failure>
+    ensures same { result ≡ done }
+    ensures told { (fault : StoreFault) → done ≡ Err (Failure.Store fault)
+        → S.told system.now (Said.Refused name.entry fault) }
+{
+    match done {
+        Ok(it) => Ok(it),
+        Err(failure) => Err(say_refused(system, name, failure)),
+    }
 }

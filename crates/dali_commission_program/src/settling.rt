@@ -9,7 +9,7 @@ ghost use Rattle.dali_commission_program.specs.Failures.{or_unfinished};
 ghost use Rattle.dali_commission_program.specs.Settling.{IsNamed, IsDone, GoesOn, GoesBack, IsSettled, IsExchanged};
 
 use crate::failure::{Failure, REFUSED};
-use crate::said::{Said, Voice, say, say_refused};
+use crate::said::{Said, Voice, or_say, say};
 use crate::stores::{Actor, StoreFault, Stores};
 use arrayvec::ArrayVec;
 use dali_replacement::{
@@ -195,9 +195,7 @@ pub(crate) fn settle<S: Voice + AllocGlobal, F: Stores>(
 {
     let settling = Settling { system, swap };
     match first_journal(system.alloc(), stores, swap.names())? {
-        Some(journal) => stores
-            .alone(&journal, settling)
-            .map_err(|failure| say_refused(system, &journal, failure)),
+        Some(journal) => or_say(system, &journal, stores.alone(&journal, settling)),
         None => settling.act(stores),
     }
 }
