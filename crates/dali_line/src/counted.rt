@@ -6,6 +6,8 @@ ghost use Rattle.dali_events.specs.Promise.{KeepsPromise};
 ghost use Rattle.dali_script.specs.Due.{record_ordered};
 ghost use Rattle.dali_standing.specs.Seats.{due_of};
 ghost use Rattle.dali_line.specs.Counts.{counts_of, others_of, shares_of, AreInOrder};
+ghost use Rattle.dali_line.specs.Found.{HasDue, MayOffer, HaveEnded};
+ghost use Rattle.dali_world.specs.Site.{world};
 
 use crate::commits::{CommitState, Commits};
 use crate::driver::Driver;
@@ -31,9 +33,9 @@ pub(crate) struct CountedSite<P0: Ledger, P1: Ledger, P2: Ledger, P3: Ledger, D:
 }
 
 impl<P0: Ledger, P1: Ledger, P2: Ledger, P3: Ledger, D: Ledger> CountedSite<P0, P1, P2, P3, D> {
-    ghost use Rattle.dali_world.specs.Site.{Acts, HasBefallen, world, share_of, IsSound};
+    ghost use Rattle.dali_world.specs.Site.{Acts, HasBefallen, share_of, IsSound};
     ghost use Rattle.dali_line.specs.Shares.{raised_share, total_of};
-    ghost use Rattle.dali_line.specs.Found.{IsFoundFrom, IsFoundByDriver, HasDue, MayOffer, HaveEnded, events_in};
+    ghost use Rattle.dali_line.specs.Found.{IsFoundFrom, IsFoundByDriver, events_in};
     ghost use Rattle.dali_line.specs.Commits.{state_of, MayComeUp};
     ghost use Rattle.dali_line.specs.declared.up_refusal.UpRefusal.TheVariants.{CommitOpen};
     ghost use Rattle.dali_line.specs.declared.commits.CommitState.TheVariants as commit;
@@ -110,61 +112,6 @@ impl<P0: Ledger, P1: Ledger, P2: Ledger, P3: Ledger, D: Ledger> CountedSite<P0, 
         Ok(())
     }
 
-    /// Whether a controller is there.
-    #[tactic(auto, using(crate::proofs::Counts::nobody_there))]
-    fn has(&self, c: u8) -> bool
-        ensures there { result ≡ true → c < length self.now.site.plan.blocks }
-        ensures none { result ≡ false → controller_at (world self.now.site) c ≡ nobody }
-        ensures away { result ≡ false → length (world self.now.site).controllers ≤ c }
-    {
-        // For the prover: the world has the controllers of the plan.
-        self.site.is_safe();
-        (c as usize) < self.site.plan().blocks().len()
-    }
-
-    /// What a controller is told. Nothing, if it is not there.
-    pub(crate) fn told(&self, c: u8) -> Option<Input>
-        ensures { result ≡ (controller_at (world self.now.site) c).told }
-    {
-        if self.has(c) { self.site.next(c) } else { None }
-    }
-
-    /// What is due for a controller. Nothing, if it is not there.
-    pub(crate) fn due_for(&self, c: u8) -> Due
-        ensures { result ≡ due_of (controller_at (world self.now.site) c) }
-    {
-        if self.has(c) {
-            self.site.due(c)
-        } else {
-            Due::Nothing
-        }
-    }
-
-    /// The record whose commit is due for a controller. None, if it is not there.
-    fn ordered(&self, c: u8) -> Option<Record>
-        ensures { result ≡ record_ordered (controller_at (world self.now.site) c).last }
-    {
-        if self.has(c) {
-            self.site.ordered(c)
-        } else {
-            None
-        }
-    }
-
-    /// Whether a controller is down, or not there.
-    pub(crate) fn is_down(&self, c: u8) -> bool
-        ensures { IsTrue result ↔ ((controller_at (world self.now.site) c).up ≡ false) }
-    {
-        !self.has(c) || self.site.table(c).is_none()
-    }
-
-    /// Whether something is due for a controller: it was told something, or its commit is to be made.
-    pub(crate) fn has_due(&self, c: u8) -> bool
-        ensures { IsTrue result ↔ HasDue self.now.site c }
-    {
-        self.told(c).is_some() || self.due_for(c) == Due::Store
-    }
-
     /// The holder of this controller's port begins the commit that is due, if one is.
     pub(crate) fn begin_commit(&mut self, c: u8) -> Option<Record>
         ensures answer { result ≡ record_ordered (controller_at (world self.old.site) c).last }
@@ -172,11 +119,11 @@ impl<P0: Ledger, P1: Ledger, P2: Ledger, P3: Ledger, D: Ledger> CountedSite<P0, 
         ensures none { result ≡ None → self.new.commits ≡ self.old.commits }
         ensures site { self.new.site ≡ self.old.site }
     {
-        let ordered = self.ordered(c);
-        if ordered.is_some() {
+        let record = ordered(&self.site, c);
+        if record.is_some() {
             self.commits.set(c, CommitState::Begun);
         }
-        ordered
+        record
     }
 
     /// The port's holder makes no commit any more. If it had begun one, the store has the record (true), or maybe not.
@@ -196,13 +143,6 @@ impl<P0: Ledger, P1: Ledger, P2: Ledger, P3: Ledger, D: Ledger> CountedSite<P0, 
             };
             self.commits.set(c, state);
         }
-    }
-
-    /// Whether a request more may wait, or the controller is down.
-    pub(crate) fn may_offer(&self, c: u8) -> bool
-        ensures { IsTrue result ↔ MayOffer self.now.site c }
-    {
-        !self.site.is_crowded() || self.is_down(c)
     }
 
     /// Says what the driver's holder knows of the site. It changes nothing.
@@ -283,7 +223,7 @@ impl<P0: Ledger, P1: Ledger, P2: Ledger, P3: Ledger, D: Ledger> CountedSite<P0, 
         ensures free { result ≡ false → IsDown (world self.now.site) c
             → MayComeUp (state_of self.now.commits c) (controller_at (world self.now.site) c).records copy.now }
     {
-        if !self.has(c) || self.site.table(c).is_some() {
+        if !has(&self.site, c) || self.site.table(c).is_some() {
             return false;
         }
         match self.commits.state(c) {
@@ -322,26 +262,6 @@ impl<P0: Ledger, P1: Ledger, P2: Ledger, P3: Ledger, D: Ledger> CountedSite<P0, 
             }
             Err(refusal) => Err(UpRefusal::Site(refusal)),
         }
-    }
-
-    /// Whether nothing is due for any controller: each has ended, has halted or is down.
-    fn have_ended(&self) -> bool
-        ensures { IsTrue result ↔ HaveEnded self.now.site }
-    {
-        let count = self.site.plan().blocks().len() as u8;
-        for c in 0..count {
-            if self.site.due(c) != Due::Nothing {
-                return false;
-            }
-        }
-        true
-    }
-
-    /// Whether no controller owns the bus, and nothing is due for any controller.
-    pub(crate) fn is_over(&self) -> bool
-        ensures { IsTrue result ↔ ((world self.now.site).bus.owner ≡ None) × HaveEnded self.now.site }
-    {
-        self.site.owner().is_none() && self.have_ended()
     }
 
     /// Says of each port what its holder knows of the site. It changes nothing.
@@ -402,4 +322,82 @@ fn are_in_order<P0: Ledger, P1: Ledger, P2: Ledger, P3: Ledger, D: Ledger>(
         }
     }
     true
+}
+
+/// Whether a controller is there.
+#[tactic(auto, using(crate::proofs::Counts::nobody_there))]
+fn has(site: &SiteState, c: u8) -> bool
+    ensures there { result ≡ true → c < length site.now.plan.blocks }
+    ensures none { result ≡ false → controller_at (world site.now) c ≡ nobody }
+    ensures away { result ≡ false → length (world site.now).controllers ≤ c }
+{
+    // For the prover: the world has the controllers of the plan.
+    site.is_safe();
+    (c as usize) < site.plan().blocks().len()
+}
+
+/// What a controller is told. Nothing, if it is not there.
+pub(crate) fn told(site: &SiteState, c: u8) -> Option<Input>
+    ensures { result ≡ (controller_at (world site.now) c).told }
+{
+    if has(site, c) { site.next(c) } else { None }
+}
+
+/// What is due for a controller. Nothing, if it is not there.
+pub(crate) fn due_for(site: &SiteState, c: u8) -> Due
+    ensures { result ≡ due_of (controller_at (world site.now) c) }
+{
+    if has(site, c) {
+        site.due(c)
+    } else {
+        Due::Nothing
+    }
+}
+
+/// The record whose commit is due for a controller. None, if it is not there.
+fn ordered(site: &SiteState, c: u8) -> Option<Record>
+    ensures { result ≡ record_ordered (controller_at (world site.now) c).last }
+{
+    if has(site, c) { site.ordered(c) } else { None }
+}
+
+/// Whether a controller is down, or not there.
+pub(crate) fn is_down(site: &SiteState, c: u8) -> bool
+    ensures { IsTrue result ↔ ((controller_at (world site.now) c).up ≡ false) }
+{
+    !has(site, c) || site.table(c).is_none()
+}
+
+/// Whether something is due for a controller: it was told something, or its commit is to be made.
+pub(crate) fn has_due(site: &SiteState, c: u8) -> bool
+    ensures { IsTrue result ↔ HasDue site.now c }
+{
+    told(site, c).is_some() || due_for(site, c) == Due::Store
+}
+
+/// Whether a request more may wait, or the controller is down.
+pub(crate) fn may_offer(site: &SiteState, c: u8) -> bool
+    ensures { IsTrue result ↔ MayOffer site.now c }
+{
+    !site.is_crowded() || is_down(site, c)
+}
+
+/// Whether nothing is due for any controller: each has ended, has halted or is down.
+fn have_ended(site: &SiteState) -> bool
+    ensures { IsTrue result ↔ HaveEnded site.now }
+{
+    let count = site.plan().blocks().len() as u8;
+    for c in 0..count {
+        if site.due(c) != Due::Nothing {
+            return false;
+        }
+    }
+    true
+}
+
+/// Whether no controller owns the bus, and nothing is due for any controller.
+pub(crate) fn is_over(site: &SiteState) -> bool
+    ensures { IsTrue result ↔ ((world site.now).bus.owner ≡ None) × HaveEnded site.now }
+{
+    site.owner().is_none() && have_ended(site)
 }

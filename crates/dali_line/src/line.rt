@@ -12,7 +12,7 @@ ghost use Rattle.dali_line.specs.Found.{events_in};
 ghost use Rattle.dali_line.specs.Calls.{Offers, PumpsOnce, Lapses, ComesUp};
 
 use crate::count::{others, steps};
-use crate::counted::CountedSite;
+use crate::counted::{CountedSite, due_for, has_due, may_offer, told};
 use crate::driver::Driver;
 use crate::locked::Locked;
 use crate::own::Own;
@@ -169,7 +169,7 @@ impl<P0: Ledger, P1: Ledger, P2: Ledger, P3: Ledger, D: Ledger> Line<P0, P1, P2,
     {
         let mut locked = self.locked.lock(rt);
         locked.counted.audit(port);
-        locked.counted.told(port.controller())
+        told(&locked.counted.site, port.controller())
     }
 
     /// What is due for the port's controller, as `SiteState::due` says; Nothing for a spare port.
@@ -180,7 +180,7 @@ impl<P0: Ledger, P1: Ledger, P2: Ledger, P3: Ledger, D: Ledger> Line<P0, P1, P2,
     {
         let mut locked = self.locked.lock(rt);
         locked.counted.audit(port);
-        locked.counted.due_for(port.controller())
+        due_for(&locked.counted.site, port.controller())
     }
 
     /// Waits until something is due for the port's controller (true), or until the line is stopped or the controller is
@@ -198,7 +198,7 @@ impl<P0: Ledger, P1: Ledger, P2: Ledger, P3: Ledger, D: Ledger> Line<P0, P1, P2,
             .moved
             .wait_while(rt, self.locked.lock(rt), |l| !l.wakes(controller));
         locked.counted.audit(port);
-        !locked.is_stopped() && locked.counted.has_due(controller)
+        !locked.is_stopped() && has_due(&locked.counted.site, controller)
     }
 
     /// The port's holder begins the commit that is due, as `SiteState::ordered` says, and is answered its record. None
@@ -245,7 +245,7 @@ impl<P0: Ledger, P1: Ledger, P2: Ledger, P3: Ledger, D: Ledger> Line<P0, P1, P2,
             |l| !l.wakes_for_room(controller),
         );
         locked.counted.audit(port);
-        !locked.is_stopped() && locked.counted.may_offer(controller)
+        !locked.is_stopped() && may_offer(&locked.counted.site, controller)
     }
 
     /// The request that is next comes on the bus, as `SiteState::pump` says.

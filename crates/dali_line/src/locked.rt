@@ -1,6 +1,6 @@
 ghost use Rattle.std.specs.Prelude.{◌≡◌, IsTrue, true, false, ◌↔◌, MatchOption};
 
-use crate::counted::CountedSite;
+use crate::counted::{CountedSite, has_due, is_down, is_over, may_offer};
 use crate::ready::Ready;
 use std::sync::ledger::Ledger;
 
@@ -29,14 +29,14 @@ impl<P0: Ledger, P1: Ledger, P2: Ledger, P3: Ledger, D: Ledger> Locked<P0, P1, P
     pub(crate) fn wakes(&self, c: u8) -> bool
         ensures { IsTrue result ↔ Wakes self.now.stopped self.now.counted.site c }
     {
-        self.stopped || self.counted.has_due(c) || self.counted.is_down(c)
+        self.stopped || has_due(&self.counted.site, c) || is_down(&self.counted.site, c)
     }
 
     /// Whether a controller has no reason to wait for room: the line is stopped, or `may_offer` says so.
     pub(crate) fn wakes_for_room(&self, c: u8) -> bool
         ensures { IsTrue result ↔ WakesForRoom self.now.stopped self.now.counted.site c }
     {
-        self.stopped || self.counted.may_offer(c)
+        self.stopped || may_offer(&self.counted.site, c)
     }
 
     /// What a driver may do, if there is anything to say.
@@ -53,7 +53,7 @@ impl<P0: Ledger, P1: Ledger, P2: Ledger, P3: Ledger, D: Ledger> Locked<P0, P1, P
         if self.counted.site.is_crowded() {
             return Some(Ready::Full);
         }
-        if self.counted.is_over() {
+        if is_over(&self.counted.site) {
             return Some(Ready::Over);
         }
         None
