@@ -44,10 +44,7 @@ pub fn push_heard(text: &mut String, frame: Forward, answer: Answer) -> Result<(
     push_frame(text, frame)?;
     match answer {
         Answer::Silence => text.push_str(" silence\n"),
-        Answer::Byte(byte) => {
-            write!(text, " byte {byte:02X}")?;
-            text.push_str("\n")
-        }
+        Answer::Byte(byte) => write!(text, " byte {byte:02X}\n"),
         Answer::Damaged => text.push_str(" damaged\n"),
     }
 }
@@ -123,8 +120,7 @@ pub fn push_refused(text: &mut String, error: Refusal) -> Result<(), AllocError>
     ensures { OnOk result (string_bytes text.new ≡ string_bytes text.old ++ refused_text error) }
 {
     let number = error.number();
-    write!(text, "refused {number} {error}")?;
-    text.push_str("\n")
+    write!(text, "refused {number} {error}\n")
 }
 
 fn push_record(text: &mut String, added: &Record) -> Result<(), AllocError>
@@ -185,9 +181,8 @@ pub fn push_kept(text: &mut String, c: u32, order: &Order) -> Result<(), AllocEr
 pub fn push_offered(text: &mut String, c: u32, frame: Forward) -> Result<(), AllocError>
     ensures { OnOk result (string_bytes text.new ≡ string_bytes text.old ++ offered_text c frame) }
 {
-    write!(text, "{c}: ")?;
-    push_put(text, Priority::ARC.number(), frame)?;
-    text.push_str("\n")
+    let priority = Priority::ARC.number();
+    write!(text, "{c}: put {priority} {frame}\n")
 }
 
 fn push_destroyed(text: &mut String, c: u8, frame: Forward) -> Result<(), AllocError>
@@ -256,8 +251,7 @@ pub fn push_lapse(text: &mut String, owner: Option<u8>) -> Result<(), AllocError
 pub fn push_ran(text: &mut String, frames: u32) -> Result<(), AllocError>
     ensures { OnOk result (string_bytes text.new ≡ string_bytes text.old ++ ran_text frames) }
 {
-    write!(text, "ran {frames}")?;
-    text.push_str("\n")
+    write!(text, "ran {frames}\n")
 }
 
 fn push_entry(text: &mut String, entry: Pair) -> Result<(), AllocError>
