@@ -7,6 +7,7 @@ use super::values::InNumbers::Reserve;
 use super::values::{addresses, frame, kept_of, same};
 use dali_frame::{Answer, Forward, Random24, SearchAddress, Short};
 use dali_script::{Entry, Finding, Kept, Stage, Trace};
+use dali_special::Command;
 use std::alloc::Global;
 use std::process::Abort;
 use std::test::Fail;
@@ -38,7 +39,8 @@ fn send(trace: &mut Trace, kept: &Kept, frame: Forward, heard: Answer) -> Result
     if !trace.allows(kept, frame) {
         return Err(Fail::from("a frame that is allowed"));
     }
-    trace.push(frame, heard);
+    let reached = trace.after(frame, Command::read(frame), heard);
+    trace.push(frame, heard, reached);
     Ok(())
 }
 
