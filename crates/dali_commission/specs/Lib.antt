@@ -1,3 +1,4 @@
 pub mod Faults
 pub mod Logs
 pub mod Lying
+pub mod Opened

@@ -1,8 +1,21 @@
 //! Records in files, each a SQLite database.
 
-ghost use Rattle.std.specs.Prelude.{◌≡◌, ◌++◌, ◌↔◌, ◌⊎◌, string_bytes, Ok, Err, IfOk, IfErr, IsTrue};
-ghost use Rattle.dali_commission.specs.Faults.{system_fault, or_number, copy_fault};
+ghost use Rattle.std.specs.Prelude.{◌≡◌, ◌++◌, ◌↔◌, ◌⊎◌, ℕ, List, [], ◌∷◌, codes, string_bytes};
+ghost use Rattle.std.specs.Prelude.{Ok, Err, IfOk, IfErr, OnOk, IfSome, None, true, IsTrue};
 ghost use Rattle.std.specs.IoError.{error_kind, raw_os_error};
+ghost use Rattle.sqlite.specs.Files.{over_files};
+ghost use Rattle.sqlite.specs.Held.{state, IsNew};
+ghost use Rattle.dali_script.specs.declared.records.Record.{Record};
+ghost use Rattle.dali_reserve.specs.Store.{IsReplay};
+ghost use Rattle.dali_sqlite.specs.Files.{HoldRecords};
+ghost use Rattle.dali_sqlite.specs.Header.{may_be_records};
+ghost use Rattle.dali_sqlite.specs.Keep.{block_of, shown_by, IsSound};
+ghost use Rattle.dali_sqlite.specs.Stored.{Holds, IsUp};
+ghost use Rattle.dali_commission.specs.Logs.{IsDamaged};
+ghost use Rattle.dali_commission.specs.Faults.{system_fault, or_number, copy_fault, closed_fault};
+ghost use Rattle.dali_commission.specs.Faults.{IsUnread, IsUnwritten, IsUnopened, IsUncopied, IsUnnoted};
+ghost use Rattle.dali_commission.specs.Faults.{IsUnheld, IsUnclosed};
+ghost use Rattle.dali_commission.specs.Opened.{names_of};
 
 use crate::log::is_damaged;
 use crate::places::{folder_of, place};
@@ -83,7 +96,9 @@ fn copy_fault(error: CopyError) -> StoreFault
 }
 
 /// The bytes of a file, none if it is not there.
-fn bytes(rt: &HostRuntime, name: &str) -> Result<Vec<u8>, StoreFault> {
+fn bytes(rt: &HostRuntime, name: &str) -> Result<Vec<u8>, StoreFault>
+    ensures { IfErr result IsUnread }
+{
     match fs::metadata(rt, name) {
         Ok(about) if !about.is_file() || about.len() > MOST_BYTES => Err(StoreFault::Foreign),
         Ok(_) => fs::read(rt, name).map_err(refused_by),
@@ -100,7 +115,10 @@ struct Lying {
 }
 
 /// The name of the log of a database: it lies beside the file itself, if a link leads to that.
-fn log_of(rt: &HostRuntime, name: &str) -> Result<String, StoreFault> {
+fn log_of(rt: &HostRuntime, name: &str) -> Result<String, StoreFault>
+    ensures named { IfOk result (λ log. (path : List ℕ) × (string_bytes log ≡ path ++ codes "-wal")) }
+    ensures refused { IfErr result IsUnread }
+{
     match fs::canonicalize(rt, name) {
         Ok(path) => made(rt.alloc(), path.as_str(), "-wal"),
         Err(error) if error.kind() == ErrorKind::NotFound => made(rt.alloc(), name, "-wal"),
@@ -109,7 +127,9 @@ fn log_of(rt: &HostRuntime, name: &str) -> Result<String, StoreFault> {
 }
 
 impl Lying {
-    fn read(rt: &HostRuntime, name: &str) -> Result<Lying, StoreFault> {
+    fn read(rt: &HostRuntime, name: &str) -> Result<Lying, StoreFault>
+        ensures { IfErr result IsUnread }
+    {
         let log = log_of(rt, name)?;
         Ok(Lying {
             db: bytes(rt, name)?,
@@ -126,7 +146,9 @@ impl Lying {
 }
 
 /// What lies in two files at one moment: they are read until two readings agree, since another program may write them.
-fn at_one_moment(rt: &HostRuntime, name: &str) -> Result<Lying, StoreFault> {
+fn at_one_moment(rt: &HostRuntime, name: &str) -> Result<Lying, StoreFault>
+    ensures { IfErr result (λ it. IsUnread it ⊎ (it ≡ StoreFault.Locked)) }
+{
     let mut before = Lying::read(rt, name)?;
     for _ in 0..READINGS {
         let now = Lying::read(rt, name)?;
@@ -142,16 +164,29 @@ fn at_one_moment(rt: &HostRuntime, name: &str) -> Result<Lying, StoreFault> {
 fn copied(
     rt: &HostRuntime,
     name: &str,
-) -> Result<SqliteKeep<FileStore<sqlite_disk::Memory>>, StoreFault> {
+) -> Result<SqliteKeep<FileStore<sqlite_disk::Memory>>, StoreFault>
+    ensures copy { IfOk result (λ store. (db : List ℕ) × (log : List ℕ) × (IsDamaged log → ⊥)
+        × (may_be_records db log ≡ true) × (IsUp (shown_by over_files store) → (xs : List Record)
+        → HoldRecords (record { log = log; db = db }) xs
+        → IsSound over_files store × Holds (shown_by over_files store) xs)) }
+    ensures all { IfOk result (λ store. ((block_of store).first ≡ 0) × ((block_of store).last ≡ 63)) }
+    ensures refused { IfErr result IsUncopied }
+{
     let lying = at_one_moment(rt, name)?;
     if is_damaged(&lying.log) {
         return Err(StoreFault::DamagedLog);
     }
-    open_copy(rt.alloc(), &lying.db, &lying.log, Block::ALL).map_err(copy_fault)
+    match open_copy(rt.alloc(), &lying.db, &lying.log, Block::ALL) {
+        Ok(store) => Ok(store),
+        Err(error) => Err(copy_fault(error)),
+    }
 }
 
 /// Why a file cannot be opened that may be one of records.
-fn why_closed(rt: &HostRuntime, name: &str, error: Error) -> StoreFault {
+fn why_closed(rt: &HostRuntime, name: &str, error: Error) -> StoreFault
+    ensures said { IfSome (closed_fault error) (λ it. result ≡ it) }
+    ensures unsaid { closed_fault error ≡ None → IsUnwritten result }
+{
     match error {
         Error::SqliteFailure(ErrorCode::DatabaseBusy) => StoreFault::Locked,
         Error::SqliteFailure(ErrorCode::OutOfMemory) => NO_MEMORY,
@@ -163,7 +198,9 @@ fn why_closed(rt: &HostRuntime, name: &str, error: Error) -> StoreFault {
 }
 
 /// Why the system does not let a file be written, which is made if it is missing.
-fn written_fault(rt: &HostRuntime, name: &str) -> StoreFault {
+fn written_fault(rt: &HostRuntime, name: &str) -> StoreFault
+    ensures { IsUnwritten result }
+{
     let opened = fs::File::options()
         .read(true)
         .write(true)
@@ -177,7 +214,10 @@ fn written_fault(rt: &HostRuntime, name: &str) -> StoreFault {
 }
 
 /// How a file is kept in memory: `Connection::open` takes 8 MB for each bus of a building.
-fn options(rt: &HostRuntime) -> Result<Options, StoreFault> {
+fn options(rt: &HostRuntime) -> Result<Options, StoreFault>
+    ensures small { IfOk result (λ it. (it.cache_pages ≡ 64) × (it.spill_pages ≡ 64)) }
+    ensures refused { IfErr result (λ it. it ≡ StoreFault.CannotOpen) }
+{
     let state = RandomState::new(rt).map_err(|_| StoreFault::CannotOpen)?;
     Ok(Options {
         cache_pages: PAGES,
@@ -186,7 +226,10 @@ fn options(rt: &HostRuntime) -> Result<Options, StoreFault> {
     })
 }
 
-fn opened(rt: &HostRuntime, name: &str) -> Result<Connection<FileStore<File>>, StoreFault> {
+fn opened(rt: &HostRuntime, name: &str) -> Result<Connection<FileStore<File>>, StoreFault>
+    ensures new { IfOk result IsNew }
+    ensures refused { IfErr result IsUnopened }
+{
     let options = options(rt)?;
     let files = match sqlite_std_file::open(rt, name, Unknown) {
         Ok(files) => files,
@@ -216,10 +259,20 @@ fn lent<S: Alter + Drop, B: Borrower>(
 }
 
 /// What the records in a database are, and the database.
-fn noted<S: Alter + Drop>(conn: Connection<S>) -> Result<(Connection<S>, Kept), StoreFault> {
-    let mut store = SqliteKeep::over(conn, Block::ALL).map_err(StoreFault::Store)?;
-    let kept = store.read().map_err(StoreFault::Store)?;
-    Ok((store.into_connection(), kept))
+fn noted<S: Alter + Drop>(conn: Connection<S>) -> Result<(Connection<S>, Kept), StoreFault>
+    ensures kept { IfOk result (λ came. IsUp (state S.Store came.0) → (xs : List Record)
+        → Holds (state S.Store conn) xs → Holds (state S.Store came.0) xs × IsReplay came.1.block xs came.1) }
+    ensures all { IfOk result (λ came. (came.1.block.first ≡ 0) × (came.1.block.last ≡ 63)) }
+    ensures refused { IfErr result IsUnnoted }
+{
+    let mut store = match SqliteKeep::over(conn, Block::ALL) {
+        Ok(store) => store,
+        Err(error) => return Err(StoreFault::Store(error)),
+    };
+    match store.read() {
+        Ok(kept) => Ok((store.into_connection(), kept)),
+        Err(error) => Err(StoreFault::Store(error)),
+    }
 }
 
 /// Closes a database, and leaves its file alone, which stays locked as long as the files are there: what is in the log
@@ -228,12 +281,28 @@ fn shut(
     rt: &HostRuntime,
     name: &str,
     conn: Connection<FileStore<File>>,
-) -> Result<sqlite::Files<File>, StoreFault> {
-    let files = conn.close_files().map_err(|_| STORE_FAILED)?;
+) -> Result<sqlite::Files<File>, StoreFault>
+    ensures { IfErr result (λ it. it ≡ StoreFault.Store KeepError.StoreFailed) }
+{
+    let files = match conn.close_files() {
+        Ok(files) => files,
+        Err(_) => return Err(STORE_FAILED),
+    };
     if let Ok(log) = log_of(rt, name) {
         let _ = fs::remove_file(rt, &log);
     }
     Ok(files)
+}
+
+/// Adds something to a list.
+fn add<T: Drop>(list: &mut Vec<T>, item: T) -> Result<(), StoreFault>
+    ensures items { OnOk result (list.new.items ≡ list.old.items ++ item ∷ []) }
+    ensures refused { IfErr result (λ it. it ≡ StoreFault.Store KeepError.NoMemory) }
+{
+    match list.push(item) {
+        Ok(()) => Ok(()),
+        Err(_) => Err(NO_MEMORY),
+    }
 }
 
 /// Files of records that are open, each with its name, in the order of these.
@@ -242,17 +311,22 @@ type Open<'a> = Vec<(&'a str, Connection<FileStore<File>>)>;
 fn open_one<'a>(
     rt: &HostRuntime,
     name: &'a str,
-    open: &mut Open<'a>,
+    held: &mut Open<'a>,
     all: &mut Vec<Kept>,
-) -> Result<(), StoreFault> {
+) -> Result<(), StoreFault>
+    ensures named { OnOk result (names_of held.new.items ≡ names_of held.old.items ++ name.now ∷ []) }
+    ensures kept { OnOk result ((kept : Kept) × (all.new.items ≡ all.old.items ++ kept ∷ [])) }
+    ensures refused { IfErr result IsUnheld }
+{
     let lying = Lying::read(rt, name)?;
     // It would become one of records by being opened.
     if lying.db.is_empty() && lying.log.is_empty() {
         return Err(StoreFault::Foreign);
     }
     let (conn, kept) = noted(opened(rt, name)?)?;
-    open.push((name, conn)).map_err(|_| NO_MEMORY)?;
-    all.push(kept).map_err(|_| NO_MEMORY)
+    add(held, (name, conn))?;
+    add(all, kept)?;
+    Ok(())
 }
 
 /// Opens files of records, and notes what they have.
@@ -260,11 +334,13 @@ fn open_all<'a, F, H: Holder<F>>(
     rt: &HostRuntime,
     names: &'a [String],
     holder: &H,
-    open: &mut Open<'a>,
+    held: &mut Open<'a>,
     all: &mut Vec<Kept>,
-) -> Result<(), Failure> {
+) -> Result<(), Failure>
+    ensures { IfErr result (λ failure. (it : StoreFault) × IsUnheld it × (failure ≡ Failure.Store it)) }
+{
     for name in names {
-        if let Err(fault) = open_one(rt, name.as_str(), open, all) {
+        if let Err(fault) = open_one(rt, name.as_str(), held, all) {
             return Err(holder.refused(name, Failure::Store(fault)));
         }
     }
@@ -277,24 +353,34 @@ fn shut_one(
     name: &str,
     conn: Connection<FileStore<File>>,
     files: &mut Vec<sqlite::Files<File>>,
-) -> Result<(), StoreFault> {
-    files.push(shut(rt, name, conn)?).map_err(|_| NO_MEMORY)
+) -> Result<(), StoreFault>
+    ensures closed { OnOk result ((closed : _) × (files.new.items ≡ files.old.items ++ closed ∷ [])) }
+    ensures refused { IfErr result IsUnclosed }
+{
+    let closed = shut(rt, name, conn)?;
+    add(files, closed)?;
+    Ok(())
 }
 
 /// Closes files of records, which stay locked as long as what is answered is there.
 fn shut_all<F, H: Holder<F>>(
     rt: &HostRuntime,
     holder: &H,
-    open: Open<'_>,
-) -> Result<Vec<sqlite::Files<File>>, Failure> {
+    held: Open<'_>,
+) -> Result<Vec<sqlite::Files<File>>, Failure>
+    ensures { IfErr result (λ failure. (it : StoreFault) × IsUnclosed it × (failure ≡ Failure.Store it)) }
+{
     let mut files = Vec::new(rt.alloc());
     let mut done = Ok(());
-    for (name, conn) in open {
+    for (name, conn) in held {
         if let Err(fault) = shut_one(rt, name, conn, &mut files) {
             done = Err(holder.refused(name, Failure::Store(fault)));
         }
     }
-    done.map(|()| files)
+    match done {
+        Ok(()) => Ok(files),
+        Err(failure) => Err(failure),
+    }
 }
 
 /// What was done in a folder is on its disk then.
@@ -363,9 +449,13 @@ fn answered<T>(done: io::Result<T>) -> Result<T, Failure>
 
 /// A name that is made of another one.
 fn made(alloc: Global, name: &str, end: &str) -> Result<String, StoreFault>
-    ensures { IfOk result (λ it. string_bytes it ≡ name.now ++ end.now) }
+    ensures made { IfOk result (λ it. string_bytes it ≡ name.now ++ end.now) }
+    ensures refused { IfErr result (λ it. it ≡ StoreFault.Store KeepError.NoMemory) }
 {
-    format!(in alloc; "{name}{end}").map_err(|_| NO_MEMORY)
+    match format!(in alloc; "{name}{end}") {
+        Ok(made) => Ok(made),
+        Err(_) => Err(NO_MEMORY),
+    }
 }
 
 impl<'a> Stores for Files<'a> {

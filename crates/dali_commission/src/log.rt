@@ -1,8 +1,9 @@
 //! Whether the log of a database is damaged before its end (SQLite's file format, section 4).
 
-ghost use Rattle.std.specs.Prelude.{◌≡◌, ◌≤◌, ◌+◌, ◌↔◌, length, IsTrue, IfSome};
+ghost use Rattle.std.specs.Prelude.{◌≡◌, ◌≤◌, ◌<◌, ◌+◌, ◌/◌, ◌↔◌, ℕ, length, IsTrue, IfSome, None};
 ghost use Rattle.sqlite_wal.specs.Format.{be32, stored_sum, is_big};
-ghost use Rattle.dali_commission.specs.Logs.{begins_log, IsHeadOf, IsSigned, IsOf, HoldsBehind};
+ghost use Rattle.dali_commission.specs.Logs.{begins_log, IsHeadOf, IsSigned, IsOf, HoldsBehind, frame_at, Holds};
+ghost use Rattle.dali_commission.specs.Logs.{BeginsBehind, IsBroken, IsDamaged};
 
 use sqlite_wal::checksum_of;
 
@@ -80,10 +81,21 @@ fn is_of(head: &[u8; HEAD], frame: &[u8]) -> bool
     frame[8..16] == head[16..24]
 }
 
+/// The frame at a place of the log.
+fn frame_at(frames: &[u8], size: usize, i: usize) -> &[u8]
+    requires size { 24 ≤ size }
+    requires within { i < length frames.now / size }
+    ensures frame { result.now ≡ frame_at size frames.now i }
+    ensures long { 24 ≤ length result.now }
+{
+    &frames[i * size..(i + 1) * size]
+}
+
 /// The checksum of a frame, if it holds behind that of the one before.
 fn sum_after(head: &[u8; HEAD], before: (u32, u32), frame: &[u8]) -> Option<(u32, u32)>
     requires { 24 ≤ length frame.now }
-    ensures { IfSome result (HoldsBehind head.now before frame.now) }
+    ensures holds { IfSome result (HoldsBehind head.now before frame.now) }
+    ensures torn { result ≡ None → HoldsBehind head.now before frame.now (stored_sum frame.now 16) → ⊥ }
 {
     let front = checksum_of(is_big(head), before, &frame[..8]);
     let sum = checksum_of(is_big(head), front, &frame[FRAME..]);
@@ -94,32 +106,56 @@ fn sum_after(head: &[u8; HEAD], before: (u32, u32), frame: &[u8]) -> Option<(u32
     }
 }
 
-/// Whether another transaction begins behind frames whose checksums do not hold: behind one that ends a transaction, or
-/// with the page that begins one. All that lies before it was on the disk then, so it is damaged, and not torn.
-fn is_broken(head: &[u8; HEAD], frames: &[u8], size: usize) -> bool
+/// How many frames hold, each behind the one before.
+fn held(head: &[u8; HEAD], frames: &[u8], size: usize) -> usize
     requires { 24 ≤ size }
+    ensures within { result ≤ length frames.now / size }
+    ensures holds { (i : ℕ) → i < result → Holds head.now size frames.now i }
+    ensures torn { result < length frames.now / size → Holds head.now size frames.now result → ⊥ }
 {
-    let mut sum = Some(numbers_at(head, FRAME));
+    let mut sum = numbers_at(head, FRAME);
+    let count = frames.len() / size;
+    for i in 0..count {
+        match sum_after(head, sum, frame_at(frames, size, i)) {
+            Some(after) => sum = after,
+            None => return i,
+        }
+    }
+    count
+}
+
+/// Whether another transaction begins behind the frame at this place: behind one that ends a transaction, or with the
+/// page that begins one.
+fn begins_behind(head: &[u8; HEAD], frames: &[u8], size: usize, from: usize) -> bool
+    requires { 24 ≤ size }
+    ensures { IsTrue result ↔ BeginsBehind head.now size frames.now from (length frames.now / size) }
+{
     let mut is_ended = false;
-    let mut is_behind = false;
-    for frame in frames.chunks_exact(size) {
-        sum = match sum {
-            Some(before) => sum_after(head, before, frame),
-            None => None,
-        };
-        if sum.is_none() && is_of(head, frame) {
-            if is_ended || (is_behind && number_at(frame, 0) == COUNTED) {
+    for i in from..frames.len() / size {
+        let frame = frame_at(frames, size, i);
+        if is_of(head, frame) {
+            if is_ended || (i > from && number_at(frame, 0) == COUNTED) {
                 return true;
             }
             is_ended = number_at(frame, 4) != 0;
         }
-        is_behind = sum.is_none();
     }
     false
 }
 
+/// Whether another transaction begins behind frames whose checksums do not hold. All that lies before it was on the
+/// disk then, so it is damaged, and not torn.
+fn is_broken(head: &[u8; HEAD], frames: &[u8], size: usize) -> bool
+    requires { 24 ≤ size }
+    ensures { IsTrue result ↔ IsBroken head.now size frames.now }
+{
+    begins_behind(head, frames, size, held(head, frames, size))
+}
+
 /// Whether a log is damaged before its end, so that SQLite reads only what lies before.
-pub(crate) fn is_damaged(log: &[u8]) -> bool {
+pub(crate) fn is_damaged(log: &[u8]) -> bool
+    ensures { IsTrue result ↔ IsDamaged log.now }
+{
     let Some(head) = head_of(log) else {
         return false;
     };

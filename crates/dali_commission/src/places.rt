@@ -1,7 +1,7 @@
 //! Where a file lies.
 
 ghost use Rattle.std.specs.Prelude.{ℕ, List, IfOk, string_bytes};
-ghost use Rattle.dali_commission.specs.Lying.{IsParted, IsJoined, IsLed};
+ghost use Rattle.dali_commission.specs.Lying.{IsParted, IsJoined, IsLed, Lies};
 
 use std::alloc::{AllocError, Global};
 use std::fs;
@@ -51,7 +51,9 @@ fn led(alloc: Global, name: &str, to: &str) -> Result<String, AllocError>
 
 /// The name under which a file lies, from the root on, whatever links lead there; it need not be there. If its
 /// folder is not there, it is the name itself.
-pub(crate) fn place(rt: &HostRuntime, alloc: Global, name: &str) -> Result<String, AllocError> {
+pub(crate) fn place(rt: &HostRuntime, alloc: Global, name: &str) -> Result<String, AllocError>
+    ensures { IfOk result (λ at. Lies name.now (string_bytes at)) }
+{
     let mut at = String::from_str(alloc, name)?;
     for _ in 0..LINKS {
         match fs::read_link(rt, at.as_str()) {
