@@ -195,6 +195,7 @@ pub fn read_capture<R: Read>(
         }
         match so_far.bytes(wanted, is_inverted, &chunk[..count]) {
             Ok(()) => read += count,
+            // For the prover: which fault it is follows here alone.
             Err(fault) => return Err(fault),
         }
     }

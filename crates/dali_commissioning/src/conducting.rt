@@ -234,6 +234,7 @@ pub fn conduct<K: Keep, R: Read, W: Write, P: Watch>(
                 committed |= is_kept(told);
                 order = step(machine, told);
             }
+            // The proof goes through each arm: what a fault leaves is told apart.
             Err(fault) => return Err(fault),
         }
     }

@@ -64,6 +64,7 @@ fn run<K: Keep, R: Read, W: Write, P: Watch>(
     };
     let mut machine = Machine::new(0, &kept);
     match conduct(&mut machine, keep, driver, watch, start, MOST_STEPS) {
+        // For the prover: what a pass says and what a fault says are told apart.
         Ok(pass) => Ok(pass),
         Err(fault) => Err(fault),
     }
@@ -101,6 +102,7 @@ pub fn commission<K: Keep, R: Read, W: Write, P: Watch>(
     for _ in 0..MOST_RUNS {
         let pass = match run(keep, driver, watch, start) {
             Ok(pass) => pass,
+            // The proof goes through each arm: what a fault leaves is told apart.
             Err(fault) => return Err(fault),
         };
         if !is_all_found(pass.ended) {

@@ -78,6 +78,7 @@ pub(crate) fn allocate<T, A: Allocator>(
             let release = Release { mark: PhantomData };
             Ok((origin, places, release))
         }
+        // The proof by hand goes through each arm.
         Err(error) => Err(error),
     }
 }
