@@ -74,7 +74,6 @@ pub fn begin<K: Keep, R: Read, W: Write, P: Watch>(
         return Ok(Begun::Addressed(replies));
     }
     match commission(keep, driver, watch, Input::Start, quiet_runs) {
-        // For the prover: what a pass says and what a fault says are told apart.
         Ok(pass) => Ok(Begun::Commissioned(pass)),
         Err(fault) => Err(fault),
     }

@@ -160,7 +160,6 @@ pub fn run_threads<R: Threads + Wait + Sync, W: Write>(
 {
     match planned(alloc, setup.gear, setup.blocks.as_slice(), &[]) {
         Ok(plan) => run_on(rt, alloc, &plan, &setup, writer),
-        // For the prover: a plan that is refused is told apart.
         Err(fault) => Err(fault),
     }
 }
