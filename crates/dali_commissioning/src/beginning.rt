@@ -73,10 +73,8 @@ pub fn begin<K: Keep, R: Read, W: Write, P: Watch>(
     if is_addressed(&replies) {
         return Ok(Begun::Addressed(replies));
     }
-    match commission(keep, driver, watch, Input::Start, quiet_runs) {
-        Ok(pass) => Ok(Begun::Commissioned(pass)),
-        Err(fault) => Err(fault),
-    }
+    let pass = commission(keep, driver, watch, Input::Start, quiet_runs)?;
+    Ok(Begun::Commissioned(pass))
 }
 
 /// What a check found: the records, what is heard of each short address, from 0 on, and whether gear are there that

@@ -101,10 +101,7 @@ impl Keep for Looking {
         if self.wanted.is_some() {
             return Err(KeepError::StoreFailed);
         }
-        match self.keep.commit(added) {
-            Ok(()) => {}
-            Err(error) => return Err(error),
-        }
+        self.keep.commit(added)?;
         self.wanted = wanted_by(&added);
         if self.wanted.is_some() {
             return Err(KeepError::StoreFailed);

@@ -100,11 +100,7 @@ pub fn commission<K: Keep, R: Read, W: Write, P: Watch>(
 {
     let mut quiet = 0;
     for _ in 0..MOST_RUNS {
-        let pass = match run(keep, driver, watch, start) {
-            Ok(pass) => pass,
-            // The proof goes through each arm: what a fault leaves is told apart.
-            Err(fault) => return Err(fault),
-        };
+        let pass = run(keep, driver, watch, start)?;
         if !is_all_found(pass.ended) {
             return Ok(pass);
         }

@@ -147,7 +147,7 @@ abbrev pub heard_once : Mending → Forward → Answer → Mending
 heard_once m f h =
     let n = with_entry m f h in gone_on n (frame_next n.short n.course.stage n.entries)
 
--- A LOST FRAME lets the transaction begin again, eight times in a row at most.
+-- A LOST FRAME lets the transaction begin again; the eighth in a row ends the mending.
 abbrev pub lost_once : Mending → Mending
 lost_once m = record m {
   course =

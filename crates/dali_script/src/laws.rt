@@ -27,7 +27,7 @@ pub fn stages_say_what_was_sent_and_found()
 {}
 
 /// A transaction begins with TERMINATE, SEARCHADDRH, QUERY RANDOM ADDRESS (H) or direct arc power, and none of these
-/// comes later in one, but SEARCHADDRH in a hunt.
+/// comes later in one, but SEARCHADDRH after INITIALISE or in a hunt.
 pub fn transactions_begin_once()
     ensures { TransactionsBeginOnce }
 {}
@@ -37,8 +37,9 @@ pub fn openings_begin_with_terminate()
     ensures { OpeningsBeginWithTerminate }
 {}
 
-/// COMPARE, QUERY SHORT ADDRESS, PROGRAM SHORT ADDRESS and WITHDRAW come only after all three search commands;
-/// PROGRAM of an address only if gear without short address answered, and with what is reserved for their number.
+/// QUERY SHORT ADDRESS, PROGRAM SHORT ADDRESS and WITHDRAW come only after all three search commands, and COMPARE also
+/// in a hunt or a doubt. PROGRAM SHORT ADDRESS comes only if the gear that was found has no short address, and with the
+/// address that is reserved for its random address.
 pub fn gear_are_searched_anew()
     ensures { GearAreSearchedAnew }
 {}

@@ -158,10 +158,8 @@ pub fn run_threads<R: Threads + Wait + Sync, W: Write>(
         → OnOk result (Reports setup.turns setup.surveys (length setup.blocks.items)
         (W.contents writer.old) (W.contents writer.new)) }
 {
-    match planned(alloc, setup.gear, setup.blocks.as_slice(), &[]) {
-        Ok(plan) => run_on(rt, alloc, &plan, &setup, writer),
-        Err(fault) => Err(fault),
-    }
+    let plan = planned(alloc, setup.gear, setup.blocks.as_slice(), &[])?;
+    run_on(rt, alloc, &plan, &setup, writer)
 }
 
 /// A plan of the same gear and blocks as one without numbers, with numbers drawn from the seed.
