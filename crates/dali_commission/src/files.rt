@@ -377,10 +377,8 @@ fn shut_all<F, H: Holder<F>>(
             done = Err(holder.refused(name, Failure::Store(fault)));
         }
     }
-    match done {
-        Ok(()) => Ok(files),
-        Err(failure) => Err(failure),
-    }
+    done?;
+    Ok(files)
 }
 
 /// What was done in a folder is on its disk then.

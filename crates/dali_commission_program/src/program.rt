@@ -153,10 +153,7 @@ fn writes<S: Voice + AllocGlobal>(
 fn or_refused(ended: Result<(), Failure>, written: Result<(), Failure>) -> Result<(), Failure>
     ensures { result ≡ or_refused ended written }
 {
-    match ended {
-        Ok(()) => written,
-        Err(failure) => Err(failure),
-    }
+    ended.and(written)
 }
 
 /// Does a task, and says and writes what it came to.

@@ -1,13 +1,16 @@
 use Rattle.std.proofs.Common.{rules, sym, ◌∙◌}
+use Rattle.std.proofs.lemmas.Result.{err_from_is_err_and}
 use Rattle.dali_commissioning.proofs.{Ran.of_block, Ran.ran_more, Ran.ended_otherwise, Ran.ended_quiet, Ran.grows_further, Steps.stays_further}
 use Rattle.dali_commissioning.proofs.runs.commission.Goals as goal
 
-pub returns-in-Err-clause-left : goal.returns-in-Err-clause-left
-returns-in-Err-clause-left g c = grows_further g.K.Keep.is_up g.K.Keep.is_sound g.K.Keep.holds _ _ _
-    c.loop.invariant.ran.stays c.run.ensures.stays c.loop.invariant.ran.grows c.in-Err.ensures.left
+pub returns-in_err-pass-clause-left : goal.returns-in_err-pass-clause-left
+returns-in_err-pass-clause-left g c =
+    let p = err_from_is_err_and c.from_residual.result c.from_residual.ensures.1 in
+    rw p.1 (grows_further g.K.Keep.is_up g.K.Keep.is_sound g.K.Keep.holds _ _ _
+    c.loop.invariant.ran.stays c.run.ensures.stays c.loop.invariant.ran.grows c.in_err-pass.ensures.left)
 
-pub returns-in-Err-clause-stays : goal.returns-in-Err-clause-stays
-returns-in-Err-clause-stays g c =
+pub returns-in_err-pass-clause-stays : goal.returns-in_err-pass-clause-stays
+returns-in_err-pass-clause-stays g c =
     stays_further g.K.Keep.is_up g.K.Keep.is_sound _ _ _ c.loop.invariant.ran.stays c.run.ensures.stays
 
 pub returns-then-not-is_all_found-clause-stays : goal.returns-then-not-is_all_found-clause-stays
@@ -27,19 +30,19 @@ returns-clause-stays g c = c.loop.invariant.ran.stays
 pub returns-then-not-is_all_found-clause-ran : goal.returns-then-not-is_all_found-clause-ran
 returns-then-not-is_all_found-clause-ran g c =
     ended_otherwise g.K.Keep.is_up g.K.Keep.is_sound g.K.Keep.holds _ _ _ _ _ _ _ _ _ _ _ _ c.loop.invariant.ran
-    (of_block g.K.Keep.is_up g.K.Keep.is_sound g.K.Keep.holds _ _ _ _ _ _ _ _ c.loop.invariant.block c.in-Ok.ensures.ran)
+    (of_block g.K.Keep.is_up g.K.Keep.is_sound g.K.Keep.holds _ _ _ _ _ _ _ _ c.loop.invariant.block c.in_ok-pass.ensures.ran)
     (search rules)
 
 pub returns-then-quiet-quiet_runs-clause-ran : goal.returns-then-quiet-quiet_runs-clause-ran
 returns-then-quiet-quiet_runs-clause-ran g c =
     ended_quiet g.K.Keep.is_up g.K.Keep.is_sound g.K.Keep.holds _ _ _ _ _ _ _ _ _ _ _ _ c.loop.invariant.ran
-    (of_block g.K.Keep.is_up g.K.Keep.is_sound g.K.Keep.holds _ _ _ _ _ _ _ _ c.loop.invariant.block c.in-Ok.ensures.ran)
+    (of_block g.K.Keep.is_up g.K.Keep.is_sound g.K.Keep.holds _ _ _ _ _ _ _ _ c.loop.invariant.block c.in_ok-pass.ensures.ran)
     (sym c.quiet_after-quiet.ensures ∙ c.if-quiet-quiet_runs.true)
 
 pub loop-preserved : goal.loop-preserved
 loop-preserved g c = record {
-  ran = ran_more g.K.Keep.is_up g.K.Keep.is_sound g.K.Keep.holds _ _ _ _ _ _ _ _ _ _ _ c.in-Ok.pass c.loop.invariant.ran
-      (of_block g.K.Keep.is_up g.K.Keep.is_sound g.K.Keep.holds _ _ _ _ _ _ _ _ c.loop.invariant.block c.in-Ok.ensures.ran)
+  ran = ran_more g.K.Keep.is_up g.K.Keep.is_sound g.K.Keep.holds _ _ _ _ _ _ _ _ _ _ _ c.in_ok-pass.pass c.loop.invariant.ran
+      (of_block g.K.Keep.is_up g.K.Keep.is_sound g.K.Keep.holds _ _ _ _ _ _ _ _ c.loop.invariant.block c.in_ok-pass.ensures.ran)
       (search rules) c.quiet_after-quiet.ensures;
   few = search rules;
   block = c.run.ensures.block ∙ c.loop.invariant.block;
