@@ -1,41 +1,59 @@
-use Rattle.std.specs.Prelude.{ℕ, ◌+◌, Bool, true, false, List, [], ◌∷◌, ◌++◌, Option, Some, None}
+use Rattle.std.specs.Prelude.{◌≡◌, ℕ, ◌+◌, Bool, List, [], ◌∷◌, ◌++◌, Option, Some, None}
 use Rattle.std.specs.Prelude.{codes, decimal}
+use Rattle.std.specs.Borrow.{Bor}
+use Rattle.json.specs.Print.{print}
+use Rattle.json.specs.Token.{Token, begin_object, end_object, begin_array, end_array}
+use Rattle.json.specs.Token.{key, string, number, boolean, null}
+use Rattle.json.specs.Written.{Written}
 use Rattle.dali_frame.specs.Hex.{random_text}
 use Rattle.dali_commissioning.specs.declared.verdict.Place.{Place}
 use Rattle.dali_commissioning.specs.declared.verdict.Place.TheVariants as place
-use Rattle.dali_commission_program.specs.declared.json.Part.{Part}
-use Rattle.dali_commission_program.specs.declared.json.Part.TheVariants.{Table, LeftAlone}
-use Rattle.dali_commission_program.specs.declared.json.Part.TheVariants.{Missing, Strangers}
-use Rattle.dali_commission_program.specs.declared.json.Part.TheVariants.{Unaddressed, End}
+use Rattle.dali_commission_program.specs.declared.json.Value.{Value}
+use Rattle.dali_commission_program.specs.declared.json.Value.TheVariants as value
 use Rattle.dali_commission_program.specs.declared.report.Report.{Report}
 
--- THE LISTS of an object of JSON: a comma stands before each but the first
-abbrev pub comma : Bool → List ℕ
-comma true = []
-comma false = codes ","
+-- WHAT A WRITER HAS AFTER A CALL: these tokens, after those before
+abbrev pub IsPut : Written → Written → List Token → Type 0
+IsPut old new ts = (new.before ≡ old.before) × (new.tokens ≡ old.tokens ++ ts)
 
-abbrev pub bool_text : Bool → List ℕ
-bool_text true = codes "true"
-bool_text false = codes "false"
+-- a value of a member: null, if there is none
+abbrev pub value_token : Value → Token
+value_token (value.Text text) = string text.now
+value_token (value.Number n) = number (decimal n)
+value_token (value.Random (Some r)) = string (random_text r)
+value_token (value.Random None) = null
+value_token (value.Truth (Some is)) = boolean is
+value_token (value.Truth None) = null
 
--- the gear in the table
-unfoldable pub gear_text : ℕ × ℕ × Bool → List ℕ
-gear_text row =
-    codes "{\"address\":"
-    ++ (decimal row.0 ++ (codes ",\"random\":\"" ++ (random_text row.1
-    ++ (codes "\",\"given\":" ++ (bool_text row.2 ++ codes "}")))))
+abbrev pub member_tokens : Bor (List ℕ) × Value → List Token
+member_tokens it = key it.0.now ∷ value_token it.1 ∷ []
 
--- one entry after the other, by the text of each
-abbrev pub list_text : {T : Type 0} → (T → List ℕ) → Bool → List T → List ℕ
-list_text text first [] = []
-list_text text first (x ∷ more) = (comma first ++ text x) ++ list_text text false more
+-- A LIST begins with its name, and has the tokens of each entry
+unfoldable pub begin_list : List ℕ → List Token
+begin_list name = key name ∷ begin_array ∷ []
+
+abbrev pub entries : {T : Type 0} → (T → List Token) → List T → List Token
+entries tokens [] = end_array ∷ []
+entries tokens (x ∷ more) = tokens x ++ entries tokens more
+
+-- a gear in the table
+unfoldable pub gear_tokens : ℕ × ℕ × Bool → List Token
+gear_tokens row =
+    begin_object
+    ∷ key (codes "address") ∷ number (decimal row.0)
+    ∷ key (codes "random") ∷ string (random_text row.1)
+    ∷ key (codes "given") ∷ boolean row.2
+    ∷ end_object ∷ []
+
+-- a short address that was left alone
+abbrev pub number_tokens : ℕ → List Token
+number_tokens a = number (decimal a) ∷ []
 
 -- EACH SHORT ADDRESS WHOSE GEAR IS MISSING, from one on
-abbrev pub missing_text : Bool → ℕ → List Place → List ℕ
-missing_text first a [] = []
-missing_text first a (place.Missing r ∷ more) =
-    (comma first ++ decimal a) ++ missing_text false (a + 1) more
-missing_text first a (_ ∷ more) = missing_text first (a + 1) more
+abbrev pub missing_tokens : ℕ → List Place → List Token
+missing_tokens a [] = end_array ∷ []
+missing_tokens a (place.Missing r ∷ more) = number (decimal a) ∷ missing_tokens (a + 1) more
+missing_tokens a (_ ∷ more) = missing_tokens (a + 1) more
 
 -- WHAT IS NOT AS RECORDED: why, and the random address that was heard, or is reserved
 abbrev pub oddity : Place → Option (List ℕ × Option ℕ)
@@ -49,62 +67,38 @@ oddity place.Garbled = Some (codes "unclear-strangers", None)
 oddity place.Noise = Some (codes "unclear-strangers", None)
 oddity _ = None
 
-unfoldable pub random_text_or : Option ℕ → List ℕ
-random_text_or (Some r) = codes "\"" ++ (random_text r ++ codes "\"}")
-random_text_or None = codes "null}"
+abbrev pub oddity_tokens : ℕ → Option (List ℕ × Option ℕ) → List Token
+oddity_tokens a None = []
+oddity_tokens a (Some it) =
+    begin_object
+    ∷ key (codes "address") ∷ number (decimal a)
+    ∷ key (codes "is") ∷ string it.0
+    ∷ key (codes "random") ∷ value_token (value.Random it.1)
+    ∷ end_object ∷ []
 
-unfoldable pub odd_text : ℕ → List ℕ → List ℕ
-odd_text a is =
-    codes "{\"address\":"
-    ++ (decimal a ++ (codes ",\"is\":\"" ++ (is ++ codes "\",\"random\":")))
-
-abbrev pub oddity_text : ℕ → List ℕ × Option ℕ → List ℕ
-oddity_text a it = odd_text a it.0 ++ random_text_or it.1
-
-abbrev pub strangers_by : Bool → ℕ → Option (List ℕ × Option ℕ) → (Bool → List ℕ) → List ℕ
-strangers_by first a None more = more first
-strangers_by first a (Some it) more = (comma first ++ oddity_text a it) ++ more false
-
-abbrev pub strangers_text : Bool → ℕ → List Place → List ℕ
-strangers_text first a [] = []
-strangers_text first a (p ∷ more) =
-    strangers_by first a (oddity p) (λ next. strangers_text next (a + 1) more)
-
-abbrev pub unaddressed_text : Option Bool → List ℕ
-unaddressed_text (Some found) = bool_text found
-unaddressed_text None = codes "null"
-
--- what stands before each list, and at the end
-unfoldable pub label : Part → List ℕ
-label Table = codes ",\"table\":["
-label LeftAlone = codes "],\"left_alone\":["
-label Missing = codes "],\"missing\":["
-label Strangers = codes "],\"strangers\":["
-label Unaddressed = codes "],\"unaddressed\":"
-label End = codes "}\n"
+abbrev pub strangers_tokens : ℕ → List Place → List Token
+strangers_tokens a [] = end_array ∷ []
+strangers_tokens a (p ∷ more) = oddity_tokens a (oddity p) ++ strangers_tokens (a + 1) more
 
 -- THE OBJECT, with how the task ended and its exit status
-unfoldable pub head_text : List ℕ → ℕ → Report → List ℕ
-head_text end status report =
-    codes "{\"end\":\""
-    ++ (end ++ (codes "\",\"status\":" ++ (decimal status ++ (codes ",\"frames\":"
-    ++ (decimal report.frames ++ (codes ",\"enrolled\":" ++ decimal report.enrolled))))))
+unfoldable pub head_tokens : List ℕ → ℕ → Report → List Token
+head_tokens end status report =
+    key (codes "end") ∷ string end
+    ∷ key (codes "status") ∷ number (decimal status)
+    ∷ key (codes "frames") ∷ number (decimal report.frames)
+    ∷ key (codes "enrolled") ∷ number (decimal report.enrolled) ∷ []
 
-unfoldable pub known_text : Report → List ℕ
-known_text report =
-    label Table
-    ++ (list_text gear_text true report.table.items
-    ++ (label LeftAlone ++ list_text (λ a. decimal a) true report.left_alone.items))
+unfoldable pub list_tokens : Report → List Token
+list_tokens report =
+    begin_list (codes "table") ++ entries gear_tokens report.table.items
+    ++ begin_list (codes "left_alone") ++ entries number_tokens report.left_alone.items
+    ++ begin_list (codes "missing") ++ missing_tokens 0 report.places.items
+    ++ begin_list (codes "strangers") ++ strangers_tokens 0 report.places.items
+    ++ key (codes "unaddressed") ∷ value_token (value.Truth report.has_unaddressed) ∷ []
 
-unfoldable pub seen_text : Report → List ℕ
-seen_text report =
-    label Missing
-    ++ (missing_text true 0 report.places.items
-    ++ (label Strangers ++ strangers_text true 0 report.places.items))
+unfoldable pub report_tokens : List ℕ → ℕ → Report → List Token
+report_tokens end status report =
+    begin_object ∷ (head_tokens end status report ++ list_tokens report ++ end_object ∷ [])
 
-unfoldable pub tail_text : Report → List ℕ
-tail_text report = label Unaddressed ++ (unaddressed_text report.has_unaddressed ++ label End)
-
-unfoldable pub report_text : List ℕ → ℕ → Report → List ℕ
-report_text end status report =
-    head_text end status report ++ (known_text report ++ (seen_text report ++ tail_text report))
+abbrev pub report_text : List ℕ → ℕ → Report → List ℕ
+report_text end status report = print (report_tokens end status report) ++ codes "\n"

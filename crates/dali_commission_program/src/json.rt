@@ -1,113 +1,128 @@
 //! What a task came to, as one object of JSON on a line.
 
-ghost use Rattle.std.specs.Prelude.{◌≡◌, ◌++◌, ◌+◌, ◌≤◌, OnOk, decimal, length, option_map, string_bytes};
-ghost use Rattle.dali_commission_program.specs.Json.{comma, bool_text, gear_text, list_text};
-ghost use Rattle.dali_commission_program.specs.Json.{missing_text, oddity, odd_text, random_text_or, strangers_text};
-ghost use Rattle.dali_commission_program.specs.Json.{unaddressed_text, label, head_text, known_text, seen_text};
-ghost use Rattle.dali_commission_program.specs.Json.{tail_text, report_text};
+ghost use Rattle.std.specs.Prelude.{◌≡◌, ◌∷◌, ◌++◌, ◌+◌, ◌≤◌, [], OnOk, flat_map, length, option_map};
+ghost use Rattle.json.specs.Lex.{tokens};
+ghost use Rattle.json.specs.Print.{print};
+ghost use Rattle.json.specs.Token.{begin_object, end_object};
+ghost use Rattle.dali_commission_program.specs.Json.{IsPut, value_token, member_tokens, begin_list, entries};
+ghost use Rattle.dali_commission_program.specs.Json.{gear_tokens, number_tokens, missing_tokens, oddity};
+ghost use Rattle.dali_commission_program.specs.Json.{strangers_tokens, head_tokens, list_tokens};
+ghost use Rattle.dali_commission_program.specs.Json.{report_tokens, report_text};
 
 use crate::failure::Failure;
 use crate::report::{Report, Row};
 use crate::said::Voice;
 use dali_commissioning::Place;
 use dali_frame::Random24;
-use std::alloc::AllocError;
+use json::Writer;
+use std::alloc::{AllocError, Global};
 
-fn comma(is_first: bool) -> &'static str
-    ensures { result.now ≡ comma is_first }
-{
-    if is_first { "" } else { "," }
+/// The value of a member.
+#[derive(Clone, Copy)]
+enum Value<'a> {
+    Text(&'a str),
+    Number(u64),
+    /// Null, if there is none.
+    Random(Option<Random24>),
+    /// Null, if it is not known.
+    Truth(Option<bool>),
 }
 
-fn truth(is: bool) -> &'static str
-    ensures { result.now ≡ bool_text is }
+fn put_value(alloc: Global, out: &mut Writer, value: &Value) -> Result<(), AllocError>
+    ensures { OnOk result (IsPut out.old out.new (value_token value.now ∷ [])) }
 {
-    if is { "true" } else { "false" }
+    match value {
+        Value::Text(text) => out.string(text),
+        Value::Number(number) => out.u64(*number),
+        Value::Random(Some(random)) => out.string(&format!(in alloc; "{random}")?),
+        Value::Truth(Some(is)) => out.boolean(*is),
+        Value::Random(None) | Value::Truth(None) => out.null(),
+    }
 }
 
-#[tactic(auto, unfolding(crate::specs::Json::gear_text))]
-fn push_row(text: &mut String, row: Row) -> Result<(), AllocError>
-    ensures { OnOk result (string_bytes text.new ≡ string_bytes text.old ++ gear_text row) }
+/// Members of an object, in order.
+#[tactic(auto, using(std::proofs::lemmas::List::append_assoc))]
+fn put(alloc: Global, out: &mut Writer, members: &[(&str, Value)]) -> Result<(), AllocError>
+    ensures { OnOk result (IsPut out.old out.new (flat_map member_tokens members.now)) }
+{
+    let [(name, value), more @ ..] = members else {
+        return Ok(());
+    };
+    out.key(name)?;
+    put_value(alloc, out, value)?;
+    put(alloc, out, more)
+}
+
+/// An object with these members.
+#[tactic(auto, using(std::proofs::lemmas::List::append_assoc))]
+fn put_object(alloc: Global, out: &mut Writer, members: &[(&str, Value)]) -> Result<(), AllocError>
+    ensures { OnOk result (IsPut out.old out.new
+        (begin_object ∷ (flat_map member_tokens members.now ++ end_object ∷ []))) }
+{
+    out.begin_object()?;
+    put(alloc, out, members)?;
+    out.end_object()
+}
+
+/// The beginning of a member that is a list.
+#[tactic(auto, unfolding(crate::specs::Json::begin_list))]
+fn begin_list(out: &mut Writer, name: &str) -> Result<(), AllocError>
+    ensures { OnOk result (IsPut out.old out.new (begin_list name.now)) }
+{
+    out.key(name)?;
+    out.begin_array()
+}
+
+#[tactic(auto, unfolding(crate::specs::Json::gear_tokens))]
+fn put_row(alloc: Global, out: &mut Writer, row: Row) -> Result<(), AllocError>
+    ensures { OnOk result (IsPut out.old out.new (gear_tokens row)) }
 {
     let (address, random, is_own) = row;
-    let given = truth(is_own);
-    write!(
-        text,
-        "{{\"address\":{address},\"random\":\"{random}\",\"given\":{given}}}"
-    )
+    let gear = [
+        ("address", Value::Number(address as u64)),
+        ("random", Value::Random(Some(random))),
+        ("given", Value::Truth(Some(is_own))),
+    ];
+    put_object(alloc, out, &gear)
 }
 
-/// What stands in a list.
-trait Entry {
-    ghost use Rattle.std.specs.Prelude.{ℕ, List};
-
-    ghost text: { Self → List ℕ };
-
-    /// Adds its text.
-    fn push(&self, to: &mut String) -> Result<(), AllocError>
-        ensures { OnOk result (string_bytes to.new ≡ string_bytes to.old ++ text self.now) };
-}
-
-impl Entry for Row {
-    ghost text = { gear_text };
-
-    fn push(&self, to: &mut String) -> Result<(), AllocError> {
-        push_row(to, *self)
-    }
-}
-
-/// A short address.
-impl Entry for u8 {
-    ghost text = { λ number. decimal number };
-
-    fn push(&self, to: &mut String) -> Result<(), AllocError> {
-        let number = *self;
-        write!(to, "{number}")
-    }
-}
-
+/// The gear in the table, and the end of their list.
 #[tactic(auto, using(std::proofs::lemmas::List::append_assoc))]
-fn push_one<T: Entry>(text: &mut String, is_first: bool, entry: &T) -> Result<(), AllocError>
-    ensures { OnOk result (string_bytes text.new ≡ string_bytes text.old ++ (comma is_first ++ T.text entry.now)) }
+fn put_rows(alloc: Global, out: &mut Writer, rows: &[Row]) -> Result<(), AllocError>
+    ensures { OnOk result (IsPut out.old out.new (entries gear_tokens rows.now)) }
 {
-    text.push_str(comma(is_first))?;
-    entry.push(text)
+    let [row, more @ ..] = rows else {
+        return out.end_array();
+    };
+    put_row(alloc, out, *row)?;
+    put_rows(alloc, out, more)
 }
 
-/// A list: the gear in the table, or the short addresses that were left alone.
+/// The short addresses that were left alone, and the end of their list.
 #[tactic(auto, using(std::proofs::lemmas::List::append_assoc))]
-fn push_all<T: Entry>(text: &mut String, is_first: bool, list: &[T]) -> Result<(), AllocError>
-    ensures { OnOk result (string_bytes text.new ≡ string_bytes text.old ++ list_text T.text is_first list.now) }
+fn put_numbers(out: &mut Writer, numbers: &[u8]) -> Result<(), AllocError>
+    ensures { OnOk result (IsPut out.old out.new (entries number_tokens numbers.now)) }
 {
-    match list {
-        [] => Ok(()),
-        [entry, more @ ..] => {
-            push_one(text, is_first, entry)?;
-            push_all(text, false, more)
-        }
-    }
+    let [number, more @ ..] = numbers else {
+        return out.end_array();
+    };
+    out.u64(*number as u64)?;
+    put_numbers(out, more)
 }
 
-/// The short addresses whose gear are missing, from this one on.
+/// The short addresses whose gear are missing, from this one on, and the end of their list.
 #[tactic(auto, using(std::proofs::lemmas::List::append_assoc))]
-fn push_missing(
-    text: &mut String,
-    is_first: bool,
-    number: u8,
-    places: &[Place],
-) -> Result<(), AllocError>
+fn put_missing(out: &mut Writer, number: u8, places: &[Place]) -> Result<(), AllocError>
     requires { number + length places.now ≤ 64 }
-    ensures { OnOk result (string_bytes text.new
-        ≡ string_bytes text.old ++ missing_text is_first number places.now) }
+    ensures { OnOk result (IsPut out.old out.new (missing_tokens number places.now)) }
 {
-    match places {
-        [] => Ok(()),
-        [Place::Missing(_), more @ ..] => {
-            push_one(text, is_first, &number)?;
-            push_missing(text, false, number + 1, more)
-        }
-        [_, more @ ..] => push_missing(text, is_first, number + 1, more),
+    let [place, more @ ..] = places else {
+        return out.end_array();
+    };
+    if let Place::Missing(_) = place {
+        out.u64(number as u64)?;
     }
+    put_missing(out, number + 1, more)
 }
 
 /// Why what stands under a short address is not as recorded, and the random address that was heard there; None if it
@@ -127,146 +142,85 @@ fn oddity(place: Place) -> Option<(&'static str, Option<Random24>)>
     }
 }
 
-#[tactic(auto, unfolding(crate::specs::Json::random_text_or))]
-fn push_random(text: &mut String, random: Option<Random24>) -> Result<(), AllocError>
-    ensures { OnOk result (string_bytes text.new ≡ string_bytes text.old ++ random_text_or random) }
-{
-    match random {
-        Some(random) => write!(text, "\"{random}\"}}"),
-        None => text.push_str("null}"),
-    }
-}
-
-#[tactic(auto, unfolding(crate::specs::Json::odd_text))]
-fn push_odd(text: &mut String, number: u8, is: &str) -> Result<(), AllocError>
-    ensures { OnOk result (string_bytes text.new ≡ string_bytes text.old ++ odd_text number is.now) }
-{
-    write!(text, "{{\"address\":{number},\"is\":\"{is}\",\"random\":")
-}
-
+/// The gear that answer otherwise than is recorded, from this short address on, and the end of their list: strangers,
+/// and those that answer in place of a gear of the table.
 #[tactic(auto, using(std::proofs::lemmas::List::append_assoc))]
-fn push_oddity(
-    text: &mut String,
-    is_first: bool,
-    number: u8,
-    is: &str,
-    random: Option<Random24>,
-) -> Result<(), AllocError>
-    ensures { OnOk result (string_bytes text.new
-        ≡ string_bytes text.old ++ (comma is_first ++ (odd_text number is.now ++ random_text_or random))) }
-{
-    text.push_str(comma(is_first))?;
-    push_odd(text, number, is)?;
-    push_random(text, random)
-}
-
-/// The gear that answer otherwise than is recorded, from this short address on: strangers, and those that answer in
-/// place of a gear of the table.
-#[tactic(auto, using(std::proofs::lemmas::List::append_assoc))]
-fn push_strangers(
-    text: &mut String,
-    is_first: bool,
+fn put_strangers(
+    alloc: Global,
+    out: &mut Writer,
     number: u8,
     places: &[Place],
 ) -> Result<(), AllocError>
     requires { number + length places.now ≤ 64 }
-    ensures { OnOk result (string_bytes text.new
-        ≡ string_bytes text.old ++ strangers_text is_first number places.now) }
+    ensures { OnOk result (IsPut out.old out.new (strangers_tokens number places.now)) }
 {
     let [place, more @ ..] = places else {
-        return Ok(());
+        return out.end_array();
     };
-    match oddity(*place) {
-        Some((is, random)) => {
-            push_oddity(text, is_first, number, is, random)?;
-            push_strangers(text, false, number + 1, more)
-        }
-        None => push_strangers(text, is_first, number + 1, more),
+    if let Some((is, random)) = oddity(*place) {
+        let gear = [
+            ("address", Value::Number(number as u64)),
+            ("is", Value::Text(is)),
+            ("random", Value::Random(random)),
+        ];
+        put_object(alloc, out, &gear)?;
     }
+    put_strangers(alloc, out, number + 1, more)
 }
 
-fn unaddressed(found: Option<bool>) -> &'static str
-    ensures { result.now ≡ unaddressed_text found }
+/// How the task ended, and what it did.
+#[tactic(auto, unfolding(crate::specs::Json::head_tokens))]
+fn put_head(
+    alloc: Global,
+    out: &mut Writer,
+    report: &Report,
+    end: &str,
+    status: u8,
+) -> Result<(), AllocError>
+    ensures { OnOk result (IsPut out.old out.new (head_tokens end.now status report.now)) }
 {
-    match found {
-        Some(found) => truth(found),
-        None => "null",
-    }
+    let members = [
+        ("end", Value::Text(end)),
+        ("status", Value::Number(status as u64)),
+        ("frames", Value::Number(report.frames)),
+        ("enrolled", Value::Number(report.enrolled as u64)),
+    ];
+    put(alloc, out, &members)
 }
 
-/// What stands before each list of the object, and at its end.
-#[derive(Clone, Copy)]
-enum Part {
-    Table,
-    LeftAlone,
-    Missing,
-    Strangers,
-    Unaddressed,
-    End,
-}
-
-#[tactic(auto, unfolding(crate::specs::Json::label))]
-fn label(part: Part) -> &'static str
-    ensures { result.now ≡ label part }
+/// The gear in the table, and the short addresses that need to be looked at.
+fn put_lists(alloc: Global, out: &mut Writer, report: &Report) -> Result<(), AllocError>
+    ensures { OnOk result (IsPut out.old out.new (list_tokens report.now)) }
 {
-    match part {
-        Part::Table => ",\"table\":[",
-        Part::LeftAlone => "],\"left_alone\":[",
-        Part::Missing => "],\"missing\":[",
-        Part::Strangers => "],\"strangers\":[",
-        Part::Unaddressed => "],\"unaddressed\":",
-        Part::End => "}\n",
-    }
+    begin_list(out, "table")?;
+    put_rows(alloc, out, &report.table)?;
+    begin_list(out, "left_alone")?;
+    put_numbers(out, &report.left_alone)?;
+    begin_list(out, "missing")?;
+    put_missing(out, 0, &report.places)?;
+    begin_list(out, "strangers")?;
+    put_strangers(alloc, out, 0, &report.places)?;
+    put(
+        alloc,
+        out,
+        &[("unaddressed", Value::Truth(report.has_unaddressed))],
+    )
 }
 
-#[tactic(auto, using(std::proofs::lemmas::List::append_assoc), unfolding(crate::specs::Json::head_text))]
-fn push_head(text: &mut String, report: &Report, end: &str, status: u8) -> Result<(), AllocError>
-    ensures { OnOk result (string_bytes text.new
-        ≡ string_bytes text.old ++ head_text end.now status report.now) }
+#[tactic(auto, using(std::proofs::lemmas::List::append_assoc), unfolding(crate::specs::Json::report_tokens))]
+fn put_report(
+    alloc: Global,
+    out: &mut Writer,
+    report: &Report,
+    end: &str,
+    status: u8,
+) -> Result<(), AllocError>
+    ensures { OnOk result (IsPut out.old out.new (report_tokens end.now status report.now)) }
 {
-    let (frames, enrolled) = (report.frames, report.enrolled);
-    write!(text, "{{\"end\":\"{end}\",\"status\":{status}")?;
-    write!(text, ",\"frames\":{frames},\"enrolled\":{enrolled}")
-}
-
-#[tactic(auto, using(std::proofs::lemmas::List::append_assoc), unfolding(crate::specs::Json::known_text))]
-fn push_known(text: &mut String, report: &Report) -> Result<(), AllocError>
-    ensures { OnOk result (string_bytes text.new ≡ string_bytes text.old ++ known_text report.now) }
-{
-    text.push_str(label(Part::Table))?;
-    push_all(text, true, &report.table)?;
-    text.push_str(label(Part::LeftAlone))?;
-    push_all(text, true, &report.left_alone)
-}
-
-#[tactic(auto, using(std::proofs::lemmas::List::append_assoc), unfolding(crate::specs::Json::seen_text))]
-fn push_seen(text: &mut String, report: &Report) -> Result<(), AllocError>
-    ensures { OnOk result (string_bytes text.new ≡ string_bytes text.old ++ seen_text report.now) }
-{
-    text.push_str(label(Part::Missing))?;
-    push_missing(text, true, 0, &report.places)?;
-    text.push_str(label(Part::Strangers))?;
-    push_strangers(text, true, 0, &report.places)
-}
-
-#[tactic(auto, using(std::proofs::lemmas::List::append_assoc), unfolding(crate::specs::Json::tail_text))]
-fn push_tail(text: &mut String, report: &Report) -> Result<(), AllocError>
-    ensures { OnOk result (string_bytes text.new ≡ string_bytes text.old ++ tail_text report.now) }
-{
-    text.push_str(label(Part::Unaddressed))?;
-    text.push_str(unaddressed(report.has_unaddressed))?;
-    text.push_str(label(Part::End))
-}
-
-#[tactic(auto, using(std::proofs::lemmas::List::append_assoc), unfolding(crate::specs::Json::report_text))]
-fn push_report(text: &mut String, report: &Report, end: &str, status: u8) -> Result<(), AllocError>
-    ensures { OnOk result (string_bytes text.new
-        ≡ string_bytes text.old ++ report_text end.now status report.now) }
-{
-    push_head(text, report, end, status)?;
-    push_known(text, report)?;
-    push_seen(text, report)?;
-    push_tail(text, report)
+    out.begin_object()?;
+    put_head(alloc, out, report, end, status)?;
+    put_lists(alloc, out, report)?;
+    out.end_object()
 }
 
 /// Writes what a task came to: how it ended and its exit status, and how many frames were put and how many gear
@@ -277,9 +231,17 @@ pub(crate) fn write_report<S: Voice + AllocGlobal>(
     end: &str,
     status: u8,
 ) -> Result<(), Failure>
-    ensures { OnOk result (S.wrote system.now (report_text end.now status report.now)) }
+    ensures written { OnOk result (S.wrote system.now (report_text end.now status report.now)) }
+    ensures reads_back { OnOk result (let object = report_tokens end.now status report.now in
+        tokens (print object) ≡ object) }
 {
-    let mut text = String::new(system.alloc());
-    push_report(&mut text, report, end, status)?;
+    let alloc = system.alloc();
+    let mut out = Writer::new(Vec::new(alloc));
+    put_report(alloc, &mut out, report, end, status)?;
+    let Ok(mut text) = String::from_utf8(out.into_inner()) else {
+        // What a writer has written is UTF-8.
+        unreachable!();
+    };
+    text.push_str("\n")?;
     system.write(&text)
 }
