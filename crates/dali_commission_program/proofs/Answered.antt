@@ -8,7 +8,7 @@ use Rattle.dali_commission_program.specs.declared.tasks.Asked.{Asked}
 use Rattle.dali_commission_program.specs.Calls.{Call, Look}
 use Rattle.dali_commission_program.specs.Done.{HasDone, HasAnswered, HasServed}
 use Rattle.dali_commission_program.specs.Failures.{status_of, end_name, or_refused}
-use Rattle.dali_commission_program.specs.Json.{report_text}
+use Rattle.dali_commission_program.specs.Object.{report_text}
 use Rattle.dali_commission_program.specs.Words.{Values, IsAsked}
 
 -- a task that was done, and written

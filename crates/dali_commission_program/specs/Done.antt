@@ -13,7 +13,7 @@ use Rattle.dali_commission_program.specs.Calls.{Call, Look, Read}
 use Rattle.dali_commission_program.specs.Came.{HasShown}
 use Rattle.dali_commission_program.specs.Clearing.{HasCleared}
 use Rattle.dali_commission_program.specs.Failures.{end_name}
-use Rattle.dali_commission_program.specs.Json.{report_text}
+use Rattle.dali_commission_program.specs.Object.{report_text}
 use Rattle.dali_commission_program.specs.Tables.{only, table_text}
 use Rattle.dali_commission_program.specs.Tellings.{HasRunWell, HasChecked, HasReplaced, HasMended}
 use Rattle.dali_commission_program.specs.Words.{Values, IsAsked}

@@ -5,8 +5,8 @@ pub mod Done
 pub mod Ending
 pub mod Erasing
 pub mod Failures
-pub mod Json
 pub mod Mends
+pub mod Object
 pub mod Progress
 pub mod Replacing
 pub mod Reports

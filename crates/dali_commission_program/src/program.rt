@@ -5,7 +5,7 @@ ghost use Rattle.std.specs.Prelude.{◌≡◌, ℕ, List, Option, true, OnOk, op
 ghost use Rattle.std.specs.Prelude.{string_bytes};
 ghost use Rattle.dali_console.specs.Status.{status_after};
 ghost use Rattle.dali_commission_program.specs.Failures.{status_of, end_name, or_refused, refused_name};
-ghost use Rattle.dali_commission_program.specs.Json.{report_text};
+ghost use Rattle.dali_commission_program.specs.Object.{report_text};
 ghost use Rattle.dali_commission_program.specs.Tables.{only};
 ghost use Rattle.dali_commission_program.specs.Tellings.{WhyTold};
 ghost use Rattle.dali_commission_program.specs.Done.{HasTabled, HasDone, HasAnswered, HasServed};
@@ -14,8 +14,8 @@ use crate::checking::checks;
 use crate::clearing::clears;
 use crate::failure::Failure;
 use crate::identifying::identify;
-use crate::json::write_report;
 use crate::mending::mends;
+use crate::object::write_report;
 use crate::progress::Manner;
 use crate::records::{Reading, lend, lend_copy};
 use crate::replacing::{note_first, replaces};

@@ -1,7 +1,7 @@
 use Rattle.std.proofs.Common.{◌≡◌, ℕ, ◌++◌, OnOk, List, Result, Ok, Err, append_assoc, ap, ◌∙◌}
 use Rattle.json.specs.Token.{Token}
-use Rattle.dali_commission_program.specs.Json.{list_tokens}
-use Rattle.dali_commission_program.proofs.json.put_lists.Goals as goal
+use Rattle.dali_commission_program.specs.Object.{list_tokens}
+use Rattle.dali_commission_program.proofs.object.put_lists.Goals as goal
 
 -- tokens after tokens
 then : (k l m : List ℕ) (a b c xs ys : List Token) → (l ≡ k) × (b ≡ a ++ xs) → (m ≡ l) × (c ≡ b ++ ys) → (m ≡ k) × (c ≡ a ++ (xs ++ ys))

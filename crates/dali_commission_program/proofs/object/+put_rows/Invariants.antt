@@ -1,5 +1,5 @@
 use Rattle.std.proofs.Common.{length}
-use Rattle.dali_commission_program.proofs.json.+put_rows.Given as goal
+use Rattle.dali_commission_program.proofs.object.+put_rows.Given as goal
 
 abbrev pub decreases-put_rows : goal.decreases-put_rows
 decreases-put_rows l = length l.rows.now

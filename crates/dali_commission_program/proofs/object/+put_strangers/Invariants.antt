@@ -1,5 +1,5 @@
 use Rattle.std.proofs.Common.{length}
-use Rattle.dali_commission_program.proofs.json.+put_strangers.Given as goal
+use Rattle.dali_commission_program.proofs.object.+put_strangers.Given as goal
 
 abbrev pub decreases-put_strangers : goal.decreases-put_strangers
 decreases-put_strangers l = length l.places.now

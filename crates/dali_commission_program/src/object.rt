@@ -4,10 +4,10 @@ ghost use Rattle.std.specs.Prelude.{◌≡◌, ◌∷◌, ◌++◌, ◌+◌, ◌
 ghost use Rattle.json.specs.Lex.{tokens};
 ghost use Rattle.json.specs.Print.{print};
 ghost use Rattle.json.specs.Token.{begin_object, end_object};
-ghost use Rattle.dali_commission_program.specs.Json.{IsPut, value_token, member_tokens, begin_list, entries};
-ghost use Rattle.dali_commission_program.specs.Json.{gear_tokens, number_tokens, missing_tokens, oddity};
-ghost use Rattle.dali_commission_program.specs.Json.{strangers_tokens, head_tokens, list_tokens};
-ghost use Rattle.dali_commission_program.specs.Json.{report_tokens, report_text};
+ghost use Rattle.dali_commission_program.specs.Object.{IsPut, value_token, member_tokens, begin_list, entries};
+ghost use Rattle.dali_commission_program.specs.Object.{gear_tokens, number_tokens, missing_tokens, oddity};
+ghost use Rattle.dali_commission_program.specs.Object.{strangers_tokens, head_tokens, list_tokens};
+ghost use Rattle.dali_commission_program.specs.Object.{report_tokens, report_text};
 
 use crate::failure::Failure;
 use crate::report::{Report, Row};
@@ -65,7 +65,7 @@ fn put_object(alloc: Global, out: &mut Writer, members: &[(&str, Value)]) -> Res
 }
 
 /// The beginning of a member that is a list.
-#[tactic(auto, unfolding(crate::specs::Json::begin_list))]
+#[tactic(auto, unfolding(crate::specs::Object::begin_list))]
 fn begin_list(out: &mut Writer, name: &str) -> Result<(), AllocError>
     ensures { OnOk result (IsPut out.old out.new (begin_list name.now)) }
 {
@@ -73,7 +73,7 @@ fn begin_list(out: &mut Writer, name: &str) -> Result<(), AllocError>
     out.begin_array()
 }
 
-#[tactic(auto, unfolding(crate::specs::Json::gear_tokens))]
+#[tactic(auto, unfolding(crate::specs::Object::gear_tokens))]
 fn put_row(alloc: Global, out: &mut Writer, row: Row) -> Result<(), AllocError>
     ensures { OnOk result (IsPut out.old out.new (gear_tokens row)) }
 {
@@ -169,7 +169,7 @@ fn put_strangers(
 }
 
 /// How the task ended, and what it did.
-#[tactic(auto, unfolding(crate::specs::Json::head_tokens))]
+#[tactic(auto, unfolding(crate::specs::Object::head_tokens))]
 fn put_head(
     alloc: Global,
     out: &mut Writer,
@@ -207,7 +207,7 @@ fn put_lists(alloc: Global, out: &mut Writer, report: &Report) -> Result<(), All
     )
 }
 
-#[tactic(auto, using(std::proofs::lemmas::List::append_assoc), unfolding(crate::specs::Json::report_tokens))]
+#[tactic(auto, using(std::proofs::lemmas::List::append_assoc), unfolding(crate::specs::Object::report_tokens))]
 fn put_report(
     alloc: Global,
     out: &mut Writer,

@@ -8,8 +8,8 @@ use Rattle.json.specs.Written.{Written}
 use Rattle.dali_frame.specs.Hex.{random_text}
 use Rattle.dali_commissioning.specs.declared.verdict.Place.{Place}
 use Rattle.dali_commissioning.specs.declared.verdict.Place.TheVariants as place
-use Rattle.dali_commission_program.specs.declared.json.Value.{Value}
-use Rattle.dali_commission_program.specs.declared.json.Value.TheVariants as value
+use Rattle.dali_commission_program.specs.declared.object.Value.{Value}
+use Rattle.dali_commission_program.specs.declared.object.Value.TheVariants as value
 use Rattle.dali_commission_program.specs.declared.report.Report.{Report}
 
 -- WHAT A WRITER HAS AFTER A CALL: these tokens, after those before
