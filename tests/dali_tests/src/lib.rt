@@ -10,6 +10,10 @@ mod arbiter;
 #[cfg(test)]
 mod ascent;
 #[cfg(test)]
+mod audit;
+#[cfg(test)]
+mod capture;
+#[cfg(test)]
 mod codes;
 #[cfg(test)]
 mod command;
@@ -25,6 +29,8 @@ mod machine;
 mod machine_stories;
 #[cfg(test)]
 mod memory;
+#[cfg(test)]
+mod mending;
 #[cfg(test)]
 mod plan;
 #[cfg(test)]
@@ -47,3 +53,5 @@ mod told;
 mod transaction;
 #[cfg(test)]
 mod values;
+#[cfg(test)]
+mod wire;
