@@ -2,7 +2,9 @@
 
 use super::values::{bytes_of, forward, priority, same};
 use dali_arbiter::{Arbiter, NewError, OfferError, Request};
-use dali_frame::Priority;
+use dali_frame::{Forward, Priority};
+use rand_core::{Rng, SeedableRng};
+use rand_pcg::Pcg32;
 use std::process::Abort;
 use std::test::Fail;
 
@@ -192,4 +194,59 @@ fn capacities_are_1_to_1024(rt: HostRuntime) {
     ] {
         same(&rt, &made(&rt, capacity), &wanted);
     }
+}
+
+/// How many requests may wait.
+const ROOM: u32 = 64;
+
+/// How many senders there are.
+const SENDERS: u8 = 16;
+
+/// Offers as many requests as may wait, of senders and at priorities that are drawn, 2 to 5.
+fn fill(arbiter: &mut Arbiter, draws: &mut Pcg32) {
+    for _ in 0..ROOM {
+        let [sender, level, address_byte, opcode_byte] = draws.next_u32().to_be_bytes();
+        let frame = Forward {
+            address_byte,
+            opcode_byte,
+        };
+        if let Some(priority) = Priority::of(level % 4 + 2) {
+            let _ = arbiter.offer(sender % SENDERS, priority, frame);
+        }
+    }
+}
+
+/// Silences each sender whose bit is drawn.
+fn silence(arbiter: &mut Arbiter, draws: &mut Pcg32) {
+    let drawn = draws.next_u32();
+    for sender in 0..SENDERS {
+        if drawn & (1 << sender) != 0 {
+            arbiter.silence(sender);
+        }
+    }
+}
+
+/// Sends what waits. How many requests that were.
+fn send(arbiter: &mut Arbiter) -> u32 {
+    for sent in 0..ROOM {
+        if arbiter.pick().is_none() {
+            return sent;
+        }
+        arbiter.sent(false);
+    }
+    ROOM
+}
+
+#[test]
+fn a_queue_is_filled_and_half_of_the_senders_fall_silent(rt: HostRuntime) -> Result<(), Fail> {
+    let mut arbiter = Arbiter::new(rt.alloc(), ROOM as usize)?;
+    let mut draws = Pcg32::seed_from_u64(1);
+    let mut sent = 0;
+    for _ in 0..1024u32 {
+        fill(&mut arbiter, &mut draws);
+        silence(&mut arbiter, &mut draws);
+        sent += send(&mut arbiter);
+    }
+    same(&rt, &sent, &32_600);
+    Ok(())
 }
