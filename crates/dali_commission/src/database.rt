@@ -31,19 +31,16 @@ use std::io::ErrorKind;
 const PAGES: usize = 64;
 
 /// A database over a file of the system, which is open. Files know no more of it: each function that saw SQLite's own
-/// types would cost half a minute of proof.
+/// types would cost half a minute of proof. It has no type for a copy: with one, `main` reaches the prover's limit.
 pub(crate) trait Database: Drop {
     ghost use Rattle.std.specs.Prelude.{◌≡◌, IfOk, IfErr};
     ghost use Rattle.dali_reserve.specs.declared.error.KeepError.TheVariants.{StoreFailed};
     ghost use Rattle.dali_script.specs.Records.{Kept};
     ghost use Rattle.dali_commission_program.specs.declared.stores.StoreFault.TheVariants.{Store};
-    ghost use Rattle.dali_commission.specs.Faults.{IsUnopened, IsUnnoted, IsUncopied};
+    ghost use Rattle.dali_commission.specs.Faults.{IsUnopened, IsUnnoted};
 
     /// What keeps the file locked once it is closed.
     type Closed: Drop;
-
-    /// A store over a copy in memory.
-    type Copy: Keep + Drop;
 
     /// Opens a file, which is made if it is missing.
     fn open(rt: &HostRuntime, name: &str) -> Result<Self, StoreFault>
@@ -65,10 +62,6 @@ pub(crate) trait Database: Drop {
     /// if not all was copied.
     fn close(self, rt: &HostRuntime, name: &str) -> Result<Self::Closed, StoreFault>
         ensures { IfErr result (λ it. it ≡ Store StoreFailed) };
-
-    /// Copies a file and its log as they are at one moment. One with no records if they are not there.
-    fn copy(rt: &HostRuntime, name: &str) -> Result<Self::Copy, StoreFault>
-        ensures { IfErr result IsUncopied };
 }
 
 /// A SQLite database over a file of the system.
@@ -76,8 +69,6 @@ pub(crate) type OnDisk = Connection<FileStore<File>>;
 
 impl Database for OnDisk {
     type Closed = Files<File>;
-
-    type Copy = SqliteKeep<FileStore<Memory>>;
 
     fn open(rt: &HostRuntime, name: &str) -> Result<Self, StoreFault> {
         opened(rt, name)
@@ -104,10 +95,6 @@ impl Database for OnDisk {
             let _ = fs::remove_file(rt, &log);
         }
         Ok(files)
-    }
-
-    fn copy(rt: &HostRuntime, name: &str) -> Result<Self::Copy, StoreFault> {
-        copied(rt, name)
     }
 }
 
@@ -203,7 +190,10 @@ fn lent<S: Alter + Drop, B: Borrower>(
 }
 
 /// A store over a copy of the files, in memory.
-fn copied(rt: &HostRuntime, name: &str) -> Result<SqliteKeep<FileStore<Memory>>, StoreFault>
+pub(crate) fn copied(
+    rt: &HostRuntime,
+    name: &str,
+) -> Result<SqliteKeep<FileStore<Memory>>, StoreFault>
     ensures copy { IfOk result (λ store. (db : List ℕ) × (log : List ℕ) × (IsDamaged log → ⊥)
         × (may_be_records db log ≡ true) × (IsUp (shown_by over_files store) → (xs : List Record)
         → HoldRecords (record { log = log; db = db }) xs

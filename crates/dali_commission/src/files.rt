@@ -1,15 +1,16 @@
 //! Records in files, each a database.
 
-ghost use Rattle.std.specs.Prelude.{◌≡◌, ◌++◌, ◌⊎◌, [], ◌∷◌, IfErr, OnOk};
+ghost use Rattle.std.specs.Prelude.{◌≡◌, ◌++◌, ◌⊎◌, [], ◌∷◌, IfOk, IfErr, OnOk};
+ghost use Rattle.dali_script.specs.Records.{Kept};
 ghost use Rattle.dali_commission.specs.Faults.{IsUnheld, IsUnclosed};
 ghost use Rattle.dali_commission.specs.Opened.{names_of};
 
-use crate::database::Database;
+use crate::database::{Database, copied};
 use crate::lying::Lying;
 use crate::places::{folder_of, made, place};
 use crate::refusals::{NO_MEMORY, answered, refused_by};
 use dali_commission_program::{Actor, Borrower, Failure, Holder, Seen, StoreFault, Stores};
-use dali_reserve::KeepError;
+use dali_reserve::{Keep, KeepError};
 use dali_script::Kept;
 use std::alloc::Global;
 use std::fs::TryLockError;
@@ -172,6 +173,20 @@ fn renamed(rt: &HostRuntime, from: &str, to: &str) -> io::Result<()> {
     settled(rt, to)
 }
 
+/// Lends a store, unless a journal lies beside its records.
+fn lend_store<K: Keep + Drop, B: Borrower>(
+    mut store: K,
+    is_begun: bool,
+    borrower: B,
+) -> Result<B::Out, Failure>
+    ensures { IfOk result (λ out. (kept : Kept) × B.came borrower kept out) }
+{
+    if is_begun {
+        return Err(Failure::Unfinished);
+    }
+    borrower.take(&mut store)
+}
+
 impl<'a, D: Database> Stores for Files<'a, D> {
     ghost made = { λ _ _ _. Unit {0} };
 
@@ -204,11 +219,8 @@ impl<'a, D: Database> Stores for Files<'a, D> {
         journal: &str,
         borrower: B,
     ) -> Result<B::Out, Failure> {
-        let mut store = D::copy(self.rt, name)?;
-        if self.has(journal) {
-            return Err(Failure::Unfinished);
-        }
-        borrower.take(&mut store)
+        let copy = copied(self.rt, name)?;
+        lend_store(copy, self.has(journal), borrower)
     }
 
     fn place_of(&self, alloc: Global, name: &str) -> Result<String, Failure> {
