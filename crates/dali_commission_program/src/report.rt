@@ -190,14 +190,13 @@ impl Report {
         }
     }
 
-    /// Notes that others than recorded stand at these places.
+    /// Notes what stands at these places, at most 64: others than recorded.
     pub fn note_wrong(&mut self, places: &[Place])
-        ensures { self.new ≡ record self.old { places = self.new.places } }
+        ensures noted { length places.now ≤ 64 → self.new.places.items ≡ places.now }
+        ensures rest { self.new ≡ record self.old { places = self.new.places } }
     {
         let mut wrong = ArrayVec::new();
-        for place in places {
-            let _ = wrong.try_push(*place);
-        }
+        let _ = wrong.try_extend_from_slice(places);
         self.places = wrong;
     }
 
