@@ -1,41 +1,297 @@
-//! Records in files, each a database.
+//! Records in files, each a SQLite database.
 
-ghost use Rattle.std.specs.Prelude.{◌≡◌, ◌++◌, ◌⊎◌, [], ◌∷◌, IfOk, IfErr, OnOk};
-ghost use Rattle.dali_script.specs.Records.{Kept};
+ghost use Rattle.std.specs.Prelude.{◌≡◌, ◌++◌, ◌↔◌, ◌⊎◌, ℕ, List, [], ◌∷◌, codes, string_bytes};
+ghost use Rattle.std.specs.Prelude.{Ok, Err, IfOk, IfErr, OnOk, IfSome, None, true, IsTrue};
+ghost use Rattle.std.specs.IoError.{error_kind, raw_os_error};
+ghost use Rattle.sqlite.specs.Files.{over_files};
+ghost use Rattle.sqlite.specs.Held.{state, IsNew};
+ghost use Rattle.dali_script.specs.declared.records.Record.{Record};
+ghost use Rattle.dali_reserve.specs.Store.{IsReplay};
+ghost use Rattle.dali_sqlite.specs.Files.{HoldRecords};
+ghost use Rattle.dali_sqlite.specs.Header.{may_be_records};
+ghost use Rattle.dali_sqlite.specs.Keep.{block_of, shown_by, IsSound};
+ghost use Rattle.dali_sqlite.specs.Stored.{Holds, IsUp};
+ghost use Rattle.dali_commission.specs.Logs.{IsDamaged};
+ghost use Rattle.dali_commission.specs.Faults.{system_fault, or_number, copy_fault, closed_fault};
+ghost use Rattle.dali_commission.specs.Faults.{IsUnread, IsUnwritten, IsUnopened, IsUncopied, IsUnnoted};
 ghost use Rattle.dali_commission.specs.Faults.{IsUnheld, IsUnclosed};
 ghost use Rattle.dali_commission.specs.Opened.{names_of};
 
-use crate::database::{Database, copied};
-use crate::lying::Lying;
-use crate::places::{folder_of, made, place};
-use crate::refusals::{NO_MEMORY, answered, refused_by};
+use crate::log::is_damaged;
+use crate::places::{folder_of, place};
 use dali_commission_program::{Actor, Borrower, Failure, Holder, Seen, StoreFault, Stores};
 use dali_reserve::{Keep, KeepError};
-use dali_script::Kept;
+use dali_script::{Block, Kept};
+use dali_sqlite::{CopyError, SqliteKeep, open_copy};
+use sqlite::{Alter, Connection, Error, ErrorCode, File, FileStore, Options, Unknown};
+use sqlite_std_file::OpenError;
 use std::alloc::Global;
 use std::fs::TryLockError;
+use std::hash::{BuildHasher, RandomState};
 use std::io::{ErrorKind, Write};
-use std::marker::PhantomData;
 use std::{fs, io};
+
+/// How many bytes a file of records may have: some 3 million records.
+const MOST_BYTES: u64 = 64 * 1024 * 1024;
 
 /// How many bytes are tried when a store failed.
 const TRIED: usize = 8192;
 
-/// Files, each a database.
+/// How many pages of a file are in memory: it is small.
+const PAGES: usize = 64;
+
+/// How often a file is read until two readings agree.
+const READINGS: u8 = 10;
+
+/// Files, each a SQLite database.
 #[derive(Drop)]
-pub struct Files<'a, D> {
+pub struct Files<'a> {
     rt: &'a HostRuntime,
-    of: PhantomData<D>,
 }
 
-impl<'a, D> Files<'a, D> {
+impl<'a> Files<'a> {
     /// The files of the system.
-    pub fn of(rt: &'a HostRuntime) -> Files<'a, D> {
-        Files {
-            rt,
-            of: PhantomData,
-        }
+    pub fn of(rt: &'a HostRuntime) -> Files<'a> {
+        Files { rt }
     }
+}
+
+/// What a refusal of the system is to a file of records.
+fn system_fault(kind: ErrorKind) -> StoreFault
+    ensures { result ≡ system_fault kind }
+{
+    match kind {
+        ErrorKind::NotFound => StoreFault::Missing,
+        ErrorKind::PermissionDenied => StoreFault::Forbidden,
+        ErrorKind::ReadOnlyFilesystem => StoreFault::ReadOnly,
+        ErrorKind::StorageFull | ErrorKind::QuotaExceeded => StoreFault::Full,
+        ErrorKind::NotADirectory => StoreFault::NoFolder,
+        ErrorKind::IsADirectory => StoreFault::Foreign,
+        ErrorKind::OutOfMemory => NO_MEMORY,
+        _ => StoreFault::CannotOpen,
+    }
+}
+
+/// What a refusal of the system is: its own error, if it is none of these.
+fn refused_by(error: io::Error) -> StoreFault
+    ensures { result ≡ or_number (system_fault (error_kind error)) (raw_os_error error) }
+{
+    match (system_fault(error.kind()), error.raw_os_error()) {
+        (StoreFault::CannotOpen, Some(number)) => StoreFault::System(number),
+        (fault, _) => fault,
+    }
+}
+
+fn copy_fault(error: CopyError) -> StoreFault
+    ensures { result ≡ copy_fault error }
+{
+    match error {
+        CopyError::Foreign => StoreFault::Foreign,
+        CopyError::Newer => StoreFault::Newer,
+        CopyError::Damaged => StoreFault::Damaged,
+        CopyError::NoMemory => NO_MEMORY,
+        CopyError::CannotOpen => StoreFault::CannotOpen,
+        CopyError::Store(error) => StoreFault::Store(error),
+    }
+}
+
+/// The bytes of a file, none if it is not there.
+fn bytes(rt: &HostRuntime, name: &str) -> Result<Vec<u8>, StoreFault>
+    ensures { IfErr result IsUnread }
+{
+    match fs::metadata(rt, name) {
+        Ok(about) if !about.is_file() || about.len() > MOST_BYTES => Err(StoreFault::Foreign),
+        Ok(_) => fs::read(rt, name).map_err(refused_by),
+        Err(error) if error.kind() == ErrorKind::NotFound => Ok(Vec::new(rt.alloc())),
+        Err(error) => Err(refused_by(error)),
+    }
+}
+
+/// What lies in the two files of a database.
+#[derive(Drop)]
+struct Lying {
+    db: Vec<u8>,
+    log: Vec<u8>,
+}
+
+/// The name of the log of a database: it lies beside the file itself, if a link leads to that.
+fn log_of(rt: &HostRuntime, name: &str) -> Result<String, StoreFault>
+    ensures named { IfOk result (λ log. (path : List ℕ) × (string_bytes log ≡ path ++ codes "-wal")) }
+    ensures refused { IfErr result IsUnread }
+{
+    match fs::canonicalize(rt, name) {
+        Ok(path) => made(rt.alloc(), path.as_str(), "-wal"),
+        Err(error) if error.kind() == ErrorKind::NotFound => made(rt.alloc(), name, "-wal"),
+        Err(error) => Err(refused_by(error)),
+    }
+}
+
+impl Lying {
+    fn read(rt: &HostRuntime, name: &str) -> Result<Lying, StoreFault>
+        ensures { IfErr result IsUnread }
+    {
+        let log = log_of(rt, name)?;
+        Ok(Lying {
+            db: bytes(rt, name)?,
+            log: bytes(rt, &log)?,
+        })
+    }
+
+    fn is(&self, other: &Lying) -> bool
+        ensures { IsTrue result ↔ ((self.now.db.items ≡ other.now.db.items)
+            × (self.now.log.items ≡ other.now.log.items)) }
+    {
+        self.db.as_slice() == other.db.as_slice() && self.log.as_slice() == other.log.as_slice()
+    }
+}
+
+/// What lies in two files at one moment: they are read until two readings agree, since another program may write them.
+fn at_one_moment(rt: &HostRuntime, name: &str) -> Result<Lying, StoreFault>
+    ensures { IfErr result (λ it. IsUnread it ⊎ (it ≡ StoreFault.Locked)) }
+{
+    let mut before = Lying::read(rt, name)?;
+    for _ in 0..READINGS {
+        let now = Lying::read(rt, name)?;
+        if now.is(&before) {
+            return Ok(now);
+        }
+        before = now;
+    }
+    Err(StoreFault::Locked)
+}
+
+/// A store over a copy of the files, in memory.
+fn copied(
+    rt: &HostRuntime,
+    name: &str,
+) -> Result<SqliteKeep<FileStore<sqlite_disk::Memory>>, StoreFault>
+    ensures copy { IfOk result (λ store. (db : List ℕ) × (log : List ℕ) × (IsDamaged log → ⊥)
+        × (may_be_records db log ≡ true) × (IsUp (shown_by over_files store) → (xs : List Record)
+        → HoldRecords (record { log = log; db = db }) xs
+        → IsSound over_files store × Holds (shown_by over_files store) xs)) }
+    ensures all { IfOk result (λ store. ((block_of store).first ≡ 0) × ((block_of store).last ≡ 63)) }
+    ensures refused { IfErr result IsUncopied }
+{
+    let lying = at_one_moment(rt, name)?;
+    if is_damaged(&lying.log) {
+        return Err(StoreFault::DamagedLog);
+    }
+    match open_copy(rt.alloc(), &lying.db, &lying.log, Block::ALL) {
+        Ok(store) => Ok(store),
+        Err(error) => Err(copy_fault(error)),
+    }
+}
+
+/// Why a file cannot be opened that may be one of records.
+fn why_closed(rt: &HostRuntime, name: &str, error: Error) -> StoreFault
+    ensures said { IfSome (closed_fault error) (λ it. result ≡ it) }
+    ensures unsaid { closed_fault error ≡ None → IsUnwritten result }
+{
+    match error {
+        Error::SqliteFailure(ErrorCode::DatabaseBusy) => StoreFault::Locked,
+        Error::SqliteFailure(ErrorCode::OutOfMemory) => NO_MEMORY,
+        Error::SqliteFailure(ErrorCode::DiskFull) => StoreFault::Full,
+        Error::SqliteFailure(ErrorCode::DatabaseCorrupt) => StoreFault::Damaged,
+        Error::SqliteFailure(ErrorCode::NotADatabase) => StoreFault::Foreign,
+        _ => written_fault(rt, name),
+    }
+}
+
+/// Why the system does not let a file be written, which is made if it is missing.
+fn written_fault(rt: &HostRuntime, name: &str) -> StoreFault
+    ensures { IsUnwritten result }
+{
+    let opened = fs::File::options()
+        .read(true)
+        .write(true)
+        .create(true)
+        .open(rt, name);
+    match opened {
+        Ok(_) => StoreFault::CannotOpen,
+        Err(error) if error.kind() == ErrorKind::NotFound => StoreFault::NoFolder,
+        Err(error) => refused_by(error),
+    }
+}
+
+/// How a file is kept in memory: `Connection::open` takes 8 MB for each bus of a building.
+fn options(rt: &HostRuntime) -> Result<Options, StoreFault>
+    ensures small { IfOk result (λ it. (it.cache_pages ≡ 64) × (it.spill_pages ≡ 64)) }
+    ensures refused { IfErr result (λ it. it ≡ StoreFault.CannotOpen) }
+{
+    let state = RandomState::new(rt).map_err(|_| StoreFault::CannotOpen)?;
+    Ok(Options {
+        cache_pages: PAGES,
+        spill_pages: PAGES,
+        ..Options::new(BuildHasher::hash_one(&state, &0u8))
+    })
+}
+
+fn opened(rt: &HostRuntime, name: &str) -> Result<Connection<FileStore<File>>, StoreFault>
+    ensures new { IfOk result IsNew }
+    ensures refused { IfErr result IsUnopened }
+{
+    let options = options(rt)?;
+    let files = match sqlite_std_file::open(rt, name, Unknown) {
+        Ok(files) => files,
+        Err(OpenError::Busy) => return Err(StoreFault::Locked),
+        Err(OpenError::OutOfMemory) => return Err(NO_MEMORY),
+        Err(_) => return Err(written_fault(rt, name)),
+    };
+    match Connection::open_files(rt.alloc(), files, options) {
+        Ok(conn) => Ok(conn),
+        Err((error, _)) => Err(why_closed(rt, name, error)),
+    }
+}
+
+/// Lends the records in a database, and answers what the borrower ended with, and the database.
+///
+/// It does not know what the database lies in: each function that does, and has a store, costs 30 seconds of proof.
+fn lent<S: Alter + Drop, B: Borrower>(
+    conn: Connection<S>,
+    block: Block,
+    borrower: B,
+) -> Result<(Connection<S>, Result<B::Out, Failure>), StoreFault>
+    ensures { IfOk result (λ came. IfOk came.1 (λ out. (kept : Kept) × B.came borrower kept out)) }
+{
+    let mut store = SqliteKeep::over(conn, block).map_err(StoreFault::Store)?;
+    let done = borrower.take(&mut store);
+    Ok((store.into_connection(), done))
+}
+
+/// What the records in a database are, and the database.
+fn noted<S: Alter + Drop>(conn: Connection<S>) -> Result<(Connection<S>, Kept), StoreFault>
+    ensures kept { IfOk result (λ came. IsUp (state S.Store came.0) → (xs : List Record)
+        → Holds (state S.Store conn) xs → Holds (state S.Store came.0) xs × IsReplay came.1.block xs came.1) }
+    ensures all { IfOk result (λ came. (came.1.block.first ≡ 0) × (came.1.block.last ≡ 63)) }
+    ensures refused { IfErr result IsUnnoted }
+{
+    let mut store = match SqliteKeep::over(conn, Block::ALL) {
+        Ok(store) => store,
+        Err(error) => return Err(StoreFault::Store(error)),
+    };
+    match store.read() {
+        Ok(kept) => Ok((store.into_connection(), kept)),
+        Err(error) => Err(StoreFault::Store(error)),
+    }
+}
+
+/// Closes a database, and leaves its file alone, which stays locked as long as the files are there: what is in the log
+/// is copied into it, and the log is removed. It fails if not all was copied.
+fn shut(
+    rt: &HostRuntime,
+    name: &str,
+    conn: Connection<FileStore<File>>,
+) -> Result<sqlite::Files<File>, StoreFault>
+    ensures { IfErr result (λ it. it ≡ StoreFault.Store KeepError.StoreFailed) }
+{
+    let files = match conn.close_files() {
+        Ok(files) => files,
+        Err(_) => return Err(STORE_FAILED),
+    };
+    if let Ok(log) = log_of(rt, name) {
+        let _ = fs::remove_file(rt, &log);
+    }
+    Ok(files)
 }
 
 /// Adds something to a list.
@@ -50,12 +306,12 @@ fn add<T: Drop>(list: &mut Vec<T>, item: T) -> Result<(), StoreFault>
 }
 
 /// Files of records that are open, each with its name, in the order of these.
-type Open<'a, D> = Vec<(&'a str, D)>;
+type Open<'a> = Vec<(&'a str, Connection<FileStore<File>>)>;
 
-fn open_one<'a, D: Database>(
+fn open_one<'a>(
     rt: &HostRuntime,
     name: &'a str,
-    held: &mut Open<'a, D>,
+    held: &mut Open<'a>,
     all: &mut Vec<Kept>,
 ) -> Result<(), StoreFault>
     ensures named { OnOk result (names_of held.new.items ≡ names_of held.old.items ++ name.now ∷ []) }
@@ -67,18 +323,18 @@ fn open_one<'a, D: Database>(
     if lying.db.is_empty() && lying.log.is_empty() {
         return Err(StoreFault::Foreign);
     }
-    let (database, kept) = D::open(rt, name)?.note()?;
-    add(held, (name, database))?;
+    let (conn, kept) = noted(opened(rt, name)?)?;
+    add(held, (name, conn))?;
     add(all, kept)?;
     Ok(())
 }
 
 /// Opens files of records, and notes what they have.
-fn open_all<'a, D: Database, F, H: Holder<F>>(
+fn open_all<'a, F, H: Holder<F>>(
     rt: &HostRuntime,
     names: &'a [String],
     holder: &H,
-    held: &mut Open<'a, D>,
+    held: &mut Open<'a>,
     all: &mut Vec<Kept>,
 ) -> Result<(), Failure>
     ensures { IfErr result (λ failure. (it : StoreFault) × IsUnheld it × (failure ≡ Failure.Store it)) }
@@ -92,32 +348,32 @@ fn open_all<'a, D: Database, F, H: Holder<F>>(
 }
 
 /// Closes a file of records, and adds it to those that are closed.
-fn shut_one<D: Database>(
+fn shut_one(
     rt: &HostRuntime,
     name: &str,
-    database: D,
-    files: &mut Vec<D::Closed>,
+    conn: Connection<FileStore<File>>,
+    files: &mut Vec<sqlite::Files<File>>,
 ) -> Result<(), StoreFault>
     ensures closed { OnOk result ((closed : _) × (files.new.items ≡ files.old.items ++ closed ∷ [])) }
     ensures refused { IfErr result IsUnclosed }
 {
-    let closed = database.close(rt, name)?;
+    let closed = shut(rt, name, conn)?;
     add(files, closed)?;
     Ok(())
 }
 
 /// Closes files of records, which stay locked as long as what is answered is there.
-fn shut_all<D: Database, F, H: Holder<F>>(
+fn shut_all<F, H: Holder<F>>(
     rt: &HostRuntime,
     holder: &H,
-    held: Open<'_, D>,
-) -> Result<Vec<D::Closed>, Failure>
+    held: Open<'_>,
+) -> Result<Vec<sqlite::Files<File>>, Failure>
     ensures { IfErr result (λ failure. (it : StoreFault) × IsUnclosed it × (failure ≡ Failure.Store it)) }
 {
     let mut files = Vec::new(rt.alloc());
     let mut done = Ok(());
-    for (name, database) in held {
-        if let Err(fault) = shut_one(rt, name, database, &mut files) {
+    for (name, conn) in held {
+        if let Err(fault) = shut_one(rt, name, conn, &mut files) {
             done = Err(holder.refused(name, Failure::Store(fault)));
         }
     }
@@ -146,6 +402,10 @@ fn tried(rt: &HostRuntime, name: &str) -> io::Result<()> {
     synced
 }
 
+const STORE_FAILED: StoreFault = StoreFault::Store(KeepError::StoreFailed);
+
+const NO_MEMORY: StoreFault = StoreFault::Store(KeepError::NoMemory);
+
 /// Why a store failed, if the system says so of a file beside it: SQLite does not pass it on.
 fn why_failed(rt: &HostRuntime, name: &str, failure: Failure) -> Failure
     ensures { (result ≡ failure) ⊎ ((failure ≡ Failure.Store (StoreFault.Store KeepError.StoreFailed))
@@ -173,21 +433,30 @@ fn renamed(rt: &HostRuntime, from: &str, to: &str) -> io::Result<()> {
     settled(rt, to)
 }
 
-/// Lends a store, unless a journal lies beside its records.
-fn lend_store<K: Keep + Drop, B: Borrower>(
-    mut store: K,
-    is_begun: bool,
-    borrower: B,
-) -> Result<B::Out, Failure>
-    ensures { IfOk result (λ out. (kept : Kept) × B.came borrower kept out) }
+/// What came of a call of the system.
+fn answered<T>(done: io::Result<T>) -> Result<T, Failure>
+    ensures ok { IfOk result (λ it. done ≡ Ok it) }
+    ensures refused { IfErr done (λ error. result
+        ≡ Err (Failure.Store (or_number (system_fault (error_kind error)) (raw_os_error error)))) }
 {
-    if is_begun {
-        return Err(Failure::Unfinished);
+    match done {
+        Ok(it) => Ok(it),
+        Err(error) => Err(Failure::Store(refused_by(error))),
     }
-    borrower.take(&mut store)
 }
 
-impl<'a, D: Database> Stores for Files<'a, D> {
+/// A name that is made of another one.
+fn made(alloc: Global, name: &str, end: &str) -> Result<String, StoreFault>
+    ensures made { IfOk result (λ it. string_bytes it ≡ name.now ++ end.now) }
+    ensures refused { IfErr result (λ it. it ≡ StoreFault.Store KeepError.NoMemory) }
+{
+    match format!(in alloc; "{name}{end}") {
+        Ok(made) => Ok(made),
+        Err(_) => Err(NO_MEMORY),
+    }
+}
+
+impl<'a> Stores for Files<'a> {
     ghost made = { λ _ _ _. Unit {0} };
 
     ghost saw = { λ _ _. Unit {0} };
@@ -199,15 +468,15 @@ impl<'a, D: Database> Stores for Files<'a, D> {
 
     fn lend<B: Borrower>(&mut self, seen: &Seen<'_>, borrower: B) -> Result<B::Out, Failure> {
         let (rt, name) = (self.rt, seen.name());
-        let database = D::open(rt, name)?;
+        let conn = opened(rt, name)?;
         if self.has(seen.journal()) {
-            let _ = database.close(rt, name);
+            let _ = shut(rt, name, conn);
             return Err(Failure::Unfinished);
         }
-        let (database, done) = database.lend(seen.block(), borrower)?;
-        let closed = database.close(rt, name);
+        let (conn, done) = lent(conn, seen.block(), borrower)?;
+        let shut = shut(rt, name, conn);
         let done = done.map_err(|failure| why_failed(rt, name, failure))?;
-        match closed {
+        match shut {
             Ok(_) => Ok(done),
             Err(fault) => Err(why_failed(rt, name, Failure::Store(fault))),
         }
@@ -219,8 +488,11 @@ impl<'a, D: Database> Stores for Files<'a, D> {
         journal: &str,
         borrower: B,
     ) -> Result<B::Out, Failure> {
-        let copy = copied(self.rt, name)?;
-        lend_store(copy, self.has(journal), borrower)
+        let mut store = copied(self.rt, name)?;
+        if self.has(journal) {
+            return Err(Failure::Unfinished);
+        }
+        borrower.take(&mut store)
     }
 
     fn place_of(&self, alloc: Global, name: &str) -> Result<String, Failure> {
@@ -233,7 +505,7 @@ impl<'a, D: Database> Stores for Files<'a, D> {
         names: &[String],
         mut holder: H,
     ) -> Result<H::Out, Failure> {
-        let mut open: Open<'_, D> = Vec::new(alloc);
+        let mut open = Vec::new(alloc);
         let mut all = Vec::new(alloc);
         let due = match open_all(self.rt, names, &holder, &mut open, &mut all) {
             Ok(()) => holder.take(self, &all),

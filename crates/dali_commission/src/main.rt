@@ -2,21 +2,17 @@
 //! keeps its records in a file.
 #![tactic(auto)]
 
-mod database;
 mod files;
 mod log;
-mod lying;
 mod places;
-mod refusals;
 
 use dali_commission_program::run_and_say;
 use dali_console::exit_code;
-use database::OnDisk;
 use files::Files;
 use std::io::IsTerminal;
 use std::process::ExitCode;
 
 fn main(rt: HostRuntime) -> ExitCode {
     let is_terminal = IsTerminal::is_terminal(&rt.stderr());
-    exit_code(run_and_say(&rt, &mut Files::<OnDisk>::of(&rt), is_terminal))
+    exit_code(run_and_say(&rt, &mut Files::of(&rt), is_terminal))
 }

@@ -1,11 +1,8 @@
-//! Where a file lies, and how it is named.
+//! Where a file lies.
 
-ghost use Rattle.std.specs.Prelude.{◌≡◌, ◌++◌, ℕ, List, IfOk, IfErr, string_bytes};
-ghost use Rattle.dali_reserve.specs.declared.error.KeepError.{KeepError};
+ghost use Rattle.std.specs.Prelude.{ℕ, List, IfOk, string_bytes};
 ghost use Rattle.dali_commission.specs.Lying.{IsParted, IsJoined, IsLed, Lies};
 
-use crate::refusals::NO_MEMORY;
-use dali_commission_program::StoreFault;
 use std::alloc::{AllocError, Global};
 use std::fs;
 
@@ -68,16 +65,5 @@ pub(crate) fn place(rt: &HostRuntime, alloc: Global, name: &str) -> Result<Strin
     match fs::canonicalize(rt, folder) {
         Ok(folder) => joined(alloc, folder.as_str(), file),
         Err(_) => Ok(at),
-    }
-}
-
-/// A name that is made of another one.
-pub(crate) fn made(alloc: Global, name: &str, end: &str) -> Result<String, StoreFault>
-    ensures made { IfOk result (λ it. string_bytes it ≡ name.now ++ end.now) }
-    ensures refused { IfErr result (λ it. it ≡ StoreFault.Store KeepError.NoMemory) }
-{
-    match format!(in alloc; "{name}{end}") {
-        Ok(made) => Ok(made),
-        Err(_) => Err(NO_MEMORY),
     }
 }

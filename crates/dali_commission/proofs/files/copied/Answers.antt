@@ -1,6 +1,6 @@
 use Rattle.std.proofs.Common.{sym, ◌∙◌}
 use Rattle.dali_commission.proofs.Told.{whole}
-use Rattle.dali_commission.proofs.database.copied.Goals as goal
+use Rattle.dali_commission.proofs.files.copied.Goals as goal
 
 pub returns-in-Ok-clause-copy : goal.returns-in-Ok-clause-copy
 returns-in-Ok-clause-copy c = (

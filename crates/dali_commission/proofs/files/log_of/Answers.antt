@@ -1,5 +1,5 @@
 use Rattle.dali_commission.proofs.Told.{no_memory}
-use Rattle.dali_commission.proofs.lying.log_of.Goals as goal
+use Rattle.dali_commission.proofs.files.log_of.Goals as goal
 
 pub returns-in-Ok-clause-refused : goal.returns-in-Ok-clause-refused
 returns-in-Ok-clause-refused c = no_memory c.made.result c.made.ensures.refused

@@ -3,7 +3,7 @@ use Rattle.sqlite.specs.Held.{state}
 use Rattle.dali_reserve.specs.Store.{IsReplay}
 use Rattle.dali_sqlite.specs.Stored.{Holds, IsUp}
 use Rattle.dali_sqlite.specs.Keep.{connection_of}
-use Rattle.dali_commission.proofs.database.noted.Goals as goal
+use Rattle.dali_commission.proofs.files.noted.Goals as goal
 
 pub returns-in-Ok-read-clause-kept : goal.returns-in-Ok-read-clause-kept
 returns-in-Ok-read-clause-kept g c up xs held =
