@@ -14,6 +14,9 @@
 //!
 //! A wrong byte is rarer than that shows: of 1,000,000 of each, drawn by a program in C, 10 of the pairs with shorter
 //! lows were told as a byte that one of the two had not sent. As silence joint answers are never told, which is proved.
+//!
+//! The test draws 1,000 of each, and knows how many of these are told as the byte. With another `TIMES` it fails, and
+//! says how many were.
 
 use super::edges::same;
 use dali_frame::Answer;
@@ -159,19 +162,28 @@ fn counted(draws: &mut Pcg32, lows: Lows, together: usize, times: u32) -> Counts
     counts
 }
 
+/// How many of one, two and three answers are told as the byte that each had sent, with lows as long as they should be,
+/// shorter, and longer.
+const BYTES: [[u32; 3]; 3] = [[1_000, 19, 3], [278, 13, 3], [694, 3, 1]];
+
 #[test]
 fn joint_answers_are_told_as_no_wrong_byte_and_never_as_silence(
     rt: HostRuntime,
 ) -> Result<(), Fail> {
     let mut draws = Pcg32::seed_from_u64(1);
-    for (shorter, longer) in [(0, 0), (250, 0), (0, 100)] {
+    let mut bytes = [[0; 3]; 3];
+    for (row, (shorter, longer)) in [(0, 0), (250, 0), (0, 100)].iter().enumerate() {
+        let lows = Lows {
+            shorter: *shorter,
+            longer: *longer,
+        };
         for together in [1, 2, 3] {
-            let counts = counted(&mut draws, Lows { shorter, longer }, together, TIMES);
+            let counts = counted(&mut draws, lows, together, TIMES);
             same(&rt, &(counts.silent, counts.wrong), &(0, 0));
             same(&rt, &(counts.bytes + counts.damaged), &TIMES);
-            let all_told = together == 1 && shorter == 0 && longer == 0;
-            same(&rt, &(all_told && counts.damaged != 0), &false);
+            bytes[row][together - 1] = counts.bytes;
         }
     }
+    same(&rt, &bytes, &BYTES);
     Ok(())
 }
