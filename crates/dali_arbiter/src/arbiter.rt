@@ -53,6 +53,7 @@ impl Arbiter {
     /// Puts a request last in the list of its priority.
     ///
     /// Priority 1 is for the owner of the bus alone. `NotOwner` comes before `QueueFull`.
+    #[inline(always)]
     pub fn offer(
         &mut self,
         sender: u8,
@@ -94,6 +95,7 @@ impl Arbiter {
     ///
     /// With `more` frames of its transaction to come, its sender owns the bus from now on; else the bus has no owner,
     /// and the list of priority 1 is emptied.
+    #[inline(always)]
     pub fn sent(&mut self, more: bool)
         requires { IsSome (next self.old) }
         ensures { self.new ≡ bus_sent self.old more }
@@ -209,6 +211,7 @@ impl Arbiter {
         priority.number() == 1 && self.owner != Some(sender)
     }
 
+    #[inline(always)]
     fn take(&mut self) -> Request
         requires { IsSome (next self.old) }
         ensures value { next self.old ≡ Some result }

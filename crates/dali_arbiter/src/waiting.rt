@@ -16,6 +16,7 @@ pub(crate) fn first(waiting: &Ring<Request>) -> Option<Request>
 }
 
 /// Takes the oldest request of the highest priority out.
+#[inline(always)]
 pub(crate) fn take_first(waiting: &mut Ring<Request>) -> Request
     requires { IsSome (first_waiting waiting.old.lists) }
     ensures value { first_waiting waiting.old.lists ≡ Some result }

@@ -137,6 +137,7 @@ impl Machine {
     /// transaction is with this frame: a caller that knows it spares the machine to find it again.
     ///
     /// `NotDue`: it put no frame last, and nothing changed.
+    #[inline(always)]
     pub fn hear(&mut self, heard: Answer, reached: Stage) -> Result<Order, StepError>
         requires { IsReached reached (machine_told self.old (input.Heard heard)).trace }
         ensures due { IsOk result ↔ (accepts (due_after self.old.last) (input.Heard heard) ≡ true) }

@@ -165,6 +165,7 @@ impl State {
     }
 
     /// The same, if it is known how far the transaction is with this frame.
+    #[inline(always)]
     pub(crate) fn heard_at(
         &mut self,
         kept: &Records<'_>,
@@ -188,6 +189,7 @@ impl State {
     }
 
     /// What follows at each stage of a transaction.
+    #[inline(always)]
     fn after(&mut self, kept: &Records<'_>, stage: Stage) -> Order
         requires heard { IsHeard (machine_with self.old kept.now) stage }
 
@@ -245,6 +247,7 @@ impl State {
     }
 
     /// The transaction goes on with the command of its turn.
+    #[inline(always)]
     fn turn(&mut self, kept: &Records<'_>, stage: &Stage, command: Command) -> Order
         requires heard { IsHeard (machine_with self.old kept.now) stage.now }
         requires turn { turn_of self.old.purpose self.old.number stage.now ≡ Some command }

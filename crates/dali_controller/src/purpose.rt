@@ -73,6 +73,7 @@ impl Purpose {
     }
 
     /// The command that the transaction sends at a stage past the first, except PROGRAM SHORT ADDRESS.
+    #[inline(always)]
     pub(crate) fn turn(self, number: SearchAddress, stage: &Stage) -> Option<Command>
         ensures { result ≡ turn_of self number stage.now }
     {

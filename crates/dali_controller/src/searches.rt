@@ -65,6 +65,7 @@ impl State {
     }
 
     /// COMPARE was sent, and this was heard.
+    #[inline(always)]
     pub(crate) fn probed(&mut self, kept: &Records<'_>, heard: Answer) -> Order
         requires { (number : SearchAddress) × IsHeard (machine_with self.old kept.now) (stage.Probed number heard) }
 

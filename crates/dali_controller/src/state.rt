@@ -91,6 +91,7 @@ impl State {
     }
 
     /// The tries of the running transaction: none if it is complete.
+    #[inline(always)]
     fn tries_after(&self, kept: &Records<'_>) -> u8
         ensures { result
             ≡ tries_after (is_complete kept.now (closing_of self.now.purpose) (stage_of self.now.trace)
@@ -152,6 +153,7 @@ impl State {
     }
 
     /// What a survey has heard, with the running transaction, after whose last frame this was heard.
+    #[inline(always)]
     fn heard_after(&self, heard: Answer) -> Shorts
         ensures { result ≡ heard_after self.now.purpose (stage_of self.now.trace) heard self.now.heard }
     {
@@ -199,6 +201,7 @@ impl State {
     }
 
     /// Takes what was heard after the frame that was put, and says how far the transaction is: `reached`.
+    #[inline(always)]
     pub(crate) fn hear(
         &mut self,
         kept: &Records<'_>,
@@ -225,6 +228,7 @@ impl State {
     }
 
     /// Goes on with the running transaction.
+    #[inline(always)]
     pub(crate) fn put(&mut self, kept: &Records<'_>, command: Command) -> Order
         requires heard { IsHeard (machine_with self.old kept.now) (stage_of self.old.trace) }
         requires sends { Sends kept.now self.old.number self.old.purpose (stage_of self.old.trace) command }

@@ -70,6 +70,7 @@ impl State {
     /// transaction is with this frame.
     ///
     /// `NotDue`: no frame was put last, and nothing changed.
+    #[inline(always)]
     pub(crate) fn step_heard(
         &mut self,
         kept: &Records<'_>,

@@ -173,7 +173,7 @@ impl Gear {
 
     /// Whether the gear takes part in the initialisation, and its random address is the search address.
     #[inline(always)]
-    fn is_selected(&self) -> bool
+    pub fn is_selected(&self) -> bool
         ensures { result ≡ (is_active self.now.state && is_found self.now) }
     {
         self.is_active() & self.is_found()

@@ -203,6 +203,7 @@ impl Installation {
     /// `pump ..`: the request that is next comes on the bus.
     ///
     /// Refusals, in this order: 6 DrawsSpent, 8 LogFull.
+    #[inline(always)]
     pub fn pump(&mut self, trouble: Trouble) -> Result<Report, Refusal>
         ensures { PumpsOn self.old trouble result self.new }
     {
@@ -363,6 +364,7 @@ impl Installation {
     }
 
     /// The controller acts on an input. A record that it orders is pending from now on.
+    #[inline(always)]
     fn act(&mut self, c: u8, input: Input) -> Result<Order, Refusal>
         requires known { c < length self.old.site.plan.blocks }
         requires made { IsMade input (due_of (controller self.old c)) (store_at self.old c).pending }

@@ -47,6 +47,7 @@ fn take_turn(
 
 /// The turns of all controllers, in order of their numbers, and whether one of them went; `None` if a turn was refused,
 /// which is the last then.
+#[inline(always)]
 fn turns(text: &mut String, installation: &mut Installation) -> Result<Option<bool>, AllocError>
     ensures { IfOk result
         (λ acted. Writes (string_bytes text.old) (string_bytes text.new)
@@ -85,6 +86,7 @@ fn came_of(acted: bool, report: Report) -> Round
 }
 
 /// One round.
+#[inline(always)]
 fn play_round(text: &mut String, installation: &mut Installation) -> Result<Round, AllocError>
     ensures { IfOk result
         (λ round. Writes (string_bytes text.old) (string_bytes text.new)

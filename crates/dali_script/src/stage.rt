@@ -101,6 +101,7 @@ impl Stage {
     }
 
     /// The stage that a command leads to, if it may come next in a script.
+    #[inline(always)]
     fn next(self, command: Command, heard: Answer) -> Option<Stage>
         ensures { result ≡ leads self command heard }
     {
@@ -175,6 +176,7 @@ impl Stage {
     }
 
     /// One more frame was sent, and this was heard.
+    #[inline(always)]
     pub(crate) fn advance(&mut self, command: Command, heard: Answer)
         ensures { self.new ≡ next_stage self.old command heard }
     {

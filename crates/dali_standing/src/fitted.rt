@@ -14,7 +14,7 @@ ghost use Rattle.dali_standing.specs.declared.refusal.Refusal.TheVariants as ref
 use crate::refusal::Refusal;
 use dali_events::{Plan, Used};
 use dali_frame::{Answer, Forward, Random24, Short};
-use dali_gear::{Gear, InitialisationState, Reach, Row};
+use dali_gear::{Gear, Reach, Row};
 use dali_special::Command;
 use std::alloc::Global;
 use std::marker::Model;
@@ -71,6 +71,7 @@ impl FittedGear {
 
     /// The gear that the frame of this command reaches take it. Answers what is heard if nothing disturbs the backward
     /// frames.
+    #[inline(always)]
     pub(crate) fn take(&mut self, command: &Command, reach: Reach) -> Answer
         requires draws { draws_needed reach command.now 0 self.old.gear ≤ length self.old.left }
         requires room { length (self.old.gifts
@@ -153,9 +154,7 @@ fn stored(gear: &Gear, command: &Command) -> Option<Short>
     ensures { result ≡ stored_short command.now gear.now }
 {
     match *command {
-        Command::Program(Some(short))
-            if gear.state() != InitialisationState::Disabled
-                && gear.random() == gear.search().value() => { Some(short) }
+        Command::Program(Some(short)) if gear.is_selected() => Some(short),
         _ => None,
     }
 }

@@ -100,6 +100,7 @@ impl Seat {
     }
 
     /// Its machine acts on an input, and orders what is to be done next.
+    #[inline(always)]
     pub(crate) fn act(&mut self, input: Input) -> Order
         requires up { self.old.controller.up ≡ true }
         requires due { IsDue self.old.controller input }
@@ -116,6 +117,7 @@ impl Seat {
 
     /// Its frame was sent, and this was heard. `reached` is how far its transaction is, with this frame.
     #[tactic(auto, using(crate::proofs::Ties::heard_finding))]
+    #[inline(always)]
     pub(crate) fn hear(&mut self, frame: Forward, heard: Answer, reached: &Stage)
         requires put { frame_put self.old.controller.last ≡ Some frame }
         requires untold { self.old.controller.told ≡ None }
@@ -123,7 +125,7 @@ impl Seat {
         requires reached { IsReached reached.now (trace_of self.old.machine ++ entry frame heard ∷ []) }
         ensures { self.new ≡ told_at (told_sent (trace_of self.old.machine) frame heard) self.old }
     {
-        self.finding = later(self.finding, reached.finding());
+        note_finding(&mut self.finding, reached.finding());
         self.told = Some(Input::Heard(heard));
         self.reached = *reached;
     }
@@ -179,6 +181,7 @@ impl Seat {
 
     /// How far its transaction is once its frame was sent, and this was heard. It is the transaction that its machine
     /// goes on with, if it owns the bus, or a new one. `command` is the one that the frame is read as.
+    #[inline(always)]
     pub(crate) fn reached(
         &self,
         owned: bool,
@@ -197,6 +200,7 @@ impl Seat {
     }
 
     /// Whether a frame may follow, if its transaction is that far.
+    #[inline(always)]
     pub(crate) fn goes_on(&self, reached: &Stage) -> bool
         ensures { result ≡ may_follow self.now.controller.records.block self.now.controller.records.reserved
             reached.now }
@@ -276,6 +280,7 @@ impl Seat {
 
 /// A machine acts on an input that it waits for. `reached` is how far its transaction is, if it was told what was
 /// heard.
+#[inline(always)]
 fn stepped(place: &mut Place, input: Input, reached: Stage) -> Order
     requires waits { Waits (machine_in place.old) input }
     requires reached { IsReachedIn (Some input) (machine_in place.old) reached }
@@ -310,12 +315,11 @@ fn note(outstanding: &mut Option<Record>, input: Input, order: &Order)
     }
 }
 
-/// The later of two findings.
-fn later(earlier: Option<Finding>, found: Option<Finding>) -> Option<Finding>
-    ensures { result ≡ later earlier found }
+/// Keeps the last finding.
+fn note_finding(finding: &mut Option<Finding>, found: Option<Finding>)
+    ensures { finding.new ≡ later finding.old found }
 {
-    match found {
-        Some(found) => Some(found),
-        None => earlier,
+    if let Some(found) = found {
+        *finding = Some(found);
     }
 }

@@ -125,6 +125,7 @@ impl Standing {
     }
 
     /// Whether a controller would order, at this input, to reserve a short address that one of these used gear has.
+    #[inline(always)]
     pub fn would_reserve_used(&self, c: u8, input: Input, used: &[Used]) -> bool
         requires up { (controller_on self.now c).up ≡ true }
         requires due { IsDue (controller_on self.now c) input }
@@ -139,6 +140,7 @@ impl Standing {
     }
 
     /// A controller acts on an input. What it orders on the bus waits there from now on.
+    #[inline(always)]
     pub fn act(&mut self, c: u8, input: Input) -> Order
         requires up { (controller_on self.old c).up ≡ true }
         requires due { IsDue (controller_on self.old c) input }
@@ -182,6 +184,7 @@ impl Standing {
     }
 
     /// The request that is next is sent. Answers what was heard. `command` is the one that the frame is read as.
+    #[inline(always)]
     pub fn send(&mut self, request: Request, command: &Command, trouble: Trouble) -> Answer
         requires next { next self.old.bus ≡ Some request }
         requires read { command.now ≡ command_of request.frame }
@@ -371,6 +374,7 @@ fn keeps_bus(order: &Order) -> bool
 }
 
 /// The owner gives up the bus with any order but a later frame of its transaction.
+#[inline(always)]
 fn give_up(arbiter: &mut Arbiter, c: u8, order: &Order)
     ensures { arbiter.new ≡ (if gives_up arbiter.old c order.now then bus_lapsed arbiter.old else arbiter.old) }
 {
@@ -380,6 +384,7 @@ fn give_up(arbiter: &mut Arbiter, c: u8, order: &Order)
 }
 
 /// A frame that is ordered waits for the bus.
+#[inline(always)]
 fn request(arbiter: &mut Arbiter, c: u8, order: &Order)
     requires { IsAccepted arbiter.old c order.now }
     ensures { arbiter.new ≡ put_after arbiter.old c order.now }
@@ -405,6 +410,7 @@ pub fn is_arc_power(frame: Forward) -> bool
 
 /// The sender of a frame is told what was heard. `reached` is how far its transaction is, with this frame.
 #[tactic(auto, using(crate::proofs::Settling::arc_tells))]
+#[inline(always)]
 fn hear(seat: &mut Seat, frame: Forward, command: &Command, heard: Answer, reached: &Stage)
     requires read { command.now ≡ command_of frame }
     requires hearing { IsHearing seat.old frame heard reached.now }

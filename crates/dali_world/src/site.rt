@@ -118,6 +118,7 @@ impl SiteState {
     /// 8 LogFull, 10 AddressInUse. The last means that it would order to reserve a short address that used gear have. A
     /// machine that surveys reserves no address under which it heard an answer.
     #[tactic(auto, unfolding(crate::specs::Site::Acts))]
+    #[inline(always)]
     pub fn act(&mut self, c: u8, input: Input) -> Result<Receipt, Refusal>
         ensures sound { IsSound self.old }
         ensures answer { Acts self.old c input result self.new }
@@ -183,6 +184,7 @@ impl SiteState {
     ///
     /// Without a request it answers `Idle` before any refusal, and logs nothing. Refusals, in this order: 6 DrawsSpent,
     /// 8 LogFull.
+    #[inline(always)]
     pub fn pump(&mut self, trouble: Trouble) -> Result<Report, Refusal>
         ensures pumped { IfOk result (λ report. Pumps self.old trouble report self.new) }
         // So what is sent or destroyed, but direct arc power, is what its sender ordered last.
@@ -435,6 +437,7 @@ impl SiteState {
 
     /// The request that is next is sent. Here, in `destroy` and in `collide`, `command` is the one that its frame is
     /// read as.
+    #[inline(always)]
     fn send(&mut self, request: Request, command: &Command, trouble: Trouble) -> Report
         requires next { next_request self.old ≡ Some request }
         requires read { command.now ≡ command_of request.frame }
