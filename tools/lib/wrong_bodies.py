@@ -26,7 +26,7 @@ from collections.abc import Callable, Iterable, Iterator
 from lib import ROOT, proving
 
 # How many edits of a crate one check tries: a check begins with some ten seconds of reading, and takes one processor.
-TOGETHER = 30
+TOGETHER = 100
 # What a try comes to.
 REFUSED, PROVED, BAD, UNSURE = "refused", "proved", "BAD EDIT", "NO VERDICT"
 HEAD = re.compile(r"\s*(?:pub(?:\(\w+\))? )?(const )?(?:unsafe )?fn (\w+)")

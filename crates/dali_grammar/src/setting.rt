@@ -1,6 +1,7 @@
 //! What the first lines of a script set up: whether it is a bench, and the plan.
 
-ghost use Rattle.std.specs.Prelude.{◌≡◌, ◌+◌, ◌≤◌, [], ◌∷◌, ◌++◌, length, Ok, IfOk, IfErr};
+ghost use Rattle.std.specs.Prelude.{◌≡◌, ◌+◌, ◌<◌, ◌≤◌, List, [], ◌∷◌, ◌++◌, length, Ok, IfOk, IfErr, IfSome};
+ghost use Rattle.std.specs.Prelude.{MatchOption};
 ghost use Rattle.dali_grammar.specs.Lines.{lines_of, numbered_after};
 ghost use Rattle.dali_grammar.specs.ReplayFault.{fault_of};
 ghost use Rattle.dali_grammar.specs.declared.fault.ReplayFault.TheVariants.{BadLine};
@@ -109,20 +110,40 @@ fn used_gear(alloc: Global, script: &mut Script) -> Result<Vec<Used>, Stop>
     ensures range { script.new.read + length script.new.rest.now ≤ 1048576 }
 {
     let mut used = Vec::new(alloc);
-    while let Some(line) = script.ahead() {
-        if !is_used_line(line) {
-            return Ok(used);
-        }
-        let Some(_) = script.next() else {
-            return Ok(used);
-        };
-        let one = match used_of(line) {
-            Ok(one) => one,
-            Err(wrong) => return Err(Stop::Line(script.number(), Place::Used, wrong)),
-        };
+    while let Some(one) = next_used(script)? {
         append(&mut used, one)?;
     }
     Ok(used)
+}
+
+/// The used gear that the next line names, if it names one: then the line is taken.
+fn next_used(script: &mut Script) -> Result<Option<Used>, Stop>
+    requires { script.old.read + length script.old.rest.now ≤ 1048576 }
+    ensures named { IfOk result (λ one. (us : List Used) → MatchOption one
+        (used_of us (numbered_after script.old.read script.old.rest.now)
+        ≡ Ok (us, numbered_after script.new.read script.new.rest.now))
+        (λ u. used_of us (numbered_after script.old.read script.old.rest.now)
+        ≡ used_of (us ++ u ∷ []) (numbered_after script.new.read script.new.rest.now))) }
+    ensures taken { IfOk result (λ one. IfSome one
+        (λ _. length (numbered_after script.new.read script.new.rest.now)
+        < length (numbered_after script.old.read script.old.rest.now))) }
+    ensures refused { IfErr result (λ stop. (us : List Used)
+        → PlansNot (used_of us (numbered_after script.old.read script.old.rest.now)) (fault_of stop)) }
+    ensures range { script.new.read + length script.new.rest.now ≤ 1048576 }
+{
+    let Some(line) = script.ahead() else {
+        return Ok(None);
+    };
+    if !is_used_line(line) {
+        return Ok(None);
+    }
+    let Some(_) = script.next() else {
+        return Ok(None);
+    };
+    match used_of(line) {
+        Ok(one) => Ok(Some(one)),
+        Err(wrong) => Err(Stop::Line(script.number(), Place::Used, wrong)),
+    }
 }
 
 /// One used gear more.
