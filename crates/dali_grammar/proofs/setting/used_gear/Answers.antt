@@ -6,4 +6,4 @@ pub returns-in_err-one-clause-refused : goal.returns-in_err-one-clause-refused
 returns-in_err-one-clause-refused c =
     let same : c.from_residual.result ≡ Err c.in_err-one.field-0.0 = search rules in
     subst (λ r. IfErr r (λ stop. PlansNot (used_of [] (numbered_after c.args.script.now.read c.args.script.now.rest.now)) (fault_of stop))) (sym same) (
-      subst (λ plan. PlansNot plan (fault_of c.in_err-one.field-0.0)) (sym c.loop-used.invariant.named) (c.in_err-one.ensures.refused c.loop-used.used.items))
+    subst (λ plan. PlansNot plan (fault_of c.in_err-one.field-0.0)) (sym c.loop-used.invariant.named) (c.in_err-one.ensures.refused c.loop-used.used.items))
