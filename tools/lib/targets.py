@@ -222,11 +222,11 @@ def retargeted(target: Target, module: pathlib.Path, folder: pathlib.Path, marks
     text = re.sub(r' "(?:target-cpu|target-features|probe-stack|stack-probe-size)"="[^"]*"', "", text)
     # A C compiler takes it that the byte that is returned fills its register.
     text = re.sub(r"^define noundef (?=i8 @)", "define noundef zeroext ", text, flags=re.M)
-    if "noinline" in marks:
-        text = re.sub(r"^(attributes #.*) inlinehint\b", r"\1", text, flags=re.M)
+    # What the sources mark for a site's loop makes these libraries larger: there clang decides by itself.
+    unmarked = r" (?:inlinehint|alwaysinline)\b" if "noinline" in marks else r" alwaysinline\b"
+    text = re.sub(rf"^(attributes #.*){unmarked}", r"\1", text, flags=re.M)
     of_functions = "|".join(set(re.findall(r"^define .*\) #(\d+)", text, re.M)))
-    marked = rf"^(attributes #(?:{of_functions}) = \{{)(?!.*alwaysinline)"
-    return re.sub(marked, rf"\1 {' '.join(marks)}", text, flags=re.M)
+    return re.sub(rf"^(attributes #(?:{of_functions}) = \{{)", rf"\1 {' '.join(marks)}", text, flags=re.M)
 
 
 def compiled(
