@@ -1,16 +1,17 @@
-use Rattle.std.proofs.Common.{◌≡◌, List, [], ◌∷◌, Bool, Result, ap, subst, ◌∙◌}
+use Rattle.std.proofs.Common.{◌≡◌, List, [], ◌∷◌, ◌++◌, Bool, Result, ap, subst, ◌∙◌}
 use Rattle.dali_script.specs.Records.{without_records}
 use Rattle.dali_commissioning.specs.{Drivers.Talk, Places.places, declared.census.Reply.Reply, declared.verdict.Place.Place}
 use Rattle.dali_commission_program.specs.declared.reports.Which.TheVariants.{All}
 use Rattle.dali_commission_program.specs.declared.said.Said.{Said}
 use Rattle.dali_commission_program.specs.Said.{places_said}
-use Rattle.dali_commission_program.specs.Clearing.{AreCleared, IsFollowed, ClearsTo, cleared_as, all_shorts}
+use Rattle.dali_commission_program.specs.Clearing.{AreCleared, IsFollowed, ClearsTo, cleared_as, cleared_said, all_shorts}
 use Rattle.dali_commission_program.specs.declared.failure.Failure.{Failure}
 
 -- what a clear comes to, by what was seen and told of the replies
 pub cleared : (replies seen told : List Reply) (found : Bool) (x at y : Talk) (ended : Result (Unit {0}) Failure) (lines : List Said) (stand : List Place)
     → AreCleared (1 ∷ 2 ∷ 3 ∷ 4 ∷ []) [] replies x at → seen ≡ replies → IsFollowed seen found at y → told ≡ replies
-    → ended ≡ cleared_as told found → stand ≡ places (without_records all_shorts) [] told → lines ≡ places_said All 0 stand
+    → ended ≡ cleared_as told found → stand ≡ places (without_records all_shorts) [] told
+    → lines ≡ places_said All 0 stand ++ cleared_said ended
     → ClearsTo ended lines stand x y
 cleared replies seen told found x at y ended lines stand are is follows so ends stands says = (
   replies,

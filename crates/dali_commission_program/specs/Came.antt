@@ -28,11 +28,12 @@ use Rattle.dali_commission_program.specs.declared.said.Said.{Said}
 use Rattle.dali_commission_program.specs.declared.said.Said.TheVariants.{Commissioned}
 use Rattle.dali_commission_program.specs.declared.tasks.Start.{Start}
 use Rattle.dali_commission_program.specs.declared.tasks.Start.TheVariants as start
-use Rattle.dali_commission_program.specs.Ending.{HasAsked}
+use Rattle.dali_commission_program.specs.Ending.{HasAskedAtLast, pass_at_last}
+use Rattle.dali_commission_program.specs.declared.ending.AtLast.{AtLast}
 use Rattle.dali_commission_program.specs.Failures.{checked, ended_as, failure_of}
 use Rattle.dali_commission_program.specs.Reports.{checked_said, addressed_said, heard_of}
 use Rattle.dali_commission_program.specs.Said.{heard_said, WhySaid}
-use Rattle.dali_commission_program.specs.Sharing.{is_shared, has_any, or_shared}
+use Rattle.dali_commission_program.specs.Sharing.{is_shared, is_open, or_open, left_open}
 
 -- WHAT A CHECK COMES TO, by what it found, or why it could not be made: how it ends, what is said
 -- of it, and what stands where
@@ -48,7 +49,8 @@ check_said (Err fault) others = []
 abbrev pub check_ended : Result Checked CommissionFault → List Block → Bool → ℕ
     → Result (Unit {0}) Failure
 check_ended (Ok found) others heard line =
-    or_shared (checked (places found.kept others found.replies.items) found.has_unaddressed heard)
+    or_open (checked (places found.kept others found.replies.items) found.has_unaddressed heard)
+    (list_any (λ reply. is_open reply) found.replies.items)
     (list_any (λ reply. is_shared reply) found.replies.items)
 check_ended (Err fault) others heard line = Err (failure_of fault line)
 
@@ -69,13 +71,12 @@ HasBegun is_up is_sound holds block others wanted was keep x y start.Survey
     × (pass.ended ≡ Done AllFound → AreQuiet wanted runs)
 
 -- HOW A RUN ENDS, as the last machine did: at last gear are asked until one answers, and it does
--- not end well if none does
+-- not end well if none does, or if something is still heard where the last survey left gear alone
 abbrev pub EndsSo : PassEnd → Kept → Result (Unit {0}) Failure → Talk → Talk → Type 0
 EndsSo pass after ended x y =
-    (heard : Bool)
-    × (found : Bool)
-    × HasAsked pass.ended after.enrolled heard found x y
-    × (ended ≡ or_shared (ended_as pass.ended found) (has_any pass.heard))
+    (last : AtLast)
+    × HasAskedAtLast pass.ended pass.heard after.enrolled last x y
+    × (ended ≡ left_open (ended_as (pass_at_last pass last).ended last.is_there) last.left)
 
 -- WHAT A RUN COMES TO that began so: gear that no record names are said, and nothing else is done
 -- beside them; else it ends as its last machine, or, if that cannot be told, without success

@@ -22,6 +22,8 @@ use Rattle.dali_commission_program.specs.Erasing.{begun, erasing_next, erasing_t
 use Rattle.dali_commission_program.specs.Mends.{AreFrames}
 use Rattle.dali_commission_program.specs.declared.reports.Which.TheVariants as which
 use Rattle.dali_commission_program.specs.declared.said.Said.{Said}
+use Rattle.dali_commission_program.specs.declared.said.Said.TheVariants as said
+use Rattle.dali_commission_program.specs.Replacing.{IsAside}
 use Rattle.dali_commission_program.specs.Said.{AreTold, places_said}
 use Rattle.dali_commission_program.specs.Seen.{AreFree}
 use Rattle.dali_commission_program.specs.Settling.{kept_at}
@@ -69,6 +71,20 @@ ArePutAside {F = F} made saw told records x y =
     × ((from : F) × AreRenamed made saw names number from y)
     × AreKeptTold told number names
 
+-- and so are the new files that a stopped replacement has left beside any of them
+abbrev pub IsNewAside : {F : Type 0} → (F → F → Call → Type 0) → (F → Look → Type 0) → List ℕ → F
+    → F → Type 0
+IsNewAside made saw name x y =
+    (place : String Global)
+    × saw x (look.Lies name (string_bytes place))
+    × IsAside made saw (string_bytes place) x y
+
+abbrev pub AreNewAside : {F : Type 0} → (F → F → Call → Type 0) → (F → Look → Type 0)
+    → List (String Global) → F → F → Type 0
+AreNewAside made saw [] x y = x ≡ y
+AreNewAside made saw (name ∷ more) x y =
+    (z : _) × IsNewAside made saw (string_bytes name) x z × AreNewAside made saw more z y
+
 -- ALL GEAR LOSE THEIR SHORT ADDRESSES by the frames of the machine, put until none is due; then
 -- each short address is asked
 abbrev pub all_shorts : Block
@@ -110,6 +126,10 @@ cleared_as replies found =
     if is_any replies then Err NotCleared
     else (if found then Ok tt else Err NobodyAnswered)
 
+abbrev pub cleared_said : Result (Unit {0}) Failure → List Said
+cleared_said (Ok done) = said.Cleared ∷ []
+cleared_said (Err failure) = []
+
 abbrev pub ClearsTo : Result (Unit {0}) Failure → List Said → List Place → Talk → Talk → Type 0
 ClearsTo ended lines stand x y =
     (replies : List Reply)
@@ -119,13 +139,14 @@ ClearsTo ended lines stand x y =
     × IsFollowed replies found at y
     × (ended ≡ cleared_as replies found)
     × (stand ≡ places (without_records all_shorts) [] replies)
-    × (lines ≡ places_said which.All 0 stand)
+    × (lines ≡ places_said which.All 0 stand ++ cleared_said ended)
 
 -- A CLEAR THAT ENDED SO has put the files aside before, and said which gear still answer
 abbrev pub HasCleared : {F : Type 0} → (F → F → Call → Type 0) → (F → Look → Type 0)
     → (Said → Type 0) → List (String Global) → Result (Unit {0}) Failure → Type 0
 HasCleared {F = F} made saw told records ended =
     ((from to : F) × ArePutAside made saw told records from to)
+    × ((from to : F) × AreNewAside made saw records from to)
     × ((lines : List Said)
     × (stand : List Place)
     × (x y : Talk)

@@ -1,14 +1,19 @@
 use Rattle.std.specs.Prelude.{◌≡◌, ◌⊎◌, ℕ, ◌≤◌, ◌-◌, ◌^◌, Bool, true, false, not}
-use Rattle.std.specs.Prelude.{List, [], ◌∷◌, ◌++◌}
+use Rattle.std.specs.Prelude.{List, [], ◌∷◌, ◌++◌, ◌||◌, if◌then◌else◌}
 use Rattle.dali_controller.specs.declared.shorts.Shorts.{Shorts}
-use Rattle.dali_script.specs.declared.orders.End.TheVariants.{AllFound}
+use Rattle.dali_controller.specs.Shorts.{with_short}
+use Rattle.dali_script.specs.declared.orders.End.TheVariants.{AllFound, GaveUp}
 use Rattle.dali_script.specs.Records.{Assignment, addresses}
 use Rattle.dali_commissioning.specs.declared.census.Reply.{Reply}
 use Rattle.dali_commissioning.specs.declared.conducting.Ended.{Ended}
 use Rattle.dali_commissioning.specs.declared.conducting.Ended.TheVariants.{Done}
-use Rattle.dali_commissioning.specs.Census.{IsAnswered, is_silent}
+use Rattle.dali_commissioning.specs.declared.conducting.PassEnd.{PassEnd}
+use Rattle.dali_commissioning.specs.Census.{IsAnswered, IsCleared, is_silent}
 use Rattle.dali_commissioning.specs.Drivers.{Talk}
 use Rattle.dali_commission_program.specs.Reports.{heard_of}
+use Rattle.dali_commission_program.specs.Sharing.{is_shared}
+use Rattle.dali_commission_program.specs.declared.ending.AtLast.{AtLast}
+use Rattle.dali_commission_program.specs.declared.sharing.Left.{Left}
 
 -- SHORT ADDRESSES ARE ASKED one after the other, until a gear answers at one
 abbrev pub AnswersAt : ℕ → Bool → Talk → Talk → Type 0
@@ -28,8 +33,8 @@ IsAnyAt (a ∷ more) found x y =
     × AnswersAt a one x at
     × If one ((found ≡ true) × (y ≡ at)) (IsAnyAt more found at y)
 
--- WHICH ARE ASKED at the end: if all gear seem to be found, those of the table; and then all, if
--- any gear was heard
+-- WHICH ARE ASKED at the end: if all gear seem to be found, or searches found none, those of the
+-- table; and then all, if any gear was heard
 abbrev pub all_shorts : Shorts
 all_shorts = record { bits = 2 ^ 64 - 1 }
 
@@ -39,8 +44,54 @@ all_if false = []
 
 abbrev pub asked_last : Ended → List Assignment → Bool → List ℕ
 asked_last (Done AllFound) enrolled heard = addresses enrolled ++ all_if heard
+asked_last (Done GaveUp) enrolled heard = addresses enrolled ++ all_if heard
 asked_last _ enrolled heard = []
 
 -- WHETHER ANY GEAR ANSWERS at the end of a task, by the last that was asked
 abbrev pub HasAsked : Ended → List Assignment → Bool → Bool → Talk → Talk → Type 0
 HasAsked ended enrolled heard found x y = IsAnyAt (asked_last ended enrolled heard) found x y
+
+-- THE SHORT ADDRESSES THAT A SURVEY LEFT ALONE are asked again, until it is clear what answers: one
+-- after the other, with what is left so far
+abbrev pub with_reply : Left → ℕ → Reply → Left
+with_reply left a r = record {
+  heard = (if is_silent r then left.heard else with_short left.heard a);
+  shared = left.shared || is_shared r;
+}
+
+abbrev pub IsAskedAgain : ℕ → Left → Left → Talk → Talk → Type 0
+IsAskedAgain a before after x y =
+    ((64 ≤ a) × (after ≡ before) × (y ≡ x))
+    ⊎ ((r : Reply) × IsCleared a r x y × (after ≡ with_reply before a r))
+
+abbrev pub AreAskedAgain : List ℕ → Left → Left → Talk → Talk → Type 0
+AreAskedAgain [] before after x y = (after ≡ before) × (y ≡ x)
+AreAskedAgain (a ∷ more) before after x y =
+    (left : Left)
+    × (at : Talk)
+    × IsAskedAgain a before left x at
+    × AreAskedAgain more left after at y
+
+abbrev pub none_left : Left
+none_left = record { heard = record { bits = 0 }; shared = false }
+
+-- WHAT IS ASKED AT LAST, in this order; the second only if a gear answers
+pub record HasAskedAtLast (ended : Ended) (heard : Shorts) (enrolled : List Assignment)
+    (last : AtLast) (x y : Talk) : Type 0 where
+  pub before : Bool
+  pub at : Talk
+  pub asked : HasAsked ended enrolled before last.is_there x at
+  pub left : If last.is_there (AreAskedAgain (heard_of heard) none_left last.left at y)
+      ((last.left ≡ record { heard = heard; shared = false }) × (y ≡ at))
+
+-- WHAT THE LAST MACHINE CAME TO with that: a search that found none says nothing of the gear if none
+-- answers any more
+abbrev pub ended_at_last : Ended → Bool → Ended
+ended_at_last (Done GaveUp) false = Done AllFound
+ended_at_last ended found = ended
+
+abbrev pub pass_at_last : PassEnd → AtLast → PassEnd
+pass_at_last pass last = record pass {
+  ended = ended_at_last pass.ended last.is_there;
+  heard = last.left.heard;
+}

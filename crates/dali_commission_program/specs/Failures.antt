@@ -35,7 +35,7 @@ use Rattle.dali_commission_program.specs.declared.failure.Failure.TheVariants.{N
 use Rattle.dali_commission_program.specs.declared.failure.Failure.TheVariants.{NotConfirmed}
 use Rattle.dali_commission_program.specs.declared.failure.Failure.TheVariants.{Unfinished}
 use Rattle.dali_commission_program.specs.declared.failure.Failure.TheVariants.{NotMended, Shared}
-use Rattle.dali_commission_program.specs.declared.failure.Failure.TheVariants.{NotCleared}
+use Rattle.dali_commission_program.specs.declared.failure.Failure.TheVariants.{NotCleared, NotClear}
 use Rattle.dali_commission_program.specs.declared.stores.StoreFault.TheVariants as store
 use Rattle.dali_commission_program.specs.declared.tasks.Task.{Task}
 use Rattle.dali_commission_program.specs.declared.tasks.Task.TheVariants as task
@@ -60,6 +60,7 @@ status_of Unfinished = 12
 status_of (NotMended a refusal) = 11
 status_of Shared = 13
 status_of NotCleared = 14
+status_of NotClear = 15
 
 -- what the end of the program is called in an object of JSON
 abbrev pub name_of : Failure → List ℕ
@@ -83,6 +84,7 @@ name_of Unfinished = codes "unfinished"
 name_of (NotMended a refusal) = codes "not-mended"
 name_of Shared = codes "shared"
 name_of NotCleared = codes "not-cleared"
+name_of NotClear = codes "unclear"
 
 abbrev pub end_name : Task → Result (Unit {0}) Failure → List ℕ
 end_name (task.Run setup) (Ok done) = codes "all-found"

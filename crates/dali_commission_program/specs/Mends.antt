@@ -6,9 +6,7 @@ use Rattle.dali_script.specs.declared.orders.Input.{Input}
 use Rattle.dali_script.specs.declared.orders.Input.TheVariants.{Survey}
 use Rattle.dali_script.specs.declared.records.Record.{Record}
 use Rattle.dali_script.specs.Records.{Kept, without_records}
-use Rattle.dali_controller.specs.declared.shorts.Shorts.{Shorts}
 use Rattle.dali_commissioning.specs.declared.census.Reply.{Reply}
-use Rattle.dali_commissioning.specs.declared.conducting.Ended.{Ended}
 use Rattle.dali_commissioning.specs.declared.conducting.Ended.TheVariants.{Done}
 use Rattle.dali_commissioning.specs.declared.conducting.PassEnd.{PassEnd}
 use Rattle.dali_commissioning.specs.Census.{IsPut, AreCounted}
@@ -19,12 +17,13 @@ use Rattle.dali_replacement.specs.Tables.{Keeps}
 use Rattle.dali_mending.specs.declared.mending.Put.{Put}
 use Rattle.dali_mending.specs.Mending.{Mending, mending_begun, put_next, told_to}
 use Rattle.dali_commission_program.specs.declared.failure.Failure.{Failure}
-use Rattle.dali_commission_program.specs.declared.failure.Failure.TheVariants.{Shared}
 use Rattle.dali_commission_program.specs.declared.tasks.Mend.{Mend}
-use Rattle.dali_commission_program.specs.Ending.{HasAsked}
+use Rattle.dali_commission_program.specs.Ending.{HasAskedAtLast, pass_at_last}
+use Rattle.dali_commission_program.specs.declared.ending.AtLast.{AtLast}
 use Rattle.dali_commission_program.specs.Failures.{ended_as}
-use Rattle.dali_commission_program.specs.Sharing.{has_any, or_shared, meant_from, refused_from}
-use Rattle.dali_commission_program.specs.Sharing.{is_any_left, is_any_bare}
+use Rattle.dali_commission_program.specs.Sharing.{has_any, why_open, or_open, meant_from}
+use Rattle.dali_commission_program.specs.Sharing.{refused_from, is_any_left, is_any_left_shared}
+use Rattle.dali_commission_program.specs.Sharing.{is_any_bare}
 
 -- A MACHINE IS CONDUCTED, by which frame it says next and what it is after what it is told: each
 -- frame is put, and it is told what came of that; last first
@@ -74,36 +73,36 @@ pub record HasSurveyed {S : Type 0} (is_up is_sound : S → Type 0)
   pub come : ComeTo pass runs
   pub quiet : pass.ended ≡ Done AllFound → AreQuiet 3 runs
 
-abbrev pub none_left : Shorts
-none_left = record { bits = 0 }
-
 -- how all ends then: at last gear are asked until one answers, and it does not end well if none
--- does
-abbrev pub mended_as : Ended → Bool → Shorts → List Mending → Result (Unit {0}) Failure
-mended_as ended found heard ms =
-    or_shared (ended_as ended found) (has_any heard || is_any_left ms)
+-- does, or if gear may share a short address
+abbrev pub mended_as : PassEnd → AtLast → List Reply → List Mending → Result (Unit {0}) Failure
+mended_as pass last replies ms =
+    or_open (ended_as (pass_at_last pass last).ended last.is_there) (has_any last.left.heard || is_any_left ms)
+    (last.left.shared || is_any_left_shared replies ms)
 
-abbrev pub MendedSo : PassEnd → Kept → List Mending → Result (Unit {0}) Failure → Talk → Talk
-    → Type 0
-MendedSo pass after ms ended x y =
-    (heard : Bool)
-    × (found : Bool)
-    × HasAsked pass.ended after.enrolled heard found x y
-    × (ended ≡ mended_as pass.ended found pass.heard ms)
+abbrev pub MendedSo : PassEnd → Kept → List Reply → List Mending → Result (Unit {0}) Failure → Talk
+    → Talk → Type 0
+MendedSo pass after replies ms ended x y =
+    (last : AtLast)
+    × HasAskedAtLast pass.ended pass.heard after.enrolled last x y
+    × (ended ≡ mended_as pass last replies ms)
 
 -- WHAT FOLLOWS once short addresses were mended: no survey if gear were not told apart where one
 -- would enrol a gear
 abbrev pub Follows : {S : Type 0} (is_up is_sound : S → Type 0)
-    (holds : S → List Record → Type 0) (kept_of : S → Kept) → Block → Kept → List Mending → S → S
-    → Talk → Talk → Result (Unit {0}) Failure → Type 0
-Follows {S = S} is_up is_sound holds kept_of block table ms was keep x y ended =
-    ((is_any_bare ms ≡ true) × (ended ≡ Err Shared) × (keep ≡ was) × (y ≡ x))
+    (holds : S → List Record → Type 0) (kept_of : S → Kept) → Block → Kept → List Reply
+    → List Mending → S → S → Talk → Talk → Result (Unit {0}) Failure → Type 0
+Follows {S = S} is_up is_sound holds kept_of block table replies ms was keep x y ended =
+    ((is_any_bare ms ≡ true)
+    × (ended ≡ Err (why_open (is_any_left_shared replies ms)))
+    × (keep ≡ was)
+    × (y ≡ x))
     ⊎ ((is_any_bare ms ≡ false)
     × ((pass : PassEnd)
     × (mid : S)
     × (at : Talk)
     × HasSurveyed is_up is_sound holds kept_of block table mid x at pass
-    × MendedSo pass (kept_of keep) ms ended at y))
+    × MendedSo pass (kept_of keep) replies ms ended at y))
 
 -- WHAT A MEND COMES TO: first each short address is asked. If what was heard lets none be mended,
 -- nothing else is put, and the records are as they were. Else each that is meant is mended, and
@@ -120,4 +119,4 @@ MendsTo is_up is_sound holds kept_of block table others wanted replies ms was ke
     ⊎ ((refused_from table others wanted 0 replies ≡ None)
     × ((at : Talk)
     × AreMended table (meant_from wanted.named.items 0 replies) [] ms x at
-    × Follows is_up is_sound holds kept_of block table ms was keep at y ended))
+    × Follows is_up is_sound holds kept_of block table replies ms was keep at y ended))

@@ -1,5 +1,6 @@
 use Rattle.std.specs.Prelude.{◌≡◌, ℕ, ◌+◌, ◌==◌, Bool, true, false, not, ◌||◌, ◌&&◌, if◌then◌else◌}
 use Rattle.std.specs.Prelude.{List, [], ◌∷◌, ◌++◌, Option, Some, None, Result, Ok, Err, is_some}
+use Rattle.std.specs.Prelude.{slice_index_or}
 use Rattle.std.specs.List.{list_any}
 use Rattle.dali_frame.specs.Random.{MASK24}
 use Rattle.dali_script.specs.declared.block.Block.{Block}
@@ -9,6 +10,7 @@ use Rattle.dali_controller.specs.declared.shorts.Shorts.{Shorts}
 use Rattle.dali_controller.specs.Shorts.{with_short}
 use Rattle.dali_commissioning.specs.declared.census.Reply.{Reply}
 use Rattle.dali_commissioning.specs.declared.census.Reply.TheVariants as reply
+use Rattle.dali_commissioning.specs.Census.{is_unclear}
 use Rattle.dali_commissioning.specs.Places.{random_at}
 use Rattle.dali_mending.specs.declared.course.Outcome.{Outcome}
 use Rattle.dali_mending.specs.declared.course.Outcome.TheVariants as outcome
@@ -16,6 +18,8 @@ use Rattle.dali_mending.specs.Mending.{Mending, outcome_at}
 use Rattle.dali_commission_program.specs.declared.failure.Failure.{Failure}
 use Rattle.dali_commission_program.specs.declared.failure.Failure.TheVariants.{Shared, NotMended}
 use Rattle.dali_commission_program.specs.declared.failure.Failure.TheVariants.{NotAsRecorded}
+use Rattle.dali_commission_program.specs.declared.failure.Failure.TheVariants.{NotClear}
+use Rattle.dali_commission_program.specs.declared.sharing.Left.{Left}
 use Rattle.dali_commission_program.specs.declared.sharing.MendRefusal.{MendRefusal}
 use Rattle.dali_commission_program.specs.declared.sharing.MendRefusal.TheVariants as refusal
 use Rattle.dali_commission_program.specs.declared.tasks.Mend.{Mend}
@@ -23,32 +27,47 @@ use Rattle.dali_commission_program.specs.Reports.{heard_if}
 
 -- ---------------------------------------------------------------- which short addresses
 
--- GEAR SHARE A SHORT ADDRESS, by what was heard of it: several numbers, or what spells none; or
--- FFFFFF, which a gear without random address tells
+-- GEAR SHARE A SHORT ADDRESS, as it was heard: several answered; or FFFFFF was told, which a gear
+-- without random address tells
 abbrev pub is_shared : Reply → Bool
 is_shared reply.Silence = false
-is_shared reply.Noise = true
-is_shared reply.Unclear = true
+is_shared reply.Noise = false
+is_shared reply.Unclear = false
 is_shared (reply.Random r) = r == MASK24
 is_shared reply.Several = true
+
+-- they do, or that is not clear
+abbrev pub is_open : Reply → Bool
+is_open r = is_shared r || is_unclear r
 
 -- a survey left a short address alone
 abbrev pub has_any : Shorts → Bool
 has_any heard = not (heard.bits == 0)
 
--- then a task does not end well, nor as gear that are not as recorded
-abbrev pub or_shared : Result (Unit {0}) Failure → Bool → Result (Unit {0}) Failure
-or_shared ended false = ended
-or_shared (Ok done) true = Err Shared
-or_shared (Err NotAsRecorded) true = Err Shared
-or_shared (Err failure) true = Err failure
+-- then a task does not end well, nor as gear that are not as recorded; that gear share an address
+-- is said only if it was heard
+abbrev pub why_open : Bool → Failure
+why_open true = Shared
+why_open false = NotClear
 
--- WHICH ARE MENDED: those that are named, or, if none is, those that gear share; from one on
+abbrev pub or_open : Result (Unit {0}) Failure → Bool → Bool → Result (Unit {0}) Failure
+or_open ended false shared = ended
+or_open (Ok done) true shared = Err (why_open shared)
+or_open (Err NotAsRecorded) true shared = Err (why_open shared)
+or_open (Err failure) true shared = Err failure
+
+-- WHAT IS LEFT OPEN: the short addresses that a survey left alone, and whether gear were heard to
+-- share one of them
+abbrev pub left_open : Result (Unit {0}) Failure → Left → Result (Unit {0}) Failure
+left_open ended left = or_open ended (has_any left.heard) left.shared
+
+-- WHICH ARE MENDED: those that are named, or, if none is, those that gear share or may share; from
+-- one on
 abbrev pub is_named : List ℕ → ℕ → Bool
 is_named named a = list_any (λ b. b == a) named
 
 abbrev pub is_meant : List ℕ → ℕ → Reply → Bool
-is_meant [] a r = is_shared r
+is_meant [] a r = is_open r
 is_meant (b ∷ more) a r = is_named (b ∷ more) a
 
 abbrev pub meant_from : List ℕ → ℕ → List Reply → List ℕ
@@ -122,6 +141,14 @@ is_apart m = is_apart_so (outcome_at m.course.stage)
 
 abbrev pub is_any_left : List Mending → Bool
 is_any_left ms = list_any (λ m. not (is_apart m)) ms
+
+-- and gear were heard to share one of those, by what was heard of each short address before
+abbrev pub is_left_shared : List Reply → Mending → Bool
+is_left_shared replies m =
+    not (is_apart m) && is_shared (slice_index_or replies m.short reply.Silence)
+
+abbrev pub is_any_left_shared : List Reply → List Mending → Bool
+is_any_left_shared replies ms = list_any (λ m. is_left_shared replies m) ms
 
 -- A survey enrols the gear at a short address that the table does not have. So it has to wait if
 -- gear were not told apart there.

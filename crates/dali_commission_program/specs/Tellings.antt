@@ -15,6 +15,7 @@ use Rattle.dali_mending.specs.declared.course.Outcome.{Outcome}
 use Rattle.dali_replacement.specs.declared.confirmed.Confirmed.{Confirmed}
 use Rattle.dali_replacement.specs.Permit.{confirmed_at, confirmed_random}
 use Rattle.dali_mending.specs.Mending.{Mending, outcome_at}
+use Rattle.dali_commission_program.specs.declared.ending.AtLast.{AtLast}
 use Rattle.dali_commission_program.specs.declared.failure.Failure.{Failure}
 use Rattle.dali_commission_program.specs.declared.failure.Failure.TheVariants.{Shared}
 use Rattle.dali_commission_program.specs.declared.said.Said.{Said}
@@ -108,7 +109,7 @@ HasMended told others wanted =
     × (ms : List Mending)
     × (refused_from table others wanted 0 replies ≡ None)
     × (is_any_bare ms ≡ false)
-    × ((pass : PassEnd) × (found : Bool) × (mended_as pass.ended found pass.heard ms ≡ Ok tt))
+    × ((pass : PassEnd) × (last : AtLast) × (mended_as pass last replies ms ≡ Ok tt))
     × AreMendsTold told ms
 
 -- the same of all gear that share a short address

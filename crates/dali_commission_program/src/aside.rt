@@ -3,9 +3,11 @@
 ghost use Rattle.std.specs.Prelude.{◌≡◌, OnOk, IsTrue, ◌↔◌, []};
 ghost use Rattle.dali_commission_program.specs.Calls.{AreMade};
 ghost use Rattle.dali_commission_program.specs.Clearing.{asides, AddsFilled, AreFilled, ArePutAside};
+ghost use Rattle.dali_commission_program.specs.Clearing.{IsNewAside, AreNewAside};
 
 use crate::failure::{Failure, add};
 use crate::finishing::{read, say_kept};
+use crate::replacing::put_one_aside;
 use crate::said::{Voice, or_say, say_refused};
 use crate::settling::free_number;
 use crate::stores::{Holder, Stores};
@@ -134,4 +136,34 @@ pub(crate) fn put_aside<S: Voice + AllocGlobal, F: Stores>(
     let number = stores.hold(system.alloc(), &names, setting)?;
     say_kept(system, &names, number)?;
     Ok(Aside { _ended: () })
+}
+
+/// Puts aside the new file that a stopped replacement has left beside the file of this name.
+fn put_its_new_aside<S: Voice + AllocGlobal, F: Stores>(
+    system: &S,
+    stores: &mut F,
+    name: &str,
+) -> Result<(), Failure>
+    ensures { OnOk result (IsNewAside F.made F.saw name.now stores.old stores.new) }
+{
+    let place = match stores.place_of(system.alloc(), name) {
+        Ok(place) => place,
+        Err(failure) => return Err(say_refused(system, name, failure)),
+    };
+    put_one_aside(system, stores, &place)
+}
+
+/// Puts aside the new files that a stopped replacement has left beside the files of these names.
+pub(crate) fn put_new_aside<S: Voice + AllocGlobal, F: Stores>(
+    system: &S,
+    stores: &mut F,
+    records: &[String],
+) -> Result<(), Failure>
+    ensures { OnOk result (AreNewAside F.made F.saw records.now stores.old stores.new) }
+{
+    let [name, more @ ..] = records else {
+        return Ok(());
+    };
+    put_its_new_aside(system, stores, name)?;
+    put_new_aside(system, stores, more)
 }

@@ -12,7 +12,7 @@ use crate::failure::{Failure, checked, failure_of};
 use crate::records::lend_copy;
 use crate::report::{Came, Report};
 use crate::said::Voice;
-use crate::sharing::{is_any_shared, or_shared};
+use crate::sharing::{is_any_open, is_any_shared, or_open};
 use crate::stores::{Borrower, Stores};
 use dali_commissioning::{Checked, CommissionFault, DriverLink, check};
 use dali_reserve::{Keep, MemoryKeep};
@@ -38,7 +38,11 @@ fn came_of(
             let ended = checked(&report.places, found.has_unaddressed, has_heard);
             Came {
                 report,
-                ended: or_shared(ended, is_any_shared(&found.replies)),
+                ended: or_open(
+                    ended,
+                    is_any_open(&found.replies),
+                    is_any_shared(&found.replies),
+                ),
             }
         }
         Err(fault) => Came::bare(Err(failure_of(*fault, line))),

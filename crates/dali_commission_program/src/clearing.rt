@@ -1,6 +1,6 @@
 //! `clear`: all gear lose their short addresses.
 
-ghost use Rattle.std.specs.Prelude.{◌≡◌, ◌≤◌, [], None, Ok, IfOk, OnOk, length, not};
+ghost use Rattle.std.specs.Prelude.{◌≡◌, ◌≤◌, ◌++◌, [], None, Ok, IfOk, OnOk, length, not};
 ghost use Rattle.std.specs.List.{list_any};
 ghost use Rattle.dali_script.specs.Records.{without_records};
 ghost use Rattle.dali_commissioning.specs.Census.{is_silent};
@@ -8,10 +8,10 @@ ghost use Rattle.dali_commissioning.specs.Drivers.{talk_of};
 ghost use Rattle.dali_commissioning.specs.Places.{places};
 ghost use Rattle.dali_commission_program.specs.Erasing.{erasing_next};
 ghost use Rattle.dali_commission_program.specs.Clearing.{HaveErased, IsRound, AreCleared, IsFollowed, cleared_as};
-ghost use Rattle.dali_commission_program.specs.Clearing.{ClearsTo, HasCleared, all_shorts};
+ghost use Rattle.dali_commission_program.specs.Clearing.{cleared_said, ClearsTo, HasCleared, all_shorts};
 ghost use Rattle.dali_commission_program.specs.Said.{places_said};
 
-use crate::aside::{Aside, put_aside};
+use crate::aside::{Aside, put_aside, put_new_aside};
 use crate::eraser::Eraser;
 use crate::failure::{Failure, failure_of};
 use crate::identifying::is_silent;
@@ -143,18 +143,23 @@ fn came_of(replies: &[Reply], is_there: bool) -> Came
     requires { length replies.now ≤ 64 }
     ensures ended { result.ended ≡ cleared_as replies.now is_there }
     ensures places { result.report.places.items ≡ places (without_records all_shorts) [] replies.now }
-    ensures said { result.report.said.items ≡ places_said Which.All 0 result.report.places.items }
+    ensures said { result.report.said.items
+        ≡ places_said Which.All 0 result.report.places.items ++ cleared_said result.ended }
 {
+    let ended = cleared_as(replies, is_there);
     let places = places(&no_records(), &[], replies);
     let mut said = ArrayVec::new();
     push_places(&mut said, Which::All, 0, &places);
+    if ended.is_ok() {
+        said.push(Said::Cleared);
+    }
     Came {
         report: Report {
             said,
             places,
             ..Report::new()
         },
-        ended: cleared_as(replies, is_there),
+        ended,
     }
 }
 
@@ -172,7 +177,8 @@ fn came_to<S: Voice, R: Read, W: Write>(
     Ok(came_of(&replies, is_there))
 }
 
-/// Puts the files of these records aside that are not empty, and takes the short addresses of all gear away.
+/// Puts the files of these records aside that are not empty, and what a stopped replacement has left beside them; and
+/// takes the short addresses of all gear away.
 pub(crate) fn clears<S, F>(
     system: &S,
     stores: &mut F,
@@ -186,6 +192,7 @@ where
     ensures { IfOk result (λ done. HasCleared F.made F.saw (S.told system.now) records.now (Ok done)) }
 {
     let aside = put_aside(system, stores, records)?;
+    put_new_aside(system, stores, records)?;
     let mut driver = DriverLink::new(system.alloc(), system.reader(), io::writer(system));
     let progress = Progress::new(system, manner, 0);
     let came = match came_to(&mut driver, &progress, &aside) {

@@ -63,6 +63,9 @@ pub enum Failure {
     NotMended(Short, MendRefusal),
     #[error("gear share a short address, or have no random one: call ./dali_commission mend, with the words of run")]
     Shared,
+    /// What was heard at a short address, asked again and again, tells neither one gear nor several.
+    #[error("it is unclear what answers at a short address: check once more on a quiet bus")]
+    NotClear,
     /// Gear still answer at short addresses, which were said.
     #[error("gear still answer at short addresses: call clear again")]
     NotCleared,
@@ -124,6 +127,7 @@ impl Failure {
             Failure::NotMended(..) => (11, "not-mended"),
             Failure::Shared => (13, "shared"),
             Failure::NotCleared => (14, "not-cleared"),
+            Failure::NotClear => (15, "unclear"),
         }
     }
 }

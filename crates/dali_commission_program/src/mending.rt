@@ -1,6 +1,7 @@
 //! `mend`: gear that share a short address are told apart; then surveys enrol who has kept one, and serve who lost it.
 
 ghost use Rattle.std.specs.Prelude.{◌≡◌, ◌≤◌, [], None, Err, List, IfOk, OnOk, length};
+ghost use Rattle.dali_commission_program.specs.Ending.{none_left};
 ghost use Rattle.dali_script.specs.Records.{without_records};
 ghost use Rattle.dali_mending.specs.Mending.{put_next};
 ghost use Rattle.dali_commissioning.specs.declared.census.Reply.{Reply};
@@ -8,12 +9,12 @@ ghost use Rattle.dali_commissioning.specs.Census.{AreCounted};
 ghost use Rattle.dali_commissioning.specs.Drivers.{Talk, talk_of};
 ghost use Rattle.dali_commissioning.specs.Places.{places};
 ghost use Rattle.dali_commission_program.specs.Mends.{HasPut, IsMended, AreMended, HasSurveyed, MendedSo, Follows};
-ghost use Rattle.dali_commission_program.specs.Mends.{MendsTo, mended_as, none_left};
-ghost use Rattle.dali_commission_program.specs.Sharing.{with_left};
+ghost use Rattle.dali_commission_program.specs.Mends.{MendsTo, mended_as};
+ghost use Rattle.dali_commission_program.specs.Sharing.{with_left, why_open, is_any_left_shared};
 ghost use Rattle.dali_commission_program.specs.Reports.{heard_of};
 ghost use Rattle.dali_commission_program.specs.Tellings.{AreMendsTold, HasMended};
 
-use crate::ending::is_any_there;
+use crate::ending::{AtLast, ask_at_last};
 use crate::failure::{Failure, REFUSED, add, ended_as, failure_of};
 use crate::finishing::read;
 use crate::progress::{Aim, Manner, Progress};
@@ -23,8 +24,8 @@ use crate::reports::{Which, push_places};
 use crate::running::left_of;
 use crate::said::{Said, Voice, or_say, say};
 use crate::sharing::{
-    MendRefusal, has_any, is_any_bare, is_any_left, meant_of, or_shared, refused_from, reserved_in,
-    with_left,
+    MendRefusal, has_any, is_any_bare, is_any_left, is_any_left_shared, meant_of, or_open,
+    refused_from, reserved_in, why_open, with_left,
 };
 use crate::stores::{Borrower, Stores};
 use crate::tasks::{Asked, Mend};
@@ -121,37 +122,48 @@ fn survey<K: Keep, R: Read, W: Write, P: Watch>(
     commission(store, driver, watch, Told::Survey, IDLE_PASSES)
 }
 
-/// What a mend comes to whose surveys ended so, from one table to another, by whether any gear answers now, and after
-/// so many frames.
+/// What was heard of each short address before, and which were mended.
+#[derive(Clone, Copy)]
+struct Work<'a> {
+    replies: &'a [Reply],
+    mended: &'a [Mending],
+}
+
+/// What a mend comes to whose surveys ended so, from one table to another, by what was heard at last, and after so many
+/// frames.
 fn came_of(
-    mended: &[Mending],
+    work: &Work<'_>,
     pass: &PassEnd,
     before: &Kept,
     after: &Kept,
     aim: Aim,
-    is_there: bool,
+    last: &AtLast,
     frames: u64,
 ) -> Came
-    ensures ended { result.ended ≡ mended_as pass.now.ended is_there pass.now.heard mended.now }
-    ensures left { result.report.left_alone.items ≡ heard_of (with_left pass.now.heard mended.now) }
+    ensures ended { result.ended ≡ mended_as pass.now last.now work.now.replies.now work.now.mended.now }
+    ensures left { result.report.left_alone.items ≡ heard_of (with_left last.now.left.heard work.now.mended.now) }
 {
+    let (pass, heard) = (last.pass(pass), last.left.heard);
     Came {
         report: Report {
-            left_alone: heard_of(with_left(pass.heard, mended)),
-            ..Report::of_run(pass, before, after, aim, frames)
+            left_alone: heard_of(with_left(heard, work.mended)),
+            ..Report::of_run(&pass, before, after, aim, frames)
         },
-        ended: or_shared(
-            ended_as(pass.ended, is_there),
-            has_any(pass.heard) || is_any_left(mended),
+        ended: or_open(
+            ended_as(pass.ended, last.is_there),
+            has_any(heard) || is_any_left(work.mended),
+            last.left.shared || is_any_left_shared(work.replies, work.mended),
         ),
     }
 }
 
 /// What a mend comes to after which no survey may enrol gear.
-fn came_unsurveyed(mended: &[Mending], before: &Kept) -> Came
-    ensures ended { result.ended ≡ Err Failure.Shared }
-    ensures left { result.report.left_alone.items ≡ heard_of (with_left none_left mended.now) }
+fn came_unsurveyed(work: &Work<'_>, before: &Kept) -> Came
+    ensures ended { result.ended
+        ≡ Err (why_open (is_any_left_shared work.now.replies.now work.now.mended.now)) }
+    ensures left { result.report.left_alone.items ≡ heard_of (with_left none_left.heard work.now.mended.now) }
 {
+    let mended = work.mended;
     let mut said = ArrayVec::new();
     said.push(Said::NotSurveyed);
     Came {
@@ -161,7 +173,7 @@ fn came_unsurveyed(mended: &[Mending], before: &Kept) -> Came
             said,
             ..Report::new()
         },
-        ended: Err(Failure::Shared),
+        ended: Err(why_open(is_any_left_shared(work.replies, mended))),
     }
 }
 
@@ -198,17 +210,17 @@ fn end_so<K: Keep, R: Read, W: Write>(
     driver: &mut DriverLink<R, W>,
     aim: Aim,
     site: &Site<'_>,
-    mended: &[Mending],
+    work: &Work<'_>,
     pass: &PassEnd,
 ) -> Result<Came, Failure>
-    ensures { IfOk result (λ came. MendedSo pass.now (K.kept store.new) mended.now came.ended
-        (talk_of R.remaining W.contents driver.old) (talk_of R.remaining W.contents driver.new)) }
+    ensures { IfOk result (λ came. MendedSo pass.now (K.kept store.new) work.now.replies.now work.now.mended.now
+        came.ended (talk_of R.remaining W.contents driver.old) (talk_of R.remaining W.contents driver.new)) }
 {
     let after = kept(store)?;
-    let asked = is_any_there(driver, pass.ended, &after);
+    let asked = ask_at_last(driver, pass, &after);
     let lines = driver.lines();
     match asked {
-        Ok(is_there) => { Ok(came_of(mended, pass, site.before, &after, aim, is_there, lines)) }
+        Ok(last) => Ok(came_of(work, pass, site.before, &after, aim, &last, lines)),
         Err(fault) => Err(failure_of(fault, lines)),
     }
 }
@@ -219,19 +231,19 @@ fn follow<S: Voice, K: Keep, R: Read, W: Write>(
     driver: &mut DriverLink<R, W>,
     progress: &mut Progress<'_, S>,
     site: &Site<'_>,
-    mended: &[Mending],
+    work: &Work<'_>,
 ) -> Result<Came, Failure>
     ensures { IfOk result (λ came. Follows K.is_up K.is_sound K.holds K.kept (K.block store.old) site.now.table.now
-        mended.now store.old store.new (talk_of R.remaining W.contents driver.old)
+        work.now.replies.now work.now.mended.now store.old store.new (talk_of R.remaining W.contents driver.old)
         (talk_of R.remaining W.contents driver.new) came.ended) }
 {
-    if is_any_bare(mended) {
-        return Ok(came_unsurveyed(mended, site.before));
+    if is_any_bare(work.mended) {
+        return Ok(came_unsurveyed(work, site.before));
     }
     let surveyed = survey(store, driver, progress, site.table);
     progress.end();
     match surveyed {
-        Ok(pass) => end_so(store, driver, progress.aim(), site, mended, &pass),
+        Ok(pass) => end_so(store, driver, progress.aim(), site, work, &pass),
         Err(fault) => Err(failure_of(fault, driver.lines())),
     }
 }
@@ -256,7 +268,8 @@ fn mends_by<S: Voice, K: Keep, R: Read, W: Write>(
     }
     let meant = meant_of(&site.wanted.named, replies);
     mend_all(driver, progress, site.table, &meant, mended)?;
-    follow(store, driver, progress, site, mended)
+    let work = Work { replies, mended };
+    follow(store, driver, progress, site, &work)
 }
 
 /// What a mend comes to: each short address is asked first.

@@ -13,6 +13,7 @@ ghost use Rattle.dali_commission_program.specs.Settling.{new_at};
 ghost use Rattle.dali_commission_program.specs.Tellings.{HasReplaced};
 
 use crate::confirming::Asking;
+use crate::ending::ask_at_last;
 use crate::failure::{Failure, REFUSED, add, ended_as, failure_of};
 use crate::finishing::{confirms, exchanged, read, say_kept};
 use crate::progress::{Manner, Progress};
@@ -72,10 +73,16 @@ impl<S: Voice, R: Read, W: Write> Borrower for Giving<'_, S, R, W> {
             Ok(pass) => pass,
             Err(fault) => return Err(failure_of(fault, self.driver.lines())),
         };
-        say_all(system, &ended_said(&pass, &kept(store)?, progress.aim()));
+        let kept = kept(store)?;
+        let last = match ask_at_last(self.driver, &pass, &kept) {
+            Ok(last) => last,
+            Err(fault) => return Err(failure_of(fault, self.driver.lines())),
+        };
+        let pass = last.pass(&pass);
+        say_all(system, &ended_said(&pass, &kept, progress.aim()));
         match pass.ended {
             Ended::Done(End::BlockFull) => Ok(()),
-            ended => ended_as(ended, true),
+            ended => ended_as(ended, last.is_there),
         }
     }
 }
@@ -360,7 +367,7 @@ impl<S: Input + Print + Voice + AllocGlobal> Replacing<'_, S> {
 }
 
 /// Puts aside the new file that an earlier call has left for a name, if there is one.
-fn put_one_aside<S: Voice + AllocGlobal, F: Stores>(
+pub(crate) fn put_one_aside<S: Voice + AllocGlobal, F: Stores>(
     system: &S,
     stores: &mut F,
     name: &str,

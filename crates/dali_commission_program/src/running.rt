@@ -4,18 +4,18 @@ ghost use Rattle.std.specs.Prelude.{◌≡◌, ◌+◌, ◌-◌, Err, IfOk, IsTr
 ghost use Rattle.dali_commissioning.specs.Drivers.{talk_of};
 ghost use Rattle.dali_commission_program.specs.declared.failure.Failure.TheVariants.{Shared};
 ghost use Rattle.dali_commission_program.specs.Failures.{ended_as};
-ghost use Rattle.dali_commission_program.specs.Sharing.{has_any, or_shared};
+ghost use Rattle.dali_commission_program.specs.Ending.{pass_at_last};
+ghost use Rattle.dali_commission_program.specs.Sharing.{left_open};
 ghost use Rattle.dali_commission_program.specs.Came.{HasBegun, EndsSo, ComesTo, RunSaid};
 ghost use Rattle.dali_commission_program.specs.Tellings.{HasRun, HasMendedAll};
 
-use crate::ending::is_any_there;
+use crate::ending::{AtLast, ask_at_last};
 use crate::failure::{Failure, ended_as, failure_of};
 use crate::mending::Mender;
 use crate::progress::{Aim, Manner, Progress};
 use crate::records::kept;
 use crate::report::{Came, Report};
 use crate::said::{Said, Voice};
-use crate::sharing::{has_any, or_shared};
 use crate::stores::Borrower;
 use crate::tasks::{Mend, Setup, Start};
 use dali_commissioning::{Begun, CommissionFault, DriverLink, PassEnd, Watch, begin, commission};
@@ -59,22 +59,24 @@ fn begun<K: Keep, R: Read, W: Write, P: Watch>(
     }
 }
 
-/// What a run whose last machine ended so comes to, from one table to another: by whether any gear answers now, and
-/// after so many frames.
+/// What a run whose last machine ended so comes to, from one table to another: by what was heard at last, and after so
+/// many frames.
 fn came_of(
     pass: &PassEnd,
     before: &Kept,
     after: &Kept,
     aim: Aim,
-    is_there: bool,
+    last: &AtLast,
     frames: u64,
 ) -> Came
-    ensures ended { result.ended ≡ or_shared (ended_as pass.now.ended is_there) (has_any pass.now.heard) }
-    ensures said { RunSaid pass.now before.now after.now aim frames result.report.said.items }
+    ensures ended { result.ended
+        ≡ left_open (ended_as (pass_at_last pass.now last.now).ended last.now.is_there) last.now.left }
+    ensures said { RunSaid (pass_at_last pass.now last.now) before.now after.now aim frames result.report.said.items }
 {
+    let pass = last.pass(pass);
     Came {
-        report: Report::of_run(pass, before, after, aim, frames),
-        ended: or_shared(ended_as(pass.ended, is_there), has_any(pass.heard)),
+        report: Report::of_run(&pass, before, after, aim, frames),
+        ended: last.left.ended(ended_as(pass.ended, last.is_there)),
     }
 }
 
@@ -90,10 +92,10 @@ fn ended_so<K: Keep, R: Read, W: Write>(
         (talk_of R.remaining W.contents driver.old) (talk_of R.remaining W.contents driver.new)) }
 {
     let after = kept(store)?;
-    let asked = is_any_there(driver, pass.ended, &after);
+    let asked = ask_at_last(driver, pass, &after);
     let lines = driver.lines();
     match asked {
-        Ok(is_there) => Ok(came_of(pass, before, &after, aim, is_there, lines)),
+        Ok(last) => Ok(came_of(pass, before, &after, aim, &last, lines)),
         Err(fault) => Err(failure_of(fault, lines)),
     }
 }

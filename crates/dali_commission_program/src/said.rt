@@ -100,6 +100,8 @@ pub enum Said<'a> {
     NotSurveyed,
     #[error("taking all short addresses away, round {0}")]
     Clears(u8),
+    #[error("no gear answers at a short address any more")]
+    Cleared,
     #[error("error: {0}: {1}")]
     Refused(&'a str, StoreFault),
     #[error("{0}")]
@@ -174,8 +176,10 @@ fn write_mended<W: fmt::Write>(
         Outcome::Kept(_) => "one gear alone answers, and keeps it",
         Outcome::Nobody => "no gear answers any more",
         Outcome::Another(_) => "answers alone, but the table has another gear there: replace it",
-        Outcome::Missing(_) => "is in the table and does not answer, but other gear do",
-        Outcome::Twins(_) => "several gear have this random address: take all but one from the bus",
+        Outcome::Missing(_) =>
+            "is in the table and was not heard under its random address; left as it is",
+        Outcome::Twins(_) =>
+            "several gear have this random address, or its answers are weak; left as it is",
         Outcome::Lost => "given up: frames were lost eight times in a row",
         Outcome::Spent => "given up: no gear was told apart any more",
     };

@@ -3,7 +3,9 @@
 ghost use Rattle.std.specs.Prelude.{◌≡◌, ◌++◌, ◌+◌, ◌≤◌, if◌then◌else◌, Some, length};
 ghost use Rattle.dali_script.specs.Stages.{in_block};
 ghost use Rattle.std.specs.List.{list_any};
-ghost use Rattle.dali_commission_program.specs.Sharing.{is_shared, has_any, or_shared, is_named, is_meant, meant_from};
+ghost use Rattle.dali_commission_program.specs.Sharing.{is_shared, is_open, has_any, why_open, or_open, left_open};
+ghost use Rattle.dali_commission_program.specs.Sharing.{is_named, is_meant, meant_from};
+ghost use Rattle.dali_commission_program.specs.Sharing.{is_left_shared, is_any_left_shared};
 ghost use Rattle.dali_commission_program.specs.Sharing.{why_not_meant, is_away, is_of_others, why_not, refused_from};
 ghost use Rattle.dali_commission_program.specs.Sharing.{is_apart, is_any_left, is_bare, is_any_bare, with_left};
 ghost use Rattle.dali_commission_program.specs.Sharing.{why_not_beside, inside, or_else, reserved_in};
@@ -39,15 +41,33 @@ pub enum MendRefusal {
     ReservedByOthers,
 }
 
-/// Whether gear share a short address, or one has it and no random address, by what was heard of it.
+/// Whether gear were heard to share a short address, or one to have it and no random address.
 pub(crate) fn is_shared(reply: Reply) -> bool
     ensures { result ≡ is_shared reply }
+{
+    match reply {
+        Reply::Silence | Reply::Noise | Reply::Unclear => false,
+        Reply::Several => true,
+        Reply::Random(random) => random == Random24::MASK,
+    }
+}
+
+/// Whether they share it, or that is not clear.
+fn is_open(reply: Reply) -> bool
+    ensures { result ≡ is_open reply }
 {
     match reply {
         Reply::Silence => false,
         Reply::Noise | Reply::Unclear | Reply::Several => true,
         Reply::Random(random) => random == Random24::MASK,
     }
+}
+
+/// Whether it is so of any short address, or not clear.
+pub(crate) fn is_any_open(replies: &[Reply]) -> bool
+    ensures { result ≡ list_any (λ reply. is_open reply) replies.now }
+{
+    replies.iter().any(|reply| is_open(*reply))
 }
 
 /// Whether gear share any short address.
@@ -64,14 +84,46 @@ pub(crate) fn has_any(heard: Shorts) -> bool
     heard.bits != 0
 }
 
-/// How a task ends if gear share a short address.
-pub(crate) fn or_shared(ended: Result<(), Failure>, is_any: bool) -> Result<(), Failure>
-    ensures { result ≡ or_shared ended is_any }
+/// Why a task does not end well if gear share a short address, or that is not clear.
+pub(crate) fn why_open(is_shared: bool) -> Failure
+    ensures { result ≡ why_open is_shared }
+{
+    if is_shared {
+        Failure::Shared
+    } else {
+        Failure::NotClear
+    }
+}
+
+/// How a task ends if gear share a short address, or that is not clear.
+pub(crate) fn or_open(
+    ended: Result<(), Failure>,
+    is_open: bool,
+    is_shared: bool,
+) -> Result<(), Failure>
+    ensures { result ≡ or_open ended is_open is_shared }
 {
     match ended {
-        Ok(()) | Err(Failure::NotAsRecorded) if is_any => Err(Failure::Shared),
+        Ok(()) | Err(Failure::NotAsRecorded) if is_open => Err(why_open(is_shared)),
         // It ended otherwise.
         _ => ended,
+    }
+}
+
+/// What a survey left alone, once that was asked again.
+#[derive(Clone, Copy)]
+pub(crate) struct Left {
+    /// The short addresses at which something was heard.
+    pub heard: Shorts,
+    /// Whether gear were heard to share one of them.
+    pub shared: bool,
+}
+
+impl Left {
+    pub fn ended(&self, ended: Result<(), Failure>) -> Result<(), Failure>
+        ensures { result ≡ left_open ended self.now }
+    {
+        or_open(ended, has_any(self.heard), self.shared)
     }
 }
 
@@ -86,7 +138,7 @@ fn is_meant(named: &[Short], short: Short, reply: Reply) -> bool
     ensures { result ≡ is_meant named.now short reply }
 {
     match named {
-        [] => is_shared(reply),
+        [] => is_open(reply),
         [..] => is_named(named, short),
     }
 }
@@ -277,6 +329,26 @@ pub(crate) fn is_any_left(mended: &[Mending]) -> bool
     ensures { result ≡ is_any_left mended.now }
 {
     mended.iter().any(|mending| !is_apart(mending))
+}
+
+/// Whether gear were not told apart at a short address that they were heard to share.
+fn is_left_shared(replies: &[Reply], mending: &Mending) -> bool
+    ensures { result ≡ is_left_shared replies.now mending.now }
+{
+    let at = usize::from(mending.short().number());
+    match replies.get(at) {
+        Some(reply) => !is_apart(mending) && is_shared(*reply),
+        None => false,
+    }
+}
+
+/// Whether it is so of any.
+pub(crate) fn is_any_left_shared(replies: &[Reply], mended: &[Mending]) -> bool
+    ensures { result ≡ is_any_left_shared replies.now mended.now }
+{
+    mended
+        .iter()
+        .any(|mending| is_left_shared(replies, mending))
 }
 
 /// Whether gear were not told apart at a short address at which a survey would enrol one.

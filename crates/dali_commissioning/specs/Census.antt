@@ -1,11 +1,11 @@
 use Rattle.std.specs.Prelude.{◌≡◌, ◌⊎◌, ℕ, zero, suc, ◌+◌, ◌<◌, ◌==◌, ◌||◌, ◌&&◌, if◌then◌else◌}
-use Rattle.std.specs.Prelude.{List, [], ◌∷◌, ◌++◌}
+use Rattle.std.specs.Prelude.{List, [], ◌∷◌, ◌++◌, nat_le, min}
 use Rattle.std.specs.Prelude.{Bool, true, false, not, Option, Some, None, is_some, length}
 use Rattle.std.specs.List.{list_any}
 use Rattle.std.specs.Io.KnownBytes.{Appends}
 use Rattle.dali_frame.specs.declared.frames.Forward.{Forward}
 use Rattle.dali_frame.specs.declared.frames.Answer.{Answer}
-use Rattle.dali_frame.specs.declared.frames.Answer.TheVariants.{Silence, Byte}
+use Rattle.dali_frame.specs.declared.frames.Answer.TheVariants.{Silence, Byte, Damaged}
 use Rattle.dali_frame.specs.Random.{number_of}
 use Rattle.dali_special.specs.declared.command.Part.{Part}
 use Rattle.dali_special.specs.declared.command.Part.TheVariants.{High, Middle, Low}
@@ -21,8 +21,11 @@ use Rattle.dali_script.specs.Records.{Kept}
 use Rattle.dali_script.specs.Stages.{in_block}
 use Rattle.dali_script.specs.declared.sending.Half.{Half}
 use Rattle.dali_script.specs.declared.sending.Half.TheVariants.{Whole}
+use Rattle.dali_commissioning.specs.declared.census.Answers.{Answers}
 use Rattle.dali_commissioning.specs.declared.census.Reply.{Reply}
 use Rattle.dali_commissioning.specs.declared.census.Reply.TheVariants as reply
+use Rattle.dali_commissioning.specs.declared.hearing.Hearing.{Hearing}
+use Rattle.dali_commissioning.specs.declared.hearing.OneByte.{OneByte}
 use Rattle.dali_commissioning.specs.Drivers.{Talk}
 use Rattle.dali_commissioning.specs.Lines.{put_text}
 use Rattle.dali_commissioning.specs.Conducted.{Hears}
@@ -104,14 +107,14 @@ abbrev pub reply_of : Answer → Answer → Answer → Reply
 reply_of (Byte h) (Byte m) (Byte l) = reply.Random (number_of h m l)
 reply_of h m l = without_number h m l
 
--- what a question tells; none if one of its frames was lost
-abbrev pub reply_heard : Option Answer → Option Answer → Option Answer → Option Reply
-reply_heard (Some h) (Some m) (Some l) = Some (reply_of h m l)
-reply_heard _ _ _ = None
+-- what a question was answered; none if one of its frames was lost
+abbrev pub answers_heard : Option Answer → Option Answer → Option Answer → Option Answers
+answers_heard (Some h) (Some m) (Some l) = Some (record { high = h; middle = m; low = l })
+answers_heard _ _ _ = None
 
-abbrev pub reply_told : List Input → Option Reply
-reply_told (l ∷ m ∷ h ∷ []) = reply_heard (answer_told h) (answer_told m) (answer_told l)
-reply_told _ = None
+abbrev pub answers_told : List Input → Option Answers
+answers_told (l ∷ m ∷ h ∷ []) = answers_heard (answer_told h) (answer_told m) (answer_told l)
+answers_told _ = None
 
 -- What two questions tell together: silence says more than noise, since noise may come from no
 -- gear; a byte says more than silence, since an answer may be lost; a random address says more than
@@ -126,10 +129,6 @@ joined r reply.Unclear = r
 joined (reply.Random m) (reply.Random n) = if m == n then reply.Random m else reply.Several
 joined _ _ = reply.Several
 
-abbrev pub joined_if : Reply → Option Reply → Reply
-joined_if r (Some s) = joined r s
-joined_if r None = r
-
 -- ---------------------------------------------------------------- the questions of an address
 
 -- questions to one short address, one after the other, last first
@@ -138,44 +137,136 @@ AreAsked a [] x y = y ≡ x
 AreAsked a (told ∷ before) x y =
     (mid : Talk) × AreAsked a before x mid × IsAsked a told mid y
 
-abbrev pub reply_after : List (List Input) → Reply
-reply_after [] = reply.Noise
-reply_after (told ∷ before) = joined_if (reply_after before) (reply_told told)
+-- one byte of the random address, over all questions that were told whole: the byte that was told
+-- first, whether another one was, and how often it was damaged
+abbrev pub byte_unheard : OneByte
+byte_unheard = record { byte = None; differs = false; damaged = 0 }
 
--- how many of them were told whole
-abbrev pub one_if : Option Reply → ℕ
-one_if (Some r) = 1
-one_if None = 0
+abbrev pub or_first : Option ℕ → ℕ → ℕ
+or_first (Some b) told = b
+or_first None told = told
 
-abbrev pub whole_of : List (List Input) → ℕ
-whole_of [] = 0
-whole_of (told ∷ before) = whole_of before + one_if (reply_told told)
+abbrev pub is_another : Option ℕ → ℕ → Bool
+is_another (Some b) told = not (b == told)
+is_another None told = false
+
+abbrev pub byte_after : OneByte → Answer → OneByte
+byte_after b Silence = b
+byte_after b (Byte told) = record {
+  byte = Some (or_first b.byte told);
+  differs = b.differs || is_another b.byte told;
+  damaged = b.damaged;
+}
+byte_after b Damaged = record b { damaged = min (b.damaged + 1) 255 }
+
+-- WHAT WAS HEARD: how many questions were told whole, what they tell together, and each byte
+abbrev pub nothing_heard : Hearing
+nothing_heard = record {
+  asked = 0;
+  reply = reply.Noise;
+  high = byte_unheard;
+  middle = byte_unheard;
+  low = byte_unheard;
+}
+
+abbrev pub heard_after : Hearing → Option Answers → Hearing
+heard_after h (Some a) = record {
+  asked = h.asked + 1;
+  reply = joined h.reply (reply_of a.high a.middle a.low);
+  high = byte_after h.high a.high;
+  middle = byte_after h.middle a.middle;
+  low = byte_after h.low a.low;
+}
+heard_after h None = h
+
+abbrev pub heard_in : List (List Input) → Hearing
+heard_in [] = nothing_heard
+heard_in (told ∷ before) = heard_after (heard_in before) (answers_told told)
 
 -- so many questions in a row were lost, the last one among them
 abbrev pub AreLost : ℕ → List (List Input) → Type 0
 AreLost zero questions = Unit {0}
 AreLost (suc n) [] = ⊥
-AreLost (suc n) (told ∷ before) = (reply_told told ≡ None) × AreLost n before
+AreLost (suc n) (told ∷ before) = (answers_told told ≡ None) × AreLost n before
 
-abbrev pub lost_after : ℕ → Option Reply → ℕ
-lost_after n (Some r) = 0
+abbrev pub lost_after : ℕ → Option Answers → ℕ
+lost_after n (Some a) = 0
 lost_after n None = n + 1
 
--- A SHORT ADDRESS IS ASKED until three questions were told whole.
-abbrev pub IsAnswered : ℕ → Reply → Talk → Talk → Type 0
-IsAnswered a r x y =
+-- A SHORT ADDRESS IS ASKED until so many questions were told whole.
+abbrev pub IsHeard : ℕ → ℕ → Hearing → Talk → Talk → Type 0
+IsHeard n a h x y =
     (questions : List (List Input))
     × AreAsked a questions x y
-    × (whole_of questions ≡ 3)
-    × (r ≡ reply_after questions)
+    × (h ≡ heard_in questions)
+    × (h.asked ≡ n)
+
+-- three of them
+abbrev pub IsAnswered : ℕ → Reply → Talk → Talk → Type 0
+IsAnswered a r x y = (h : Hearing) × IsHeard 3 a h x y × (r ≡ h.reply)
 
 -- A SHORT ADDRESS IS GIVEN UP if eight questions in a row were lost before that.
-abbrev pub IsGivenUp : ℕ → Talk → Talk → Type 0
-IsGivenUp a x y =
+abbrev pub IsGivenUpOf : ℕ → ℕ → Talk → Talk → Type 0
+IsGivenUpOf n a x y =
     (questions : List (List Input))
     × AreAsked a questions x y
-    × (whole_of questions < 3)
+    × ((heard_in questions).asked < n)
     × AreLost 8 questions
+
+abbrev pub IsGivenUp : ℕ → Talk → Talk → Type 0
+IsGivenUp a x y = IsGivenUpOf 3 a x y
+
+-- ---------------------------------------------------------------- an address that is unclear
+
+-- no number was told, and something was heard: several gear answer together, or the answers of one,
+-- or of none, are disturbed
+abbrev pub is_unclear : Reply → Bool
+is_unclear reply.Silence = false
+is_unclear reply.Noise = true
+is_unclear reply.Unclear = true
+is_unclear (reply.Random r) = false
+is_unclear reply.Several = false
+
+-- SEVERAL GEAR ANSWER if two different bytes were told in one place, or, where no number was told,
+-- if one of the bytes was damaged eight times of nine: by chance that is rare, also where half of
+-- all answers are disturbed.
+abbrev pub are_two : Hearing → Bool
+are_two h = h.high.differs || (h.middle.differs || h.low.differs)
+
+abbrev pub is_damaged : OneByte → Bool
+is_damaged b = nat_le 8 b.damaged
+
+abbrev pub are_damaged : Hearing → Bool
+are_damaged h = is_damaged h.high || (is_damaged h.middle || is_damaged h.low)
+
+abbrev pub unless_told : Bool → Reply → Reply
+unless_told damaged (reply.Random r) = reply.Random r
+unless_told damaged r = if damaged then reply.Several else r
+
+abbrev pub judged : Hearing → Reply
+judged h = if are_two h then reply.Several else unless_told (are_damaged h) h.reply
+
+-- AN ADDRESS IS ASKED UNTIL IT IS CLEAR: nine times more if three questions left it unclear.
+abbrev pub IsAskedMore : ℕ → Reply → Reply → Talk → Talk → Type 0
+IsAskedMore a first r x y =
+    ((is_unclear first ≡ false) × (r ≡ first) × (y ≡ x))
+    ⊎ ((is_unclear first ≡ true)
+    × ((h : Hearing) × IsHeard 9 a h x y × (r ≡ joined first (judged h))))
+
+pub record IsCleared (a : ℕ) (r : Reply) (x y : Talk) : Type 0 where
+  pub first : Reply
+  pub mid : Talk
+  pub answered : IsAnswered a first x mid
+  pub more : IsAskedMore a first r mid y
+
+abbrev pub IsGivenUpUnclear : ℕ → Talk → Talk → Type 0
+IsGivenUpUnclear a x y =
+    IsGivenUp a x y
+    ⊎ ((first : Reply)
+    × (mid : Talk)
+    × IsAnswered a first x mid
+    × (is_unclear first ≡ true)
+    × IsGivenUpOf 9 a mid y)
 
 -- ---------------------------------------------------------------- the census
 
@@ -193,7 +284,7 @@ is_known k others a = is_named k a || list_any (λ b. in_block b a) others
 abbrev pub IsCounted : Kept → List Block → ℕ → Reply → Talk → Talk → Type 0
 IsCounted k others a r x y =
     ((is_known k others a ≡ true) × (r ≡ reply.Silence) × (y ≡ x))
-    ⊎ ((is_known k others a ≡ false) × IsAnswered a r x y)
+    ⊎ ((is_known k others a ≡ false) × IsCleared a r x y)
 
 abbrev pub AreCounted : Kept → List Block → ℕ → List Reply → Talk → Talk → Type 0
 AreCounted k others a [] x y = y ≡ x
@@ -209,7 +300,7 @@ IsLost k others x y =
     × (length replies < 64)
     × AreCounted k others 0 replies x mid
     × (is_known k others (length replies) ≡ false)
-    × IsGivenUp (length replies) mid y
+    × IsGivenUpUnclear (length replies) mid y
 
 -- whether something was heard of a short address
 abbrev pub is_silent : Reply → Bool

@@ -1,21 +1,22 @@
 //! The census of the short addresses: which gear answer to addresses that no record names, before any is given.
 
-ghost use Rattle.std.specs.Prelude.{◌≡◌, ◌<◌, ◌==◌, false, length, List, Err, IfOk};
+ghost use Rattle.std.specs.Prelude.{◌≡◌, ◌<◌, ◌≤◌, ◌==◌, false, length, List, Err, IfOk};
 ghost use Rattle.std.specs.List.{list_any};
 ghost use Rattle.dali_script.specs.declared.orders.Input.{Input};
 ghost use Rattle.dali_special.specs.declared.command.Command.TheVariants.{RandomByte};
 ghost use Rattle.dali_special.specs.Command.{frame_of};
 ghost use Rattle.dali_script.specs.declared.sending.Half.TheVariants as half;
 ghost use Rattle.dali_commissioning.specs.Drivers.{talk_of};
-ghost use Rattle.dali_commissioning.specs.Census.{IsPut, answer_told, IsAsked, reply_of, reply_told};
-ghost use Rattle.dali_commissioning.specs.Census.{is_byte, is_silence, without_number};
-ghost use Rattle.dali_commissioning.specs.Census.{joined, joined_if, one_if, lost_after};
-ghost use Rattle.dali_commissioning.specs.Census.{IsAnswered, IsGivenUp, is_named, IsCounted, AreCounted, IsLost};
+ghost use Rattle.dali_commissioning.specs.Census.{IsPut, answer_told, IsAsked, reply_of, answers_told};
+ghost use Rattle.dali_commissioning.specs.Census.{is_byte, is_silence, without_number, joined, lost_after};
+ghost use Rattle.dali_commissioning.specs.Census.{IsHeard, IsAnswered, IsGivenUpOf, IsGivenUp, is_unclear};
+ghost use Rattle.dali_commissioning.specs.Census.{IsCleared, IsGivenUpUnclear, is_named, IsCounted, AreCounted, IsLost};
 ghost use Rattle.dali_commissioning.specs.Census.{is_known, is_silent, is_addressed};
 ghost use Rattle.dali_script.specs.Stages.{in_block};
 
 use crate::driver::{DriverFault, DriverLink};
 use crate::fault::CommissionFault;
+use crate::hearing::Hearing;
 use arrayvec::ArrayVec;
 use dali_frame::{Answer, Priority, Random24, Short};
 use dali_script::{Block, Half, Input, Kept, Pair};
@@ -24,6 +25,9 @@ use std::io::{Read, Write};
 
 /// How often a short address is asked for its random address.
 const QUESTIONS: u8 = 3;
+
+/// How often more if that leaves it unclear.
+const MORE_QUESTIONS: u8 = 9;
 
 /// How often in a row a question may be lost.
 const LOST: u8 = 8;
@@ -62,6 +66,14 @@ fn is_silence(answer: Answer) -> bool
     }
 }
 
+/// What the three queries of a question were answered: of the high, the middle and the low byte.
+#[derive(Clone, Copy)]
+pub struct Answers {
+    pub high: Answer,
+    pub middle: Answer,
+    pub low: Answer,
+}
+
 /// What three answers tell that are not all bytes.
 fn without_number(high: Answer, middle: Answer, low: Answer) -> Reply
     ensures { result ≡ without_number high middle low }
@@ -88,7 +100,7 @@ pub fn reply_of(high: Answer, middle: Answer, low: Answer) -> Reply
 }
 
 /// What two questions tell together.
-fn joined(one: Reply, other: Reply) -> Reply
+pub(crate) fn joined(one: Reply, other: Reply) -> Reply
     ensures { result ≡ joined one other }
 {
     match one {
@@ -116,26 +128,8 @@ fn joined(one: Reply, other: Reply) -> Reply
     }
 }
 
-fn joined_if(reply: Reply, told: Option<Reply>) -> Reply
-    ensures { result ≡ joined_if reply told }
-{
-    match told {
-        Some(told) => joined(reply, told),
-        None => reply,
-    }
-}
-
-fn one_if(told: Option<Reply>) -> u8
-    ensures { result ≡ one_if told }
-{
-    match told {
-        Some(_) => 1,
-        None => 0,
-    }
-}
-
 /// How many questions in a row were lost, with one more.
-fn lost_after(lost: u8, told: &Option<Reply>) -> u8
+fn lost_after(lost: u8, told: &Option<Answers>) -> u8
     requires { lost < 255 }
     ensures { result ≡ lost_after lost told.now }
 {
@@ -164,10 +158,10 @@ fn byte<R: Read, W: Write>(
 fn question<R: Read, W: Write>(
     driver: &mut DriverLink<R, W>,
     short: Short,
-) -> Result<Option<Reply>, DriverFault>
-    ensures { IfOk result (λ reply. (told : List Input) × IsAsked short told
+) -> Result<Option<Answers>, DriverFault>
+    ensures { IfOk result (λ answers. (told : List Input) × IsAsked short told
         (talk_of R.remaining W.contents driver.old) (talk_of R.remaining W.contents driver.new)
-        × (reply ≡ reply_told told)) }
+        × (answers ≡ answers_told told)) }
 {
     let Some(high) = byte(driver, Priority::FIRST, short, Part::High)? else {
         return Ok(None);
@@ -178,7 +172,40 @@ fn question<R: Read, W: Write>(
     let Some(low) = byte(driver, Priority::LATER, short, Part::Low)? else {
         return Ok(None);
     };
-    Ok(Some(reply_of(high, middle, low)))
+    Ok(Some(Answers { high, middle, low }))
+}
+
+/// Asks the gear with a short address for its random address, until so many questions were answered whole.
+fn hear<R: Read, W: Write>(
+    driver: &mut DriverLink<R, W>,
+    short: Short,
+    wanted: u8,
+) -> Result<Hearing, CommissionFault>
+    requires some { 0 < wanted }
+    requires few { wanted ≤ 9 }
+    ensures heard { IfOk result (λ heard. IsHeard wanted short heard
+        (talk_of R.remaining W.contents driver.old) (talk_of R.remaining W.contents driver.new)) }
+    ensures lost { result ≡ Err CommissionFault.QuestionLost → IsGivenUpOf wanted short
+        (talk_of R.remaining W.contents driver.old) (talk_of R.remaining W.contents driver.new) }
+{
+    let mut heard = Hearing::nothing();
+    let mut lost = 0;
+    for _ in 0..wanted * LOST {
+        let told = match question(driver, short) {
+            Ok(told) => told,
+            Err(fault) => return Err(CommissionFault::Driver(fault)),
+        };
+        heard = heard.after(told);
+        lost = lost_after(lost, &told);
+        if heard.asked == wanted {
+            return Ok(heard);
+        }
+        if lost == LOST {
+            return Err(CommissionFault::QuestionLost);
+        }
+    }
+    // Never so: at most seven questions are lost before each that is answered.
+    Err(CommissionFault::QuestionLost)
 }
 
 /// Asks the gear with a short address for its random address, until three questions were answered.
@@ -191,26 +218,38 @@ pub fn ask<R: Read, W: Write>(
     ensures lost { result ≡ Err CommissionFault.QuestionLost → IsGivenUp short
         (talk_of R.remaining W.contents driver.old) (talk_of R.remaining W.contents driver.new) }
 {
-    let mut reply = Reply::Noise;
-    let mut asked = 0;
-    let mut lost = 0;
-    for _ in 0..QUESTIONS * LOST {
-        let told = match question(driver, short) {
-            Ok(told) => told,
-            Err(fault) => return Err(CommissionFault::Driver(fault)),
-        };
-        reply = joined_if(reply, told);
-        asked += one_if(told);
-        lost = lost_after(lost, &told);
-        if asked == QUESTIONS {
-            return Ok(reply);
-        }
-        if lost == LOST {
-            return Err(CommissionFault::QuestionLost);
-        }
+    let heard = hear(driver, short, QUESTIONS)?;
+    Ok(heard.reply)
+}
+
+/// Whether something was heard that tells no number: several gear answer together, or the bus is disturbed.
+pub fn is_unclear(reply: &Reply) -> bool
+    ensures { result ≡ is_unclear reply.now }
+{
+    match *reply {
+        Reply::Noise | Reply::Unclear => true,
+        Reply::Silence | Reply::Random(_) | Reply::Several => false,
     }
-    // Never so: at most seven questions are lost before each that is answered.
-    Err(CommissionFault::QuestionLost)
+}
+
+/// Asks the gear with a short address for its random address, and nine times more if three questions leave it unclear
+/// which gear are there. `Several` may then come without a number, since it was heard that gear answer together.
+pub fn ask_until_clear<R: Read, W: Write>(
+    driver: &mut DriverLink<R, W>,
+    short: Short,
+) -> Result<Reply, CommissionFault>
+    ensures answered { IfOk result (λ reply. IsCleared short reply
+        (talk_of R.remaining W.contents driver.old) (talk_of R.remaining W.contents driver.new)) }
+    ensures lost { result ≡ Err CommissionFault.QuestionLost → IsGivenUpUnclear short
+        (talk_of R.remaining W.contents driver.old) (talk_of R.remaining W.contents driver.new) }
+{
+    let reply = ask(driver, short)?;
+    if is_unclear(&reply) {
+        let heard = hear(driver, short, MORE_QUESTIONS)?;
+        Ok(joined(reply, heard.judged()))
+    } else {
+        Ok(reply)
+    }
 }
 
 fn has_address(pairs: &[Pair], short: Short) -> bool
@@ -256,19 +295,21 @@ fn count<R: Read, W: Write>(
     ensures counted { IfOk result (λ reply. IsCounted kept.now others.now short reply
         (talk_of R.remaining W.contents driver.old) (talk_of R.remaining W.contents driver.new)) }
     ensures lost { result ≡ Err CommissionFault.QuestionLost → (is_known kept.now others.now short ≡ false)
-        × IsGivenUp short (talk_of R.remaining W.contents driver.old) (talk_of R.remaining W.contents driver.new) }
+        × IsGivenUpUnclear short (talk_of R.remaining W.contents driver.old)
+        (talk_of R.remaining W.contents driver.new) }
 {
     if is_known(kept, others, short) {
         Ok(Reply::Silence)
     } else {
-        ask(driver, short)
+        ask_until_clear(driver, short)
     }
 }
 
 /// What is heard of each short address, from address 0 on. Those that the records name and those in the blocks of other
 /// controllers are passed over, as silent.
 ///
-/// Each is asked for its random address three times, by the three queries of one transaction. Nothing is given.
+/// Each is asked for its random address three times, by the three queries of one transaction, and nine times more if
+/// it is unclear. Nothing is given.
 #[tactic(auto, using(crate::proofs::Asked::counted_more))]
 pub fn take_census<R: Read, W: Write>(
     driver: &mut DriverLink<R, W>,

@@ -6,6 +6,7 @@ mod census;
 mod conducting;
 mod driver;
 mod fault;
+mod hearing;
 pub mod laws;
 mod lighting;
 mod lines;
@@ -17,12 +18,15 @@ mod verdict;
 mod watch;
 
 pub use beginning::{Begun, Checked, begin, check, outside};
-pub use census::{Reply, ask, has_block, is_known, reply_of, take_census};
+pub use census::{
+    Answers, Reply, ask, ask_until_clear, has_block, is_known, is_unclear, reply_of, take_census,
+};
 pub use conducting::{Ended, PassEnd, conduct};
 pub use dali_controller::{Passed, Tally};
 pub use dali_script::Half;
 pub use driver::{DriverFault, DriverLink};
 pub use fault::CommissionFault;
+pub use hearing::{Hearing, OneByte};
 pub use lighting::{light, light_at_last};
 pub use lines::told_of;
 pub use newcomers::{Newcomers, look_for_newcomers};

@@ -8,8 +8,8 @@ use Rattle.dali_search.specs.Ascending.{Ascent, ascent_at_first, ascended, asked
 use Rattle.dali_search.specs.declared.step.Step.{Step, TheVariants.Again, TheVariants.Found, TheVariants.Nobody}
 use Rattle.dali_commissioning.specs.{Census.reply_of, declared.census.Reply.Reply}
 use Rattle.dali_commissioning.specs.declared.census.Reply.TheVariants as reply
-use Rattle.dali_mending.specs.Course.{at_stage, kept_by, kind_of, times_after, told, unnumbered, unclear, again, answered, stage_found, found, searched, left}
-use Rattle.dali_mending.specs.Course.{kept, gone_by, gone, silent, alike, unlike, unkept, queried, erased, stage_spent, spent, IsCourse, IsFit, IsOfTable}
+use Rattle.dali_mending.specs.Course.{at_stage, kept_by, kind_of, times_after, outcome_told, told, unnumbered, unclear, again, answered, stage_found, found, searched, left}
+use Rattle.dali_mending.specs.Course.{kept, owned, gone_by, gone, silent, alike, unlike, unkept, queried, erased, stage_spent, spent, IsCourse, IsFit, IsOfTable}
 use Rattle.dali_mending.specs.Mending.{Mending, is_heard, ascent_after, course_after, spent_if, IsSought, tells_apart, is_added, with_apart, left_after}
 use Rattle.dali_mending.specs.Mending.{finished}
 use Rattle.dali_mending.specs.Transactions.{is_own, answer_at, frame_next, frame_at, is_withheld, commands_of, as_frames}
@@ -61,10 +61,11 @@ module _ (x : Ascent) (c : Course) (is : IsCourse c) where
     sought (Some k) = tt
     sought None = tt
 
+  told_is : (r : ℕ) → IsNext x (told c r)
+  told_is r = either x (r == MASK24) (unnumbered c) (at_stage c (stage.Ended (outcome_told c.table r))) unnumbered_is (at_is _ tt tt)
+
   answered_is : (r : Reply) (n : ℕ) → IsNext x (answered c r n)
-  answered_is (reply.Random r) n =
-      either x (r == MASK24) (unnumbered c) (if nat_le 3 n then told c r else again c (reply.Random r) n) unnumbered_is
-      (either x (nat_le 3 n) (told c r) (again c (reply.Random r) n) (at_is _ tt tt) (at_is _ tt tt))
+  answered_is (reply.Random r) n = either x (nat_le 3 n) (told c r) (again c (reply.Random r) n) (told_is r) (at_is _ tt tt)
   answered_is reply.Silence n =
       either x (nat_le 3 n) (at_stage c (stage.Ended outcome.Nobody)) (again c reply.Silence n) (at_is _ tt tt) (at_is _ tt tt)
   answered_is reply.Unclear n = either x (nat_le 3 n) (unclear c) (again c reply.Unclear n) unclear_is (at_is _ tt tt)
@@ -80,26 +81,17 @@ module _ (x : Ascent) (c : Course) (is : IsCourse c) where
     by table k true same = refl
     by table k false unlike_it = (k, refl, differ k unlike_it)
 
-    first : (table : Option ℕ) (b : Bool) → IsOfTable table None → IsFit table None (if b then stage.Drawing else stage.Keeping n 0)
-    first None true of = refl
-    first (Some r) true of = absurd (cc)
-    first table false of = tt
-
     go : (table keeper : Option ℕ) → IsOfTable table keeper → IsFit table keeper (stage_found keeper n)
     go table (Some k) of = by table k (n == k) refl
-    go table None of = first table (n == MASK24) of
+    go table None of = tt
 
     sought_by : (b : Bool) (k : ℕ) → IsSought (if b then stage.Keeping k 0 else stage.Erasing n) x
     sought_by true k = tt
     sought_by false k = tt
 
-    sought_first : (b : Bool) → IsSought (if b then stage.Drawing else stage.Keeping n 0) x
-    sought_first true = tt
-    sought_first false = tt
-
     sought : (keeper : Option ℕ) → IsSought (stage_found keeper n) x
     sought (Some k) = sought_by (n == k) k
-    sought None = sought_first (n == MASK24)
+    sought None = tt
 
   searched_is : IsNext x (searched c (leads_to x) (asked_next x))
   searched_is = go (leads_to x) refl where
@@ -124,26 +116,7 @@ module _ (x : Ascent) (c : Course) (is : IsCourse c) where
   })
 
   alike_is : (r : ℕ) → IsNext x (alike c r)
-  alike_is r = go (is_some c.table || nat_le 3 c.draws) refl where
-    none : (table : Option ℕ) (b : Bool) → (is_some table || b) ≡ false → table ≡ None
-    none None b fails = refl
-    none (Some k) b fails = absurd (cc)
-
-    go : (b : Bool) → (is_some c.table || nat_le 3 c.draws) ≡ b → IsNext x (if b then at_stage c (stage.Ending (outcome.Twins r)) else record {
-      table = c.table;
-      keeper = None;
-      missed = c.missed;
-      draws = min (c.draws + 1) 255;
-      stage = stage.Drawing;
-    })
-    go true is_so = at_is _ tt tt
-    go false fails = record {
-      course = record {
-        keeper = subst (λ t. IsOfTable t None) (sym (none c.table (nat_le 3 c.draws) fails)) tt;
-        fit = none c.table (nat_le 3 c.draws) fails;
-      };
-      sought = tt;
-    }
+  alike_is r = either x (r == MASK24) (unnumbered c) (at_stage c (stage.Ending (outcome.Twins r))) unnumbered_is (at_is _ tt tt)
 
   unlike_is : (r n : ℕ) → IfSome c.keeper (λ k. k ≡ r) → IsNext x (unlike c r n)
   unlike_is r n same = either x (nat_le 6 n) (alike c r) (at_stage c (stage.Keeping r n)) (alike_is r) (at_is _ same tt)
@@ -161,7 +134,9 @@ module _ (x : Ascent) (c : Course) (is : IsCourse c) where
     go (Some k) (Some j) of same = cc
 
   queried_is : (a r n : ℕ) (h : Answer) → IfSome c.keeper (λ k. k ≡ r) → IsNext x (queried a c r n h)
-  queried_is a r n h same = either x (is_own a h) (kept c r) (unkept c r n h) (kept_is r same) (unkept_is r n h same)
+  queried_is a r n h same =
+      either x (is_own a h) (owned c r) (unkept c r n h)
+      (either x (r == MASK24) (unnumbered c) (kept c r) unnumbered_is (kept_is r same)) (unkept_is r n h same)
 
   spent_is : IsNext x (spent c)
   spent_is = at_is (stage_spent c.stage) (fit c.stage) (sought c.stage) where

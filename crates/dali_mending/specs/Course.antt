@@ -22,7 +22,6 @@ begun table = record {
   table = table;
   keeper = table;
   missed = 0;
-  draws = 0;
   stage = stage.Asking reply.Noise 0;
 }
 
@@ -31,7 +30,6 @@ at_stage c s = record {
   table = c.table;
   keeper = c.keeper;
   missed = c.missed;
-  draws = c.draws;
   stage = s;
 }
 
@@ -69,12 +67,14 @@ abbrev pub outcome_told : Option ℕ → ℕ → Outcome
 outcome_told None r = outcome.Kept r
 outcome_told (Some k) r = if r == k then outcome.Kept r else outcome.Another r
 
-abbrev pub told : Course → ℕ → Course
-told c r = at_stage c (stage.Ended (outcome_told c.table r))
-
--- GEAR DRAW only if no gear is known that is to keep the short address.
+-- GEAR DRAW only if those that have FFFFFF told so, and no gear is known that is to keep the short
+-- address: by this number three times in a row, or by an answer under it.
 abbrev pub unnumbered : Course → Course
 unnumbered c = keep_on c stage.Drawing
+
+abbrev pub told : Course → ℕ → Course
+told c r =
+    if r == MASK24 then unnumbered c else at_stage c (stage.Ended (outcome_told c.table r))
 
 abbrev pub unclear : Course → Course
 unclear c = keep_on c stage.Beginning
@@ -86,10 +86,7 @@ abbrev pub asked_anew : Course → Course
 asked_anew c = again c reply.Noise 0
 
 abbrev pub answered : Course → Reply → ℕ → Course
-answered c (reply.Random r) n =
-    if r == MASK24
-    then unnumbered c
-    else if nat_le 3 n then told c r else again c (reply.Random r) n
+answered c (reply.Random r) n = if nat_le 3 n then told c r else again c (reply.Random r) n
 answered c reply.Silence n =
     if nat_le 3 n then at_stage c (stage.Ended outcome.Nobody) else again c reply.Silence n
 answered c reply.Unclear n = if nat_le 3 n then unclear c else again c reply.Unclear n
@@ -102,10 +99,10 @@ asked c last n r = answered c (kind_of r) (times_after last n (kind_of r))
 -- ---------------------------------------------------------------- after it has searched
 
 -- WHO IS FOUND: beside the gear that is to keep the short address another one loses it; without
--- one, the first that has a number is to keep it, and if none has, they draw.
+-- one, this one is asked whether it has it.
 abbrev pub stage_found : Option ℕ → ℕ → Stage
 stage_found (Some k) n = if n == k then stage.Keeping k 0 else stage.Erasing n
-stage_found None n = if n == MASK24 then stage.Drawing else stage.Keeping n 0
+stage_found None n = stage.Keeping n 0
 
 abbrev pub found : Course → ℕ → Course
 found c n = at_stage c (stage_found c.keeper n)
@@ -127,7 +124,6 @@ kept c r = record {
   table = c.table;
   keeper = Some r;
   missed = 0;
-  draws = c.draws;
   stage = stage.Left;
 }
 
@@ -138,7 +134,6 @@ gone_by None c = record {
   table = c.table;
   keeper = None;
   missed = 0;
-  draws = c.draws;
   stage = stage.Closing;
 }
 
@@ -153,22 +148,14 @@ silent c =
       table = c.table;
       keeper = c.keeper;
       missed = min (c.missed + 1) 255;
-      draws = c.draws;
       stage = stage.Closing;
     }
 
--- Several have this number: gear that no table has draw, three times at most.
+-- It answered so often, and no short address was understood: several have this number, or its
+-- answers are weak. It is left as it is, unless it has no number.
 abbrev pub alike : Course → ℕ → Course
 alike c r =
-    if is_some c.table || nat_le 3 c.draws
-    then at_stage c (stage.Ending (outcome.Twins r))
-    else record {
-      table = c.table;
-      keeper = None;
-      missed = c.missed;
-      draws = min (c.draws + 1) 255;
-      stage = stage.Drawing;
-    }
+    if r == MASK24 then unnumbered c else at_stage c (stage.Ending (outcome.Twins r))
 
 abbrev pub unlike : Course → ℕ → ℕ → Course
 unlike c r n = if nat_le 6 n then alike c r else at_stage c (stage.Keeping r n)
@@ -178,8 +165,12 @@ unkept c r n Silence = silent c
 unkept c r n (Byte byte) = unlike c r (min (n + 1) 255)
 unkept c r n Damaged = unlike c r (min (n + 1) 255)
 
+-- a gear that has no number draws
+abbrev pub owned : Course → ℕ → Course
+owned c r = if r == MASK24 then unnumbered c else kept c r
+
 abbrev pub queried : ℕ → Course → ℕ → ℕ → Answer → Course
-queried a c r n h = if is_own a h then kept c r else unkept c r n h
+queried a c r n h = if is_own a h then owned c r else unkept c r n h
 
 -- ---------------------------------------------------------------- after the other transactions
 

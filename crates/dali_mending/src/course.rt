@@ -4,7 +4,7 @@ ghost use Rattle.std.specs.Prelude.{◌≡◌};
 ghost use Rattle.dali_search.specs.declared.step.Step.{Step};
 ghost use Rattle.dali_mending.specs.Course.{begun, at_stage, kind_of, is_same, times_after, asked, answered, told};
 ghost use Rattle.dali_mending.specs.Course.{unnumbered, unclear, outcome_told, keep_on, asked_anew};
-ghost use Rattle.dali_mending.specs.Course.{found, searched, queried, kept, unkept, silent, gone, alike, left, erased};
+ghost use Rattle.dali_mending.specs.Course.{found, searched, queried, kept, owned, unkept, silent, gone, alike, left, erased};
 ghost use Rattle.dali_mending.specs.Course.{spent};
 
 use crate::stage::{Stage, is_own};
@@ -18,11 +18,8 @@ const ASKED: u8 = 3;
 /// After how many rounds in which the gear that is to keep the short address did not answer it is given up.
 const MISSED: u8 = 3;
 
-/// How often in a row something else than its short address is heard until gear are taken for twins.
+/// How often in a row something else than its short address may be heard.
 const UNLIKE: u8 = 6;
-
-/// How often twins draw.
-const DRAWS: u8 = 3;
 
 /// How a mending ends.
 #[derive(Clone, Copy, Debug, PartialEq, Eq)]
@@ -34,10 +31,11 @@ pub enum Outcome {
     /// The table has the short address for another gear, and one with this random address alone answers, three times
     /// in a row.
     Another(Random24),
-    /// The gear with this random address, for which the table has the short address, does not answer; others do.
+    /// The gear with this random address, for which the table has the short address, does not answer under its number;
+    /// something else was heard at the short address.
     Missing(Random24),
-    /// Several gear with the short address have this random address, and cannot be told apart: the table has one of
-    /// them, or they draw the same number again and again.
+    /// Under this random address no short address was understood: several gear have both, or the answers of one are
+    /// weak.
     Twins(Random24),
     /// A transaction was lost eight times in a row.
     Lost,
@@ -55,8 +53,6 @@ pub struct Course {
     pub keeper: Option<Random24>,
     /// In how many rounds since then it did not answer.
     pub missed: u8,
-    /// How often twins have drawn.
-    pub draws: u8,
     pub stage: Stage,
 }
 
@@ -70,7 +66,6 @@ impl Course {
             table,
             keeper,
             missed: 0,
-            draws: 0,
             stage: Stage::Asking(Reply::Noise, 0),
         }
     }
@@ -98,7 +93,7 @@ impl Course {
         }
     }
 
-    /// A gear without random address was heard: if no gear is known that has one, they draw.
+    /// A gear without random address told so: if no gear is known that has one, those draw.
     fn unnumbered(&self) -> Course
         ensures { result ≡ unnumbered self.now }
     {
@@ -112,11 +107,15 @@ impl Course {
         self.keep_on(Stage::Beginning)
     }
 
-    /// One gear alone told its random address.
+    /// One gear alone told its random address, or gear that have none told so.
     fn told(&self, random: Random24) -> Course
         ensures { result ≡ told self.now random }
     {
-        self.at(Stage::Ended(outcome_told(self.table, random)))
+        if random == Random24::MASK {
+            self.unnumbered()
+        } else {
+            self.at(Stage::Ended(outcome_told(self.table, random)))
+        }
     }
 
     /// This was told so often in a row.
@@ -125,9 +124,7 @@ impl Course {
     {
         match reply {
             Reply::Random(random) => {
-                if random == Random24::MASK {
-                    self.unnumbered()
-                } else if times >= ASKED {
+                if times >= ASKED {
                     self.told(random)
                 } else {
                     self.at(Stage::Asking(reply, times))
@@ -171,13 +168,7 @@ impl Course {
                     self.at(Stage::Erasing(number))
                 }
             }
-            None => {
-                if number == Random24::MASK {
-                    self.at(Stage::Drawing)
-                } else {
-                    self.at(Stage::Keeping(number, 0))
-                }
-            }
+            None => self.at(Stage::Keeping(number, 0)),
         }
     }
 
@@ -203,7 +194,7 @@ impl Course {
         }
     }
 
-    /// The gear with this random address told its short address, and keeps it.
+    /// The gear with this random address told its short address, and is to keep it.
     fn kept(&self, random: Random24) -> Course
         ensures { result ≡ kept self.now random }
     {
@@ -246,19 +237,14 @@ impl Course {
         }
     }
 
-    /// Several gear have this random address.
+    /// A gear with this random address answered so often, and no short address was understood. If it has none, it draws.
     fn alike(&self, random: Random24) -> Course
         ensures { result ≡ alike self.now random }
     {
-        if self.table.is_some() || self.draws >= DRAWS {
-            self.at(Stage::Ending(Outcome::Twins(random)))
+        if random == Random24::MASK {
+            self.unnumbered()
         } else {
-            Course {
-                keeper: None,
-                draws: self.draws.saturating_add(1),
-                stage: Stage::Drawing,
-                ..*self
-            }
+            self.at(Stage::Ending(Outcome::Twins(random)))
         }
     }
 
@@ -279,12 +265,23 @@ impl Course {
         }
     }
 
+    /// A gear with this random address told its short address.
+    fn owned(&self, random: Random24) -> Course
+        ensures { result ≡ owned self.now random }
+    {
+        if random == Random24::MASK {
+            self.unnumbered()
+        } else {
+            self.kept(random)
+        }
+    }
+
     /// This was heard after QUERY SHORT ADDRESS under this number.
     pub(crate) fn queried(&self, short: Short, random: Random24, times: u8, heard: Answer) -> Course
         ensures { result ≡ queried short self.now random times heard }
     {
         if is_own(short, heard) {
-            self.kept(random)
+            self.owned(random)
         } else {
             self.unkept(random, times, heard)
         }

@@ -1,5 +1,5 @@
-use Rattle.std.proofs.Common.{[], ◌∷◌, refl, sym, ◌∙◌, ap, Some}
-use Rattle.dali_commissioning.proofs.Asked.{is_heard, first, second, third, spelled, unspelled}
+use Rattle.std.proofs.Common.{[], ◌∷◌, refl, sym, ◌∙◌}
+use Rattle.dali_commissioning.proofs.Asked.{is_heard, first, second, third, all_told, not_told}
 use Rattle.dali_commissioning.proofs.census.question.Goals as goal
 
 pub returns-in_default : goal.returns-in_default
@@ -17,7 +17,7 @@ returns-in_default-3 g c = (
   c.in_ok-low.ensures.0 ∷ c.in_ok-middle.ensures.0 ∷ c.in_ok-high.ensures.0 ∷ [],
   third _ _ _ _ _ _ _ _ c.in_ok-high.ensures.1 (is_heard _ _ _ c.in_ok-high.ensures.2 c.in-Some.is)
       c.in_ok-middle.ensures.1 (is_heard _ _ _ c.in_ok-middle.ensures.2 c.in-Some-2.is) c.in_ok-low.ensures.1,
-  unspelled _ _ _ _ _ (sym c.in_ok-high.ensures.2 ∙ c.in-Some.is) (sym c.in_ok-middle.ensures.2 ∙ c.in-Some-2.is)
+  not_told _ _ _ _ _ (sym c.in_ok-high.ensures.2 ∙ c.in-Some.is) (sym c.in_ok-middle.ensures.2 ∙ c.in-Some-2.is)
       (sym c.in_ok-low.ensures.2 ∙ c.in_default-3.is),
 )
 
@@ -26,6 +26,6 @@ returns g c = (
   c.in_ok-low.ensures.0 ∷ c.in_ok-middle.ensures.0 ∷ c.in_ok-high.ensures.0 ∷ [],
   third _ _ _ _ _ _ _ _ c.in_ok-high.ensures.1 (is_heard _ _ _ c.in_ok-high.ensures.2 c.in-Some.is)
       c.in_ok-middle.ensures.1 (is_heard _ _ _ c.in_ok-middle.ensures.2 c.in-Some-2.is) c.in_ok-low.ensures.1,
-  ap Some c.reply_of.ensures ∙ spelled _ _ _ _ _ _ (sym c.in_ok-high.ensures.2 ∙ c.in-Some.is)
+  all_told _ _ _ _ _ _ (sym c.in_ok-high.ensures.2 ∙ c.in-Some.is)
       (sym c.in_ok-middle.ensures.2 ∙ c.in-Some-2.is) (sym c.in_ok-low.ensures.2 ∙ c.in-Some-3.is),
 )
