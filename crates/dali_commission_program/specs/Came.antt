@@ -75,7 +75,7 @@ HasBegun is_up is_sound holds block others wanted was keep x y start.Survey
 abbrev pub EndsSo : PassEnd → Kept → Result (Unit {0}) Failure → Talk → Talk → Type 0
 EndsSo pass after ended x y =
     (last : AtLast)
-    × HasAskedAtLast pass.ended pass.heard after.enrolled last x y
+    × HasAskedAtLast pass after.enrolled last x y
     × (ended ≡ left_open (ended_as (pass_at_last pass last).ended last.is_there) last.left)
 
 -- WHAT A RUN COMES TO that began so: gear that no record names are said, and nothing else is done

@@ -1,5 +1,5 @@
 use Rattle.std.specs.Prelude.{◌≡◌, ◌⊎◌, ℕ, ◌≤◌, ◌-◌, ◌^◌, Bool, true, false, not}
-use Rattle.std.specs.Prelude.{List, [], ◌∷◌, ◌++◌, ◌||◌, if◌then◌else◌}
+use Rattle.std.specs.Prelude.{List, [], ◌∷◌, ◌++◌, ◌||◌, nat_le, if◌then◌else◌}
 use Rattle.dali_controller.specs.declared.shorts.Shorts.{Shorts}
 use Rattle.dali_controller.specs.Shorts.{with_short}
 use Rattle.dali_script.specs.declared.orders.End.TheVariants.{AllFound, GaveUp}
@@ -10,6 +10,7 @@ use Rattle.dali_commissioning.specs.declared.conducting.Ended.TheVariants.{Done}
 use Rattle.dali_commissioning.specs.declared.conducting.PassEnd.{PassEnd}
 use Rattle.dali_commissioning.specs.Census.{IsAnswered, IsCleared, is_silent}
 use Rattle.dali_commissioning.specs.Drivers.{Talk}
+use Rattle.dali_commissioning.specs.Unaddressed.{AreLeftOver, asking}
 use Rattle.dali_commission_program.specs.Reports.{heard_of}
 use Rattle.dali_commission_program.specs.Sharing.{is_shared}
 use Rattle.dali_commission_program.specs.declared.ending.AtLast.{AtLast}
@@ -33,8 +34,16 @@ IsAnyAt (a ∷ more) found x y =
     × AnswersAt a one x at
     × If one ((found ≡ true) × (y ≡ at)) (IsAnyAt more found at y)
 
--- WHICH ARE ASKED at the end: if all gear seem to be found, or searches found none, those of the
--- table; and then all, if any gear was heard
+-- WHEN THEY ARE ASKED: if all gear seem to be found, or searches led to none
+abbrev pub is_asked_by : Ended → ℕ → Bool
+is_asked_by (Done AllFound) tries = true
+is_asked_by (Done GaveUp) tries = not (nat_le 8 tries)
+is_asked_by _ tries = false
+
+abbrev pub is_asked : PassEnd → Bool
+is_asked pass = is_asked_by pass.ended pass.tries
+
+-- WHICH ARE ASKED: those of the table; and then all, if any gear was heard
 abbrev pub all_shorts : Shorts
 all_shorts = record { bits = 2 ^ 64 - 1 }
 
@@ -42,14 +51,20 @@ abbrev pub all_if : Bool → List ℕ
 all_if true = heard_of all_shorts
 all_if false = []
 
-abbrev pub asked_last : Ended → List Assignment → Bool → List ℕ
-asked_last (Done AllFound) enrolled heard = addresses enrolled ++ all_if heard
-asked_last (Done GaveUp) enrolled heard = addresses enrolled ++ all_if heard
-asked_last _ enrolled heard = []
+-- and gear without short address, if searches led to none
+abbrev pub OrUnaddressed : Ended → Bool → Bool → Talk → Talk → Type 0
+OrUnaddressed (Done GaveUp) false found x y = AreLeftOver asking found x y
+OrUnaddressed ended one found x y = (found ≡ one) × (y ≡ x)
 
 -- WHETHER ANY GEAR ANSWERS at the end of a task, by the last that was asked
-abbrev pub HasAsked : Ended → List Assignment → Bool → Bool → Talk → Talk → Type 0
-HasAsked ended enrolled heard found x y = IsAnyAt (asked_last ended enrolled heard) found x y
+abbrev pub HasAsked : PassEnd → List Assignment → Bool → Bool → Talk → Talk → Type 0
+HasAsked pass enrolled heard found x y =
+    If (is_asked pass)
+    ((one : Bool)
+    × (at : Talk)
+    × IsAnyAt (addresses enrolled ++ all_if heard) one x at
+    × OrUnaddressed pass.ended one found at y)
+    ((found ≡ false) × (y ≡ x))
 
 -- THE SHORT ADDRESSES THAT A SURVEY LEFT ALONE are asked again, until it is clear what answers: one
 -- after the other, with what is left so far
@@ -76,22 +91,22 @@ abbrev pub none_left : Left
 none_left = record { heard = record { bits = 0 }; shared = false }
 
 -- WHAT IS ASKED AT LAST, in this order; the second only if a gear answers
-pub record HasAskedAtLast (ended : Ended) (heard : Shorts) (enrolled : List Assignment)
-    (last : AtLast) (x y : Talk) : Type 0 where
-  pub before : Bool
+pub record HasAskedAtLast (pass : PassEnd) (enrolled : List Assignment) (last : AtLast)
+    (x y : Talk) : Type 0 where
+  pub heard : Bool
   pub at : Talk
-  pub asked : HasAsked ended enrolled before last.is_there x at
-  pub left : If last.is_there (AreAskedAgain (heard_of heard) none_left last.left at y)
-      ((last.left ≡ record { heard = heard; shared = false }) × (y ≡ at))
+  pub asked : HasAsked pass enrolled heard last.is_there x at
+  pub left : If last.is_there (AreAskedAgain (heard_of pass.heard) none_left last.left at y)
+      ((last.left ≡ record { heard = pass.heard; shared = false }) × (y ≡ at))
 
--- WHAT THE LAST MACHINE CAME TO with that: a search that found none says nothing of the gear if none
+-- WHAT THE LAST MACHINE CAME TO with that: searches that led to none say nothing of the gear if none
 -- answers any more
-abbrev pub ended_at_last : Ended → Bool → Ended
-ended_at_last (Done GaveUp) false = Done AllFound
-ended_at_last ended found = ended
+abbrev pub ended_by : Ended → Bool → Bool → Ended
+ended_by (Done GaveUp) true false = Done AllFound
+ended_by ended asked found = ended
 
 abbrev pub pass_at_last : PassEnd → AtLast → PassEnd
 pass_at_last pass last = record pass {
-  ended = ended_at_last pass.ended last.is_there;
+  ended = ended_by pass.ended (is_asked pass) last.is_there;
   heard = last.left.heard;
 }

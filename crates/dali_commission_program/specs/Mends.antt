@@ -84,7 +84,7 @@ abbrev pub MendedSo : PassEnd → Kept → List Reply → List Mending → Resul
     → Talk → Type 0
 MendedSo pass after replies ms ended x y =
     (last : AtLast)
-    × HasAskedAtLast pass.ended pass.heard after.enrolled last x y
+    × HasAskedAtLast pass after.enrolled last x y
     × (ended ≡ mended_as pass last replies ms)
 
 -- WHAT FOLLOWS once short addresses were mended: no survey if gear were not told apart where one

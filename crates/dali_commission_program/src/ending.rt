@@ -6,14 +6,14 @@ ghost use Rattle.dali_commissioning.specs.Drivers.{talk_of, has_heard};
 ghost use Rattle.dali_script.specs.Records.{addresses};
 ghost use Rattle.dali_commission_program.specs.Ending.{AnswersAt, IsAnyAt, HasAsked, all_if};
 ghost use Rattle.dali_commission_program.specs.Ending.{with_reply, IsAskedAgain, AreAskedAgain, HasAskedAtLast};
-ghost use Rattle.dali_commission_program.specs.Ending.{ended_at_last, pass_at_last};
+ghost use Rattle.dali_commission_program.specs.Ending.{is_asked, OrUnaddressed, ended_by, pass_at_last};
 
 use crate::identifying::is_silent;
 use crate::report::heard_of;
 use crate::sharing::{Left, is_shared};
 use arrayvec::ArrayVec;
 use dali_commissioning::{
-    CommissionFault, DriverLink, Ended, PassEnd, Reply, ask, ask_until_clear,
+    CommissionFault, DriverLink, Ended, PassEnd, Reply, ask, ask_until_clear, has_unaddressed,
 };
 use dali_controller::Shorts;
 use dali_frame::Short;
@@ -75,22 +75,49 @@ fn all_if(are_asked: bool) -> ArrayVec<u8, 64>
     }
 }
 
-/// Whether any gear answers now that the last machine has ended so. If all gear seem to be found, or searches found
-/// none, those of the table are asked, which a survey does not ask; and then all, if any was heard, which need not be
-/// in this table.
-fn is_any_there<R: Read, W: Write>(
+/// Whether it is asked at last if any gear answers: if all gear seem to be found, or searches led to none.
+fn is_asked(pass: &PassEnd) -> bool
+    ensures { result ≡ is_asked pass.now }
+{
+    match pass.ended {
+        Ended::Done(End::AllFound) => true,
+        Ended::Done(End::GaveUp) => pass.tries < 8,
+        Ended::Done(End::BlockFull) | Ended::Halted(_) => false,
+    }
+}
+
+/// Whether gear without short address are there, if searches led to none and no other answers.
+fn or_unaddressed<R: Read, W: Write>(
     driver: &mut DriverLink<R, W>,
     ended: Ended,
-    kept: &Kept,
+    is_one: bool,
 ) -> Result<bool, CommissionFault>
-    ensures { IfOk result (λ found. HasAsked ended kept.now.enrolled (has_heard driver.old) found
+    ensures { IfOk result (λ found. OrUnaddressed ended is_one found
         (talk_of R.remaining W.contents driver.old) (talk_of R.remaining W.contents driver.new)) }
 {
-    if !matches!(ended, Ended::Done(End::AllFound | End::GaveUp)) {
+    match ended {
+        Ended::Done(End::GaveUp) if !is_one => has_unaddressed(driver),
+        // It did not search in vain, or one answers.
+        _ => Ok(is_one),
+    }
+}
+
+/// Whether any gear answers now that the last machine has ended so. If that is asked, those of the table are asked
+/// first, which a survey does not ask; and then all, if any was heard, which need not be in this table.
+fn is_any_there<R: Read, W: Write>(
+    driver: &mut DriverLink<R, W>,
+    pass: &PassEnd,
+    kept: &Kept,
+) -> Result<bool, CommissionFault>
+    ensures { IfOk result (λ found. HasAsked pass.now kept.now.enrolled (has_heard driver.old) found
+        (talk_of R.remaining W.contents driver.old) (talk_of R.remaining W.contents driver.new)) }
+{
+    if !is_asked(pass) {
         return Ok(false);
     }
     let all = all_if(driver.has_heard());
-    is_any_at(driver, kept.enrolled(), &all)
+    let is_one = is_any_at(driver, kept.enrolled(), &all)?;
+    or_unaddressed(driver, pass.ended, is_one)
 }
 
 impl Left {
@@ -151,24 +178,24 @@ pub(crate) struct AtLast {
     pub left: Left,
 }
 
-impl AtLast {
-    /// How the last machine ended, with that: if no gear answers any more, it has not given up beside any.
-    fn ended(&self, ended: Ended) -> Ended
-        ensures { result ≡ ended_at_last ended self.now.is_there }
-    {
-        match ended {
-            Ended::Done(End::GaveUp) if !self.is_there => Ended::Done(End::AllFound),
-            // It ended otherwise, or beside gear.
-            _ => ended,
-        }
+/// How the last machine ended: if no gear answers any more, it has not given up beside any.
+fn ended_by(ended: Ended, is_asked: bool, is_there: bool) -> Ended
+    ensures { result ≡ ended_by ended is_asked is_there }
+{
+    match ended {
+        Ended::Done(End::GaveUp) if is_asked && !is_there => Ended::Done(End::AllFound),
+        // It ended otherwise, or beside gear.
+        _ => ended,
     }
+}
 
+impl AtLast {
     /// What the last machine came to, with that.
     pub fn pass(&self, pass: &PassEnd) -> PassEnd
         ensures { result ≡ pass_at_last pass.now self.now }
     {
         PassEnd {
-            ended: self.ended(pass.ended),
+            ended: ended_by(pass.ended, is_asked(pass), self.is_there),
             heard: self.left.heard,
             ..*pass
         }
@@ -181,10 +208,10 @@ pub(crate) fn ask_at_last<R: Read, W: Write>(
     pass: &PassEnd,
     kept: &Kept,
 ) -> Result<AtLast, CommissionFault>
-    ensures { IfOk result (λ last. HasAskedAtLast pass.now.ended pass.now.heard kept.now.enrolled last
+    ensures { IfOk result (λ last. HasAskedAtLast pass.now kept.now.enrolled last
         (talk_of R.remaining W.contents driver.old) (talk_of R.remaining W.contents driver.new)) }
 {
-    let is_there = is_any_there(driver, pass.ended, kept)?;
+    let is_there = is_any_there(driver, pass, kept)?;
     if !is_there {
         let left = Left {
             heard: pass.heard,

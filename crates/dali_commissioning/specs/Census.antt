@@ -227,14 +227,14 @@ is_unclear reply.Unclear = true
 is_unclear (reply.Random r) = false
 is_unclear reply.Several = false
 
--- SEVERAL GEAR ANSWER if two different bytes were told in one place, or, where no number was told,
--- if one of the bytes was damaged eight times of nine: by chance that is rare, also where half of
--- all answers are disturbed.
+-- SEVERAL GEAR ANSWER if two different bytes were told in one place; or, if no number was told, if
+-- one of the bytes was damaged each of nine times: by chance that is rare, also if half of all
+-- answers are disturbed.
 abbrev pub are_two : Hearing → Bool
 are_two h = h.high.differs || (h.middle.differs || h.low.differs)
 
 abbrev pub is_damaged : OneByte → Bool
-is_damaged b = nat_le 8 b.damaged
+is_damaged b = nat_le 9 b.damaged
 
 abbrev pub are_damaged : Hearing → Bool
 are_damaged h = is_damaged h.high || (is_damaged h.middle || is_damaged h.low)

@@ -7,8 +7,8 @@ ghost use Rattle.dali_commissioning.specs.Census.{heard_after, are_two, is_damag
 use crate::census::{Answers, Reply, joined, reply_of};
 use dali_frame::Answer;
 
-/// How often, of nine times, one byte must be damaged so that several gear answer.
-const DAMAGED: u8 = 8;
+/// How often one byte must be damaged so that several gear answer: each time that an unclear address is asked.
+const DAMAGED: u8 = 9;
 
 /// What was heard of one byte of a random address.
 #[derive(Clone, Copy)]

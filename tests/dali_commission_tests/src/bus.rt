@@ -19,10 +19,35 @@ struct Wires {
     left: Option<u32>,
     /// After how many frames the bus loses its power, so that silence is all that the driver hears.
     fails: Option<u32>,
+    /// How many of ten answers are lost, and how many are damaged.
+    weak: Option<(u32, u32)>,
     frames: u32,
 }
 
+/// A number below ten, by a seed.
+fn dice(seed: u32) -> u32 {
+    let mixed = seed.wrapping_mul(2_654_435_761) >> 8;
+    (mixed ^ (mixed >> 7)).wrapping_mul(40_503) % 10
+}
+
 impl Wires {
+    /// What is heard of an answer on a bus with weak answers.
+    fn weakened(&self, answer: Answer) -> Answer {
+        match self.weak {
+            Some((lost, damaged)) if answer != Answer::Silence => {
+                let number = dice(self.frames);
+                if number < lost {
+                    Answer::Silence
+                } else if number < lost + damaged {
+                    Answer::Damaged
+                } else {
+                    answer
+                }
+            }
+            _ => answer,
+        }
+    }
+
     fn draw(&mut self) -> Random24 {
         self.next = self.next.wrapping_add(0x1357) % 0xFFFFFF;
         Random24::of(self.next).unwrap_or(Random24::MASK)
@@ -45,7 +70,7 @@ impl Wires {
         let heard = self
             .row
             .take(&Command::read(frame), Reach::Everyone, &draws);
-        match heard.answer {
+        match self.weakened(heard.answer) {
             Answer::Silence => write!(self.answer, "silence\n"),
             Answer::Damaged => write!(self.answer, "damaged\n"),
             Answer::Byte(byte) => write!(self.answer, "byte {byte:02X}\n"),
@@ -66,6 +91,7 @@ impl Bus {
             read: 0,
             left: None,
             fails: None,
+            weak: None,
             frames: 0,
         }))
     }
@@ -87,6 +113,13 @@ impl Bus {
     pub fn limit(&self, left: Option<u32>) {
         if let Ok(mut wires) = self.0.try_borrow_mut() {
             wires.left = left;
+        }
+    }
+
+    /// So many of ten answers are lost from now on, and so many damaged.
+    pub fn weaken(&self, lost: u32, damaged: u32) {
+        if let Ok(mut wires) = self.0.try_borrow_mut() {
+            wires.weak = Some((lost, damaged));
         }
     }
 

@@ -46,7 +46,8 @@ fn all_gear_lose_their_short_addresses(rt: HostRuntime) {
     // An empty file stays.
     assert!(rt; cabinet.has_put("two.db", &[]));
     let said =
-        "site.db: the old file is kept as site.db.before-2\ntaking all short addresses away, round 1\n";
+        "site.db: the old file is kept as site.db.before-2\ntaking all short addresses away, round 1\n\
+        no gear answers at a short address any more\n";
     ends_over(&rt, CLEAR, &cabinet, &bus, 0, said);
     are(&rt, &bus, false);
     assert!(rt; cabinet.count() == 3 && cabinet.is("site.db.before-2", &[(2, 7, 0xABCDEF)]));
@@ -60,6 +61,18 @@ fn all_gear_lose_their_short_addresses(rt: HostRuntime) {
         0,
         "4 gear were enrolled, 4 are in",
     );
+}
+
+/// What a replacement that was stopped has left beside a file is put aside, and hinders no replacement of the new site.
+#[test]
+fn new_files_of_a_replacement_are_put_aside(rt: HostRuntime) {
+    let (cabinet, bus) = (Cabinet::new(rt.alloc()), Bus::with(rt.alloc(), &FOUR));
+    assert!(rt; cabinet.has_put("site.db", &[(2, 7, 0xABCDEF)]));
+    assert!(rt; cabinet.has_put("site.db.new", &[(1, 7, 0xABCDEF)]));
+    let said = "site.db.new: put aside as site.db.aside-1\n";
+    ends_over(&rt, CLEAR, &cabinet, &bus, 0, said);
+    assert!(rt; cabinet.is("site.db.aside-1", &[(1, 7, 0xABCDEF)]));
+    assert!(rt; cabinet.is("site.db.before-1", &[(2, 7, 0xABCDEF)]) && cabinet.count() == 2);
 }
 
 /// A bus without gear, one that has only gear without short address, and one whose driver ends.

@@ -247,6 +247,31 @@ fn gear_that_are_gone_may_be_named(rt: HostRuntime) {
     has(&rt, &bus, 1, 0x654321, 5);
 }
 
+/// Of gear whose answers are lost or damaged most of the time it is not said that they share an address, and none changes.
+#[test]
+fn weak_answers_are_unclear(rt: HostRuntime) {
+    let gear = [(5, 0x123456), (7, 0xABCDEF)];
+    let (cabinet, bus) = (Cabinet::new(rt.alloc()), Bus::with(rt.alloc(), &gear));
+    assert!(rt; cabinet.has_put("site.db", &[(2, 7, 0xABCDEF)]));
+    bus.weaken(5, 4);
+    let mut unclear = 0;
+    for words in [CHECK, MEND, CHECK, FIVE, CHECK, RUN, CHECK] {
+        let room = Room::new(rt.alloc(), words, &bus);
+        let status = match run_and_say(&room, &mut &cabinet, false) {
+            Ok(()) => 0,
+            Err(failure) => failure.status(),
+        };
+        assert!(rt; status != 13);
+        if status == 15 {
+            assert!(rt; room.has_said("it is unclear what answers at a short address"));
+            unclear += 1;
+        }
+        has(&rt, &bus, 0, 0x123456, 5);
+        has(&rt, &bus, 1, 0xABCDEF, 7);
+    }
+    assert!(rt; unclear > 0);
+}
+
 #[test]
 fn a_dead_bus_is_told(rt: HostRuntime) {
     let (cabinet, bus) = (Cabinet::new(rt.alloc()), Bus::with(rt.alloc(), &THREE));
@@ -257,7 +282,7 @@ fn a_dead_bus_is_told(rt: HostRuntime) {
     assert!(rt; bus.frames() == 576);
 }
 
-/// The bus loses its power at a frame. What looks then like gear that are not there is told, or the survey gives up.
+/// The bus loses its power at a frame. What looks then like gear that are not there is told.
 #[test]
 fn a_bus_that_fails_on_the_way_is_told(rt: HostRuntime) {
     let whole = Bus::with(rt.alloc(), &THREE);
@@ -285,7 +310,8 @@ fn twins_of_the_table_stay(rt: HostRuntime) {
     let words = b"dali_commission mend --records site.db 0-63";
     let room = Room::new(rt.alloc(), words, &bus);
     assert!(rt; run_and_say(&room, &mut &cabinet, false).is_err());
-    let said = "5 123456 several gear have this random address: take all but one from the bus\n\
+    let said =
+        "5 123456 several gear have this random address, or its answers are weak; left as it is\n\
         7 111111 one gear alone answers, and keeps it\n7 ABCDEF lost it, and has 0 now\n";
     assert!(rt; room.has_said(said));
     bus.switch(1, false);

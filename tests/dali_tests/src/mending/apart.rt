@@ -1,6 +1,6 @@
 //! Gear that share a short address are told apart, on a bus without trouble.
 
-use super::site::{Addresses, SHARED, Site, are, mended, random, short};
+use super::site::{Addresses, Dice, SHARED, Site, are, mended, random, short};
 use dali_frame::Short;
 use dali_gear::Reach;
 use dali_mending::{Mending, Outcome};
@@ -115,28 +115,38 @@ fn who_has_a_number_goes_before_who_has_none(rt: HostRuntime) -> Result<(), Fail
     Ok(())
 }
 
-/// Twins that no table has draw, and are two gear then.
+/// Twins cannot be told apart from a gear whose answers are weak, so they stay as they are, whether a table has one or
+/// none.
 #[test]
-fn twins_draw(rt: HostRuntime) -> Result<(), Fail> {
+fn twins_stay(rt: HostRuntime) -> Result<(), Fail> {
     // Their answers overlap: one byte, or damaged, as two are heard here.
-    let mut site = Site::of(&[(AT, 0x123456), (AT, 0x123456)])?;
-    let (outcome, _) = mended(&mut site, None)?;
-    assert_eq!(rt; site.sharing(), 1);
-    assert!(rt; matches!(outcome, Some(Outcome::Kept(_))));
-    Ok(())
-}
-
-/// Twins that draw the same number again and again cannot be told apart, nor twins of the gear of a table.
-#[test]
-fn twins_may_stay(rt: HostRuntime) -> Result<(), Fail> {
     let gear = [(AT, 0x123456), (AT, 0x123456)];
     let twins = Outcome::Twins(random(0x123456)?);
     ends(&rt, &gear, Some(0x123456), twins, &gear)?;
-    let mut site = Site::of(&gear)?;
-    site.apart = 0;
-    let (outcome, _) = mended(&mut site, None)?;
-    assert_eq!(rt; outcome, Some(Outcome::Twins(random(0x400000)?)));
-    are(&rt, &site, &[(AT, 0x400000), (AT, 0x400000)]);
+    ends(&rt, &gear, None, twins, &gear)?;
+    Ok(())
+}
+
+/// A gear that shares its short address with none keeps both addresses, however its answers are lost and damaged.
+#[test]
+fn a_lone_gear_with_weak_answers_stays(rt: HostRuntime) -> Result<(), Fail> {
+    for (trouble, seed) in [(100, 300), (300, 400), (500, 500), (800, 600)] {
+        for number in seed..seed + 25u64 {
+            let gear = [(AT, 0x123456), (Some(6), 0x654321)];
+            let mut site = Site::of(&gear)?;
+            site.dice = Dice(number);
+            site.trouble = trouble;
+            let table = if number % 2 == 0 {
+                None
+            } else {
+                Some(0x123456)
+            };
+            let (outcome, mending) = mended(&mut site, table)?;
+            assert!(rt; outcome.is_some());
+            assert!(rt; mending.erased().is_empty());
+            are(&rt, &site, &gear);
+        }
+    }
     Ok(())
 }
 

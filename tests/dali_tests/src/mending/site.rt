@@ -47,8 +47,6 @@ impl Dice {
 pub struct Site {
     pub row: Row,
     pub next: u32,
-    /// By how much numbers that are drawn differ.
-    pub apart: u32,
     pub dice: Dice,
     pub trouble: u32,
     pub frames: u32,
@@ -65,7 +63,6 @@ impl Site {
         let mut site = Site {
             row,
             next: 0x400000,
-            apart: 0x1357,
             dice: Dice(1),
             trouble: 0,
             frames: 0,
@@ -83,7 +80,7 @@ impl Site {
         let mut draws = [Random24::MASK; 16];
         for draw in draws.iter_mut() {
             *draw = Random24::of(self.next).unwrap_or(Random24::MASK);
-            self.next = (self.next + self.apart) % 0xFFFFFF;
+            self.next = (self.next + 0x1357) % 0xFFFFFF;
         }
         self.row.take(&command, reach, &draws).answer
     }

@@ -55,8 +55,3 @@ fn three_and_a_table(rt: HostRuntime) -> Result<(), Fail> {
         Some(0x300000),
     )
 }
-
-#[test]
-fn twins_without_table(rt: HostRuntime) -> Result<(), Fail> {
-    goes_on(&rt, &[(AT, 0x123456), (AT, 0x123456)], None)
-}
