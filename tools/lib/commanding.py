@@ -28,9 +28,9 @@ PATIENCE = 8
 PROGRESS = re.compile(r"(\d+) gear found, \d+ frames, (\d+) addresses left")
 INPUT_ENDED = re.compile(r"error: line \d+ of the driver: end of input")
 # The statuses of which something more is known; all of a signal are one.
-DONE, NOT_SO, BLOCK_FULL, GAVE_UP, NOBODY, SHARED, STOPPED = 0, 1, 6, 7, 10, 13, 128
+DONE, NOT_SO, BLOCK_FULL, GAVE_UP, NOBODY, SHARED, UNCLEAR, STOPPED = 0, 1, 6, 7, 10, 13, 15, 128
 # Those of a command that has done all of its asking, whatever it found.
-WHOLE = (DONE, NOT_SO, SHARED)
+WHOLE = (DONE, NOT_SO, SHARED, UNCLEAR)
 # What the controllers of a bus do in turn, each over its own records.
 IN_TURN = ("run", "check")
 # What is known of a short address that `mend` is for.
@@ -38,7 +38,7 @@ MENDS = ("left-alone", "several", "unclear", "strangers", "unclear-strangers")
 # The words of an end, and what can be done, stand in tools/lib/texts: by command and status, or by status alone.
 END, ODD, SILENT, OTHER = "end:{}:{}", "end:run:odd", "end:run:silent", "end:other"
 # The words of ends that leave something to be mended, which are not as bad as others.
-OPEN = ("end:13", "end:mend:13")
+OPEN = ("end:13", "end:mend:13", "end:15")
 
 
 class Busy(Exception):
@@ -367,7 +367,7 @@ class Bus:
             self.left_alone = sorted({*self.left_alone, *report.get("left_alone", [])})
             # Who was heard under an address alone, and is enrolled with it now, is odd no more.
             self.strangers = {at: it for at, it in self.strangers.items() if it[1] is None or it[1] != pairs.get(at)}
-        if command.name == "mend" and command.status in (DONE, SHARED):
+        if command.name == "mend" and command.status in (DONE, SHARED, UNCLEAR):
             them = [command.address] if command.address is not None else [*self.left_alone, *(at for at, it in self.strangers.items() if it[0] in MENDS)]
             for at in {*them} - {*report["left_alone"]}:
                 self.left_alone = [it for it in self.left_alone if it != at]
