@@ -15,8 +15,8 @@ from lib import ROOT, following, forked, joining, marks, places, serials, texts
 if typing.TYPE_CHECKING:
     from lib import walking
 
-# The commands that a page may ask for, and whether each leaves the light of a luminaire as it is to be when it is stopped.
-COMMANDS = {"run": False, "check": False, "identify": True, "replace": False, "mend": False}
+# The commands that a page may ask for.
+COMMANDS = ("run", "check", "identify", "replace", "mend")
 ADDRESSES = range(64)
 # The program, as it calls itself.
 VERSION = (ROOT / "tools/lib/help/dali_commission-version.txt").read_text().strip()
@@ -28,11 +28,11 @@ PATIENCE = 8
 PROGRESS = re.compile(r"(\d+) gear found, \d+ frames, (\d+) addresses left")
 INPUT_ENDED = re.compile(r"error: line \d+ of the driver: end of input")
 # The statuses of which something more is known; all of a signal are one.
-DONE, NOT_SO, BLOCK_FULL, GAVE_UP, NOBODY, SHARED, UNCLEAR, STOPPED = 0, 1, 6, 7, 10, 13, 15, 128
+DONE, NOT_SO, BLOCK_FULL, GAVE_UP, NOBODY, SHARED, NOT_CLEARED, UNCLEAR, STOPPED = 0, 1, 6, 7, 10, 13, 14, 15, 128
 # Those of a command that has done all of its asking, whatever it found.
 WHOLE = (DONE, NOT_SO, SHARED, UNCLEAR)
-# What the controllers of a bus do in turn, each over its own records.
-IN_TURN = ("run", "check")
+# What the controllers of a bus do in turn, each over its own records and at its own addresses; and of what one may hear no gear.
+IN_TURN, HEARS = ("run", "check", "mend"), ("check", "mend")
 # What is known of a short address that `mend` is for.
 MENDS = ("left-alone", "several", "unclear", "strangers", "unclear-strangers")
 # The words of an end, and what can be done, stand in tools/lib/texts: by command and status, or by status alone.
@@ -68,6 +68,11 @@ def address_of(value: object) -> int:
     return value
 
 
+def addresses_in(blocks: typing.Iterable[str]) -> set[int]:
+    """The short addresses of these blocks."""
+    return {it for block in blocks for first, last in [map(int, block.split("-"))] for it in range(first, last + 1)}
+
+
 def words_of(site: Site, command: str, address: object, missing: object) -> list[str]:
     """The words of the program for a command."""
     others = [word for it in site.others for word in ("--others", it)]
@@ -78,8 +83,12 @@ def words_of(site: Site, command: str, address: object, missing: object) -> list
         return ["check", *records, *others, "--json"]
     if command == "identify":
         return ["identify", "--json", str(address_of(address))]
+    if command == "clear":
+        return ["clear", "--json", "--yes", *(word for it in site.records for word in ("--records", it))]
     if command == "mend":
-        records = [word for it in site.records for word in ("--records", it)]
+        # A further controller that has not run yet has no file.
+        first, *rest = site.records
+        records = [word for it in (first, *filter(os.path.exists, rest)) for word in ("--records", it)]
         return ["mend", "--json", *records, *others, *([] if address is None else [str(address_of(address))]), site.block]
     if command != "replace" or not isinstance(missing, list):
         raise Bad("this is none of the commands")
@@ -148,7 +157,7 @@ class Command:
         self.found = self.left = self.status = self.ended = None
         self.is_stopped, self.report, self.lock = False, {}, threading.Lock()
         self.story, self.follower, self.since = os.memfd_create("story"), following.Follower(), None
-        self.process = forked.Process([[site.program, *words], site.driver, site.seconds, COMMANDS[name]], (self.story, *kept))
+        self.process = forked.Process([[site.program, *words], site.driver, site.seconds, name == "identify"], (self.story, *kept))
 
     def follow(self) -> None:
         """Hears what it says until it has ended."""
@@ -175,10 +184,10 @@ class Command:
             self.said = [*self.said[1 - LINES :], line]
 
     def statuses(self) -> list[int]:
-        """What each turn counts for. If a block is full, the next controller serves the rest; and a check hears none at the addresses of a controller
-        that has no gear, if another one's gear answer."""
+        """What each turn counts for. If a block is full, the next controller serves the rest; and a check or a mending hears none at the addresses of a
+        controller that has no gear, if another one's gear answer."""
         turns = (*self.before, self)
-        is_heard = self.name == "check" and any(it.status in WHOLE for it in turns)
+        is_heard = self.name in HEARS and any(it.status in WHOLE for it in turns)
         is_well = lambda it: it.status == BLOCK_FULL and it is not self or is_heard and it.status == NOBODY and not it.report.get("missing")
         return [DONE if is_well(it) else it.status for it in turns]
 
@@ -278,7 +287,7 @@ class Bus:
         """Begins a command, if none goes on, and no walk."""
         if not isinstance(name, str) or name not in COMMANDS:
             raise Bad("this is none of the commands")
-        words = words_of(self.site, name, address, missing)
+        words = words_of(self.site_of(name, address), name, address, missing)
         with self.lock:
             if self.walking():
                 raise Busy("a walk goes on")
@@ -289,12 +298,17 @@ class Bus:
         """Begins a command, if none goes on."""
         if not self.idle.is_set():
             raise Busy(f"{self.command.name} goes on")
-        words = words or words_of(self.site, name, address, ())
+        words = words or words_of(self.site_of(name, address), name, address, ())
         old = next((it["random"] for it in self.table if it["address"] == address), None)
         self.start_turn(name, address if isinstance(address, int) else None, words)
         self.idle.clear()
         threading.Thread(target=self.follow, args=(self.command, old), daemon=True).start()
         return self.command
+
+    def site_of(self, name: str, address: object) -> Site:
+        """What a command is asked of first: to mend an address, of the controller in whose block it lies."""
+        is_its = lambda it: name == "mend" and type(address) is int and address in addresses_in([it.block])
+        return next(filter(is_its, self.sites), self.site)
 
     def start_turn(self, name: str, address: int | None, words: list[str], before: tuple[Command, ...] = ()) -> None:
         """Begins the command of the next controller."""
@@ -321,7 +335,8 @@ class Bus:
             with self.lock:
                 command.followed()
                 turns = (*command.before, command)
-                more = self.sites[len(turns) :] if command.name in IN_TURN and not command.is_stopped else ()
+                is_in_turn = command.name in IN_TURN and command.address is None and not command.is_stopped
+                more = self.sites[len(turns) :] if is_in_turn else ()
                 if not more:
                     self.rest()
                 self.read_tables()
@@ -369,7 +384,7 @@ class Bus:
             self.strangers = {at: it for at, it in self.strangers.items() if it[1] is None or it[1] != pairs.get(at)}
         if command.name == "mend" and command.status in (DONE, SHARED, UNCLEAR):
             them = [command.address] if command.address is not None else [*self.left_alone, *(at for at, it in self.strangers.items() if it[0] in MENDS)]
-            for at in {*them} - {*report["left_alone"]}:
+            for at in {*them} - {*report["left_alone"]} - addresses_in(self.sites[len(command.before)].others if command.address is None else ()):
                 self.left_alone = [it for it in self.left_alone if it != at]
                 self.strangers.pop(at, None)
         turns = (*command.before, command)
@@ -380,6 +395,9 @@ class Bus:
             self.missing, self.silent = {(it, pairs.get(it)) for it in report["missing"]}, set()
             self.there = {it for it in pairs.items() if it not in self.missing and it[0] not in self.strangers}
             self.unaddressed = report["unaddressed"]
+        if command.name == "clear" and command.status in (DONE, NOT_CLEARED):
+            self.strangers, self.left_alone, self.checked, self.missing = odd_of(report), [], None, set()
+            self.there, self.silent, self.unaddressed = set(), set(), report["unaddressed"]
         if command.name == "replace" and command.status == DONE:
             self.left_alone, self.unaddressed = [it for it in self.left_alone if it != command.address], None
             self.strangers.pop(command.address, None)

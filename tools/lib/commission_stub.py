@@ -5,7 +5,7 @@ The file of the records is JSON, a random address for each short one. The file t
 the random addresses of the gear that are there. A frame is put for each gear; while a file `hold` lies beside that one, it waits at the
 second. A file `odd` there has short addresses at which several gear answer, of which `mend` leaves those that a file `stuck` has; a file
 `dark` has those at which none does, a file `unclear` those at which that is not clear. A run asks those that a file `asked` has for their random addresses before all else. It gives
-addresses of its block, and gives up as often as a file `lost` has members.
+addresses of its block, and gives up as often as a file `lost` has members. After a `clear` those of `stuck` still answer.
 """
 
 import contextlib
@@ -112,6 +112,18 @@ def mend(records: dict[str, str], words: tuple[str, ...]) -> None:
     ended(end, status, records, left_alone=[*left, *beside("unclear")])
 
 
+def clear(file: pathlib.Path, words: tuple[str, ...]) -> None:
+    if "--yes" not in words:
+        sys.exit(2)
+    for it in option("--records", words):
+        with contextlib.suppress(FileNotFoundError):
+            os.rename(it, f"{it}.before-1")
+    put("A900")
+    bus().with_name("odd").write_text("[]")
+    left = [{"address": it, "is": "stranger", "random": None} for it in beside("stuck")]
+    ended("not-cleared" if left else "cleared", 14 if left else 0, {}, strangers=left, unaddressed=True)
+
+
 def replace(file: pathlib.Path, records: dict[str, str], gear: list[str], address: str) -> None:
     put("A900")
     new = [it for it in gear if it not in records.values()]
@@ -160,6 +172,8 @@ def main(task: str, *words: str) -> None:
             identify(int(words[-1]))
         elif task == "mend":
             mend(records, words)
+        elif task == "clear":
+            clear(file, words)
         elif task == "replace":
             replace(file, records, gear, next(it for it in words if it.isdigit()))
         else:

@@ -50,7 +50,7 @@ def said_of(command: commanding.Command) -> str | None:
 
 
 class Job:
-    """What is done on one bus, by each of its controllers in turn; a replacement is of all of them at once.
+    """What is done on one bus, by each of its controllers in turn; a replacement and a clearing are of all of them at once.
 
     reports   what the program wrote of each, as an object
     statuses  what the end of each counts for
@@ -88,7 +88,7 @@ class Job:
         if self.command == "replace":
             bus.read_table()
         for _ in range(TRIES if self.command == "run" else 1):
-            bus.begin(self.command, self.address, self.missing)
+            bus.start(self.command, self.address, commanding.words_of(bus.site_of(self.command, self.address), self.command, self.address, self.missing))
             if self.stopped:
                 bus.stop()
             bus.idle.wait()
@@ -212,9 +212,7 @@ def there_of(reports: list[dict[str, typing.Any]], others: list[str]) -> tuple[d
     these blocks were not asked. Random addresses are drawn, so two luminaires of a building may have one; on one bus they differ."""
     odd = {it["address"]: it["random"] if it["is"] in ("another", "stranger") else None for one in reports for it in one["strangers"]}
     gone = {*odd, *(it for one in reports for it in one["missing"])}
-    for block in others:
-        first, last = map(int, block.split("-"))
-        gone |= set(range(first, last + 1))
+    gone |= commanding.addresses_in(others)
     there = {it["random"]: it["address"] for one in reports for it in one["table"] if it["address"] not in gone}
     return there | {random: at for at, random in odd.items() if random}, {at for at, random in odd.items() if not random}
 
