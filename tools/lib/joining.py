@@ -1,6 +1,5 @@
 """Joins a program and its driver: starts both, passes lines and signals on, and ends the driver. tools/drive says how."""
 
-import contextlib
 import json
 import math
 import os
@@ -12,6 +11,7 @@ import types
 import typing
 
 from lib import ROOT, relay, telling
+from lib.standard import UNWRITTEN, say
 
 # The signals that are passed on to the program.
 PASSED = (signal.SIGTERM, signal.SIGHUP, signal.SIGINT)
@@ -22,15 +22,9 @@ SAME = 0.3
 # How many seconds a driver has for an answer, if nothing else is said.
 ANSWERS = 10
 # The exit statuses that are not the program's.
-UNWRITTEN, AT_FAULT, NOT_STARTED = 3, 4, 127
+AT_FAULT, NOT_STARTED = 4, 127
 # A process that joins: behind it stand the folder of this package, and what `join` takes as JSON.
 ALONE = "import json, sys; sys.path[0] = sys.argv[1]; from lib import joining; sys.exit(joining.join(*json.loads(sys.argv[2])))"
-
-
-def say(text: str) -> None:
-    """Says something on standard error. Where that is gone, as with a closed terminal, the run goes on all the same."""
-    with contextlib.suppress(OSError):
-        os.write(2, os.fsencode(f"{text}\n"))
 
 
 class Signals:
