@@ -1,11 +1,13 @@
 """Joins a program and its driver: starts both, passes lines and signals on, and ends the driver. tools/drive says how."""
 
+import contextlib
 import json
 import math
 import os
 import signal
 import subprocess
 import sys
+import threading
 import time
 import types
 import typing
@@ -96,9 +98,19 @@ def started(title: str, what: str, words: list[str]) -> subprocess.Popen[bytes] 
         return None
 
 
-def end(title: str, driver: subprocess.Popen[bytes]) -> bool:
-    """Ends the input of a driver, waits for its end, and hastens it where it takes too long. Whether it ended by itself."""
+def drain(driver: subprocess.Popen[bytes]) -> None:
+    """Reads what nobody waits for, so that the driver can write it, and end."""
+    with contextlib.suppress(OSError):
+        while os.read(driver.stdout.fileno(), relay.MUCH):
+            pass
+
+
+def end(title: str, driver: subprocess.Popen[bytes], is_at_fault: bool = False) -> bool:
+    """Ends the input of a driver, waits for its end, and hastens it where it takes too long. Whether it ended by itself. What it writes is
+    looked at no more if it is at fault."""
     relay.close(driver.stdin)
+    if is_at_fault:
+        threading.Thread(target=drain, args=(driver,), daemon=True).start()
     is_hastened = False
     for number, word in ((signal.SIGTERM, "terminated"), (signal.SIGKILL, "killed")):
         try:
@@ -112,13 +124,13 @@ def end(title: str, driver: subprocess.Popen[bytes]) -> bool:
 
 
 def say_end(title: str, driver: subprocess.Popen[bytes], fault: relay.Fault | None, is_by_itself: bool) -> None:
-    """Says what was wrong with a driver that has ended; the cause of all else comes last."""
+    """Says what was wrong with a driver that has ended, but for a signal that was sent to hasten it; the cause of all else comes last."""
     status = driver.returncode
     ended = f"the driver ended with status {status}" if status >= 0 else f"signal {-status} ended the driver"
     if isinstance(fault, relay.Gone) and is_by_itself:
         say(f"{title}: {ended} {fault}")
         return
-    if status:
+    if status > 0 or status and is_by_itself:
         say(f"{title}: {ended}")
     if isinstance(fault, relay.Gone):
         say(f"{title}: the driver closed its standard input or output {fault}")
@@ -148,7 +160,7 @@ def join(
     tells = telling.Run(**files) if files else None
     between = relay.Relay(runs, drives, seconds, signals, tells)
     between.run()
-    is_by_itself = end(title, drives)
+    is_by_itself = end(title, drives, between.fault is not None)
     between.look_for_rest()
     if tells:
         tells.end(runs.returncode if program[1:2] == ["run"] and not between.fault else None)
