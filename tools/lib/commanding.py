@@ -24,9 +24,8 @@ VERSION = (ROOT / "tools/lib/help/dali_commission-version.txt").read_text().stri
 LINES, LONGEST, MUCH = 200, 400, 1 << 20
 # How many seconds a command has to end once it was stopped, before it is asked again.
 PATIENCE = 8
-# How far a run is; and what a program says that was stopped by the end of its input.
+# How far a run is.
 PROGRESS = re.compile(r"(\d+) gear found, \d+ frames, (\d+) addresses left")
-INPUT_ENDED = re.compile(r"error: line \d+ of the driver: end of input")
 # The statuses of which something more is known; all of a signal are one.
 DONE, NOT_SO, BLOCK_FULL, GAVE_UP, NOBODY, SHARED, NOT_CLEARED, UNCLEAR, STOPPED = 0, 1, 6, 7, 10, 13, 14, 15, 128
 # Those of a command that has done all of its asking, whatever it found.
@@ -180,7 +179,7 @@ class Command:
         if progress := PROGRESS.fullmatch(line):
             self.found, self.left = map(int, progress.groups())
             self.since = self.followed().passes
-        elif line and not (self.is_stopped and INPUT_ENDED.fullmatch(line)):
+        elif line:
             self.said = [*self.said[1 - LINES :], line]
 
     def statuses(self) -> list[int]:

@@ -4,6 +4,7 @@ import contextlib
 import json
 import math
 import os
+import re
 import signal
 import subprocess
 import sys
@@ -25,6 +26,8 @@ SAME = 0.3
 ANSWERS = 10
 # The exit statuses that are not the program's.
 AT_FAULT, NOT_STARTED = 4, 127
+# What a program says if its input ends, as it does when a signal asks for an end in order.
+INPUT_ENDED = re.compile(rb"error: line \d+ of the driver: end of input\n?")
 # A process that joins: behind it stand the folder of this package, and what `join` takes as JSON.
 ALONE = "import json, sys; sys.path[0] = sys.argv[1]; from lib import joining; sys.exit(joining.join(*json.loads(sys.argv[2])))"
 
@@ -84,13 +87,13 @@ class Signals:
         self.add(self.came[0], time.monotonic())
 
 
-def started(title: str, what: str, words: list[str]) -> subprocess.Popen[bytes] | None:
-    """A process with a pipe from it and one to it, or None.
+def started(title: str, what: str, words: list[str], says: int | None = None) -> subprocess.Popen[bytes] | None:
+    """A process with a pipe from it and one to it, or None. What it says goes there, or where this process says something.
 
     It has a session of its own: an interrupt from the terminal comes here, and from here once to the program alone, so that the
     driver can end in order. It ignores SIGPIPE, so that it sees an error where it writes to somebody who is gone.
     """
-    how = {"start_new_session": True, "restore_signals": False, "bufsize": 0}
+    how = {"stderr": says, "start_new_session": True, "restore_signals": False, "bufsize": 0}
     try:
         return subprocess.Popen(words, stdin=subprocess.PIPE, stdout=subprocess.PIPE, **how)
     except (OSError, ValueError) as why:
@@ -103,6 +106,13 @@ def drain(driver: subprocess.Popen[bytes]) -> None:
     with contextlib.suppress(OSError):
         while os.read(driver.stdout.fileno(), relay.MUCH):
             pass
+
+
+def pass_said(program: subprocess.Popen[bytes], signals: Signals) -> None:
+    """Passes on what a program says, but not that its input has ended if a signal asked for that."""
+    for line in program.stderr:
+        if not (signals.is_to_end() and INPUT_ENDED.fullmatch(line)):
+            say(os.fsdecode(line), "")
 
 
 def end(title: str, driver: subprocess.Popen[bytes], is_at_fault: bool = False) -> bool:
@@ -152,14 +162,19 @@ def join(
     drives = started(title, "driver", driver)
     if not drives:
         return NOT_STARTED
-    runs = started(title, "program", program)
+    runs = started(title, "program", program, subprocess.PIPE if is_gentle else None)
     if not runs:
         say_end(title, drives, None, end(title, drives))
         return NOT_STARTED
     signals.begin(runs)
     tells = telling.Run(**files) if files else None
     between = relay.Relay(runs, drives, seconds, signals, tells)
+    said = threading.Thread(target=pass_said, args=(runs, signals), daemon=True)
+    if is_gentle:
+        said.start()
     between.run()
+    if is_gentle:
+        said.join(PATIENCE)
     is_by_itself = end(title, drives, between.fault is not None)
     between.look_for_rest()
     if tells:
