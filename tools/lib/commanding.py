@@ -142,6 +142,15 @@ def unfinished_address(records: str) -> int | None:
         return None
 
 
+def stamp_of(file: str | os.PathLike[str]) -> tuple[int, int] | None:
+    """What changes if a file does."""
+    try:
+        found = os.stat(file)
+    except OSError:
+        return None
+    return found.st_mtime_ns, found.st_size
+
+
 class Command:
     """A command that goes on, or has ended: what it says, how far it is, and the story of its frames, in memory.
 
@@ -252,6 +261,8 @@ class Bus:
         # The walk, and the turns of all walks up to now, so that no turn of one is taken for another one's; and how many luminaires the last
         # one has been at and how many it has left, until something else begins.
         self.walk, self.turns, self.walked = None, 0, None
+        # After which command it was looked last whether others have changed something, and what the files were then.
+        self.last, self.seen = None, self.stamp()
         self.idle.set()
 
     def read_table(self) -> None:
@@ -268,6 +279,35 @@ class Bus:
                 return
             found |= {row["address"]: row for row in rows}
         self.table = list(found.values())
+
+    def stamp(self) -> tuple[object, ...]:
+        """What changes if others change the records, or what is odd on the bus."""
+        files = [it for file in self.site.records for it in (file, f"{file}-wal")]
+        return tuple(map(stamp_of, (*files, marks.file_of(self.site.records[0]))))
+
+    def is_stale(self) -> bool:
+        """Whether something may have changed since it was looked at last."""
+        return self.command is not self.last or self.stamp() != self.seen
+
+    def refresh(self) -> None:
+        """Reads what is known anew, if another than a command of this page has changed it."""
+        with self.lock:
+            if not self.idle.is_set():
+                return
+            stamp = self.stamp()
+            if stamp != self.seen and self.command is self.last:
+                self.forget()
+                if stamp[:-1] != self.seen[:-1]:
+                    self.read_table()
+            self.seen, self.last = stamp, self.command
+
+    def forget(self) -> None:
+        """Knows no more than what is kept. If the records are put aside, as by `clear`, nothing is odd any more."""
+        file = marks.file_of(self.site.records[0])
+        if any(self.seen[:-1]) and not any(it for records in self.site.records for it in (stamp_of(records), unfinished_address(records) is not None)):
+            marks.keep(file, marks.Marks())
+        self.left_alone, self.strangers, self.missing, self.checked = marks.read(file)
+        self.there, self.silent, self.unaddressed = set(), set(), None
 
     def rows_of(self, records: str) -> tuple[list[places.Row], str | None]:
         """The table of a file, and what is wrong with it."""
@@ -298,6 +338,7 @@ class Bus:
         if not self.idle.is_set():
             raise Busy(f"{self.command.name} goes on")
         words = words or words_of(self.site_of(name, address), name, address, ())
+        self.refresh()
         old = next((it["random"] for it in self.table if it["address"] == address), None)
         self.start_turn(name, address if isinstance(address, int) else None, words)
         self.idle.clear()
@@ -358,15 +399,25 @@ class Bus:
         self.idle.set()
 
     def take(self, command: Command, old: str | None) -> None:
-        """Takes what a command found, and keeps it."""
+        """Takes what a command found, and keeps it. What cannot be kept is known all the same."""
         try:
-            self.learn(command, command.report, old)
-            kept = marks.Marks(self.left_alone, self.strangers, self.missing, self.checked)
-            marks.keep(marks.file_of(self.site.records[0]), kept)
-        except (KeyError, TypeError, OSError, places.Unreadable) as why:
+            self.learn(command, command.report)
+        except (KeyError, TypeError) as why:
             command.hear(f"what it came to is not known: {why}")
+            return
+        try:
+            self.keep(command, old)
+        except (OSError, places.Unreadable) as why:
+            command.hear(f"what it came to is known, but not kept: {why}")
 
-    def learn(self, command: Command, report: dict[str, typing.Any], old: str | None) -> None:
+    def keep(self, command: Command, old: str | None) -> None:
+        """Keeps where a new luminaire hangs, and what is odd."""
+        now = next((it["random"] for it in self.table if it["address"] == command.address), None)
+        if command.name == "replace" and command.status == DONE and old and now:
+            places.hand_over(self.names, old, now)
+        marks.keep(marks.file_of(self.site.records[0]), marks.Marks(self.left_alone, self.strangers, self.missing, self.checked))
+
+    def learn(self, command: Command, report: dict[str, typing.Any]) -> None:
         """Takes what a command found. What is odd stays so until a check finds otherwise, or a replacement has heard the new luminaire there."""
         pairs = {it["address"]: it["random"] for it in self.table}
         if command.name in ("run", "identify", "mend"):
@@ -401,8 +452,6 @@ class Bus:
             self.left_alone, self.unaddressed = [it for it in self.left_alone if it != command.address], None
             self.strangers.pop(command.address, None)
             self.there |= {it for it in pairs.items() if it[0] == command.address}
-            if old and command.address in pairs:
-                places.hand_over(self.names, old, pairs[command.address])
 
     def stop(self) -> None:
         """Stops what goes on, and the walk."""
@@ -463,6 +512,7 @@ class Bus:
     def state(self) -> dict[str, typing.Any]:
         """All that a page shows."""
         with self.lock:
+            self.refresh()
             trouble, them, spare = self.trouble, [], []
             try:
                 names = places.read(self.names)
