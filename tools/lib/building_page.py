@@ -18,15 +18,6 @@ BELOW = re.compile(r"bus/([0-9]{1,4})(/.*)?")
 COMMANDS, LANES = ("run", "check"), 8
 
 
-def stamp_of(file: str | os.PathLike[str]) -> tuple[int, int] | None:
-    """What changes if a file does."""
-    try:
-        found = os.stat(file)
-    except OSError:
-        return None
-    return found.st_mtime_ns, found.st_size
-
-
 class Bus(commanding.Bus):
     """A bus of a building. A command has it alone while it goes on; between commands others may work on it, and what they found is read."""
 
@@ -34,14 +25,9 @@ class Bus(commanding.Bus):
         site, *more = entry.sites(program)
         super().__init__(site, (), more)
         self.read_table()
-        self.building, self.name, self.last, self.seen, self.is_well = building, entry.name, None, self.stamp(), False
+        self.building, self.name, self.is_well = building, entry.name, False
         # Its number, the buses of a walk through the building, what holds its lock, and what was told of its luminaires at which stamp.
         self.number, self.way, self.holds, self.listed = number, way, contextlib.ExitStack(), (None, "")
-
-    def stamp(self) -> tuple[object, ...]:
-        """What changes if others change the records, or what is odd on the bus."""
-        files = [it for file in self.site.records for it in (file, f"{file}-wal")]
-        return tuple(map(stamp_of, (*files, marks.file_of(self.site.records[0]))))
 
     def start(self, name: str, address: object, words: list[str] | None = None) -> commanding.Command:
         try:
@@ -68,7 +54,7 @@ class Bus(commanding.Bus):
 
     def changed(self) -> tuple[object, ...]:
         """What changes if something changes that is known of a luminaire, as far as it was looked at last."""
-        return self.seen, stamp_of(self.names), self.command and self.command.number, self.idle.is_set()
+        return self.seen, commanding.stamp_of(self.names), self.command and self.command.number, self.idle.is_set()
 
     def luminaires(self) -> str:
         """The luminaires of this bus as JSON, each as a list, made anew if something has changed, or goes on."""
@@ -79,27 +65,14 @@ class Bus(commanding.Bus):
                 self.listed = changed, json.dumps(them, ensure_ascii=False, separators=(",", ":"))[1:-1]
             return self.listed[1]
 
-    def learn(self, command: commanding.Command, report: dict[str, typing.Any], old: str | None) -> None:
-        super().learn(command, report, old)
+    def learn(self, command: commanding.Command, report: dict[str, typing.Any]) -> None:
+        super().learn(command, report)
         if command.name in COMMANDS:
             self.is_well = command.outcome() == commanding.DONE
 
-    def is_stale(self) -> bool:
-        """Whether something may have changed since it was looked at last."""
-        return self.command is not self.last or self.stamp() != self.seen
-
-    def refresh(self) -> None:
-        """Reads what is known anew, if another than a command of this page has changed it."""
-        with self.lock:
-            if not self.idle.is_set():
-                return
-            stamp = self.stamp()
-            if stamp != self.seen and self.command is self.last:
-                self.left_alone, self.strangers, self.missing, self.checked = marks.read(marks.file_of(self.site.records[0]))
-                self.there, self.silent, self.unaddressed, self.is_well = set(), set(), None, False
-                if stamp[:-1] != self.seen[:-1]:
-                    self.read_table()
-            self.seen, self.last = stamp, self.command
+    def forget(self) -> None:
+        super().forget()
+        self.is_well = False
 
     def summary(self) -> dict[str, typing.Any]:
         """What the page of the building shows of it."""
@@ -168,7 +141,6 @@ class Handler(serving.Handler):
             raise serving.Refused(404, "nothing stands here")
         if not below[2]:
             raise serving.Refused(308, "the page is there", ("Location", f"/{self.server.token}/bus/{self.number}/"))
-        self.bus.refresh()
         return below[2][1:]
 
     def answer(self, known: dict[str, collections.abc.Callable[[], None]]) -> None:

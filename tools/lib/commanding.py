@@ -15,8 +15,8 @@ from lib import ROOT, following, forked, joining, marks, places, serials, texts
 if typing.TYPE_CHECKING:
     from lib import walking
 
-# The commands that a page may ask for, and whether each leaves the light of a luminaire as it is to be when it is stopped.
-COMMANDS = {"run": False, "check": False, "identify": True, "replace": False, "mend": False}
+# The commands that a page may ask for.
+COMMANDS = ("run", "check", "identify", "replace", "mend")
 ADDRESSES = range(64)
 # The program, as it calls itself.
 VERSION = (ROOT / "tools/lib/help/dali_commission-version.txt").read_text().strip()
@@ -24,21 +24,20 @@ VERSION = (ROOT / "tools/lib/help/dali_commission-version.txt").read_text().stri
 LINES, LONGEST, MUCH = 200, 400, 1 << 20
 # How many seconds a command has to end once it was stopped, before it is asked again.
 PATIENCE = 8
-# How far a run is; and what a program says that was stopped by the end of its input.
+# How far a run is.
 PROGRESS = re.compile(r"(\d+) gear found, \d+ frames, (\d+) addresses left")
-INPUT_ENDED = re.compile(r"error: line \d+ of the driver: end of input")
 # The statuses of which something more is known; all of a signal are one.
-DONE, NOT_SO, BLOCK_FULL, GAVE_UP, NOBODY, SHARED, STOPPED = 0, 1, 6, 7, 10, 13, 128
+DONE, NOT_SO, BLOCK_FULL, GAVE_UP, NOBODY, SHARED, NOT_CLEARED, UNCLEAR, STOPPED = 0, 1, 6, 7, 10, 13, 14, 15, 128
 # Those of a command that has done all of its asking, whatever it found.
-WHOLE = (DONE, NOT_SO, SHARED)
-# What the controllers of a bus do in turn, each over its own records.
-IN_TURN = ("run", "check")
+WHOLE = (DONE, NOT_SO, SHARED, UNCLEAR)
+# What the controllers of a bus do in turn, each over its own records and at its own addresses; and of what one may hear no gear.
+IN_TURN, HEARS = ("run", "check", "mend"), ("check", "mend")
 # What is known of a short address that `mend` is for.
 MENDS = ("left-alone", "several", "unclear", "strangers", "unclear-strangers")
 # The words of an end, and what can be done, stand in tools/lib/texts: by command and status, or by status alone.
 END, ODD, SILENT, OTHER = "end:{}:{}", "end:run:odd", "end:run:silent", "end:other"
 # The words of ends that leave something to be mended, which are not as bad as others.
-OPEN = ("end:13", "end:mend:13")
+OPEN = ("end:13", "end:mend:13", "end:15")
 
 
 class Busy(Exception):
@@ -68,6 +67,11 @@ def address_of(value: object) -> int:
     return value
 
 
+def addresses_in(blocks: typing.Iterable[str]) -> set[int]:
+    """The short addresses of these blocks."""
+    return {it for block in blocks for first, last in [map(int, block.split("-"))] for it in range(first, last + 1)}
+
+
 def words_of(site: Site, command: str, address: object, missing: object) -> list[str]:
     """The words of the program for a command."""
     others = [word for it in site.others for word in ("--others", it)]
@@ -78,8 +82,12 @@ def words_of(site: Site, command: str, address: object, missing: object) -> list
         return ["check", *records, *others, "--json"]
     if command == "identify":
         return ["identify", "--json", str(address_of(address))]
+    if command == "clear":
+        return ["clear", "--json", "--yes", *(word for it in site.records for word in ("--records", it))]
     if command == "mend":
-        records = [word for it in site.records for word in ("--records", it)]
+        # A further controller that has not run yet has no file.
+        first, *rest = site.records
+        records = [word for it in (first, *filter(os.path.exists, rest)) for word in ("--records", it)]
         return ["mend", "--json", *records, *others, *([] if address is None else [str(address_of(address))]), site.block]
     if command != "replace" or not isinstance(missing, list):
         raise Bad("this is none of the commands")
@@ -134,6 +142,15 @@ def unfinished_address(records: str) -> int | None:
         return None
 
 
+def stamp_of(file: str | os.PathLike[str]) -> tuple[int, int] | None:
+    """What changes if a file does."""
+    try:
+        found = os.stat(file)
+    except OSError:
+        return None
+    return found.st_mtime_ns, found.st_size
+
+
 class Command:
     """A command that goes on, or has ended: what it says, how far it is, and the story of its frames, in memory.
 
@@ -148,7 +165,7 @@ class Command:
         self.found = self.left = self.status = self.ended = None
         self.is_stopped, self.report, self.lock = False, {}, threading.Lock()
         self.story, self.follower, self.since = os.memfd_create("story"), following.Follower(), None
-        self.process = forked.Process([[site.program, *words], site.driver, site.seconds, COMMANDS[name]], (self.story, *kept))
+        self.process = forked.Process([[site.program, *words], site.driver, site.seconds, name == "identify"], (self.story, *kept))
 
     def follow(self) -> None:
         """Hears what it says until it has ended."""
@@ -171,14 +188,14 @@ class Command:
         if progress := PROGRESS.fullmatch(line):
             self.found, self.left = map(int, progress.groups())
             self.since = self.followed().passes
-        elif line and not (self.is_stopped and INPUT_ENDED.fullmatch(line)):
+        elif line:
             self.said = [*self.said[1 - LINES :], line]
 
     def statuses(self) -> list[int]:
-        """What each turn counts for. If a block is full, the next controller serves the rest; and a check hears none at the addresses of a controller
-        that has no gear, if another one's gear answer."""
+        """What each turn counts for. If a block is full, the next controller serves the rest; and a check or a mending hears none at the addresses of a
+        controller that has no gear, if another one's gear answer."""
         turns = (*self.before, self)
-        is_heard = self.name == "check" and any(it.status in WHOLE for it in turns)
+        is_heard = self.name in HEARS and any(it.status in WHOLE for it in turns)
         is_well = lambda it: it.status == BLOCK_FULL and it is not self or is_heard and it.status == NOBODY and not it.report.get("missing")
         return [DONE if is_well(it) else it.status for it in turns]
 
@@ -244,6 +261,8 @@ class Bus:
         # The walk, and the turns of all walks up to now, so that no turn of one is taken for another one's; and how many luminaires the last
         # one has been at and how many it has left, until something else begins.
         self.walk, self.turns, self.walked = None, 0, None
+        # After which command it was looked last whether others have changed something, and what the files were then.
+        self.last, self.seen = None, self.stamp()
         self.idle.set()
 
     def read_table(self) -> None:
@@ -260,6 +279,35 @@ class Bus:
                 return
             found |= {row["address"]: row for row in rows}
         self.table = list(found.values())
+
+    def stamp(self) -> tuple[object, ...]:
+        """What changes if others change the records, or what is odd on the bus."""
+        files = [it for file in self.site.records for it in (file, f"{file}-wal")]
+        return tuple(map(stamp_of, (*files, marks.file_of(self.site.records[0]))))
+
+    def is_stale(self) -> bool:
+        """Whether something may have changed since it was looked at last."""
+        return self.command is not self.last or self.stamp() != self.seen
+
+    def refresh(self) -> None:
+        """Reads what is known anew, if another than a command of this page has changed it."""
+        with self.lock:
+            if not self.idle.is_set():
+                return
+            stamp = self.stamp()
+            if stamp != self.seen and self.command is self.last:
+                self.forget()
+                if stamp[:-1] != self.seen[:-1]:
+                    self.read_table()
+            self.seen, self.last = stamp, self.command
+
+    def forget(self) -> None:
+        """Knows no more than what is kept. If the records are put aside, as by `clear`, nothing is odd any more."""
+        file = marks.file_of(self.site.records[0])
+        if any(self.seen[:-1]) and not any(it for records in self.site.records for it in (stamp_of(records), unfinished_address(records) is not None)):
+            marks.keep(file, marks.Marks())
+        self.left_alone, self.strangers, self.missing, self.checked = marks.read(file)
+        self.there, self.silent, self.unaddressed = set(), set(), None
 
     def rows_of(self, records: str) -> tuple[list[places.Row], str | None]:
         """The table of a file, and what is wrong with it."""
@@ -278,7 +326,7 @@ class Bus:
         """Begins a command, if none goes on, and no walk."""
         if not isinstance(name, str) or name not in COMMANDS:
             raise Bad("this is none of the commands")
-        words = words_of(self.site, name, address, missing)
+        words = words_of(self.site_of(name, address), name, address, missing)
         with self.lock:
             if self.walking():
                 raise Busy("a walk goes on")
@@ -289,12 +337,18 @@ class Bus:
         """Begins a command, if none goes on."""
         if not self.idle.is_set():
             raise Busy(f"{self.command.name} goes on")
-        words = words or words_of(self.site, name, address, ())
+        words = words or words_of(self.site_of(name, address), name, address, ())
+        self.refresh()
         old = next((it["random"] for it in self.table if it["address"] == address), None)
         self.start_turn(name, address if isinstance(address, int) else None, words)
         self.idle.clear()
         threading.Thread(target=self.follow, args=(self.command, old), daemon=True).start()
         return self.command
+
+    def site_of(self, name: str, address: object) -> Site:
+        """What a command is asked of first: to mend an address, of the controller in whose block it lies."""
+        is_its = lambda it: name == "mend" and type(address) is int and address in addresses_in([it.block])
+        return next(filter(is_its, self.sites), self.site)
 
     def start_turn(self, name: str, address: int | None, words: list[str], before: tuple[Command, ...] = ()) -> None:
         """Begins the command of the next controller."""
@@ -321,7 +375,8 @@ class Bus:
             with self.lock:
                 command.followed()
                 turns = (*command.before, command)
-                more = self.sites[len(turns) :] if command.name in IN_TURN and not command.is_stopped else ()
+                is_in_turn = command.name in IN_TURN and command.address is None and not command.is_stopped
+                more = self.sites[len(turns) :] if is_in_turn else ()
                 if not more:
                     self.rest()
                 self.read_tables()
@@ -344,15 +399,25 @@ class Bus:
         self.idle.set()
 
     def take(self, command: Command, old: str | None) -> None:
-        """Takes what a command found, and keeps it."""
+        """Takes what a command found, and keeps it. What cannot be kept is known all the same."""
         try:
-            self.learn(command, command.report, old)
-            kept = marks.Marks(self.left_alone, self.strangers, self.missing, self.checked)
-            marks.keep(marks.file_of(self.site.records[0]), kept)
-        except (KeyError, TypeError, OSError, places.Unreadable) as why:
+            self.learn(command, command.report)
+        except (KeyError, TypeError) as why:
             command.hear(f"what it came to is not known: {why}")
+            return
+        try:
+            self.keep(command, old)
+        except (OSError, places.Unreadable) as why:
+            command.hear(f"what it came to is known, but not kept: {why}")
 
-    def learn(self, command: Command, report: dict[str, typing.Any], old: str | None) -> None:
+    def keep(self, command: Command, old: str | None) -> None:
+        """Keeps where a new luminaire hangs, and what is odd."""
+        now = next((it["random"] for it in self.table if it["address"] == command.address), None)
+        if command.name == "replace" and command.status == DONE and old and now:
+            places.hand_over(self.names, old, now)
+        marks.keep(marks.file_of(self.site.records[0]), marks.Marks(self.left_alone, self.strangers, self.missing, self.checked))
+
+    def learn(self, command: Command, report: dict[str, typing.Any]) -> None:
         """Takes what a command found. What is odd stays so until a check finds otherwise, or a replacement has heard the new luminaire there."""
         pairs = {it["address"]: it["random"] for it in self.table}
         if command.name in ("run", "identify", "mend"):
@@ -367,9 +432,9 @@ class Bus:
             self.left_alone = sorted({*self.left_alone, *report.get("left_alone", [])})
             # Who was heard under an address alone, and is enrolled with it now, is odd no more.
             self.strangers = {at: it for at, it in self.strangers.items() if it[1] is None or it[1] != pairs.get(at)}
-        if command.name == "mend" and command.status in (DONE, SHARED):
+        if command.name == "mend" and command.status in (DONE, SHARED, UNCLEAR):
             them = [command.address] if command.address is not None else [*self.left_alone, *(at for at, it in self.strangers.items() if it[0] in MENDS)]
-            for at in {*them} - {*report["left_alone"]}:
+            for at in {*them} - {*report["left_alone"]} - addresses_in(self.sites[len(command.before)].others if command.address is None else ()):
                 self.left_alone = [it for it in self.left_alone if it != at]
                 self.strangers.pop(at, None)
         turns = (*command.before, command)
@@ -380,12 +445,13 @@ class Bus:
             self.missing, self.silent = {(it, pairs.get(it)) for it in report["missing"]}, set()
             self.there = {it for it in pairs.items() if it not in self.missing and it[0] not in self.strangers}
             self.unaddressed = report["unaddressed"]
+        if command.name == "clear" and command.status in (DONE, NOT_CLEARED):
+            self.strangers, self.left_alone, self.checked, self.missing = odd_of(report), [], None, set()
+            self.there, self.silent, self.unaddressed = set(), set(), report["unaddressed"]
         if command.name == "replace" and command.status == DONE:
             self.left_alone, self.unaddressed = [it for it in self.left_alone if it != command.address], None
             self.strangers.pop(command.address, None)
             self.there |= {it for it in pairs.items() if it[0] == command.address}
-            if old and command.address in pairs:
-                places.hand_over(self.names, old, pairs[command.address])
 
     def stop(self) -> None:
         """Stops what goes on, and the walk."""
@@ -446,6 +512,7 @@ class Bus:
     def state(self) -> dict[str, typing.Any]:
         """All that a page shows."""
         with self.lock:
+            self.refresh()
             trouble, them, spare = self.trouble, [], []
             try:
                 names = places.read(self.names)

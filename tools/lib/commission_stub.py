@@ -4,8 +4,8 @@
 The file of the records is JSON, a random address for each short one. The file that BUS names, or else `bus.json` beside the records, has
 the random addresses of the gear that are there. A frame is put for each gear; while a file `hold` lies beside that one, it waits at the
 second. A file `odd` there has short addresses at which several gear answer, of which `mend` leaves those that a file `stuck` has; a file
-`dark` has those at which none does. A run asks those that a file `asked` has for their random addresses before all else. It gives
-addresses of its block, and gives up as often as a file `lost` has members.
+`dark` has those at which none does, a file `unclear` those at which that is not clear. A run asks those that a file `asked` has for their random addresses before all else. It gives
+addresses of its block, and gives up as often as a file `lost` has members. After a `clear` those of `stuck` still answer.
 """
 
 import contextlib
@@ -77,7 +77,8 @@ def run(file: pathlib.Path, records: dict[str, str], gear: list[str], block: str
         say(f"{number} gear found, {9 * number} frames, {64 - number} addresses left")
     for it in beside("odd"):
         say(f"{it} - a gear answers, but its random address was not heard; left alone")
-    ended("shared" if beside("odd") else "all-found", 13 if beside("odd") else 0, records, left_alone=beside("odd"))
+    end, status = ("shared", 13) if beside("odd") else ("unclear", 15) if beside("unclear") else ("all-found", 0)
+    ended(end, status, records, left_alone=[*beside("odd"), *beside("unclear")])
 
 
 def check(records: dict[str, str], gear: list[str]) -> None:
@@ -87,10 +88,11 @@ def check(records: dict[str, str], gear: list[str]) -> None:
         say(f"{it} {records[str(it)]} missing")
     strangers = [it for it in gear if it not in records.values()]
     others = [{"address": 63 - at, "is": "stranger", "random": it} for at, it in enumerate(strangers)]
-    others += [{"address": it, "is": "unclear" if str(it) in records else "unclear-strangers", "random": None} for it in beside("odd")]
+    others += [{"address": it, "is": "unclear" if str(it) in records else "unclear-strangers", "random": None} for it in beside("odd") + beside("unclear")]
     if not gear:
         ended("nobody-answered", 10, records, missing=missing, unaddressed=False)
-    end, status = ("shared", 13) if beside("odd") else ("not-as-recorded", 1) if missing or others else ("as-recorded", 0)
+    end, status = ("unclear", 15) if beside("unclear") else ("not-as-recorded", 1) if missing or others else ("as-recorded", 0)
+    end, status = ("shared", 13) if beside("odd") else (end, status)
     ended(end, status, records, missing=missing, strangers=others, unaddressed=False)
 
 
@@ -106,7 +108,20 @@ def mend(records: dict[str, str], words: tuple[str, ...]) -> None:
     for it in left:
         if it in beside("stuck"):
             say(f"{it} - given up: no gear was told apart any more")
-    ended("shared" if left else "mended", 13 if left else 0, records, left_alone=left)
+    end, status = ("shared", 13) if left else ("unclear", 15) if beside("unclear") else ("mended", 0)
+    ended(end, status, records, left_alone=[*left, *beside("unclear")])
+
+
+def clear(file: pathlib.Path, words: tuple[str, ...]) -> None:
+    if "--yes" not in words:
+        sys.exit(2)
+    for it in option("--records", words):
+        with contextlib.suppress(FileNotFoundError):
+            os.rename(it, f"{it}.before-1")
+    put("A900")
+    bus().with_name("odd").write_text("[]")
+    left = [{"address": it, "is": "stranger", "random": None} for it in beside("stuck")]
+    ended("not-cleared" if left else "cleared", 14 if left else 0, {}, strangers=left, unaddressed=True)
 
 
 def replace(file: pathlib.Path, records: dict[str, str], gear: list[str], address: str) -> None:
@@ -157,6 +172,8 @@ def main(task: str, *words: str) -> None:
             identify(int(words[-1]))
         elif task == "mend":
             mend(records, words)
+        elif task == "clear":
+            clear(file, words)
         elif task == "replace":
             replace(file, records, gear, next(it for it in words if it.isdigit()))
         else:

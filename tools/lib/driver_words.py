@@ -82,24 +82,25 @@ def port_of(word: str) -> int:
     return int(word)
 
 
-def file_of(name: str, given: list[str]) -> typing.BinaryIO | None:
-    """The file that is given to an option, made anew, or None where none is."""
-    if not given:
-        return None
-    if len(given) != 1 or not given[0]:
+def path_of(name: str, given: list[str]) -> str | None:
+    """The path that is given to an option, or None if none is."""
+    if given and (len(given) != 1 or not given[0]):
         raise BadWord(f"one {name} FILE is wanted, and not {len(given)}" if given[0] else f"{name} has no FILE")
-    try:
-        return open(given[0], "wb", buffering=0)
-    except OSError as why:
-        raise BadWord(f"{name} {given[0]}: {why.strerror}") from why
+    return given[0] if given else None
 
 
 @contextlib.contextmanager
-def files_of(given: dict[str, list[str]]) -> typing.Iterator[dict[str, typing.BinaryIO]]:
-    """The files that are wanted of a run, by the names of their options without dashes."""
-    with contextlib.ExitStack() as opened:
-        files = {name[2:]: file_of(name, given[name]) for name in FILES}
-        yield {name: opened.enter_context(file) for name, file in files.items() if file}
+def files_of(given: dict[str, list[str]], words: list[str], driver: list[str]) -> typing.Iterator[dict[str, typing.BinaryIO]]:
+    """The files that are wanted of a run with these words over this driver, made anew, by the names of their options without dashes."""
+    paths = {name: path for name in FILES if (path := path_of(name, given[name]))}
+    if not paths:
+        yield {}
+        return
+    # No run that wants none waits until what judges them is loaded.
+    from lib import anew
+
+    with anew.files(paths, parted(words, "--records")[1]["--records"], driver) as files:
+        yield {name[2:]: file for name, file in files.items()}
 
 
 def program_of(path: str | None) -> tuple[str, int]:

@@ -4,14 +4,17 @@ import contextlib
 import json
 import math
 import os
+import re
 import signal
 import subprocess
 import sys
+import threading
 import time
 import types
 import typing
 
 from lib import ROOT, relay, telling
+from lib.standard import UNWRITTEN, say
 
 # The signals that are passed on to the program.
 PASSED = (signal.SIGTERM, signal.SIGHUP, signal.SIGINT)
@@ -22,15 +25,11 @@ SAME = 0.3
 # How many seconds a driver has for an answer, if nothing else is said.
 ANSWERS = 10
 # The exit statuses that are not the program's.
-UNWRITTEN, AT_FAULT, NOT_STARTED = 3, 4, 127
+AT_FAULT, NOT_STARTED = 4, 127
+# What a program says if its input ends, as it does when a signal asks for an end in order.
+INPUT_ENDED = re.compile(rb"error: line \d+ of the driver: end of input\n?")
 # A process that joins: behind it stand the folder of this package, and what `join` takes as JSON.
 ALONE = "import json, sys; sys.path[0] = sys.argv[1]; from lib import joining; sys.exit(joining.join(*json.loads(sys.argv[2])))"
-
-
-def say(text: str) -> None:
-    """Says something on standard error. Where that is gone, as with a closed terminal, the run goes on all the same."""
-    with contextlib.suppress(OSError):
-        os.write(2, os.fsencode(f"{text}\n"))
 
 
 class Signals:
@@ -88,13 +87,13 @@ class Signals:
         self.add(self.came[0], time.monotonic())
 
 
-def started(title: str, what: str, words: list[str]) -> subprocess.Popen[bytes] | None:
-    """A process with a pipe from it and one to it, or None.
+def started(title: str, what: str, words: list[str], says: int | None = None) -> subprocess.Popen[bytes] | None:
+    """A process with a pipe from it and one to it, or None. What it says goes there, or where this process says something.
 
     It has a session of its own: an interrupt from the terminal comes here, and from here once to the program alone, so that the
     driver can end in order. It ignores SIGPIPE, so that it sees an error where it writes to somebody who is gone.
     """
-    how = {"start_new_session": True, "restore_signals": False, "bufsize": 0}
+    how = {"stderr": says, "start_new_session": True, "restore_signals": False, "bufsize": 0}
     try:
         return subprocess.Popen(words, stdin=subprocess.PIPE, stdout=subprocess.PIPE, **how)
     except (OSError, ValueError) as why:
@@ -102,9 +101,26 @@ def started(title: str, what: str, words: list[str]) -> subprocess.Popen[bytes] 
         return None
 
 
-def end(title: str, driver: subprocess.Popen[bytes]) -> bool:
-    """Ends the input of a driver, waits for its end, and hastens it where it takes too long. Whether it ended by itself."""
+def drain(driver: subprocess.Popen[bytes]) -> None:
+    """Reads what nobody waits for, so that the driver can write it, and end."""
+    with contextlib.suppress(OSError):
+        while os.read(driver.stdout.fileno(), relay.MUCH):
+            pass
+
+
+def pass_said(program: subprocess.Popen[bytes], signals: Signals) -> None:
+    """Passes on what a program says, but not that its input has ended if a signal asked for that."""
+    for line in program.stderr:
+        if not (signals.is_to_end() and INPUT_ENDED.fullmatch(line)):
+            say(os.fsdecode(line), "")
+
+
+def end(title: str, driver: subprocess.Popen[bytes], is_at_fault: bool = False) -> bool:
+    """Ends the input of a driver, waits for its end, and hastens it where it takes too long. Whether it ended by itself. What it writes is
+    looked at no more if it is at fault."""
     relay.close(driver.stdin)
+    if is_at_fault:
+        threading.Thread(target=drain, args=(driver,), daemon=True).start()
     is_hastened = False
     for number, word in ((signal.SIGTERM, "terminated"), (signal.SIGKILL, "killed")):
         try:
@@ -118,13 +134,13 @@ def end(title: str, driver: subprocess.Popen[bytes]) -> bool:
 
 
 def say_end(title: str, driver: subprocess.Popen[bytes], fault: relay.Fault | None, is_by_itself: bool) -> None:
-    """Says what was wrong with a driver that has ended; the cause of all else comes last."""
+    """Says what was wrong with a driver that has ended, but for a signal that was sent to hasten it; the cause of all else comes last."""
     status = driver.returncode
     ended = f"the driver ended with status {status}" if status >= 0 else f"signal {-status} ended the driver"
     if isinstance(fault, relay.Gone) and is_by_itself:
         say(f"{title}: {ended} {fault}")
         return
-    if status:
+    if status > 0 or status and is_by_itself:
         say(f"{title}: {ended}")
     if isinstance(fault, relay.Gone):
         say(f"{title}: the driver closed its standard input or output {fault}")
@@ -146,15 +162,20 @@ def join(
     drives = started(title, "driver", driver)
     if not drives:
         return NOT_STARTED
-    runs = started(title, "program", program)
+    runs = started(title, "program", program, subprocess.PIPE if is_gentle else None)
     if not runs:
         say_end(title, drives, None, end(title, drives))
         return NOT_STARTED
     signals.begin(runs)
     tells = telling.Run(**files) if files else None
     between = relay.Relay(runs, drives, seconds, signals, tells)
+    said = threading.Thread(target=pass_said, args=(runs, signals), daemon=True)
+    if is_gentle:
+        said.start()
     between.run()
-    is_by_itself = end(title, drives)
+    if is_gentle:
+        said.join(PATIENCE)
+    is_by_itself = end(title, drives, between.fault is not None)
     between.look_for_rest()
     if tells:
         tells.end(runs.returncode if program[1:2] == ["run"] and not between.fault else None)

@@ -6,7 +6,7 @@ import pathlib
 import signal
 import typing
 
-from lib import ROOT, call_words, proving
+from lib import ROOT, call_words, proving, standard
 
 REFUSED, INTERRUPTED = proving.REFUSED, proving.INTERRUPTED
 Interrupted = proving.Interrupted
@@ -15,7 +15,7 @@ KEPT = (signal.SIGTERM, signal.SIGHUP, signal.SIGINT)
 
 
 def say(text: str) -> None:
-    proving.say(text)
+    standard.say(text)
 
 
 def is_known(name: str) -> bool:

@@ -20,7 +20,7 @@ import threading
 import time
 from collections.abc import Callable, Iterator
 
-from lib import ROOT
+from lib import ROOT, standard
 
 CRATES = ROOT / "crates"
 # What the gate proves, and the programs beside it. Each has a list of its crates.
@@ -138,7 +138,7 @@ def processors() -> int:
 
 
 def say(text: str) -> None:
-    print(text, file=sys.stderr, flush=True)
+    standard.say(text)
 
 
 @contextlib.contextmanager

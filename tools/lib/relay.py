@@ -12,8 +12,8 @@ if typing.TYPE_CHECKING:
 
 # What the lines of a program begin with that are the driver's.
 PUT = b"put "
-# How many bytes are shown of a line of a driver.
-SHOWN = 16
+# How many bytes a line of a driver has at most, and how many are shown of one.
+LONGEST = SHOWN = 16
 # How much is read at once of a program, and of a driver.
 MUCH, LITTLE = 65536, 64
 # How many seconds a program has to end by itself after the first signal.
@@ -191,15 +191,19 @@ class Relay:
             raise Fault(f"the driver does not read its lines, of which {self.frames} were written")
 
     def hear(self) -> None:
-        """Takes what the driver wrote, and passes it on as far as it was asked for: up to a line feed. The program judges it."""
+        """Takes what the driver wrote, and passes it on as far as it was asked for: up to a line feed. The program judges it, and sees of a line
+        that is too long as much as tells that."""
         more = os.read(self.driver.stdout.fileno(), LITTLE)
         if not more:
             self.hear_end()
             return
         text, feed, rest = more.partition(b"\n") if self.is_awaited() else (b"", b"", more)
         self.check_asked(rest)
+        room = LONGEST + 1 - len(self.told)
         self.told += text
-        self.answer(text + feed)
+        self.answer((text + feed)[:room])
+        if len(self.told) > LONGEST:
+            raise Fault(f"the driver answered frame {self.frames} with a line of more than {LONGEST} bytes: {shown(self.told)}")
         if feed:
             if self.tells:
                 self.tells.answer(self.told)

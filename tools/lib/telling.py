@@ -20,7 +20,7 @@ ALONE = {0xA1: "TERMINATE", 0xA7: "RANDOMISE", 0xA9: "COMPARE", 0xAB: "WITHDRAW"
 SEARCH = {0xB1: "SEARCHADDRH", 0xB3: "SEARCHADDRM", 0xB5: "SEARCHADDRL"}
 PARTS = {0xC2: "H", 0xC3: "M", 0xC4: "L"}
 # How a run that ended with such a status stands.
-STANDS = {0: "all-found", 6: "block-full", 7: "gave-up", 8: "halt-conflict", 13: "all-found"}
+STANDS = {0: "all-found", 6: "block-full", 7: "gave-up", 8: "halt-conflict", 13: "all-found", 15: "all-found"}
 # What a finding says, by its name, with its source behind it: the help of ./dali_sim audit, in which a text may go on in lines further in.
 HELP, GOES_ON = ROOT / "tools/lib/help/dali_sim-audit.txt", re.compile(r"\n {24}(?=\S)")
 FINDING = re.compile(r"^  ([a-z-]+) +((?:is|tells) .*) \((?:10[12],|profile).*\)$", re.M)

@@ -85,7 +85,7 @@ class Walk:
     def blink(self) -> None:
         try:
             self.own = self.bus.start("identify", self.address())
-        except commanding.Busy:
+        except (commanding.Busy, OSError):
             self.rests = "why:busy"
 
     def is_at_fault(self, command: "commanding.Command") -> bool:

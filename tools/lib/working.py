@@ -8,10 +8,9 @@ import json
 import os
 import re
 import subprocess
-import sys
 import typing
 
-from lib import buildings, commanding, places
+from lib import buildings, commanding, places, standard
 
 # How often it is looked how far all are, in seconds; and how often that is said if no terminal shows it.
 LOOKS, SAYS = 0.5, 20
@@ -50,7 +49,7 @@ def said_of(command: commanding.Command) -> str | None:
 
 
 class Job:
-    """What is done on one bus, by each of its controllers in turn; a replacement is of all of them at once.
+    """What is done on one bus, by each of its controllers in turn; a replacement and a clearing are of all of them at once.
 
     reports   what the program wrote of each, as an object
     statuses  what the end of each counts for
@@ -88,7 +87,7 @@ class Job:
         if self.command == "replace":
             bus.read_table()
         for _ in range(TRIES if self.command == "run" else 1):
-            bus.begin(self.command, self.address, self.missing)
+            bus.start(self.command, self.address, commanding.words_of(bus.site_of(self.command, self.address), self.command, self.address, self.missing))
             if self.stopped:
                 bus.stop()
             bus.idle.wait()
@@ -155,7 +154,7 @@ class View:
     """Shows how far all are: on a terminal a line each, over and over; else a line of each that has ended."""
 
     def __init__(self, jobs: list[Job]) -> None:
-        self.jobs, self.is_terminal, self.shown, self.told, self.looks = jobs, sys.stderr.isatty(), 0, set(), 0
+        self.jobs, self.is_terminal, self.shown, self.told, self.looks = jobs, os.isatty(2), 0, set(), 0
 
     def summary(self, ended: set[Job]) -> str:
         at_work = [it for it in self.jobs if it not in ended and it.bus]
@@ -171,20 +170,15 @@ class View:
         else:
             self.looks += 1
             lines += [self.summary(ended)] if not is_last and self.looks % int(SAYS / LOOKS) == 0 else []
-            self.say("".join(f"{it}\n" for it in lines))
+            standard.say("".join(f"{it}\n" for it in lines), "")
 
     def rewrite(self, lines: list[str], going: list[str], ended: set[Job]) -> None:
         """On a terminal: who has ended stays there, and below it is said how far the others are, as many as there is room for."""
         width, height = (it or 80 for it in os.get_terminal_size(2))
         below = [it[: width - 1] for it in (*going[: max(1, height - 2)], self.summary(ended))] if going else []
         up = f"\x1b[{self.shown}F" if self.shown else ""
-        self.say(f"{up}\x1b[J" + "".join(f"{it}\n" for it in [*lines, *below]))
+        standard.say(f"{up}\x1b[J" + "".join(f"{it}\n" for it in [*lines, *below]), "")
         self.shown = len(below)
-
-    def say(self, text: str) -> None:
-        with contextlib.suppress(OSError):
-            sys.stderr.write(text)
-            sys.stderr.flush()
 
 
 def work(jobs: list[Job], at_once: int, came: list[int]) -> None:
@@ -212,9 +206,7 @@ def there_of(reports: list[dict[str, typing.Any]], others: list[str]) -> tuple[d
     these blocks were not asked. Random addresses are drawn, so two luminaires of a building may have one; on one bus they differ."""
     odd = {it["address"]: it["random"] if it["is"] in ("another", "stranger") else None for one in reports for it in one["strangers"]}
     gone = {*odd, *(it for one in reports for it in one["missing"])}
-    for block in others:
-        first, last = map(int, block.split("-"))
-        gone |= set(range(first, last + 1))
+    gone |= commanding.addresses_in(others)
     there = {it["random"]: it["address"] for one in reports for it in one["table"] if it["address"] not in gone}
     return there | {random: at for at, random in odd.items() if random}, {at for at, random in odd.items() if not random}
 

@@ -1,9 +1,8 @@
 """The programs that the launchers start, as a package has them. A clone has another file in its place."""
 
 import pathlib
-import sys
 
-from lib import ROOT
+from lib import ROOT, standard
 
 REFUSED, INTERRUPTED = 126, 130
 FOLDER = ROOT / "programs"
@@ -14,7 +13,7 @@ class Interrupted(Exception):
 
 
 def say(text: str) -> None:
-    print(text, file=sys.stderr, flush=True)
+    standard.say(text)
 
 
 def is_known(name: str) -> bool:
