@@ -61,7 +61,7 @@ pub enum Failure {
     /// No short address is mended, for what is so of this one.
     #[error("not mended, nothing was changed: short address {at}: {1}", at = .0.number())]
     NotMended(Short, MendRefusal),
-    #[error("gear share a short address, or have no random one: call ./dali_commission mend, with the words of run")]
+    #[error("gear share a short address, or have no random one: call ./dali_commission mend, with the options of run")]
     Shared,
     /// Gear still answer at short addresses, which were said.
     #[error("gear still answer at short addresses: call clear again")]
