@@ -56,6 +56,16 @@ class Site:
     again: int = 0
 
 
+def troubled(seed: int) -> Site:
+    """A site with troubles of most kinds, as the seed says."""
+    chance = random.Random(seed)
+    blocks = [(16 * it, 16 * it + 15) for it in range(chance.randint(1, 3))]
+    gear, rounds = chance.randint(1, 12), chance.randint(200, 600)
+    kinds = ("lost", "noise", "destroyed", "collision", "lapse", "power", "restart", "foreign", "arc")
+    chances = {it: chance.uniform(0, 0.03) for it in kinds}
+    return Site(gear, blocks, seed, rounds, usual_draws(gear), chances, survey=chance.random() < 0.5)
+
+
 def usual_rounds(gear: int, controllers: int) -> int:
     """About as many rounds as the controllers take until all gear have addresses, where nothing disturbs them."""
     return min(MOST_ROUNDS, 120 * gear * controllers)

@@ -120,7 +120,7 @@ gone_on e h None = finished e h
 abbrev pub heard_once : Eraser → Answer → Eraser
 heard_once e h = gone_on e h (frame_at e.stage (min (e.sent + 1) 255))
 
--- a lost frame lets the transaction begin again, eight times in a row at most
+-- a lost frame lets the transaction begin again, seven times in a row at most
 abbrev pub lost_once : Eraser → Eraser
 lost_once e = record {
   stage = (if nat_le 8 (min (e.lost + 1) 255) then stage.Ended else e.stage);

@@ -1,7 +1,7 @@
 use Rattle.std.specs.Prelude.{◌≡◌, ◌≢◌, ◌≤◌, ◌⊎◌, ℕ, false, List, [], ◌∷◌, length, string_bytes}
 use Rattle.std.specs.declared.alloc.Global.{Global}
 use Rattle.std.specs.declared.string.String.{String}
-use Rattle.dali_script.specs.Records.{Kept, Has}
+use Rattle.dali_script.specs.Records.{Kept, HasAddress}
 use Rattle.dali_replacement.specs.declared.tables.Giver.TheVariants.{One}
 use Rattle.dali_replacement.specs.Tables.{giver_from}
 use Rattle.dali_commissioning.specs.declared.conducting.PassEnd.{PassEnd}
@@ -62,4 +62,4 @@ AreAside made saw (name ∷ more) x y =
 -- a table has a gear at a short address
 abbrev pub IsAnywhere : ℕ → List Kept → Type 0
 IsAnywhere a [] = ⊥
-IsAnywhere a (k ∷ more) = ((r : ℕ) × Has k.enrolled (a, r)) ⊎ IsAnywhere a more
+IsAnywhere a (k ∷ more) = HasAddress k.enrolled a ⊎ IsAnywhere a more

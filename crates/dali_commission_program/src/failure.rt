@@ -61,7 +61,7 @@ pub enum Failure {
     /// No short address is mended, for what is so of this one.
     #[error("not mended, nothing was changed: short address {at}: {1}", at = .0.number())]
     NotMended(Short, MendRefusal),
-    #[error("gear share a short address, or have no random one: call ./dali_commission mend, with the words of run")]
+    #[error("gear share a short address, or have no random one: call ./dali_commission mend, with the options of run")]
     Shared,
     /// What was heard at a short address, asked again and again, tells neither one gear nor several.
     #[error("it is unclear what answers at a short address: check once more on a quiet bus")]

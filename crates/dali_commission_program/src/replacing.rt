@@ -1,7 +1,8 @@
 //! `replace`: a new luminaire gets the short address of one that is gone.
 
 ghost use Rattle.std.specs.Prelude.{◌≡◌, ◌↔◌, ◌⊎◌, ℕ, List, true, Some, IsTrue, IfOk, OnOk};
-ghost use Rattle.std.specs.Prelude.{string_bytes, option_map, slice_get};
+ghost use Rattle.std.specs.Prelude.{string_bytes, option_map, slice_get, MatchOption};
+ghost use Rattle.dali_script.specs.Records.{HasAddress};
 ghost use Rattle.dali_replacement.specs.Permit.{confirmed_at, others_at};
 ghost use Rattle.dali_replacement.specs.Tables.{IsGathered, Lacks};
 ghost use Rattle.dali_commission_program.specs.Calls.{Lies, Read};
@@ -35,13 +36,21 @@ use std::alloc::Global;
 use std::io;
 use std::io::{Read, Write};
 
+/// Whether this table has the short address.
+#[tactic(auto, using(dali_script::proofs::Lists::address_found))]
+fn has_address(table: &Kept, short: Short) -> bool
+    ensures { IsTrue result ↔ HasAddress table.now.enrolled short }
+{
+    table.enrolled_at(short).is_some()
+}
+
 /// Whether a table has this short address.
 fn is_anywhere(tables: &[Kept], short: Short) -> bool
-    ensures { IsTrue result → IsAnywhere short tables.now }
+    ensures { IsTrue result ↔ IsAnywhere short tables.now }
 {
     match tables {
         [] => false,
-        [kept, more @ ..] => kept.enrolled_at(short).is_some() || is_anywhere(more, short),
+        [table, more @ ..] => has_address(table, short) || is_anywhere(more, short),
     }
 }
 
@@ -489,8 +498,9 @@ pub(crate) fn note_first<F: Stores>(
     name: Option<&str>,
     report: &mut Report,
 )
-    ensures { (report.new ≡ report.old) ⊎ ((kept : Kept) × (name : List ℕ) × F.saw stores.now (Read name kept)
-        × (report.new.table.items ≡ own_rows kept.reserved (rows kept.enrolled))) }
+    ensures { MatchOption name.entry (report.new ≡ report.old) (λ it. (report.new ≡ report.old)
+        ⊎ ((kept : Kept) × F.saw stores.now (Read it.now kept)
+        × (report.new.table.items ≡ own_rows kept.reserved (rows kept.enrolled)))) }
 {
     if let Some(name) = name {
         if let Ok(kept) = lend_copy(alloc, stores, name, Reading) {

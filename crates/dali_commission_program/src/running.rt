@@ -1,6 +1,6 @@
 //! `run`: gear are given short addresses.
 
-ghost use Rattle.std.specs.Prelude.{◌≡◌, ◌+◌, ◌-◌, Err, IfOk, IsTrue, OnOk, length};
+ghost use Rattle.std.specs.Prelude.{◌≡◌, ◌↔◌, ◌+◌, ◌-◌, Err, IfOk, IsTrue, OnOk, length};
 ghost use Rattle.dali_commissioning.specs.Drivers.{talk_of};
 ghost use Rattle.dali_commission_program.specs.declared.failure.Failure.TheVariants.{Shared};
 ghost use Rattle.dali_commission_program.specs.Failures.{ended_as};
@@ -127,7 +127,7 @@ fn came_to<K: Keep, R: Read, W: Write>(
 
 /// Whether it ended so because gear share a short address.
 fn has_shared(ended: &Result<(), Failure>) -> bool
-    ensures { IsTrue result → ended.now ≡ Err Shared }
+    ensures { IsTrue result ↔ (ended.now ≡ Err Shared) }
 {
     match ended {
         Ok(()) => false,

@@ -183,8 +183,7 @@ pub trait Stores: Sized {
     fn rename(&mut self, alloc: Global, from: &str, to: &str) -> Result<(), Failure>
         ensures { made self.old self.new (Renamed from.now to.now) };
 
-    /// Lets those read and write what has one name who may read and write what has another one, as far as the system
-    /// allows that.
+    /// Copies to `name` who may read and write `to`, as far as the system allows that.
     fn liken(&mut self, name: &str, to: &str)
         ensures { made self.old self.new (Likened name.now to.now) };
 

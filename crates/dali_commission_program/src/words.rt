@@ -78,14 +78,14 @@ answer. You may stop it at any moment: the same line goes on. A run then begins 
 const DRIVER: Word = Word {
     name: "driver",
     value: "COMMAND",
-    help: "The driver of the bus, which the launcher starts; without it the lines are yours",
+    help: "The driver of the bus, which the launcher starts; without it you type the driver's answers",
     kind: WordKind::Option(Value::Text),
 };
 
 const DRIVER_TIMEOUT: Word = Word {
     name: "driver-timeout",
     value: "SECONDS",
-    help: "How long the driver may say nothing before the launcher ends the run, 10 seconds if nothing is said",
+    help: "How long the driver may take to answer before the launcher ends the run; the default is 10 s",
     kind: WordKind::Option(Value::Text),
 };
 
@@ -106,7 +106,7 @@ const QUIET: Word = Word {
 const OTHERS: Word = Word {
     name: "others",
     value: "BLOCK",
-    help: "The block of another controller, whose addresses no census asks; may be given again",
+    help: "The block of another controller, whose addresses the census does not query; may be given again",
     kind: WordKind::Again,
 };
 

@@ -117,8 +117,8 @@ impl State {
         }
     }
 
-    /// Whether gear at this number may be visited: once gear are searched any, before that those for which an address
-    /// is reserved.
+    /// Whether gear at this number may be visited: in a search at each number, among the visits of Start at one for
+    /// which an address is reserved, while short addresses are asked at none.
     fn may_visit(&self, kept: &Records<'_>, number: Random24) -> bool
         ensures { IsTrue result ↔ IsVisitedOn (way_on self.now.leg) kept.now number (is_searching self.now.leg) }
     {

@@ -1,12 +1,12 @@
 //! What the first lines of a script set up: whether it is a bench, and the plan.
 
-ghost use Rattle.std.specs.Prelude.{◌≡◌, ◌+◌, ◌<◌, ◌≤◌, List, [], ◌∷◌, ◌++◌, length, Ok, IfOk, IfErr, IfSome};
+ghost use Rattle.std.specs.Prelude.{◌≡◌, ◌+◌, ◌<◌, ◌≤◌, List, [], ◌∷◌, ◌++◌, length, Ok, Err, IfOk, IfErr, IfSome};
 ghost use Rattle.std.specs.Prelude.{MatchOption};
 ghost use Rattle.dali_grammar.specs.Lines.{lines_of, numbered_after};
 ghost use Rattle.dali_grammar.specs.ReplayFault.{fault_of};
 ghost use Rattle.dali_grammar.specs.declared.fault.ReplayFault.TheVariants.{BadLine};
 ghost use Rattle.dali_grammar.specs.Heading.{draws_of, shown};
-ghost use Rattle.dali_grammar.specs.Setting.{PlansNot, planned, next_as, then_draws, used_of, then_used};
+ghost use Rattle.dali_grammar.specs.Setting.{AtLine, PlansNot, planned, next_as, then_draws, used_of, then_used};
 
 use crate::fault::Stop;
 use crate::heading::{Heading, draws_of, heading_of, is_used_line, used_of};
@@ -127,8 +127,8 @@ fn next_used(script: &mut Script) -> Result<Option<Used>, Stop>
     ensures taken { IfOk result (λ one. IfSome one
         (λ _. length (numbered_after script.new.read script.new.rest.now)
         < length (numbered_after script.old.read script.old.rest.now))) }
-    ensures refused { IfErr result (λ stop. (us : List Used)
-        → PlansNot (used_of us (numbered_after script.old.read script.old.rest.now)) (fault_of stop)) }
+    ensures refused { IfErr result (λ stop. (fault_of stop ≡ BadLine script.new.read) × ((us : List Used)
+        → used_of us (numbered_after script.old.read script.old.rest.now) ≡ Err (AtLine script.new.read))) }
     ensures range { script.new.read + length script.new.rest.now ≤ 1048576 }
 {
     let Some(line) = script.ahead() else {

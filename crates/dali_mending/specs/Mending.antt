@@ -147,7 +147,8 @@ abbrev pub heard_once : Mending → Forward → Answer → Mending
 heard_once m f h =
     let n = with_entry m f h in gone_on n (frame_next n.short n.course.stage n.entries)
 
--- A LOST FRAME lets the transaction begin again; the eighth in a row ends the mending.
+-- A LOST FRAME lets the transaction begin again; if that was lost eight times in a row, the mending
+-- ends.
 abbrev pub lost_once : Mending → Mending
 lost_once m = record m {
   course =

@@ -69,7 +69,8 @@ pub record StagesSayWhatWasSentAndFound : Type 0 where
       → Lawful b xs t e.frame → finding_of (t ++ e ∷ []) ≡ finding_at (stage_of (t ++ e ∷ []))
 
 -- A transaction begins with TERMINATE, SEARCHADDRH, QUERY RANDOM ADDRESS (H) or direct arc power,
--- and none of these comes later in one, but SEARCHADDRH in a hunt and once gear were initialised.
+-- and none of these comes later in one, but SEARCHADDRH: directly after the second INITIALISE, and
+-- as a question of a hunt or a roll call.
 pub record TransactionsBeginOnce : Type 0 where
   pub begins : (b : Block) (xs : List Assignment) (f : Forward) → Lawful b xs [] f ↔ IsFirst f
   pub first : (f : Forward)
@@ -98,8 +99,8 @@ pub record OpeningsBeginWithTerminate : Type 0 where
       → IsBeforeDraw (stage_of t) ⊎ (stage_of t ≡ RandomisedOnce)
 
 -- COMPARE, QUERY SHORT ADDRESS, PROGRAM SHORT ADDRESS and WITHDRAW come only after all three search
--- commands, but for the COMPARE before a draw; PROGRAM of an address only if gear without short
--- address answered, and with what is reserved for their number.
+-- commands, but the COMPARE of a draw after the first two; PROGRAM of an address only if gear
+-- without short address answered, and with what may be given to their number.
 pub record GearAreSearchedAnew : Type 0 where
   pub compare : (b : Block) (xs : List Assignment) (t : List Entry) (f : Forward) → Lawful b xs t f
       → command_of f ≡ Compare

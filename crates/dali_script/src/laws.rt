@@ -26,8 +26,8 @@ pub fn stages_say_what_was_sent_and_found()
     ensures { StagesSayWhatWasSentAndFound }
 {}
 
-/// A transaction begins with TERMINATE, SEARCHADDRH, QUERY RANDOM ADDRESS (H) or direct arc power, and none of these
-/// comes later in one, but SEARCHADDRH after INITIALISE or in a hunt.
+/// A transaction begins with TERMINATE, SEARCHADDRH, QUERY RANDOM ADDRESS (H) or direct arc power. None of these comes
+/// later in one, but SEARCHADDRH: directly after the second INITIALISE, and as a question of a hunt or a roll call.
 pub fn transactions_begin_once()
     ensures { TransactionsBeginOnce }
 {}
@@ -37,9 +37,11 @@ pub fn openings_begin_with_terminate()
     ensures { OpeningsBeginWithTerminate }
 {}
 
-/// QUERY SHORT ADDRESS, PROGRAM SHORT ADDRESS and WITHDRAW come only after all three search commands, and COMPARE also
-/// in a hunt or a doubt. PROGRAM SHORT ADDRESS comes only if the gear that was found has no short address, and with the
-/// address that is reserved for its random address.
+/// COMPARE, QUERY SHORT ADDRESS, PROGRAM SHORT ADDRESS and WITHDRAW come only after all three search commands. But the
+/// COMPARE of a draw comes after SEARCHADDRH and SEARCHADDRM alone.
+///
+/// PROGRAM SHORT ADDRESS comes only if the gear that was found has no short address, with an address that may be given
+/// to its random address. So may the address be at the QUERY SHORT ADDRESS after it, and at the WITHDRAW after that.
 pub fn gear_are_searched_anew()
     ensures { GearAreSearchedAnew }
 {}

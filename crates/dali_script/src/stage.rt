@@ -201,7 +201,7 @@ impl Stage {
     }
 
     /// How far it is once a command was sent and this was heard. None if it may not come next, for any sender.
-    pub(crate) fn led_by(self, command: Command, heard: Answer) -> Option<Stage>
+    pub fn led_by(self, command: Command, heard: Answer) -> Option<Stage>
         ensures comes { IsSome result ↔ (may_come self command ≡ true) }
         ensures stage { IfSome result (λ s. s ≡ next_stage self command heard) }
     {

@@ -1,2 +1,3 @@
 mod ListLemmas
 mod TellLemmas
+mod Places

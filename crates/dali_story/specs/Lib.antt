@@ -5,6 +5,7 @@ pub mod Lists
 pub mod Events
 pub mod Members
 pub mod Teller
+pub mod Places
 pub mod Stances
 pub mod Story
 pub mod Site

@@ -1,14 +1,11 @@
 use Rattle.std.specs.Prelude.{ℕ, List, [], ◌∷◌, ◌++◌, Option, Some, None, codes}
 use Rattle.dali_frame.specs.declared.frames.Answer.{Answer}
 use Rattle.dali_frame.specs.declared.frames.Answer.TheVariants.{Silence, Byte, Damaged}
-use Rattle.dali_special.specs.Command.{command_of}
 use Rattle.dali_gear.specs.Gear.{Gear}
 use Rattle.dali_events.specs.declared.event.Event.{Event}
 use Rattle.dali_events.specs.declared.event.Event.TheVariants as event
-use Rattle.dali_events.specs.declared.event.Sending.{Sending}
-use Rattle.dali_events.specs.Events.{sending, heard_in}
+use Rattle.dali_events.specs.Events.{heard_in}
 use Rattle.dali_story.specs.declared.teller.Counts.{Counts}
-use Rattle.dali_story.specs.declared.transactions.Running.{Running}
 use Rattle.dali_story.specs.Transactions.{counted, running_after, none_runs}
 use Rattle.dali_story.specs.RunGear.{Moment, befallen}
 use Rattle.dali_story.specs.Events.{opening, kind_of, members, trouble_of, changed_by}
@@ -38,17 +35,12 @@ bits_with (Some Silence) = 19
 bits_with (Some (Byte b)) = 30
 bits_with (Some Damaged) = 30
 
--- the transaction of the frame of an event
-abbrev pub running_with : Option Sending → Running → Running
-running_with None r = r
-running_with (Some s) r = running_after s.sender (command_of s.frame) r
-
 abbrev pub counts_after : Event → Counts → Counts
 counts_after e n = record {
   events = counted n.events 1;
   frames = counted n.frames (frames_in e);
   bits = counted n.bits (bits_with (heard_in e));
-  running = running_with (sending e) n.running;
+  running = running_after e n.running;
 }
 
 abbrev pub counts_first : Counts

@@ -1,142 +1,76 @@
-use Rattle.std.specs.Prelude.{ℕ, ◌+◌, min, List, ◌∷◌, Bool, true, false, not, ◌==◌, ◌&&◌, nat_lt}
-use Rattle.std.specs.Prelude.{if◌then◌else◌}
-use Rattle.dali_frame.specs.declared.frames.Forward.{Forward}
-use Rattle.dali_script.specs.declared.trace.Entry.{Entry}
-use Rattle.dali_script.specs.Scripts.{Script, steps, IsFront}
-use Rattle.dali_script.specs.Scripts as scripts
-use Rattle.dali_special.specs.declared.command.Part.TheVariants as part
+use Rattle.std.specs.Prelude.{ℕ, ◌+◌, min, Bool, not, ◌&&◌, ◌||◌}
+use Rattle.std.specs.Prelude.{Some, None, if◌then◌else◌}
+use Rattle.dali_frame.specs.declared.frames.Answer.{Answer}
+use Rattle.dali_frame.specs.declared.frames.Answer.TheVariants.{Silence}
 use Rattle.dali_special.specs.declared.command.Command.{Command}
-use Rattle.dali_special.specs.declared.command.Command.TheVariants as command
-use Rattle.dali_story.specs.declared.transactions.Mode.{Mode}
-use Rattle.dali_story.specs.declared.transactions.Mode.TheVariants.{Over, High, Hunt, Opening, Open}
+use Rattle.dali_special.specs.Command.{command_of}
+use Rattle.dali_arbiter.specs.Arbiter.{owns}
+use Rattle.dali_script.specs.declared.stage.Stage.{Stage}
+use Rattle.dali_script.specs.declared.stage.Stage.TheVariants.{Free, Over}
+use Rattle.dali_script.specs.Stages.{may_come, next_stage}
+use Rattle.dali_events.specs.declared.event.Event.{Event}
+use Rattle.dali_events.specs.declared.event.Event.TheVariants as event
+use Rattle.dali_events.specs.Happens.{keeps_bus}
 use Rattle.dali_story.specs.declared.transactions.Running.{Running}
 
 -- so many and so many more, as far as 64 bits go: no run comes so far
 abbrev pub counted : ℕ → ℕ → ℕ
 counted n more = min (n + more) 18446744073709551615
 
--- WHICH FRAMES BELONG TOGETHER. A log does not have it: it follows from who sends and what.
+-- WHICH FRAMES BELONG TOGETHER. In a run of a site it is the trace of the owner: so says the law in
+-- specs/Places. On a bench no controller owns the bus, and frames may be of no script.
 
--- SEARCHADDRH stays in a hunt and behind INITIALISE, and else begins a transaction
-abbrev pub searched : Mode → Mode
-searched Hunt = Hunt
-searched Opening = Opening
-searched Over = High
-searched High = High
-searched Open = High
-
--- SEARCHADDRL directly behind the first SEARCHADDRH begins a hunt
-abbrev pub hunted : Mode → Mode
-hunted High = Hunt
-hunted Hunt = Hunt
-hunted Opening = Opening
-hunted Over = Over
-hunted Open = Open
-
--- COMPARE stays in a hunt; behind INITIALISE it ends the opening
-abbrev pub compared : Mode → Mode
-compared Hunt = Hunt
-compared Over = Open
-compared High = Open
-compared Opening = Open
-compared Open = Open
-
--- any other frame that tells nothing new
-abbrev pub further : Mode → Mode
-further High = Open
-further Hunt = Hunt
-further Opening = Opening
-further Over = Over
-further Open = Open
-
-abbrev pub mode_after : Mode → Command → Mode
-mode_after m command.Terminate = Open
-mode_after m (command.Initialise t) = Opening
-mode_after m command.Randomise = Opening
-mode_after m command.Compare = compared m
-mode_after m command.Withdraw = further m
-mode_after m (command.SearchHigh byte) = searched m
-mode_after m (command.SearchMiddle byte) = further m
-mode_after m (command.SearchLow byte) = hunted m
-mode_after m (command.Program short) = Open
-mode_after m (command.Verify a) = further m
-mode_after m command.QueryShort = Open
-mode_after m (command.RandomByte a p) = Open
-mode_after m (command.Arc f) = Over
-mode_after m (command.Other f) = Over
-
--- whether SEARCHADDRH goes on with a transaction of so many frames: a hunt has at most eight, and
--- in a roll call and a draw it is the fourth
-abbrev pub has_room : Mode → ℕ → Bool
-has_room Hunt frames = nat_lt frames 8
-has_room Opening frames = frames == 3
-has_room Over frames = false
-has_room High frames = false
-has_room Open frames = false
-
--- whether a frame goes on with a transaction that is not over: it is none that begins one
-abbrev pub may_follow : Running → Command → Bool
-may_follow r command.Terminate = false
-may_follow r (command.Initialise t) = true
-may_follow r command.Randomise = true
-may_follow r command.Compare = true
-may_follow r command.Withdraw = true
-may_follow r (command.SearchHigh byte) = has_room r.mode r.frames
-may_follow r (command.SearchMiddle byte) = true
-may_follow r (command.SearchLow byte) = true
-may_follow r (command.Program short) = true
-may_follow r (command.Verify a) = true
-may_follow r command.QueryShort = true
-may_follow r (command.RandomByte a part.High) = false
-may_follow r (command.RandomByte a part.Middle) = true
-may_follow r (command.RandomByte a part.Low) = true
-may_follow r (command.Arc f) = false
-may_follow r (command.Other f) = false
-
--- A FURTHER FRAME of a script: one that stands behind others there. In a hunt, a roll call and a
--- draw SEARCHADDRH may.
-abbrev pub IsHighFirst : Script → Type 0
-IsHighFirst (scripts.Hunt r cs) = ⊥
-IsHighFirst (scripts.Call r cs) = ⊥
-IsHighFirst (scripts.Draw h m) = ⊥
-IsHighFirst _ = Unit {0}
-
-abbrev pub IsLater : Forward → Type 0
-IsLater f =
-    (s : Script) × (e : Entry) × (t : List Entry) × IsHighFirst s × IsFront (e ∷ t) f (steps s)
-
--- nothing follows direct arc power, and what is no addressing command
-abbrev pub is_over : Mode → Bool
-is_over Over = true
-is_over High = false
-is_over Hunt = false
-is_over Opening = false
-is_over Open = false
-
+-- A frame goes on with the transaction of its sender, who has not given up the bus since, if it
+-- may come next in the script, or if it may begin none.
 abbrev pub goes_on : Running → ℕ → Command → Bool
-goes_on r sender c = (not (is_over r.mode) && (r.sender == sender)) && may_follow r c
+goes_on r c x = owns r.owner c && (may_come r.stage x || not (may_come Free x))
+
+-- how far it is with the frame
+abbrev pub led : Stage → Command → Answer → Stage
+led s x h = if may_come s x then next_stage s x h else Over
 
 -- THE TRANSACTION OF A FRAME: the running one with a frame more, or the next one.
-abbrev pub further_frame : Running → ℕ → Command → Running
-further_frame r sender c = record {
+abbrev pub further_frame : Running → ℕ → Command → Answer → Running
+further_frame r c x h = record {
   begun = r.begun;
   frames = counted r.frames 1;
-  sender = sender;
-  mode = mode_after r.mode c;
+  owner = Some c;
+  stage = led r.stage x h;
 }
 
-abbrev pub first_frame : Running → ℕ → Command → Running
-first_frame r sender c = record {
+abbrev pub first_frame : Running → ℕ → Command → Answer → Running
+first_frame r c x h = record {
   begun = counted r.begun 1;
   frames = 1;
-  sender = sender;
-  mode = mode_after Over c;
+  owner = Some c;
+  stage = led Free x h;
 }
 
-abbrev pub running_after : ℕ → Command → Running → Running
-running_after sender c r =
-    if goes_on r sender c then further_frame r sender c else first_frame r sender c
+abbrev pub with_frame : Running → ℕ → Command → Answer → Running
+with_frame r c x h = if goes_on r c x then further_frame r c x h else first_frame r c x h
+
+-- nothing goes on with it, if so
+abbrev pub given_up : Running → Running
+given_up r = record { begun = r.begun; frames = r.frames; owner = None; stage = r.stage }
+
+abbrev pub given_up_if : Bool → Running → Running
+given_up_if so r = if so then given_up r else r
+
+-- An event that ends the ownership of the bus ends its transaction, as `happens` has it.
+abbrev pub running_after : Event → Running → Running
+running_after (event.Sent c f h) r = with_frame r c (command_of f) h
+running_after (event.Destroyed c f set) r = given_up (with_frame r c (command_of f) Silence)
+running_after (event.Collided c f d g) r = given_up r
+running_after event.Lapsed r = given_up r
+running_after (event.Acted c i o) r = given_up_if (owns r.owner c && not (keeps_bus o)) r
+running_after (event.Down c) r = given_up_if (owns r.owner c) r
+running_after (event.Offered c f) r = r
+running_after event.Quiet r = r
+running_after (event.Foreign f) r = r
+running_after (event.Power g on) r = r
+running_after (event.Expired g) r = r
+running_after (event.Up c kept) r = r
 
 -- before the first frame
 abbrev pub none_runs : Running
-none_runs = record { begun = 0; frames = 0; sender = 0; mode = Over }
+none_runs = record { begun = 0; frames = 0; owner = None; stage = Free }

@@ -5,6 +5,7 @@
 
 mod commands;
 mod events;
+pub mod laws;
 mod lists;
 mod members;
 mod run_gear;

@@ -2,14 +2,14 @@
 #![tactic(auto, using(std::proofs::lemmas::List::append_assoc))]
 
 ghost use Rattle.std.specs.Prelude.{◌≡◌, ◌++◌, OnOk, string_bytes};
-ghost use Rattle.dali_story.specs.Teller.{frames_in, bits_with, running_with, counts_after, counts_first, event_line};
+ghost use Rattle.dali_story.specs.Teller.{frames_in, bits_with, counts_after, counts_first, event_line};
 
 use crate::events::{push_changed_by, push_members, push_opening, push_trouble};
 use crate::run_gear::RunGear;
 use crate::transactions::{Running, counted};
 use dali_frame::{Answer, Random24};
 use dali_gear::Row;
-use dali_world::{Event, Sending, Used};
+use dali_world::{Event, Used};
 use std::alloc::AllocError;
 use std::marker::Model;
 
@@ -48,16 +48,6 @@ fn bits_with(heard: Option<Answer>) -> u64
     }
 }
 
-/// The transaction of a frame, if one came.
-fn running_with(sending: Option<Sending>, running: &Running) -> Running
-    ensures { result ≡ running_with sending running.now }
-{
-    match sending {
-        None => *running,
-        Some(sending) => running.after(sending.sender, sending.frame),
-    }
-}
-
 /// What is counted of a log so far.
 #[derive(Clone, Copy)]
 pub struct Counts {
@@ -89,7 +79,7 @@ impl Counts {
             events: counted(self.events, 1),
             frames: counted(self.frames, frames_in(event)),
             bits: counted(self.bits, bits_with(event.heard())),
-            running: running_with(event.sending(), &self.running),
+            running: self.running.after(event),
         }
     }
 }

@@ -1,13 +1,15 @@
 //! Which frames of a log belong to one transaction.
 
-ghost use Rattle.std.specs.Prelude.{◌≡◌, true, IsTrue};
+ghost use Rattle.std.specs.Prelude.{◌≡◌};
 ghost use Rattle.dali_special.specs.Command.{command_of};
-ghost use Rattle.dali_script.specs.Scripts.{IsFirst};
-ghost use Rattle.dali_story.specs.Transactions.{counted, searched, hunted, compared, further, mode_after, has_room};
-ghost use Rattle.dali_story.specs.Transactions.{may_follow, is_over, goes_on, running_after, none_runs, IsLater};
+ghost use Rattle.dali_script.specs.Stages.{may_come};
+ghost use Rattle.dali_events.specs.Happens.{keeps_bus};
+ghost use Rattle.dali_story.specs.Transactions.{counted, goes_on, led, with_frame, given_up, running_after, none_runs};
 
-use dali_frame::Forward;
-use dali_special::{Command, Part};
+use dali_frame::{Answer, Forward, Priority};
+use dali_script::{Order, Stage};
+use dali_special::Command;
+use dali_world::Event;
 
 /// A number and so many more; it stops at the last one.
 pub fn counted(number: u64, more: u64) -> u64
@@ -16,90 +18,33 @@ pub fn counted(number: u64, more: u64) -> u64
     number.saturating_add(more)
 }
 
-/// What a transaction is, as far as it tells which frames go on with it.
-#[derive(Clone, Copy)]
-pub enum Mode {
-    /// Nothing goes on with it.
-    Over,
-    /// SEARCHADDRH alone.
-    High,
-    /// A hunt: the low byte of the search address is its second frame.
-    Hunt,
-    /// INITIALISE and RANDOMISE, to which a search address may belong.
-    Opening,
-    /// Any other.
-    Open,
-}
-
-fn searched(mode: Mode) -> Mode
-    ensures { result ≡ searched mode }
+/// Whether a frame may come next in a script, for some sender.
+fn comes(stage: Stage, frame: Forward) -> bool
+    ensures { result ≡ may_come stage (command_of frame) }
 {
-    match mode {
-        Mode::Hunt | Mode::Opening => mode,
-        Mode::Over | Mode::High | Mode::Open => Mode::High,
+    match stage.led_by(Command::read(frame), Answer::Silence) {
+        Some(_) => true,
+        None => false,
     }
 }
 
-fn hunted(mode: Mode) -> Mode
-    ensures { result ≡ hunted mode }
+/// How far a transaction is with a further frame.
+fn led(stage: Stage, frame: Forward, heard: Answer) -> Stage
+    ensures { result ≡ led stage (command_of frame) heard }
 {
-    match mode {
-        Mode::High => Mode::Hunt,
-        Mode::Over | Mode::Hunt | Mode::Opening | Mode::Open => mode,
+    match stage.led_by(Command::read(frame), heard) {
+        Some(next) => next,
+        None => Stage::Over,
     }
 }
 
-fn compared(mode: Mode) -> Mode
-    ensures { result ≡ compared mode }
+/// Whether a controller that owns the bus keeps it with this order.
+fn keeps_bus(order: &Order) -> bool
+    ensures { result ≡ keeps_bus order.now }
 {
-    match mode {
-        Mode::Hunt => Mode::Hunt,
-        Mode::Over | Mode::High | Mode::Opening | Mode::Open => Mode::Open,
-    }
-}
-
-fn further(mode: Mode) -> Mode
-    ensures { result ≡ further mode }
-{
-    match mode {
-        Mode::High => Mode::Open,
-        Mode::Over | Mode::Hunt | Mode::Opening | Mode::Open => mode,
-    }
-}
-
-/// What a transaction is after a further frame.
-fn mode_after(mode: Mode, command: &Command) -> Mode
-    ensures { result ≡ mode_after mode command.now }
-{
-    match *command {
-        Command::Terminate | Command::Program(_) | Command::QueryShort | Command::RandomByte(..) =>
-            Mode::Open,
-        Command::Initialise(_) | Command::Randomise => Mode::Opening,
-        Command::Compare => compared(mode),
-        Command::Withdraw | Command::SearchMiddle(_) | Command::Verify(_) => further(mode),
-        Command::SearchHigh(_) => searched(mode),
-        Command::SearchLow(_) => hunted(mode),
-        Command::Arc(_) | Command::Other(_) => Mode::Over,
-    }
-}
-
-/// Whether SEARCHADDRH goes on with a transaction of so many frames.
-fn has_room(mode: Mode, frames: u64) -> bool
-    ensures { result ≡ has_room mode frames }
-{
-    match mode {
-        Mode::Hunt => frames < 8,
-        Mode::Opening => frames == 3,
-        Mode::Over | Mode::High | Mode::Open => false,
-    }
-}
-
-fn is_over(mode: Mode) -> bool
-    ensures { result ≡ is_over mode }
-{
-    match mode {
-        Mode::Over => true,
-        Mode::High | Mode::Hunt | Mode::Opening | Mode::Open => false,
+    match order {
+        Order::Put(priority, _) => *priority == Priority::LATER,
+        Order::Commit(_) | Order::Done(_) | Order::Halt(_) => false,
     }
 }
 
@@ -109,9 +54,10 @@ pub struct Running {
     pub begun: u64,
     /// How many frames it has so far.
     pub frames: u64,
-    /// The controller that sends them.
-    pub sender: u8,
-    pub mode: Mode,
+    /// The controller that sends them. None if it gave up the bus, or lost it.
+    pub owner: Option<u8>,
+    /// How far it is in its script.
+    pub stage: Stage,
 }
 
 impl Running {
@@ -122,64 +68,70 @@ impl Running {
         Running {
             begun: 0,
             frames: 0,
-            sender: 0,
-            mode: Mode::Over,
+            owner: None,
+            stage: Stage::Free,
         }
     }
 
-    /// Whether this frame begins no transaction. None does that stands behind others in a script, but SEARCHADDRH in a
-    /// hunt, a roll call and a draw may.
-    fn may_follow(&self, frame: Forward) -> bool
-        ensures value { result ≡ may_follow self.now (command_of frame) }
-        ensures first { IsFirst frame → result ≡ true → IsTrue (has_room self.now.mode self.now.frames) }
-        ensures later { IsLater frame → result ≡ true }
-    {
-        match Command::read(frame) {
-            Command::Terminate
-            | Command::RandomByte(_, Part::High)
-            | Command::Arc(_)
-            | Command::Other(_) => false,
-            Command::SearchHigh(_) => has_room(self.mode, self.frames),
-            Command::Initialise(_)
-            | Command::Randomise
-            | Command::Compare
-            | Command::Withdraw
-            | Command::SearchMiddle(_)
-            | Command::SearchLow(_)
-            | Command::Program(_)
-            | Command::Verify(_)
-            | Command::QueryShort
-            | Command::RandomByte(_, Part::Middle | Part::Low) => true,
-        }
-    }
-
+    /// Whether a frame goes on with this transaction.
     fn goes_on(&self, sender: u8, frame: Forward) -> bool
         ensures { result ≡ goes_on self.now sender (command_of frame) }
     {
-        !is_over(self.mode) && self.sender == sender && self.may_follow(frame)
+        self.owner == Some(sender) && (comes(self.stage, frame) || !comes(Stage::Free, frame))
     }
 
     /// The transaction of a further frame: this one, or the next.
-    pub fn after(&self, sender: u8, frame: Forward) -> Running
-        ensures { result ≡ running_after sender (command_of frame) self.now }
+    fn with_frame(&self, sender: u8, frame: Forward, heard: Answer) -> Running
+        ensures { result ≡ with_frame self.now sender (command_of frame) heard }
     {
-        let command = Command::read(frame);
         if self.goes_on(sender, frame) {
-            let mode = mode_after(self.mode, &command);
             Running {
                 begun: self.begun,
                 frames: counted(self.frames, 1),
-                sender,
-                mode,
+                owner: Some(sender),
+                stage: led(self.stage, frame, heard),
             }
         } else {
-            let mode = mode_after(Mode::Over, &command);
             Running {
                 begun: counted(self.begun, 1),
                 frames: 1,
-                sender,
-                mode,
+                owner: Some(sender),
+                stage: led(Stage::Free, frame, heard),
             }
+        }
+    }
+
+    fn given_up(&self) -> Running
+        ensures { result ≡ given_up self.now }
+    {
+        Running {
+            owner: None,
+            ..*self
+        }
+    }
+
+    /// The transaction of the last frame once one more event has come.
+    pub fn after(&self, event: &Event) -> Running
+        ensures { result ≡ running_after event.now self.now }
+    {
+        match *event {
+            Event::Sent(sender, frame, heard) => self.with_frame(sender, frame, heard),
+            Event::Destroyed(sender, frame, _) => {
+                self.with_frame(sender, frame, Answer::Silence).given_up()
+            }
+            Event::Collided(..) | Event::Lapsed => self.given_up(),
+            Event::Acted(c, _, order) if self.owner == Some(c) && !keeps_bus(&order) => {
+                self.given_up()
+            }
+            Event::Down(c) if self.owner == Some(c) => self.given_up(),
+            Event::Acted(..)
+            | Event::Down(_)
+            | Event::Offered(..)
+            | Event::Quiet
+            | Event::Foreign(_)
+            | Event::Power(..)
+            | Event::Expired(_)
+            | Event::Up(..) => *self,
         }
     }
 }

@@ -2,6 +2,7 @@
 
 ghost use Rattle.std.specs.Prelude.{◌≡◌, ◌<◌, ◌⊎◌, Some, [], take, length, Ok, Err};
 ghost use Rattle.dali_grammar.specs.declared.reason.Explained.{Explained};
+ghost use Rattle.dali_grammar.specs.ReplayFault.{status_of};
 ghost use Rattle.dali_replay.specs.Streams.{Explains};
 ghost use Rattle.dali_story.specs.Tells.{Tells};
 ghost use Rattle.dali_web.specs.Calls.{DONE, NO_ROOM, StandsAt, form_of};
@@ -33,7 +34,7 @@ pub extern "C" fn dali_web_play(
 ) -> u8
     ensures done { result ≡ DONE
         → Explains (form_of is_json) script.now (Some []) (Some (take told.new.written wrote.new)) (Ok tt) }
-    ensures stopped { result ≡ 1 → (e : Explained) × StandsAt e told.new.line told.new.word
+    ensures stopped { result ≡ 1 → (e : Explained) × (status_of e.fault ≡ 1) × StandsAt e told.new.line told.new.word
         × Explains (form_of is_json) script.now (Some []) (Some (take told.new.written wrote.new)) (Err e) }
     ensures room { result ≡ NO_ROOM → (length wrote.old < told.new.written) ⊎ (length said.old < told.new.said) }
 {
@@ -63,7 +64,7 @@ pub extern "C" fn dali_web_tell(
 ) -> u8
     ensures done { result ≡ DONE
         → Tells script.now (Some []) (Some (take told.new.written wrote.new)) (Ok tt) }
-    ensures stopped { result ≡ 1 → (e : Explained) × StandsAt e told.new.line told.new.word
+    ensures stopped { result ≡ 1 → (e : Explained) × (status_of e.fault ≡ 1) × StandsAt e told.new.line told.new.word
         × Tells script.now (Some []) (Some (take told.new.written wrote.new)) (Err e) }
     ensures room { result ≡ NO_ROOM → (length wrote.old < told.new.written) ⊎ (length said.old < told.new.said) }
 {

@@ -2,6 +2,7 @@
 
 ghost use Rattle.std.specs.Prelude.{◌≡◌, ◌<◌, ◌≤◌, ◌⊎◌, ◌↔◌, IsTrue, take, length, Ok, Err};
 ghost use Rattle.dali_grammar.specs.declared.reason.Explained.{Explained};
+ghost use Rattle.dali_grammar.specs.ReplayFault.{status_of};
 ghost use Rattle.dali_web.specs.Calls.{DONE, NO_ROOM, StandsAt};
 
 use crate::told::{DONE, NO_ROOM, REFUSED, Told};
@@ -33,8 +34,8 @@ pub(crate) fn hand_out(
 ) -> u8
     ensures done { result ≡ DONE → ended ≡ Ok tt }
     ensures wrote { result ≡ DONE → take told.new.written wrote.new ≡ written.now }
-    ensures stopped { result ≡ 1 → (e : Explained) × (ended ≡ Err e) × StandsAt e told.new.line told.new.word
-        × (take told.new.written wrote.new ≡ written.now) }
+    ensures stopped { result ≡ 1 → (e : Explained) × (ended ≡ Err e) × (status_of e.fault ≡ 1)
+        × StandsAt e told.new.line told.new.word × (take told.new.written wrote.new ≡ written.now) }
     ensures room { result ≡ NO_ROOM → (length wrote.old < told.new.written) ⊎ (length said.old < told.new.said) }
 {
     let explained = match ended {

@@ -64,10 +64,10 @@ fn a_bench_has_its_story(rt: HostRuntime) -> Result<(), Fail> {
          \"transaction\":1,\"place\":0,\"heard\":\"silence\",\"answers\":[],\"changed\":[]}\n\
          {\"line\":7,\"report\":\"A700 silence\\n\"}\n\
          {\"event\":4,\"kind\":\"sent\",\"bits\":95,\"controller\":0,\"frame\":\"A700\",\"command\":\"RANDOMISE\",\
-         \"transaction\":2,\"place\":0,\"heard\":\"silence\",\"answers\":[],\"changed\":[]}\n\
+         \"transaction\":1,\"place\":1,\"heard\":\"silence\",\"answers\":[],\"changed\":[]}\n\
          {\"line\":8,\"report\":\"A700 silence\\n\"}\n\
          {\"event\":5,\"kind\":\"sent\",\"bits\":114,\"controller\":0,\"frame\":\"A700\",\"command\":\"RANDOMISE\",\
-         \"transaction\":2,\"place\":1,\"heard\":\"silence\",\"answers\":[],\"changed\":[{\"gear\":0,\"power\":\"on\",\
+         \"transaction\":1,\"place\":2,\"heard\":\"silence\",\"answers\":[],\"changed\":[{\"gear\":0,\"power\":\"on\",\
          \"state\":\"enabled\",\"random\":\"123456\",\"search\":\"FFFFFF\",\"short\":null}]}\n\
          {\"line\":9,\"report\":\"ok\\n\"}\n\
          {\"event\":6,\"kind\":\"power\",\"bits\":114,\"gear\":0,\"power\":\"off\",\"trouble\":\"power-off\",\
@@ -224,7 +224,7 @@ pump destroyed -
 go 0
 ";
 
-const WANTED: [Wanted; 10] = [
+const WANTED: [Wanted; 11] = [
     // Records, what a controller is told of them, and what is heard of one gear and of two.
     (
         COMMISSIONED,
@@ -314,6 +314,11 @@ const WANTED: [Wanted; 10] = [
             "\"controller\":1,\"frame\":\"A900\",\"command\":\"COMPARE\",\"transaction\":385,\"place\":6,",
         ],
     ),
+    // The seventh frame of a hunt is behind; but SEARCHADDRH is put at priority 3, and so begins the next one.
+    (
+        "site 1 0-3\ndraws 123456\nsurvey 0\nrun 224\n",
+        &["\"frame\":\"B13F\",\"command\":\"SEARCHADDRH 3F\",\"transaction\":196,\"place\":0,"],
+    ),
     // No gear answers any more.
     (
         "site 1 0-3\ndraws 123456\nrun 500\n",
@@ -368,7 +373,7 @@ fn commands_have_their_names(rt: HostRuntime) -> Result<(), Fail> {
 }
 
 /// Frames of a bench, each with its transaction and its place there.
-const PLACES: [(&str, &str); 37] = [
+const PLACES: [(&str, &str); 42] = [
     // A hunt: its low byte is the second frame. It has at most eight frames.
     ("B1FF", "0,\"place\":0"),
     ("B5FE", "0,\"place\":1"),
@@ -388,14 +393,15 @@ const PLACES: [(&str, &str); 37] = [
     ("B5FF", "2,\"place\":2"),
     ("AB00", "2,\"place\":3"),
     ("BB00", "2,\"place\":4"),
-    // A roll call: the search address follows the two INITIALISE, and no second one does.
+    // A roll call: the search address follows the two INITIALISE, and one more frame may follow COMPARE.
     ("A100", "3,\"place\":0"),
-    ("A500", "3,\"place\":1"),
-    ("A500", "3,\"place\":2"),
+    ("A5FF", "3,\"place\":1"),
+    ("A5FF", "3,\"place\":2"),
     ("B1FF", "3,\"place\":3"),
-    ("B3FF", "3,\"place\":4"),
-    ("B5FF", "3,\"place\":5"),
+    ("B5FF", "3,\"place\":4"),
+    ("B3FF", "3,\"place\":5"),
     ("A900", "3,\"place\":6"),
+    ("B1FF", "3,\"place\":7"),
     ("B1FF", "4,\"place\":0"),
     // An opening.
     ("A100", "5,\"place\":0"),
@@ -409,9 +415,14 @@ const PLACES: [(&str, &str); 37] = [
     ("01C3", "7,\"place\":1"),
     ("01C4", "7,\"place\":2"),
     ("01C2", "8,\"place\":0"),
-    // Nothing goes on with direct arc power, and with what a WITHDRAW begins.
+    // What begins no transaction goes on, also if no script has it: WITHDRAW behind direct arc power, and INITIALISE
+    // of all gear, behind which a high byte begins one.
     ("FE80", "9,\"place\":0"),
-    ("AB00", "10,\"place\":0"),
+    ("AB00", "9,\"place\":1"),
+    ("A100", "10,\"place\":0"),
+    ("A500", "10,\"place\":1"),
+    ("A500", "10,\"place\":2"),
+    ("B1FF", "11,\"place\":0"),
 ];
 
 #[test]
