@@ -1,10 +1,9 @@
 use Rattle.std.proofs.Common.{◌≡◌, ℕ, true, false, List, [], ◌∷◌, ◌++◌, Option, Some, None, refl, sym, ap, ◌∙◌, arith, lit<, ◌<◌, nat_lt, Bool, map}
 use Rattle.std.proofs.Common.{if◌then◌else◌, slice_get, not, ◌==◌, ◌&&◌, ◌||◌}
-use Rattle.std.specs.{Prelude.unwrap_or, List.list_all, List.list_any}
+use Rattle.std.specs.{Prelude.unwrap_or, List.list_all}
 use Rattle.dali_statement.specs.Page.{High, Middle, Low, Command, Terminate, Initialise, Randomise, Search, Program, QueryShort, QueryRandom, Gear, Heard, Byte}
 use Rattle.dali_statement.specs.Page.{Nothing, Moment, Sent, Destroyed, Reserves, Enrols, Releases, Plan, Site, start, holds, is_told, happens, allowed}
-use Rattle.dali_statement.specs.Page.{may_send}
-use Rattle.dali_statement.specs.Page.{differ, IsPlan, after, Holds, KeepsNow, KeepsAddresses}
+use Rattle.dali_statement.specs.Page.{differ, IsPlan, after, Holds}
 use Rattle.dali_statement.specs.Weaker.{Rules, Changes, after_by, all_by, Break, drawing, BreakUnder, BreakIf, BreakFrom, with_program, unnumbered}
 use Rattle.dali_statement.specs.Weaker.{initialised_since}
 use Rattle.dali_statement.specs.Weaker.{unqueried, unanswered, searched_since, programmed_since, unreserved, erasing, initialising_all, with_randomise}

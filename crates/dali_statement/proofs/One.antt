@@ -1,7 +1,7 @@
 use Rattle.std.proofs.Common.{◌≡◌, ◌⊎◌, inl, inr, ℕ, ◌<◌, ◌+◌, ◌*◌, Bool, true, false, refl, sym, ap, ◌∙◌, arith, List, [], ◌∷◌, ◌++◌, Option, Some, None}
 use Rattle.std.specs.Prelude.{◌==◌, ◌&&◌, ◌||◌, if◌then◌else◌, option_map, unwrap_or, is_some}
 use Rattle.dali_statement.specs.Page.{Part, High, Middle, Low, same, number, Command, Terminate, Initialise, Randomise, Search, Program, QueryShort}
-use Rattle.dali_statement.specs.Page.{QueryRandom, Other, Gear, is_found, code, takes, holds, answer, Heard, Byte, Nothing, Site}
+use Rattle.dali_statement.specs.Page.{QueryRandom, Other, Gear, is_found, code, takes, holds, Heard, Byte, Nothing, Site}
 use Rattle.dali_statement.specs.Page.{byte, byte_sent, number_sent, is_vacant, is_open, tells, may_miss, may_send}
 use Rattle.dali_statement.proofs.Tests.{first_of_both, second_of_both, either, equal, equals, some_is, holds_is}
 

@@ -1,4 +1,4 @@
-use Rattle.std.proofs.Common.{◌≡◌, ◌⊎◌, inl, inr, ℕ, ◌<◌, ◌+◌, ◌*◌, Bool, true, false, refl, sym, ap, subst, ◌∙◌, arith, List, ◌∷◌, Option, Some, None, ◌==◌}
+use Rattle.std.proofs.Common.{◌≡◌, ◌⊎◌, inl, inr, ℕ, ◌<◌, ◌+◌, ◌*◌, Bool, true, false, refl, sym, ap, subst, ◌∙◌, arith, List, ◌∷◌, Option, Some, None}
 use Rattle.std.proofs.Common.{◌&&◌, nat_lt, if◌then◌else◌, option_map, slice_get}
 use Rattle.std.specs.{Prelude.unwrap_or, List.list_all}
 use Rattle.dali_statement.specs.Page.{Part, High, Middle, Low, same, byte, Command, QueryShort, QueryRandom, Other, Gear, is_found, takes, holds, answer, code}

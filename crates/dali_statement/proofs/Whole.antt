@@ -1,4 +1,4 @@
-use Rattle.std.proofs.Common.{◌≡◌, ◌⊎◌, inl, inr, ℕ, ◌<◌, Bool, true, false, refl, sym, ap, subst, ◌∙◌, List, [], ◌∷◌, ◌++◌, map, Option, Some, None, ◌==◌}
+use Rattle.std.proofs.Common.{◌≡◌, ◌⊎◌, inl, inr, ℕ, ◌<◌, Bool, true, false, refl, sym, ap, subst, ◌∙◌, List, [], ◌∷◌, ◌++◌, Option, Some, None, ◌==◌}
 use Rattle.std.proofs.Common.{◌&&◌, ◌||◌, not, nat_lt, if◌then◌else◌, is_none, slice_get}
 use Rattle.std.specs.{Prelude.unwrap_or, Prelude.is_some, List.list_any, List.list_all}
 use Rattle.dali_statement.specs.Page.{Part, byte, Command, Gear, holds, Heard, Moment, Sent, Destroyed, Reserves, Enrols, Releases, Power, Expires, Plan, Site}

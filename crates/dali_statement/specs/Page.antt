@@ -272,8 +272,8 @@ may_send s c Randomise = is_open (s.said c)
 may_send s c _ = true
 
 abbrev pub allowed : Plan → Site → Moment → Bool
--- RULE 5: know your list. While it is not empty you missed no frame and no disturbance on the bus,
--- and only frames that went out as your own joined it. You may forget it at any time.
+-- RULE 5: know your list: you missed no frame and no disturbance while it was not empty, and only
+-- frames that went out as your own joined it. You may forget it at any time.
 allowed p s (Sent x senders reach) =
     is_some (slice_get senders 0)
     && list_all (λ w. may_send s w.0 x && hears x w.1 s.gear) senders

@@ -7,7 +7,7 @@ use Rattle.dali_statement.specs.Page.{Initialise, Randomise, Search}
 use Rattle.dali_statement.specs.Page.{Program, QueryShort, QueryRandom, Terminate, holds, Gear}
 use Rattle.dali_statement.specs.Page.{takes, Heard, Byte, Nothing, Moment, Sent, Destroyed}
 use Rattle.dali_statement.specs.Page.{Reserves, Enrols, Releases, Plan, Site, start, number_sent}
-use Rattle.dali_statement.specs.Page.{is_vacant, befalls, frame_at, gear_after, heard_by, happens}
+use Rattle.dali_statement.specs.Page.{is_vacant, befalls, gear_after, heard_by, happens}
 use Rattle.dali_statement.specs.Page.{hears, differ, are_apart, may_send, allowed, IsPlan}
 use Rattle.dali_statement.specs.Page.{KeepsNow, KeepsAddresses}
 

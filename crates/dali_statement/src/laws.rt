@@ -1,18 +1,20 @@
 //! What is proved of the page. Programs don't call these.
 
-ghost use Rattle.std.specs.Prelude.{◌≡◌, ◌≢◌, ◌⊎◌, ℕ, List};
-ghost use Rattle.std.specs.Prelude.{[], map, ◌++◌, Option, Some, true, false, not, ◌==◌, ◌&&◌};
+ghost use Rattle.std.specs.Prelude.{◌≡◌, ◌≢◌, ◌⊎◌, ℕ, List, Bool};
+ghost use Rattle.std.specs.Prelude.{[], ◌∷◌, map, ◌++◌, Option, Some, true, false, not, ◌==◌, ◌&&◌};
 ghost use Rattle.std.specs.List.{AllByRecursion};
 ghost use Rattle.dali_special.specs.declared.command.Part.{Part as AskedPart};
 ghost use Rattle.dali_special.specs.declared.command.Command.{Command as Read};
 ghost use Rattle.dali_special.specs.declared.command.Command.TheVariants as read;
 ghost use Rattle.dali_special.specs.Command.{command_of, is_send_twice, IsSpelled};
 ghost use Rattle.dali_frame.specs.declared.frames.Forward.{Forward};
+ghost use Rattle.dali_frame.specs.declared.frames.Answer.{Answer};
 ghost use Rattle.dali_frame.specs.Random.{value_of};
 ghost use Rattle.dali_frame.specs.Short.{short_of};
 ghost use Rattle.dali_script.specs.declared.block.Block.{Block};
 ghost use Rattle.dali_script.specs.declared.trace.Entry.{Entry};
 ghost use Rattle.dali_script.specs.Records.{Assignment, Has};
+ghost use Rattle.dali_script.specs.declared.records.Record.TheVariants as record_of;
 ghost use Rattle.dali_script.specs.Findings.{search_of};
 ghost use Rattle.dali_script.specs.Scripts.{Lawful};
 ghost use Rattle.dali_gear.specs.Gear.{Gear as Real, after_frame, answer_to, with_power, without_power, gear_expired};
@@ -23,6 +25,8 @@ ghost use Rattle.dali_gear.specs.Row.{row_after, answers_of};
 ghost use Rattle.dali_statement.specs.Page.{Moment, Plan, QueryShort, QueryRandom, takes, answer, is_told, IsHistory};
 ghost use Rattle.dali_statement.specs.Page.{KeepsPromise, Byte, befalls, hears, Part, byte, Site, tells, may_send};
 ghost use Rattle.dali_statement.specs.Page.{Gear, IsPlan, Command, Heard, holds, allowed, happens};
+ghost use Rattle.dali_statement.specs.Page.{start};
+ghost use Rattle.dali_statement.specs.Own.{Own, Act, Puts, Loses, Keeps, AreOwn, IsProgram, rest_all_allowed};
 ghost use Rattle.dali_statement.specs.Again.{ended, IsReplaced};
 ghost use Rattle.dali_statement.specs.Scripts.{said_of};
 ghost use Rattle.dali_statement.specs.Gear.{part_seen, command_seen, gear_seen, HasShort};
@@ -202,4 +206,28 @@ pub fn scripts_keep_the_rules()
         → ((d r : ℕ) → Has records (d, r) → s.reserved c d ≡ Some r)
         → command_of f ≡ read.QueryShort → short_of v ≡ Some a
         → tells QueryShort (Byte v) (s.said c) q a (byte q (value_of (search_of t))) ≡ true }
+{}
+
+/// PROGRAMS KEEP THE PROMISE. Any number of programs run on one bus that is true, beside other senders that keep the
+/// rules: one after the other, at once or in step. Each keeps to its scripts (`AreOwn`): each frame is lawful after its
+/// trace, by the records that its store has committed. What happens is a history of the page (`history`), which keeps
+/// the promise (`promise`).
+pub fn programs_keep_the_promise()
+    ensures history { (p : Plan) (ours : ℕ → Bool) (own : ℕ → Own) (acts : ℕ → List Act) (ms : List Moment)
+        → IsPlan p → ((c : ℕ) → ours c ≡ true → IsProgram p c (own c) (acts c) ms)
+        → rest_all_allowed p ours (start p) ms ≡ true → IsHistory p ms }
+    ensures promise { (p : Plan) (ours : ℕ → Bool) (own : ℕ → Own) (acts : ℕ → List Act) (ms : List Moment)
+        → IsPlan p → ((c : ℕ) → ours c ≡ true → IsProgram p c (own c) (acts c) ms)
+        → rest_all_allowed p ours (start p) ms ≡ true → KeepsPromise p ms }
+{}
+
+/// A RECORD IS KEPT BEFORE ITS FRAME. If a program sends PROGRAM SHORT ADDRESS, its store had the reservation at the
+/// start, or has committed it before (`sent`); also if the frame was destroyed (`destroyed`).
+pub fn records_are_kept_before_frames()
+    ensures sent { (v : Own) (before later : List Act) (f : Forward) (h : Answer) (a : ℕ)
+        → AreOwn v (before ++ (Puts f h ∷ later)) → command_of f ≡ read.Program (Some a)
+        → (r : ℕ) × (Has v.kept.reserved (a, r) ⊎ Has before (Keeps (record_of.Reserve a r))) }
+    ensures destroyed { (v : Own) (before later : List Act) (f : Forward) (a : ℕ)
+        → AreOwn v (before ++ (Loses f ∷ later)) → command_of f ≡ read.Program (Some a)
+        → (r : ℕ) × (Has v.kept.reserved (a, r) ⊎ Has before (Keeps (record_of.Reserve a r))) }
 {}
