@@ -117,8 +117,8 @@ pub fn gifts_stay_reserved()
 {}
 
 /// EVERY RUN IS A HISTORY OF THE PAGE of `dali_statement`. To each moment of a run leads a history with the same gear,
-/// the same owner, the same reservations, and with each table; and later moments go on with it. So what five rules of
-/// senders promise is true of every run.
+/// the same reservations, and with each table; the owner of the bus has in its list what its transaction has said; and
+/// later moments go on with it. So what five rules of senders promise is true of every run.
 pub fn every_run_is_a_history()
     ensures { (p : Plan) (capacity : ℕ) (front rest : List Event) → IsRun p capacity (front ++ rest)
         → (ms : List Moment) × (more : List Moment) × LeadsTo p (after p capacity front) ms

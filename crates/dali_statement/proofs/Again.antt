@@ -2,7 +2,7 @@ use Rattle.std.proofs.Common.{◌≡◌, ◌⊎◌, inl, inr, ℕ, zero, suc, �
 use Rattle.std.proofs.Common.{◌&&◌, ◌||◌, not, nat_lt, slice_get, slice_set}
 use Rattle.std.specs.{List.list_any, List.list_all, Prelude.unwrap_or}
 use Rattle.dali_statement.specs.{Again.ended, Again.IsReplaced, Page.Gear, Page.holds, Page.Plan, Page.Moment, Page.start, Page.after, Page.differ}
-use Rattle.dali_statement.{specs.Page.are_apart, specs.Page.IsPlan, specs.Page.IsHistory, proofs.Moved.At, proofs.Steps.Safe}
+use Rattle.dali_statement.{specs.Page.IsPlan, specs.Page.IsHistory, proofs.Moved.At, proofs.Steps.Safe}
 use Rattle.dali_statement.proofs.Tests.{first_of_both, equal, equals, below_by, some_is, holds_is, holds_by, any_at, any_by, all_at, all_by, differ_at}
 use Rattle.dali_statement.proofs.{Tests.differ_by, Whole.starts, Whole.safe_after}
 
@@ -22,7 +22,6 @@ pub ends_as_plan : (p : Plan) (ms : List Moment) → IsHistory p ms → IsPlan (
 ends_as_plan p ms history = record {
   shorts = differ_by (λ g. g.short) gs (λ i j n x y at there is same. safe.sound.once i j n x y at there is same);
   short = all_by (λ g. nat_lt (unwrap_or g.short 0) 64) gs (λ i x at. small x.short (λ a is. safe.sound.short i x at a is));
-  apart = safe.sound.apart;
   reserved = λ c a r e. let within = safe.sound.within c a r e in (
     within.0,
     within.1,
@@ -80,7 +79,6 @@ module _ (p q : Plan) (g a : ℕ) (x y : Gear) (plan : IsPlan p) (is : IsReplace
         (λ i j n u v at at_j first second. differ_at (λ k. k.short) p.gear plan.shorts i j n u v (was i n u at first) (was j n v at_j second) first second));
     short = subst (λ gs. list_all (λ k. nat_lt (unwrap_or k.short 0) 64) gs ≡ true) (sym is.gear)
         (all_by (λ k. nat_lt (unwrap_or k.short 0) 64) (slice_set p.gear g y) (λ i z at. small i z at z.short refl));
-    apart = subst (λ gs. are_apart gs ≡ true) (sym is.gear) is.apart;
     reserved = λ c b r e. let old = plan.reserved c b r (is.records.reserved c b r e).1 in (
       ap (λ f. f b) is.block ∙ old.0,
       old.1,

@@ -1,12 +1,20 @@
-use Rattle.std.proofs.Common.{◌≡◌, ℕ, true, false, List, [], ◌∷◌, ◌++◌, Option, Some, None, refl, sym, ap, ◌∙◌, append-nil, arith, lit<, ◌<◌, nat_lt}
-use Rattle.std.proofs.Common.{if◌then◌else◌, slice_get, not, ◌==◌}
-use Rattle.std.specs.Prelude.{unwrap_or}
-use Rattle.dali_statement.specs.Page.{High, Middle, Low, Command, Terminate, Initialise, Randomise, Search, Program, QueryShort, Gear, Byte, Nothing, Destroyed}
-use Rattle.dali_statement.specs.Page.{Moment, Sent, Ends, Reserves, Enrols, Releases, Plan, Site, start, is_told, IsPlan, after, Holds, KeepsPromise}
-use Rattle.dali_statement.specs.Weaker.{BreakUnder, BreakApart, BreakAllTheSame, with_program, unnumbered, initialised_since, unqueried, searched_since}
-use Rattle.dali_statement.specs.Weaker.{programmed_since, unreserved, erasing, initialising_all, with_randomise, none_programmed, is_terminated, enrolling}
-use Rattle.dali_statement.specs.Weaker.{with_reserve, twice, elsewhere, used, beyond, undrawn, with_release, mishearing, drawing_alike, anyone, the_owner}
-use Rattle.dali_statement.specs.Whole.{IsKeptByAll}
+use Rattle.std.proofs.Common.{◌≡◌, ℕ, true, false, List, [], ◌∷◌, ◌++◌, Option, Some, None, refl, sym, ap, ◌∙◌, arith, lit<, ◌<◌, nat_lt, Bool, map}
+use Rattle.std.proofs.Common.{if◌then◌else◌, slice_get, not, ◌==◌, ◌&&◌, ◌||◌}
+use Rattle.std.specs.{Prelude.unwrap_or, List.list_all}
+use Rattle.dali_statement.specs.Page.{High, Middle, Low, Command, Terminate, Initialise, Randomise, Search, Program, QueryShort, QueryRandom, Gear, Heard, Byte}
+use Rattle.dali_statement.specs.Page.{Nothing, Moment, Sent, Destroyed, Reserves, Enrols, Releases, Plan, Site, start, holds, is_told, happens, allowed}
+use Rattle.dali_statement.specs.Page.{differ, IsPlan, after, Holds}
+use Rattle.dali_statement.specs.Weaker.{Rules, Changes, after_by, all_by, Break, drawing, BreakUnder, BreakIf, BreakFrom, with_program, unnumbered}
+use Rattle.dali_statement.specs.Weaker.{initialised_since}
+use Rattle.dali_statement.specs.Weaker.{unqueried, unanswered, searched_since, programmed_since, unreserved, erasing, initialising_all, with_randomise}
+use Rattle.dali_statement.specs.Weaker.{none_programmed, is_terminated, unsent, destroying_any, enrolling, enrolling_beyond, with_reserve, twice, elsewhere}
+use Rattle.dali_statement.specs.Weaker.{used}
+use Rattle.dali_statement.specs.Weaker.{beyond, undrawn, with_release, mishearing, mishearing_bytes, Row, Shorts, Short, Block, Small, Below, Numbered, Tabled}
+use Rattle.dali_statement.specs.Weaker.{is_row}
+use Rattle.dali_statement.specs.Weaker.{IsPlanBut, with_lists, kept_by_others, kept_by_its_sender, kept_from_destroyed, counted, with_gear, missing, misreading}
+use Rattle.dali_statement.specs.Weaker.{executing_all}
+use Rattle.dali_statement.specs.Whole.{IsKeptByAll, IsKeptInStep}
+use Rattle.dali_statement.proofs.Tests.{first_of_both, second_of_both, equal, holds_by, all_at, not_true}
 
 -- SHORT HISTORIES, proved by computing: one that keeps all rules, and for each clause of a rule one that keeps all else and breaks
 -- the promise.
@@ -24,6 +32,13 @@ planned gs = record { gear = gs; block = λ a. if nat_lt a 4 then 0 else 1; rese
 abbrev plan : Plan
 plan = planned (fresh ∷ fresh ∷ [])
 
+-- one with a further used gear
+abbrev elder : Gear
+elder = record { live = false; random = 0x222222; search = λ p. 0xFF; short = Some 9 }
+
+abbrev elder_plan : Plan
+elder_plan = planned (fresh ∷ fresh ∷ elder ∷ [])
+
 abbrev used_plan : Plan
 used_plan = planned (addressed ∷ fresh ∷ [])
 
@@ -37,7 +52,6 @@ is_plan : IsPlan plan
 is_plan = record {
   shorts = refl;
   short = refl;
-  apart = refl;
   reserved = λ c a r e. absurd (none_reserved r e);
   enrolled = λ c a r e. absurd (none_enrolled e);
 }
@@ -46,7 +60,14 @@ is_used_plan : IsPlan used_plan
 is_used_plan = record {
   shorts = refl;
   short = refl;
-  apart = refl;
+  reserved = λ c a r e. absurd (none_reserved r e);
+  enrolled = λ c a r e. absurd (none_enrolled e);
+}
+
+is_elder_plan : IsPlan elder_plan
+is_elder_plan = record {
+  shorts = refl;
+  short = refl;
   reserved = λ c a r e. absurd (none_reserved r e);
   enrolled = λ c a r e. absurd (none_enrolled e);
 }
@@ -55,7 +76,6 @@ is_empty_plan : IsPlan (planned [])
 is_empty_plan = record {
   shorts = refl;
   short = refl;
-  apart = refl;
   reserved = λ c a r e. absurd (none_reserved r e);
   enrolled = λ c a r e. absurd (none_enrolled e);
 }
@@ -64,15 +84,6 @@ is_empty_plan = record {
 
 two_gear : (g h : ℕ) → g ≡ 0 → h ≡ 1 → g ≡ h → ⊥
 two_gear g h zero one same = omega arith
-
-both_hold : (p : Plan) (ms : List Moment) (a r q : ℕ) → Holds (after (start p) ms) 0 a r → Holds (after (start p) ms) 1 a q → KeepsPromise p ms → ⊥
-both_hold p ms a r q first second kept =
-    two_gear 0 1 refl refl ((kept.always ms [] (append-nil ms)).one_gear 0 1 a r q first second)
-
-lost : (p : Plan) (earlier later : List Moment) (g a r : ℕ) → Holds (after (start p) earlier) g a r
-    → (Holds (after (start p) (earlier ++ later)) g a r → ⊥) → KeepsPromise p (earlier ++ later) → ⊥
-lost p earlier later g a r held gone kept =
-    gone (kept.ever_after earlier later [] (ap (λ ms. earlier ++ ms) (append-nil later)) g a r held)
 
 abbrev short_of : Option Gear → Option ℕ
 short_of None = None
@@ -89,16 +100,47 @@ other_short s g a r o is other held = other (sym is ∙ ap short_of held.1 ∙ h
 other_random : (s : Site) (g a r q : ℕ) → random_of (slice_get s.gear g) ≡ q → (q ≡ r → ⊥) → Holds s g a r → ⊥
 other_random s g a r q is other held = other (sym is ∙ ap random_of held.1 ∙ held.3)
 
+-- moments that keep these rules, and what breaks the promise in their end
+module _ (rules : Rules) (change : Changes) (IsOne : Plan → Type 0) (p : Plan) (plan : IsOne p) (earlier later : List Moment)
+    (kept : all_by rules change p (start p) (earlier ++ later) ≡ true) where
+  abbrev end : Site
+  end = after_by change (start p) (earlier ++ later)
+
+  -- two gear hold one short address
+  two_hold : (a r q : ℕ) → Holds end 0 a r → Holds end 1 a q → Break IsOne rules change
+  two_hold a r q first second = (p, earlier, later, plan, kept, λ now since. two_gear 0 1 refl refl (now.one_gear 0 1 a r q first second))
+
+  -- a gear has lost its short address, or its random address
+  short_lost : (a r : ℕ) (o : Option ℕ) → Holds (after_by change (start p) earlier) 0 a r → short_of (slice_get end.gear 0) ≡ o → (o ≡ Some a → ⊥)
+      → Break IsOne rules change
+  short_lost a r o held is other = (p, earlier, later, plan, kept, λ now since. other_short end 0 a r o is other (since 0 a r held))
+
+  random_lost : (a r q : ℕ) → Holds (after_by change (start p) earlier) 0 a r → random_of (slice_get end.gear 0) ≡ q → (q ≡ r → ⊥)
+      → Break IsOne rules change
+  random_lost a r q held is other = (p, earlier, later, plan, kept, λ now since. other_random end 0 a r q is other (since 0 a r held))
+
+  -- a table names no gear
+  none_named : (c a r : ℕ) → end.enrolled c a r ≡ true → list_all (λ g. not (holds a g.short)) end.gear ≡ true → Break IsOne rules change
+  none_named c a r named none = (
+    p,
+    earlier,
+    later,
+    plan,
+    kept,
+    λ now since. let of = now.tables c a r named in
+        not_true (holds a of.1.0.short) (all_at (λ g. not (holds a g.short)) end.gear of.0 of.1.0 none of.1.1) (holds_by a of.1.0.short of.1.2),
+  )
+
 -- ---------------------------------------------------------------- frames
 
 abbrev each : List (Option ℕ)
 each = Some 0 ∷ Some 0 ∷ []
 
 abbrev send : ℕ → Command → Moment
-send c x = Sent c x [] Nothing
+send c x = Sent x ((c, Nothing) ∷ []) []
 
 abbrev query : ℕ → ℕ → Moment
-query c v = Sent c QueryShort [] (Byte v)
+query c v = Sent QueryShort ((c, Byte v) ∷ []) []
 
 abbrev under : ℕ → ℕ → ℕ → ℕ → List Moment → List Moment
 under c high middle low more = send c (Search High high) ∷ send c (Search Middle middle) ∷ send c (Search Low low) ∷ more
@@ -111,10 +153,10 @@ abbrev second : ℕ → List Moment → List Moment
 second c more = under c 0x0A 0xBC 0xDE more
 
 abbrev initialise : ℕ → Moment
-initialise c = Sent c (Initialise 0xFF) each Nothing
+initialise c = Sent (Initialise 0xFF) ((c, Nothing) ∷ []) each
 
 abbrev randomise : ℕ → Option ℕ → Option ℕ → Moment
-randomise c n m = Sent c Randomise (n ∷ m ∷ []) Nothing
+randomise c n m = Sent Randomise ((c, Nothing) ∷ []) (n ∷ m ∷ [])
 
 abbrev opening : ℕ → List Moment
 opening c = send c Terminate ∷ initialise c ∷ randomise c (Some 0x123456) (Some 0x0ABCDE) ∷ []
@@ -139,10 +181,21 @@ given_holds = (_, refl, refl, refl)
 
 -- each sender gives one gear an address and enrols it
 abbrev whole : List Moment
-whole = given ++ (query 0 1 ∷ Enrols 0 0 0x123456 ∷ Ends ∷ (second_gets 1 4 ++ (query 1 9 ∷ Enrols 1 4 0x0ABCDE ∷ Ends ∷ [])))
+whole = given ++ (query 0 1 ∷ Enrols 0 0 0x123456 ∷ (second_gets 1 4 ++ (query 1 9 ∷ Enrols 1 4 0x0ABCDE ∷ [])))
 
 pub whole_is_kept : IsKeptByAll
 whole_is_kept = (plan, whole, (is_plan, refl), (_, refl, refl, refl), (_, refl, refl, refl), refl, refl)
+
+-- two senders search in step
+abbrev in_step : Command → Heard → Moment
+in_step x h = Sent x ((0, h) ∷ (1, h) ∷ []) []
+
+abbrev stepping : List Moment
+stepping = opening 0 ++ (Reserves 0 0 0x123456 ∷ Reserves 1 4 0x123456 ∷ in_step (Search High 0x12) Nothing ∷ in_step (Search Middle 0x34) Nothing
+    ∷ in_step (Search Low 0x56) Nothing ∷ in_step QueryShort (Byte 0xFF) ∷ [])
+
+pub in_step_is_kept : IsKeptInStep
+in_step_is_kept = (plan, stepping, send 0 (Program (Some 0)), (is_plan, refl), refl, refl, refl, (_, refl, refl, refl))
 
 -- ---------------------------------------------------------------- PROGRAM SHORT ADDRESS
 
@@ -151,7 +204,9 @@ abbrev number_history : List Moment
 number_history = send 0 Terminate ∷ initialise 0 ∷ Reserves 0 0 5 ∷ found 0 0
 
 pub number_is_needed : BreakUnder (with_program unnumbered)
-number_is_needed = (plan, number_history, is_plan, refl, both_hold plan number_history 0 0xFFFFFF 0xFFFFFF (_, refl, refl, refl) (_, refl, refl, refl))
+number_is_needed =
+    two_hold (drawing (with_program unnumbered)) happens IsPlan plan is_plan [] number_history refl
+    0 0xFFFFFF 0xFFFFFF (_, refl, refl, refl) (_, refl, refl, refl)
 
 -- no gear listens yet when the bytes are sent
 abbrev initialise_history : List Moment
@@ -159,18 +214,8 @@ initialise_history = send 0 Terminate ∷ under 0 0 0 5 (initialise 0 ∷ Reserv
 
 pub initialise_is_needed : BreakUnder (with_program initialised_since)
 initialise_is_needed =
-    (plan, initialise_history, is_plan, refl, both_hold plan initialise_history 0 0xFFFFFF 0xFFFFFF (_, refl, refl, refl) (_, refl, refl, refl))
-
--- the gear with address 0 has another short address, or none, or another random address
-gone_short : (p : Plan) (later : List Moment) (o : Option ℕ) → Holds (after (start p) given) 0 0 0x123456
-    → short_of (slice_get (after (start p) (given ++ later)).gear 0) ≡ o → (o ≡ Some 0 → ⊥) → KeepsPromise p (given ++ later) → ⊥
-gone_short p later o held is other =
-    lost p given later 0 0 0x123456 held (other_short (after (start p) (given ++ later)) 0 0 0x123456 o is other)
-
-gone_random : (p : Plan) (later : List Moment) (q : ℕ) → Holds (after (start p) given) 0 0 0x123456
-    → random_of (slice_get (after (start p) (given ++ later)).gear 0) ≡ q → (q ≡ 0x123456 → ⊥) → KeepsPromise p (given ++ later) → ⊥
-gone_random p later q held is other =
-    lost p given later 0 0 0x123456 held (other_random (after (start p) (given ++ later)) 0 0 0x123456 q is other)
+    two_hold (drawing (with_program initialised_since)) happens IsPlan plan is_plan [] initialise_history refl
+    0 0xFFFFFF 0xFFFFFF (_, refl, refl, refl) (_, refl, refl, refl)
 
 some_injective : {a b : ℕ} → Some a ≡ Some b → a ≡ b
 some_injective same = ap (λ o. unwrap_or o 0) same
@@ -186,24 +231,39 @@ not_drawn n m new old same = omega arith
 
 -- sender 1 gives the gear another address
 abbrev after_query : List Moment
-after_query = Ends ∷ Reserves 1 4 0x123456 ∷ first 1 (send 1 (Program (Some 4)) ∷ [])
+after_query = Reserves 1 4 0x123456 ∷ first 1 (send 1 (Program (Some 4)) ∷ [])
 
 pub query_is_needed : BreakUnder (with_program unqueried)
-query_is_needed = (plan, given ++ after_query, is_plan, refl, gone_short plan after_query (Some 4) given_holds refl (not_first 4 (lit< tt)))
+query_is_needed =
+    short_lost (drawing (with_program unqueried)) happens IsPlan plan is_plan given after_query refl
+    0 0x123456 (Some 4) (_, refl, refl, refl) refl (not_first 4 (lit< tt))
+
+-- the answer of the gear was lost
+abbrev after_silence : List Moment
+after_silence = Reserves 1 4 0x123456 ∷ first 1 (send 1 QueryShort ∷ send 1 (Program (Some 4)) ∷ [])
+
+pub silence_is_needed : BreakUnder (with_program unanswered)
+silence_is_needed =
+    short_lost (drawing (with_program unanswered)) happens IsPlan plan is_plan given after_silence refl
+    0 0x123456 (Some 4) (_, refl, refl, refl) refl (not_first 4 (lit< tt))
 
 -- QUERY SHORT ADDRESS was heard as FF under another number
 abbrev after_search : List Moment
 after_search = second 0 (query 0 0xFF ∷ Reserves 0 1 0x123456 ∷ first 0 (send 0 (Program (Some 1)) ∷ []))
 
 pub search_is_needed : BreakUnder (with_program searched_since)
-search_is_needed = (plan, given ++ after_search, is_plan, refl, gone_short plan after_search (Some 1) given_holds refl (not_first 1 (lit< tt)))
+search_is_needed =
+    short_lost (drawing (with_program searched_since)) happens IsPlan plan is_plan given after_search refl
+    0 0x123456 (Some 1) (_, refl, refl, refl) refl (not_first 1 (lit< tt))
 
 -- two addresses are reserved for the gear
 abbrev after_program : List Moment
 after_program = Reserves 0 1 0x123456 ∷ send 0 (Program (Some 1)) ∷ []
 
 pub program_is_needed : BreakUnder (with_program programmed_since)
-program_is_needed = (plan, given ++ after_program, is_plan, refl, gone_short plan after_program (Some 1) given_holds refl (not_first 1 (lit< tt)))
+program_is_needed =
+    short_lost (drawing (with_program programmed_since)) happens IsPlan plan is_plan given after_program refl
+    0 0x123456 (Some 1) (_, refl, refl, refl) refl (not_first 1 (lit< tt))
 
 -- two gear are given one address
 abbrev reservation_history : List Moment
@@ -211,45 +271,48 @@ reservation_history = opening 0 ++ (first 0 (found 0 0) ++ second 0 (found 0 0))
 
 pub reservation_is_needed : BreakUnder (with_program unreserved)
 reservation_is_needed =
-    (plan, reservation_history, is_plan, refl, both_hold plan reservation_history 0 0x123456 0x0ABCDE (_, refl, refl, refl) (_, refl, refl, refl))
-
-abbrev after_no_erasing : List Moment
-after_no_erasing = send 0 (Program None) ∷ []
+    two_hold (drawing (with_program unreserved)) happens IsPlan plan is_plan [] reservation_history refl
+    0 0x123456 0x0ABCDE (_, refl, refl, refl) (_, refl, refl, refl)
 
 pub no_erasing_is_needed : BreakUnder erasing
-no_erasing_is_needed = (plan, given ++ after_no_erasing, is_plan, refl, gone_short plan after_no_erasing None given_holds refl erased)
+no_erasing_is_needed =
+    short_lost (drawing erasing) happens IsPlan plan is_plan given (send 0 (Program None) ∷ []) refl
+    0 0x123456 None (_, refl, refl, refl) refl erased
 
 -- ---------------------------------------------------------------- INITIALISE and RANDOMISE
 
 -- a gear with a short address draws
 abbrev after_unaddressed : List Moment
-after_unaddressed = Ends ∷ send 0 Terminate ∷ Sent 0 (Initialise 0) each Nothing ∷ randomise 0 (Some 0x222222) None ∷ []
+after_unaddressed = send 0 Terminate ∷ Sent (Initialise 0) ((0, Nothing) ∷ []) each ∷ randomise 0 (Some 0x222222) None ∷ []
 
 pub unaddressed_is_needed : BreakUnder initialising_all
 unaddressed_is_needed =
-    (plan, given ++ after_unaddressed, is_plan, refl, gone_random plan after_unaddressed 0x222222 given_holds refl (not_drawn 0x222222 0x123456 refl refl))
+    random_lost (drawing initialising_all) happens IsPlan plan is_plan given after_unaddressed refl
+    0 0x123456 0x222222 (_, refl, refl, refl) refl (not_drawn 0x222222 0x123456 refl refl)
 
--- in the next transaction, since the gear is still live
-abbrev after_terminate : List Moment
-after_terminate = Ends ∷ randomise 0 (Some 0x222222) None ∷ []
-
-pub terminate_is_needed : BreakUnder (with_randomise (λ s. none_programmed s.said))
+-- by another sender, since the gear is still live
+pub terminate_is_needed : BreakUnder (with_randomise none_programmed)
 terminate_is_needed =
-    (plan, given ++ after_terminate, is_plan, refl, gone_random plan after_terminate 0x222222 given_holds refl (not_drawn 0x222222 0x123456 refl refl))
+    random_lost (drawing (with_randomise none_programmed)) happens IsPlan plan is_plan given (randomise 1 (Some 0x222222) None ∷ []) refl
+    0 0x123456 0x222222 (_, refl, refl, refl) refl (not_drawn 0x222222 0x123456 refl refl)
 
--- and in the same one
-abbrev after_none_programmed : List Moment
-after_none_programmed = randomise 0 (Some 0x222222) None ∷ []
+-- and by the same one
+pub none_programmed_is_needed : BreakUnder (with_randomise is_terminated)
+none_programmed_is_needed =
+    random_lost (drawing (with_randomise is_terminated)) happens IsPlan plan is_plan given (randomise 0 (Some 0x222222) None ∷ []) refl
+    0 0x123456 0x222222 (_, refl, refl, refl) refl (not_drawn 0x222222 0x123456 refl refl)
 
-pub none_programmed_is_needed : BreakUnder (with_randomise (λ s. is_terminated s.said))
-none_programmed_is_needed = (
-  plan,
-  given ++ after_none_programmed,
-  is_plan,
-  refl,
-  gone_random plan after_none_programmed 0x222222 given_holds refl
-      (not_drawn 0x222222 0x123456 refl refl),
-)
+-- ---------------------------------------------------------------- who sends
+
+pub sender_is_needed : BreakUnder unsent
+sender_is_needed =
+    short_lost (drawing unsent) happens IsPlan plan is_plan given (Sent (Program (Some 1)) [] [] ∷ []) refl
+    0 0x123456 (Some 1) (_, refl, refl, refl) refl (not_first 1 (lit< tt))
+
+pub destroyed_rules_are_needed : BreakUnder destroying_any
+destroyed_rules_are_needed =
+    short_lost (drawing destroying_any) happens IsPlan plan is_plan given (Destroyed ((0, Program (Some 1)) ∷ []) (Some (0, 0) ∷ []) ∷ []) refl
+    0 0x123456 (Some 1) (_, refl, refl, refl) refl (not_first 1 (lit< tt))
 
 -- ---------------------------------------------------------------- records
 
@@ -257,37 +320,37 @@ none_programmed_is_needed = (
 abbrev told_history : List Moment
 told_history = Enrols 0 5 7 ∷ []
 
-nothing_there : {x : Gear} → None ≡ Some x → ⊥
-nothing_there e = absurd (cc)
-
 pub told_is_needed : BreakUnder enrolling
-told_is_needed = (planned [], told_history, is_empty_plan, refl, λ kept. nothing_there (((kept.always told_history [] refl).tables 0 5 7 refl).1.1))
+told_is_needed = none_named (drawing enrolling) happens IsPlan (planned []) is_empty_plan [] told_history refl 0 5 7 refl refl
+
+-- gear without short address answer FF
+abbrev within_history : List Moment
+within_history = opening 0 ++ first 0 (query 0 0xFF ∷ Enrols 0 127 0x123456 ∷ [])
+
+pub within_is_needed : BreakUnder enrolling_beyond
+within_is_needed = none_named (drawing enrolling_beyond) happens IsPlan plan is_plan [] within_history refl 0 127 0x123456 refl refl
 
 -- one sender gives an address under two numbers; two senders do
-abbrev free_history : List Moment
-free_history = given ++ second_gets 0 0
-
 pub free_is_needed : BreakUnder (with_reserve twice)
-free_is_needed = (plan, free_history, is_plan, refl, both_hold plan free_history 0 0x123456 0x0ABCDE (_, refl, refl, refl) (_, refl, refl, refl))
-
-abbrev block_history : List Moment
-block_history = given ++ (Ends ∷ second_gets 1 0)
+free_is_needed =
+    two_hold (drawing (with_reserve twice)) happens IsPlan plan is_plan given (second_gets 0 0) refl
+    0 0x123456 0x0ABCDE (_, refl, refl, refl) (_, refl, refl, refl)
 
 pub block_is_needed : BreakUnder (with_reserve elsewhere)
-block_is_needed = (plan, block_history, is_plan, refl, both_hold plan block_history 0 0x123456 0x0ABCDE (_, refl, refl, refl) (_, refl, refl, refl))
+block_is_needed =
+    two_hold (drawing (with_reserve elsewhere)) happens IsPlan plan is_plan given (second_gets 1 0) refl
+    0 0x123456 0x0ABCDE (_, refl, refl, refl) (_, refl, refl, refl)
 
 -- a used gear has the address
-abbrev unused_history : List Moment
-unused_history = send 0 Terminate ∷ Sent 0 (Initialise 0xFF) (None ∷ Some 0 ∷ []) Nothing ∷ randomise 0 None (Some 0x0ABCDE) ∷ second_gets 0 0
+abbrev second_opens : List Moment → List Moment
+second_opens more = send 0 Terminate ∷ Sent (Initialise 0xFF) ((0, Nothing) ∷ []) (None ∷ Some 0 ∷ []) ∷ randomise 0 None (Some 0x0ABCDE) ∷ more
 
 pub unused_is_needed : BreakUnder (with_reserve used)
 unused_is_needed =
-    (used_plan, unused_history, is_used_plan, refl, both_hold used_plan unused_history 0 0x123456 0x0ABCDE (_, refl, refl, refl) (_, refl, refl, refl))
+    two_hold (drawing (with_reserve used)) happens IsPlan used_plan is_used_plan [] (second_opens (second_gets 0 0)) refl
+    0 0x123456 0x0ABCDE (_, refl, refl, refl) (_, refl, refl, refl)
 
 -- the code of 127 is FF
-abbrev before_short : List Moment
-before_short = opening 1 ++ first_gets 1 127
-
 abbrev after_short : List Moment
 after_short = query 1 0xFF ∷ Reserves 1 4 0x123456 ∷ send 1 (Program (Some 4)) ∷ []
 
@@ -295,75 +358,227 @@ not_last : (a b : ℕ) → a ≡ 4 → b ≡ 127 → Some a ≡ Some b → ⊥
 not_last a b four last same = let is : a ≡ b = some_injective same in omega arith
 
 pub short_is_needed : BreakUnder (with_reserve beyond)
-short_is_needed = (
-  plan,
-  before_short ++ after_short,
-  is_plan,
-  refl,
-  lost plan before_short after_short 0 127 0x123456 (_, refl, refl, refl)
-      (other_short (after (start plan) (before_short ++ after_short)) 0 127 0x123456 (Some 4) refl (not_last 4 127 refl refl)),
-)
+short_is_needed =
+    short_lost (drawing (with_reserve beyond)) happens IsPlan plan is_plan (opening 1 ++ first_gets 1 127) after_short refl
+    127 0x123456 (Some 4) (_, refl, refl, refl) refl (not_last 4 127 refl refl)
 
 -- all gear that drew no number have FFFFFF
-abbrev below_history : List Moment
-below_history = send 0 Terminate ∷ initialise 0 ∷ Reserves 0 0 0xFFFFFF ∷ under 0 0xFF 0xFF 0xFF (found 0 0)
+abbrev masked : List Moment
+masked = under 0 0xFF 0xFF 0xFF (found 0 0)
 
 pub below_is_needed : BreakUnder (with_reserve undrawn)
-below_is_needed = (plan, below_history, is_plan, refl, both_hold plan below_history 0 0xFFFFFF 0xFFFFFF (_, refl, refl, refl) (_, refl, refl, refl))
+below_is_needed =
+    two_hold (drawing (with_reserve undrawn)) happens IsPlan plan is_plan [] (send 0 Terminate ∷ initialise 0 ∷ Reserves 0 0 0xFFFFFF ∷ masked) refl
+    0 0xFFFFFF 0xFFFFFF (_, refl, refl, refl) (_, refl, refl, refl)
 
 -- an address is released while its gear has it, and given again
-abbrev told_of_release_history : List Moment
-told_of_release_history = given ++ (Releases 0 0 0x123456 9 ∷ second_gets 0 0)
-
-pub told_of_release_is_needed : BreakUnder (with_release (λ s a r b. not (a == b)))
+pub told_of_release_is_needed : BreakUnder (with_release (λ s c a r b. holds r (s.reserved c a) && not (a == b)))
 told_of_release_is_needed =
-    (plan, told_of_release_history, is_plan, refl, both_hold plan told_of_release_history 0 0x123456 0x0ABCDE (_, refl, refl, refl) (_, refl, refl, refl))
+    two_hold (drawing (with_release (λ s c a r b. holds r (s.reserved c a) && not (a == b)))) happens IsPlan plan is_plan given
+    (Releases 0 0 0x123456 9 ∷ second_gets 0 0) refl
+    0 0x123456 0x0ABCDE (_, refl, refl, refl) (_, refl, refl, refl)
 
-abbrev another_history : List Moment
-another_history = given ++ (query 0 1 ∷ Releases 0 0 0x123456 0 ∷ second_gets 0 0)
+pub another_is_needed : BreakUnder (with_release (λ s c a r b. holds r (s.reserved c a) && is_told s b r))
+another_is_needed =
+    two_hold (drawing (with_release (λ s c a r b. holds r (s.reserved c a) && is_told s b r))) happens IsPlan plan is_plan given
+    (query 0 1 ∷ Releases 0 0 0x123456 0 ∷ second_gets 0 0) refl
+    0 0x123456 0x0ABCDE (_, refl, refl, refl) (_, refl, refl, refl)
 
-pub another_is_needed : BreakUnder (with_release (λ s a r b. is_told s b r))
-another_is_needed = (plan, another_history, is_plan, refl, both_hold plan another_history 0 0x123456 0x0ABCDE (_, refl, refl, refl) (_, refl, refl, refl))
+-- for another number than it is reserved for
+abbrev asks : List Moment → List Moment
+asks more = Sent (QueryRandom 9 High) ((0, Byte 0x22) ∷ []) [] ∷ Sent (QueryRandom 9 Middle) ((0, Byte 0x22) ∷ []) []
+    ∷ Sent (QueryRandom 9 Low) ((0, Byte 0x22) ∷ []) [] ∷ more
+
+pub its_number_is_needed : BreakUnder (with_release (λ s c a r b. is_told s b r && not (a == b)))
+its_number_is_needed =
+    two_hold (drawing (with_release (λ s c a r b. is_told s b r && not (a == b)))) happens IsPlan elder_plan is_elder_plan given
+    (asks (Releases 0 0 0x222222 9 ∷ second_gets 0 0)) refl
+    0 0x123456 0x0ABCDE (_, refl, refl, refl) (_, refl, refl, refl)
 
 -- ---------------------------------------------------------------- the premises
 
 -- the answer of the gear with address 0 is heard as FF
-abbrev after_hearing : List Moment
-after_hearing = Ends ∷ Reserves 1 4 0x123456 ∷ first 1 (found 1 4)
-
 pub hearing_is_needed : BreakUnder mishearing
-hearing_is_needed = (plan, given ++ after_hearing, is_plan, refl, gone_short plan after_hearing (Some 4) given_holds refl (not_first 4 (lit< tt)))
+hearing_is_needed =
+    short_lost (drawing mishearing) happens IsPlan plan is_plan given (Reserves 1 4 0x123456 ∷ first 1 (found 1 4)) refl
+    0 0x123456 (Some 4) (_, refl, refl, refl) refl (not_first 4 (lit< tt))
+
+-- no gear answers
+abbrev bytes_history : List Moment
+bytes_history = Sent (QueryRandom 5 High) ((0, Byte 0) ∷ []) [] ∷ Sent (QueryRandom 5 Middle) ((0, Byte 0) ∷ []) []
+    ∷ Sent (QueryRandom 5 Low) ((0, Byte 7) ∷ []) [] ∷ told_history
+
+pub bytes_are_needed : BreakUnder mishearing_bytes
+bytes_are_needed = none_named (drawing mishearing_bytes) happens IsPlan (planned []) is_empty_plan [] bytes_history refl 0 5 7 refl refl
 
 abbrev draws_history : List Moment
 draws_history = send 0 Terminate ∷ initialise 0 ∷ randomise 0 (Some 0x123456) (Some 0x123456) ∷ first_gets 0 0
 
-pub draws_are_needed : BreakUnder drawing_alike
-draws_are_needed = (plan, draws_history, is_plan, refl, both_hold plan draws_history 0 0x123456 0x123456 (_, refl, refl, refl) (_, refl, refl, refl))
+pub draws_are_needed : Break IsPlan allowed happens
+draws_are_needed = two_hold allowed happens IsPlan plan is_plan [] draws_history refl 0 0x123456 0x123456 (_, refl, refl, refl) (_, refl, refl, refl)
 
--- ---------------------------------------------------------------- whose turn it is
+-- no gear takes the bytes
+abbrev missed : ℕ → Command → Moment
+missed c x = Sent x ((c, Nothing) ∷ []) []
 
--- sender 1 sends the bytes before the INITIALISE of sender 0
-abbrev owner_history : List Moment
-owner_history = send 0 Terminate ∷ under 1 0 0 5 (initialise 0 ∷ Reserves 1 4 5 ∷ found 1 4)
+abbrev missing_history : List Moment
+missing_history = send 0 Terminate ∷ initialise 0 ∷ under 0 0 0 5 (Reserves 0 0 5 ∷ query 0 0xFF ∷ Sent (Program (Some 0)) ((0, Nothing) ∷ []) each ∷ [])
 
-pub owner_is_needed : BreakApart anyone
-owner_is_needed = (plan, owner_history, is_plan, refl, both_hold plan owner_history 4 0xFFFFFF 0xFFFFFF (_, refl, refl, refl) (_, refl, refl, refl))
+pub whole_is_needed : BreakIf (with_gear missing)
+whole_is_needed =
+    two_hold (drawing allowed) (with_gear missing) IsPlan plan is_plan [] missing_history refl
+    0 0xFFFFFF 0xFFFFFF (_, refl, refl, refl) (_, refl, refl, refl)
 
--- sender 0 sends the bytes, and loses the bus; sender 1 initialises, and loses it too; sender 0 goes on
-abbrev anew_history : List Moment
-anew_history = under 0 0 0 5 (Ends ∷ send 1 Terminate ∷ initialise 1 ∷ Ends ∷ Reserves 0 0 5 ∷ found 0 0)
+-- all gear take other bytes
+abbrev misread_history : List Moment
+misread_history = send 0 Terminate ∷ initialise 0 ∷ under 0 0 0 5 (Reserves 0 0 5 ∷ found 0 0)
 
-pub anew_is_needed : BreakApart the_owner
-anew_is_needed = (plan, anew_history, is_plan, refl, both_hold plan anew_history 0 0xFFFFFF 0xFFFFFF (_, refl, refl, refl) (_, refl, refl, refl))
+pub as_its_own_is_needed : BreakIf (with_gear misreading)
+as_its_own_is_needed =
+    two_hold (drawing allowed) (with_gear misreading) IsPlan plan is_plan [] misread_history refl
+    0 0xFFFFFF 0xFFFFFF (_, refl, refl, refl) (_, refl, refl, refl)
+
+-- gear 1 takes INITIALISE and PROGRAM
+abbrev both_history : List Moment
+both_history = send 0 Terminate ∷ Sent (Initialise 0xFF) ((0, Nothing) ∷ []) (Some 0 ∷ []) ∷ randomise 0 (Some 0x123456) None ∷ Reserves 0 0 0x123456
+    ∷ first 0 (query 0 0xFF ∷ Destroyed ((1, Initialise 0xFF) ∷ (0, Program (Some 0)) ∷ []) (Some (0, 0) ∷ Some (0, 0) ∷ []) ∷ [])
+
+pub one_frame_is_needed : BreakIf (with_gear executing_all)
+one_frame_is_needed =
+    two_hold (drawing allowed) (with_gear executing_all) IsPlan plan is_plan [] both_history refl
+    0 0x123456 0xFFFFFF (_, refl, refl, refl) (_, refl, refl, refl)
+
+-- ---------------------------------------------------------------- lists
+
+-- sender 0 sends the bytes before the INITIALISE of sender 1
+pub others_are_needed : BreakIf (with_lists kept_by_others)
+others_are_needed =
+    two_hold (drawing allowed) (with_lists kept_by_others) IsPlan plan is_plan [] (under 0 0 0 5 (initialise 1 ∷ Reserves 0 0 5 ∷ found 0 0)) refl
+    0 0xFFFFFF 0xFFFFFF (_, refl, refl, refl) (_, refl, refl, refl)
+
+-- two senders in step give one gear two addresses
+pub in_step_is_needed : BreakIf (with_lists kept_by_others)
+in_step_is_needed =
+    short_lost (drawing allowed) (with_lists kept_by_others) IsPlan plan is_plan (stepping ++ (send 0 (Program (Some 0)) ∷ []))
+    (send 1 (Program (Some 4)) ∷ []) refl
+    0 0x123456 (Some 4) (_, refl, refl, refl) refl (not_first 4 (lit< tt))
+
+-- gear 1 takes bytes of sender 0 that were destroyed
+abbrev taken : ℕ → Command → Moment
+taken c x = Destroyed ((c, x) ∷ []) (None ∷ Some (0, 0) ∷ [])
+
+abbrev own_history : List Moment
+own_history = opening 0 ++ first 0 (taken 0 (Search High 0x0A) ∷ taken 0 (Search Middle 0xBC) ∷ taken 0 (Search Low 0xDE) ∷ Reserves 0 0 0x123456 ∷ found 0 0)
+
+pub own_destroyed_is_needed : BreakIf (with_lists kept_by_its_sender)
+own_destroyed_is_needed =
+    two_hold (drawing allowed) (with_lists kept_by_its_sender) IsPlan plan is_plan [] own_history refl
+    0 0x123456 0x0ABCDE (_, refl, refl, refl) (_, refl, refl, refl)
+
+-- and a byte of sender 1, between the QUERY and PROGRAM of sender 0
+abbrev between_history : List Moment
+between_history = send 0 Terminate ∷ initialise 0 ∷ randomise 0 (Some 0x123456) (Some 0x123457) ∷ Reserves 0 0 0x123456
+    ∷ first 0 (query 0 0xFF ∷ taken 1 (Search Low 0x57) ∷ send 0 (Program (Some 0)) ∷ [])
+
+pub destroyed_is_needed : BreakIf (with_lists kept_from_destroyed)
+destroyed_is_needed =
+    two_hold (drawing allowed) (with_lists kept_from_destroyed) IsPlan plan is_plan [] between_history refl
+    0 0x123456 0x123457 (_, refl, refl, refl) (_, refl, refl, refl)
 
 -- the bytes are destroyed, and no gear takes them
 abbrev lost_frame : Command → Moment
-lost_frame x = Sent 0 x [] Destroyed
+lost_frame x = Destroyed ((0, x) ∷ []) []
 
-abbrev undestroyed_history : List Moment
-undestroyed_history = send 0 Terminate ∷ initialise 0 ∷ lost_frame (Search High 0) ∷ lost_frame (Search Middle 0) ∷ lost_frame (Search Low 5)
+abbrev counted_history : List Moment
+counted_history = send 0 Terminate ∷ initialise 0 ∷ lost_frame (Search High 0) ∷ lost_frame (Search Middle 0) ∷ lost_frame (Search Low 5)
     ∷ Reserves 0 0 5 ∷ found 0 0
 
-pub undestroyed_is_needed : BreakAllTheSame
-undestroyed_is_needed =
-    (plan, undestroyed_history, is_plan, refl, both_hold plan undestroyed_history 0 0xFFFFFF 0xFFFFFF (_, refl, refl, refl) (_, refl, refl, refl))
+pub counted_is_needed : BreakIf (with_lists counted)
+counted_is_needed =
+    two_hold (drawing allowed) (with_lists counted) IsPlan plan is_plan [] counted_history refl
+    0 0xFFFFFF 0xFFFFFF (_, refl, refl, refl) (_, refl, refl, refl)
+
+-- ---------------------------------------------------------------- the rows of a plan
+
+-- a plan in which one address is reserved
+abbrev with_one : List Gear → ℕ → ℕ → ℕ → Plan
+with_one gs d b n =
+    record { gear = gs; block = λ a. if nat_lt a 4 then 0 else 1; reserved = λ c a. if (c == d) && (a == b) then Some n else None; enrolled = λ c a r. false }
+
+is_one : (d b n c a r : ℕ) → (if (c == d) && (a == b) then Some n else None) ≡ Some r → (c ≡ d) × (a ≡ b) × (r ≡ n)
+is_one d b n c a r e = go ((c == d) && (a == b)) refl e where
+  go : (t : Bool) → ((c == d) && (a == b)) ≡ t → (if t then Some n else None) ≡ Some r → (c ≡ d) × (a ≡ b) × (r ≡ n)
+  go true same e = (equal c d (first_of_both _ _ same), equal a b (second_of_both _ _ same), sym (some_injective e))
+  go false other e = absurd (none_reserved r e)
+
+-- its rows, by the one record
+one_row : (test : ℕ → ℕ → ℕ → Bool) (d b n c a r : ℕ) → test d b n ≡ true → (if (c == d) && (a == b) then Some n else None) ≡ Some r → test c a r ≡ true
+one_row test d b n c a r is e = let one = is_one d b n c a r e in
+    ap (λ k. test k a r) one.0 ∙ ap (λ k. test d k r) one.1 ∙ ap (λ k. test d b k) one.2 ∙ is
+
+is_but : (left : Row) (gs : List Gear) (d b n : ℕ) → (is_row left Shorts || differ (map (λ g. g.short) gs)) ≡ true
+    → (is_row left Short || list_all (λ g. nat_lt (unwrap_or g.short 0) 64) gs) ≡ true → (is_row left Block || ((if nat_lt b 4 then 0 else 1) == d)) ≡ true
+    → (is_row left Small || nat_lt b 64) ≡ true → (is_row left Below || nat_lt n 0xFFFFFF) ≡ true
+    → (is_row left Numbered || list_all (λ g. not (holds b g.short) || (g.random == n)) gs) ≡ true → IsPlanBut left (with_one gs d b n)
+is_but left gs d b n shorts short block small below numbered = record {
+  shorts = shorts;
+  short = short;
+  reserved = λ c a r e. (
+    one_row (λ c a r. is_row left Block || ((if nat_lt a 4 then 0 else 1) == c)) d b n c a r block e,
+    one_row (λ c a r. is_row left Small || nat_lt a 64) d b n c a r small e,
+    one_row (λ c a r. is_row left Below || nat_lt r 0xFFFFFF) d b n c a r below e,
+    one_row (λ c a r. is_row left Numbered || list_all (λ g. not (holds a g.short) || (g.random == r)) gs) d b n c a r numbered e,
+  );
+  enrolled = λ c a r e. absurd (none_enrolled e);
+}
+
+pub shorts_are_needed : BreakFrom (IsPlanBut Shorts)
+shorts_are_needed =
+    two_hold (drawing allowed) happens (IsPlanBut Shorts) (with_one (addressed ∷ addressed ∷ []) 0 1 5)
+    (is_but Shorts (addressed ∷ addressed ∷ []) 0 1 5 refl refl refl refl refl refl) [] [] refl
+    0 0x123456 0x123456 (_, refl, refl, refl) (_, refl, refl, refl)
+
+-- it came with an address whose code is FF
+abbrev last_one : Gear
+last_one = record { live = false; random = 0x123456; search = λ p. 0xFF; short = Some 127 }
+
+pub short_row_is_needed : BreakFrom (IsPlanBut Short)
+short_row_is_needed =
+    short_lost (drawing allowed) happens (IsPlanBut Short) (with_one (last_one ∷ []) 1 4 0x123456)
+    (is_but Short (last_one ∷ []) 1 4 0x123456 refl refl refl refl refl refl) [] (initialise 1 ∷ first 1 (found 1 4)) refl
+    127 0x123456 (Some 4) (_, refl, refl, refl) refl (not_last 4 127 refl refl)
+
+-- sender 1 has reserved an address of sender 0
+pub block_row_is_needed : BreakFrom (IsPlanBut Block)
+block_row_is_needed =
+    two_hold (drawing allowed) happens (IsPlanBut Block) (with_one (fresh ∷ fresh ∷ []) 1 0 0x0ABCDE)
+    (is_but Block (fresh ∷ fresh ∷ []) 1 0 0x0ABCDE refl refl refl refl refl refl) given (second 1 (found 1 0)) refl
+    0 0x123456 0x0ABCDE (_, refl, refl, refl) (_, refl, refl, refl)
+
+pub small_row_is_needed : BreakFrom (IsPlanBut Small)
+small_row_is_needed =
+    short_lost (drawing allowed) happens (IsPlanBut Small) (with_one (fresh ∷ fresh ∷ []) 1 127 0x123456)
+    (is_but Small (fresh ∷ fresh ∷ []) 1 127 0x123456 refl refl refl refl refl refl) (opening 1 ++ first 1 (found 1 127)) after_short refl
+    127 0x123456 (Some 4) (_, refl, refl, refl) refl (not_last 4 127 refl refl)
+
+pub below_row_is_needed : BreakFrom (IsPlanBut Below)
+below_row_is_needed =
+    two_hold (drawing allowed) happens (IsPlanBut Below) (with_one (fresh ∷ fresh ∷ []) 0 0 0xFFFFFF)
+    (is_but Below (fresh ∷ fresh ∷ []) 0 0 0xFFFFFF refl refl refl refl refl refl) [] (initialise 0 ∷ masked) refl
+    0 0xFFFFFF 0xFFFFFF (_, refl, refl, refl) (_, refl, refl, refl)
+
+-- a gear came with the address that is reserved for another
+pub numbered_row_is_needed : BreakFrom (IsPlanBut Numbered)
+numbered_row_is_needed =
+    two_hold (drawing allowed) happens (IsPlanBut Numbered) (with_one (addressed ∷ fresh ∷ []) 0 0 0x0ABCDE)
+    (is_but Numbered (addressed ∷ fresh ∷ []) 0 0 0x0ABCDE refl refl refl refl refl refl) [] (second_opens (second 0 (found 0 0))) refl
+    0 0x123456 0x0ABCDE (_, refl, refl, refl) (_, refl, refl, refl)
+
+abbrev tabled : Plan
+tabled = record { gear = []; block = λ a. 0; reserved = λ c a. None; enrolled = λ c a r. true }
+
+pub tables_are_needed : BreakFrom (IsPlanBut Tabled)
+tables_are_needed =
+    none_named (drawing allowed) happens (IsPlanBut Tabled) tabled
+    (record { shorts = refl; short = refl; reserved = λ c a r e. absurd (none_reserved r e); enrolled = λ c a r e. refl }) [] [] refl
+    0 5 7 refl refl

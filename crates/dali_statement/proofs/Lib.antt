@@ -10,3 +10,6 @@ mod Histories
 pub mod Gear
 pub mod Rows
 pub mod Scripts
+pub mod Own
+mod Programs
+mod Befores

@@ -1,7 +1,7 @@
 use Rattle.std.proofs.Common.{◌≡◌, ◌⊎◌, inl, inr, ℕ, ◌<◌, Bool, true, false, refl, sym, ap, subst, ◌∙◌, Option, Some, None, ◌==◌, ◌&&◌, not, nat_lt}
 use Rattle.std.proofs.Common.{if◌then◌else◌, is_none}
 use Rattle.std.specs.List.{list_any}
-use Rattle.dali_statement.specs.Page.{Gear, holds, Plan, Site, is_told, Reserves, Enrols, Releases, happens, allowed}
+use Rattle.dali_statement.specs.Page.{Gear, holds, Plan, Site, is_told, Reserves, Enrols, Releases, happens, are_apart, allowed}
 use Rattle.dali_statement.proofs.{Moved.At, Sound.one_at, Sound.apart_at, Steps.Safe, Steps.told_gear}
 use Rattle.dali_statement.proofs.Tests.{first_of_both, second_of_both, either, equal, equals, below, some_is, holds_is, not_true}
 
@@ -15,7 +15,6 @@ module _ (p : Plan) (s : Site) (safe : Safe p s) where
   pub enrols : (c a r : ℕ) → allowed p s (Enrols c a r) ≡ true → Safe p (happens s (Enrols c a r))
   enrols c a r may = record {
     sound = record {
-      apart = safe.sound.apart;
       once = safe.sound.once;
       short = safe.sound.short;
       within = safe.sound.within;
@@ -47,7 +46,6 @@ module _ (p : Plan) (s : Site) (safe : Safe p s) where
   pub reserves : (c a r : ℕ) → allowed p s (Reserves c a r) ≡ true → Safe p (happens s (Reserves c a r))
   reserves c a r may = record {
     sound = record {
-      apart = safe.sound.apart;
       once = safe.sound.once;
       short = safe.sound.short;
       within = λ d b n e. within d b n ((d == c) && (b == a)) refl e;
@@ -103,10 +101,9 @@ module _ (p : Plan) (s : Site) (safe : Safe p s) where
       go true here = absurd (nobody g x at (is ∙ ap (λ k. Some k) (equal b a (second_of_both _ _ here))))
       go false here = by.1
 
-  pub releases : (c a r b : ℕ) → allowed p s (Releases c a r b) ≡ true → Safe p (happens s (Releases c a r b))
-  releases c a r b may = record {
+  pub releases : are_apart s.gear ≡ true → (c a r b : ℕ) → allowed p s (Releases c a r b) ≡ true → Safe p (happens s (Releases c a r b))
+  releases apart c a r b may = record {
     sound = record {
-      apart = safe.sound.apart;
       once = safe.sound.once;
       short = safe.sound.short;
       within = λ d e n is. let was = kept d e n ((d == c) && (e == a)) is in safe.sound.within d e n was;
@@ -133,7 +130,7 @@ module _ (p : Plan) (s : Site) (safe : Safe p s) where
         let told = told_gear p s safe b r (first_of_both (is_told s b r) (not (a == b)) rest) in
         let number : x.random ≡ r = safe.sound.for_gear c a r g x is_for at is in
         let small = subst (λ n. n < 0xFFFFFF) (sym number) (safe.sound.within c a r is_for).2 in
-        let here = apart_at s.gear g told.0 x told.1 safe.sound.apart at told.2 (number ∙ sym told.4) small in
+        let here = apart_at s.gear g told.0 x told.1 apart at told.2 (number ∙ sym told.4) small in
         let one = one_at s.gear told.0 x told.1 (subst (λ k. At s.gear k x) here at) told.2 in
         let both : a ≡ b = some_is (sym is ∙ ap (λ y. y.short) one ∙ told.3) in
         not_true (a == b) (second_of_both (is_told s b r) (not (a == b)) rest) (equals a b both)

@@ -1,13 +1,13 @@
-use Rattle.std.proofs.Common.{◌≡◌, ◌≢◌, ◌⊎◌, inl, inr, ℕ, ◌+◌, Bool, true, false, refl, sym, ap, ap₂, ◌∙◌, List, [], ◌∷◌, map, Option, Some, None, ◌==◌, ◌&&◌}
+use Rattle.std.proofs.Common.{◌≡◌, ◌≢◌, ◌⊎◌, inl, inr, ℕ, ◌+◌, Bool, true, false, refl, sym, ap, ap₂, ◌∙◌, List, [], ◌∷◌, map, Option, Some, None, ◌&&◌}
 use Rattle.std.proofs.Common.{◌||◌, if◌then◌else◌}
-use Rattle.std.specs.{List.list_any, List.list_all, List.AllByRecursion, Prelude.unwrap_or}
+use Rattle.std.specs.{List.list_any, List.AllByRecursion}
 use Rattle.dali_special.specs.{Command.is_send_twice, Command.IsSpelled, declared.command.Command.Command as Read}
 use Rattle.dali_special.specs.declared.command.Command.TheVariants as read
 use Rattle.dali_gear.specs.Gear.{Gear as Real, draws_a_number, gear_taken, after_frame, answer_to, answer as real_answer}
 use Rattle.dali_gear.specs.Row.{reaches, takes as is_taken, next_draw, one_after, left_after, row_after, option_cons, answers_of}
 use Rattle.dali_gear.specs.declared.row.Reach.{Reach, TheVariants.Everyone}
 use Rattle.dali_statement.specs.Gear.{part_seen, command_seen, gear_seen, HasShort}
-use Rattle.dali_statement.specs.Page.{Command, Gear, takes, holds, answer, QueryShort, QueryRandom, Byte, befalls, hears}
+use Rattle.dali_statement.specs.Page.{Command, Gear, takes, holds, answer, QueryShort, QueryRandom, Byte, Destroyed, befalls, gear_after, hears}
 use Rattle.dali_statement.proofs.{Gear.step, Gear.pair, Gear.query, Gear.random, Tests.equals}
 
 -- A ROW OF GEAR takes frames, and is heard, as the page says.
@@ -64,6 +64,20 @@ reached reach c k (g ∷ gs) left spelled shorts =
     let more = reached reach c (k + 1) gs (left_after (is_taken reach k g && draws_a_number c g) left) spelled shorts.1 in
     (one.0 ∷ more.0, ap₂ (λ x xs. x ∷ xs) one.1 more.1 ∙ sym (befalls_more (takes (command_seen c)) one.0 more.0 (gear_seen g) (map gear_seen gs)))
 
+-- one frame that was destroyed
+abbrev pub of_one : List (Option ℕ) → List (Option (ℕ × ℕ))
+of_one [] = []
+of_one (None ∷ reach) = None ∷ of_one reach
+of_one (Some n ∷ reach) = Some (0, n) ∷ of_one reach
+
+pub destroyed_one : (c : ℕ) (x : Command) (reach : List (Option ℕ)) (gs : List Gear)
+    → gear_after (Destroyed ((c, x) ∷ []) (of_one reach)) gs ≡ befalls (takes x) reach gs
+destroyed_one c x [] gs = refl
+destroyed_one c x (None ∷ reach) [] = refl
+destroyed_one c x (Some n ∷ reach) [] = refl
+destroyed_one c x (None ∷ reach) (g ∷ gs) = ap (λ hs. g ∷ hs) (destroyed_one c x reach gs)
+destroyed_one c x (Some n ∷ reach) (g ∷ gs) = ap (λ hs. takes x n g ∷ hs) (destroyed_one c x reach gs)
+
 -- ---------------------------------------------------------------- hearing
 
 answers_all : (b : Bool) (o : Option ℕ) → (if b && true then o else None) ≡ (if b then o else None)
@@ -97,25 +111,8 @@ some_answer c m v seen k (g ∷ gs) some same =
     go rest (Some u) is some same later =
         ap (λ a. a || is_some_answer m v gs) (ap (holds v) (seen g (sym is ∙ ap (λ n. Some n) same.0)) ∙ equals v v refl)
 
-all_answer : (v : ℕ) (k : ℕ) (gs : List Real) → Same v (answers_of Everyone read.QueryShort k gs)
-    → list_all (λ x. unwrap_or (answer QueryShort x) v == v) (map gear_seen gs) ≡ true
-all_answer v k [] same = refl
-all_answer v k (g ∷ gs) same =
-    go (if is_taken Everyone k g then real_answer read.QueryShort g else None) (one_answers read.QueryShort k g) same (all_answer v (k + 1) gs) where
-      both : {a b : Bool} → a ≡ true → b ≡ true → (a && b) ≡ true
-      both {a} {b} first second = rw (first, second) refl
-
-      go : (o : Option ℕ) → o ≡ answer_to read.QueryShort g → Same v (option_cons o (answers_of Everyone read.QueryShort (k + 1) gs))
-          → (Same v (answers_of Everyone read.QueryShort (k + 1) gs) → list_all (λ x. unwrap_or (answer QueryShort x) v == v) (map gear_seen gs) ≡ true)
-          → ((unwrap_or (answer QueryShort (gear_seen g)) v == v) && list_all (λ x. unwrap_or (answer QueryShort x) v == v) (map gear_seen gs)) ≡ true
-      go None is same later = both (ap (λ o. unwrap_or o v == v) (sym (query g) ∙ sym is) ∙ equals v v refl) (later same)
-      go (Some u) is same later = both (ap (λ o. unwrap_or o v == v) (sym (query g) ∙ sym is) ∙ equals u v same.0) (later same.1)
-
 pub heard : (c : Read) (v : ℕ) (gs : List Real) → (answers_of Everyone c 0 gs ≢ []) → Same v (answers_of Everyone c 0 gs)
     → hears (command_seen c) (Byte v) (map gear_seen gs) ≡ true
-heard read.QueryShort v gs some same =
-    both (some_answer read.QueryShort QueryShort v (λ g e. sym (query g) ∙ e) 0 gs some same) (all_answer v 0 gs same) where
-      both : {a b : Bool} → a ≡ true → b ≡ true → (a && b) ≡ true
-      both {a} {b} first second = rw (first, second) refl
+heard read.QueryShort v gs some same = some_answer read.QueryShort QueryShort v (λ g e. sym (query g) ∙ e) 0 gs some same
 heard (read.RandomByte s q) v gs some same = some_answer (read.RandomByte s q) (QueryRandom s (part_seen q)) v (λ g e. random s v q g e) 0 gs some same
 heard _ v gs some same = refl

@@ -1,4 +1,5 @@
-use Rattle.std.proofs.Common.{◌≡◌, ℕ, ◌+◌, ◌*◌, ◌/◌, ◌%◌, Bool, true, false, refl, sym, ap, subst, ◌∙◌, arith, List, [], ◌∷◌, map, Option, Some, None, ◌==◌}
+use Rattle.std.proofs.Common.{◌≡◌, ℕ, ◌+◌, ◌*◌, ◌/◌, ◌%◌, Bool, true, false, refl, sym, ap, subst, ◌∙◌, arith, List, [], ◌∷◌, ◌++◌, map, Option, Some, None}
+use Rattle.std.proofs.Common.{◌==◌}
 use Rattle.std.proofs.Common.{◌&&◌, if◌then◌else◌, option_map, nat_lt}
 use Rattle.dali_frame.specs.{Random.value_of, Short.short_of}
 use Rattle.dali_frame.specs.declared.{frames.Answer.Answer, frames.Forward.Forward, numbers.SearchAddress.SearchAddress}
@@ -12,6 +13,7 @@ use Rattle.dali_script.specs.declared.{block.Block.Block, trace.Entry.Entry}
 use Rattle.dali_statement.specs.{Gear.command_seen, Page.Part, Page.High}
 use Rattle.dali_statement.specs.Page.{Middle, Low, byte, Command, Search, QueryShort, code, holds, Heard, Byte, Site, number_sent, is_vacant, tells, may_send}
 use Rattle.dali_statement.specs.Scripts.{heard_seen, entry_seen, said_on, said_of}
+use Rattle.dali_statement.proofs.{One.may_longer, One.tells_longer}
 use Rattle.dali_statement.proofs.Tests.{first_of_both, equal, equals, holds_by, some_is}
 
 -- THE SCRIPTS KEEP RULES 1 AND 2, and QUERY SHORT ADDRESS is sent under a whole number.
@@ -20,8 +22,7 @@ use Rattle.dali_statement.proofs.Tests.{first_of_both, equal, equals, holds_by, 
 abbrev sent_so : (ℕ → Option ℕ) → List (Command × Heard) → Site
 sent_so reserved said = record {
   gear = [];
-  owner = None;
-  said = said;
+  said = λ c. said;
   told = λ q a v. false;
   reserved = λ c a. reserved a;
   enrolled = λ c a r. false;
@@ -30,7 +31,7 @@ sent_so reserved said = record {
 abbrev may : (ℕ → Option ℕ) → List (Command × Heard) → Read → Bool
 may reserved said c = may_send (sent_so reserved said) 0 (command_seen c)
 
-may_at : (s : Site) (c : ℕ) (x : Read) → may_send s c (command_seen x) ≡ may (s.reserved c) s.said x
+may_at : (s : Site) (c : ℕ) (x : Read) → may_send s c (command_seen x) ≡ may (s.reserved c) (s.said c) x
 may_at s c read.Terminate = refl
 may_at s c (read.Initialise t) = refl
 may_at s c read.Randomise = refl
@@ -185,11 +186,12 @@ module _ (b : Block) (records : List Assignment) (reserved : ℕ → Option ℕ)
 
 -- ---------------------------------------------------------------- the laws
 
-pub rules_kept : (b : Block) (records : List Assignment) (t : List Entry) (f : Forward) (s : Site) (c : ℕ) → Lawful b records t f → s.said ≡ said_of t
-    → ((a r : ℕ) → Has records (a, r) → s.reserved c a ≡ Some r) → may_send s c (command_seen (command_of f)) ≡ true
-rules_kept b records t f s c lawful said same =
-    may_at s c (command_of f) ∙ ap (λ ms. may (s.reserved c) ms (command_of f)) said
-    ∙ (along (s.reserved c) at_power_on [] t f (steps lawful.0) lawful.2 (each_script b records (s.reserved c) same lawful.0 lawful.1)).0
+pub rules_kept : (b : Block) (records : List Assignment) (t : List Entry) (f : Forward) (s : Site) (c : ℕ) (older : List (Command × Heard))
+    → Lawful b records t f → s.said c ≡ said_of t ++ older → ((a r : ℕ) → Has records (a, r) → s.reserved c a ≡ Some r)
+    → may_send s c (command_seen (command_of f)) ≡ true
+rules_kept b records t f s c older lawful said same =
+    may_longer s c (said_of t) older (command_seen (command_of f)) said (may_at (record s { said = λ d. said_of t }) c (command_of f)
+    ∙ (along (s.reserved c) at_power_on [] t f (steps lawful.0) lawful.2 (each_script b records (s.reserved c) same lawful.0 lawful.1)).0)
 
 code_is : (v a : ℕ) → short_of v ≡ Some a → v ≡ 2 * a + 1
 code_is v a e = go ((v % 2 == 1) && nat_lt v 128) refl e where
@@ -197,14 +199,14 @@ code_is v a e = go ((v % 2 == 1) && nat_lt v 128) refl e where
   go true odd e = let one : v % 2 ≡ 1 = equal (v % 2) 1 (first_of_both _ _ odd) in let half : v / 2 ≡ a = some_is e in omega arith
   go false odd e = absurd (cc)
 
-pub query_tells : (b : Block) (records : List Assignment) (t : List Entry) (f : Forward) (s : Site) (c v a : ℕ) (q : Part) → Lawful b records t f
-    → s.said ≡ said_of t → ((d r : ℕ) → Has records (d, r) → s.reserved c d ≡ Some r) → command_of f ≡ read.QueryShort → short_of v ≡ Some a
-    → tells QueryShort (Byte v) s.said q a (byte q (value_of (search_of t))) ≡ true
-query_tells b records t f s c v a q lawful said same is short =
+pub query_tells : (b : Block) (records : List Assignment) (t : List Entry) (f : Forward) (s : Site) (c : ℕ) (older : List (Command × Heard)) (v a : ℕ)
+    (q : Part) → Lawful b records t f → s.said c ≡ said_of t ++ older → ((d r : ℕ) → Has records (d, r) → s.reserved c d ≡ Some r)
+    → command_of f ≡ read.QueryShort → short_of v ≡ Some a → tells QueryShort (Byte v) (s.said c) q a (byte q (value_of (search_of t))) ≡ true
+query_tells b records t f s c older v a q lawful said same is short =
     let sent =
     (along (s.reserved c) at_power_on [] t f (steps lawful.0) lawful.2 (each_script b records (s.reserved c) same lawful.0 lawful.1)).1 (ap asks is) in
-    both (equals v (code (Some a)) (code_is v a short))
-    (ap (λ n. holds (byte q (value_of (search_of t))) (option_map (byte q) n)) (ap number_sent said ∙ sent) ∙ equals (byte q (value_of (search_of t))) _ refl)
-  where
-    both : {x y : Bool} → x ≡ true → y ≡ true → (x && y) ≡ true
-    both {x} {y} first second = rw (first, second) refl
+    ap (λ l. tells QueryShort (Byte v) l q a (byte q (value_of (search_of t)))) said
+    ∙ tells_longer QueryShort (Byte v) (said_of t) older q a (byte q (value_of (search_of t))) (both (equals v (code (Some a)) (code_is v a short))
+    (ap (λ n. holds (byte q (value_of (search_of t))) (option_map (byte q) n)) sent ∙ equals (byte q (value_of (search_of t))) _ refl)) where
+      both : {x y : Bool} → x ≡ true → y ≡ true → (x && y) ≡ true
+      both {x} {y} first second = rw (first, second) refl

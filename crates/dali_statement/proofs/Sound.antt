@@ -7,7 +7,6 @@ use Rattle.dali_statement.proofs.{Moved.At, One.IsShort, Tests.equal, Tests.some
 -- WHAT IS SOUND of gear, records and what was told.
 
 pub record Sound (p : Plan) (gs : List Gear) (reserved : ℕ → ℕ → Option ℕ) (enrolled : ℕ → ℕ → ℕ → Bool) (told : Part → ℕ → ℕ → Bool) : Type 0 where
-  pub apart : are_apart gs ≡ true
   pub once : (g h a : ℕ) (x y : Gear) → At gs g x → At gs h y → x.short ≡ Some a → y.short ≡ Some a → g ≡ h
   pub short : (g : ℕ) (x : Gear) → At gs g x → IsShort x
   -- an address that is reserved is one of the block, for a number below FFFFFF; a gear that has it has the number
@@ -51,7 +50,7 @@ pub record Moves (reserved : ℕ → ℕ → Option ℕ) (gs hs : List Gear) : T
       → (x : Gear) × At gs g x × (y.random ≡ x.random) × ((x.short ≡ Some a) ⊎ ((c : ℕ) × (reserved c a ≡ Some x.random)))
 
 module _ (p : Plan) (gs hs : List Gear) (reserved : ℕ → ℕ → Option ℕ) (enrolled : ℕ → ℕ → ℕ → Bool) (told : Part → ℕ → ℕ → Bool)
-    (sound : Sound p gs reserved enrolled told) (moves : Moves reserved gs hs) where
+    (apart : are_apart gs ≡ true) (sound : Sound p gs reserved enrolled told) (moves : Moves reserved gs hs) where
   abbrev Was : ℕ → Gear → Type 0
   Was a x = (x.short ≡ Some a) ⊎ ((c : ℕ) × (reserved c a ≡ Some x.random))
 
@@ -64,14 +63,13 @@ module _ (p : Plan) (gs hs : List Gear) (reserved : ℕ → ℕ → Option ℕ) 
   same_gear : (g h a : ℕ) (x y : Gear) → At gs g x → At gs h y → Was a x → Was a y → g ≡ h
   same_gear g h a x y at there (inl had) (inl has) = sound.once g h a x y at there had has
   same_gear g h a x y at there (inr new) other =
-      apart_at gs g h x y sound.apart at there (sym (number_of new.0 a x.random h y new.1 there other)) (sound.within new.0 a x.random new.1).2
+      apart_at gs g h x y apart at there (sym (number_of new.0 a x.random h y new.1 there other)) (sound.within new.0 a x.random new.1).2
   same_gear g h a x y at there (inl had) (inr new) =
-      apart_at gs g h x y sound.apart at there (number_of new.0 a y.random g x new.1 at (inl had))
+      apart_at gs g h x y apart at there (number_of new.0 a y.random g x new.1 at (inl had))
       (subst (λ n. n < 0xFFFFFF) (sym (number_of new.0 a y.random g x new.1 at (inl had))) (sound.within new.0 a y.random new.1).2)
 
-  pub sound_after : are_apart hs ≡ true → Sound p hs reserved enrolled told
-  sound_after apart = record {
-    apart = apart;
+  pub sound_after : Sound p hs reserved enrolled told
+  sound_after = record {
     once = λ g h a x y at there is same. let first = moves.from g a x at is in let second = moves.from h a y there same in
         same_gear g h a first.0 second.0 first.1 second.1 first.3 second.3;
     short = λ g y at a is. let was = moves.from g a y at is in is_short g a was.0 was.1 was.3;

@@ -1,66 +1,123 @@
-use Rattle.std.proofs.Common.{◌≡◌, ◌⊎◌, inl, inr, ℕ, ◌<◌, ◌+◌, ◌*◌, Bool, true, false, refl, sym, ap, subst, ◌∙◌, arith, List, ◌∷◌, Option, Some, None, ◌==◌}
-use Rattle.std.proofs.Common.{◌&&◌, nat_lt, if◌then◌else◌, option_map}
-use Rattle.std.specs.Prelude.{unwrap_or}
-use Rattle.dali_statement.specs.Page.{Part, High, Middle, Low, same, byte, Command, QueryShort, QueryRandom, Gear, is_found, takes, holds, answer, code, Heard}
-use Rattle.dali_statement.specs.Page.{Byte, Destroyed, Sent, Plan, Site, number_sent, is_told, tells, gear_after, hears, may_send}
-use Rattle.dali_statement.proofs.{Moved.At, Moved.Takes, Moved.taken, Moved.taking, One.Knows, One.Given, One.HeardOf, One.kept_by, One.new_by, One.knows_after}
-use Rattle.dali_statement.proofs.{One.knows_missed, One.searched, One.found_live, One.found_random, Sound.Sound, Sound.Moves, Sound.one_at, Sound.same_bytes}
+use Rattle.std.proofs.Common.{◌≡◌, ◌⊎◌, inl, inr, ℕ, ◌<◌, ◌+◌, ◌*◌, Bool, true, false, refl, sym, ap, subst, ◌∙◌, arith, List, ◌∷◌, Option, Some, None}
+use Rattle.std.proofs.Common.{◌&&◌, nat_lt, if◌then◌else◌, option_map, slice_get}
+use Rattle.std.specs.{Prelude.unwrap_or, List.list_all}
+use Rattle.dali_statement.specs.Page.{Part, High, Middle, Low, same, byte, Command, QueryShort, QueryRandom, Other, Gear, is_found, takes, holds, answer, code}
+use Rattle.dali_statement.specs.Page.{Heard, Byte, Sent, Destroyed, Plan, Site, number_sent, is_told, tells, frame_at, gear_after, hears, are_apart, may_send}
+use Rattle.dali_statement.proofs.{Moved.At, Moved.Becomes, Moved.befallen, Moved.befalling, Moved.Takes, Moved.taken, Moved.taking, One.Knows, One.Few}
+use Rattle.dali_statement.proofs.{One.Given}
+use Rattle.dali_statement.proofs.{One.HeardOf, One.kept_by, One.new_by, One.knows_after, One.knows_missed, One.searched, One.found_live, One.found_random}
+use Rattle.dali_statement.proofs.{Sound.Sound, Sound.Moves, Sound.one_at, Sound.same_bytes, Sound.apart_at}
 use Rattle.dali_statement.proofs.Tests.{first_of_both, second_of_both, equal, below, below_by, holds_is, any_at, all_at}
 
 -- EACH MOMENT that is allowed keeps what is sound.
 
 pub record Safe (p : Plan) (s : Site) : Type 0 where
   pub sound : Sound p s.gear s.reserved s.enrolled s.told
-  pub knows : (g : ℕ) (x : Gear) → At s.gear g x → Knows s.said x
+  pub knows : (c g : ℕ) (x : Gear) → At s.gear g x → Knows (s.said c) x
 
 -- ---------------------------------------------------------------- a frame
-
-heard_of : (m : Command) (h : Heard) (gs : List Gear) → hears m h gs ≡ true → (g : ℕ) (x : Gear) → At gs g x → HeardOf m h x
-heard_of QueryShort (Byte v) gs e g x at = all_at (λ y. unwrap_or (answer QueryShort y) v == v) gs g x (second_of_both _ _ e) at
-heard_of _ _ gs e g x at = tt
-
-module _ (p : Plan) (s : Site) (c : ℕ) (m : Command) (reach : List (Option ℕ)) (h : Heard) (safe : Safe p s) (may : may_send s c m ≡ true) where
-  frame_to : (g a : ℕ) (x : Gear) → At s.gear g x → x.short ≡ Some a
-      → (y : Gear) × At (gear_after (Sent c m reach h) s.gear) g y × (y.short ≡ Some a) × (y.random ≡ x.random)
-  frame_to g a x at is = let now = taking c m reach h s.gear g x at in let here = go now.0 now.2 in (now.0, now.1, here.0, here.1) where
-    go : (y : Gear) → Takes m h x y → (y.short ≡ Some a) × (y.random ≡ x.random)
-    go y (inl missed) = (ap (λ z. z.short) missed.1 ∙ is, ap (λ z. z.random) missed.1)
-    go y (inr took) =
-        let kept = kept_by s c m took.0 a x (safe.knows g x at) may is in (ap (λ z. z.short) took.1 ∙ kept.0, ap (λ z. z.random) took.1 ∙ kept.1)
-
-  frame_from : (g a : ℕ) (y : Gear) → At (gear_after (Sent c m reach h) s.gear) g y → y.short ≡ Some a
-      → (x : Gear) × At s.gear g x × (y.random ≡ x.random) × ((x.short ≡ Some a) ⊎ ((d : ℕ) × (s.reserved d a ≡ Some x.random)))
-  frame_from g a y at is = let was = taken c m reach h s.gear g y at in let here = go was.0 was.1 was.2 in (was.0, was.1, here.0, here.1) where
-    go : (x : Gear) → At s.gear g x → Takes m h x y → (y.random ≡ x.random) × ((x.short ≡ Some a) ⊎ ((d : ℕ) × (s.reserved d a ≡ Some x.random)))
-    go x there (inl missed) = (ap (λ z. z.random) missed.1, inl (ap (λ z. z.short) (sym missed.1) ∙ is))
-    go x there (inr took) = by (new_by s c m took.0 a x (safe.knows g x there) may (ap (λ z. z.short) (sym took.1) ∙ is)) where
-      by : (x.short ≡ Some a) ⊎ (Given s c a x × ((takes m took.0 x).random ≡ x.random))
-          → (y.random ≡ x.random) × ((x.short ≡ Some a) ⊎ ((d : ℕ) × (s.reserved d a ≡ Some x.random)))
-      by (inl had) = (ap (λ z. z.random) took.1 ∙ (kept_by s c m took.0 a x (safe.knows g x there) may had).1, inl had)
-      by (inr new) = (ap (λ z. z.random) took.1 ∙ new.1, inr (c, new.0))
-
-  pub frame_moves : Moves s.reserved s.gear (gear_after (Sent c m reach h) s.gear)
-  frame_moves = record { to = frame_to; from = frame_from }
-
-  pub frame_knows : (h ≡ Destroyed → ⊥) → hears m h s.gear ≡ true → (g : ℕ) (y : Gear) → At (gear_after (Sent c m reach h) s.gear) g y
-      → Knows ((m, h) ∷ s.said) y
-  frame_knows whole heard g y at = let was = taken c m reach h s.gear g y at in go was.0 was.1 was.2 where
-    go : (x : Gear) → At s.gear g x → Takes m h x y → Knows ((m, h) ∷ s.said) y
-    go x there (inl missed) = subst (λ z. Knows ((m, h) ∷ s.said) z) (sym missed.1) (knows_missed s m h x missed.0 whole (safe.knows g x there))
-    go x there (inr took) = subst (λ z. Knows ((m, h) ∷ s.said) z) (sym took.1)
-        (knows_after s c m h took.0 x (safe.sound.short g x there) (safe.knows g x there) may (heard_of m h s.gear heard g x there))
-
--- ---------------------------------------------------------------- what an answer tells
-
-code_is : (a : ℕ) (o : Option ℕ) → a < 64 → ((b : ℕ) → o ≡ Some b → b < 64) → code o ≡ code (Some a) → o ≡ Some a
-code_is a None small short e = absurd (omega arith)
-code_is a (Some b) small short e = ap (λ n. Some n) (omega arith)
 
 answered : (x : Gear) (v : ℕ) → holds v (answer QueryShort x) ≡ true → (is_found x ≡ true) × (code x.short ≡ v)
 answered x v e = go (is_found x) refl e where
   go : (t : Bool) → is_found x ≡ t → holds v (if t then Some (code x.short) else None) ≡ true → (is_found x ≡ true) × (code x.short ≡ v)
   go true found e = (found, equal (code x.short) v e)
   go false found e = absurd (cc)
+
+-- a gear takes a frame that some sender may send
+abbrev pub Took : Site → Gear → Gear → Type 0
+Took s x y = (y ≡ x) ⊎ ((c : ℕ) × (m : Command) × (n : ℕ) × (may_send s c m ≡ true) × (y ≡ takes m n x))
+
+module _ (p : Plan) (s : Site) (safe : Safe p s) where
+  few : (c : ℕ) → Few s c
+  few c a r e = (safe.sound.within c a r e).2
+
+  module _ (hs : List Gear) (to : (g : ℕ) (x : Gear) → At s.gear g x → (y : Gear) × At hs g y × Took s x y)
+      (from : (g : ℕ) (y : Gear) → At hs g y → (x : Gear) × At s.gear g x × Took s x y) where
+    took_to : (g a : ℕ) (x : Gear) → At s.gear g x → x.short ≡ Some a → (y : Gear) × At hs g y × (y.short ≡ Some a) × (y.random ≡ x.random)
+    took_to g a x at is = let now = to g x at in let here = go now.0 now.2 in (now.0, now.1, here.0, here.1) where
+      go : (y : Gear) → Took s x y → (y.short ≡ Some a) × (y.random ≡ x.random)
+      go y (inl missed) = (ap (λ z. z.short) missed ∙ is, ap (λ z. z.random) missed)
+      go y (inr took) =
+          let kept = kept_by s took.0 took.1 took.2 a x (few took.0) (safe.knows took.0 g x at) took.3 is in
+          (ap (λ z. z.short) took.4 ∙ kept.0, ap (λ z. z.random) took.4 ∙ kept.1)
+
+    took_from : (g a : ℕ) (y : Gear) → At hs g y → y.short ≡ Some a
+        → (x : Gear) × At s.gear g x × (y.random ≡ x.random) × ((x.short ≡ Some a) ⊎ ((d : ℕ) × (s.reserved d a ≡ Some x.random)))
+    took_from g a y at is = let was = from g y at in let here = go was.0 was.1 was.2 in (was.0, was.1, here.0, here.1) where
+      go : (x : Gear) → At s.gear g x → Took s x y → (y.random ≡ x.random) × ((x.short ≡ Some a) ⊎ ((d : ℕ) × (s.reserved d a ≡ Some x.random)))
+      go x there (inl missed) = (ap (λ z. z.random) missed, inl (ap (λ z. z.short) (sym missed) ∙ is))
+      go x there (inr took) =
+          by (new_by s took.0 took.1 took.2 a x (few took.0) (safe.knows took.0 g x there) took.3 (ap (λ z. z.short) (sym took.4) ∙ is)) where
+            by : (x.short ≡ Some a) ⊎ (Given s took.0 a x × ((takes took.1 took.2 x).random ≡ x.random))
+                → (y.random ≡ x.random) × ((x.short ≡ Some a) ⊎ ((d : ℕ) × (s.reserved d a ≡ Some x.random)))
+            by (inl had) =
+                (ap (λ z. z.random) took.4 ∙ (kept_by s took.0 took.1 took.2 a x (few took.0) (safe.knows took.0 g x there) took.3 had).1, inl had)
+            by (inr new) = (ap (λ z. z.random) took.4 ∙ new.1, inr (took.0, new.0))
+
+    pub took_moves : Moves s.reserved s.gear hs
+    took_moves = record { to = took_to; from = took_from }
+
+  -- ---------------------------------------------------------------- a frame that is whole
+
+  heard_of : are_apart s.gear ≡ true → (c : ℕ) (m : Command) (h : Heard) → hears m h s.gear ≡ true → (g : ℕ) (x : Gear) → At s.gear g x
+      → HeardOf (s.said c) m h x
+  heard_of apart c QueryShort (Byte v) e g x at =
+      let any = any_at (λ y. holds v (answer QueryShort y)) s.gear e in
+      let has = answered any.1 v any.3 in
+      λ r sent small is. let other : any.1.random ≡ r =
+      found_random any.1 has.0 ∙ searched (s.said c) any.1 r (safe.knows c any.0 any.1 any.2) sent (found_live any.1 has.0) in
+      let here : g ≡ any.0 =
+      apart_at s.gear g any.0 x any.1 apart at any.2 (is ∙ sym other) (subst (λ n. n < 0xFFFFFF) (sym is) small) in
+      ap (λ y. code y.short) (one_at s.gear any.0 x any.1 (subst (λ k. At s.gear k x) here at) any.2) ∙ has.1
+  heard_of apart c _ _ e g x at = tt
+
+  module _ (m : Command) (ws : List (ℕ × Heard)) (reach : List (Option ℕ)) where
+    pub frame_moves : (c : ℕ) → may_send s c m ≡ true → Moves s.reserved s.gear (gear_after (Sent m ws reach) s.gear)
+    frame_moves c may = took_moves (gear_after (Sent m ws reach) s.gear)
+        (λ g x at. let now = taking m ws reach s.gear g x at in (now.0, now.1, go x now.0 now.2))
+        (λ g y at. let was = taken m ws reach s.gear g y at in (was.0, was.1, go was.0 y was.2)) where
+          go : (x y : Gear) → Takes m x y → Took s x y
+          go x y (inl missed) = inl missed.1
+          go x y (inr took) = inr (c, m, took.0, may, took.1)
+
+    pub frame_knows : are_apart s.gear ≡ true → (c : ℕ) (h : Heard) → may_send s c m ≡ true → hears m h s.gear ≡ true → (g : ℕ) (y : Gear)
+        → At (gear_after (Sent m ws reach) s.gear) g y → Knows ((m, h) ∷ s.said c) y
+    frame_knows apart c h may heard g y at = let was = taken m ws reach s.gear g y at in go was.0 was.1 was.2 where
+      go : (x : Gear) → At s.gear g x → Takes m x y → Knows ((m, h) ∷ s.said c) y
+      go x there (inl missed) =
+          subst (λ z. Knows ((m, h) ∷ s.said c) z) (sym missed.1) (knows_missed (s.said c) m h x missed.0 (safe.knows c g x there))
+      go x there (inr took) = subst (λ z. Knows ((m, h) ∷ s.said c) z) (sym took.1) (knows_after s c m h took.0 x (safe.sound.short g x there)
+          (safe.knows c g x there) may (heard_of apart c m h heard g x there))
+
+  -- ---------------------------------------------------------------- frames that are destroyed
+
+  pub destroyed_moves : (frames : List (ℕ × Command)) (reach : List (Option (ℕ × ℕ))) → list_all (λ f. may_send s f.0 f.1) frames ≡ true
+      → Moves s.reserved s.gear (gear_after (Destroyed frames reach) s.gear)
+  destroyed_moves frames reach may = took_moves (gear_after (Destroyed frames reach) s.gear)
+      (λ g x at. let now = befalling change reach s.gear g x at in (now.0, now.1, go x now.0 now.2))
+      (λ g y at. let was = befallen change reach s.gear g y at in (was.0, was.1, go was.0 y was.2)) where
+        change : ℕ × ℕ → Gear → Gear
+        change = λ w g. takes (frame_at frames w.0) w.1 g
+
+        go : (x y : Gear) → Becomes change x y → Took s x y
+        go x y (inl missed) = inl missed
+        go x y (inr took) = by (slice_get frames took.0.0) refl took.1 where
+          by : (o : Option (ℕ × Command)) → slice_get frames took.0.0 ≡ o
+              → y ≡ takes (unwrap_or (option_map (λ f. f.1) (slice_get frames took.0.0)) Other) took.0.1 x → Took s x y
+          by None at e = inl (e ∙ ap (λ o. takes (unwrap_or (option_map (λ f. f.1) o) Other) took.0.1 x) at)
+          by (Some f) at e = inr (
+            f.0,
+            f.1,
+            took.0.1,
+            all_at (λ k. may_send s k.0 k.1) frames took.0.0 f may at,
+            e ∙ ap (λ o. takes (unwrap_or (option_map (λ k. k.1) o) Other) took.0.1 x) at,
+          )
+
+-- ---------------------------------------------------------------- what an answer tells
+
+code_is : (a : ℕ) (o : Option ℕ) → a < 64 → ((b : ℕ) → o ≡ Some b → b < 64) → code o ≡ code (Some a) → o ≡ Some a
+code_is a None small short e = absurd (omega arith)
+code_is a (Some b) small short e = ap (λ n. Some n) (omega arith)
 
 told_byte : (q : Part) (v : ℕ) (o : Option ℕ) → holds v (option_map (byte q) o) ≡ true → (r : ℕ) × (o ≡ Some r) × (byte q r ≡ v)
 told_byte q v None e = absurd (cc)
@@ -78,21 +135,21 @@ same_is Middle Middle e = refl
 same_is Low Low e = refl
 same_is _ _ e = absurd (cc)
 
-pub told_true : (p : Plan) (s : Site) (m : Command) (h : Heard) → Safe p s → hears m h s.gear ≡ true → (q : Part) (a v : ℕ) → a < 64
-    → tells m h s.said q a v ≡ true → (g : ℕ) × (x : Gear) × At s.gear g x × (x.short ≡ Some a) × (byte q x.random ≡ v)
-told_true p s QueryShort (Byte w) safe heard q a v small e =
-    let any = any_at (λ x. holds w (answer QueryShort x)) s.gear (first_of_both _ _ heard) in
-    let sent = told_byte q v (number_sent s.said) (second_of_both _ _ e) in
+pub told_true : (p : Plan) (s : Site) (c : ℕ) (m : Command) (h : Heard) → Safe p s → hears m h s.gear ≡ true → (q : Part) (a v : ℕ) → a < 64
+    → tells m h (s.said c) q a v ≡ true → (g : ℕ) × (x : Gear) × At s.gear g x × (x.short ≡ Some a) × (byte q x.random ≡ v)
+told_true p s c QueryShort (Byte w) safe heard q a v small e =
+    let any = any_at (λ x. holds w (answer QueryShort x)) s.gear heard in
+    let sent = told_byte q v (number_sent (s.said c)) (second_of_both _ _ e) in
     let x = any.1 in
     let has = answered x w any.3 in
-    let at : x.random ≡ sent.0 = found_random x has.0 ∙ searched s.said x sent.0 (safe.knows any.0 x any.2) sent.1 (found_live x has.0) in (
+    let at : x.random ≡ sent.0 = found_random x has.0 ∙ searched (s.said c) x sent.0 (safe.knows c any.0 x any.2) sent.1 (found_live x has.0) in (
       any.0,
       x,
       any.2,
       code_is a x.short small (safe.sound.short any.0 x any.2) (has.1 ∙ equal w (code (Some a)) (first_of_both _ _ e)),
       ap (byte q) at ∙ sent.2,
     )
-told_true p s (QueryRandom b r) (Byte w) safe heard q a v small e =
+told_true p s c (QueryRandom b r) (Byte w) safe heard q a v small e =
     let any = any_at (λ x. holds w (answer (QueryRandom b r) x)) s.gear heard in
     let has = spelled any.1 b w r any.3 in
     let rest = second_of_both _ _ e in (
@@ -102,7 +159,7 @@ told_true p s (QueryRandom b r) (Byte w) safe heard q a v small e =
       has.0 ∙ ap (λ n. Some n) (sym (equal a b (first_of_both _ _ e))),
       ap (λ t. byte t any.1.random) (same_is q r (first_of_both _ _ rest)) ∙ has.1 ∙ sym (equal v w (second_of_both _ _ rest)),
     )
-told_true p s _ _ safe heard q a v small e = absurd (cc)
+told_true p s c _ _ safe heard q a v small e = absurd (cc)
 
 -- the gear that was told to have a random address, if all that was told is true
 abbrev pub Told : Type 0

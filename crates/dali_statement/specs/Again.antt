@@ -1,5 +1,5 @@
 use Rattle.std.specs.Prelude.{◌≡◌, ℕ, true, Some, None, List, slice_get, slice_set}
-use Rattle.dali_statement.specs.Page.{Gear, Moment, Plan, start, after, are_apart}
+use Rattle.dali_statement.specs.Page.{Gear, Moment, Plan, start, after}
 
 -- WHERE A HISTORY ENDED, AS A PLAN: the gear and the records that are there then.
 abbrev pub ended : Plan → List Moment → Plan
@@ -24,6 +24,5 @@ pub record IsReplaced (p : Plan) (g : ℕ) (old new : Gear) (a : ℕ) (q : Plan)
   pub had : old.short ≡ Some a
   pub bare : new.short ≡ None
   pub gear : q.gear ≡ slice_set p.gear g new
-  pub apart : are_apart (slice_set p.gear g new) ≡ true
   pub block : q.block ≡ p.block
   pub records : AreWithout a p q

@@ -4,3 +4,4 @@ pub mod Whole
 pub mod Weaker
 pub mod Gear
 pub mod Scripts
+pub mod Own

@@ -84,21 +84,21 @@ answer _ g = None
 
 -- ---------------------------------------------------------------- what happens
 
--- What the sender of a frame hears: a byte; silence or a damaged answer; or that the frame was
--- destroyed.
+-- What the sender of a frame hears: a byte, or silence or a damaged answer.
 pub data Heard : Type 0 where
   Byte : ℕ → Heard
   Nothing : Heard
-  Destroyed : Heard
 
 -- A MOMENT. A list says for each gear, in order, whether something befalls it: None, or Some n,
 -- with the number that it draws then, if it draws.
 pub data Moment : Type 0 where
-  -- a sender sent a frame; of INITIALISE, RANDOMISE and destroyed frames these gear executed it, of
-  -- all others each gear did
-  Sent : ℕ → Command → List (Option ℕ) → Heard → Moment
-  -- the transaction ends: it is complete, or its sender gave up, restarted or lost the bus
-  Ends : Moment
+  -- a frame was sent whole, by one sender or by several in step, each with what it heard; of
+  -- INITIALISE and RANDOMISE these gear executed it, of all others each gear did. A sender whose
+  -- frame gave way to it is none of them.
+  Sent : Command → List (ℕ × Heard) → List (Option ℕ) → Moment
+  -- frames were destroyed, one or several that overlap, each with its sender; these gear executed
+  -- one of them, by its place in the list
+  Destroyed : List (ℕ × Command) → List (Option (ℕ × ℕ)) → Moment
   -- a sender keeps a record: short address, then random address
   Reserves : ℕ → ℕ → ℕ → Moment
   Enrols : ℕ → ℕ → ℕ → Moment
@@ -119,9 +119,8 @@ pub record Plan : Type 0 where
 -- A SITE at one moment.
 pub record Site : Type 0 where
   pub gear : List Gear
-  -- who owns the bus, and the frames of its transaction with what was heard, the newest first
-  pub owner : Option ℕ
-  pub said : List (Command × Heard)
+  -- the list of each sender: its frames with what it heard, the newest first
+  pub said : ℕ → List (Command × Heard)
   -- the gear with this short address was told to have this byte in its random address
   pub told : Part → ℕ → ℕ → Bool
   -- the random address for which a sender has reserved a short address
@@ -132,14 +131,13 @@ pub record Site : Type 0 where
 abbrev pub start : Plan → Site
 start p = record {
   gear = p.gear;
-  owner = None;
-  said = [];
+  said = λ c. [];
   told = λ p a v. false;
   reserved = p.reserved;
   enrolled = p.enrolled;
 }
 
--- ---------------------------------------------------------------- what a transaction has said
+-- ---------------------------------------------------------------- what a sender has said
 
 -- the search byte that was sent last, since the last INITIALISE; and the number, if all three were
 abbrev pub byte_sent : Part → List (Command × Heard) → Option ℕ
@@ -186,36 +184,50 @@ is_told s a r =
 
 -- ---------------------------------------------------------------- what a moment does
 
-abbrev pub may_miss : Command → Heard → Bool
-may_miss (Initialise d) h = true
-may_miss Randomise h = true
-may_miss x Destroyed = true
-may_miss x h = false
+-- a gear may miss a frame, though it was sent whole
+abbrev pub may_miss : Command → Bool
+may_miss (Initialise d) = true
+may_miss Randomise = true
+may_miss x = false
 
-abbrev pub befalls : (ℕ → Gear → Gear) → List (Option ℕ) → List Gear → List Gear
-befalls change [] gs = gs
-befalls change (n ∷ reach) [] = []
-befalls change (None ∷ reach) (g ∷ gs) = g ∷ befalls change reach gs
-befalls change (Some n ∷ reach) (g ∷ gs) = change n g ∷ befalls change reach gs
+abbrev pub befalls : {A : Type 0} → (A → Gear → Gear) → List (Option A) → List Gear → List Gear
+befalls {A} change [] gs = gs
+befalls {A} change (n ∷ reach) [] = []
+befalls {A} change (None ∷ reach) (g ∷ gs) = g ∷ befalls change reach gs
+befalls {A} change (Some n ∷ reach) (g ∷ gs) = change n g ∷ befalls change reach gs
+
+abbrev pub frame_at : List (ℕ × Command) → ℕ → Command
+frame_at frames k = unwrap_or (option_map (λ f. f.1) (slice_get frames k)) Other
 
 abbrev pub gear_after : Moment → List Gear → List Gear
-gear_after (Sent c x reach h) gs =
-    if may_miss x h then befalls (takes x) reach gs else map (takes x 0) gs
+gear_after (Sent x senders reach) gs =
+    if may_miss x then befalls (takes x) reach gs else map (takes x 0) gs
+gear_after (Destroyed frames reach) gs =
+    befalls (λ w g. takes (frame_at frames w.0) w.1 g) reach gs
 gear_after (Power reach) gs =
     befalls (λ n g. record g { live = false; search = λ p. 0xFF }) reach gs
 gear_after (Expires reach) gs = befalls (λ n g. record g { live = false }) reach gs
 gear_after _ gs = gs
 
+-- what a sender heard, if it is one of these
+abbrev pub heard_by : ℕ → List (ℕ × Heard) → Option Heard
+heard_by c [] = None
+heard_by c (w ∷ senders) = if w.0 == c then Some w.1 else heard_by c senders
+
+-- a frame joins the list of each sender that sent it, and empties all other lists
+abbrev pub list_after : Command → Option Heard → List (Command × Heard) → List (Command × Heard)
+list_after x (Some h) said = (x, h) ∷ said
+list_after x None said = []
+
 abbrev pub happens : Site → Moment → Site
-happens s (Sent c x reach Destroyed) =
-    record s { gear = gear_after (Sent c x reach Destroyed) s.gear; owner = None; said = [] }
-happens s (Sent c x reach h) = record s {
-  gear = gear_after (Sent c x reach h) s.gear;
-  owner = Some c;
-  said = (x, h) ∷ s.said;
-  told = λ p a v. s.told p a v || tells x h s.said p a v;
+happens s (Sent x senders reach) = record s {
+  gear = gear_after (Sent x senders reach) s.gear;
+  said = λ c. list_after x (heard_by c senders) (s.said c);
+  told = λ p a v. s.told p a v || list_any (λ w. tells x w.1 (s.said w.0) p a v) senders;
 }
-happens s Ends = record s { owner = None; said = [] }
+-- a destroyed frame empties all lists, whoever sent it
+happens s (Destroyed frames reach) =
+    record s { gear = gear_after (Destroyed frames reach) s.gear; said = λ c. [] }
 happens s (Reserves c a r) =
     record s { reserved = λ d b. if (d == c) && (b == a) then Some r else s.reserved d b }
 happens s (Enrols c a r) =
@@ -227,12 +239,9 @@ happens s (Expires reach) = record s { gear = gear_after (Expires reach) s.gear 
 
 -- ---------------------------------------------------------------- premises
 
--- HEARING. A byte is heard only if a gear answers so; of QUERY SHORT ADDRESS only if each that
--- answers does.
+-- HEARING. A byte is heard only if a gear answers so.
 abbrev pub hears : Command → Heard → List Gear → Bool
-hears QueryShort (Byte v) gs =
-    list_any (λ g. holds v (answer QueryShort g)) gs
-    && list_all (λ g. unwrap_or (answer QueryShort g) v == v) gs
+hears QueryShort (Byte v) gs = list_any (λ g. holds v (answer QueryShort g)) gs
 hears (QueryRandom a p) (Byte v) gs = list_any (λ g. holds v (answer (QueryRandom a p) g)) gs
 hears _ _ gs = true
 
@@ -248,25 +257,27 @@ are_apart gs = differ (map (λ g. if g.random == 0xFFFFFF then None else Some g.
 
 -- ---------------------------------------------------------------- the five rules for senders
 
--- RULE 1: PROGRAM a only if in this transaction, since its last INITIALISE, all bytes of r were
--- sent; QUERY SHORT ADDRESS after them was heard as FF, and no search byte or PROGRAM sent since;
--- and you have reserved a for r. Never erase.
--- RULE 2: INITIALISE only to gear without short address; RANDOMISE only if in this transaction
--- TERMINATE was sent, and no PROGRAM since.
+-- RULE 1: PROGRAM a only if by your list, since its last INITIALISE, all bytes of r were sent;
+-- QUERY SHORT ADDRESS after them was heard as FF, and no search byte or PROGRAM sent since; and you
+-- have reserved a for r. Never erase.
+-- RULE 2: INITIALISE only to gear without short address; RANDOMISE only if by your list TERMINATE
+-- was sent, and no PROGRAM since.
 abbrev pub may_send : Site → ℕ → Command → Bool
 may_send s c (Program None) = false
 may_send s c (Program (Some a)) =
-    is_vacant s.said
-    && unwrap_or (option_map (λ r. holds r (s.reserved c a)) (number_sent s.said)) false
+    is_vacant (s.said c)
+    && unwrap_or (option_map (λ r. holds r (s.reserved c a)) (number_sent (s.said c))) false
 may_send s c (Initialise d) = d == 0xFF
-may_send s c Randomise = is_open s.said
+may_send s c Randomise = is_open (s.said c)
 may_send s c _ = true
 
 abbrev pub allowed : Plan → Site → Moment → Bool
--- RULE 5: only the owner sends. A transaction begins with nothing said.
-allowed p s (Sent c x reach h) =
-    (unwrap_or s.owner c == c)
-    && (may_send s c x && (hears x h s.gear && are_apart (gear_after (Sent c x reach h) s.gear)))
+-- RULE 5: know your list: you missed no frame and no disturbance while it was not empty, and only
+-- frames that went out as your own joined it. You may forget it at any time.
+allowed p s (Sent x senders reach) =
+    is_some (slice_get senders 0)
+    && list_all (λ w. may_send s w.0 x && hears x w.1 s.gear) senders
+allowed p s (Destroyed frames reach) = list_all (λ f. may_send s f.0 f.1) frames
 -- RULE 3: enrol only what was told.
 allowed p s (Enrols c a r) = is_told s a r
 -- RULE 4: reserve an address of your block that you have not reserved and no gear came with, for a
@@ -279,11 +290,10 @@ allowed p s _ = true
 
 -- ---------------------------------------------------------------- histories
 
--- A PLAN that holds: short addresses and random addresses are different, and records are true.
+-- A PLAN that holds: short addresses are different, and records are true.
 pub record IsPlan (p : Plan) : Type 0 where
   pub shorts : differ (map (λ g. g.short) p.gear) ≡ true
   pub short : list_all (λ g. nat_lt (unwrap_or g.short 0) 64) p.gear ≡ true
-  pub apart : are_apart p.gear ≡ true
   pub reserved : (c a r : ℕ) → p.reserved c a ≡ Some r
       → (p.block a ≡ c) × (a < 64) × (r < 0xFFFFFF)
       × (list_all (λ g. not (holds a g.short) || (g.random == r)) p.gear ≡ true)
@@ -297,7 +307,8 @@ after s (m ∷ ms) = after (happens s m) ms
 -- A HISTORY: each moment keeps the rules and the premises, at the site that those before it leave.
 abbrev pub all_allowed : Plan → Site → List Moment → Bool
 all_allowed p s [] = true
-all_allowed p s (m ∷ ms) = allowed p s m && all_allowed p (happens s m) ms
+all_allowed p s (m ∷ ms) =
+    (are_apart s.gear && allowed p s m) && all_allowed p (happens s m) ms
 
 abbrev pub IsHistory : Plan → List Moment → Type 0
 IsHistory p ms = IsPlan p × (all_allowed p (start p) ms ≡ true)

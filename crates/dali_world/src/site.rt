@@ -393,7 +393,7 @@ impl SiteState {
     /// `dali_events`; the other clauses say more, of what was given and drawn. All gear and all controllers of the plan
     /// are there, and each controller keeps records of its block.
     ///
-    /// The log is a history of the page of `dali_statement`, which has the same gear, owner, reservations and tables in
+    /// The log is a history of the page of `dali_statement`, which has the same gear, reservations and tables in
     /// its end, and keeps the page's promise (`page`).
     pub fn is_safe(&self)
         ensures promise { KeepsPromise self.now.plan self.now.queue self.now.log }

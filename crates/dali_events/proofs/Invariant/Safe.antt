@@ -1,4 +1,5 @@
-use Rattle.std.proofs.Common.{◌≡◌, ℕ, ◌<◌, Bool, true, false, List, [], ◌∷◌, ◌++◌, refl, sym, subst, ◌∙◌, append_assoc, append-nil, arith, length, length-set}
+use Rattle.std.proofs.Common.{◌≡◌, ℕ, ◌<◌, Bool, true, false, List, [], ◌∷◌, ◌++◌, refl, sym, ap, subst, ◌∙◌, append_assoc, append-nil, arith, length}
+use Rattle.std.proofs.Common.{length-set}
 use Rattle.std.proofs.Common.{get_or, None, Some, inl, inr, map, if◌then◌else◌}
 use Rattle.std.{proofs.lemmas.List.length-map, specs.List.AllByRecursion}
 use Rattle.dali_frame.specs.declared.frames.{Answer.Answer, Forward.Forward}
@@ -79,12 +80,15 @@ abbrev ChangeOf : List Used → World → World → Type 0
 ChangeOf us w v = Change (IsOwned us w.controllers) w.gear w.drawn w.gifts v.gear v.drawn v.gifts
 
 module _ (p : Plan) (plan : IsPlan p) (w : World) (e : Event) (here : Allowed w e) (leaves : LeavesUsed p.used e) (k : Holds p w) where
-  numbers : are_apart (map gear_seen (happens w e).gear) ≡ true
-  numbers = apart_seen (happens w e) (are_drawn p (happens w e) plan (draws_step p w e k.draws))
+  numbers : are_apart (map gear_seen w.gear) ≡ true
+  numbers = apart_seen w (are_drawn p w plan k.draws)
 
   -- the moments of the page that it is
   pub next : Next p (happens w e) (site_of p plan w k)
   next = each_event p plan w (site_of p plan w k) k.page.seen (safe_page p plan w k) (records_of p w k.keeps) e here leaves numbers
+
+  numbers_then : are_apart (page_after (site_of p plan w k) next.moments).gear ≡ true
+  numbers_then = ap are_apart next.seen.gear ∙ apart_seen (happens w e) (are_drawn p (happens w e) plan (draws_step p w e k.draws))
 
   page : Leads p (happens w e) (k.moments ++ next.moments)
   page = leads_on p w (happens w e) k.moments k.page next
@@ -109,7 +113,7 @@ module _ (p : Plan) (plan : IsPlan p) (w : World) (e : Event) (here : Allowed w 
       → Has (controller_at (happens w e) c).records.reserved (a, (gear_at (happens w e) g).random)
   stays_step c g a there held has =
       (next.seen.each c (subst (λ n. c < n) (sym (controllers_count w e)) there)).from a (gear_at (happens w e) g).random
-      (reserved_after (plan_seen p) next.moments (site_of p plan w k) (safe_page p plan w k) next.allow c a g (gear_seen (gear_at (happens w e) g))
+      (reserved_after (plan_seen p) next.moments (site_of p plan w k) (safe_page p plan w k) next.allow numbers_then c a g (gear_seen (gear_at (happens w e) g))
       ((k.page.seen.each c there).to a (gear_at (happens w e) g).random has)
       (to_page (happens w e) (page_after (site_of p plan w k) next.moments).gear next.seen.gear g held.0) held.1)
 
@@ -142,8 +146,7 @@ pub found_names : (p : Plan) (plan : IsPlan p) (w : World) (k : Holds p w) (c : 
     → (x : Finding) → found_by (search_of (trace_running w c)) (asked_of (trace_running w c)) (command_of f) h ≡ Some x → Names w (assigned x)
 found_names p plan w k c f h here x e =
     seen_named p plan w k (assigned x).0 (assigned x).1
-    (found_gear p w (site_of p plan w k) k.page.seen (safe_page p plan w k) c f here.up here.may h here.heard
-    (apart_seen (happens w (event.Sent c f h)) (are_drawn p (happens w (event.Sent c f h)) plan (draws_step p w (event.Sent c f h) k.draws))) x e)
+    (found_gear p w (site_of p plan w k) k.page.seen (safe_page p plan w k) c f here.up here.may (apart_seen w (are_drawn p w plan k.draws)) h here.heard x e)
 
 powered_same : (on : Bool) (g : Gear) → ((gear_powered on g).short ≡ g.short) × ((gear_powered on g).random ≡ g.random)
 powered_same false g = (refl, refl)

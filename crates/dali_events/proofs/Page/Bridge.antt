@@ -4,9 +4,11 @@ use Rattle.std.proofs.lemmas.List.{get_or-set_same, get_or-set_other}
 use Rattle.dali_script.specs.Findings.{Asked, nothing, high_byte, two_bytes, asked_of, assigned}
 use Rattle.dali_script.specs.Records.{Assignment, Kept, Has, HasAddress, MayAdd, Fits, is_pair, without_pair, with_record}
 use Rattle.dali_script.{specs.declared.finding.Finding.Finding, specs.declared.records.Record.Record, proofs.Lists.has_map}
+use Rattle.dali_script.specs.declared.trace.Entry.{Entry}
 use Rattle.dali_script.proofs.Members.{Each, has_left, has_right, has_either}
 use Rattle.dali_script.specs.declared.records.Record.TheVariants as record_of
 use Rattle.dali_statement.specs.{Gear.gear_seen, Page.Part, Page.High, Page.Middle, Page.Low, Page.byte, Page.Moment, Page.Reserves, Page.Enrols, Page.Releases}
+use Rattle.dali_statement.specs.Page.{Command, Heard, are_apart}
 use Rattle.dali_statement.{specs.Page.Site, specs.Page.all_allowed, specs.Page.after, specs.Scripts.said_of, proofs.Steps.Told, proofs.Steps.told_so}
 use Rattle.dali_statement.proofs.Tests.{first_of_both, second_of_both, first_of_either, equal, equals, some_is, holds_by, not_true}
 use Rattle.dali_events.specs.{Laws.KeepsRecords, Page.plan_seen, Plan.Plan as SitePlan, Plan.IsPlan as IsSitePlan, Used.used_shorts, World.World}
@@ -74,11 +76,14 @@ AskedSo told (two_bytes a high middle) = (told High a high ≡ true) × (told Mi
 abbrev pub SeenBy : List Used → Site → ℕ → Controller → Type 0
 SeenBy us s c k = By us (s.reserved c) (s.enrolled c) s.told k.records k.outstanding k.finding
 
+-- a controller's list is what its transaction has said, and what it said before
+abbrev pub OnList : (ℕ → List (Command × Heard)) → ℕ → List Entry → Type 0
+OnList said c t = (older : List (Command × Heard)) × (said c ≡ said_of t ++ older)
+
 pub record Seen (p : SitePlan) (w : World) (s : Site) : Type 0 where
   pub count : length w.controllers ≡ length p.blocks
   pub gear : s.gear ≡ map gear_seen w.gear
-  pub owner : s.owner ≡ w.bus.owner
-  pub said : s.said ≡ said_of w.trace
+  pub said : (c : ℕ) → w.bus.owner ≡ Some c → OnList s.said c w.trace
   pub free : w.bus.owner ≡ None → w.trace ≡ []
   pub asked : AskedSo s.told (asked_of w.trace)
   pub each : Each nobody (SeenBy p.used s) w.controllers
@@ -129,8 +134,7 @@ pub record Informed (p : SitePlan) (w : World) (s : Site) (c : ℕ) (kept : Kept
   pub moments : List Moment
   pub allow : all_allowed (plan_seen p) s moments ≡ true
   pub gear : (after s moments).gear ≡ map gear_seen w.gear
-  pub owner : (after s moments).owner ≡ w.bus.owner
-  pub said : (after s moments).said ≡ said_of w.trace
+  pub said : (after s moments).said ≡ s.said
   pub asked : AskedSo (after s moments).told (asked_of w.trace)
   pub own : By p.used ((after s moments).reserved c) ((after s moments).enrolled c) (after s moments).told kept o (controller_at w c).finding
   pub others : (d : ℕ) → d < length w.controllers → (d ≡ c → ⊥) → SeenBy p.used (after s moments) d (controller_at w d)
@@ -142,17 +146,16 @@ uninformed p w s c seen there = record {
   moments = [];
   allow = refl;
   gear = seen.gear;
-  owner = seen.owner;
-  said = seen.said;
+  said = refl;
   asked = seen.asked;
   own = seen.each c there;
   others = λ d here other. seen.each d here;
 }
 
 module _ (p : SitePlan) (plan : IsSitePlan p) (w : World) (s : Site) (c : ℕ) (seen : Seen p w s) (records : KeepsRecords p w)
-    (there : c < length w.controllers) where
-  k : Controller
-  k = controller_at w c
+    (there : c < length w.controllers) (numbers : are_apart (map gear_seen w.gear) ≡ true) where
+  apart : are_apart s.gear ≡ true
+  apart = ap are_apart seen.gear ∙ numbers
 
   known : SeenBy p.used s c (controller_at w c)
   known = seen.each c there
@@ -170,11 +173,11 @@ module _ (p : SitePlan) (plan : IsSitePlan p) (w : World) (s : Site) (c : ℕ) (
       → Informed p w s c (with_record (controller_at w c).records (record_of.Reserve a r)) None
   reserves a r is = record {
     moments = Reserves c a r ∷ [];
-    allow = both (reserve_allowed p s (controller_at w c) c plan a r (subst (λ n. c < n) seen.count there) (records.block c there) (fits.0, fits.1, fresh_one)
-        (known.ordered (record_of.Reserve a r) is) (λ q e. has_map (λ y. y.0) (controller_at w c).records.reserved (a, q) (known.from a q e))) refl;
+    allow = both (both apart (reserve_allowed p s (controller_at w c) c plan a r (subst (λ n. c < n) seen.count there) (records.block c there)
+        (fits.0, fits.1, fresh_one)
+        (known.ordered (record_of.Reserve a r) is) (λ q e. has_map (λ y. y.0) (controller_at w c).records.reserved (a, q) (known.from a q e)))) refl;
     gear = seen.gear;
-    owner = seen.owner;
-    said = seen.said;
+    said = refl;
     asked = seen.asked;
     own = record {
       to = λ b n h. to b n (has_either (controller_at w c).records.reserved ((a, r) ∷ []) (b, n) h);
@@ -219,10 +222,9 @@ module _ (p : SitePlan) (plan : IsSitePlan p) (w : World) (s : Site) (c : ℕ) (
       → Informed p w s c (with_record (controller_at w c).records (record_of.Enrol a r)) None
   enrols a r is = record {
     moments = Enrols c a r ∷ [];
-    allow = both (known.ordered (record_of.Enrol a r) is) refl;
+    allow = both (both apart (known.ordered (record_of.Enrol a r) is)) refl;
     gear = seen.gear;
-    owner = seen.owner;
-    said = seen.said;
+    said = refl;
     asked = seen.asked;
     own = record {
       to = known.to;
@@ -250,10 +252,9 @@ module _ (p : SitePlan) (plan : IsSitePlan p) (w : World) (s : Site) (c : ℕ) (
       → Informed p w s c (with_record (controller_at w c).records (record_of.Release a r)) None
   releases a r is = record {
     moments = Releases c a r found.0 ∷ [];
-    allow = both (both (holds_by r (s.reserved c a) has) (both found.1 (apart (a == found.0) refl))) refl;
+    allow = both (both apart (both (holds_by r (s.reserved c a) has) (both found.1 (other (a == found.0) refl)))) refl;
     gear = seen.gear;
-    owner = seen.owner;
-    said = seen.said;
+    said = refl;
     asked = seen.asked;
     own = record {
       to = λ b n h. to b n (filtered (λ y. not (is_pair (a, r) y)) (controller_at w c).records.reserved (b, n) h);
@@ -276,9 +277,9 @@ module _ (p : SitePlan) (plan : IsSitePlan p) (w : World) (s : Site) (c : ℕ) (
     has : s.reserved c a ≡ Some r
     has = known.to a r (records.may_add c (record_of.Release a r) there is)
 
-    apart : (t : Bool) → (a == found.0) ≡ t → not t ≡ true
-    apart true e = absurd (found.2 (sym (equal a found.0 e)))
-    apart false e = refl
+    other : (t : Bool) → (a == found.0) ≡ t → not t ≡ true
+    other true e = absurd (found.2 (sym (equal a found.0 e)))
+    other false e = refl
 
     to : (b n : ℕ) → HasPair (controller_at w c).records.reserved b n × (not (is_pair (a, r) (b, n)) ≡ true)
         → (if (c == c) && (b == a) then None else s.reserved c b) ≡ Some n

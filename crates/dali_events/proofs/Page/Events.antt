@@ -1,4 +1,5 @@
-use Rattle.std.proofs.Common.{◌≡◌, ℕ, zero, suc, ◌<◌, Bool, true, false, refl, sym, ap, subst, ◌∙◌, List, [], ◌∷◌, ◌++◌, map, Option, Some, None, length}
+use Rattle.std.proofs.Common.{◌≡◌, ◌⊎◌, inl, inr, ℕ, zero, suc, ◌<◌, Bool, true, false, refl, sym, ap, subst, ◌∙◌, List, [], ◌∷◌, ◌++◌, map, Option, Some, None}
+use Rattle.std.proofs.Common.{length}
 use Rattle.std.proofs.Common.{get_or, set, length-set, ◌&&◌, if◌then◌else◌}
 use Rattle.dali_frame.specs.declared.frames.Forward.{Forward}
 use Rattle.dali_gear.specs.Gear.{Gear as Real, fresh, with_power, without_power, gear_expired, gear_quieted}
@@ -8,15 +9,15 @@ use Rattle.dali_script.specs.declared.orders.Order.{Order, TheVariants.Put, TheV
 use Rattle.dali_script.{specs.declared.records.Record.Record, proofs.Members.Each, proofs.Members.each_changed}
 use Rattle.dali_script.specs.declared.orders.Input.TheVariants as input
 use Rattle.dali_script.specs.declared.records.Record.TheVariants as record_of
-use Rattle.dali_statement.specs.{Gear.gear_seen, Page.Gear, Page.Moment, Page.Ends, Page.Power, Page.Expires, Page.Site, Page.all_allowed, Page.allowed}
-use Rattle.dali_statement.specs.{Page.befalls, Page.after, Page.happens as page_after, Scripts.said_of}
-use Rattle.dali_statement.proofs.{Gear.power_on, Gear.expired, Steps.Told, Steps.told_so, Tests.first_of_both, Tests.second_of_both, Tests.some_is}
+use Rattle.dali_statement.specs.{Gear.gear_seen, Page.Gear, Page.Command, Page.Heard, Page.Moment, Page.Power, Page.Expires, Page.Site, Page.allowed}
+use Rattle.dali_statement.specs.{Page.befalls, Page.are_apart, Page.after, Scripts.said_of}
+use Rattle.dali_statement.proofs.{Gear.power_on, Gear.expired, Steps.Told, Steps.told_so, Tests.some_is}
 use Rattle.dali_events.specs.Allowed.{MayOrder, MayCommit}
 use Rattle.dali_events.specs.Happens.{happens as site_after, with_outstanding, kept_after, outstanding_told, outstanding_after, controller_acted, gives_up}
 use Rattle.dali_events.specs.Happens.{put_after, owner_told, told_lapsed, told_destroyed, gone_down, come_up, gear_interrupted, controller_informed}
 use Rattle.dali_events.specs.{Laws.KeepsRecords, Page.plan_seen, Plan.Plan as SitePlan, Plan.IsPlan as IsSitePlan, Runs.LeavesUsed, World.World}
 use Rattle.dali_events.specs.{World.Controller, World.controller_at, World.controllers_changed, World.nobody, declared.used.Used.Used}
-use Rattle.dali_events.proofs.Page.Bridge.{Ordered, AskedSo, SeenBy, Seen, Next, Informed, each_of, uninformed, informed}
+use Rattle.dali_events.proofs.Page.Bridge.{Ordered, AskedSo, OnList, SeenBy, Seen, Next, Informed, each_of, uninformed, informed}
 use Rattle.dali_events.specs.declared.event.Event.TheVariants as event
 
 -- EACH EVENT but frames, as moments of the page.
@@ -51,54 +52,53 @@ no_gear f same (g ∷ gs) (suc n) = ap (λ xs. gear_seen g ∷ xs) (no_gear f sa
 
 -- ---------------------------------------------------------------- nothing of the page
 
+-- the bus is as it was, or the transaction ends
+abbrev SameBus : World → World → Type 0
+SameBus w v = ((v.bus.owner ≡ w.bus.owner) × (v.trace ≡ w.trace)) ⊎ ((v.bus.owner ≡ None) × (v.trace ≡ []))
+
+module _ (p : SitePlan) (w v : World) (s : Site) (seen : Seen p w s) where
+  lists : SameBus w v → (said : ℕ → List (Command × Heard)) → said ≡ s.said → (c : ℕ) → v.bus.owner ≡ Some c → OnList said c v.trace
+  lists (inl same) said is c owns =
+      let old = seen.said c (sym same.0 ∙ owns) in (old.0, ap (λ f. f c) is ∙ old.1 ∙ ap (λ t. said_of t ++ old.0) (sym same.1))
+  lists (inr over) said is c owns = absurd (let no : None ≡ Some c = sym over.0 ∙ owns in cc)
+
+  free_then : SameBus w v → v.bus.owner ≡ None → v.trace ≡ []
+  free_then (inl same) e = same.1 ∙ seen.free (sym same.0 ∙ e)
+  free_then (inr over) e = over.1
+
+  asked_then : SameBus w v → (told : Told) → AskedSo told (asked_of w.trace) → AskedSo told (asked_of v.trace)
+  asked_then (inl same) told old = subst (λ t. AskedSo told (asked_of t)) (sym same.1) old
+  asked_then (inr over) told old = subst (λ t. AskedSo told (asked_of t)) (sym over.1) tt
+
 -- the world is another, of which the page sees the same
 unseen : (p : SitePlan) (w v : World) (s : Site) → Seen p w s → length v.controllers ≡ length w.controllers → map gear_seen v.gear ≡ map gear_seen w.gear
-    → v.bus.owner ≡ w.bus.owner → v.trace ≡ w.trace → Each nobody (SeenBy p.used s) v.controllers → Next p v s
-unseen p w v s seen count gear owner trace each = record {
+    → SameBus w v → Each nobody (SeenBy p.used s) v.controllers → Next p v s
+unseen p w v s seen count gear bus each = record {
   moments = [];
   allow = refl;
   seen = record {
     count = count ∙ seen.count;
     gear = seen.gear ∙ sym gear;
-    owner = seen.owner ∙ sym owner;
-    said = seen.said ∙ ap said_of (sym trace);
-    free = λ e. trace ∙ seen.free (sym owner ∙ e);
-    asked = subst (λ t. AskedSo s.told (asked_of t)) (sym trace) seen.asked;
-    each = each;
-  };
-}
-
--- the transaction ends
-ended : (p : SitePlan) (w v : World) (s : Site) → Seen p w s → length v.controllers ≡ length w.controllers → map gear_seen v.gear ≡ map gear_seen w.gear
-    → v.bus.owner ≡ None → v.trace ≡ [] → Each nobody (SeenBy p.used s) v.controllers → Next p v s
-ended p w v s seen count gear owner trace each = record {
-  moments = Ends ∷ [];
-  allow = refl;
-  seen = record {
-    count = count ∙ seen.count;
-    gear = seen.gear ∙ sym gear;
-    owner = sym owner;
-    said = ap said_of (sym trace);
-    free = λ e. trace;
-    asked = subst (λ t. AskedSo s.told (asked_of t)) (sym trace) tt;
+    said = lists p w v s seen bus s.said refl;
+    free = free_then p w v s seen bus;
+    asked = asked_then p w v s seen bus s.told seen.asked;
     each = each;
   };
 }
 
 -- gear are live no more
-stopped : (p : SitePlan) (w v : World) (s : Site) (m : Moment) → Seen p w s → allowed (plan_seen p) s m ≡ true → v.controllers ≡ w.controllers
-    → v.bus.owner ≡ w.bus.owner → v.trace ≡ w.trace → (change : ℕ → Gear → Gear) (reach : List (Option ℕ))
+stopped : (p : SitePlan) (w v : World) (s : Site) (m : Moment) → Seen p w s → are_apart (map gear_seen w.gear) ≡ true → allowed (plan_seen p) s m ≡ true
+    → v.controllers ≡ w.controllers → SameBus w v → (change : ℕ → Gear → Gear) (reach : List (Option ℕ))
     → after s (m ∷ []) ≡ record s { gear = befalls change reach s.gear } → befalls change reach (map gear_seen w.gear) ≡ map gear_seen v.gear → Next p v s
-stopped p w v s m seen allow controllers owner trace change reach is gear = record {
+stopped p w v s m seen numbers allow controllers bus change reach is gear = record {
   moments = m ∷ [];
-  allow = ap (λ b. b && true) allow;
+  allow = both (both (ap are_apart seen.gear ∙ numbers) allow) refl;
   seen = subst (λ t. Seen p v t) (sym is) (record {
     count = ap length controllers ∙ seen.count;
     gear = ap (befalls change reach) seen.gear ∙ gear;
-    owner = seen.owner ∙ sym owner;
-    said = seen.said ∙ ap said_of (sym trace);
-    free = λ e. trace ∙ seen.free (sym owner ∙ e);
-    asked = subst (λ t. AskedSo s.told (asked_of t)) (sym trace) seen.asked;
+    said = lists p w v s seen bus s.said refl;
+    free = free_then p w v s seen bus;
+    asked = asked_then p w v s seen bus s.told seen.asked;
     each = subst (λ ks. Each nobody (SeenBy p.used s) ks) (sym controllers) seen.each;
   });
 }
@@ -114,7 +114,7 @@ gone us s c k one = record { to = one.to; from = one.from; tables = one.tables; 
 
 module _ (p : SitePlan) (plan : IsSitePlan p) (w : World) (s : Site) (seen : Seen p w s) where
   pub lapsed : Next p (site_after w event.Lapsed) s
-  lapsed = ended p w (site_after w event.Lapsed) s seen (counted w.bus.owner) refl refl refl (told w.bus.owner) where
+  lapsed = unseen p w (site_after w event.Lapsed) s seen (counted w.bus.owner) refl (inr (refl, refl)) (told w.bus.owner) where
     told : (o : Option ℕ) → Each nobody (SeenBy p.used s) (owner_told w.controllers o)
     told None = seen.each
     told (Some c) = each_changed nobody (SeenBy p.used s) told_lapsed w.controllers c (λ h x. x) seen.each
@@ -133,33 +133,34 @@ module _ (p : SitePlan) (plan : IsSitePlan p) (w : World) (s : Site) (seen : See
       trace = (if t then [] else w.trace);
       controllers = controllers_changed w.controllers c gone_down;
     }) s
-    go true = ended p w (record w { bus = bus_freed (bus_muted w.bus c); trace = []; controllers = controllers_changed w.controllers c gone_down }) s seen
-        (length-set w.controllers c (gone_down (controller_at w c))) refl refl refl ks
+    go true = unseen p w (record w { bus = bus_freed (bus_muted w.bus c); trace = []; controllers = controllers_changed w.controllers c gone_down }) s seen
+        (length-set w.controllers c (gone_down (controller_at w c))) refl (inr (refl, refl)) ks
     go false = unseen p w (record w { bus = bus_muted w.bus c; controllers = controllers_changed w.controllers c gone_down }) s seen
-        (length-set w.controllers c (gone_down (controller_at w c))) refl refl refl ks
+        (length-set w.controllers c (gone_down (controller_at w c))) refl (inl (refl, refl)) ks
 
-  pub power : (g : ℕ) (on : Bool) → Next p (site_after w (event.Power g on)) s
-  power g true = unseen p w (site_after w (event.Power g true)) s seen refl (sym (no_gear with_power power_on w.gear g)) refl refl seen.each
-  power g false =
-      stopped p w (site_after w (event.Power g false)) s (Power (at_place g)) seen refl refl refl refl (λ n x. record x { live = false; search = λ q. 0xFF })
-      (at_place g) refl (one_gear without_power (λ n x. record x { live = false; search = λ q. 0xFF }) (λ x. refl) w.gear g)
+  pub power : are_apart (map gear_seen w.gear) ≡ true → (g : ℕ) (on : Bool) → Next p (site_after w (event.Power g on)) s
+  power numbers g true =
+      unseen p w (site_after w (event.Power g true)) s seen refl (sym (no_gear with_power power_on w.gear g)) (inl (refl, refl)) seen.each
+  power numbers g false =
+      stopped p w (site_after w (event.Power g false)) s (Power (at_place g)) seen numbers refl refl (inl (refl, refl))
+      (λ n x. record x { live = false; search = λ q. 0xFF }) (at_place g) refl
+      (one_gear without_power (λ n x. record x { live = false; search = λ q. 0xFF }) (λ x. refl) w.gear g)
 
-  pub expires : (g : ℕ) → Next p (site_after w (event.Expired g)) s
-  expires g =
-      stopped p w (site_after w (event.Expired g)) s (Expires (at_place g)) seen refl refl refl refl (λ n x. record x { live = false })
+  pub expires : are_apart (map gear_seen w.gear) ≡ true → (g : ℕ) → Next p (site_after w (event.Expired g)) s
+  expires numbers g =
+      stopped p w (site_after w (event.Expired g)) s (Expires (at_place g)) seen numbers refl refl (inl (refl, refl)) (λ n x. record x { live = false })
       (at_place g) refl (one_gear gear_expired (λ n x. record x { live = false }) expired w.gear g)
 
   -- ---------------------------------------------------------------- what is kept
 
-  module _ (records : KeepsRecords p w) (c : ℕ) (there : c < length w.controllers) where
+  module _ (records : KeepsRecords p w) (numbers : are_apart (map gear_seen w.gear) ≡ true) (c : ℕ) (there : c < length w.controllers) where
     outstanding_kept : (o : Option Record) → (controller_at w c).outstanding ≡ o
         → Informed p w s c (with_outstanding (controller_at w c).records o) None
-    outstanding_kept (Some x) is = informed p plan w s c seen records there x is
+    outstanding_kept (Some x) is = informed p plan w s c seen records there numbers x is
     outstanding_kept None is = let nothing = uninformed p w s c seen there in record {
       moments = nothing.moments;
       allow = nothing.allow;
       gear = nothing.gear;
-      owner = nothing.owner;
       said = nothing.said;
       asked = nothing.asked;
       own = record { to = nothing.own.to; from = nothing.own.from; tables = nothing.own.tables; found = nothing.own.found; ordered = λ x e. absurd (cc) };
@@ -168,17 +169,16 @@ module _ (p : SitePlan) (plan : IsSitePlan p) (w : World) (s : Site) (seen : See
 
     -- a controller whose records are what the page has, in a world that differs by it alone
     goes_on : (v : World) (k : Controller) (kept : Kept) (o : Option Record) (one : Informed p w s c kept o) → v.controllers ≡ set w.controllers c k
-        → map gear_seen v.gear ≡ map gear_seen w.gear → v.bus.owner ≡ w.bus.owner → v.trace ≡ w.trace → SeenBy p.used (after s one.moments) c k → Next p v s
-    goes_on v k kept o one controllers gear owner trace new = record {
+        → map gear_seen v.gear ≡ map gear_seen w.gear → SameBus w v → SeenBy p.used (after s one.moments) c k → Next p v s
+    goes_on v k kept o one controllers gear bus new = record {
       moments = one.moments;
       allow = one.allow;
       seen = record {
         count = ap length controllers ∙ length-set w.controllers c k ∙ seen.count;
         gear = one.gear ∙ sym gear;
-        owner = one.owner ∙ sym owner;
-        said = one.said ∙ ap said_of (sym trace);
-        free = λ e. trace ∙ seen.free (sym owner ∙ e);
-        asked = subst (λ t. AskedSo (after s one.moments).told (asked_of t)) (sym trace) one.asked;
+        said = lists p w v s seen bus (after s one.moments).said one.said;
+        free = free_then p w v s seen bus;
+        asked = asked_then p w v s seen bus (after s one.moments).told one.asked;
         each = subst (λ ks. Each nobody (SeenBy p.used (after s one.moments)) ks) (sym controllers)
             (each_of (SeenBy p.used (after s one.moments)) w.controllers c k one.others (λ h. new));
       };
@@ -189,40 +189,15 @@ module _ (p : SitePlan) (plan : IsSitePlan p) (w : World) (s : Site) (seen : See
         let one = outstanding_kept (controller_at w c).outstanding refl in
         goes_on (site_after w (event.Up c true)) (come_up true (controller_at w c))
         (with_outstanding (controller_at w c).records (controller_at w c).outstanding)
-        None one refl refl refl refl
+        None one refl refl (inl (refl, refl))
         (record { to = one.own.to; from = one.own.from; tables = one.own.tables; found = λ x e. absurd (none_found e); ordered = one.own.ordered })
     up false =
         let one = uninformed p w s c seen there in
         goes_on (site_after w (event.Up c false)) (come_up false (controller_at w c)) (controller_at w c).records (controller_at w c).outstanding
-        one refl refl refl refl
+        one refl refl (inl (refl, refl))
         (record { to = one.own.to; from = one.own.from; tables = one.own.tables; found = λ x e. absurd (none_found e); ordered = λ x e. absurd (cc) })
 
     -- ---------------------------------------------------------------- an order
-
-    after_ends : (ms : List Moment) (t : Site) → after t (ms ++ Ends ∷ []) ≡ record (after t ms) { owner = None; said = [] }
-    after_ends [] t = refl
-    after_ends (m ∷ ms) t = after_ends ms (page_after t m)
-
-    allow_ends : (ms : List Moment) (t : Site) → all_allowed (plan_seen p) t ms ≡ true → all_allowed (plan_seen p) t (ms ++ Ends ∷ []) ≡ true
-    allow_ends [] t e = refl
-    allow_ends (m ∷ ms) t e = both (first_of_both _ _ e) (allow_ends ms (page_after t m) (second_of_both _ _ e))
-
-    ends_on : (v : World) (k : Controller) (kept : Kept) (o : Option Record) (one : Informed p w s c kept o) → v.controllers ≡ set w.controllers c k
-        → map gear_seen v.gear ≡ map gear_seen w.gear → v.bus.owner ≡ None → v.trace ≡ [] → SeenBy p.used (after s one.moments) c k → Next p v s
-    ends_on v k kept o one controllers gear owner trace new = record {
-      moments = one.moments ++ Ends ∷ [];
-      allow = allow_ends one.moments s one.allow;
-      seen = subst (λ t. Seen p v t) (sym (after_ends one.moments s)) (record {
-        count = ap length controllers ∙ length-set w.controllers c k ∙ seen.count;
-        gear = one.gear ∙ sym gear;
-        owner = sym owner;
-        said = ap said_of (sym trace);
-        free = λ e. trace;
-        asked = subst (λ t. AskedSo (after s one.moments).told (asked_of t)) (sym trace) tt;
-        each = subst (λ ks. Each nobody (SeenBy p.used (after s one.moments)) ks) (sym controllers)
-            (each_of (SeenBy p.used (after s one.moments)) w.controllers c k one.others (λ h. new));
-      });
-    }
 
     put_owner : (b : Arbiter) (o : Order) → (put_after b c o).owner ≡ b.owner
     put_owner b (Put n f) = refl
@@ -281,22 +256,22 @@ module _ (p : SitePlan) (plan : IsSitePlan p) (w : World) (s : Site) (seen : See
         drawn = w.drawn;
         gifts = w.gifts;
       }) s
-      go true = ends_on _ (controller_acted (controller_at w c) i o) _ _ (input_kept i) refl refl (put_owner (bus_lapsed w.bus) o) refl new
-      go false = goes_on _ (controller_acted (controller_at w c) i o) _ _ (input_kept i) refl refl (put_owner w.bus o) refl new
+      go true = goes_on _ (controller_acted (controller_at w c) i o) _ _ (input_kept i) refl refl (inr (put_owner (bus_lapsed w.bus) o, refl)) new
+      go false = goes_on _ (controller_acted (controller_at w c) i o) _ _ (input_kept i) refl refl (inl (put_owner w.bus o, refl)) new
 
   pub collided : (c d : ℕ) (f g : Forward) → Next p (site_after w (event.Collided c f d g)) s
-  collided c d f g = ended p w (site_after w (event.Collided c f d g)) s seen (length-set first d (told_destroyed g (get_or first d nobody))
-      ∙ length-set w.controllers c (told_destroyed f (controller_at w c))) refl refl refl
+  collided c d f g = unseen p w (site_after w (event.Collided c f d g)) s seen (length-set first d (told_destroyed g (get_or first d nobody))
+      ∙ length-set w.controllers c (told_destroyed f (controller_at w c))) refl (inr (refl, refl))
       (each_changed nobody (SeenBy p.used s) (told_destroyed g) first d (λ h x. x)
       (each_changed nobody (SeenBy p.used s) (told_destroyed f) w.controllers c (λ h x. x) seen.each)) where
         first : List Controller
         first = controllers_changed w.controllers c (told_destroyed f)
 
   pub quiet : Next p (site_after w event.Quiet) s
-  quiet = unseen p w (site_after w event.Quiet) s seen refl (same_gear gear_quieted (λ g. refl) w.gear) refl refl seen.each
+  quiet = unseen p w (site_after w event.Quiet) s seen refl (same_gear gear_quieted (λ g. refl) w.gear) (inl (refl, refl)) seen.each
 
   pub foreign : (f : Forward) → Next p (site_after w (event.Foreign f)) s
-  foreign f = unseen p w (site_after w (event.Foreign f)) s seen refl (same_gear gear_interrupted (λ g. refl) w.gear) refl refl seen.each
+  foreign f = unseen p w (site_after w (event.Foreign f)) s seen refl (same_gear gear_interrupted (λ g. refl) w.gear) (inl (refl, refl)) seen.each
 
   pub offered : (c : ℕ) (f : Forward) → Next p (site_after w (event.Offered c f)) s
-  offered c f = unseen p w (site_after w (event.Offered c f)) s seen refl refl refl refl seen.each
+  offered c f = unseen p w (site_after w (event.Offered c f)) s seen refl refl (inl (refl, refl)) seen.each

@@ -1,4 +1,4 @@
-use Rattle.std.proofs.Common.{◌≡◌, ℕ, ◌<◌, Bool, true, refl, sym, subst, List, [], ◌∷◌, ◌++◌, map, get_or, length, ap, ◌∙◌, Some, ◌&&◌, slice_get}
+use Rattle.std.proofs.Common.{◌≡◌, ℕ, ◌<◌, Bool, true, refl, sym, subst, List, [], ◌∷◌, ◌++◌, map, get_or, length, ap, ◌∙◌, None, Some, ◌&&◌, slice_get}
 use Rattle.std.proofs.lemmas.List.{length-map, get_or-map}
 use Rattle.dali_gear.specs.Gear.{fresh}
 use Rattle.dali_statement.specs.{Gear.gear_seen, Page.Moment, Page.Plan, Page.Gear, Page.Site, Page.start, Page.all_allowed, Page.are_apart, Page.after}
@@ -14,19 +14,19 @@ use Rattle.dali_events.specs.declared.event.Event.TheVariants as event
 -- EACH EVENT IS MOMENTS OF THE PAGE, and a run is a history.
 
 pub each_event : (p : SitePlan) → IsSitePlan p → (w : World) (s : Site) → Seen p w s → Safe (plan_seen p) s → KeepsRecords p w → (e : Event) → Allowed w e
-    → LeavesUsed p.used e → are_apart (map gear_seen (site_after w e).gear) ≡ true → Next p (site_after w e) s
-each_event p plan w s seen safe records (event.Acted c i o) here leaves numbers = acted p plan w s seen records c here.up.known i o here.order leaves
+    → LeavesUsed p.used e → are_apart (map gear_seen w.gear) ≡ true → Next p (site_after w e) s
+each_event p plan w s seen safe records (event.Acted c i o) here leaves numbers = acted p plan w s seen records numbers c here.up.known i o here.order leaves
 each_event p plan w s seen safe records (event.Offered c f) here leaves numbers = offered p plan w s seen c f
-each_event p plan w s seen safe records (event.Sent c f h) here leaves numbers = sent p w s seen safe c f here.up here.may h here.heard numbers
-each_event p plan w s seen safe records (event.Destroyed c f group) here leaves numbers = destroyed p w s seen safe c f here.up here.may group numbers
+each_event p plan w s seen safe records (event.Sent c f h) here leaves numbers = sent p w s seen safe c f here.up here.may numbers h here.heard
+each_event p plan w s seen safe records (event.Destroyed c f group) here leaves numbers = destroyed p w s seen safe c f here.up here.may numbers group
 each_event p plan w s seen safe records (event.Collided c f d g) here leaves numbers = collided p plan w s seen c d f g
 each_event p plan w s seen safe records event.Lapsed here leaves numbers = lapsed p plan w s seen
 each_event p plan w s seen safe records event.Quiet here leaves numbers = quiet p plan w s seen
 each_event p plan w s seen safe records (event.Foreign f) here leaves numbers = foreign p plan w s seen f
-each_event p plan w s seen safe records (event.Power g on) here leaves numbers = power p plan w s seen g on
-each_event p plan w s seen safe records (event.Expired g) here leaves numbers = expires p plan w s seen g
+each_event p plan w s seen safe records (event.Power g on) here leaves numbers = power p plan w s seen numbers g on
+each_event p plan w s seen safe records (event.Expired g) here leaves numbers = expires p plan w s seen numbers g
 each_event p plan w s seen safe records (event.Down c) here leaves numbers = down p plan w s seen c
-each_event p plan w s seen safe records (event.Up c kept) here leaves numbers = up p plan w s seen records c here.0.known kept
+each_event p plan w s seen safe records (event.Up c kept) here leaves numbers = up p plan w s seen records numbers c here.0.known kept
 
 -- ---------------------------------------------------------------- the beginning
 
@@ -34,13 +34,15 @@ pub begins : (p : SitePlan) (capacity : ℕ) → Seen p (site_start p capacity) 
 begins p capacity = record {
   count = length-map p.blocks controller_begun;
   gear = refl;
-  owner = refl;
-  said = refl;
+  said = λ c e. absurd (unowned e);
   free = λ e. refl;
   asked = tt;
   each = λ i h. let there = subst (λ n. i < n) (length-map p.blocks controller_begun) h in
       subst (λ k. SeenBy p.used (start (plan_seen p)) i k) (sym (get_or-map controller_begun p.blocks i no_block nobody there)) (new i);
 } where
+  unowned : {c : ℕ} → None ≡ Some c → ⊥
+  unowned {c} e = absurd (cc)
+
   new : (i : ℕ) → SeenBy p.used (start (plan_seen p)) i (controller_begun (get_or p.blocks i no_block))
   new i = record {
     to = λ a r h. elim h [ ];
@@ -75,7 +77,7 @@ pub leads_to : (p : SitePlan) (w : World) (ms : List Moment) → IsSitePlan p �
 leads_to p w ms plan leads = record {
   history = (plan_is_seen p plan, leads.allow);
   gear = leads.seen.gear;
-  owner = leads.seen.owner;
+  said = leads.seen.said;
   reserved = λ c a r there. ((leads.seen.each c there).to a r, (leads.seen.each c there).from a r);
   enrolled = λ c a r there h. (leads.seen.each c there).tables a r h;
 }

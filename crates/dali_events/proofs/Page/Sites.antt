@@ -71,7 +71,6 @@ pub plan_is_seen : (p : SitePlan) → IsSitePlan p → IsPlan (plan_seen p)
 plan_is_seen p plan = record {
   shorts = differ_by (λ g. g.short) (map gear_seen (with_used (replicate p.gear fresh) p.used)) one;
   short = all_by (λ g. nat_lt (unwrap_or g.short 0) 64) (map gear_seen (with_used (replicate p.gear fresh) p.used)) (λ i x at. small i x at x.short refl);
-  apart = apart_seen (site_start p 0) (are_drawn p (site_start p 0) plan (draws_start p 0));
   reserved = λ c a r e. absurd (none e);
   enrolled = λ c a r e. absurd (no_table e);
 } where
