@@ -99,8 +99,8 @@ pub record HasAskedAtLast (pass : PassEnd) (enrolled : List Assignment) (last : 
   pub left : If last.is_there (AreAskedAgain (heard_of pass.heard) none_left last.left at y)
       ((last.left ≡ record { heard = pass.heard; shared = false }) × (y ≡ at))
 
--- WHAT THE LAST MACHINE CAME TO with that: searches that led to none say nothing of the gear if none
--- answers any more
+-- WHAT THE LAST MACHINE CAME TO with that: searches that led to none say nothing of the gear if
+-- none answers any more
 abbrev pub ended_by : Ended → Bool → Bool → Ended
 ended_by (Done GaveUp) true false = Done AllFound
 ended_by ended asked found = ended

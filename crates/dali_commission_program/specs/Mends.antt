@@ -77,7 +77,8 @@ pub record HasSurveyed {S : Type 0} (is_up is_sound : S → Type 0)
 -- does, or if gear may share a short address
 abbrev pub mended_as : PassEnd → AtLast → List Reply → List Mending → Result (Unit {0}) Failure
 mended_as pass last replies ms =
-    or_open (ended_as (pass_at_last pass last).ended last.is_there) (has_any last.left.heard || is_any_left ms)
+    or_open (ended_as (pass_at_last pass last).ended last.is_there)
+    (has_any last.left.heard || is_any_left ms)
     (last.left.shared || is_any_left_shared replies ms)
 
 abbrev pub MendedSo : PassEnd → Kept → List Reply → List Mending → Result (Unit {0}) Failure → Talk

@@ -1,5 +1,5 @@
-//! What is asked at the end of a task: whether any gear answers, since silence looks like gear that are not there if the
-//! bus fails on the way; and again the short addresses that a survey left alone.
+//! What is asked at the end of a task: whether any gear answers, since silence looks like gear that are not there if
+//! the bus fails on the way; and again the short addresses that a survey left alone.
 
 ghost use Rattle.std.specs.Prelude.{◌≡◌, ◌++◌, IfOk};
 ghost use Rattle.dali_commissioning.specs.Drivers.{talk_of, has_heard};

@@ -64,7 +64,7 @@ pub enum Failure {
     #[error("gear share a short address, or have no random one: call ./dali_commission mend, with the options of run")]
     Shared,
     /// What was heard at a short address, asked again and again, tells neither one gear nor several.
-    #[error("it is unclear what answers at a short address: check once more on a quiet bus")]
+    #[error("unclear: more than one control gear may answer at a short address; check once more on a quiet bus")]
     NotClear,
     /// Gear still answer at short addresses, which were said.
     #[error("gear still answer at short addresses: call clear again")]

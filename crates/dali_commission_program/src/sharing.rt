@@ -120,6 +120,7 @@ pub(crate) struct Left {
 }
 
 impl Left {
+    /// How a task ends with that.
     pub fn ended(&self, ended: Result<(), Failure>) -> Result<(), Failure>
         ensures { result ≡ left_open ended self.now }
     {

@@ -8,8 +8,9 @@ use Rattle.dali_search.specs.Ascending.{Ascent, ascent_at_first, ascended, asked
 use Rattle.dali_search.specs.declared.step.Step.{Step, TheVariants.Again, TheVariants.Found, TheVariants.Nobody}
 use Rattle.dali_commissioning.specs.{Census.reply_of, declared.census.Reply.Reply}
 use Rattle.dali_commissioning.specs.declared.census.Reply.TheVariants as reply
-use Rattle.dali_mending.specs.Course.{at_stage, kept_by, kind_of, times_after, outcome_told, told, unnumbered, unclear, again, answered, stage_found, found, searched, left}
-use Rattle.dali_mending.specs.Course.{kept, owned, gone_by, gone, silent, alike, unlike, unkept, queried, erased, stage_spent, spent, IsCourse, IsFit, IsOfTable}
+use Rattle.dali_mending.specs.Course.{at_stage, kept_by, kind_of, times_after, outcome_told, told, unnumbered, unclear, again, answered, stage_found, found}
+use Rattle.dali_mending.specs.Course.{searched, left, kept, owned, gone_by, gone, silent, alike, unlike, unkept, queried, erased, stage_spent, spent}
+use Rattle.dali_mending.specs.Course.{IsCourse, IsFit, IsOfTable}
 use Rattle.dali_mending.specs.Mending.{Mending, is_heard, ascent_after, course_after, spent_if, IsSought, tells_apart, is_added, with_apart, left_after}
 use Rattle.dali_mending.specs.Mending.{finished}
 use Rattle.dali_mending.specs.Transactions.{is_own, answer_at, frame_next, frame_at, is_withheld, commands_of, as_frames}

@@ -4,8 +4,8 @@ ghost use Rattle.std.specs.Prelude.{◌≡◌};
 ghost use Rattle.dali_search.specs.declared.step.Step.{Step};
 ghost use Rattle.dali_mending.specs.Course.{begun, at_stage, kind_of, is_same, times_after, asked, answered, told};
 ghost use Rattle.dali_mending.specs.Course.{unnumbered, unclear, outcome_told, keep_on, asked_anew};
-ghost use Rattle.dali_mending.specs.Course.{found, searched, queried, kept, owned, unkept, silent, gone, alike, left, erased};
-ghost use Rattle.dali_mending.specs.Course.{spent};
+ghost use Rattle.dali_mending.specs.Course.{found, searched, queried, kept, owned, unkept, silent, gone, alike, left};
+ghost use Rattle.dali_mending.specs.Course.{erased, spent};
 
 use crate::stage::{Stage, is_own};
 use dali_commissioning::Reply;
@@ -237,7 +237,8 @@ impl Course {
         }
     }
 
-    /// A gear with this random address answered so often, and no short address was understood. If it has none, it draws.
+    /// A gear with this random address answered so often, and no short address was understood. If it has no random
+    /// address, it draws.
     fn alike(&self, random: Random24) -> Course
         ensures { result ≡ alike self.now random }
     {

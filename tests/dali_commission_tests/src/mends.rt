@@ -247,7 +247,8 @@ fn gear_that_are_gone_may_be_named(rt: HostRuntime) {
     has(&rt, &bus, 1, 0x654321, 5);
 }
 
-/// Of gear whose answers are lost or damaged most of the time it is not said that they share an address, and none changes.
+/// Of gear whose answers are lost or damaged most of the time it is not said that they share an address, and none
+/// changes.
 #[test]
 fn weak_answers_are_unclear(rt: HostRuntime) {
     let gear = [(5, 0x123456), (7, 0xABCDEF)];
@@ -263,7 +264,7 @@ fn weak_answers_are_unclear(rt: HostRuntime) {
         };
         assert!(rt; status != 13);
         if status == 15 {
-            assert!(rt; room.has_said("it is unclear what answers at a short address"));
+            assert!(rt; room.has_said("unclear: more than one control gear may answer"));
             unclear += 1;
         }
         has(&rt, &bus, 0, 0x123456, 5);
