@@ -30,10 +30,10 @@ MASK24 = 0xFFFFFF
 # The exit statuses of the program.
 DONE, NOT_SO, DRIVER, STORE, BLOCK_FULL, GAVE_UP, NOBODY, KILLED = 0, 1, 4, 5, 6, 7, 10, -signal.SIGKILL
 NOT_REPLACED, UNFINISHED, SHARED = 11, 12, 13
-NOT_MENDED, NOT_CLEARED = NOT_REPLACED, 14
+NOT_MENDED, NOT_CLEARED, UNCLEAR = NOT_REPLACED, 14, 15
 # The first and the last short address.
 ALL_SHORTS = (0, 63)
-ENDS = {KILLED: "killed", DONE: "all-found", NOT_SO: "not begun", BLOCK_FULL: "block-full", GAVE_UP: "gave-up", SHARED: "shared"}
+ENDS = {KILLED: "killed", DONE: "all-found", NOT_SO: "not begun", BLOCK_FULL: "block-full", GAVE_UP: "gave-up", SHARED: "shared", UNCLEAR: "unclear"}
 TABLE = """CREATE TABLE record(seq INTEGER PRIMARY KEY, kind INTEGER NOT NULL,
 address INTEGER NOT NULL CHECK(address BETWEEN 0 AND 63), random INTEGER NOT NULL CHECK(random BETWEEN 0 AND 16777214))"""
 # How many seconds a run may take, and how much is said of what is wrong.
