@@ -1,4 +1,4 @@
-use Rattle.std.proofs.Common.{◌≡◌, true, List, [], Result, Ok, Err, OnOk, subst, sym, inr}
+use Rattle.std.proofs.Common.{◌≡◌, true, List, [], Result, Ok, Err, OnOk, subst, sym, inl, inr}
 use Rattle.std.specs.Prelude.{ℕ, IfOk}
 use Rattle.std.specs.declared.alloc.Global.{Global}
 use Rattle.std.specs.declared.string.String.{String}
@@ -21,6 +21,12 @@ pub all_mended : {E : Type 0} (told : Said → Type 0) (others : List Block) (bl
     → OnOk r (HasMendedAll told others block)
 all_mended told others block wanted (Ok done) named missing is mended = (wanted, named, missing, is, mended)
 all_mended told others block wanted (Err e) named missing is mended = tt
+
+-- a run that ended well has run well
+pub ran_well : (told : Said → Type 0) (others : List Block) (setup : Setup) (ended : Result (Unit {0}) Failure) → HasRun told others ended
+    → IfOk ended (λ done. HasRunWell told others setup)
+ran_well told others setup (Ok done) ran = inl ran
+ran_well told others setup (Err e) ran = tt
 
 -- a run that has mended what gear shared has run well
 pub mended_well : {E : Type 0} (told : Said → Type 0) (others : List Block) (setup : Setup) (ended : Result (Unit {0}) Failure)
