@@ -10,3 +10,4 @@ pub mod Whole
 pub mod Legs
 pub mod States
 pub mod Steps
+pub mod Acts

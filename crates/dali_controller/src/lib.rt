@@ -7,6 +7,7 @@
 mod calls;
 mod error;
 mod hunts;
+pub mod laws;
 mod leg;
 mod machine;
 mod moments;
