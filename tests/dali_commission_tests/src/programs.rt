@@ -183,16 +183,27 @@ fn a_bus_that_fails_on_the_way_is_told(rt: HostRuntime) {
 
 #[test]
 fn a_survey_leaves_alone_who_does_not_tell_its_random_address(rt: HostRuntime) {
+    let two = "byte 12\nbyte 34\nbyte 56\nbyte 12\nbyte 34\nbyte 57\nsilence\nsilence\nsilence\n";
+    let one = "byte 12\nbyte 34\nbyte 56\nsilence\nsilence\nsilence\nsilence\nsilence\nsilence\n";
+    let none = answers(&rt, "", 9);
     for (first, silent, lines) in [
         ("damaged\n", 206, 207),
         ("byte 12\ndamaged\n", 206, 208),
         ("byte 12\nbyte 34\n", 207, 209),
         ("byte FF\nbyte FF\nbyte FF\n", 206, 209),
     ] {
-        let shelf = Shelf::of(&[]);
-        let heard = answers_there(&rt, first, silent);
-        ends(&rt, ONCE, &shelf, &heard, (13, lines + 9, LEFT_ALONE));
-        assert!(rt; shelf.enrolled() == Some(0));
+        // It is asked again at last: it is said that gear share the address only if two were heard.
+        for (again, status, said) in [
+            (two, 13, LEFT_ALONE),
+            (one, 15, LEFT_ALONE),
+            (none.as_str(), 0, "0 gear were enrolled"),
+        ] {
+            let shelf = Shelf::of(&[]);
+            let mut heard = answers_there(&rt, first, silent);
+            assert!(rt; heard.push_str(again).is_ok());
+            ends(&rt, ONCE, &shelf, &heard, (status, lines + 18, said));
+            assert!(rt; shelf.enrolled() == Some(0));
+        }
     }
 }
 
@@ -224,16 +235,30 @@ fn nothing_is_begun_beside_new_gear_where_a_stranger_answers(rt: HostRuntime) {
         &once,
         (0, 615, "0 gear were enrolled"),
     );
-    let thrice = answers(
+    // What three questions leave unclear is asked nine times more.
+    let mut thrice = answers(
         &rt,
         "damaged\nsilence\nsilence\ndamaged\nsilence\nsilence\nsilence\nsilence\ndamaged\n",
-        567,
+        0,
     );
+    for _ in 0..8u8 {
+        assert!(rt; thrice.push_str("damaged\nsilence\nsilence\n").is_ok());
+    }
+    assert!(rt; thrice.push_str("silence\ndamaged\nsilence\n").is_ok());
+    let thrice = answers(&rt, &thrice, 567);
     let said = "0 - several strangers, or a disturbed bus\n";
-    ends(&rt, FRESH, &Shelf::of(&[]), &thrice, (1, 576, said));
-    let unclear = answers(&rt, "byte 12\n", 575);
+    ends(&rt, FRESH, &Shelf::of(&[]), &thrice, (1, 603, said));
+    let unclear = answers(&rt, "byte 12\n", 602);
     let said = "0 - strangers that were not understood\n";
-    ends(&rt, FRESH, &Shelf::of(&[]), &unclear, (1, 576, said));
+    ends(&rt, FRESH, &Shelf::of(&[]), &unclear, (1, 603, said));
+    // One byte that is damaged each of these times says that several answer.
+    let mut each = answers(&rt, "", 0);
+    for _ in 0..12u8 {
+        assert!(rt; each.push_str("byte 12\ndamaged\nbyte 56\n").is_ok());
+    }
+    let each = answers(&rt, &each, 567);
+    let said = "0 - several strangers\n";
+    ends(&rt, FRESH, &Shelf::of(&[]), &each, (1, 603, said));
     let two = answers(
         &rt,
         "byte 12\nbyte 34\nbyte 56\nbyte 12\nbyte 34\nbyte 57\n",
@@ -411,13 +436,13 @@ fn what_a_check_found_is_an_object_of_json(rt: HostRuntime) {
     let words = b"dali_commission check --records site.db --json";
     let first =
         "byte 12\nbyte 34\nbyte 57\nsilence\nsilence\nsilence\nsilence\nsilence\nsilence\nbyte 01\n";
-    let heard = answers(&rt, first, 576);
+    let heard = answers(&rt, first, 603);
     let records = [(1, 0, 0x123456), (2, 0, 0x123456), (2, 5, 0xABCDEF)];
     let desk = Desk::new(rt.alloc(), words, &heard);
     assert!(rt; run_and_say(&desk, &mut &Shelf::of(&records), false).is_err());
     assert!(rt;
         desk.has_written(
-            "{\"end\":\"shared\",\"status\":13,\"frames\":586,\"enrolled\":0,\"table\":[\
+            "{\"end\":\"unclear\",\"status\":15,\"frames\":613,\"enrolled\":0,\"table\":[\
         {\"address\":0,\"random\":\"123456\",\"given\":true},{\"address\":5,\"random\":\"ABCDEF\",\"given\":false}],\
         \"left_alone\":[],\"missing\":[5],\"strangers\":[{\"address\":0,\"is\":\"another\",\"random\":\"123457\"},\
         {\"address\":1,\"is\":\"unclear-strangers\",\"random\":null}],\"unaddressed\":false}\n"
@@ -557,7 +582,19 @@ fn searches_that_lead_to_nobody_are_given_up(rt: HostRuntime) {
         );
     }
     assert!(rt; heard.push_str("silence\n").is_ok());
+    // At last no gear answers at a short address, and one that has none does.
+    let silent = answers(&rt, &heard, 582);
+    let mut there = answers(&rt, &silent, 0);
+    assert!(rt;
+        there
+            .push_str("byte FF\nsilence\nsilence\nsilence\n")
+            .is_ok()
+    );
     let said = "too many searches in a row led to a gear that did not answer; \
         the last frames were under the search address 000000\n";
-    ends(&rt, FRESH, &Shelf::of(&[]), &heard, (7, 2246, said));
+    ends(&rt, FRESH, &Shelf::of(&[]), &there, (7, 2832, said));
+    // If none does, the bus has failed.
+    let failed = answers(&rt, &silent, 4);
+    let said = "0 gear were enrolled, 0 are in the table; 2832 frames\nno gear answered";
+    ends(&rt, FRESH, &Shelf::of(&[]), &failed, (10, 2832, said));
 }

@@ -281,11 +281,22 @@ fn new_files_that_are_not_complete_are_refused(rt: HostRuntime) {
     let cabinet = one(&rt);
     assert!(rt; cabinet.has_put("site.db.new", &[(1, 5, 0x222222)]));
     let there = then_seven(&rt, silence(&rt, "", 9).as_str());
+    // The bus fails once luminaire 7 has answered.
     ends(
         &rt,
         ONE,
         &cabinet,
         silence(&rt, there.as_str(), 3000).as_str(),
+        10,
+        "no gear answered",
+    );
+    // It does not, and there is no new luminaire.
+    let last = then_seven(&rt, silence(&rt, there.as_str(), 618).as_str());
+    ends(
+        &rt,
+        ONE,
+        &cabinet,
+        silence(&rt, last.as_str(), 3000).as_str(),
         11,
         "not replaced, no file of records was changed: short address 5: the new luminaire did not get it: call again",
     );
