@@ -97,9 +97,15 @@ course_after a stage.Closing c t x = asked_anew c
 course_after a (stage.Ending o) c t x = at_stage c (stage.Ended o)
 course_after a (stage.Ended o) c t x = c
 
--- WHO WAS TOLD APART, and has lost the short address: a gear answered after it was erased
+-- WHO WAS TOLD APART, and has lost the short address: a gear told that it has none, after it was
+-- erased
+abbrev pub tells_none : Answer → Bool
+tells_none Silence = false
+tells_none (Byte byte) = byte == 255
+tells_none Damaged = false
+
 abbrev pub tells_apart : Stage → List Entry → Option ℕ
-tells_apart (stage.Erasing n) t = if is_heard (answer_at t 7) then Some n else None
+tells_apart (stage.Erasing n) t = if tells_none (answer_at t 7) then Some n else None
 tells_apart _ t = None
 
 -- the list has room for 64; each one that it takes makes room for 256 transactions more

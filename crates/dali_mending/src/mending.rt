@@ -8,7 +8,7 @@ ghost use Rattle.dali_script.specs.declared.orders.Due.TheVariants as due;
 ghost use Rattle.dali_commissioning.specs.Places.{random_at};
 ghost use Rattle.dali_mending.specs.Course.{IsCourse};
 ghost use Rattle.dali_mending.specs.Transactions.{frame_next};
-ghost use Rattle.dali_mending.specs.Mending.{is_heard, outcome_at, tells_apart, ascent_after, course_after};
+ghost use Rattle.dali_mending.specs.Mending.{is_heard, outcome_at, tells_none, tells_apart, ascent_after, course_after};
 ghost use Rattle.dali_mending.specs.Mending.{IsSought, with_apart, is_added, left_after, spent_if};
 
 use crate::course::{Course, Outcome};
@@ -45,13 +45,23 @@ fn is_heard(heard: Answer) -> bool
     }
 }
 
+/// Whether a gear has told that it has no short address.
+fn tells_none(heard: Answer) -> bool
+    ensures { result ≡ tells_none heard }
+{
+    match heard {
+        Answer::Byte(byte) => byte == 0xFF,
+        Answer::Silence | Answer::Damaged => false,
+    }
+}
+
 /// The gear that a transaction has told apart from the one that keeps the short address, and which has lost it.
 fn tells_apart(stage: &Stage, entries: &[Entry]) -> Option<Random24>
     ensures { result ≡ tells_apart stage.now entries.now }
 {
     match *stage {
         Stage::Erasing(random) => {
-            if is_heard(answer_at(entries, 7)) {
+            if tells_none(answer_at(entries, 7)) {
                 Some(random)
             } else {
                 None
