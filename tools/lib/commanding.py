@@ -84,17 +84,22 @@ def words_of(site: Site, command: str, address: object, missing: object) -> list
         return ["identify", "--json", str(address_of(address))]
     if command == "clear":
         return ["clear", "--json", "--yes", *(word for it in site.records for word in ("--records", it))]
+    if command not in ("mend", "replace") or not isinstance(missing, (list, tuple)):
+        raise Bad("this is none of the commands")
+    gone = [word for it in missing[:64] for word in ("--missing", str(address_of(it)))]
     if command == "mend":
         # A further controller that has not run yet has no file.
         first, *rest = site.records
         records = [word for it in (first, *filter(os.path.exists, rest)) for word in ("--records", it)]
-        return ["mend", "--json", *records, *others, *([] if address is None else [str(address_of(address))]), site.block]
-    if command != "replace" or not isinstance(missing, list):
-        raise Bad("this is none of the commands")
+        return ["mend", "--json", *records, *gone, *others, *([] if address is None else [str(address_of(address))]), site.block]
     records = [word for it in site.records for word in ("--records", it)]
-    gone = [word for it in missing[:64] for word in ("--missing", str(address_of(it)))]
     block = [site.block] if len(site.records) == 1 else []
     return ["replace", "--json", *records, *gone, str(address_of(address)), *block]
+
+
+def missing_in(words: list[str]) -> list[int]:
+    """The short addresses that the words of a command name as those of luminaires that are gone."""
+    return [int(it) for before, it in zip(words, words[1:]) if before == "--missing"]
 
 
 def look_of(status: int, words: str) -> str:
@@ -163,7 +168,7 @@ class Command:
     ) -> None:
         self.number, self.name, self.address, self.begun, self.said, self.before = number, name, address, time.time(), [], before
         self.found = self.left = self.status = self.ended = None
-        self.is_stopped, self.report, self.lock = False, {}, threading.Lock()
+        self.is_stopped, self.report, self.lock, self.missing = False, {}, threading.Lock(), missing_in(words)
         self.story, self.follower, self.since = os.memfd_create("story"), following.Follower(), None
         self.process = forked.Process([[site.program, *words], site.driver, site.seconds, name == "identify"], (self.story, *kept))
 
@@ -330,6 +335,9 @@ class Bus:
         with self.lock:
             if self.walking():
                 raise Busy("a walk goes on")
+            self.refresh()
+            if not {*missing_in(words)} <= {it["address"] for it in self.table}:
+                raise Bad("the table has no such short address")
             self.start(name, address, words)
             self.walked = None
 
@@ -386,7 +394,7 @@ class Bus:
     def next(self, command: Command, site: Site, turns: tuple[Command, ...]) -> Command | None:
         """The command of the next controller, which begins."""
         try:
-            self.start_turn(command.name, None, words_of(site, command.name, None, ()), turns)
+            self.start_turn(command.name, None, words_of(site, command.name, None, command.missing), turns)
             return self.command
         except OSError as why:
             command.status = joining.NOT_STARTED

@@ -16,6 +16,8 @@ import pathlib
 import sys
 import time
 
+NOT_THERE = "a gear of the tables is not there as recorded; if it is known to be gone, name it by --missing"
+
 
 def option(name: str, words: list[str]) -> list[str]:
     return [words[at + 1] for at, it in enumerate(words) if it == name]
@@ -96,13 +98,21 @@ def check(records: dict[str, str], gear: list[str]) -> None:
     ended(end, status, records, missing=missing, strangers=others, unaddressed=False)
 
 
-def mend(records: dict[str, str], words: tuple[str, ...]) -> None:
-    named = [int(it) for it in words if it.isdigit()]
+def mend(records: dict[str, str], gear: list[str], words: tuple[str, ...]) -> None:
+    named = [int(it) for at, it in enumerate(words) if it.isdigit() and words[at - 1] != "--missing"]
     put("A900")
     for it in named:
         if it not in beside("odd") and str(it) not in records:
             say(f"not mended, nothing was changed: short address {it}: no gear answers at it")
             ended("not-mended", 11, {})
+    missing = [it for it in records if records[it] not in gear]
+    for it in missing:
+        put(f"{2 * int(it) + 1:02X}C2", 1)
+    if away := [it for it in missing if it not in option("--missing", words)]:
+        for it in missing:
+            say(f"{it} {records[it]} missing")
+        say(f"not mended, nothing was changed: short address {away[0]}: {NOT_THERE}")
+        ended("not-mended", 11, {}, missing=[int(it) for it in missing])
     left = [it for it in beside("odd") if it in beside("stuck") or named and it not in named]
     bus().with_name("odd").write_text(json.dumps(left))
     for it in left:
@@ -171,7 +181,7 @@ def main(task: str, *words: str) -> None:
         elif task == "identify":
             identify(int(words[-1]))
         elif task == "mend":
-            mend(records, words)
+            mend(records, gear, words)
         elif task == "clear":
             clear(file, words)
         elif task == "replace":
