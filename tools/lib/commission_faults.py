@@ -22,6 +22,8 @@ ALL = (0, 63)
 GEAR, LEAST = 6, 3 * (3 * (64 - 6) + 17)
 LOCKED = "another program has the file open"
 FOREIGN = "it is no file of records, and is left as it is\n"
+LINKED = "it has a second name, a hard link, or is no file: make a copy and name that\n"
+CLOSED = "nothing can be made in its folder, and its log has to lie there\n"
 NEWER = "a later version of Yolgibat wrote it, or another program, and it is left as it is\n"
 # What a driver may tell that is none of its answers, each with what the program says of it.
 BAD = {
@@ -112,6 +114,27 @@ def missing(place: Place, _chance: random.Random) -> None:
     check_store(place, "a run whose records are in no folder", ran, "its folder is not there\n")
     ran = place.alone("run", "--records", place.folder, "0-63")
     check_store(place, "a run whose records are a folder", ran, FOREIGN)
+
+
+def closed(place: Place, _chance: random.Random) -> None:
+    """Records with a second name, and records in a folder in which nothing can be made."""
+    check_goes_on(place, "nothing", "--gear", 3)
+    second = place.folder / "second.db"
+    second.hardlink_to(place.records)
+    check_store(place, "a run whose records have a hard link", place.alone(*run_words(place)), LINKED)
+    second.unlink()
+    folder, program = place.folder / "closed", place.folder / "program"
+    folder.mkdir()
+    shutil.copy(place.program, program)
+    records = shutil.copy(place.records, folder)
+    for path, mode in ((place.folder, 0o755), (program, 0o755), (pathlib.Path(records), 0o666), (folder, 0o555)):
+        path.chmod(mode)
+    # Root makes files in any folder.
+    user = 65534 if os.geteuid() == 0 else os.geteuid()
+    words = [program, "run", "--records", records, "0-63"]
+    done = subprocess.run(words, stdin=subprocess.DEVNULL, capture_output=True, timeout=60, user=user)
+    ran = Ran(done.returncode, done.stdout.decode(), done.stderr.decode(), 0)
+    check_store(place, "a run whose folder is closed", ran, CLOSED)
 
 
 # What makes a database of each kind that is none of records, or no file of SQLite at all.
@@ -518,5 +541,5 @@ def no_output(place: Place, _chance: random.Random) -> None:
 
 FAULTS = (
     full_disk, lines_beside, silence_ahead, byte_ahead, bad_lines, longest_file, opening, signals, dies, spoilt, closes, locked,
-    shows, stalls, missing, foreign, read_only, dead_bus, blocks, slow, gives_up, no_output,
+    shows, stalls, missing, closed, foreign, read_only, dead_bus, blocks, slow, gives_up, no_output,
 )

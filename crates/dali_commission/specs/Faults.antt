@@ -59,18 +59,19 @@ IsUnread it =
     (it ≡ fault.Foreign)
     ⊎ ((it ≡ fault.Store NoMemory) ⊎ ((error : Error) × (it ≡ refusal_of error)))
 
--- why it is not written: it is made if it is missing, so what is missing is its folder
+-- why it is not written: it is made if it is missing, so what is missing is its folder; or nothing
+-- can be made there
 abbrev pub IsUnwritten : StoreFault → Type 0
 IsUnwritten it =
-    (it ≡ fault.CannotOpen)
+    ((it ≡ fault.CannotOpen) ⊎ (it ≡ fault.ClosedFolder))
     ⊎ ((it ≡ fault.NoFolder)
     ⊎ ((error : Error) × (error_kind error ≢ kind.NotFound) × (it ≡ refusal_of error)))
 
--- why a database is not opened: another program has it, memory is lacking, SQLite says why, or it
--- is not written
+-- why a database is not opened: another program has it, it is no file with one name, memory is
+-- lacking, SQLite says why, or it is not written
 abbrev pub IsUnopened : StoreFault → Type 0
 IsUnopened it =
-    (it ≡ fault.Locked)
+    ((it ≡ fault.Locked) ⊎ (it ≡ fault.Linked))
     ⊎ ((it ≡ fault.Store NoMemory)
     ⊎ (((error : sqlite.Error) × (closed_fault error ≡ Some it)) ⊎ IsUnwritten it))
 

@@ -197,6 +197,20 @@ fn why_closed(rt: &HostRuntime, name: &str, error: Error) -> StoreFault
     }
 }
 
+/// Why a file that can be written is not opened: nothing can be made beside it, or another reason.
+fn beside_fault(rt: &HostRuntime, name: &str) -> StoreFault
+    ensures { (result ≡ StoreFault.CannotOpen) ⊎ (result ≡ StoreFault.ClosedFolder) }
+{
+    let Ok(part) = made(rt.alloc(), name, ".part") else {
+        return StoreFault::CannotOpen;
+    };
+    match tried(rt, &part) {
+        Err(error) if error.kind() == ErrorKind::PermissionDenied => StoreFault::ClosedFolder,
+        // Something else keeps it from being opened.
+        _ => StoreFault::CannotOpen,
+    }
+}
+
 /// Why the system does not let a file be written, which is made if it is missing.
 fn written_fault(rt: &HostRuntime, name: &str) -> StoreFault
     ensures { IsUnwritten result }
@@ -207,7 +221,7 @@ fn written_fault(rt: &HostRuntime, name: &str) -> StoreFault
         .create(true)
         .open(rt, name);
     match opened {
-        Ok(_) => StoreFault::CannotOpen,
+        Ok(_) => beside_fault(rt, name),
         Err(error) if error.kind() == ErrorKind::NotFound => StoreFault::NoFolder,
         Err(error) => refused_by(error),
     }
@@ -235,6 +249,9 @@ fn opened(rt: &HostRuntime, name: &str) -> Result<Connection<FileStore<File>>, S
         Ok(files) => files,
         Err(OpenError::Busy) => return Err(StoreFault::Locked),
         Err(OpenError::OutOfMemory) => return Err(NO_MEMORY),
+        Err(OpenError::Io(error)) if error.kind() == ErrorKind::Unsupported => {
+            return Err(StoreFault::Linked);
+        }
         Err(_) => return Err(written_fault(rt, name)),
     };
     match Connection::open_files(rt.alloc(), files, options) {

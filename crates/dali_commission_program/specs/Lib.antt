@@ -5,6 +5,7 @@ pub mod Done
 pub mod Ending
 pub mod Erasing
 pub mod Failures
+pub mod Hanging
 pub mod Mends
 pub mod Object
 pub mod Progress

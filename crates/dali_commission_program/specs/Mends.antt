@@ -11,8 +11,8 @@ use Rattle.dali_commissioning.specs.declared.conducting.Ended.TheVariants.{Done}
 use Rattle.dali_commissioning.specs.declared.conducting.PassEnd.{PassEnd}
 use Rattle.dali_commissioning.specs.Census.{IsPut, AreCounted}
 use Rattle.dali_commissioning.specs.Drivers.{Talk}
-use Rattle.dali_commissioning.specs.Places.{random_at}
 use Rattle.dali_commissioning.specs.Runs.{Run, AreRuns, EndWith, ComeTo, AreQuiet}
+use Rattle.dali_controller.specs.declared.shorts.Shorts.{Shorts}
 use Rattle.dali_replacement.specs.Tables.{Keeps}
 use Rattle.dali_mending.specs.declared.mending.Put.{Put}
 use Rattle.dali_mending.specs.Mending.{Mending, mending_begun, put_next, told_to}
@@ -21,9 +21,10 @@ use Rattle.dali_commission_program.specs.declared.tasks.Mend.{Mend}
 use Rattle.dali_commission_program.specs.Ending.{HasAskedAtLast, pass_at_last}
 use Rattle.dali_commission_program.specs.declared.ending.AtLast.{AtLast}
 use Rattle.dali_commission_program.specs.Failures.{ended_as}
+use Rattle.dali_commission_program.specs.Hanging.{AreLookedFor}
 use Rattle.dali_commission_program.specs.Sharing.{has_any, why_open, or_open, meant_from}
 use Rattle.dali_commission_program.specs.Sharing.{refused_from, is_any_left, is_any_left_shared}
-use Rattle.dali_commission_program.specs.Sharing.{is_any_bare}
+use Rattle.dali_commission_program.specs.Sharing.{is_any_bare, none_hangs}
 
 -- A MACHINE IS CONDUCTED, by which frame it says next and what it is after what it is told: each
 -- frame is put, and it is told what came of that; last first
@@ -50,7 +51,7 @@ HasPut m n x y = (told : List Input) × AreFrames put_next told_to m told n x y
 -- A SHORT ADDRESS IS MENDED from its beginning, by a table, until no frame is due
 abbrev pub IsMended : Kept → ℕ → Mending → Talk → Talk → Type 0
 IsMended table a m x y =
-    HasPut (mending_begun a (random_at table.enrolled a)) m x y × (put_next m ≡ None)
+    HasPut (mending_begun a table.enrolled) m x y × (put_next m ≡ None)
 
 -- one after the other, behind these
 abbrev pub AreMended : Kept → List ℕ → List Mending → List Mending → Talk → Talk → Type 0
@@ -88,36 +89,41 @@ MendedSo pass after replies ms ended x y =
     × HasAskedAtLast pass after.enrolled last x y
     × (ended ≡ mended_as pass last replies ms)
 
--- WHAT FOLLOWS once short addresses were mended: no survey if gear were not told apart where one
--- would enrol a gear
+-- WHAT FOLLOWS once short addresses were mended: no survey if gear that were heard to share one
+-- were not told apart where a survey would enrol a gear
 abbrev pub Follows : {S : Type 0} (is_up is_sound : S → Type 0)
     (holds : S → List Record → Type 0) (kept_of : S → Kept) → Block → Kept → List Reply
     → List Mending → S → S → Talk → Talk → Result (Unit {0}) Failure → Type 0
 Follows {S = S} is_up is_sound holds kept_of block table replies ms was keep x y ended =
-    ((is_any_bare ms ≡ true)
+    ((is_any_bare replies ms ≡ true)
     × (ended ≡ Err (why_open (is_any_left_shared replies ms)))
     × (keep ≡ was)
     × (y ≡ x))
-    ⊎ ((is_any_bare ms ≡ false)
+    ⊎ ((is_any_bare replies ms ≡ false)
     × ((pass : PassEnd)
     × (mid : S)
     × (at : Talk)
     × HasSurveyed is_up is_sound holds kept_of block table mid x at pass
     × MendedSo pass (kept_of keep) replies ms ended at y))
 
--- WHAT A MEND COMES TO: first each short address is asked. If what was heard lets none be mended,
--- nothing else is put, and the records are as they were. Else each that is meant is mended, and
--- only then surveys follow.
+-- WHAT A MEND COMES TO once each short address was asked: the gear of the table that are away are
+-- looked for at those that are meant. If what was heard lets none be mended, nothing else is put,
+-- and the records are as they were. Else each that is meant is mended, and only then surveys
+-- follow.
 abbrev pub MendsTo : {S : Type 0} (is_up is_sound : S → Type 0)
     (holds : S → List Record → Type 0) (kept_of : S → Kept) → Block → Kept → List Block → Mend
     → List Reply → List Mending → S → S → Talk → Talk → Result (Unit {0}) Failure → Type 0
 MendsTo is_up is_sound holds kept_of block table others wanted replies ms was keep x y ended =
-    ((failure : Failure)
-    × (refused_from table others wanted 0 replies ≡ Some failure)
+    (hanging : Shorts)
+    × (begun : Talk)
+    × AreLookedFor table others wanted (meant_from wanted.named.items 0 replies) 0 replies
+    none_hangs hanging x begun
+    × (((failure : Failure)
+    × (refused_from table others wanted hanging 0 replies ≡ Some failure)
     × (ended ≡ Err failure)
     × (keep ≡ was)
-    × (y ≡ x))
-    ⊎ ((refused_from table others wanted 0 replies ≡ None)
+    × (y ≡ begun))
+    ⊎ ((refused_from table others wanted hanging 0 replies ≡ None)
     × ((at : Talk)
-    × AreMended table (meant_from wanted.named.items 0 replies) [] ms x at
-    × Follows is_up is_sound holds kept_of block table replies ms was keep at y ended))
+    × AreMended table (meant_from wanted.named.items 0 replies) [] ms begun at
+    × Follows is_up is_sound holds kept_of block table replies ms was keep at y ended)))

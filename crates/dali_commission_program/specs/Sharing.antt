@@ -7,7 +7,7 @@ use Rattle.dali_script.specs.declared.block.Block.{Block}
 use Rattle.dali_script.specs.Records.{Kept, Assignment}
 use Rattle.dali_script.specs.Stages.{in_block}
 use Rattle.dali_controller.specs.declared.shorts.Shorts.{Shorts}
-use Rattle.dali_controller.specs.Shorts.{with_short}
+use Rattle.dali_controller.specs.Shorts.{has_short, with_short}
 use Rattle.dali_commissioning.specs.declared.census.Reply.{Reply}
 use Rattle.dali_commissioning.specs.declared.census.Reply.TheVariants as reply
 use Rattle.dali_commissioning.specs.Census.{is_unclear}
@@ -93,15 +93,23 @@ is_away (Some k) _ = false
 abbrev pub is_of_others : List Block → ℕ → Bool
 is_of_others others a = list_any (λ b. in_block b a) others
 
--- at all others the gear of the table is there, unless it is known to be gone or was not asked
+-- at all others the gear of the table is there, unless it is known to be gone or to hang at another
+-- short address, or was not asked
 abbrev pub why_not_beside : Bool → Bool → Option MendRefusal
 why_not_beside known away = if away && not known then Some refusal.NotThere else None
 
-abbrev pub why_not : Kept → List Block → Mend → ℕ → Reply → Option MendRefusal
-why_not table others wanted a r =
+abbrev pub none_hangs : Shorts
+none_hangs = record { bits = 0 }
+
+abbrev pub is_known_so : Mend → List Block → Shorts → ℕ → Bool
+is_known_so wanted others hanging a =
+    is_named wanted.missing.items a || (has_short hanging a || is_of_others others a)
+
+abbrev pub why_not : Kept → List Block → Mend → Shorts → ℕ → Reply → Option MendRefusal
+why_not table others wanted hanging a r =
     if is_meant wanted.named.items a r
     then why_not_meant (is_of_others others a) r
-    else why_not_beside (is_named wanted.missing.items a || is_of_others others a)
+    else why_not_beside (is_known_so wanted others hanging a)
     (is_away (random_at table.enrolled a) r)
 
 -- the first reason
@@ -109,11 +117,11 @@ abbrev pub or_later : ℕ → Option MendRefusal → Option Failure → Option F
 or_later a (Some why) later = Some (NotMended a why)
 or_later a None later = later
 
-abbrev pub refused_from : Kept → List Block → Mend → ℕ → List Reply → Option Failure
-refused_from table others wanted a [] = None
-refused_from table others wanted a (r ∷ more) =
-    or_later a (why_not table others wanted a r)
-    (refused_from table others wanted (a + 1) more)
+abbrev pub refused_from : Kept → List Block → Mend → Shorts → ℕ → List Reply → Option Failure
+refused_from table others wanted hanging a [] = None
+refused_from table others wanted hanging a (r ∷ more) =
+    or_later a (why_not table others wanted hanging a r)
+    (refused_from table others wanted hanging (a + 1) more)
 
 -- the first short address of a block that one of several tables has reserved
 abbrev pub inside : Block → List Assignment → Option ℕ
@@ -151,12 +159,12 @@ abbrev pub is_any_left_shared : List Reply → List Mending → Bool
 is_any_left_shared replies ms = list_any (λ m. is_left_shared replies m) ms
 
 -- A survey enrols the gear at a short address that the table does not have. So it has to wait if
--- gear were not told apart there.
-abbrev pub is_bare : Mending → Bool
-is_bare m = not (is_apart m || is_some m.course.table)
+-- gear that were heard to share it were not told apart there.
+abbrev pub is_bare : List Reply → Mending → Bool
+is_bare replies m = is_left_shared replies m && not (is_some m.course.table)
 
-abbrev pub is_any_bare : List Mending → Bool
-is_any_bare ms = list_any (λ m. is_bare m) ms
+abbrev pub is_any_bare : List Reply → List Mending → Bool
+is_any_bare replies ms = list_any (λ m. is_bare replies m) ms
 
 -- the short addresses that are left: those of a survey, and those at which gear were not told apart
 abbrev pub with_left : Shorts → List Mending → Shorts

@@ -5,6 +5,7 @@ use Rattle.std.specs.declared.string.String.{String}
 use Rattle.std.specs.Borrow.{Bor}
 use Rattle.dali_script.specs.declared.block.Block.{Block}
 use Rattle.dali_script.specs.Records.{Kept}
+use Rattle.dali_controller.specs.declared.shorts.Shorts.{Shorts}
 use Rattle.dali_commissioning.specs.declared.beginning.Begun.{Begun}
 use Rattle.dali_commissioning.specs.declared.beginning.Checked.{Checked}
 use Rattle.dali_commissioning.specs.declared.census.Reply.{Reply}
@@ -100,15 +101,16 @@ HasReplaced told a =
     × (confirmed_at seen ≡ a)
     × ConfirmedTold told (confirmed_at seen) (confirmed_random seen) news
 
--- A MEND THAT ENDED WELL has asked each short address and was not refused by what was heard; all
--- gear were told apart, and it has said what came of each address
+-- A MEND THAT ENDED WELL has asked each short address, has looked for gear that are away, and was
+-- not refused by what was heard; all gear were told apart, and it has said what came of each one
 abbrev pub HasMended : (Said → Type 0) → List Block → Mend → Type 0
 HasMended told others wanted =
     (table : Kept)
     × (replies : List Reply)
     × (ms : List Mending)
-    × (refused_from table others wanted 0 replies ≡ None)
-    × (is_any_bare ms ≡ false)
+    × (hanging : Shorts)
+    × (refused_from table others wanted hanging 0 replies ≡ None)
+    × (is_any_bare replies ms ≡ false)
     × ((pass : PassEnd) × (last : AtLast) × (mended_as pass last replies ms ≡ Ok tt))
     × AreMendsTold told ms
 

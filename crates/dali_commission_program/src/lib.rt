@@ -9,6 +9,7 @@ mod ending;
 mod eraser;
 mod failure;
 mod finishing;
+mod hanging;
 mod identifying;
 mod mending;
 mod object;

@@ -17,6 +17,7 @@ ghost use Rattle.dali_commission_program.specs.Tellings.{AreMendsTold, HasMended
 use crate::ending::{AtLast, ask_at_last};
 use crate::failure::{Failure, REFUSED, add, ended_as, failure_of};
 use crate::finishing::read;
+use crate::hanging::look_for_all;
 use crate::progress::{Aim, Manner, Progress};
 use crate::records::{kept, lend};
 use crate::report::{Came, Report, heard_of, own_rows};
@@ -24,14 +25,14 @@ use crate::reports::{Which, push_places};
 use crate::running::left_of;
 use crate::said::{Said, Voice, or_say, say};
 use crate::sharing::{
-    MendRefusal, has_any, is_any_bare, is_any_left, is_any_left_shared, meant_of, or_open,
+    MendRefusal, Site, has_any, is_any_bare, is_any_left, is_any_left_shared, meant_of, or_open,
     refused_from, reserved_in, why_open, with_left,
 };
 use crate::stores::{Borrower, Stores};
 use crate::tasks::{Asked, Mend};
 use arrayvec::ArrayVec;
 use dali_commissioning::{
-    CommissionFault, DriverLink, PassEnd, Reply, Watch, commission, places, random_at, take_census,
+    CommissionFault, DriverLink, PassEnd, Reply, Watch, commission, places, take_census,
 };
 use dali_controller::Shorts;
 use dali_frame::Short;
@@ -79,7 +80,7 @@ fn mend<R: Read, W: Write>(
     ensures { IfOk result (λ mending. IsMended table.now short mending
         (talk_of R.remaining W.contents driver.old) (talk_of R.remaining W.contents driver.new)) }
 {
-    let mut mending = Mending::new(short, random_at(table.enrolled(), short));
+    let mut mending = Mending::new(short, table.enrolled());
     conduct(driver, &mut mending)?;
     Ok(mending)
 }
@@ -177,15 +178,6 @@ fn came_unsurveyed(work: &Work<'_>, before: &Kept) -> Came
     }
 }
 
-/// What is mended: the gear of all tables, the first one before, the blocks of other controllers, and what is wanted.
-#[derive(Drop)]
-struct Site<'a> {
-    table: &'a Kept,
-    before: &'a Kept,
-    others: &'a [Block],
-    wanted: &'a Mend,
-}
-
 /// What a mend comes to that is refused, by what was heard of each short address.
 fn came_refused(site: &Site<'_>, replies: &[Reply], refusal: Failure) -> Came
     ensures ended { result.ended ≡ Err refusal }
@@ -237,7 +229,7 @@ fn follow<S: Voice, K: Keep, R: Read, W: Write>(
         work.now.replies.now work.now.mended.now store.old store.new (talk_of R.remaining W.contents driver.old)
         (talk_of R.remaining W.contents driver.new) came.ended) }
 {
-    if is_any_bare(work.mended) {
+    if is_any_bare(work.replies, work.mended) {
         return Ok(came_unsurveyed(work, site.before));
     }
     let surveyed = survey(store, driver, progress, site.table);
@@ -263,10 +255,15 @@ fn mends_by<S: Voice, K: Keep, R: Read, W: Write>(
         site.now.others.now site.now.wanted.now replies.now mended.new.items store.old store.new
         (talk_of R.remaining W.contents driver.old) (talk_of R.remaining W.contents driver.new) came.ended) }
 {
-    if let Some(refusal) = refused_from(site.table, site.others, site.wanted, 0, replies) {
+    let meant = meant_of(&site.wanted.named, replies);
+    let looked = look_for_all(driver, progress, site, &meant, 0, replies, Shorts::NONE);
+    let hanging = match looked {
+        Ok(hanging) => hanging,
+        Err(fault) => return Err(failure_of(fault, driver.lines())),
+    };
+    if let Some(refusal) = refused_from(site, hanging, 0, replies) {
         return Ok(came_refused(site, replies, refusal));
     }
-    let meant = meant_of(&site.wanted.named, replies);
     mend_all(driver, progress, site.table, &meant, mended)?;
     let work = Work { replies, mended };
     follow(store, driver, progress, site, &work)

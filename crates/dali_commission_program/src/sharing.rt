@@ -6,7 +6,8 @@ ghost use Rattle.std.specs.List.{list_any};
 ghost use Rattle.dali_commission_program.specs.Sharing.{is_shared, is_open, has_any, why_open, or_open, left_open};
 ghost use Rattle.dali_commission_program.specs.Sharing.{is_named, is_meant, meant_from};
 ghost use Rattle.dali_commission_program.specs.Sharing.{is_left_shared, is_any_left_shared};
-ghost use Rattle.dali_commission_program.specs.Sharing.{why_not_meant, is_away, is_of_others, why_not, refused_from};
+ghost use Rattle.dali_commission_program.specs.Sharing.{why_not_meant, is_away, is_of_others, is_known_so, why_not};
+ghost use Rattle.dali_commission_program.specs.Sharing.{refused_from};
 ghost use Rattle.dali_commission_program.specs.Sharing.{is_apart, is_any_left, is_bare, is_any_bare, with_left};
 ghost use Rattle.dali_commission_program.specs.Sharing.{why_not_beside, inside, or_else, reserved_in};
 ghost use Rattle.dali_commission_program.specs.Reports.{heard_if};
@@ -205,8 +206,8 @@ fn is_away(table: Option<Random24>, reply: Reply) -> bool
     }
 }
 
-/// Why none is mended beside a short address, by whether its gear is known to be gone or was not asked, and whether it
-/// is away.
+/// Why none is mended beside a short address, by whether its gear is known to be gone or elsewhere, or was not asked,
+/// and whether it is away.
 fn why_not_beside(is_known: bool, is_away: bool) -> Option<MendRefusal>
     ensures { result ≡ why_not_beside is_known is_away }
 {
@@ -217,37 +218,51 @@ fn why_not_beside(is_known: bool, is_away: bool) -> Option<MendRefusal>
     }
 }
 
-/// Why what was heard of a short address lets none be mended.
-fn why_not(
-    table: &Kept,
-    others: &[Block],
-    wanted: &Mend,
+/// What is mended: the gear of all tables, the first one before, the blocks of other controllers, and what is wanted.
+#[derive(Drop)]
+pub(crate) struct Site<'a> {
+    pub table: &'a Kept,
+    pub before: &'a Kept,
+    pub others: &'a [Block],
+    pub wanted: &'a Mend,
+}
+
+/// Whether the gear of a short address is known to be gone or to hang at another one, or was not asked.
+fn is_known_so(site: &Site<'_>, hanging: Shorts, short: Short) -> bool
+    ensures { result ≡ is_known_so site.now.wanted.now site.now.others.now hanging short }
+{
+    is_named(&site.wanted.missing, short) || hanging.has(short) || has_block(site.others, short)
+}
+
+/// Why what was heard of a short address lets none be mended, if the gear of these short addresses hang at others.
+pub(crate) fn why_not(
+    site: &Site<'_>,
+    hanging: Shorts,
     short: Short,
     reply: Reply,
 ) -> Option<MendRefusal>
-    ensures { result ≡ why_not table.now others.now wanted.now short reply }
+    ensures { result ≡ why_not site.now.table.now site.now.others.now site.now.wanted.now hanging short reply }
 {
-    let is_of_others = has_block(others, short);
-    if is_meant(&wanted.named, short, reply) {
-        why_not_meant(is_of_others, reply)
+    if is_meant(&site.wanted.named, short, reply) {
+        why_not_meant(has_block(site.others, short), reply)
     } else {
         why_not_beside(
-            is_named(&wanted.missing, short) || is_of_others,
-            is_away(random_at(table.enrolled(), short), reply),
+            is_known_so(site, hanging, short),
+            is_away(random_at(site.table.enrolled(), short), reply),
         )
     }
 }
 
 /// The first reason for which none is mended, from this short address on.
 pub(crate) fn refused_from(
-    table: &Kept,
-    others: &[Block],
-    wanted: &Mend,
+    site: &Site<'_>,
+    hanging: Shorts,
     number: u8,
     replies: &[Reply],
 ) -> Option<Failure>
     requires { number + length replies.now ≤ 64 }
-    ensures { result ≡ refused_from table.now others.now wanted.now number replies.now }
+    ensures { result ≡ refused_from site.now.table.now site.now.others.now site.now.wanted.now hanging number
+        replies.now }
 {
     let [reply, more @ ..] = replies else {
         return None;
@@ -256,9 +271,9 @@ pub(crate) fn refused_from(
         // A reply is left, so the number is below 64.
         unreachable!();
     };
-    match why_not(table, others, wanted, short, *reply) {
+    match why_not(site, hanging, short, *reply) {
         Some(refusal) => Some(Failure::NotMended(short, refusal)),
-        None => refused_from(table, others, wanted, number + 1, more),
+        None => refused_from(site, hanging, number + 1, more),
     }
 }
 
@@ -352,17 +367,17 @@ pub(crate) fn is_any_left_shared(replies: &[Reply], mended: &[Mending]) -> bool
         .any(|mending| is_left_shared(replies, mending))
 }
 
-/// Whether gear were not told apart at a short address at which a survey would enrol one.
-fn is_bare(mending: &Mending) -> bool
-    ensures { result ≡ is_bare mending.now }
+/// Whether gear that were heard to share a short address were not told apart, and a survey would enrol one there.
+fn is_bare(replies: &[Reply], mending: &Mending) -> bool
+    ensures { result ≡ is_bare replies.now mending.now }
 {
-    !(is_apart(mending) || mending.course().table.is_some())
+    is_left_shared(replies, mending) && !mending.course().table.is_some()
 }
 
-pub(crate) fn is_any_bare(mended: &[Mending]) -> bool
-    ensures { result ≡ is_any_bare mended.now }
+pub(crate) fn is_any_bare(replies: &[Reply], mended: &[Mending]) -> bool
+    ensures { result ≡ is_any_bare replies.now mended.now }
 {
-    mended.iter().any(is_bare)
+    mended.iter().any(|mending| is_bare(replies, mending))
 }
 
 /// These short addresses, and those at which gear were not told apart.

@@ -21,6 +21,12 @@ pub enum StoreFault {
     /// The folder in which it is to be made is not there.
     #[error("its folder is not there")]
     NoFolder,
+    /// Nothing can be made in its folder, in which its log lies while it is open.
+    #[error("nothing can be made in its folder, and its log has to lie there")]
+    ClosedFolder,
+    /// It has a second name, by a hard link, or is something else than a file.
+    #[error("it has a second name, a hard link, or is no file: make a copy and name that")]
+    Linked,
     /// It may not be read, or not be written.
     #[error("the system refuses to read or write it")]
     Forbidden,

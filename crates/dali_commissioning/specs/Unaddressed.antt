@@ -1,14 +1,15 @@
-use Rattle.std.specs.Prelude.{◌≡◌, ◌⊎◌, ℕ, Bool, true, false, ◌||◌, List, [], ◌∷◌, ◌++◌}
+use Rattle.std.specs.Prelude.{◌≡◌, ◌⊎◌, ℕ, Bool, true, false, ◌||◌, ◌==◌, List, [], ◌∷◌, ◌++◌}
 use Rattle.std.specs.Prelude.{Option, Some, None, length}
 use Rattle.dali_frame.specs.declared.frames.Answer.{Answer}
 use Rattle.dali_frame.specs.declared.frames.Answer.TheVariants.{Silence, Byte, Damaged}
 use Rattle.dali_frame.specs.Random.{high_of, middle_of, low_of}
-use Rattle.dali_special.specs.declared.command.Target.TheVariants.{Unaddressed}
+use Rattle.dali_frame.specs.Short.{code_of}
+use Rattle.dali_special.specs.declared.command.Target.TheVariants.{Addressed, Unaddressed}
 use Rattle.dali_special.specs.declared.command.Command.{Command}
 use Rattle.dali_special.specs.declared.command.Command.TheVariants.{Terminate, Initialise}
 use Rattle.dali_special.specs.declared.command.Command.TheVariants.{Compare, Withdraw}
 use Rattle.dali_special.specs.declared.command.Command.TheVariants.{SearchHigh, SearchMiddle}
-use Rattle.dali_special.specs.declared.command.Command.TheVariants.{SearchLow}
+use Rattle.dali_special.specs.declared.command.Command.TheVariants.{SearchLow, QueryShort}
 use Rattle.dali_special.specs.Command.{frame_of}
 use Rattle.dali_script.specs.declared.block.Block.{Block}
 use Rattle.dali_script.specs.declared.trace.Entry.{Entry}
@@ -17,6 +18,8 @@ use Rattle.dali_script.specs.Records.{Assignment}
 use Rattle.dali_script.specs.Scripts.{Lawful}
 use Rattle.dali_script.specs.declared.sending.Half.{Half}
 use Rattle.dali_script.specs.declared.sending.Half.TheVariants.{Whole, First, Second}
+use Rattle.dali_commissioning.specs.declared.unaddressed.Asks.{Asks}
+use Rattle.dali_commissioning.specs.declared.unaddressed.Asks.TheVariants as asks
 use Rattle.dali_commissioning.specs.declared.unaddressed.Putting.{Putting}
 use Rattle.dali_commissioning.specs.Drivers.{Talk}
 use Rattle.dali_commissioning.specs.Census.{IsPut, is_sent, answer_told}
@@ -41,25 +44,25 @@ abbrev pub withdrawing : ℕ → List Command
 withdrawing r =
     SearchHigh (high_of r) ∷ SearchMiddle (middle_of r) ∷ SearchLow (low_of r) ∷ Withdraw ∷ []
 
--- how each is put: its priority, its half of a pair, and whether it asks
-abbrev pub put_so : ℕ → Command → Half → Bool → Putting
-put_so p c half asks = record { priority = p; frame = frame_of c; half = half; asks = asks }
+-- how each is put: its priority, its half of a pair, and what it asks
+abbrev pub put_so : ℕ → Command → Half → Asks → Putting
+put_so p c half a = record { priority = p; frame = frame_of c; half = half; asks = a }
 
 abbrev pub woken_then : List Putting → List Putting
 woken_then more =
-    put_so 3 Terminate Whole false
-    ∷ put_so 1 (Initialise Unaddressed) First false
-    ∷ put_so 1 (Initialise Unaddressed) Second false ∷ more
+    put_so 3 Terminate Whole asks.Nothing
+    ∷ put_so 1 (Initialise Unaddressed) First asks.Nothing
+    ∷ put_so 1 (Initialise Unaddressed) Second asks.Nothing ∷ more
 
 abbrev pub asked_to_the_end : List Putting
 asked_to_the_end =
-    put_so 3 (SearchHigh 255) Whole false
-    ∷ put_so 1 (SearchLow 255) Whole false
-    ∷ put_so 1 (SearchMiddle 255) Whole false
-    ∷ put_so 1 Compare Whole true
-    ∷ put_so 1 Compare Whole true
-    ∷ put_so 1 Compare Whole true
-    ∷ put_so 3 Terminate Whole false ∷ []
+    put_so 3 (SearchHigh 255) Whole asks.Nothing
+    ∷ put_so 1 (SearchLow 255) Whole asks.Nothing
+    ∷ put_so 1 (SearchMiddle 255) Whole asks.Nothing
+    ∷ put_so 1 Compare Whole asks.Any
+    ∷ put_so 1 Compare Whole asks.Any
+    ∷ put_so 1 Compare Whole asks.Any
+    ∷ put_so 3 Terminate Whole asks.Nothing ∷ []
 
 abbrev pub asking : List Putting
 asking = woken_then asked_to_the_end
@@ -67,10 +70,24 @@ asking = woken_then asked_to_the_end
 abbrev pub asking_beside : ℕ → List Putting
 asking_beside r =
     woken_then
-    (put_so 3 (SearchHigh (high_of r)) Whole false
-    ∷ put_so 1 (SearchMiddle (middle_of r)) Whole false
-    ∷ put_so 1 (SearchLow (low_of r)) Whole false
-    ∷ put_so 1 Withdraw Whole false ∷ asked_to_the_end)
+    (put_so 3 (SearchHigh (high_of r)) Whole asks.Nothing
+    ∷ put_so 1 (SearchMiddle (middle_of r)) Whole asks.Nothing
+    ∷ put_so 1 (SearchLow (low_of r)) Whole asks.Nothing
+    ∷ put_so 1 Withdraw Whole asks.Nothing ∷ asked_to_the_end)
+
+-- A GEAR WITH THIS RANDOM ADDRESS is asked, among those with a short address, whether it has that:
+-- by one transaction, which tells it twice, and one that ends it (QUERY SHORT ADDRESS)
+abbrev pub asking_under : ℕ → ℕ → List Putting
+asking_under a r =
+    put_so 3 Terminate Whole asks.Nothing
+    ∷ put_so 1 (Initialise (Addressed a)) First asks.Nothing
+    ∷ put_so 1 (Initialise (Addressed a)) Second asks.Nothing
+    ∷ put_so 1 (SearchHigh (high_of r)) Whole asks.Nothing
+    ∷ put_so 1 (SearchMiddle (middle_of r)) Whole asks.Nothing
+    ∷ put_so 1 (SearchLow (low_of r)) Whole asks.Nothing
+    ∷ put_so 1 QueryShort Whole (asks.Byte (code_of a))
+    ∷ put_so 1 QueryShort Whole (asks.Byte (code_of a))
+    ∷ put_so 3 Terminate Whole asks.Nothing ∷ []
 
 abbrev pub IsPutSo : Putting → Input → Talk → Talk → Type 0
 IsPutSo p told x y = IsPut p.priority p.frame p.half told x y
@@ -86,18 +103,19 @@ ArePut (p ∷ puttings) (told ∷ more) x y =
     × ArePut puttings more mid y
 
 -- whether gear was heard; none if a frame was lost
-abbrev pub is_yes : Bool → Answer → Bool
-is_yes asks Silence = false
-is_yes asks (Byte byte) = asks
-is_yes asks Damaged = asks
+abbrev pub is_yes : Asks → Answer → Bool
+is_yes asks.Any (Byte byte) = true
+is_yes asks.Any Damaged = true
+is_yes (asks.Byte wanted) (Byte byte) = byte == wanted
+is_yes _ _ = false
 
 abbrev pub joined_yes : Bool → Option Bool → Option Bool
 joined_yes here (Some found) = Some (here || found)
 joined_yes here None = None
 
-abbrev pub found_at : Bool → Option Answer → Option Bool → Option Bool
-found_at asks (Some h) later = joined_yes (is_yes asks h) later
-found_at asks None later = None
+abbrev pub found_at : Asks → Option Answer → Option Bool → Option Bool
+found_at a (Some h) later = joined_yes (is_yes a h) later
+found_at a None later = None
 
 abbrev pub found_by : List Putting → List Input → Option Bool
 found_by [] told = Some false

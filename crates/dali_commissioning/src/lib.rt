@@ -31,6 +31,6 @@ pub use lighting::{light, light_at_last};
 pub use lines::told_of;
 pub use newcomers::{Newcomers, look_for_newcomers};
 pub use runs::commission;
-pub use unaddressed::has_unaddressed;
+pub use unaddressed::{has_unaddressed, has_under};
 pub use verdict::{Place, are_as_recorded, is_as_recorded, places, random_at};
 pub use watch::{Unwatched, Watch};

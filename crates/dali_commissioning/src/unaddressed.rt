@@ -1,15 +1,15 @@
-//! Gear without short address: whether there is any, and any other than one.
+//! Gear without short address: whether there is any, and any other than one. And whether a gear hangs at an address.
 
 ghost use Rattle.std.specs.Prelude.{◌≡◌, ◌||◌, List, Some, Err, IfOk};
 ghost use Rattle.dali_frame.specs.declared.frames.Answer.{Answer};
 ghost use Rattle.dali_script.specs.declared.orders.Input.{Input};
 ghost use Rattle.dali_commissioning.specs.Drivers.{talk_of};
 ghost use Rattle.dali_commissioning.specs.Unaddressed.{put_so, is_yes, joined_yes, ArePut, found_by};
-ghost use Rattle.dali_commissioning.specs.Unaddressed.{asking, asking_beside, AreLeftOver, AreLostSo};
+ghost use Rattle.dali_commissioning.specs.Unaddressed.{asking, asking_beside, asking_under, AreLeftOver, AreLostSo};
 
 use crate::driver::{DriverFault, DriverLink};
 use crate::fault::CommissionFault;
-use dali_frame::{Answer, Forward, Priority, Random24};
+use dali_frame::{Answer, Forward, Priority, Random24, Short};
 use dali_script::{Half, Input};
 use dali_special::{Command, Target};
 use std::io::{Read, Write};
@@ -17,17 +17,27 @@ use std::io::{Read, Write};
 /// How often in a row the frames may be lost.
 const LOST: u8 = 8;
 
+/// Which answer to a frame says that gear is there.
+#[derive(Clone, Copy)]
+pub enum Asks {
+    /// None: it asks nothing.
+    Nothing,
+    /// Any, also a damaged one.
+    Any,
+    /// This byte.
+    Byte(u8),
+}
+
 /// A frame that is put, and how.
 #[derive(Clone, Copy)]
 pub struct Putting {
     pub priority: Priority,
     pub frame: Forward,
     pub half: Half,
-    /// Whether it asks if any gear is there.
-    pub asks: bool,
+    pub asks: Asks,
 }
 
-fn put_so(priority: Priority, command: Command, half: Half, asks: bool) -> Putting
+fn put_so(priority: Priority, command: Command, half: Half, asks: Asks) -> Putting
     ensures { result ≡ put_so priority command half asks }
 {
     Putting {
@@ -45,26 +55,31 @@ fn asking() -> [Putting; 10]
 {
     let (first, later) = (Priority::FIRST, Priority::LATER);
     [
-        put_so(first, Command::Terminate, Half::Whole, false),
+        put_so(first, Command::Terminate, Half::Whole, Asks::Nothing),
         put_so(
             later,
             Command::Initialise(Target::Unaddressed),
             Half::First,
-            false,
+            Asks::Nothing,
         ),
         put_so(
             later,
             Command::Initialise(Target::Unaddressed),
             Half::Second,
-            false,
+            Asks::Nothing,
         ),
-        put_so(first, Command::SearchHigh(0xFF), Half::Whole, false),
-        put_so(later, Command::SearchLow(0xFF), Half::Whole, false),
-        put_so(later, Command::SearchMiddle(0xFF), Half::Whole, false),
-        put_so(later, Command::Compare, Half::Whole, true),
-        put_so(later, Command::Compare, Half::Whole, true),
-        put_so(later, Command::Compare, Half::Whole, true),
-        put_so(first, Command::Terminate, Half::Whole, false),
+        put_so(first, Command::SearchHigh(0xFF), Half::Whole, Asks::Nothing),
+        put_so(later, Command::SearchLow(0xFF), Half::Whole, Asks::Nothing),
+        put_so(
+            later,
+            Command::SearchMiddle(0xFF),
+            Half::Whole,
+            Asks::Nothing,
+        ),
+        put_so(later, Command::Compare, Half::Whole, Asks::Any),
+        put_so(later, Command::Compare, Half::Whole, Asks::Any),
+        put_so(later, Command::Compare, Half::Whole, Asks::Any),
+        put_so(first, Command::Terminate, Half::Whole, Asks::Nothing),
     ]
 }
 
@@ -92,10 +107,10 @@ fn asking_beside(random: Random24) -> [Putting; 14]
         end,
         once,
         twice,
-        put_so(Priority::FIRST, high, Half::Whole, false),
-        put_so(later, middle, Half::Whole, false),
-        put_so(later, low, Half::Whole, false),
-        put_so(later, Command::Withdraw, Half::Whole, false),
+        put_so(Priority::FIRST, high, Half::Whole, Asks::Nothing),
+        put_so(later, middle, Half::Whole, Asks::Nothing),
+        put_so(later, low, Half::Whole, Asks::Nothing),
+        put_so(later, Command::Withdraw, Half::Whole, Asks::Nothing),
         byte,
         low_byte,
         bytes,
@@ -106,13 +121,37 @@ fn asking_beside(random: Random24) -> [Putting; 14]
     ]
 }
 
+/// The frames that ask whether a gear with this random address has a short address: the gear with that are initialised,
+/// the one is asked twice for its short address, and the initialisation is ended.
+fn asking_under(short: Short, random: Random24) -> [Putting; 9]
+    ensures { result ≡ asking_under short random }
+{
+    let (first, later, own) = (Priority::FIRST, Priority::LATER, Asks::Byte(short.code()));
+    let initialise = Command::Initialise(Target::Addressed(short));
+    let high = Command::SearchHigh(random.high());
+    let middle = Command::SearchMiddle(random.middle());
+    let low = Command::SearchLow(random.low());
+    [
+        put_so(first, Command::Terminate, Half::Whole, Asks::Nothing),
+        put_so(later, initialise, Half::First, Asks::Nothing),
+        put_so(later, initialise, Half::Second, Asks::Nothing),
+        put_so(later, high, Half::Whole, Asks::Nothing),
+        put_so(later, middle, Half::Whole, Asks::Nothing),
+        put_so(later, low, Half::Whole, Asks::Nothing),
+        put_so(later, Command::QueryShort, Half::Whole, own),
+        put_so(later, Command::QueryShort, Half::Whole, own),
+        put_so(first, Command::Terminate, Half::Whole, Asks::Nothing),
+    ]
+}
+
 /// Whether an answer to a frame says that gear is there.
-fn is_yes(asks: bool, heard: Answer) -> bool
+fn is_yes(asks: Asks, heard: Answer) -> bool
     ensures { result ≡ is_yes asks heard }
 {
-    match heard {
-        Answer::Silence => false,
-        Answer::Byte(_) | Answer::Damaged => asks,
+    match (asks, heard) {
+        (Asks::Nothing, _) | (_, Answer::Silence) | (Asks::Byte(_), Answer::Damaged) => false,
+        (Asks::Any, Answer::Byte(_) | Answer::Damaged) => true,
+        (Asks::Byte(wanted), Answer::Byte(byte)) => byte == wanted,
     }
 }
 
@@ -192,4 +231,20 @@ pub(crate) fn has_others<R: Read, W: Write>(
         (talk_of R.remaining W.contents driver.old) (talk_of R.remaining W.contents driver.new) }
 {
     put_to_the_end(driver, &asking_beside(random))
+}
+
+/// Whether a gear with this random address has this short address: the gear with the short address are initialised, the
+/// one is asked twice, and they are disabled again. Only exactly its answer counts. If one of these frames is lost all
+/// begins again, eight times in a row at most. No gear changes an address.
+pub fn has_under<R: Read, W: Write>(
+    driver: &mut DriverLink<R, W>,
+    short: Short,
+    random: Random24,
+) -> Result<bool, CommissionFault>
+    ensures answered { IfOk result (λ found. AreLeftOver (asking_under short random) found
+        (talk_of R.remaining W.contents driver.old) (talk_of R.remaining W.contents driver.new)) }
+    ensures lost { result ≡ Err CommissionFault.QuestionLost → AreLostSo (asking_under short random)
+        (talk_of R.remaining W.contents driver.old) (talk_of R.remaining W.contents driver.new) }
+{
+    put_to_the_end(driver, &asking_under(short, random))
 }

@@ -9,9 +9,10 @@ use Rattle.dali_search.specs.declared.step.Step.{Step, TheVariants.Again, TheVar
 use Rattle.dali_commissioning.specs.{Census.reply_of, declared.census.Reply.Reply}
 use Rattle.dali_commissioning.specs.declared.census.Reply.TheVariants as reply
 use Rattle.dali_mending.specs.Course.{at_stage, kept_by, kind_of, times_after, outcome_told, told, unnumbered, unclear, again, answered, stage_found, found}
-use Rattle.dali_mending.specs.Course.{searched, left, kept, owned, gone_by, gone, silent, alike, unlike, unkept, queried, erased, stage_spent, spent}
+use Rattle.dali_mending.specs.Course.{searched, left, kept, is_placed, passed, owned, gone_by, gone, silent, alike, unlike, unkept, queried, erased}
+use Rattle.dali_mending.specs.Course.{stage_spent, spent}
 use Rattle.dali_mending.specs.Course.{IsCourse, IsFit, IsOfTable}
-use Rattle.dali_mending.specs.Mending.{Mending, is_heard, ascent_after, course_after, spent_if, IsSought, tells_apart, is_added, with_apart, left_after}
+use Rattle.dali_mending.specs.Mending.{Mending, is_heard, ascent_after, course_after, spent_if, IsSought, tells_apart, is_added, with_number, left_after}
 use Rattle.dali_mending.specs.Mending.{finished}
 use Rattle.dali_mending.specs.Transactions.{is_own, answer_at, frame_next, frame_at, is_withheld, commands_of, as_frames}
 use Rattle.dali_mending.specs.declared.{course.Course.Course, stage.Stage.Stage}
@@ -134,10 +135,11 @@ module _ (x : Ascent) (c : Course) (is : IsCourse c) where
     go (Some k) None of same = absurd (cc)
     go (Some k) (Some j) of same = cc
 
-  queried_is : (a r n : ℕ) (h : Answer) → IfSome c.keeper (λ k. k ≡ r) → IsNext x (queried a c r n h)
-  queried_is a r n h same =
-      either x (is_own a h) (owned c r) (unkept c r n h)
-      (either x (r == MASK24) (unnumbered c) (kept c r) unnumbered_is (kept_is r same)) (unkept_is r n h same)
+  queried_is : (a : ℕ) (placed : List ℕ) (r n : ℕ) (h : Answer) → IfSome c.keeper (λ k. k ≡ r) → IsNext x (queried a placed c r n h)
+  queried_is a placed r n h same =
+      either x (is_own a h) (owned placed c r) (unkept c r n h)
+      (either x (r == MASK24) (unnumbered c) (if is_placed placed r then passed c else kept c r) unnumbered_is
+      (either x (is_placed placed r) (passed c) (kept c r) (at_is stage.Left tt tt) (kept_is r same))) (unkept_is r n h same)
 
   spent_is : IsNext x (spent c)
   spent_is = at_is (stage_spent c.stage) (fit c.stage) (sought c.stage) where
@@ -156,10 +158,10 @@ left_is c is true = at_is ascent_at_first c is (stage.Searching (asked_next asce
 left_is c is false = at_is ascent_at_first c is stage.Closing tt tt
 
 -- after a transaction
-pub next_is : (a : ℕ) (c : Course) (t : List Entry) (x : Ascent) → IsCourse c
-    → IsNext (ascent_after c.stage t x) (course_after a c.stage c t (ascent_after c.stage t x))
-next_is a c t x is = go c.stage is.fit refl where
-  go : (s : Stage) → IsFit c.table c.keeper s → c.stage ≡ s → IsNext (ascent_after s t x) (course_after a s c t (ascent_after s t x))
+pub next_is : (a : ℕ) (placed : List ℕ) (c : Course) (t : List Entry) (x : Ascent) → IsCourse c
+    → IsNext (ascent_after c.stage t x) (course_after a placed c.stage c t (ascent_after c.stage t x))
+next_is a placed c t x is = go c.stage is.fit refl where
+  go : (s : Stage) → IsFit c.table c.keeper s → c.stage ≡ s → IsNext (ascent_after s t x) (course_after a placed s c t (ascent_after s t x))
   go (stage.Asking last n) fit at =
       answered_is x c is (kind_of (reply_of (answer_at t 0) (answer_at t 1) (answer_at t 2)))
       (times_after last n (kind_of (reply_of (answer_at t 0) (answer_at t 1) (answer_at t 2))))
@@ -167,7 +169,7 @@ next_is a c t x is = go c.stage is.fit refl where
   go stage.Beginning fit at = at_is x c is stage.Left tt tt
   go stage.Left fit at = left_is c is (is_heard (answer_at t 3))
   go (stage.Searching n) fit at = searched_is (ascended x (is_heard (answer_at t 3))) c is
-  go (stage.Keeping r n) fit at = queried_is x c is a r n (answer_at t 6) fit
+  go (stage.Keeping r n) fit at = queried_is x c is a placed r n (answer_at t 6) fit
   go (stage.Erasing n) fit at = erased_is x c is
   go stage.Closing fit at = at_is x c is (stage.Asking reply.Noise 0) tt tt
   go (stage.Ending o) fit at = at_is x c is (stage.Ended o) tt tt
@@ -177,32 +179,34 @@ pub spent_if_is : (x : Ascent) (n : ℕ) (c : Course) → IsNext x c → IsNext 
 spent_if_is x n c is = either x (n == 0) (spent c) c (spent_is x c is.course) is
 
 -- what is made of it field by field
-pub made_is : (a n : ℕ) (c d e : Course) (t u v : List Entry) (x y : Ascent) → IsCourse c → u ≡ t → v ≡ t → y ≡ ascent_after c.stage u x
-    → d ≡ course_after a c.stage c v y → e ≡ spent_if n d → IsNext y e
-made_is a n c d e t u v x y is first second ascended_so followed spent_so =
+pub made_is : (a n : ℕ) (placed : List ℕ) (c d e : Course) (t u v : List Entry) (x y : Ascent) → IsCourse c → u ≡ t → v ≡ t → y ≡ ascent_after c.stage u x
+    → d ≡ course_after a placed c.stage c v y → e ≡ spent_if n d → IsNext y e
+made_is a n placed c d e t u v x y is first second ascended_so followed spent_so =
     let ascent : y ≡ ascent_after c.stage t x = ascended_so ∙ ap (λ z. ascent_after c.stage z x) first in
-    let follows : d ≡ course_after a c.stage c t (ascent_after c.stage t x) =
-    followed ∙ (ap (λ z. course_after a c.stage c z y) second ∙ ap (λ z. course_after a c.stage c t z) ascent) in
+    let follows : d ≡ course_after a placed c.stage c t (ascent_after c.stage t x) =
+    followed ∙ (ap (λ z. course_after a placed c.stage c z y) second ∙ ap (λ z. course_after a placed c.stage c t z) ascent) in
     subst (λ z. IsNext z e) (sym ascent)
     (subst (λ z. IsNext (ascent_after c.stage t x) z) (sym (spent_so ∙ ap (λ z. spent_if n z) follows))
-    (spent_if_is (ascent_after c.stage t x) n (course_after a c.stage c t (ascent_after c.stage t x)) (next_is a c t x is)))
+    (spent_if_is (ascent_after c.stage t x) n (course_after a placed c.stage c t (ascent_after c.stage t x)) (next_is a placed c t x is)))
 
-pub made : (m : Mending) (d e : Course) (t u v : List Entry) (y : Ascent) (apart : Option ℕ) (added : Bool) (n : ℕ) (xs : List ℕ)
-    → t ≡ m.entries → u ≡ m.entries → v ≡ m.entries → y ≡ ascent_after m.course.stage t m.ascent → d ≡ course_after m.short m.course.stage m.course u y
-    → apart ≡ tells_apart m.course.stage v → added ≡ is_added m.erased apart → xs ≡ with_apart m.erased apart → n ≡ left_after m.left added
+pub made : (m : Mending) (placed : List ℕ) (d e : Course) (t u v : List Entry) (y : Ascent) (apart : Option ℕ) (added : Bool) (n : ℕ) (xs : List ℕ)
+    → placed ≡ m.placed → t ≡ m.entries → u ≡ m.entries → v ≡ m.entries → y ≡ ascent_after m.course.stage t m.ascent
+    → d ≡ course_after m.short placed m.course.stage m.course u y
+    → apart ≡ tells_apart m.course.stage v → added ≡ is_added m.erased apart → xs ≡ with_number m.erased apart → n ≡ left_after m.left added
     → e ≡ spent_if n d
-    → record { short = m.short; course = e; ascent = y; entries = []; lost = 0; left = n; erased = xs } ≡ finished m
-made m d e t u v y apart added n xs first second third ascended_so followed apart_so added_so erased_so left_so spent_so =
+    → record { short = m.short; placed = m.placed; course = e; ascent = y; entries = []; lost = 0; left = n; erased = xs } ≡ finished m
+made m placed d e t u v y apart added n xs places first second third ascended_so followed apart_so added_so erased_so left_so spent_so =
     let ascent : y ≡ ascent_after m.course.stage m.entries m.ascent = ascended_so ∙ ap (λ z. ascent_after m.course.stage z m.ascent) first in
-    let follows : d ≡ course_after m.short m.course.stage m.course m.entries (ascent_after m.course.stage m.entries m.ascent) =
-    followed ∙ (ap (λ z. course_after m.short m.course.stage m.course z y) second
-    ∙ ap (λ z. course_after m.short m.course.stage m.course m.entries z) ascent) in
+    let follows : d ≡ course_after m.short m.placed m.course.stage m.course m.entries (ascent_after m.course.stage m.entries m.ascent) =
+    followed ∙ (ap (λ z. course_after m.short z m.course.stage m.course u y) places
+    ∙ (ap (λ z. course_after m.short m.placed m.course.stage m.course z y) second
+    ∙ ap (λ z. course_after m.short m.placed m.course.stage m.course m.entries z) ascent)) in
     let parted : apart ≡ tells_apart m.course.stage m.entries = apart_so ∙ ap (λ z. tells_apart m.course.stage z) third in
     let counted : n ≡ left_after m.left (is_added m.erased apart) = left_so ∙ ap (λ z. left_after m.left z) added_so in
     let course : e ≡ spent_if (left_after m.left (is_added m.erased apart)) d = spent_so ∙ ap (λ z. spent_if z d) counted in
     rw (course, counted, erased_so, follows, parted, ascent) refl
 
-pub has_room : (xs ys : List ℕ) (apart : Option ℕ) → length xs ≤ 64 → ys ≡ with_apart xs apart → length ys ≤ 64
+pub has_room : (xs ys : List ℕ) (apart : Option ℕ) → length xs ≤ 64 → ys ≡ with_number xs apart → length ys ≤ 64
 has_room xs ys None room is = rw is room
 has_room xs ys (Some n) room is = rw is (go (nat_lt (length xs) 64) refl) where
   go : (b : Bool) → nat_lt (length xs) 64 ≡ b → length (if b then xs ++ n ∷ [] else xs) ≤ 64

@@ -1,6 +1,7 @@
 use Rattle.std.specs.Prelude.{◌≡◌, ◌≢◌, ℕ, ◌+◌, ◌==◌, ◌||◌, nat_le, min, if◌then◌else◌, Bool, true}
 use Rattle.std.specs.Prelude.{false}
-use Rattle.std.specs.Prelude.{Option, Some, None, is_some, IfSome}
+use Rattle.std.specs.Prelude.{Option, Some, None, is_some, IfSome, List}
+use Rattle.std.specs.List.{list_any}
 use Rattle.dali_frame.specs.declared.frames.Answer.{Answer}
 use Rattle.dali_frame.specs.declared.frames.Answer.TheVariants.{Silence, Byte, Damaged}
 use Rattle.dali_frame.specs.Random.{MASK24}
@@ -67,8 +68,9 @@ abbrev pub outcome_told : Option ℕ → ℕ → Outcome
 outcome_told None r = outcome.Kept r
 outcome_told (Some k) r = if r == k then outcome.Kept r else outcome.Another r
 
--- GEAR DRAW only if those that have FFFFFF told so, and no gear is known that is to keep the short
--- address: by this number three times in a row, or by an answer under it.
+-- GEAR DRAW only if no gear is known that is to keep the short address, and FFFFFF was told three
+-- times in a row, or under it the short address, or six answers in a row that were not understood.
+-- Noise may be these.
 abbrev pub unnumbered : Course → Course
 unnumbered c = keep_on c stage.Drawing
 
@@ -165,12 +167,21 @@ unkept c r n Silence = silent c
 unkept c r n (Byte byte) = unlike c r (min (n + 1) 255)
 unkept c r n Damaged = unlike c r (min (n + 1) 255)
 
--- a gear that has no number draws
-abbrev pub owned : Course → ℕ → Course
-owned c r = if r == MASK24 then unnumbered c else kept c r
+-- A GEAR THAT HANGS HERE: the table has another short address for it. It is withdrawn, and does not
+-- keep this one.
+abbrev pub is_placed : List ℕ → ℕ → Bool
+is_placed placed r = list_any (λ n. n == r) placed
 
-abbrev pub queried : ℕ → Course → ℕ → ℕ → Answer → Course
-queried a c r n h = if is_own a h then owned c r else unkept c r n h
+abbrev pub passed : Course → Course
+passed c = at_stage c stage.Left
+
+-- a gear that has no number draws
+abbrev pub owned : List ℕ → Course → ℕ → Course
+owned placed c r =
+    if r == MASK24 then unnumbered c else if is_placed placed r then passed c else kept c r
+
+abbrev pub queried : ℕ → List ℕ → Course → ℕ → ℕ → Answer → Course
+queried a placed c r n h = if is_own a h then owned placed c r else unkept c r n h
 
 -- ---------------------------------------------------------------- after the other transactions
 

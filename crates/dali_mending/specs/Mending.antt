@@ -4,6 +4,7 @@ use Rattle.std.specs.Prelude.{Option, Some, None, is_some}
 use Rattle.dali_frame.specs.declared.frames.Forward.{Forward}
 use Rattle.dali_frame.specs.declared.frames.Answer.{Answer}
 use Rattle.dali_frame.specs.declared.frames.Answer.TheVariants.{Silence, Byte, Damaged}
+use Rattle.dali_script.specs.Records.{Assignment}
 use Rattle.dali_script.specs.declared.trace.Entry.{Entry}
 use Rattle.dali_script.specs.declared.orders.Input.{Input}
 use Rattle.dali_script.specs.declared.orders.Input.TheVariants.{Heard}
@@ -12,6 +13,7 @@ use Rattle.dali_search.specs.Ascending.{Ascent, IsAscent, ascent_at_first, ascen
 use Rattle.dali_search.specs.Ascending.{leads_to}
 use Rattle.dali_script.specs.Sending.{half_in}
 use Rattle.dali_commissioning.specs.Census.{reply_of}
+use Rattle.dali_commissioning.specs.Places.{random_at}
 use Rattle.dali_mending.specs.declared.stage.Stage.{Stage}
 use Rattle.dali_mending.specs.declared.stage.Stage.TheVariants as stage
 use Rattle.dali_mending.specs.declared.course.Outcome.{Outcome}
@@ -23,11 +25,13 @@ use Rattle.dali_mending.specs.Course.{begun, at_stage, asked_anew, asked, left, 
 use Rattle.dali_mending.specs.Course.{erased}
 use Rattle.dali_mending.specs.Course.{spent, IsCourse}
 
--- A MENDING: the short address; where it is; its search; the frames of the running transaction,
--- each with what was heard; how often in a row that was lost; how many transactions are left until
--- a gear is told apart; and the numbers of those that were, and have lost the short address.
+-- A MENDING: the short address; the numbers for which the table has others; where it is; its
+-- search; the frames of the running transaction, each with what was heard; how often in a row that
+-- was lost; how many transactions are left until a gear is told apart; and the numbers of those
+-- that were, and have lost the short address.
 pub record Mending : Type 0 where
   pub short : ℕ
+  pub placed : List ℕ
   pub course : Course
   pub ascent : Ascent
   pub entries : List Entry
@@ -35,10 +39,27 @@ pub record Mending : Type 0 where
   pub left : ℕ
   pub erased : List ℕ
 
-abbrev pub mending_begun : ℕ → Option ℕ → Mending
-mending_begun a table = record {
+-- a list of numbers has room for 64
+abbrev pub is_added : List ℕ → Option ℕ → Bool
+is_added xs (Some n) = nat_lt (length xs) 64
+is_added xs None = false
+
+abbrev pub with_number : List ℕ → Option ℕ → List ℕ
+with_number xs (Some n) = if nat_lt (length xs) 64 then xs ++ n ∷ [] else xs
+with_number xs None = xs
+
+-- the numbers for which a table has other short addresses than this one
+abbrev pub placed_by : List Assignment → ℕ → List ℕ
+placed_by [] a = []
+placed_by (p ∷ more) a =
+    with_number (placed_by more a) (if p.0 == a then None else Some p.1)
+
+-- by the enrolments of a table
+abbrev pub mending_begun : ℕ → List Assignment → Mending
+mending_begun a enrolled = record {
   short = a;
-  course = begun table;
+  placed = placed_by enrolled a;
+  course = begun (random_at enrolled a);
   ascent = ascent_at_first;
   entries = [];
   lost = 0;
@@ -84,18 +105,18 @@ ascent_after (stage.Searching n) t x = ascended x (is_heard (answer_at t 3))
 ascent_after _ t x = x
 
 -- WHERE IT IS THEN, by the stage, what was heard, and the search after it
-abbrev pub course_after : ℕ → Stage → Course → List Entry → Ascent → Course
-course_after a (stage.Asking last n) c t x =
+abbrev pub course_after : ℕ → List ℕ → Stage → Course → List Entry → Ascent → Course
+course_after a placed (stage.Asking last n) c t x =
     asked c last n (reply_of (answer_at t 0) (answer_at t 1) (answer_at t 2))
-course_after a stage.Drawing c t x = at_stage c stage.Closing
-course_after a stage.Beginning c t x = at_stage c stage.Left
-course_after a stage.Left c t x = left c (is_heard (answer_at t 3)) (asked_next x)
-course_after a (stage.Searching n) c t x = searched c (leads_to x) (asked_next x)
-course_after a (stage.Keeping r n) c t x = queried a c r n (answer_at t 6)
-course_after a (stage.Erasing n) c t x = erased c
-course_after a stage.Closing c t x = asked_anew c
-course_after a (stage.Ending o) c t x = at_stage c (stage.Ended o)
-course_after a (stage.Ended o) c t x = c
+course_after a placed stage.Drawing c t x = at_stage c stage.Closing
+course_after a placed stage.Beginning c t x = at_stage c stage.Left
+course_after a placed stage.Left c t x = left c (is_heard (answer_at t 3)) (asked_next x)
+course_after a placed (stage.Searching n) c t x = searched c (leads_to x) (asked_next x)
+course_after a placed (stage.Keeping r n) c t x = queried a placed c r n (answer_at t 6)
+course_after a placed (stage.Erasing n) c t x = erased c
+course_after a placed stage.Closing c t x = asked_anew c
+course_after a placed (stage.Ending o) c t x = at_stage c (stage.Ended o)
+course_after a placed (stage.Ended o) c t x = c
 
 -- WHO WAS TOLD APART, and has lost the short address: a gear told that it has none, after it was
 -- erased
@@ -108,15 +129,7 @@ abbrev pub tells_apart : Stage → List Entry → Option ℕ
 tells_apart (stage.Erasing n) t = if tells_none (answer_at t 7) then Some n else None
 tells_apart _ t = None
 
--- the list has room for 64; each one that it takes makes room for 256 transactions more
-abbrev pub is_added : List ℕ → Option ℕ → Bool
-is_added xs (Some n) = nat_lt (length xs) 64
-is_added xs None = false
-
-abbrev pub with_apart : List ℕ → Option ℕ → List ℕ
-with_apart xs (Some n) = if nat_lt (length xs) 64 then xs ++ n ∷ [] else xs
-with_apart xs None = xs
-
+-- each one that is told apart makes room for 256 transactions more
 abbrev pub left_after : ℕ → Bool → ℕ
 left_after left added = if added then 256 else left - 1
 
@@ -126,18 +139,19 @@ spent_if left c = if left == 0 then spent c else c
 abbrev pub finished_so : Mending → Course → Ascent → Option ℕ → Mending
 finished_so m c x apart = record {
   short = m.short;
+  placed = m.placed;
   course = spent_if (left_after m.left (is_added m.erased apart)) c;
   ascent = x;
   entries = [];
   lost = 0;
   left = left_after m.left (is_added m.erased apart);
-  erased = with_apart m.erased apart;
+  erased = with_number m.erased apart;
 }
 
 abbrev pub finished : Mending → Mending
 finished m =
     let x = ascent_after m.course.stage m.entries m.ascent in
-    finished_so m (course_after m.short m.course.stage m.course m.entries x) x
+    finished_so m (course_after m.short m.placed m.course.stage m.course m.entries x) x
     (tells_apart m.course.stage m.entries)
 
 -- ---------------------------------------------------------------- after a frame

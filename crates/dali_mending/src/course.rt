@@ -4,7 +4,8 @@ ghost use Rattle.std.specs.Prelude.{◌≡◌};
 ghost use Rattle.dali_search.specs.declared.step.Step.{Step};
 ghost use Rattle.dali_mending.specs.Course.{begun, at_stage, kind_of, is_same, times_after, asked, answered, told};
 ghost use Rattle.dali_mending.specs.Course.{unnumbered, unclear, outcome_told, keep_on, asked_anew};
-ghost use Rattle.dali_mending.specs.Course.{found, searched, queried, kept, owned, unkept, silent, gone, alike, left};
+ghost use Rattle.dali_mending.specs.Course.{found, searched, queried, kept, is_placed, passed, owned, unkept};
+ghost use Rattle.dali_mending.specs.Course.{silent, gone, alike, left};
 ghost use Rattle.dali_mending.specs.Course.{erased, spent};
 
 use crate::stage::{Stage, is_own};
@@ -266,23 +267,39 @@ impl Course {
         }
     }
 
-    /// A gear with this random address told its short address.
-    fn owned(&self, random: Random24) -> Course
-        ensures { result ≡ owned self.now random }
+    /// A gear with this random address was withdrawn, and is not to keep the short address: the search goes on.
+    fn passed(&self) -> Course
+        ensures { result ≡ passed self.now }
+    {
+        self.at(Stage::Left)
+    }
+
+    /// A gear with this random address told its short address; the table has those of `placed` at others.
+    fn owned(&self, placed: &[Random24], random: Random24) -> Course
+        ensures { result ≡ owned placed.now self.now random }
     {
         if random == Random24::MASK {
             self.unnumbered()
+        } else if is_placed(placed, random) {
+            self.passed()
         } else {
             self.kept(random)
         }
     }
 
     /// This was heard after QUERY SHORT ADDRESS under this number.
-    pub(crate) fn queried(&self, short: Short, random: Random24, times: u8, heard: Answer) -> Course
-        ensures { result ≡ queried short self.now random times heard }
+    pub(crate) fn queried(
+        &self,
+        short: Short,
+        placed: &[Random24],
+        random: Random24,
+        times: u8,
+        heard: Answer,
+    ) -> Course
+        ensures { result ≡ queried short placed.now self.now random times heard }
     {
         if is_own(short, heard) {
-            self.owned(random)
+            self.owned(placed, random)
         } else {
             self.unkept(random, times, heard)
         }
@@ -311,6 +328,13 @@ impl Course {
             | Stage::Closing => self.at(Stage::Ending(Outcome::Spent)),
         }
     }
+}
+
+/// Whether the table has another short address for this random address.
+fn is_placed(placed: &[Random24], random: Random24) -> bool
+    ensures { result ≡ is_placed placed.now random }
+{
+    placed.iter().any(|number| *number == random)
 }
 
 /// What is told counts as: several numbers, or noise, as no number.

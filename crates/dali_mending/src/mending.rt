@@ -1,22 +1,21 @@
 //! The machine that mends one short address.
 
-ghost use Rattle.std.specs.Prelude.{◌≡◌, true, Some, MatchOption};
+ghost use Rattle.std.specs.Prelude.{◌≡◌, ◌==◌, if◌then◌else◌, true, Some, None, MatchOption};
 ghost use Rattle.std.specs.List.{list_any};
 ghost use Rattle.dali_script.specs.Due.{accepts};
 ghost use Rattle.dali_script.specs.Stages.{in_block};
 ghost use Rattle.dali_script.specs.declared.orders.Due.TheVariants as due;
-ghost use Rattle.dali_commissioning.specs.Places.{random_at};
 ghost use Rattle.dali_mending.specs.Course.{IsCourse};
 ghost use Rattle.dali_mending.specs.Transactions.{frame_next};
 ghost use Rattle.dali_mending.specs.Mending.{is_heard, outcome_at, tells_none, tells_apart, ascent_after, course_after};
-ghost use Rattle.dali_mending.specs.Mending.{IsSought, with_apart, is_added, left_after, spent_if};
+ghost use Rattle.dali_mending.specs.Mending.{IsSought, with_number, is_added, left_after, spent_if, placed_by};
 
 use crate::course::{Course, Outcome};
 use crate::stage::{Stage, answer_at};
 use arrayvec::ArrayVec;
 use dali_commissioning::{has_block, random_at, reply_of};
 use dali_frame::{Answer, Forward, Priority, Random24, Short};
-use dali_script::{Block, Entry, Half, Input, Kept, half_in};
+use dali_script::{Block, Entry, Half, Input, Kept, Pair, half_in};
 use dali_search::Ascent;
 use std::marker::Model;
 
@@ -103,8 +102,14 @@ fn ascent_after(stage: &Stage, entries: &[Entry], ascent: &Ascent) -> Ascent
 }
 
 /// The course after a transaction; `ascent` is the search after it.
-fn course_after(short: Short, course: &Course, entries: &[Entry], ascent: &Ascent) -> Course
-    ensures { result ≡ course_after short course.now.stage course.now entries.now ascent.now }
+fn course_after(
+    short: Short,
+    placed: &[Random24],
+    course: &Course,
+    entries: &[Entry],
+    ascent: &Ascent,
+) -> Course
+    ensures { result ≡ course_after short placed.now course.now.stage course.now entries.now ascent.now }
 {
     match course.stage {
         Stage::Asking(last, times) => {
@@ -116,7 +121,7 @@ fn course_after(short: Short, course: &Course, entries: &[Entry], ascent: &Ascen
         Stage::Left => course.left(is_heard(answer_at(entries, 3)), ascent.probe()),
         Stage::Searching(_) => course.searched(ascent.step(), ascent.probe()),
         Stage::Keeping(random, times) => {
-            course.queried(short, random, times, answer_at(entries, 6))
+            course.queried(short, placed, random, times, answer_at(entries, 6))
         }
         Stage::Erasing(_) => course.erased(),
         Stage::Closing => course.asked_anew(),
@@ -125,14 +130,39 @@ fn course_after(short: Short, course: &Course, entries: &[Entry], ascent: &Ascen
     }
 }
 
-/// A gear that was told apart is added to those that were, if there is room. Whether one was.
-fn add(erased: &mut ArrayVec<Random24, 64>, apart: Option<Random24>) -> bool
-    ensures erased { erased.new.items ≡ with_apart erased.old.items apart }
-    ensures added { result ≡ is_added erased.old.items apart }
+/// A number is added to a list, if there is one and the list has room. Whether it was.
+fn add(numbers: &mut ArrayVec<Random24, 64>, number: Option<Random24>) -> bool
+    ensures numbers { numbers.new.items ≡ with_number numbers.old.items number }
+    ensures added { result ≡ is_added numbers.old.items number }
 {
-    match apart {
-        Some(random) => erased.try_push(random).is_ok(),
+    match number {
+        Some(random) => numbers.try_push(random).is_ok(),
         None => false,
+    }
+}
+
+/// The random address of a pair that has another short address than this one.
+fn placed_elsewhere(pair: Pair, short: Short) -> Option<Random24>
+    ensures { result ≡ (if pair.0 == short then None else Some pair.1) }
+{
+    if pair.address() == short.number() {
+        None
+    } else {
+        Some(pair.random())
+    }
+}
+
+/// The random addresses for which a table has other short addresses than this one.
+fn placed_by(enrolled: &[Pair], short: Short) -> ArrayVec<Random24, 64>
+    ensures { result.items ≡ placed_by enrolled.now short }
+{
+    match enrolled {
+        [] => ArrayVec::new(),
+        [pair, more @ ..] => {
+            let mut placed = placed_by(more, short);
+            let _ = add(&mut placed, placed_elsewhere(*pair, short));
+            placed
+        }
     }
 }
 
@@ -161,10 +191,12 @@ fn spent_if(left: u16, course: &Course) -> Course
 /// controller's frame may come between.
 ///
 /// Contracts see the short address, the course, the search, the frames of the running transaction, and how often in a
-/// row it was lost. They also see how many transactions are left until a gear is told apart, and those that were.
+/// row it was lost. They also see how many transactions are left until a gear is told apart, and those that were; and
+/// the random addresses for which the table has other short addresses, whose gear do not keep this one.
 #[derive(Drop)]
 pub struct Mending {
     short: Short,
+    placed: ArrayVec<Random24, 64>,
     course: Course,
     ascent: Ascent,
     entries: ArrayVec<Entry, 8>,
@@ -180,6 +212,7 @@ impl Model for Mending {
 
     ghost view = { λ m. record {
       short = m.short;
+      placed = m.placed.items;
       course = m.course;
       ascent = m.ascent;
       entries = m.entries.items;
@@ -190,6 +223,7 @@ impl Model for Mending {
 
     ghost invariant = { λ m. IsMending (record {
       short = m.short;
+      placed = m.placed.items;
       course = m.course;
       ascent = m.ascent;
       entries = m.entries.items;
@@ -203,13 +237,14 @@ impl Mending {
     ghost use Rattle.dali_mending.specs.Mending.{Mending, mending_begun, IsMending, put_next, told_to, finished};
     ghost use Rattle.dali_mending.specs.Mending.{lost_once, heard_once};
 
-    /// The mending of a short address, for which a table has the gear with this random address, if it has one.
-    pub fn new(short: Short, table: Option<Random24>) -> Mending
-        ensures { result ≡ mending_begun short table }
+    /// The mending of a short address by what a table has enrolled, which may have a gear for it.
+    pub fn new(short: Short, enrolled: &[Pair]) -> Mending
+        ensures { result ≡ mending_begun short enrolled.now }
     {
         Mending {
             short,
-            course: Course::begun(table),
+            placed: placed_by(enrolled, short),
+            course: Course::begun(random_at(enrolled, short)),
             ascent: Ascent::new(),
             entries: ArrayVec::new(),
             lost: 0,
@@ -222,12 +257,12 @@ impl Mending {
     /// tables are not among them.
     pub fn of(table: &Kept, others: &[Block], short: Short) -> Option<Mending>
         ensures { MatchOption result (list_any (λ b. in_block b short) others.now ≡ true)
-            (λ m. m ≡ mending_begun short (random_at table.now.enrolled short)) }
+            (λ m. m ≡ mending_begun short table.now.enrolled) }
     {
         if has_block(others, short) {
             return None;
         }
-        Some(Mending::new(short, random_at(table.enrolled(), short)))
+        Some(Mending::new(short, table.enrolled()))
     }
 
     /// The short address.
@@ -298,7 +333,13 @@ impl Mending {
         ensures { self.new ≡ finished self.old }
     {
         let ascent = ascent_after(&self.course.stage, &self.entries, &self.ascent);
-        let course = course_after(self.short, &self.course, &self.entries, &ascent);
+        let course = course_after(
+            self.short,
+            &self.placed,
+            &self.course,
+            &self.entries,
+            &ascent,
+        );
         let apart = tells_apart(&self.course.stage, &self.entries);
         let is_new = add(&mut self.erased, apart);
         self.left = left_after(self.left, is_new);

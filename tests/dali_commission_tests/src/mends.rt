@@ -247,6 +247,28 @@ fn gear_that_are_gone_may_be_named(rt: HostRuntime) {
     has(&rt, &bus, 1, 0x654321, 5);
 }
 
+/// A gear of the table that has another short address, among others, is found there, and has its own again. Without
+/// it, it is named.
+#[test]
+fn a_gear_that_hangs_among_others_has_its_own_again(rt: HostRuntime) {
+    for records in [
+        [(2, 8, 0x123456), (2, 7, 0xABCDEF)].as_slice(),
+        &[(2, 8, 0x123456), (2, 7, 0xABCDEF), (2, 5, 0x654321)],
+    ] {
+        let (cabinet, bus) = (Cabinet::new(rt.alloc()), Bus::with(rt.alloc(), &THREE));
+        assert!(rt; cabinet.has_put("site.db", records));
+        let said = "random address 123456: it answers at short address 5, but the table has it at 8\n";
+        ends_over(&rt, MEND, &cabinet, &bus, 0, said);
+        has(&rt, &bus, 0, 0x123456, 8);
+        has(&rt, &bus, 1, 0x654321, 5);
+        has(&rt, &bus, 2, 0xABCDEF, 7);
+    }
+    let (cabinet, bus) = (Cabinet::new(rt.alloc()), Bus::with(rt.alloc(), &THREE));
+    assert!(rt; cabinet.has_put("site.db", &[(2, 8, 0x333333), (2, 9, 0x654321)]));
+    ends_over(&rt, MEND, &cabinet, &bus, 11, "8: a gear of the tables is not there");
+    has(&rt, &bus, 1, 0x654321, 5);
+}
+
 /// Of gear whose answers are lost or damaged most of the time it is not said that they share an address, and none
 /// changes.
 #[test]

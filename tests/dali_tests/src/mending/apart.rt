@@ -1,10 +1,10 @@
 //! Gear that share a short address are told apart, on a bus without trouble.
 
-use super::site::{Addresses, Dice, SHARED, Site, are, mended, random, short};
+use super::site::{Addresses, Dice, ENOUGH, SHARED, Site, are, mended, mending_of, random, short};
 use dali_frame::Short;
 use dali_gear::Reach;
 use dali_mending::{Mending, Outcome};
-use dali_script::{Block, Input, Kept};
+use dali_script::{Block, Input, Kept, Pair};
 use dali_special::{Command, Target};
 use std::process::Abort;
 use std::test::Fail;
@@ -70,6 +70,18 @@ fn it_is_told_who_lost_it(rt: HostRuntime) -> Result<(), Fail> {
     assert_eq!(rt; mending.erased()[1].value(), 0xFFFFFF);
     assert_eq!(rt; mending.short().number(), SHARED);
     assert!(rt; mending.course().keeper == Some(random(0x300000)?));
+    Ok(())
+}
+
+/// A gear for which the table has another short address does not keep this one, though it has the least number.
+#[test]
+fn a_gear_that_hangs_here_loses_it(rt: HostRuntime) -> Result<(), Fail> {
+    let mut site = Site::of(&[(AT, 0x300000), (AT, 0x100000)])?;
+    let elsewhere = [Pair::of(short(9)?, random(0x100000)?)];
+    let mut mending = Mending::new(short(SHARED)?, &elsewhere);
+    let outcome = site.mend(&mut mending, ENOUGH);
+    assert_eq!(rt; outcome, Some(Outcome::Kept(random(0x300000)?)));
+    are(&rt, &site, &[(AT, 0x300000), (None, 0x100000)]);
     Ok(())
 }
 
@@ -213,7 +225,7 @@ fn no_other_gear_changes(rt: HostRuntime) -> Result<(), Fail> {
 /// A transaction that is lost eight times in a row ends it.
 #[test]
 fn what_is_lost_eight_times_ends_it(rt: HostRuntime) -> Result<(), Fail> {
-    let mut mending = Mending::new(Short::FIRST, None);
+    let mut mending = Mending::new(Short::FIRST, &[]);
     for _ in 0..7 {
         mending.told(Input::Destroyed);
         assert_eq!(rt; mending.outcome(), None);
@@ -233,7 +245,7 @@ fn it_ends_on_a_bad_bus(rt: HostRuntime) -> Result<(), Fail> {
         dali_frame::Answer::Byte(11),
     ] {
         for table in [None, Some(random(0x123456)?)] {
-            let mut mending = Mending::new(short(SHARED)?, table);
+            let mut mending = mending_of(table)?;
             let mut frames = 0u32;
             for _ in 0..200_000u32 {
                 if mending.put().is_none() {

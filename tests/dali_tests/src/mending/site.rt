@@ -3,7 +3,7 @@
 use dali_frame::{Answer, Forward, Random24, Short};
 use dali_gear::{GearSet, Reach, Row};
 use dali_mending::{Mending, Outcome};
-use dali_script::Input;
+use dali_script::{Input, Pair};
 use dali_special::{Command, Target};
 use std::process::Abort;
 use std::test::Fail;
@@ -189,13 +189,22 @@ impl Site {
 /// More frames than any mending of these tests takes.
 pub const ENOUGH: u32 = 100_000;
 
+/// The mending of the shared address, for which the table has this gear, if it has one.
+pub fn mending_of(table: Option<Random24>) -> Result<Mending, Fail> {
+    let at = short(SHARED)?;
+    Ok(match table {
+        Some(random) => Mending::new(at, &[Pair::of(at, random)]),
+        None => Mending::new(at, &[]),
+    })
+}
+
 /// The shared address is mended, with this number in a table or none.
 pub fn mended(site: &mut Site, table: Option<u32>) -> Result<(Option<Outcome>, Mending), Fail> {
     let table = match table {
         Some(number) => Some(random(number)?),
         None => None,
     };
-    let mut mending = Mending::new(short(SHARED)?, table);
+    let mut mending = mending_of(table)?;
     let outcome = site.mend(&mut mending, ENOUGH);
     Ok((outcome, mending))
 }

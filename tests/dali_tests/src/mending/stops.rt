@@ -1,7 +1,7 @@
 //! A mending that is stopped at each of its frames, and called again.
 
-use super::site::{Addresses, ENOUGH, SHARED, Site, mended, random, short};
-use dali_mending::{Mending, Outcome};
+use super::site::{Addresses, ENOUGH, SHARED, Site, mended, mending_of, random};
+use dali_mending::Outcome;
 use std::process::Abort;
 use std::test::Fail;
 
@@ -18,10 +18,10 @@ fn goes_on<R: Abort>(rt: &R, gear: &[Addresses], table: Option<u32>) -> Result<(
     let _ = mended(&mut whole, table)?;
     for stop in 0..whole.frames {
         let mut site = Site::of(gear)?;
-        let mut mending = Mending::new(short(SHARED)?, number);
+        let mut mending = mending_of(number)?;
         assert_eq!(rt; site.mend(&mut mending, stop), None);
         assert!(rt; site.sharing() >= 1, "stopped at {stop}");
-        let mut again = Mending::new(short(SHARED)?, number);
+        let mut again = mending_of(number)?;
         let outcome = site.mend(&mut again, ENOUGH);
         assert!(rt;
             matches!(outcome, Some(Outcome::Kept(_))),

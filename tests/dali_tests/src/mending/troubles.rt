@@ -1,7 +1,7 @@
 //! Sites by seeds, on buses with troubles, and mendings that are stopped.
 
-use super::site::{Addresses, Dice, ENOUGH, SHARED, Site, random, short};
-use dali_mending::{Mending, Outcome};
+use super::site::{Addresses, Dice, ENOUGH, SHARED, Site, mending_of, random};
+use dali_mending::Outcome;
 use std::process::Abort;
 use std::test::Fail;
 
@@ -50,7 +50,7 @@ fn settles<R: Abort>(rt: &R, seed: u64, trouble: u32) -> Result<bool, Fail> {
     site.trouble = trouble;
     let mut is_settled = false;
     for call in 0..CALLS {
-        let mut mending = Mending::new(short(SHARED)?, table);
+        let mut mending = mending_of(table)?;
         let frames = if call < 2 {
             site.dice.roll(200)
         } else {

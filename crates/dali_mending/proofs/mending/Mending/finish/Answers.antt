@@ -6,9 +6,10 @@ use Rattle.dali_mending.proofs.mending.Mending.finish.Goals as goal
 pub invariant_of-self : goal.invariant_of-self
 invariant_of-self c =
     let next : IsNext c.ascent_after-ascent.result c.spent_if-self-inside.result =
-    made_is c.self.inside.short c.left_after-self-inside.result c.self.inside.course c.course_after-course.result c.spent_if-self-inside.result
-    c.self.inside.entries.items c.deref.result.now c.deref-2.result.now c.self.inside.ascent c.ascent_after-ascent.result
-    c.self.invariant.course c.deref.ensures.0 c.deref-2.ensures.0 c.ascent_after-ascent.ensures c.course_after-course.ensures c.spent_if-self-inside.ensures in
+    made_is c.self.inside.short c.left_after-self-inside.result c.deref-2.result.now c.self.inside.course
+    c.course_after-course.result c.spent_if-self-inside.result
+    c.self.inside.entries.items c.deref.result.now c.deref-3.result.now c.self.inside.ascent c.ascent_after-ascent.result
+    c.self.invariant.course c.deref.ensures.0 c.deref-3.ensures.0 c.ascent_after-ascent.ensures c.course_after-course.ensures c.spent_if-self-inside.ensures in
     record {
       course = next.course;
       sought = next.sought;
@@ -21,6 +22,7 @@ returns c =
     let empty : c.clear.new.self.items ≡ [] = search rules in
     let with : List Entry → Mending = λ t. record {
       short = c.self.inside.short;
+      placed = c.self.inside.placed.items;
       course = c.spent_if-self-inside.result;
       ascent = c.ascent_after-ascent.result;
       entries = t;
@@ -31,14 +33,15 @@ returns c =
     ap with empty
     ∙ (made (record {
       short = c.self.inside.short;
+      placed = c.self.inside.placed.items;
       course = c.self.inside.course;
       ascent = c.self.inside.ascent;
       entries = c.self.inside.entries.items;
       lost = c.self.inside.lost;
       left = c.self.inside.left;
       erased = c.self.inside.erased.items;
-    }) c.course_after-course.result c.spent_if-self-inside.result c.deref.result.now c.deref-2.result.now c.deref-3.result.now
+    }) c.deref-2.result.now c.course_after-course.result c.spent_if-self-inside.result c.deref.result.now c.deref-3.result.now c.deref-4.result.now
     c.ascent_after-ascent.result c.tells_apart-apart.result c.add-is_new.result c.left_after-self-inside.result c.add-is_new.new.erased.items
-    c.deref.ensures.0 c.deref-2.ensures.0 c.deref-3.ensures.0 c.ascent_after-ascent.ensures c.course_after-course.ensures
+    c.deref-2.ensures.0 c.deref.ensures.0 c.deref-3.ensures.0 c.deref-4.ensures.0 c.ascent_after-ascent.ensures c.course_after-course.ensures
     c.tells_apart-apart.ensures c.add-is_new.ensures.added c.add-is_new.ensures.erased c.left_after-self-inside.ensures c.spent_if-self-inside.ensures
     ∙ ap finished c.self.view_is)
