@@ -126,20 +126,29 @@ fn asking_beside(random: Random24) -> [Putting; 14]
 fn asking_under(short: Short, random: Random24) -> [Putting; 9]
     ensures { result ≡ asking_under short random }
 {
-    let (first, later, own) = (Priority::FIRST, Priority::LATER, Asks::Byte(short.code()));
-    let initialise = Command::Initialise(Target::Addressed(short));
+    let (first, later, own) = (Priority::FIRST, Priority::LATER, short.code());
     let high = Command::SearchHigh(random.high());
     let middle = Command::SearchMiddle(random.middle());
     let low = Command::SearchLow(random.low());
     [
         put_so(first, Command::Terminate, Half::Whole, Asks::Nothing),
-        put_so(later, initialise, Half::First, Asks::Nothing),
-        put_so(later, initialise, Half::Second, Asks::Nothing),
+        put_so(
+            later,
+            Command::Initialise(Target::Addressed(short)),
+            Half::First,
+            Asks::Nothing,
+        ),
+        put_so(
+            later,
+            Command::Initialise(Target::Addressed(short)),
+            Half::Second,
+            Asks::Nothing,
+        ),
         put_so(later, high, Half::Whole, Asks::Nothing),
         put_so(later, middle, Half::Whole, Asks::Nothing),
         put_so(later, low, Half::Whole, Asks::Nothing),
-        put_so(later, Command::QueryShort, Half::Whole, own),
-        put_so(later, Command::QueryShort, Half::Whole, own),
+        put_so(later, Command::QueryShort, Half::Whole, Asks::Byte(own)),
+        put_so(later, Command::QueryShort, Half::Whole, Asks::Byte(own)),
         put_so(first, Command::Terminate, Half::Whole, Asks::Nothing),
     ]
 }

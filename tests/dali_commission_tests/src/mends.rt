@@ -257,7 +257,8 @@ fn a_gear_that_hangs_among_others_has_its_own_again(rt: HostRuntime) {
     ] {
         let (cabinet, bus) = (Cabinet::new(rt.alloc()), Bus::with(rt.alloc(), &THREE));
         assert!(rt; cabinet.has_put("site.db", records));
-        let said = "random address 123456: it answers at short address 5, but the table has it at 8\n";
+        let said =
+            "random address 123456: it answers at short address 5, but the table has it at 8\n";
         ends_over(&rt, MEND, &cabinet, &bus, 0, said);
         has(&rt, &bus, 0, 0x123456, 8);
         has(&rt, &bus, 1, 0x654321, 5);
@@ -265,7 +266,14 @@ fn a_gear_that_hangs_among_others_has_its_own_again(rt: HostRuntime) {
     }
     let (cabinet, bus) = (Cabinet::new(rt.alloc()), Bus::with(rt.alloc(), &THREE));
     assert!(rt; cabinet.has_put("site.db", &[(2, 8, 0x333333), (2, 9, 0x654321)]));
-    ends_over(&rt, MEND, &cabinet, &bus, 11, "8: a gear of the tables is not there");
+    ends_over(
+        &rt,
+        MEND,
+        &cabinet,
+        &bus,
+        11,
+        "8: a gear of the tables is not there",
+    );
     has(&rt, &bus, 1, 0x654321, 5);
 }
 
