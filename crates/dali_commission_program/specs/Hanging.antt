@@ -1,8 +1,9 @@
-use Rattle.std.specs.Prelude.{◌≡◌, ℕ, ◌+◌, Bool, List, [], ◌∷◌, Option, Some, None}
+use Rattle.std.specs.Prelude.{◌≡◌, ℕ, ◌+◌, ◌==◌, ◌&&◌, Bool, not, List, [], ◌∷◌, ◌++◌, Option, Some}
+use Rattle.std.specs.Prelude.{None, if◌then◌else◌}
+use Rattle.std.specs.List.{list_any}
 use Rattle.dali_script.specs.declared.block.Block.{Block}
-use Rattle.dali_script.specs.Records.{Kept}
-use Rattle.dali_controller.specs.declared.shorts.Shorts.{Shorts}
-use Rattle.dali_controller.specs.Shorts.{with_short}
+use Rattle.dali_script.specs.Records.{Kept, Assignment}
+use Rattle.dali_script.specs.Stages.{in_block}
 use Rattle.dali_commissioning.specs.declared.census.Reply.{Reply}
 use Rattle.dali_commissioning.specs.Drivers.{Talk}
 use Rattle.dali_commissioning.specs.Places.{random_at}
@@ -11,7 +12,7 @@ use Rattle.dali_commission_program.specs.declared.sharing.MendRefusal.{MendRefus
 use Rattle.dali_commission_program.specs.declared.sharing.MendRefusal.TheVariants as refusal
 use Rattle.dali_commission_program.specs.declared.tasks.Mend.{Mend}
 use Rattle.dali_commission_program.specs.Ending.{If}
-use Rattle.dali_commission_program.specs.Sharing.{none_hangs, why_not}
+use Rattle.dali_commission_program.specs.Sharing.{why_not}
 
 -- WHERE A GEAR HANGS: it is asked under its random address at short addresses, one after the other,
 -- until it answers at one
@@ -23,31 +24,44 @@ HangsAt r (b ∷ more) found x y =
     × AreLeftOver (asking_under b r) one x at
     × If one ((found ≡ Some b) × (y ≡ at)) (HangsAt r more found at y)
 
--- WHO IS LOOKED FOR: a gear of the table whose absence would let none be mended
-abbrev pub sought_by : Option MendRefusal → Option ℕ → Option ℕ
-sought_by (Some refusal.NotThere) random = random
-sought_by _ random = None
+-- WHO IS LOOKED FOR: a gear of the table whose absence would let none be mended, if a survey over
+-- the records may give it its short address again: the block has that, and nothing is reserved that
+-- stands against it
+abbrev pub stands_against : Assignment → ℕ → ℕ → Bool
+stands_against p a r = if p.0 == a then not (p.1 == r) else p.1 == r
 
-abbrev pub sought_at : Kept → List Block → Mend → ℕ → Reply → Option ℕ
-sought_at table others wanted a r =
-    sought_by (why_not table others wanted none_hangs a r) (random_at table.enrolled a)
+abbrev pub is_returnable : Kept → ℕ → ℕ → Bool
+is_returnable k a r =
+    list_any (λ b. in_block b a) (k.block ∷ [])
+    && not (list_any (λ p. stands_against p a r) k.reserved)
 
--- LOOKED FOR at these short addresses, with those that were found before
-abbrev pub with_hanging : Shorts → ℕ → Option ℕ → Shorts
-with_hanging before a None = before
-with_hanging before a (Some at) = with_short before a
+abbrev pub sought_by : Option MendRefusal → Kept → ℕ → Option ℕ → Option ℕ
+sought_by (Some refusal.NotThere) before a (Some r) =
+    if is_returnable before a r then Some r else None
+sought_by _ before a _ = None
 
-abbrev pub IsLookedFor : ℕ → Option ℕ → List ℕ → Shorts → Shorts → Talk → Talk → Type 0
+abbrev pub sought_at : Kept → Kept → List Block → Mend → ℕ → Reply → Option ℕ
+sought_at table before others wanted a r =
+    sought_by (why_not table others wanted [] a r) before a (random_at table.enrolled a)
+
+-- LOOKED FOR at these short addresses, behind those that were found before
+abbrev pub with_hanging : List Assignment → ℕ → ℕ → Option ℕ → List Assignment
+with_hanging found a r None = found
+with_hanging found a r (Some at) = found ++ (a, r) ∷ []
+
+abbrev pub IsLookedFor : ℕ → Option ℕ → List ℕ → List Assignment → List Assignment → Talk → Talk
+    → Type 0
 IsLookedFor a None shorts before after x y = (after ≡ before) × (y ≡ x)
 IsLookedFor a (Some r) shorts before after x y =
-    (found : Option ℕ) × HangsAt r shorts found x y × (after ≡ with_hanging before a found)
+    (found : Option ℕ) × HangsAt r shorts found x y × (after ≡ with_hanging before a r found)
 
 -- one after the other, by what was heard of each short address, from one on
-abbrev pub AreLookedFor : Kept → List Block → Mend → List ℕ → ℕ → List Reply → Shorts → Shorts
-    → Talk → Talk → Type 0
-AreLookedFor table others wanted shorts a [] before after x y = (after ≡ before) × (y ≡ x)
-AreLookedFor table others wanted shorts a (r ∷ more) before after x y =
-    (mid : Shorts)
+abbrev pub AreLookedFor : Kept → Kept → List Block → Mend → List ℕ → ℕ → List Reply
+    → List Assignment → List Assignment → Talk → Talk → Type 0
+AreLookedFor table records others wanted shorts a [] before after x y =
+    (after ≡ before) × (y ≡ x)
+AreLookedFor table records others wanted shorts a (r ∷ more) before after x y =
+    (mid : List Assignment)
     × (at : Talk)
-    × IsLookedFor a (sought_at table others wanted a r) shorts before mid x at
-    × AreLookedFor table others wanted shorts (a + 1) more mid after at y
+    × IsLookedFor a (sought_at table records others wanted a r) shorts before mid x at
+    × AreLookedFor table records others wanted shorts (a + 1) more mid after at y

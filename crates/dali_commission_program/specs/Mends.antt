@@ -5,15 +5,14 @@ use Rattle.dali_script.specs.declared.orders.End.TheVariants.{AllFound}
 use Rattle.dali_script.specs.declared.orders.Input.{Input}
 use Rattle.dali_script.specs.declared.orders.Input.TheVariants.{Survey}
 use Rattle.dali_script.specs.declared.records.Record.{Record}
-use Rattle.dali_script.specs.Records.{Kept, without_records}
+use Rattle.dali_script.specs.Records.{Kept, Assignment, without_records}
 use Rattle.dali_commissioning.specs.declared.census.Reply.{Reply}
 use Rattle.dali_commissioning.specs.declared.conducting.Ended.TheVariants.{Done}
 use Rattle.dali_commissioning.specs.declared.conducting.PassEnd.{PassEnd}
 use Rattle.dali_commissioning.specs.Census.{IsPut, AreCounted}
 use Rattle.dali_commissioning.specs.Drivers.{Talk}
 use Rattle.dali_commissioning.specs.Runs.{Run, AreRuns, EndWith, ComeTo, AreQuiet}
-use Rattle.dali_controller.specs.declared.shorts.Shorts.{Shorts}
-use Rattle.dali_replacement.specs.Tables.{Keeps}
+use Rattle.dali_replacement.specs.Tables.{Keeps, Reserves}
 use Rattle.dali_mending.specs.declared.mending.Put.{Put}
 use Rattle.dali_mending.specs.Mending.{Mending, mending_begun, put_next, told_to}
 use Rattle.dali_commission_program.specs.declared.failure.Failure.{Failure}
@@ -24,7 +23,7 @@ use Rattle.dali_commission_program.specs.Failures.{ended_as}
 use Rattle.dali_commission_program.specs.Hanging.{AreLookedFor}
 use Rattle.dali_commission_program.specs.Sharing.{has_any, why_open, or_open, meant_from}
 use Rattle.dali_commission_program.specs.Sharing.{refused_from, is_any_left, is_any_left_shared}
-use Rattle.dali_commission_program.specs.Sharing.{is_any_bare, none_hangs}
+use Rattle.dali_commission_program.specs.Sharing.{is_any_bare}
 
 -- A MACHINE IS CONDUCTED, by which frame it says next and what it is after what it is told: each
 -- frame is put, and it is told what came of that; last first
@@ -62,12 +61,14 @@ AreMended table (a ∷ more) before after x y =
     × IsMended table a m x at
     × AreMended table more (before ++ m ∷ []) after at y
 
--- SURVEYS FOLLOW, until three in a row found nothing, over a store that has the gear of a table
+-- SURVEYS FOLLOW, until three in a row found nothing, over a store that has the gear of a table,
+-- and has reserved their own short addresses for these
 pub record HasSurveyed {S : Type 0} (is_up is_sound : S → Type 0)
     (holds : S → List Record → Type 0) (kept_of : S → Kept) (block : Block) (table : Kept)
-    (keep : S) (x y : Talk) (pass : PassEnd) : Type 0 where
+    (hanging : List Assignment) (keep : S) (x y : Talk) (pass : PassEnd) : Type 0 where
   pub filled : S
   pub has : Keeps table (kept_of filled)
+  pub owed : Reserves hanging table (kept_of filled)
   pub runs : List Run
   pub ran : AreRuns is_up is_sound holds block Survey filled keep x y runs
   pub ended : EndWith pass.ended runs
@@ -92,9 +93,9 @@ MendedSo pass after replies ms ended x y =
 -- WHAT FOLLOWS once short addresses were mended: no survey if gear that were heard to share one
 -- were not told apart where a survey would enrol a gear
 abbrev pub Follows : {S : Type 0} (is_up is_sound : S → Type 0)
-    (holds : S → List Record → Type 0) (kept_of : S → Kept) → Block → Kept → List Reply
-    → List Mending → S → S → Talk → Talk → Result (Unit {0}) Failure → Type 0
-Follows {S = S} is_up is_sound holds kept_of block table replies ms was keep x y ended =
+    (holds : S → List Record → Type 0) (kept_of : S → Kept) → Block → Kept → List Assignment
+    → List Reply → List Mending → S → S → Talk → Talk → Result (Unit {0}) Failure → Type 0
+Follows {S = S} is_up is_sound holds kept_of block table hanging replies ms was keep x y ended =
     ((is_any_bare replies ms ≡ true)
     × (ended ≡ Err (why_open (is_any_left_shared replies ms)))
     × (keep ≡ was)
@@ -103,7 +104,7 @@ Follows {S = S} is_up is_sound holds kept_of block table replies ms was keep x y
     × ((pass : PassEnd)
     × (mid : S)
     × (at : Talk)
-    × HasSurveyed is_up is_sound holds kept_of block table mid x at pass
+    × HasSurveyed is_up is_sound holds kept_of block table hanging mid x at pass
     × MendedSo pass (kept_of keep) replies ms ended at y))
 
 -- WHAT A MEND COMES TO once each short address was asked: the gear of the table that are away are
@@ -111,13 +112,14 @@ Follows {S = S} is_up is_sound holds kept_of block table replies ms was keep x y
 -- and the records are as they were. Else each that is meant is mended, and only then surveys
 -- follow.
 abbrev pub MendsTo : {S : Type 0} (is_up is_sound : S → Type 0)
-    (holds : S → List Record → Type 0) (kept_of : S → Kept) → Block → Kept → List Block → Mend
-    → List Reply → List Mending → S → S → Talk → Talk → Result (Unit {0}) Failure → Type 0
-MendsTo is_up is_sound holds kept_of block table others wanted replies ms was keep x y ended =
-    (hanging : Shorts)
+    (holds : S → List Record → Type 0) (kept_of : S → Kept) → Block → Kept → Kept → List Block
+    → Mend → List Reply → List Mending → S → S → Talk → Talk → Result (Unit {0}) Failure → Type 0
+MendsTo is_up is_sound holds kept_of block table records others wanted replies ms was keep x y
+    ended =
+    (hanging : List Assignment)
     × (begun : Talk)
-    × AreLookedFor table others wanted (meant_from wanted.named.items 0 replies) 0 replies
-    none_hangs hanging x begun
+    × AreLookedFor table records others wanted (meant_from wanted.named.items 0 replies) 0 replies
+    [] hanging x begun
     × (((failure : Failure)
     × (refused_from table others wanted hanging 0 replies ≡ Some failure)
     × (ended ≡ Err failure)
@@ -126,4 +128,4 @@ MendsTo is_up is_sound holds kept_of block table others wanted replies ms was ke
     ⊎ ((refused_from table others wanted hanging 0 replies ≡ None)
     × ((at : Talk)
     × AreMended table (meant_from wanted.named.items 0 replies) [] ms begun at
-    × Follows is_up is_sound holds kept_of block table replies ms was keep at y ended)))
+    × Follows is_up is_sound holds kept_of block table hanging replies ms was keep at y ended)))

@@ -7,7 +7,7 @@ use Rattle.dali_script.specs.declared.block.Block.{Block}
 use Rattle.dali_script.specs.Records.{Kept, Assignment}
 use Rattle.dali_script.specs.Stages.{in_block}
 use Rattle.dali_controller.specs.declared.shorts.Shorts.{Shorts}
-use Rattle.dali_controller.specs.Shorts.{has_short, with_short}
+use Rattle.dali_controller.specs.Shorts.{with_short}
 use Rattle.dali_commissioning.specs.declared.census.Reply.{Reply}
 use Rattle.dali_commissioning.specs.declared.census.Reply.TheVariants as reply
 use Rattle.dali_commissioning.specs.Census.{is_unclear}
@@ -98,14 +98,12 @@ is_of_others others a = list_any (λ b. in_block b a) others
 abbrev pub why_not_beside : Bool → Bool → Option MendRefusal
 why_not_beside known away = if away && not known then Some refusal.NotThere else None
 
-abbrev pub none_hangs : Shorts
-none_hangs = record { bits = 0 }
-
-abbrev pub is_known_so : Mend → List Block → Shorts → ℕ → Bool
+abbrev pub is_known_so : Mend → List Block → List Assignment → ℕ → Bool
 is_known_so wanted others hanging a =
-    is_named wanted.missing.items a || (has_short hanging a || is_of_others others a)
+    is_named wanted.missing.items a
+    || (list_any (λ p. p.0 == a) hanging || is_of_others others a)
 
-abbrev pub why_not : Kept → List Block → Mend → Shorts → ℕ → Reply → Option MendRefusal
+abbrev pub why_not : Kept → List Block → Mend → List Assignment → ℕ → Reply → Option MendRefusal
 why_not table others wanted hanging a r =
     if is_meant wanted.named.items a r
     then why_not_meant (is_of_others others a) r
@@ -117,7 +115,8 @@ abbrev pub or_later : ℕ → Option MendRefusal → Option Failure → Option F
 or_later a (Some why) later = Some (NotMended a why)
 or_later a None later = later
 
-abbrev pub refused_from : Kept → List Block → Mend → Shorts → ℕ → List Reply → Option Failure
+abbrev pub refused_from : Kept → List Block → Mend → List Assignment → ℕ → List Reply
+    → Option Failure
 refused_from table others wanted hanging a [] = None
 refused_from table others wanted hanging a (r ∷ more) =
     or_later a (why_not table others wanted hanging a r)

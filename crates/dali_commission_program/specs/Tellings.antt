@@ -4,8 +4,7 @@ use Rattle.std.specs.declared.alloc.Global.{Global}
 use Rattle.std.specs.declared.string.String.{String}
 use Rattle.std.specs.Borrow.{Bor}
 use Rattle.dali_script.specs.declared.block.Block.{Block}
-use Rattle.dali_script.specs.Records.{Kept}
-use Rattle.dali_controller.specs.declared.shorts.Shorts.{Shorts}
+use Rattle.dali_script.specs.Records.{Kept, Assignment}
 use Rattle.dali_commissioning.specs.declared.beginning.Begun.{Begun}
 use Rattle.dali_commissioning.specs.declared.beginning.Checked.{Checked}
 use Rattle.dali_commissioning.specs.declared.census.Reply.{Reply}
@@ -108,7 +107,7 @@ HasMended told others wanted =
     (table : Kept)
     × (replies : List Reply)
     × (ms : List Mending)
-    × (hanging : Shorts)
+    × (hanging : List Assignment)
     × (refused_from table others wanted hanging 0 replies ≡ None)
     × (is_any_bare replies ms ≡ false)
     × ((pass : PassEnd) × (last : AtLast) × (mended_as pass last replies ms ≡ Ok tt))

@@ -37,9 +37,9 @@ use dali_commissioning::{
 use dali_controller::Shorts;
 use dali_frame::Short;
 use dali_mending::Mending;
-use dali_replacement::{fill, gathered_whole};
+use dali_replacement::{gathered_whole, refill};
 use dali_reserve::Keep;
-use dali_script::{Block, Input as Told, Kept};
+use dali_script::{Block, Input as Told, Kept, Pair};
 use std::io;
 use std::io::{Read, Write};
 
@@ -107,26 +107,29 @@ fn mend_all<S: Voice, R: Read, W: Write>(
     mend_all(driver, progress, table, more, mended)
 }
 
-/// Surveys, over a store that has the gear of a table then.
+/// Surveys, over a store that has the gear of a table then, and has reserved their own short addresses for these.
 fn survey<K: Keep, R: Read, W: Write, P: Watch>(
     store: &mut K,
     driver: &mut DriverLink<R, W>,
     watch: &mut P,
     table: &Kept,
+    hanging: &[Pair],
 ) -> Result<PassEnd, CommissionFault>
-    ensures { IfOk result (HasSurveyed K.is_up K.is_sound K.holds K.kept (K.block store.old) table.now store.new
-        (talk_of R.remaining W.contents driver.old) (talk_of R.remaining W.contents driver.new)) }
+    ensures { IfOk result (HasSurveyed K.is_up K.is_sound K.holds K.kept (K.block store.old) table.now hanging.now
+        store.new (talk_of R.remaining W.contents driver.old) (talk_of R.remaining W.contents driver.new)) }
 {
-    if let Err(error) = fill(store, table) {
+    if let Err(error) = refill(store, table, hanging) {
         return Err(CommissionFault::Store(error));
     }
     commission(store, driver, watch, Told::Survey, IDLE_PASSES)
 }
 
-/// What was heard of each short address before, and which were mended.
+/// What was heard of each short address before, which gear of the tables were heard at others than their own, and which
+/// were mended.
 #[derive(Clone, Copy)]
 struct Work<'a> {
     replies: &'a [Reply],
+    hanging: &'a [Pair],
     mended: &'a [Mending],
 }
 
@@ -226,13 +229,14 @@ fn follow<S: Voice, K: Keep, R: Read, W: Write>(
     work: &Work<'_>,
 ) -> Result<Came, Failure>
     ensures { IfOk result (λ came. Follows K.is_up K.is_sound K.holds K.kept (K.block store.old) site.now.table.now
-        work.now.replies.now work.now.mended.now store.old store.new (talk_of R.remaining W.contents driver.old)
+        work.now.hanging.now work.now.replies.now work.now.mended.now store.old store.new
+        (talk_of R.remaining W.contents driver.old)
         (talk_of R.remaining W.contents driver.new) came.ended) }
 {
     if is_any_bare(work.replies, work.mended) {
         return Ok(came_unsurveyed(work, site.before));
     }
-    let surveyed = survey(store, driver, progress, site.table);
+    let surveyed = survey(store, driver, progress, site.table, work.hanging);
     progress.end();
     match surveyed {
         Ok(pass) => end_so(store, driver, progress.aim(), site, work, &pass),
@@ -252,20 +256,23 @@ fn mends_by<S: Voice, K: Keep, R: Read, W: Write>(
     requires few { length replies.now ≤ 64 }
     requires none { mended.old.items ≡ [] }
     ensures { IfOk result (λ came. MendsTo K.is_up K.is_sound K.holds K.kept (K.block store.old) site.now.table.now
-        site.now.others.now site.now.wanted.now replies.now mended.new.items store.old store.new
+        site.now.before.now site.now.others.now site.now.wanted.now replies.now mended.new.items store.old store.new
         (talk_of R.remaining W.contents driver.old) (talk_of R.remaining W.contents driver.new) came.ended) }
 {
     let meant = meant_of(&site.wanted.named, replies);
-    let looked = look_for_all(driver, progress, site, &meant, 0, replies, Shorts::NONE);
-    let hanging = match looked {
-        Ok(hanging) => hanging,
-        Err(fault) => return Err(failure_of(fault, driver.lines())),
-    };
-    if let Some(refusal) = refused_from(site, hanging, 0, replies) {
+    let mut hanging = ArrayVec::new();
+    if let Err(fault) = look_for_all(driver, progress, site, &meant, 0, replies, &mut hanging) {
+        return Err(failure_of(fault, driver.lines()));
+    }
+    if let Some(refusal) = refused_from(site, &hanging, 0, replies) {
         return Ok(came_refused(site, replies, refusal));
     }
     mend_all(driver, progress, site.table, &meant, mended)?;
-    let work = Work { replies, mended };
+    let work = Work {
+        replies,
+        hanging: &hanging,
+        mended,
+    };
     follow(store, driver, progress, site, &work)
 }
 
@@ -282,7 +289,7 @@ fn came_to<S: Voice, K: Keep, R: Read, W: Write>(
         × AreCounted (without_records site.now.table.now.block) site.now.others.now 0 replies
         (talk_of R.remaining W.contents driver.old) at
         × MendsTo K.is_up K.is_sound K.holds K.kept (K.block store.old) site.now.table.now
-        site.now.others.now site.now.wanted.now replies mended.new.items store.old store.new
+        site.now.before.now site.now.others.now site.now.wanted.now replies mended.new.items store.old store.new
         at (talk_of R.remaining W.contents driver.new) came.ended) }
 {
     progress.begin(&Said::AsksAll);

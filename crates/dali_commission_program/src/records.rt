@@ -139,7 +139,7 @@ impl Borrower for Filling<'_> {
         × Reserves filling.before.now.reserved filling.from.now kept };
 
     fn take<K: Keep>(self, store: &mut K) -> Result<(), Failure> {
-        answered(refill(store, self.from, self.before))
+        answered(refill(store, self.from, self.before.reserved()))
     }
 }
 

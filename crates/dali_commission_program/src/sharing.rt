@@ -1,6 +1,6 @@
 //! Short addresses that gear share: which they are, which of them are mended, and what came of it.
 
-ghost use Rattle.std.specs.Prelude.{◌≡◌, ◌++◌, ◌+◌, ◌≤◌, if◌then◌else◌, Some, length};
+ghost use Rattle.std.specs.Prelude.{◌≡◌, ◌++◌, ◌+◌, ◌≤◌, ◌==◌, if◌then◌else◌, Some, length};
 ghost use Rattle.dali_script.specs.Stages.{in_block};
 ghost use Rattle.std.specs.List.{list_any};
 ghost use Rattle.dali_commission_program.specs.Sharing.{is_shared, is_open, has_any, why_open, or_open, left_open};
@@ -227,21 +227,29 @@ pub(crate) struct Site<'a> {
     pub wanted: &'a Mend,
 }
 
-/// Whether the gear of a short address is known to be gone or to hang at another one, or was not asked.
-fn is_known_so(site: &Site<'_>, hanging: Shorts, short: Short) -> bool
-    ensures { result ≡ is_known_so site.now.wanted.now site.now.others.now hanging short }
+fn has_address(pairs: &[Pair], short: Short) -> bool
+    ensures { result ≡ list_any (λ p. p.0 == short) pairs.now }
 {
-    is_named(&site.wanted.missing, short) || hanging.has(short) || has_block(site.others, short)
+    pairs.iter().any(|pair| pair.address() == short.number())
 }
 
-/// Why what was heard of a short address lets none be mended, if the gear of these short addresses hang at others.
+/// Whether the gear of a short address is known to be gone or to hang at another one, or was not asked.
+fn is_known_so(site: &Site<'_>, hanging: &[Pair], short: Short) -> bool
+    ensures { result ≡ is_known_so site.now.wanted.now site.now.others.now hanging.now short }
+{
+    is_named(&site.wanted.missing, short)
+        || has_address(hanging, short)
+        || has_block(site.others, short)
+}
+
+/// Why what was heard of a short address lets none be mended, if these gear of the tables hang at others.
 pub(crate) fn why_not(
     site: &Site<'_>,
-    hanging: Shorts,
+    hanging: &[Pair],
     short: Short,
     reply: Reply,
 ) -> Option<MendRefusal>
-    ensures { result ≡ why_not site.now.table.now site.now.others.now site.now.wanted.now hanging short reply }
+    ensures { result ≡ why_not site.now.table.now site.now.others.now site.now.wanted.now hanging.now short reply }
 {
     if is_meant(&site.wanted.named, short, reply) {
         why_not_meant(has_block(site.others, short), reply)
@@ -256,12 +264,12 @@ pub(crate) fn why_not(
 /// The first reason for which none is mended, from this short address on.
 pub(crate) fn refused_from(
     site: &Site<'_>,
-    hanging: Shorts,
+    hanging: &[Pair],
     number: u8,
     replies: &[Reply],
 ) -> Option<Failure>
     requires { number + length replies.now ≤ 64 }
-    ensures { result ≡ refused_from site.now.table.now site.now.others.now site.now.wanted.now hanging number
+    ensures { result ≡ refused_from site.now.table.now site.now.others.now site.now.wanted.now hanging.now number
         replies.now }
 {
     let [reply, more @ ..] = replies else {

@@ -21,9 +21,6 @@ are_short (p ∷ xs) below = (below p.0 (inl refl), are_short xs (λ a has. belo
 pub kept_are_short : (k : Kept) → IsKept k → AreShort k.enrolled
 kept_are_short k kept = are_short k.enrolled kept.enrolled.short
 
-pub reserved_are_short : (k : Kept) → IsKept k → AreShort k.reserved
-reserved_are_short k kept = are_short k.reserved kept.reserved.short
-
 pub has_its_address : (xs : List Assignment) (a r : ℕ) → Has xs (a, r) → HasAddress xs a
 has_its_address xs a r has = has_map (λ p. p.0) xs (a, r) has
 

@@ -2,7 +2,7 @@ use Rattle.std.proofs.Common.{◌≡◌, ◌≢◌, ℕ, inl, inr, List, [], ◌
 use Rattle.dali_script.specs.declared.records.Record.TheVariants.{Reserve, Enrol}
 use Rattle.dali_script.specs.Records.{Kept, Assignment, Has, HasAddress, with_record}
 use Rattle.dali_script.proofs.Lists.{has_last, has_before}
-use Rattle.dali_replacement.proofs.Every.{enrolled_has, enrolled_keeps, kept_are_short, reserved_are_short}
+use Rattle.dali_replacement.proofs.Every.{enrolled_has, enrolled_keeps, kept_are_short}
 use Rattle.dali_replacement.specs.Tables.{HasAll, Keeps, KeepsReserved, Lacks, Reserves}
 
 -- ONE GEAR MORE, and the address of no other
@@ -51,4 +51,4 @@ reserves_more p ps table k l first keeps rest q (inr has) here = rest q has here
 -- what one enrolment does, and how records are filled
 pub ruleset enrolling = (enrolled_has, enrolled_keeps, enrolled_spares)
 
-pub ruleset filling = (kept_are_short, reserved_are_short, keeps_itself)
+pub ruleset filling = (kept_are_short, keeps_itself)

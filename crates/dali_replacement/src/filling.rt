@@ -150,7 +150,6 @@ pub fn fill<K: Keep>(store: &mut K, table: &Kept) -> Result<(), KeepError>
 /// Reserves a pair in a store, if its records, as they were read, do not have it reserved.
 #[tactic(auto, using(crate::proofs::Filled::reserved_has, crate::proofs::Filled::reserved_keeps))]
 fn reserve<K: Keep>(store: &mut K, kept: &Kept, pair: Pair) -> Result<(), KeepError>
-    requires short { pair.0 < 64 }
     requires block { kept.now.block ≡ K.block store.old }
     requires has { KeepsReserved kept.now (K.kept store.old) }
     ensures has { OnOk result (Has (K.kept store.new).reserved pair) }
@@ -159,8 +158,7 @@ fn reserve<K: Keep>(store: &mut K, kept: &Kept, pair: Pair) -> Result<(), KeepEr
     ensures block { K.block store.new ≡ K.block store.old }
 {
     let Some(address) = Short::of(pair.address()) else {
-        // It is required that the address is below 64.
-        unreachable!();
+        return Err(KeepError::BadStore);
     };
     let record = Record::Reserve(address, pair.random());
     if kept.shows(&record) {
@@ -179,7 +177,6 @@ fn reserve_if<K: Keep>(
     table: &Kept,
     pair: Pair,
 ) -> Result<(), KeepError>
-    requires short { pair.0 < 64 }
     requires block { kept.now.block ≡ K.block store.old }
     requires has { KeepsReserved kept.now (K.kept store.old) }
     ensures has { OnOk result (Has table.now.enrolled pair → Has (K.kept store.new).reserved pair) }
@@ -202,12 +199,12 @@ fn reserve_all<K: Keep>(
     table: &Kept,
     pairs: &[Pair],
 ) -> Result<(), KeepError>
-    requires short { AreShort pairs.now }
     requires block { kept.now.block ≡ K.block store.old }
     requires has { KeepsReserved kept.now (K.kept store.old) }
     ensures all { OnOk result (Reserves pairs.now table.now (K.kept store.new)) }
     ensures keeps { OnOk result (KeepsReserved (K.kept store.old) (K.kept store.new)) }
     ensures same { OnOk result ((K.kept store.new).enrolled ≡ (K.kept store.old).enrolled) }
+    ensures block { K.block store.new ≡ K.block store.old }
 {
     let [pair, more @ ..] = pairs else {
         return Ok(());
@@ -216,13 +213,14 @@ fn reserve_all<K: Keep>(
     reserve_all(store, kept, table, more)
 }
 
-/// Enrols all gear of a table in a store, and reserves what other records have reserved for gear of the table.
+/// Enrols all gear of a table in a store, and reserves pairs, as far as they are gear of the table.
 #[tactic(auto, using(crate::proofs::Filled::filling))]
-pub fn refill<K: Keep>(store: &mut K, table: &Kept, old: &Kept) -> Result<(), KeepError>
+pub fn refill<K: Keep>(store: &mut K, table: &Kept, reserved: &[Pair]) -> Result<(), KeepError>
     ensures all { OnOk result (Keeps table.now (K.kept store.new)) }
-    ensures reserved { OnOk result (Reserves old.now.reserved table.now (K.kept store.new)) }
+    ensures reserved { OnOk result (Reserves reserved.now table.now (K.kept store.new)) }
+    ensures block { K.block store.new ≡ K.block store.old }
 {
     let kept = store.read()?;
     enrol_all(store, &kept, table.enrolled())?;
-    reserve_all(store, &kept, table, old.reserved())
+    reserve_all(store, &kept, table, reserved)
 }
