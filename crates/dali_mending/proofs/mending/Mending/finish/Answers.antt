@@ -14,7 +14,7 @@ invariant_of-self c =
       course = next.course;
       sought = next.sought;
       few = search rules;
-      room = has_room c.self.inside.erased.items c.add-is_new.new.erased.items c.tells_apart-apart.result c.self.invariant.room c.add-is_new.ensures.erased;
+      room = has_room c.self.inside.erased.items c.add-is_new.new.numbers.items c.tells_apart-apart.result c.self.invariant.room c.add-is_new.ensures.numbers;
     }
 
 pub returns : goal.returns
@@ -28,7 +28,7 @@ returns c =
       entries = t;
       lost = 0;
       left = c.left_after-self-inside.result;
-      erased = c.add-is_new.new.erased.items;
+      erased = c.add-is_new.new.numbers.items;
     } in
     ap with empty
     ∙ (made (record {
@@ -41,7 +41,7 @@ returns c =
       left = c.self.inside.left;
       erased = c.self.inside.erased.items;
     }) c.deref-2.result.now c.course_after-course.result c.spent_if-self-inside.result c.deref.result.now c.deref-3.result.now c.deref-4.result.now
-    c.ascent_after-ascent.result c.tells_apart-apart.result c.add-is_new.result c.left_after-self-inside.result c.add-is_new.new.erased.items
+    c.ascent_after-ascent.result c.tells_apart-apart.result c.add-is_new.result c.left_after-self-inside.result c.add-is_new.new.numbers.items
     c.deref-2.ensures.0 c.deref.ensures.0 c.deref-3.ensures.0 c.deref-4.ensures.0 c.ascent_after-ascent.ensures c.course_after-course.ensures
-    c.tells_apart-apart.ensures c.add-is_new.ensures.added c.add-is_new.ensures.erased c.left_after-self-inside.ensures c.spent_if-self-inside.ensures
+    c.tells_apart-apart.ensures c.add-is_new.ensures.added c.add-is_new.ensures.numbers c.left_after-self-inside.ensures c.spent_if-self-inside.ensures
     ∙ ap finished c.self.view_is)
