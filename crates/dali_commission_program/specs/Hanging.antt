@@ -14,14 +14,18 @@ use Rattle.dali_commission_program.specs.declared.tasks.Mend.{Mend}
 use Rattle.dali_commission_program.specs.Ending.{If}
 use Rattle.dali_commission_program.specs.Sharing.{why_not}
 
--- WHERE A GEAR HANGS: it is asked under its random address at short addresses, one after the other,
--- until it answers at one
+-- A GEAR ANSWERS AT A SHORT ADDRESS under its random address, or is asked in vain
+unfoldable pub AnswersUnder : ℕ → ℕ → Bool → Talk → Talk → Type 0
+AnswersUnder r b found x y = AreLeftOver (asking_under b r) found x y
+
+-- WHERE A GEAR HANGS: it is asked so at short addresses, one after the other, until it answers at
+-- one
 abbrev pub HangsAt : ℕ → List ℕ → Option ℕ → Talk → Talk → Type 0
 HangsAt r [] found x y = (found ≡ None) × (y ≡ x)
 HangsAt r (b ∷ more) found x y =
     (one : Bool)
     × (at : Talk)
-    × AreLeftOver (asking_under b r) one x at
+    × AnswersUnder r b one x at
     × If one ((found ≡ Some b) × (y ≡ at)) (HangsAt r more found at y)
 
 -- WHO IS LOOKED FOR: a gear of the table whose absence would let none be mended, if a survey over
@@ -32,7 +36,7 @@ stands_against p a r = if p.0 == a then not (p.1 == r) else p.1 == r
 
 abbrev pub is_returnable : Kept → ℕ → ℕ → Bool
 is_returnable k a r =
-    list_any (λ b. in_block b a) (k.block ∷ [])
+    in_block k.block a
     && not (list_any (λ p. stands_against p a r) k.reserved)
 
 abbrev pub sought_by : Option MendRefusal → Kept → ℕ → Option ℕ → Option ℕ

@@ -100,8 +100,8 @@ why_not_beside known away = if away && not known then Some refusal.NotThere else
 
 abbrev pub is_known_so : Mend → List Block → List Assignment → ℕ → Bool
 is_known_so wanted others hanging a =
-    is_named wanted.missing.items a
-    || (list_any (λ p. p.0 == a) hanging || is_of_others others a)
+    (is_named wanted.missing.items a || list_any (λ p. p.0 == a) hanging)
+    || is_of_others others a
 
 abbrev pub why_not : Kept → List Block → Mend → List Assignment → ℕ → Reply → Option MendRefusal
 why_not table others wanted hanging a r =

@@ -2,21 +2,36 @@
 //! another one. A mend takes that one from them, and surveys give them their own again.
 
 ghost use Rattle.std.specs.Prelude.{◌≡◌, ◌+◌, ◌≤◌, IfOk, OnOk, length};
+ghost use Rattle.std.specs.List.{list_any};
 ghost use Rattle.dali_commissioning.specs.Drivers.{talk_of};
-ghost use Rattle.dali_commission_program.specs.Hanging.{HangsAt, stands_against, is_returnable, sought_by, sought_at};
+ghost use Rattle.dali_commission_program.specs.Hanging.{AnswersUnder, HangsAt, stands_against, is_returnable};
+ghost use Rattle.dali_commission_program.specs.Hanging.{sought_by, sought_at};
 ghost use Rattle.dali_commission_program.specs.Hanging.{IsLookedFor, AreLookedFor};
 
 use crate::progress::Progress;
 use crate::said::{Said, Voice};
-use crate::sharing::{MendRefusal, Site, why_not};
+use crate::sharing::{MendRefusal, Site, is_in, why_not};
 use arrayvec::ArrayVec;
-use dali_commissioning::{CommissionFault, DriverLink, Reply, has_block, has_under, random_at};
+use dali_commissioning::{CommissionFault, DriverLink, Reply, has_under, random_at};
 use dali_frame::{Random24, Short};
 use dali_script::{Kept, Pair};
 use std::io::{Read, Write};
 
 /// Gear of the tables, by their own short addresses, that were heard at other ones.
 pub(crate) type Hanging = ArrayVec<Pair, 64>;
+
+/// Whether the gear with this random address answers at a short address.
+#[tactic(auto, unfolding(crate::specs::Hanging::AnswersUnder))]
+fn answers_under<R: Read, W: Write>(
+    driver: &mut DriverLink<R, W>,
+    short: Short,
+    random: Random24,
+) -> Result<bool, CommissionFault>
+    ensures { IfOk result (λ found. AnswersUnder random short found
+        (talk_of R.remaining W.contents driver.old) (talk_of R.remaining W.contents driver.new)) }
+{
+    has_under(driver, short, random)
+}
 
 /// The first of these short addresses at which the gear with this random address answers.
 fn hangs_at<R: Read, W: Write>(
@@ -30,7 +45,7 @@ fn hangs_at<R: Read, W: Write>(
     let [short, more @ ..] = shorts else {
         return Ok(None);
     };
-    if has_under(driver, *short, random)? {
+    if answers_under(driver, *short, random)? {
         Ok(Some(*short))
     } else {
         hangs_at(driver, random, more)
@@ -48,15 +63,18 @@ fn stands_against(pair: &Pair, short: Short, random: Random24) -> bool
     }
 }
 
+/// Whether any of some pairs does so.
+fn is_barred(pairs: &[Pair], short: Short, random: Random24) -> bool
+    ensures { result ≡ list_any (λ p. stands_against p short random) pairs.now }
+{
+    pairs.iter().any(|pair| stands_against(pair, short, random))
+}
+
 /// Whether a survey over these records may give a gear its short address again.
 fn is_returnable(before: &Kept, short: Short, random: Random24) -> bool
     ensures { result ≡ is_returnable before.now short random }
 {
-    has_block(&[before.block()], short)
-        && !before
-            .reserved()
-            .iter()
-            .any(|pair| stands_against(pair, short, random))
+    is_in(before.block(), short.number()) && !is_barred(before.reserved(), short, random)
 }
 
 /// The random address of a gear that is looked for, by why its absence lets none be mended.
@@ -82,8 +100,9 @@ fn sought_at(site: &Site<'_>, short: Short, reply: Reply) -> Option<Random24>
     ensures { result ≡ sought_at site.now.table.now site.now.before.now site.now.others.now site.now.wanted.now short
         reply }
 {
-    let refusal = why_not(site, &[], short, reply);
-    let random = random_at(site.table.enrolled(), short);
+    let (table, others, wanted) = (site.table, site.others, site.wanted);
+    let refusal = why_not(table, others, wanted, &[], short, reply);
+    let random = random_at(table.enrolled(), short);
     sought_by(refusal, site.before, short, random)
 }
 

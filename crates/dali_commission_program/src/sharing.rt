@@ -6,7 +6,7 @@ ghost use Rattle.std.specs.List.{list_any};
 ghost use Rattle.dali_commission_program.specs.Sharing.{is_shared, is_open, has_any, why_open, or_open, left_open};
 ghost use Rattle.dali_commission_program.specs.Sharing.{is_named, is_meant, meant_from};
 ghost use Rattle.dali_commission_program.specs.Sharing.{is_left_shared, is_any_left_shared};
-ghost use Rattle.dali_commission_program.specs.Sharing.{why_not_meant, is_away, is_of_others, is_known_so, why_not};
+ghost use Rattle.dali_commission_program.specs.Sharing.{why_not_meant, is_away, is_of_others, why_not};
 ghost use Rattle.dali_commission_program.specs.Sharing.{refused_from};
 ghost use Rattle.dali_commission_program.specs.Sharing.{is_apart, is_any_left, is_bare, is_any_bare, with_left};
 ghost use Rattle.dali_commission_program.specs.Sharing.{why_not_beside, inside, or_else, reserved_in};
@@ -233,30 +233,25 @@ fn has_address(pairs: &[Pair], short: Short) -> bool
     pairs.iter().any(|pair| pair.address() == short.number())
 }
 
-/// Whether the gear of a short address is known to be gone or to hang at another one, or was not asked.
-fn is_known_so(site: &Site<'_>, hanging: &[Pair], short: Short) -> bool
-    ensures { result ≡ is_known_so site.now.wanted.now site.now.others.now hanging.now short }
-{
-    is_named(&site.wanted.missing, short)
-        || has_address(hanging, short)
-        || has_block(site.others, short)
-}
-
 /// Why what was heard of a short address lets none be mended, if these gear of the tables hang at others.
 pub(crate) fn why_not(
-    site: &Site<'_>,
+    table: &Kept,
+    others: &[Block],
+    wanted: &Mend,
     hanging: &[Pair],
     short: Short,
     reply: Reply,
 ) -> Option<MendRefusal>
-    ensures { result ≡ why_not site.now.table.now site.now.others.now site.now.wanted.now hanging.now short reply }
+    ensures { result ≡ why_not table.now others.now wanted.now hanging.now short reply }
 {
-    if is_meant(&site.wanted.named, short, reply) {
-        why_not_meant(has_block(site.others, short), reply)
+    let is_of_others = has_block(others, short);
+    let is_known = is_named(&wanted.missing, short) || has_address(hanging, short);
+    if is_meant(&wanted.named, short, reply) {
+        why_not_meant(is_of_others, reply)
     } else {
         why_not_beside(
-            is_known_so(site, hanging, short),
-            is_away(random_at(site.table.enrolled(), short), reply),
+            is_known || is_of_others,
+            is_away(random_at(table.enrolled(), short), reply),
         )
     }
 }
@@ -279,17 +274,25 @@ pub(crate) fn refused_from(
         // A reply is left, so the number is below 64.
         unreachable!();
     };
-    match why_not(site, hanging, short, *reply) {
+    let (table, others, wanted) = (site.table, site.others, site.wanted);
+    match why_not(table, others, wanted, hanging, short, *reply) {
         Some(refusal) => Some(Failure::NotMended(short, refusal)),
         None => refused_from(site, hanging, number + 1, more),
     }
+}
+
+/// Whether a block has a short address.
+pub(crate) fn is_in(block: Block, address: u8) -> bool
+    ensures { result ≡ in_block block address }
+{
+    block.first.number() <= address && address <= block.last.number()
 }
 
 /// This short address if a block has it, or else the other one.
 fn if_inside(block: Block, address: u8, later: Option<Short>) -> Option<Short>
     ensures { result ≡ (if in_block block address then Some address else later) }
 {
-    if block.first.number() <= address && address <= block.last.number() {
+    if is_in(block, address) {
         Short::of(address)
     } else {
         later
