@@ -128,7 +128,7 @@ def mend(records: dict[str, str], gear: list[str], words: tuple[str, ...]) -> No
     ended(end, status, records, left_alone=[*left, *beside("unclear")])
 
 
-def clear(file: pathlib.Path, words: tuple[str, ...]) -> None:
+def clear(words: tuple[str, ...]) -> None:
     if "--yes" not in words:
         sys.exit(2)
     for it in option("--records", words):
@@ -191,7 +191,7 @@ def main(task: str, *words: str) -> None:
         elif task == "mend":
             mend(records, gear, words)
         elif task == "clear":
-            clear(file, words)
+            clear(words)
         elif task == "replace":
             replace(file, records, gear, words)
         else:
