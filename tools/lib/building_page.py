@@ -4,12 +4,11 @@ import collections.abc
 import concurrent.futures
 import contextlib
 import json
-import os
 import re
 import typing
 import zlib
 
-from lib import ROOT, buildings, commanding, marks, places, serving, texts, working
+from lib import ROOT, buildings, commanding, places, serving, texts, working
 
 PAGE = ROOT / "tools/lib/building.html"
 # The page of a bus below that of its building: its number, and what is asked for there.

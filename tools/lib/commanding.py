@@ -435,6 +435,8 @@ class Bus:
             self.there = {it for it in self.there if it[0] not in asked} | heard
             self.silent = {it for it in pairs.items() if it[0] in silent or it in self.silent and it[0] not in asked}
             self.missing -= heard
+        if command.name in ("mend", "replace") and report.get("missing"):
+            self.miss(command, report["missing"])
         if command.name in ("run", "mend"):
             self.unaddressed = None
             self.left_alone = sorted({*self.left_alone, *report.get("left_alone", [])})
@@ -460,6 +462,13 @@ class Bus:
             self.left_alone, self.unaddressed = [it for it in self.left_alone if it != command.address], None
             self.strangers.pop(command.address, None)
             self.there |= {it for it in pairs.items() if it[0] == command.address}
+
+    def miss(self, command: Command, gone: list[int]) -> None:
+        """Takes which luminaires beside its own the program misses. It knows more than the last answer of each, which may be damaged or lost."""
+        others = addresses_in(self.sites[len(command.before)].others) if command.name == "mend" else set()
+        asked = {(it["address"], it["random"]) for it in self.table if it["address"] not in {*others, command.address}}
+        missed = {it for it in asked if it[0] in gone}
+        self.silent, self.missing, self.there = self.silent - asked | missed, self.missing - (asked - missed), self.there - missed
 
     def stop(self) -> None:
         """Stops what goes on, and the walk."""

@@ -183,15 +183,29 @@ def foreign(place: Place, _chance: random.Random) -> None:
         shutil.rmtree(folder)
 
 
+@contextlib.contextmanager
+def small_disk(folder: pathlib.Path, size: str) -> typing.Iterator[bool]:
+    """A disk of this size in the memory. Whether it can be had."""
+    folder.mkdir()
+    mount = ["mount", "-t", "tmpfs", "-o", f"size={size}", "none", folder]
+    done = subprocess.run(mount, capture_output=True, text=True)
+    if done.returncode:
+        why = " ".join(done.stderr.split())
+        print(f"not checked: a small disk; it needs root, and leave to mount: {why}", flush=True)
+        yield False
+        return
+    try:
+        yield True
+    finally:
+        subprocess.run(["umount", folder])
+
+
 def read_only(place: Place, _chance: random.Random) -> None:
     """Records on a disk that cannot be written are read, and no run begins over them."""
     folder = place.folder / "disk"
-    folder.mkdir()
-    mount = ["mount", "-t", "tmpfs", "-o", "size=4m", "none", folder]
-    if os.geteuid() or subprocess.run(mount, capture_output=True).returncode:
-        print("not checked: a disk that cannot be written; it needs root, and leave to mount", flush=True)
-        return
-    try:
+    with small_disk(folder, "4m") as is_there:
+        if not is_there:
+            return
         place.records = folder / "records.db"
         check_goes_on(place, "nothing", "--gear", 3)
         subprocess.run(["mount", "-o", "remount,ro", folder], check=True)
@@ -202,9 +216,6 @@ def read_only(place: Place, _chance: random.Random) -> None:
         place.check("records on a disk that cannot be written are checked", ran.status == DONE, ran)
         check_store(place, "a run on a disk that cannot be written", place.alone(*run_words(place)), "its disk cannot be written\n")
         place.check("records on such a disk stay as they are", place.rows(in_place=False) == rows, rows)
-    finally:
-        place.records = place.folder / "records.db"
-        subprocess.run(["umount", folder])
 
 
 def dead_bus(place: Place, _chance: random.Random) -> None:
@@ -294,23 +305,6 @@ MANY = 40
 ROOMS = (0, 1, 2, 3, 16, 40, *range(63, 69), 70, 72, 80, 100, 120, *range(127, 135), 136, 140, 150)
 
 
-@contextlib.contextmanager
-def small_disk(folder: pathlib.Path, size: str) -> typing.Iterator[bool]:
-    """A disk of this size in the memory. Whether it can be had."""
-    folder.mkdir()
-    mount = ["mount", "-t", "tmpfs", "-o", f"size={size}", "none", folder]
-    done = subprocess.run(mount, capture_output=True, text=True)
-    if done.returncode:
-        why = " ".join(done.stderr.split())
-        print(f"not checked: a full disk; it needs root, and leave to mount: {why}", flush=True)
-        yield False
-        return
-    try:
-        yield True
-    finally:
-        subprocess.run(["umount", folder])
-
-
 def filled(folder: pathlib.Path, room: int) -> None:
     """A small disk with so many bytes left."""
     with open(folder / "filler", "wb") as filler:
@@ -321,13 +315,8 @@ def filled(folder: pathlib.Path, room: int) -> None:
 def full_disk(place: Place, chance: random.Random) -> None:
     """Runs over disks with less and less room that are full at some moment, and that have room again."""
     folder = place.folder / "disk"
-    folder.mkdir()
-    mount = ["mount", "-t", "tmpfs", "-o", "size=4m", "none", folder]
-    if os.geteuid() or subprocess.run(mount, capture_output=True).returncode:
-        print("not checked: a full disk; it needs root, and leave to mount", flush=True)
-        return
-    try:
-        for pages in ROOMS:
+    with small_disk(folder, "4m") as is_there:
+        for pages in ROOMS if is_there else ():
             room = 4096 * pages
             place.records = folder / f"{room}.db"
             place.gear_file.unlink(missing_ok=True)
@@ -346,9 +335,6 @@ def full_disk(place: Place, chance: random.Random) -> None:
             check_goes_on(place, "a full disk", "--gear", MANY)
             for it in folder.iterdir():
                 it.unlink()
-    finally:
-        place.records = place.folder / "records.db"
-        subprocess.run(["umount", folder])
 
 
 def longest_file(place: Place, chance: random.Random) -> None:

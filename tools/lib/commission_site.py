@@ -1,11 +1,14 @@
 """A site of simulated gear, the program `dali_commission` over its drivers, and what is to hold of records and gear then."""
 
+import argparse
 import collections
 import collections.abc
+import concurrent.futures
 import contextlib
 import json
 import os
 import pathlib
+import random
 import re
 import shutil
 import signal
@@ -18,7 +21,7 @@ import time
 import types
 import typing
 
-from lib import ROOT
+from lib import ROOT, proving
 from lib.record_kinds import ENROL, KINDS, RELEASE, RESERVE
 
 # The device for which adapters/spi-bus stands.
@@ -328,3 +331,43 @@ def replayed(rows: list[Row], block: tuple[int, int]) -> tuple[Kept, str | None]
         else:
             kept[kind].append(pair)
     return kept, None
+
+
+# What the checks over many sites have in common.
+
+
+def options_of(text: str, parts: list[str], sites: int = 20) -> argparse.ArgumentParser:
+    """The words of a check that has these parts, and tries so many sites if nothing is said."""
+    options = argparse.ArgumentParser(description=text)
+    options.add_argument("--program", metavar="PATH", help="another program")
+    options.add_argument("--part", action="append", choices=parts, help="this part alone; may be given again")
+    options.add_argument("--sites", type=int, default=sites, metavar="N", help="how many sites")
+    options.add_argument("--seed", type=int, metavar="S", help="the seed of the first site")
+    options.add_argument("--jobs", type=int, default=len(os.sched_getaffinity(0)), metavar="N", help="so many side by side")
+    return options
+
+
+def chosen_of(options: argparse.ArgumentParser, parts: list[str]) -> argparse.Namespace:
+    """What is chosen; these parts if none is. The program is there."""
+    chosen = options.parse_args()
+    chosen.part = chosen.part or parts
+    chosen.seed = random.randrange(10**6) if chosen.seed is None else chosen.seed
+    chosen.program = os.path.abspath(chosen.program or proving.built("dali_commission"))
+    return chosen
+
+
+def try_all(chosen: argparse.Namespace, tests: list[tuple[typing.Any, ...]], troubles: collections.abc.Sequence[str] = ()) -> typing.NoReturn:
+    """Makes these tests side by side, each with its title, its function, and what that takes beside its place. Says what was right, and ends."""
+    checks, begun = Checks(), time.monotonic()
+
+    def run(title: str, function: collections.abc.Callable[..., None], *more: object) -> None:
+        with Place(checks, title, chosen.program, troubles) as place:
+            function(place, *more)
+
+    with concurrent.futures.ThreadPoolExecutor(chosen.jobs) as pool:
+        for done in [pool.submit(run, *it) for it in tests]:
+            done.result()
+    print(f"{len(tests)} tests from seed {chosen.seed}, {round(time.monotonic() - begun)} seconds, {chosen.jobs} side by side")
+    for name in sorted(checks.seen):
+        print(f"{checks.seen[name]} {name}")
+    raise SystemExit(1 if checks.report() else 0)

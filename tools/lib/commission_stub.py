@@ -15,11 +15,12 @@ import os
 import pathlib
 import sys
 import time
+import typing
 
 NOT_THERE = "a gear of the tables is not there as recorded; if it is known to be gone, name it by --missing"
 
 
-def option(name: str, words: list[str]) -> list[str]:
+def option(name: str, words: typing.Sequence[str]) -> list[str]:
     return [words[at + 1] for at, it in enumerate(words) if it == name]
 
 
@@ -98,6 +99,15 @@ def check(records: dict[str, str], gear: list[str]) -> None:
     ended(end, status, records, missing=missing, strangers=others, unaddressed=False)
 
 
+def refuse_away(task: str, missing: list[str], records: dict[str, str], words: tuple[str, ...]) -> None:
+    """Refuses if one of those that are missing is not named as gone."""
+    if away := [it for it in missing if it not in option("--missing", words)]:
+        for it in missing:
+            say(f"{it} {records[it]} missing")
+        say(f"not {task}, nothing was changed: short address {away[0]}: {NOT_THERE}")
+        ended(f"not-{task}", 11, {}, missing=[int(it) for it in missing])
+
+
 def mend(records: dict[str, str], gear: list[str], words: tuple[str, ...]) -> None:
     named = [int(it) for at, it in enumerate(words) if it.isdigit() and words[at - 1] != "--missing"]
     put("A900")
@@ -108,11 +118,7 @@ def mend(records: dict[str, str], gear: list[str], words: tuple[str, ...]) -> No
     missing = [it for it in records if records[it] not in gear]
     for it in missing:
         put(f"{2 * int(it) + 1:02X}C2", 1)
-    if away := [it for it in missing if it not in option("--missing", words)]:
-        for it in missing:
-            say(f"{it} {records[it]} missing")
-        say(f"not mended, nothing was changed: short address {away[0]}: {NOT_THERE}")
-        ended("not-mended", 11, {}, missing=[int(it) for it in missing])
+    refuse_away("mended", missing, records, words)
     left = [it for it in beside("odd") if it in beside("stuck") or named and it not in named]
     bus().with_name("odd").write_text(json.dumps(left))
     for it in left:
@@ -122,7 +128,7 @@ def mend(records: dict[str, str], gear: list[str], words: tuple[str, ...]) -> No
     ended(end, status, records, left_alone=[*left, *beside("unclear")])
 
 
-def clear(file: pathlib.Path, words: tuple[str, ...]) -> None:
+def clear(words: tuple[str, ...]) -> None:
     if "--yes" not in words:
         sys.exit(2)
     for it in option("--records", words):
@@ -134,8 +140,10 @@ def clear(file: pathlib.Path, words: tuple[str, ...]) -> None:
     ended("not-cleared" if left else "cleared", 14 if left else 0, {}, strangers=left, unaddressed=True)
 
 
-def replace(file: pathlib.Path, records: dict[str, str], gear: list[str], address: str) -> None:
+def replace(file: pathlib.Path, records: dict[str, str], gear: list[str], words: tuple[str, ...]) -> None:
+    address = next(it for at, it in enumerate(words) if it.isdigit() and words[at - 1] != "--missing")
     put("A900")
+    refuse_away("replaced", [it for it in records if records[it] not in gear and it != address], records, words)
     new = [it for it in gear if it not in records.values()]
     if records[address] in gear or len(new) != 1:
         say(f"not replaced, nothing was changed: short address {address}: a gear answers at it")
@@ -183,9 +191,9 @@ def main(task: str, *words: str) -> None:
         elif task == "mend":
             mend(records, gear, words)
         elif task == "clear":
-            clear(file, words)
+            clear(words)
         elif task == "replace":
-            replace(file, records, gear, next(it for it in words if it.isdigit()))
+            replace(file, records, gear, words)
         else:
             sys.exit(2)
 

@@ -154,7 +154,7 @@ class Checks:
                 print(f"wrong: {what}", flush=True)
 
     def same(self, found: object, wanted: object, what: object) -> None:
-        self.say(found == wanted, f"{what}: {found!r}, and not {wanted!r}")
+        self.say(found == wanted, f"{what}: {found!r:.2000}, and not {wanted!r:.2000}")
 
 
 def sh(text: str) -> list[str]:

@@ -2,7 +2,6 @@
 
 import itertools
 import re
-import typing
 
 from lib import story
 

@@ -69,8 +69,10 @@ class Process:
         return self.returncode
 
     def send_signal(self, number: int) -> None:
+        """Sends a signal, unless it has ended, which may not be known yet."""
         if self.returncode is None:
-            os.kill(self.pid, number)
+            with contextlib.suppress(ProcessLookupError):
+                os.kill(self.pid, number)
 
 
 def serve(number: int) -> None:

@@ -3,7 +3,6 @@ script says: its plan, its lines, and the fault it ends in. The forms of lines a
 
 import collections.abc
 import dataclasses
-import pathlib
 import re
 
 from lib import ROOT, line_forms

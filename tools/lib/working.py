@@ -56,10 +56,18 @@ class Job:
     said      what was said last, if one did not end well
     """
 
-    def __init__(self, entry: buildings.Entry, command: str, program: str, address: int | None = None, missing: tuple[int, ...] = ()) -> None:
-        self.entry, self.command, self.program, self.address, self.missing = entry, command, program, address, list(missing)
+    def __init__(self, entry: buildings.Entry, command: str, program: str, address: int | None = None, missing: typing.Sequence[int] = ()) -> None:
+        self.entry, self.command, self.program, self.address, self.missing = entry, command, program, address, missing
         self.reports, self.statuses, self.said, self.rows = [], [], None, []
         self.bus, self.stopped = None, None
+
+    def unknown(self) -> list[int]:
+        """The short addresses of luminaires that are gone which no table has. A table that cannot be read is told when it is worked with."""
+        site, *more = self.entry.sites(self.program)
+        bus = commanding.Bus(site, (), more)
+        bus.read_table()
+        known = {it["address"] for it in bus.table}
+        return [it for it in self.missing if it not in known and not bus.trouble]
 
     def do(self) -> None:
         """Does it. What goes wrong on this bus is a status of this bus."""
