@@ -2,6 +2,7 @@
 
 ghost use Rattle.std.specs.Prelude.{◌≡◌, [], IfSome};
 ghost use Rattle.std.specs.Process.{exit_status};
+ghost use Rattle.dali_command_line.specs.Ran.{EndsRun};
 ghost use Rattle.dali_events.specs.Plan.{refusal_of};
 
 use crate::words::{PROGRAM, Task, task_of};
@@ -21,6 +22,7 @@ fn threads<S, R>(system: &S, rt: &R, setup: Setup) -> ExitCode
 where
     S: Print + Eprint + AllocGlobal,
     R: Threads + Wait + Sync,
+    ensures run { EndsRun setup (exit_status result) }
     ensures refused { IfSome (refusal_of setup.gear setup.blocks.items []) (λ _. exit_status result ≡ 2) }
 {
     let ended = run_threads(rt, system.alloc(), setup, &mut io::writer(system));

@@ -1,10 +1,9 @@
 //! The command line, and what it asks for.
 
-ghost use Rattle.std.specs.Prelude.{◌≡◌, ◌↔◌, Some, Ok, codes, slice_get, IsErr, IsTrue, IfOk, MatchOption};
+ghost use Rattle.std.specs.Prelude.{◌≡◌, Some, Ok, codes, slice_get, string_bytes, IsErr, IfOk, MatchOption};
 ghost use Rattle.dali_grammar.specs.Numbers.{block_of, blocks_of};
 ghost use Rattle.dali_words.specs.Lines.{values_of};
-ghost use Rattle.dali_command_line.specs.declared.words.Task.TheVariants.{Replay};
-ghost use Rattle.dali_replay.specs.declared.form.Form.TheVariants.{Json, Text};
+ghost use Rattle.dali_command_line.specs.Words.{IsSetup, IsForm, IsTask};
 
 use arrayvec::ArrayVec;
 use dali_events::PlanError;
@@ -185,20 +184,7 @@ where
 
 /// What is to be run.
 fn setup(alloc: Global, line: &CommandLine) -> Result<Setup, LineFault>
-    ensures gear { IfOk result (λ setup. MatchOption (slice_get (values_of (codes "gear") line.now.values.items) 0) ⊥
-        (λ value. ⟦<u32 as FromStr>⟧.from_str_gives value (Ok setup.gear))) }
-    ensures seed { IfOk result (λ setup. MatchOption (slice_get (values_of (codes "seed") line.now.values.items) 0) ⊥
-        (λ value. ⟦<u64 as FromStr>⟧.from_str_gives value (Ok setup.seed))) }
-    ensures turns { IfOk result (λ setup. MatchOption (slice_get (values_of (codes "turns") line.now.values.items) 0) ⊥
-        (λ value. ⟦<u32 as FromStr>⟧.from_str_gives value (Ok setup.turns))) }
-    ensures surveys { IfOk result (λ setup. IsTrue setup.surveys
-        ↔ (slice_get (values_of (codes "survey") line.now.values.items) 0 ≡ Some (codes "true"))) }
-    ensures blocks { IfOk result (λ setup.
-        blocks_of (values_of (codes "blocks") line.now.values.items) ≡ Some setup.blocks.items) }
-    ensures json { IfOk result (λ setup. IsTrue setup.as_json
-        ↔ (slice_get (values_of (codes "json") line.now.values.items) 0 ≡ Some (codes "true"))) }
-    ensures story { IfOk result (λ setup. IsTrue setup.as_story
-        ↔ (slice_get (values_of (codes "story") line.now.values.items) 0 ≡ Some (codes "true"))) }
+    ensures { IfOk result (IsSetup line.now.values.items) }
 {
     Ok(Setup {
         gear: number(alloc, line, "gear")?,
@@ -211,19 +197,23 @@ fn setup(alloc: Global, line: &CommandLine) -> Result<Setup, LineFault>
     })
 }
 
+/// What is to be written of a script.
+fn form(line: &CommandLine) -> Form
+    ensures { IsForm line.now.values.items result }
+{
+    if line.has("json") {
+        Form::Json
+    } else {
+        Form::Text
+    }
+}
+
 /// What a line asks for.
 pub fn task_of(alloc: Global, line: &CommandLine) -> Result<Task, LineFault>
-    ensures json { result ≡ Ok (Replay Json)
-        → slice_get (values_of (codes "json") line.now.values.items) 0 ≡ Some (codes "true") }
-    ensures text { result ≡ Ok (Replay Text)
-        → slice_get (values_of (codes "json") line.now.values.items) 0 ≡ Some (codes "true") → ⊥ }
+    ensures { IfOk result (IsTask (string_bytes line.now.subcommand) line.now.values.items) }
 {
     match line.subcommand.as_str() {
-        "replay" => Ok(Task::Replay(if line.has("json") {
-            Form::Json
-        } else {
-            Form::Text
-        })),
+        "replay" => Ok(Task::Replay(form(line))),
         "threads" => Ok(Task::Threads(setup(alloc, line)?)),
         _ => no_task(alloc),
     }

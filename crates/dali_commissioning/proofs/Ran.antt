@@ -1,13 +1,14 @@
-use Rattle.std.proofs.Common.{◌≡◌, arith, ℕ, ◌+◌, suc, List, [], ◌∷◌, ◌++◌, length, Bool, true, false, ◌||◌, Option, refl, ◌∙◌, ap, sym, subst}
+use Rattle.std.proofs.Common.{◌≡◌, arith, ℕ, ◌+◌, ◌<◌, suc, List, [], ◌∷◌, ◌++◌, length, Bool, true, false, ◌||◌, Option, refl, ◌∙◌, ap, sym, subst}
 use Rattle.std.proofs.lemmas.{Bool.false≢true, List.append_assoc, List.append-nil}
 use Rattle.dali_frame.specs.declared.frames.Forward.{Forward}
 use Rattle.dali_script.specs.{Due.record_ordered, Records.Kept, declared.block.Block.Block}
 use Rattle.dali_script.specs.declared.{orders.End.TheVariants.AllFound, orders.Input.Input, orders.Input.TheVariants.Committed, records.Record.Record}
 use Rattle.dali_reserve.specs.Store.{IsReplay}
 use Rattle.dali_controller.specs.Machine.{Machine, at_first}
-use Rattle.dali_commissioning.specs.Conducted.{Conducted, Commits, Stays, IsAt, IsLeft, order_of}
+use Rattle.dali_commissioning.specs.Conducted.{Conducted, Commits, Stays, IsAt, IsLeft, HasTaken, order_of}
 use Rattle.dali_commissioning.specs.Drivers.{Talk}
-use Rattle.dali_commissioning.specs.Runs.{Run, IsRun, AreRuns, HaveRun, AreAllFound, EndWith, ComeTo, AreQuiet, quiet_after, Grows, IsRead}
+use Rattle.dali_commissioning.specs.Runs.{Run, IsRun, IsSpent, IsSpentBefore, AreRuns, HaveRun, AreAllFound, EndWith, ComeTo, AreQuiet, quiet_after}
+use Rattle.dali_commissioning.specs.Runs.{Grows, IsRead}
 use Rattle.dali_commissioning.specs.Steps.{Step, last_order, record_told, committed_by, is_kept, has_committed}
 use Rattle.dali_commissioning.{specs.declared.conducting.Ended.TheVariants.Done, specs.declared.conducting.PassEnd.PassEnd, proofs.Steps.stays_further}
 
@@ -185,6 +186,45 @@ run_of is_up is_sound holds kept_of must_read block_of replay was mid keep m n x
       refl,
       at.has,
     )
+
+-- A run that is spent, of a machine that began with what its store gave it: the same three moments of the store.
+pub spent_of : {S : Type 0} (is_up is_sound : S → Type 0) (holds : S → List Record → Type 0) (kept_of : S → Kept)
+    (must_read : S → Bool) (block_of : S → Block)
+    → ((s : S) (xs : List Record) → is_sound s → must_read s ≡ false → holds s xs → IsReplay (block_of s) xs (kept_of s))
+    → (was mid keep : S) (m n : Machine) (x y : Talk) (first : Input) (k : Kept)
+    → k ≡ kept_of mid → must_read mid ≡ false → block_of mid ≡ block_of was → Stays is_up is_sound was mid
+    → (is_sound was → is_up mid → (xs : List Record) → holds was xs → holds mid xs)
+    → m ≡ at_first 0 k → HasTaken is_up is_sound holds mid keep m n x y first 1000000
+    → IsSpent is_up is_sound holds (block_of was) first was keep x y
+spent_of is_up is_sound holds kept_of must_read block_of replay was mid keep m n x y first k answer is_read block stays same begins
+    (waiting, order, committed, at) = record {
+      start = k;
+      steps = at.steps;
+      machine = n;
+      conducted = subst (λ b. Conducted b n at.steps x y) begins at.conducted;
+      begun = at.begun;
+      counted = at.counted;
+      read = λ sound up xs held.
+          subst (λ b. IsReplay b xs k) block (subst (IsReplay (block_of mid) xs) (sym answer)
+          (replay mid xs (stays.sound sound (at.stays.up up)) is_read (same sound (at.stays.up up) xs held)));
+      commits = λ sound up xs held. at.commits (stays.sound sound (at.stays.up up)) up xs (same sound (at.stays.up up) xs held);
+    }
+
+-- and after the runs before it
+pub spent_after : {S : Type 0} (is_up is_sound : S → Type 0) (holds : S → List Record → Type 0) (a block : Block)
+    (first : Input) (was mid keep : S) (x y z : Talk) (quiet count most : ℕ) → a ≡ block → count < most
+    → HasRun is_up is_sound holds block first was mid x y quiet count
+    → IsSpent is_up is_sound holds a first mid keep y z
+    → IsSpentBefore is_up is_sound holds block first was keep x z most
+spent_after is_up is_sound holds a block first was mid keep x y z quiet count most same few so_far spent = (
+  so_far.runs,
+  mid,
+  y,
+  so_far.are,
+  so_far.found,
+  omega (arith, so_far.counted, few),
+  subst (λ b. IsSpent is_up is_sound holds b first mid keep y z) same spent,
+)
 
 -- a store that has what it had when it was read
 pub same_grows : {S : Type 0} (is_up is_sound : S → Type 0) (holds : S → List Record → Type 0) (was mid : S)

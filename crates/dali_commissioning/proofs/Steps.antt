@@ -172,9 +172,9 @@ left_at_fault is_up is_sound holds was mid keep m n x y first waiting order comm
       (more, few_more, subst (holds keep) (append_assoc list (committed_by so_far.steps) more) has),
 )
 
--- as many as were counted
+-- after as many orders as were counted
 pub taken_at : {S : Type 0} (is_up is_sound : S → Type 0) (holds : S → List Record → Type 0)
     (was keep : S) (m n : Machine) (x y : Talk) (first : Input) (waiting : Option Forward) (order : Order) (committed : Bool) (count : ℕ)
-    → IsAt is_up is_sound holds was keep m n x y first waiting order committed count → HasTaken m n (count + 1)
-taken_at is_up is_sound holds was keep m n x y first waiting order committed count so_far =
-    (so_far.steps, so_far.conducted.taken, so_far.counted)
+    → IsAt is_up is_sound holds was keep m n x y first waiting order committed count
+    → HasTaken is_up is_sound holds was keep m n x y first count
+taken_at is_up is_sound holds was keep m n x y first waiting order committed count so_far = (waiting, order, committed, so_far)

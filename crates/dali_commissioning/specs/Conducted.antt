@@ -74,6 +74,12 @@ IsLeft is_up is_sound holds was keep m n =
     × AreSteps m steps n
     × MayCommit is_up is_sound holds was keep (committed_by steps)
 
--- a machine took so many steps
-abbrev pub HasTaken : Machine → Machine → ℕ → Type 0
-HasTaken m n count = (steps : List Step) × AreSteps m steps n × (length steps ≡ count)
+-- A MACHINE IS CONDUCTED for so many orders, and has one more, which is not done
+abbrev pub HasTaken : {S : Type 0} (is_up is_sound : S → Type 0)
+    (holds : S → List Record → Type 0) → S → S → Machine → Machine → Talk → Talk → Input → ℕ
+    → Type 0
+HasTaken is_up is_sound holds was keep m n x y first count =
+    (waiting : Option Forward)
+    × (order : Order)
+    × (committed : Bool)
+    × IsAt is_up is_sound holds was keep m n x y first waiting order committed count

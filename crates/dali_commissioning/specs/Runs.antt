@@ -1,5 +1,5 @@
 use Rattle.std.specs.Prelude.{◌≡◌, ◌⊎◌, ℕ, zero, suc, ◌+◌, Bool, true, false, List, [], ◌∷◌}
-use Rattle.std.specs.Prelude.{◌++◌, length, Option, Some, None, if◌then◌else◌}
+use Rattle.std.specs.Prelude.{◌++◌, ◌<◌, length, Option, Some, None, if◌then◌else◌}
 use Rattle.dali_script.specs.declared.block.Block.{Block}
 use Rattle.dali_script.specs.declared.records.Record.{Record}
 use Rattle.dali_script.specs.declared.finding.Finding.{Finding}
@@ -24,7 +24,7 @@ use Rattle.dali_commissioning.specs.Census.{AreCounted, IsLost, is_addressed}
 use Rattle.dali_commissioning.specs.Unaddressed.{asking, AreLeftOver, AreLostSo}
 use Rattle.dali_commissioning.specs.Steps.{Step, first_told, last_order, committed_by}
 use Rattle.dali_commissioning.specs.Steps.{has_committed}
-use Rattle.dali_commissioning.specs.Conducted.{Conducted, Commits, Stays, HasTaken, order_of}
+use Rattle.dali_commissioning.specs.Conducted.{Conducted, Commits, Stays, order_of}
 
 -- A RUN of a machine: the records that its store gave it, its steps, how it ended, under which
 -- short addresses its survey heard gear that it does not know, the gear that it found last, how
@@ -54,9 +54,20 @@ pub record IsRun {S : Type 0} (is_up is_sound : S → Type 0) (holds : S → Lis
   pub commits : Commits is_up is_sound holds was keep (committed_by run.steps)
   pub stays : Stays is_up is_sound was keep
 
--- a machine took as many steps as one may take, and has not ended
-abbrev pub IsSpent : Type 0
-IsSpent = (k : Kept) × (n : Machine) × HasTaken (at_first 0 k) n 1000001
+-- A RUN IS SPENT, from one moment of its store and of the talk with its driver to another. It began
+-- so, with the records that its store gave it. It was told of just those records that its store
+-- took, and by lines of its driver. It has done a million orders, and has one more.
+pub record IsSpent {S : Type 0} (is_up is_sound : S → Type 0) (holds : S → List Record → Type 0)
+    (block : Block) (first : Input) (was keep : S) (x y : Talk) : Type 0 where
+  pub start : Kept
+  pub steps : List Step
+  pub machine : Machine
+  pub conducted : Conducted (at_first 0 start) machine steps x y
+  pub begun : first_told steps ≡ Some first
+  pub counted : length steps ≡ 1000001
+  pub read : is_sound was → is_up keep → (xs : List Record) → holds was xs
+      → IsReplay block xs start
+  pub commits : Commits is_up is_sound holds was keep (committed_by steps)
 
 -- RUNS that each begin so, one after the other, last first
 abbrev pub AreRuns : {S : Type 0} (is_up is_sound : S → Type 0)
@@ -96,6 +107,18 @@ HaveRun is_up is_sound holds block first was keep x y count =
     × AreRuns is_up is_sound holds block first was keep x y runs
     × AreAllFound runs
     × (length runs ≡ count)
+
+-- a run is spent after runs that found no gear any more, fewer than so many
+abbrev pub IsSpentBefore : {S : Type 0} (is_up is_sound : S → Type 0)
+    (holds : S → List Record → Type 0) → Block → Input → S → S → Talk → Talk → ℕ → Type 0
+IsSpentBefore {S = S} is_up is_sound holds block first was keep x y most =
+    (runs : List Run)
+    × (mid : S)
+    × (at : Talk)
+    × AreRuns is_up is_sound holds block first was mid x at runs
+    × AreAllFound runs
+    × (length runs < most)
+    × IsSpent is_up is_sound holds block first mid keep at y
 
 -- so many runs in a row, the last one among them, committed nothing
 abbrev pub AreQuiet : ℕ → List Run → Type 0

@@ -1,6 +1,6 @@
 //! What a machine orders is done: frames are put by lines to the driver, and records are committed.
 
-ghost use Rattle.std.specs.Prelude.{◌≡◌, ◌≢◌, ℕ, ◌+◌, [], ◌∷◌, true, None, Some, Err, Option, IfOk, IfErr, OnOk};
+ghost use Rattle.std.specs.Prelude.{◌≡◌, ◌≢◌, ℕ, [], ◌∷◌, true, None, Some, Err, Option, IfOk, IfErr, OnOk};
 ghost use Rattle.std.specs.Prelude.{IfSome, MatchOption};
 ghost use Rattle.std.specs.Io.KnownBytes.{Appends};
 ghost use Rattle.dali_frame.specs.declared.frames.Forward.{Forward};
@@ -206,7 +206,9 @@ pub fn conduct<K: Keep, R: Read, W: Write, P: Watch>(
     ensures found { IfOk result (λ pass. pass.found ≡ machine.new.finding) }
     ensures tries { IfOk result (λ pass. pass.tries ≡ machine.new.tries) }
     ensures tally { IfOk result (λ pass. pass.tally ≡ machine.new.course.tally) }
-    ensures spent { result ≡ Err CommissionFault.StepsSpent → HasTaken machine.old machine.new (steps + 1) }
+    ensures spent { result ≡ Err CommissionFault.StepsSpent → HasTaken K.is_up K.is_sound K.holds keep.old keep.new
+        machine.old machine.new (talk_of R.remaining W.contents driver.old) (talk_of R.remaining W.contents driver.new)
+        start steps }
     ensures fault { IfErr result (λ _. IsLeft K.is_up K.is_sound K.holds keep.old keep.new machine.old machine.new) }
     ensures one_run { result ≢ Err CommissionFault.RunsSpent }
     ensures none_lost { result ≢ Err CommissionFault.QuestionLost }

@@ -8,7 +8,7 @@ ghost use Rattle.dali_commissioning.specs.Drivers.{talk_of};
 ghost use Rattle.dali_commissioning.specs.Steps.{has_committed};
 ghost use Rattle.dali_commissioning.specs.Conducted.{Stays};
 ghost use Rattle.dali_commissioning.specs.Runs.{Run, IsRun, AreRuns, HaveRun, AreQuiet, EndWith, ComeTo, Grows};
-ghost use Rattle.dali_commissioning.specs.Runs.{IsSpent, quiet_after};
+ghost use Rattle.dali_commissioning.specs.Runs.{IsSpent, IsSpentBefore, quiet_after};
 
 use crate::conducting::{Ended, PassEnd, conduct};
 use crate::driver::DriverLink;
@@ -54,7 +54,9 @@ fn run<K: Keep, R: Read, W: Write, P: Watch>(
     ensures left { IfErr result (λ _. Grows K.is_up K.is_sound K.holds keep.old keep.new) }
     ensures stays { Stays K.is_up K.is_sound keep.old keep.new }
     ensures block { K.block keep.new ≡ K.block keep.old }
-    ensures steps { result ≡ Err CommissionFault.StepsSpent → IsSpent }
+    ensures steps { result ≡ Err CommissionFault.StepsSpent → IsSpent K.is_up K.is_sound K.holds (K.block keep.old)
+        start keep.old keep.new (talk_of R.remaining W.contents driver.old)
+        (talk_of R.remaining W.contents driver.new) }
     ensures one_run { result ≢ Err CommissionFault.RunsSpent }
     ensures none_lost { result ≢ Err CommissionFault.QuestionLost }
 {
@@ -92,7 +94,9 @@ pub fn commission<K: Keep, R: Read, W: Write, P: Watch>(
     ensures spent { result ≡ Err CommissionFault.RunsSpent → HaveRun K.is_up K.is_sound K.holds (K.block keep.old)
         start keep.old keep.new (talk_of R.remaining W.contents driver.old)
         (talk_of R.remaining W.contents driver.new) 1000 }
-    ensures steps { result ≡ Err CommissionFault.StepsSpent → IsSpent }
+    ensures steps { result ≡ Err CommissionFault.StepsSpent → IsSpentBefore K.is_up K.is_sound K.holds
+        (K.block keep.old) start keep.old keep.new (talk_of R.remaining W.contents driver.old)
+        (talk_of R.remaining W.contents driver.new) 1000 }
     ensures none_lost { result ≢ Err CommissionFault.QuestionLost }
     ensures left { IfErr result (λ _. Grows K.is_up K.is_sound K.holds keep.old keep.new) }
     ensures stays { Stays K.is_up K.is_sound keep.old keep.new }

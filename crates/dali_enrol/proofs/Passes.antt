@@ -4,7 +4,7 @@ use Rattle.std.proofs.lemmas.List.{get_or-map, get_or-set_same, get_or-set_other
 use Rattle.std.proofs.lemmas.Bool.{cases_eq}
 use Rattle.std.specs.declared.option.Option.{Option}
 use Rattle.std.specs.declared.option.Option.TheVariants.{None, Some}
-use Rattle.std.specs.Option.{IfSome}
+use Rattle.std.specs.Option.{IfSome, IsSome}
 use Rattle.dali_script.specs.Table.{Enrolled}
 use Rattle.dali_enrol.specs.Directory.{IsOfAddress, AtItsAddress}
 
@@ -60,4 +60,16 @@ module _ {A : Type 0} (known : A → Option Enrolled) (xs : List A) (i : ℕ) (x
       (subst (λ l. IfSome (get_or l i None) (λ e. get_or (map known (set xs i y)) i None ≡ Some e)) view
       (rw (value_at known xs i x within here None, known_set refl) kept)))
       (λ away. subst (λ k. IfSome (get_or was a None) (λ e. k ≡ Some e)) (sym (known_other refl a away)) (itself (get_or was a None)))
+      (cases_eq a i)
+
+  -- a second list, whose value at the place keeps what is known there as it was
+  pub settled_set : (zs : List A) (z : A) → i < length zs → z ≡ get_or zs i z → (stood : List (Option Enrolled)) → map known zs ≡ stood
+      → (IsSome (known z) → known y ≡ known x)
+      → (a : ℕ) → IsSome (get_or stood a None) → get_or (map known (set xs i y)) a None ≡ get_or was a None
+  settled_set zs z inside there stood seen same a some = ⊎_elim
+      (λ (here_too : a ≡ i). subst (λ k. get_or (map known (set xs i y)) k None ≡ get_or was k None) (sym here_too)
+      (known_set refl ∙ same (subst IsSome (ap (λ l. get_or l i None) (sym seen) ∙ value_at known zs i z inside there None)
+      (subst (λ k. IsSome (get_or stood k None)) here_too some))
+      ∙ sym (value_at known xs i x within here None) ∙ ap (λ l. get_or l i None) view))
+      (λ away. known_other refl a away)
       (cases_eq a i)

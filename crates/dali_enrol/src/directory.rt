@@ -119,7 +119,7 @@ impl Directory {
     /// Puts an entry at its short address, for good. It never waits and takes no memory.
     ///
     /// The card is handed back only if one was put there before. The pass then knows that one stands there, and
-    /// which (`stands_at`); that it is of this address, `look` says.
+    /// which (`stands_at`): what it knows under this address, if anything. That it is of this address, `look` says.
     pub fn post(&self, pass: &mut Pass, card: Box<Enrolled>) -> Result<(), Box<Enrolled>>
         requires { pass.old.places ≡ self.now }
         ensures places { pass.new.places ≡ pass.old.places }
@@ -133,6 +133,9 @@ impl Directory {
         ensures stands { IsSome (stands_at pass.new card.value.short) }
         ensures still { (a : ℕ) → IfSome (stands_at pass.old a) (λ e. stands_at pass.new a ≡ Some e) }
         ensures nowhere_else { (a : ℕ) → a ≢ card.value.short → stands_at pass.new a ≡ stands_at pass.old a }
+        ensures which { IfSome (known_at pass.new card.value.short)
+            (λ e. stands_at pass.new card.value.short ≡ Some e) }
+        ensures settled { (a : ℕ) → IsSome (stands_at pass.old a) → known_at pass.new a ≡ known_at pass.old a }
     {
         let at = usize::from(card.short().number());
         offer(
@@ -194,6 +197,7 @@ fn is_taken(
     ensures note { note.new ≡ note.old }
     ensures place { stands.new.cell ≡ stands.old.cell }
     ensures kept { IfSome stands.old.known (λ e. stands.new.known ≡ Some e) }
+    ensures which { IsTrue result → IfSome note.old.known (λ e. stands.new.known ≡ Some e) }
 {
     let mut seen = note.again();
     if place.get_as(&mut seen).is_none() {
@@ -224,6 +228,8 @@ fn offer(
     ensures same_place { stands.new.cell ≡ stands.old.cell }
     ensures stands { IsSome stands.new.known }
     ensures still { IfSome stands.old.known (λ e. stands.new.known ≡ Some e) }
+    ensures which { IfSome note.new.known (λ e. stands.new.known ≡ Some e) }
+    ensures settled { IsSome stands.old.known → note.new.known ≡ note.old.known }
 {
     if is_taken(place, note, stands) {
         return Err(card);

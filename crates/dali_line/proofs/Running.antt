@@ -278,8 +278,17 @@ some_still : (o n : Option Enrolled) → IfSome o (λ e. n ≡ Some e) → IsSom
 some_still None n still some = absurd (cc)
 some_still (Some e) n still some = subst IsSome (sym still) refl
 
+which_still : (k l o n : Option Enrolled) → l ≡ k → IfSome o (λ e. n ≡ Some e) → IfSome k (λ e. o ≡ Some e) → IfSome l (λ e. n ≡ Some e)
+which_still k l o n same still which = subst (λ (x : Option Enrolled). IfSome x (λ e. n ≡ Some e)) (sym same) (go k which) where
+  go : (x : Option Enrolled) → IfSome x (λ e. o ≡ Some e) → IfSome x (λ e. n ≡ Some e)
+  go None is = tt
+  go (Some e) is = subst (λ (x : Option Enrolled). IfSome x (λ e. n ≡ Some e)) is still
+
 posted_still : (was is : Pass) (r : Record) → StillStands was is → IsPosted was r → IsPosted is r
-posted_still was is (Enrol a r) still posted = some_still (stands_at was a) (stands_at is a) (still a) posted
+posted_still was is (Enrol a r) still (stands, which) = (
+  some_still (stands_at was a) (stands_at is a) (still.stands a) stands,
+  which_still (known_at was a) (known_at is a) (stands_at was a) (stands_at is a) (still.settled a stands) (still.stands a) which,
+)
 posted_still was is (Reserve a r) still posted = tt
 posted_still was is (Release a r) still posted = tt
 
@@ -288,10 +297,13 @@ stands_itself None = tt
 stands_itself (Some e) = refl
 
 stands_same : (p : Pass) → StillStands p p
-stands_same p a = stands_itself (stands_at p a)
+stands_same p = record { stands = λ a. stands_itself (stands_at p a); settled = λ a some. refl }
 
 still_more : (was mid is : Pass) → StillStands was mid → StillStands mid is → StillStands was is
-still_more was mid is one two a = known_then (stands_at was a) (stands_at mid a) (stands_at is a) (one a) (two a)
+still_more was mid is one two = record {
+  stands = λ a. known_then (stands_at was a) (stands_at mid a) (stands_at is a) (one.stands a) (two.stands a);
+  settled = λ a some. two.settled a (some_still (stands_at was a) (stands_at mid a) (one.stands a) some) ∙ one.settled a some;
+}
 
 posted_one : (p : Pass) (due : Option Record) (i : Input) (o : Order) (x : Record) → HasPosted p (first_of (told_at due i))
     → Has (told_of due (step_of i o ∷ [])) x → IsPosted p x

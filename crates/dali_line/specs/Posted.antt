@@ -3,18 +3,21 @@ use Rattle.std.specs.Prelude.{IfSome, IsSome}
 use Rattle.dali_script.specs.declared.records.Record.{Record}
 use Rattle.dali_script.specs.declared.records.Record.TheVariants.{Reserve, Enrol, Release}
 use Rattle.dali_script.specs.Records.{Has}
-use Rattle.dali_enrol.specs.Directory.{Pass, stands_at}
+use Rattle.dali_enrol.specs.Directory.{Pass, known_at, stands_at}
 use Rattle.dali_line.specs.declared.outcome.Outcome.{Outcome}
 use Rattle.dali_line.specs.declared.outcome.Outcome.TheVariants as outcome
 use Rattle.dali_line.specs.Leaves.{Learns}
 
--- what a pass knew to stand in a place it still knows
-abbrev pub StillStands : Pass → Pass → Type 0
-StillStands old new = (a : ℕ) → IfSome (stands_at old a) (λ e. stands_at new a ≡ Some e)
+-- what a pass knew to stand in a place it still knows, and of that address it learns nothing more
+pub record StillStands (old new : Pass) : Type 0 where
+  pub stands : (a : ℕ) → IfSome (stands_at old a) (λ e. stands_at new a ≡ Some e)
+  pub settled : (a : ℕ) → IsSome (stands_at old a) → known_at new a ≡ known_at old a
 
--- an enrolment is posted: a pass knows that an entry stands in the place of its short address
+-- AN ENROLMENT IS POSTED: an entry stands in the place of its short address. It is the one that the
+-- pass knows there; only if the pass knows none, it is one that another pass posted before.
 abbrev pub IsPosted : Pass → Record → Type 0
-IsPosted p (Enrol a r) = IsSome (stands_at p a)
+IsPosted p (Enrol a r) =
+    IsSome (stands_at p a) × IfSome (known_at p a) (λ e. stands_at p a ≡ Some e)
 IsPosted p (Reserve a r) = Unit {0}
 IsPosted p (Release a r) = Unit {0}
 

@@ -1,4 +1,5 @@
 use Rattle.std.specs.Prelude.{◌≡◌, ℕ, ◌<◌, Bool, List, length, slice_index_or, Option, None, Some}
+use Rattle.std.specs.Prelude.{Result}
 use Rattle.dali_world.specs.Site.{SiteState}
 use Rattle.dali_line.specs.declared.outcome.Outcome.{Outcome}
 use Rattle.dali_line.specs.Calls.{ActsFrom, IsRefusedFrom, IsToldFrom, IsUntoldFrom, IsOrderedFrom}
@@ -11,6 +12,8 @@ use Rattle.dali_line.specs.Found.{FromDriver, IsStuck, IsGivenBack}
 use Rattle.dali_line.specs.Runs.{AreTaken, steps_in}
 use Rattle.dali_line.specs.Shares.{PortShare, port_share}
 use Rattle.dali_line.specs.Steps.{Step}
+use Rattle.dali_threads.specs.declared.setup.Setup.{Setup}
+use Rattle.dali_threads.specs.declared.setup.ThreadsFault.{ThreadsFault}
 
 -- A WORKER'S RUN of at most so many turns, as its end tells it: the turns that were taken with its
 -- port, from one share to another, as the bus says of each, and how the steps among them ended.
@@ -33,6 +36,11 @@ abbrev pub line_facts : Bool → Facts
 line_facts surveys =
     facts_of ActsFrom IsRefusedFrom IsToldFrom IsUntoldFrom IsUnorderedFrom IsOrderedFrom IsDownFrom
     (Unit {0}) surveys
+
+-- what came of a run of this setup: no contract sees which threads ran and what a system printed,
+-- so only who runs it may say so
+unfoldable pub IsRunOf : Setup → Result (Unit {0}) ThreadsFault → Type 0
+IsRunOf setup ended = Unit {0}
 
 -- A RUN OF ALL over one line, which begins with an empty log. The line gave this site back. Each
 -- controller's worker ended so, in a run with as many steps as the log has of its controller; and

@@ -5,7 +5,7 @@ ghost use Rattle.std.specs.Prelude.{IfSome, IsErrOf, false, length, map, vec_len
 ghost use Rattle.dali_events.specs.declared.plan.PlanError.{PlanError};
 ghost use Rattle.dali_events.specs.Plan.{plan_of, refusal_of};
 ghost use Rattle.dali_threads.specs.Drawn.{numbers_of};
-ghost use Rattle.dali_threads.specs.Ran.{HaveRun};
+ghost use Rattle.dali_threads.specs.Ran.{HaveRun, IsRunOf};
 ghost use Rattle.dali_threads.specs.Report.{Reports};
 ghost use Rattle.dali_threads.specs.declared.setup.ThreadsFault.TheVariants.{BadPlan, Write};
 ghost use Rattle.std.specs.Io.KnownBytes.{Appends};
@@ -144,12 +144,14 @@ fn planned(
 ///
 /// The gear draw numbers of a generator from the seed: the same for the same seed, though which controller gives which
 /// address is open.
+#[tactic(auto, unfolding(crate::specs::Ran::IsRunOf))]
 pub fn run_threads<R: Threads + Wait + Sync, W: Write>(
     rt: &R,
     alloc: Global,
     setup: Setup,
     writer: &mut W,
 ) -> Result<(), ThreadsFault>
+    ensures run { IsRunOf setup result }
     ensures refused { IfSome (refusal_of setup.gear setup.blocks.items [])
         (λ e. IsErrOf result (BadPlan e) × (writer.new ≡ writer.old)) }
     ensures cause { IfErr result (λ fault. (e : PlanError) → fault ≡ BadPlan e

@@ -1,6 +1,6 @@
-use Rattle.std.proofs.Common.{rules, sym, ◌∙◌}
+use Rattle.std.proofs.Common.{◌≡◌, Err, rules, sym, ◌∙◌}
 use Rattle.std.proofs.lemmas.Result.{err_from_is_err_and}
-use Rattle.dali_commissioning.proofs.{Ran.of_block, Ran.ran_more, Ran.ended_otherwise, Ran.ended_quiet, Ran.grows_further, Steps.stays_further}
+use Rattle.dali_commissioning.proofs.{Ran.of_block, Ran.ran_more, Ran.ended_otherwise, Ran.ended_quiet, Ran.grows_further, Ran.spent_after, Steps.stays_further}
 use Rattle.dali_commissioning.proofs.runs.commission.Goals as goal
 
 pub returns-in_err-pass-clause-left : goal.returns-in_err-pass-clause-left
@@ -47,3 +47,10 @@ loop-preserved g c = record {
   few = search rules;
   block = c.run.ensures.block ∙ c.loop.invariant.block;
 }
+
+pub returns-in_err-pass-clause-steps : goal.returns-in_err-pass-clause-steps
+returns-in_err-pass-clause-steps g c =
+    let same : c.from_residual.result ≡ Err c.in_err-pass.field-0.0 = search rules in
+    let is : c.run.result ≡ Err c.in_err-pass.field-0.0 = search rules in
+    λ spent. spent_after g.K.Keep.is_up g.K.Keep.is_sound g.K.Keep.holds _ _ _ _ _ _ _ _ _ _ _ _ c.loop.invariant.block
+    (search rules) c.loop.invariant.ran (c.run.ensures.steps (is ∙ sym same ∙ spent))

@@ -1,4 +1,5 @@
-use Rattle.dali_commissioning.proofs.{Ran.run_of, Ran.same_grows, Ran.left_grows, Steps.stays_further}
+use Rattle.std.proofs.Common.{◌≡◌, ◌∙◌, Err, rules}
+use Rattle.dali_commissioning.proofs.{Ran.run_of, Ran.spent_of, Ran.same_grows, Ran.left_grows, Steps.stays_further}
 use Rattle.dali_commissioning.proofs.runs.run.Goals as goal
 
 pub returns-in-Err-clause-left : goal.returns-in-Err-clause-left
@@ -27,3 +28,10 @@ returns-in-Ok-conduct-clause-ran g c =
 pub returns-in-Ok-conduct-clause-stays : goal.returns-in-Ok-conduct-clause-stays
 returns-in-Ok-conduct-clause-stays g c = stays_further g.K.Keep.is_up g.K.Keep.is_sound _ _ _
     (record { up = c.read.ensures.up; sound = c.read.ensures.sound }) c.conduct.ensures.stays
+
+pub returns-in-Err-conduct-clause-steps : goal.returns-in-Err-conduct-clause-steps
+returns-in-Err-conduct-clause-steps g c =
+    let is : c.conduct.result ≡ Err c.in-Err-conduct.fault = search rules in
+    λ spent. spent_of g.K.Keep.is_up g.K.Keep.is_sound g.K.Keep.holds g.K.Keep.kept g.K.Keep.must_read g.K.Keep.block g.met.K.Keep.replay
+    _ _ _ _ _ _ _ _ c.in-Ok.kept c.in-Ok.ensures.answer c.in-Ok.ensures.is_read c.read.ensures.block
+    (record { up = c.read.ensures.up; sound = c.read.ensures.sound }) c.read.ensures.same c.new-machine.ensures (c.conduct.ensures.spent (is ∙ spent))

@@ -2,7 +2,7 @@ use Rattle.std.proofs.Common.{Result, Ok, Err, IfErr, OnErr, ap, sym, refl, ◌�
 use Rattle.std.specs.Option.{IsSome}
 use Rattle.std.proofs.lemmas.Result.{on_ok_weaker}
 use Rattle.once_cell.specs.Once.{cell_name}
-use Rattle.dali_enrol.proofs.Passes.{same_at, values_set, own_at, known_set, known_other, own_set, kept_set}
+use Rattle.dali_enrol.proofs.Passes.{same_at, values_set, own_at, known_set, known_other, own_set, kept_set, settled_set}
 use Rattle.dali_enrol.proofs.directory.Directory.post.Goals as goal
 
 if_err : {A E X Y : Type 0} (B : E → Type 0) (r : Result A E) → (X → Y) → IfErr r (λ e. B e × X) → OnErr r Y
@@ -87,3 +87,18 @@ returns-clause-nowhere_else c =
     known_other (λ n. n.known) c.pass.inside.standing.items _ c.index_mut-2.result.now c.offer.new.stands (omega (arith, c.pass.inside.standing.ok.0))
     c.index_mut-2.ensures.value _ (ap (λ p. p.standing) c.pass.view_is)
     (c.from-at.ensures ∙ c.number.ensures.value ∙ c.short.ensures ∙ ap (λ e. e.short) c.deref.ensures)
+
+pub returns-clause-which : goal.returns-clause-which
+returns-clause-which c =
+    let at = c.from-at.ensures ∙ c.number.ensures.value ∙ c.short.ensures ∙ ap (λ e. e.short) c.deref.ensures in
+    let known = known_set (λ n. n.known) c.pass.inside.notes.items _ c.index_mut.result.now c.offer.new.note (omega (arith, c.pass.inside.notes.ok.0))
+    c.index_mut.ensures.value _ refl at in
+    let stands = known_set (λ n. n.known) c.pass.inside.standing.items _ c.index_mut-2.result.now c.offer.new.stands
+    (omega (arith, c.pass.inside.standing.ok.0)) c.index_mut-2.ensures.value _ refl at in
+    rw (known, stands) c.offer.ensures.which
+
+pub returns-clause-settled : goal.returns-clause-settled
+returns-clause-settled c =
+    settled_set (λ n. n.known) c.pass.inside.notes.items _ c.index_mut.result.now c.offer.new.note (omega (arith, c.pass.inside.notes.ok.0))
+    c.index_mut.ensures.value _ (ap (λ p. p.known) c.pass.view_is) c.pass.inside.standing.items c.index_mut-2.result.now
+    (omega (arith, c.pass.inside.standing.ok.0)) c.index_mut-2.ensures.value _ (ap (λ p. p.standing) c.pass.view_is) c.offer.ensures.settled
