@@ -11,7 +11,8 @@ use Rattle.dali_statement.specs.{Gear.gear_seen, Page.Part, Page.High, Page.Midd
 use Rattle.dali_statement.specs.Page.{Command, Heard, are_apart}
 use Rattle.dali_statement.{specs.Page.Site, specs.Page.all_allowed, specs.Page.after, specs.Scripts.said_of, proofs.Steps.Told, proofs.Steps.told_so}
 use Rattle.dali_statement.proofs.Tests.{first_of_both, second_of_both, first_of_either, equal, equals, some_is, holds_by, not_true}
-use Rattle.dali_events.specs.{Laws.KeepsRecords, Page.plan_seen, Plan.Plan as SitePlan, Plan.IsPlan as IsSitePlan, Used.used_shorts, World.World}
+use Rattle.dali_events.specs.{Laws.KeepsRecords, Page.plan_seen, Page.IsKeeping, Plan.Plan as SitePlan, Plan.IsPlan as IsSitePlan, Used.used_shorts}
+use Rattle.dali_events.specs.{World.World}
 use Rattle.dali_events.{specs.World.Controller, specs.World.controller_at, specs.World.nobody, specs.declared.used.Used.Used, proofs.Page.Sites.reserve_allowed}
 
 -- A SITE AS THE PAGE SEES IT, and a record that is kept.
@@ -88,9 +89,10 @@ pub record Seen (p : SitePlan) (w : World) (s : Site) : Type 0 where
   pub asked : AskedSo s.told (asked_of w.trace)
   pub each : Each nobody (SeenBy p.used s) w.controllers
 
--- what follows in a site of the page
-pub record Next (p : SitePlan) (w : World) (s : Site) : Type 0 where
+-- what follows in a site of the page, if it is moments of this kind
+pub record Next (p : SitePlan) (w : World) (s : Site) (Is : List Moment → Type 0) : Type 0 where
   pub moments : List Moment
+  pub is : Is moments
   pub allow : all_allowed (plan_seen p) s moments ≡ true
   pub seen : Seen p w (after s moments)
 
@@ -130,8 +132,9 @@ abbrev HasPair : List Assignment → ℕ → ℕ → Type 0
 HasPair xs a r = Has xs (a, r)
 
 -- the page after the records of one controller took in what it ordered
-pub record Informed (p : SitePlan) (w : World) (s : Site) (c : ℕ) (kept : Kept) (o : Option Record) : Type 0 where
+pub record Informed (p : SitePlan) (w : World) (s : Site) (c : ℕ) (x : Option Record) (kept : Kept) (o : Option Record) : Type 0 where
   pub moments : List Moment
+  pub is : IsKeeping c x moments
   pub allow : all_allowed (plan_seen p) s moments ≡ true
   pub gear : (after s moments).gear ≡ map gear_seen w.gear
   pub said : (after s moments).said ≡ s.said
@@ -141,9 +144,10 @@ pub record Informed (p : SitePlan) (w : World) (s : Site) (c : ℕ) (kept : Kept
 
 -- nothing is kept
 pub uninformed : (p : SitePlan) (w : World) (s : Site) (c : ℕ) → Seen p w s → c < length w.controllers
-    → Informed p w s c (controller_at w c).records (controller_at w c).outstanding
+    → Informed p w s c None (controller_at w c).records (controller_at w c).outstanding
 uninformed p w s c seen there = record {
   moments = [];
+  is = refl;
   allow = refl;
   gear = seen.gear;
   said = refl;
@@ -170,9 +174,10 @@ module _ (p : SitePlan) (plan : IsSitePlan p) (w : World) (s : Site) (c : ℕ) (
     go false e = refl
 
   reserves : (a r : ℕ) → (controller_at w c).outstanding ≡ Some (record_of.Reserve a r)
-      → Informed p w s c (with_record (controller_at w c).records (record_of.Reserve a r)) None
+      → Informed p w s c (Some (record_of.Reserve a r)) (with_record (controller_at w c).records (record_of.Reserve a r)) None
   reserves a r is = record {
     moments = Reserves c a r ∷ [];
+    is = refl;
     allow = both (both apart (reserve_allowed p s (controller_at w c) c plan a r (subst (λ n. c < n) seen.count there) (records.block c there)
         (fits.0, fits.1, fresh_one)
         (known.ordered (record_of.Reserve a r) is) (λ q e. has_map (λ y. y.0) (controller_at w c).records.reserved (a, q) (known.from a q e)))) refl;
@@ -219,9 +224,10 @@ module _ (p : SitePlan) (plan : IsSitePlan p) (w : World) (s : Site) (c : ℕ) (
     from b n false e is_some = has_left (controller_at w c).records.reserved ((a, r) ∷ []) (b, n) (known.from b n is_some)
 
   enrols : (a r : ℕ) → (controller_at w c).outstanding ≡ Some (record_of.Enrol a r)
-      → Informed p w s c (with_record (controller_at w c).records (record_of.Enrol a r)) None
+      → Informed p w s c (Some (record_of.Enrol a r)) (with_record (controller_at w c).records (record_of.Enrol a r)) None
   enrols a r is = record {
     moments = Enrols c a r ∷ [];
+    is = refl;
     allow = both (both apart (known.ordered (record_of.Enrol a r) is)) refl;
     gear = seen.gear;
     said = refl;
@@ -249,9 +255,10 @@ module _ (p : SitePlan) (plan : IsSitePlan p) (w : World) (s : Site) (c : ℕ) (
     tables b n (inr (inr h)) = elim h [ ]
 
   releases : (a r : ℕ) → (controller_at w c).outstanding ≡ Some (record_of.Release a r)
-      → Informed p w s c (with_record (controller_at w c).records (record_of.Release a r)) None
+      → Informed p w s c (Some (record_of.Release a r)) (with_record (controller_at w c).records (record_of.Release a r)) None
   releases a r is = record {
     moments = Releases c a r found.0 ∷ [];
+    is = (found.0, refl);
     allow = both (both apart (both (holds_by r (s.reserved c a) has) (both found.1 (other (a == found.0) refl)))) refl;
     gear = seen.gear;
     said = refl;
@@ -299,7 +306,7 @@ module _ (p : SitePlan) (plan : IsSitePlan p) (w : World) (s : Site) (c : ℕ) (
         (ap (λ t. not (t && (n == r))) (sym (ap (λ t. t && (b == a)) self) ∙ e))
 
   -- whichever it is
-  pub informed : (x : Record) → (controller_at w c).outstanding ≡ Some x → Informed p w s c (with_record (controller_at w c).records x) None
+  pub informed : (x : Record) → (controller_at w c).outstanding ≡ Some x → Informed p w s c (Some x) (with_record (controller_at w c).records x) None
   informed (record_of.Reserve a r) is = reserves a r is
   informed (record_of.Enrol a r) is = enrols a r is
   informed (record_of.Release a r) is = releases a r is

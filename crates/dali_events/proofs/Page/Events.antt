@@ -6,16 +6,20 @@ use Rattle.dali_gear.specs.Gear.{Gear as Real, fresh, with_power, without_power,
 use Rattle.dali_arbiter.specs.Arbiter.{Arbiter, owns, bus_freed, bus_muted, bus_lapsed}
 use Rattle.dali_script.specs.{Findings.asked_of, Findings.assigned, Records.Kept, declared.finding.Finding.Finding, declared.orders.Input.Input}
 use Rattle.dali_script.specs.declared.orders.Order.{Order, TheVariants.Put, TheVariants.Commit, TheVariants.Done, TheVariants.Halt}
-use Rattle.dali_script.{specs.declared.records.Record.Record, proofs.Members.Each, proofs.Members.each_changed}
+use Rattle.dali_script.{specs.declared.records.Record.Record, specs.Scripts.IsFirst, proofs.Firsts.first_for_all, proofs.Members.Each}
+use Rattle.dali_script.proofs.Members.{each_changed}
+use Rattle.dali_special.specs.Command.{command_of}
 use Rattle.dali_script.specs.declared.orders.Input.TheVariants as input
 use Rattle.dali_script.specs.declared.records.Record.TheVariants as record_of
-use Rattle.dali_statement.specs.{Gear.gear_seen, Page.Gear, Page.Command, Page.Heard, Page.Moment, Page.Power, Page.Expires, Page.Site, Page.allowed}
+use Rattle.dali_statement.specs.{Gear.command_seen, Gear.gear_seen, Page.Gear, Page.Command, Page.Heard, Page.Moment, Page.Destroyed, Page.Power}
+use Rattle.dali_statement.specs.{Page.Expires, Page.Site, Page.allowed, Page.may_send}
 use Rattle.dali_statement.specs.{Page.befalls, Page.are_apart, Page.after, Scripts.said_of}
-use Rattle.dali_statement.proofs.{Gear.power_on, Gear.expired, Steps.Told, Steps.told_so, Tests.some_is}
-use Rattle.dali_events.specs.Allowed.{MayOrder, MayCommit}
+use Rattle.dali_statement.proofs.{Gear.power_on, Gear.expired, Scripts.rules_kept, Steps.Told, Steps.told_so, Tests.some_is}
+use Rattle.dali_events.specs.Allowed.{MayOrder, MayCommit, IsCollided}
 use Rattle.dali_events.specs.Happens.{happens as site_after, with_outstanding, kept_after, outstanding_told, outstanding_after, controller_acted, gives_up}
 use Rattle.dali_events.specs.Happens.{put_after, owner_told, told_lapsed, told_destroyed, gone_down, come_up, gear_interrupted, controller_informed}
-use Rattle.dali_events.specs.{Laws.KeepsRecords, Page.plan_seen, Plan.Plan as SitePlan, Plan.IsPlan as IsSitePlan, Runs.LeavesUsed, World.World}
+use Rattle.dali_events.specs.{Laws.KeepsRecords, Page.plan_seen, Page.IsKeeping, Page.IsMoment, Page.kept_by, Plan.Plan as SitePlan, Plan.IsPlan as IsSitePlan}
+use Rattle.dali_events.specs.{Runs.LeavesUsed, World.World}
 use Rattle.dali_events.specs.{World.Controller, World.controller_at, World.controllers_changed, World.nobody, declared.used.Used.Used}
 use Rattle.dali_events.proofs.Page.Bridge.{Ordered, AskedSo, OnList, SeenBy, Seen, Next, Informed, each_of, uninformed, informed}
 use Rattle.dali_events.specs.declared.event.Event.TheVariants as event
@@ -72,9 +76,10 @@ module _ (p : SitePlan) (w v : World) (s : Site) (seen : Seen p w s) where
 
 -- the world is another, of which the page sees the same
 unseen : (p : SitePlan) (w v : World) (s : Site) → Seen p w s → length v.controllers ≡ length w.controllers → map gear_seen v.gear ≡ map gear_seen w.gear
-    → SameBus w v → Each nobody (SeenBy p.used s) v.controllers → Next p v s
+    → SameBus w v → Each nobody (SeenBy p.used s) v.controllers → Next p v s (λ ms. ms ≡ [])
 unseen p w v s seen count gear bus each = record {
   moments = [];
+  is = refl;
   allow = refl;
   seen = record {
     count = count ∙ seen.count;
@@ -89,11 +94,13 @@ unseen p w v s seen count gear bus each = record {
 -- gear are live no more
 stopped : (p : SitePlan) (w v : World) (s : Site) (m : Moment) → Seen p w s → are_apart (map gear_seen w.gear) ≡ true → allowed (plan_seen p) s m ≡ true
     → v.controllers ≡ w.controllers → SameBus w v → (change : ℕ → Gear → Gear) (reach : List (Option ℕ))
-    → after s (m ∷ []) ≡ record s { gear = befalls change reach s.gear } → befalls change reach (map gear_seen w.gear) ≡ map gear_seen v.gear → Next p v s
-stopped p w v s m seen numbers allow controllers bus change reach is gear = record {
+    → after s (m ∷ []) ≡ record s { gear = befalls change reach s.gear } → befalls change reach (map gear_seen w.gear) ≡ map gear_seen v.gear
+    → (Is : List Moment → Type 0) → Is (m ∷ []) → Next p v s Is
+stopped p w v s m seen numbers allow controllers bus change reach after_is gear Is is = record {
   moments = m ∷ [];
+  is = is;
   allow = both (both (ap are_apart seen.gear ∙ numbers) allow) refl;
-  seen = subst (λ t. Seen p v t) (sym is) (record {
+  seen = subst (λ t. Seen p v t) (sym after_is) (record {
     count = ap length controllers ∙ seen.count;
     gear = ap (befalls change reach) seen.gear ∙ gear;
     said = lists p w v s seen bus s.said refl;
@@ -113,7 +120,7 @@ gone : (us : List Used) (s : Site) (c : ℕ) (k : Controller) → SeenBy us s c 
 gone us s c k one = record { to = one.to; from = one.from; tables = one.tables; found = λ x e. absurd (none_found e); ordered = one.ordered }
 
 module _ (p : SitePlan) (plan : IsSitePlan p) (w : World) (s : Site) (seen : Seen p w s) where
-  pub lapsed : Next p (site_after w event.Lapsed) s
+  pub lapsed : Next p (site_after w event.Lapsed) s (λ ms. ms ≡ [])
   lapsed = unseen p w (site_after w event.Lapsed) s seen (counted w.bus.owner) refl (inr (refl, refl)) (told w.bus.owner) where
     told : (o : Option ℕ) → Each nobody (SeenBy p.used s) (owner_told w.controllers o)
     told None = seen.each
@@ -123,7 +130,7 @@ module _ (p : SitePlan) (plan : IsSitePlan p) (w : World) (s : Site) (seen : See
     counted None = refl
     counted (Some c) = length-set w.controllers c (told_lapsed (controller_at w c))
 
-  pub down : (c : ℕ) → Next p (site_after w (event.Down c)) s
+  pub down : (c : ℕ) → Next p (site_after w (event.Down c)) s (λ ms. ms ≡ [])
   down c = go (owns w.bus.owner c) where
     ks : Each nobody (SeenBy p.used s) (controllers_changed w.controllers c gone_down)
     ks = each_changed nobody (SeenBy p.used s) gone_down w.controllers c (λ h x. gone p.used s c (controller_at w c) x) seen.each
@@ -132,33 +139,36 @@ module _ (p : SitePlan) (plan : IsSitePlan p) (w : World) (s : Site) (seen : See
       bus = (if t then bus_freed (bus_muted w.bus c) else bus_muted w.bus c);
       trace = (if t then [] else w.trace);
       controllers = controllers_changed w.controllers c gone_down;
-    }) s
+    }) s (λ ms. ms ≡ [])
     go true = unseen p w (record w { bus = bus_freed (bus_muted w.bus c); trace = []; controllers = controllers_changed w.controllers c gone_down }) s seen
         (length-set w.controllers c (gone_down (controller_at w c))) refl (inr (refl, refl)) ks
     go false = unseen p w (record w { bus = bus_muted w.bus c; controllers = controllers_changed w.controllers c gone_down }) s seen
         (length-set w.controllers c (gone_down (controller_at w c))) refl (inl (refl, refl)) ks
 
-  pub power : are_apart (map gear_seen w.gear) ≡ true → (g : ℕ) (on : Bool) → Next p (site_after w (event.Power g on)) s
+  pub power : are_apart (map gear_seen w.gear) ≡ true → (g : ℕ) (on : Bool) → Next p (site_after w (event.Power g on)) s (IsMoment w (event.Power g on))
   power numbers g true =
-      unseen p w (site_after w (event.Power g true)) s seen refl (sym (no_gear with_power power_on w.gear g)) (inl (refl, refl)) seen.each
+      stopped p w (site_after w (event.Power g true)) s (Power []) seen numbers refl refl (inl (refl, refl))
+      (λ n x. record x { live = false; search = λ q. 0xFF }) [] refl (no_gear with_power power_on w.gear g) (IsMoment w (event.Power g true)) ([], refl)
   power numbers g false =
       stopped p w (site_after w (event.Power g false)) s (Power (at_place g)) seen numbers refl refl (inl (refl, refl))
       (λ n x. record x { live = false; search = λ q. 0xFF }) (at_place g) refl
       (one_gear without_power (λ n x. record x { live = false; search = λ q. 0xFF }) (λ x. refl) w.gear g)
+      (IsMoment w (event.Power g false)) (at_place g, refl)
 
-  pub expires : are_apart (map gear_seen w.gear) ≡ true → (g : ℕ) → Next p (site_after w (event.Expired g)) s
+  pub expires : are_apart (map gear_seen w.gear) ≡ true → (g : ℕ) → Next p (site_after w (event.Expired g)) s (IsMoment w (event.Expired g))
   expires numbers g =
       stopped p w (site_after w (event.Expired g)) s (Expires (at_place g)) seen numbers refl refl (inl (refl, refl)) (λ n x. record x { live = false })
-      (at_place g) refl (one_gear gear_expired (λ n x. record x { live = false }) expired w.gear g)
+      (at_place g) refl (one_gear gear_expired (λ n x. record x { live = false }) expired w.gear g) (IsMoment w (event.Expired g)) (at_place g, refl)
 
   -- ---------------------------------------------------------------- what is kept
 
   module _ (records : KeepsRecords p w) (numbers : are_apart (map gear_seen w.gear) ≡ true) (c : ℕ) (there : c < length w.controllers) where
     outstanding_kept : (o : Option Record) → (controller_at w c).outstanding ≡ o
-        → Informed p w s c (with_outstanding (controller_at w c).records o) None
+        → Informed p w s c o (with_outstanding (controller_at w c).records o) None
     outstanding_kept (Some x) is = informed p plan w s c seen records there numbers x is
     outstanding_kept None is = let nothing = uninformed p w s c seen there in record {
       moments = nothing.moments;
+      is = nothing.is;
       allow = nothing.allow;
       gear = nothing.gear;
       said = nothing.said;
@@ -168,10 +178,13 @@ module _ (p : SitePlan) (plan : IsSitePlan p) (w : World) (s : Site) (seen : See
     }
 
     -- a controller whose records are what the page has, in a world that differs by it alone
-    goes_on : (v : World) (k : Controller) (kept : Kept) (o : Option Record) (one : Informed p w s c kept o) → v.controllers ≡ set w.controllers c k
-        → map gear_seen v.gear ≡ map gear_seen w.gear → SameBus w v → SeenBy p.used (after s one.moments) c k → Next p v s
-    goes_on v k kept o one controllers gear bus new = record {
+    goes_on : (v : World) (k : Controller) (x : Option Record) (kept : Kept) (o : Option Record) (one : Informed p w s c x kept o)
+        → v.controllers ≡ set w.controllers c k
+        → map gear_seen v.gear ≡ map gear_seen w.gear → SameBus w v → SeenBy p.used (after s one.moments) c k
+        → Next p v s (IsKeeping c x)
+    goes_on v k x kept o one controllers gear bus new = record {
       moments = one.moments;
+      is = one.is;
       allow = one.allow;
       seen = record {
         count = ap length controllers ∙ length-set w.controllers c k ∙ seen.count;
@@ -184,16 +197,16 @@ module _ (p : SitePlan) (plan : IsSitePlan p) (w : World) (s : Site) (seen : See
       };
     }
 
-    pub up : (kept : Bool) → Next p (site_after w (event.Up c kept)) s
+    pub up : (kept : Bool) → Next p (site_after w (event.Up c kept)) s (IsMoment w (event.Up c kept))
     up true =
         let one = outstanding_kept (controller_at w c).outstanding refl in
-        goes_on (site_after w (event.Up c true)) (come_up true (controller_at w c))
+        goes_on (site_after w (event.Up c true)) (come_up true (controller_at w c)) (controller_at w c).outstanding
         (with_outstanding (controller_at w c).records (controller_at w c).outstanding)
         None one refl refl (inl (refl, refl))
         (record { to = one.own.to; from = one.own.from; tables = one.own.tables; found = λ x e. absurd (none_found e); ordered = one.own.ordered })
     up false =
         let one = uninformed p w s c seen there in
-        goes_on (site_after w (event.Up c false)) (come_up false (controller_at w c)) (controller_at w c).records (controller_at w c).outstanding
+        goes_on (site_after w (event.Up c false)) (come_up false (controller_at w c)) None (controller_at w c).records (controller_at w c).outstanding
         one refl refl (inl (refl, refl))
         (record { to = one.own.to; from = one.own.from; tables = one.own.tables; found = λ x e. absurd (none_found e); ordered = λ x e. absurd (cc) })
 
@@ -205,7 +218,8 @@ module _ (p : SitePlan) (plan : IsSitePlan p) (w : World) (s : Site) (seen : See
     put_owner b (Done e) = refl
     put_owner b (Halt e) = refl
 
-    input_kept : (i : Input) → Informed p w s c (kept_after (controller_at w c) i) (outstanding_told (controller_at w c).outstanding i)
+    input_kept : (i : Input)
+        → Informed p w s c (kept_by (controller_at w c) i) (kept_after (controller_at w c) i) (outstanding_told (controller_at w c).outstanding i)
     input_kept input.Committed = outstanding_kept (controller_at w c).outstanding refl
     input_kept input.Start = uninformed p w s c seen there
     input_kept input.Survey = uninformed p w s c seen there
@@ -233,11 +247,8 @@ module _ (p : SitePlan) (plan : IsSitePlan p) (w : World) (s : Site) (seen : See
     ordered told i (Halt e) was found old may leaves x is = old x is
 
     pub acted : (i : Input) (o : Order) → MayOrder w c (controller_informed (controller_at w c) i) o → LeavesUsed p.used (event.Acted c i o)
-        → Next p (site_after w (event.Acted c i o)) s
+        → Next p (site_after w (event.Acted c i o)) s (IsKeeping c (kept_by (controller_at w c) i))
     acted i o may leaves = go (gives_up w.bus c o) where
-      one : Informed p w s c (kept_after (controller_at w c) i) (outstanding_told (controller_at w c).outstanding i)
-      one = input_kept i
-
       new : SeenBy p.used (after s (input_kept i).moments) c (controller_acted (controller_at w c) i o)
       new = let own = (input_kept i).own in record {
         to = own.to;
@@ -255,23 +266,41 @@ module _ (p : SitePlan) (plan : IsSitePlan p) (w : World) (s : Site) (seen : See
         left = w.left;
         drawn = w.drawn;
         gifts = w.gifts;
-      }) s
-      go true = goes_on _ (controller_acted (controller_at w c) i o) _ _ (input_kept i) refl refl (inr (put_owner (bus_lapsed w.bus) o, refl)) new
-      go false = goes_on _ (controller_acted (controller_at w c) i o) _ _ (input_kept i) refl refl (inl (put_owner w.bus o, refl)) new
+      }) s (IsKeeping c (kept_by (controller_at w c) i))
+      go true = goes_on _ (controller_acted (controller_at w c) i o) _ _ _ (input_kept i) refl refl (inr (put_owner (bus_lapsed w.bus) o, refl)) new
+      go false = goes_on _ (controller_acted (controller_at w c) i o) _ _ _ (input_kept i) refl refl (inl (put_owner w.bus o, refl)) new
 
-  pub collided : (c d : ℕ) (f g : Forward) → Next p (site_after w (event.Collided c f d g)) s
-  collided c d f g = unseen p w (site_after w (event.Collided c f d g)) s seen (length-set first d (told_destroyed g (get_or first d nobody))
-      ∙ length-set w.controllers c (told_destroyed f (controller_at w c))) refl (inr (refl, refl))
-      (each_changed nobody (SeenBy p.used s) (told_destroyed g) first d (λ h x. x)
-      (each_changed nobody (SeenBy p.used s) (told_destroyed f) w.controllers c (λ h x. x) seen.each)) where
-        first : List Controller
-        first = controllers_changed w.controllers c (told_destroyed f)
+  module _ (numbers : are_apart (map gear_seen w.gear) ≡ true) (c d : ℕ) (f g : Forward) (here : IsCollided w c f d g) where
+    abbrev first : List Controller
+    first = controllers_changed w.controllers c (told_destroyed f)
 
-  pub quiet : Next p (site_after w event.Quiet) s
+    -- each may begin a transaction, whatever it said before
+    may : (k : ℕ) (x : Forward) → k < length w.controllers → IsFirst x → may_send s k (command_seen (command_of x)) ≡ true
+    may k x there is = rules_kept (controller_at w k).records.block (controller_at w k).records.reserved [] x s k (s.said k)
+        (first_for_all (controller_at w k).records.block (controller_at w k).records.reserved x is) refl (λ a r h. (seen.each k there).to a r h)
+
+    pub collided : Next p (site_after w (event.Collided c f d g)) s (IsMoment w (event.Collided c f d g))
+    collided = record {
+      moments = Destroyed ((c, command_seen (command_of f)) ∷ (d, command_seen (command_of g)) ∷ []) [] ∷ [];
+      is = refl;
+      allow = both (both (ap are_apart seen.gear ∙ numbers) (both (may c f here.first_up.known here.first)
+          (both (may d g here.second_up.known here.second) refl))) refl;
+      seen = record {
+        count = length-set first d (told_destroyed g (get_or first d nobody)) ∙ length-set w.controllers c (told_destroyed f (controller_at w c)) ∙ seen.count;
+        gear = seen.gear;
+        said = λ k e. absurd (let no : None ≡ Some k = e in cc);
+        free = λ e. refl;
+        asked = tt;
+        each = each_changed nobody (SeenBy p.used s) (told_destroyed g) first d (λ h x. x)
+            (each_changed nobody (SeenBy p.used s) (told_destroyed f) w.controllers c (λ h x. x) seen.each);
+      };
+    }
+
+  pub quiet : Next p (site_after w event.Quiet) s (λ ms. ms ≡ [])
   quiet = unseen p w (site_after w event.Quiet) s seen refl (same_gear gear_quieted (λ g. refl) w.gear) (inl (refl, refl)) seen.each
 
-  pub foreign : (f : Forward) → Next p (site_after w (event.Foreign f)) s
+  pub foreign : (f : Forward) → Next p (site_after w (event.Foreign f)) s (λ ms. ms ≡ [])
   foreign f = unseen p w (site_after w (event.Foreign f)) s seen refl (same_gear gear_interrupted (λ g. refl) w.gear) (inl (refl, refl)) seen.each
 
-  pub offered : (c : ℕ) (f : Forward) → Next p (site_after w (event.Offered c f)) s
+  pub offered : (c : ℕ) (f : Forward) → Next p (site_after w (event.Offered c f)) s (λ ms. ms ≡ [])
   offered c f = unseen p w (site_after w (event.Offered c f)) s seen refl refl (inl (refl, refl)) seen.each

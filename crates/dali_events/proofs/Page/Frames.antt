@@ -16,14 +16,15 @@ use Rattle.dali_script.specs.declared.finding.Finding.{Finding, TheVariants.Quer
 use Rattle.dali_script.{specs.declared.trace.Entry.Entry, proofs.Found.asked_more, proofs.Members.Each, proofs.Members.each_changed}
 use Rattle.dali_statement.specs.{Gear.command_seen, Gear.gear_seen, Gear.HasShort, Page.Part, Page.High}
 use Rattle.dali_statement.specs.Page.{Middle, Low, byte, Command, Terminate, Initialise, Randomise, Search, Program, QueryShort, QueryRandom, Other, Gear}
-use Rattle.dali_statement.specs.Page.{takes, Heard, Byte, Nothing, Destroyed, Moment, Sent, Site, allowed, befalls, gear_after, list_after, may_miss, may_send}
+use Rattle.dali_statement.specs.Page.{takes, Heard, Nothing, Destroyed, Moment, Sent, Site, allowed, befalls, gear_after, list_after, may_miss, may_send}
 use Rattle.dali_statement.specs.{Page.hears, Page.are_apart, Page.tells, Page.happens, Scripts.heard_seen, Scripts.entry_seen, Scripts.said_on}
 use Rattle.dali_statement.{specs.Scripts.said_of, proofs.Gear.found, proofs.Moved.At, proofs.One.IsShort, proofs.One.vacant_by, proofs.Rows.sent_to_all}
 use Rattle.dali_statement.proofs.{Rows.reached, Rows.heard, Rows.of_one, Rows.destroyed_one, Scripts.rules_kept, Scripts.query_tells, Steps.Safe, Steps.Told}
 use Rattle.dali_statement.proofs.{Steps.told_so, Steps.IsTrue, Steps.told_by, Steps.told_true, Steps.bytes_tell, Whole.goes, Tests.placed, Tests.either}
 use Rattle.dali_statement.proofs.Tests.{first_of_either, equal, equals, below_by, some_is}
 use Rattle.dali_events.specs.{Allowed.IsUp, Allowed.MaySend, Allowed.Hears, Happens.happens as site_after, Happens.trace_running, Happens.entry}
-use Rattle.dali_events.specs.{Happens.goes_on, Happens.taken_by, Happens.told_sent, Happens.told_destroyed, Page.plan_seen, Plan.Plan as SitePlan, World.World}
+use Rattle.dali_events.specs.{Happens.goes_on, Happens.taken_by, Happens.told_sent, Happens.told_destroyed, Page.plan_seen, Page.IsMoment}
+use Rattle.dali_events.specs.{Plan.Plan as SitePlan, World.World}
 use Rattle.dali_events.{specs.World.gear_at, specs.World.controller_at, specs.World.controllers_changed, specs.World.nobody, proofs.Invariant.Sending.lawful_of}
 use Rattle.dali_events.proofs.Page.{Bridge.More, Bridge.by_more, Bridge.AskedSo, Bridge.SeenBy, Bridge.Seen, Bridge.Next, Bridge.OnList, Bridge.each_of}
 use Rattle.dali_events.specs.declared.event.Event.TheVariants as event
@@ -146,9 +147,10 @@ module _ (p : SitePlan) (w : World) (s : Site) (seen : Seen p w s) (safe : Safe 
 
     -- ---------------------------------------------------------------- a frame that was destroyed
 
-    pub destroyed : (group : GearSet) → Next p (site_after w (event.Destroyed c f group)) s
+    pub destroyed : (group : GearSet) → Next p (site_after w (event.Destroyed c f group)) s (IsMoment w (event.Destroyed c f group))
     destroyed group = record {
       moments = Destroyed ((c, command_seen (command_of f)) ∷ []) (of_one to.0) ∷ [];
+      is = (of_one to.0, refl);
       allow = both (both apart (both may_page refl)) refl;
       seen = record {
         count = length-set w.controllers c (told_destroyed f (controller_at w c)) ∙ seen.count;
@@ -318,11 +320,12 @@ module _ (p : SitePlan) (w : World) (s : Site) (seen : Seen p w s) (safe : Safe 
       owned : Some c ≡ None → ⊥
       owned e = absurd (cc)
 
-      pub sent : Next p (site_after w (event.Sent c f h)) s
+      pub sent : Next p (site_after w (event.Sent c f h)) s (IsMoment w (event.Sent c f h))
       sent = go (goes_on w c trace_now) where
-        go : (more_come : Bool) → Next p (world_now more_come) s
+        go : (more_come : Bool) → Next p (world_now more_come) s (IsMoment w (event.Sent c f h))
         go true = record {
           moments = moment ∷ [];
+          is = (some.0, refl);
           allow = both allow refl;
           seen = record {
             count = length-set w.controllers c (told_sent (trace_running w c) f h (controller_at w c)) ∙ seen.count;
@@ -335,6 +338,7 @@ module _ (p : SitePlan) (w : World) (s : Site) (seen : Seen p w s) (safe : Safe 
         }
         go false = record {
           moments = moment ∷ [];
+          is = (some.0, refl);
           allow = both allow refl;
           seen = record {
             count = length-set w.controllers c (told_sent (trace_running w c) f h (controller_at w c)) ∙ seen.count;

@@ -12,7 +12,7 @@ use Rattle.dali_statement.proofs.Tests.{equals, some_is, holds_is, holds_by, any
 use Rattle.dali_events.specs.{Allowed.MayCommit, Allowed.MaySend, Page.owner_in, Page.plan_seen, Plan.Plan as SitePlan, Plan.IsPlan as IsSitePlan}
 use Rattle.dali_events.specs.{Plan.block_at, Plan.no_block, Runs.after as after_log, Runs.IsRun, Runs.AreDrawn, Runs.IsDrawer, Used.with_used, Used.used_shorts}
 use Rattle.dali_events.specs.{Used.earlier_gift, World.World, World.Controller, World.gear_at, World.start as site_start, declared.event.Event.Event}
-use Rattle.dali_events.proofs.Invariant.{Arrived.gifts_start, Drawn.are_drawn, Drawn.draws_start, Drawn.drawn_in_front, Gifts.IsOwned, Gifts.one_holder}
+use Rattle.dali_events.proofs.Invariant.{Arrived.gifts_start, Drawn.drawn_in_front, Gifts.IsOwned, Gifts.one_holder}
 
 -- SITES: their numbers, their plans and their records.
 
