@@ -155,8 +155,8 @@ pub fn sites_meet_the_premises()
 
 /// ORDERS KEEP THE RULES. A record that a controller may order to be kept is one that rules 3 and 4 allow, on a site of
 /// the page where it has the same reservations and its finding was told: a reservation, of no address that used gear
-/// have (`reserve`), an enrolment (`enrol`), a release (`release`). Who may send on a site has its turn by rule 5
-/// (`turn`).
+/// have (`reserve`), an enrolment (`enrol`), a release (`release`). Who may send on a site owns the bus, or no
+/// controller owns it (`turn`).
 pub fn orders_keep_the_rules()
     ensures turn { (w : World) (c : ℕ) (f : Forward) → MaySend w c f → (unwrap_or w.bus.owner c == c) ≡ true }
     ensures reserve { (p : Plan) (s : Site) (k : Controller) (c : ℕ) → IsPlan p → (a r : ℕ)

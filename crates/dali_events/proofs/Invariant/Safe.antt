@@ -22,7 +22,8 @@ use Rattle.dali_events.proofs.Invariant.{Drawn.are_drawn, Gifts.Gifts, Gifts.IsO
 use Rattle.dali_events.proofs.Invariant.{Gifts.gifts_step, Gifts.gift_stays, Gifts.one_holder, Growing.after_both, Growing.allowed_front, Growing.allowed_rest}
 use Rattle.dali_events.proofs.Invariant.{Growing.leaves_front, Growing.leaves_rest, Keeping.AllKeep, Keeping.AreShort, Keeping.keeping_step}
 use Rattle.dali_events.proofs.Invariant.{Keeping.keeps_start, Keeping.records_of, Sending.IsKnown, Sending.known_step, Sending.known_start}
-use Rattle.dali_events.proofs.Page.{Bridge.Next, Frames.stores_reserved, Frames.found_gear, Runs.Leads, Runs.each_event, Runs.begins, Runs.leads_on}
+use Rattle.dali_events.proofs.Page.{Bridge.Next, Bridge.found_told, Frames.stores_reserved, Frames.found_gear, Runs.Leads, Runs.each_event, Runs.begins}
+use Rattle.dali_events.proofs.Page.{Runs.leads_on}
 use Rattle.dali_events.proofs.Page.{Runs.leads_to, Runs.safe_so, Runs.gear_then, Runs.seen_both, Runs.to_page, Runs.from_page, Sites.apart_seen}
 use Rattle.dali_events.specs.declared.event.Event.TheVariants as event
 
@@ -61,17 +62,17 @@ module _ (p : Plan) (plan : IsPlan p) (w : World) (k : Holds p w) where
   pub finding_named : (c : ℕ) (x : Finding) → c < length w.controllers → (controller_at w c).finding ≡ Some x → Names w (assigned x)
   finding_named c x there is =
       seen_named (assigned x).0 (assigned x).1 (told_gear (plan_seen p) site_of safe_page (assigned x).0 (assigned x).1
-      ((k.page.seen.each c there).found x is))
+      (found_told (k.page.seen.each c there) x is))
 
   -- a gear that holds an address that is reserved has the number
   pub reserved_number : (c a r g : ℕ) → c < length w.controllers → Has (controller_at w c).records.reserved (a, r) → HoldsShort w g a
       → (gear_at w g).random ≡ r
   reserved_number c a r g there has held =
-      safe_page.sound.for_gear c a r g (gear_seen (gear_at w g)) ((k.page.seen.each c there).to a r has)
+      safe_page.sound.for_gear c a r g (gear_seen (gear_at w g)) ((k.page.seen.each c there).sees.to a r has)
       (to_page w site_of.gear k.page.seen.gear g held.0) held.1
 
   small : AreShort w
-  small c there y is = go (told_gear (plan_seen p) site_of safe_page (assigned y).0 (assigned y).1 ((k.page.seen.each c there).found y is)) where
+  small c there y is = go (told_gear (plan_seen p) site_of safe_page (assigned y).0 (assigned y).1 (found_told (k.page.seen.each c there) y is)) where
     go : (g : ℕ) × (x : PageGear) × At site_of.gear g x × (x.short ≡ Some (assigned y).0) × (x.random ≡ (assigned y).1) → (assigned y).0 < 64
     go who = safe_page.sound.short who.0 who.1 who.2 (assigned y).0 who.3
 
@@ -113,9 +114,9 @@ module _ (p : Plan) (plan : IsPlan p) (w : World) (e : Event) (here : Allowed w 
       → Has (controller_at w c).records.reserved (a, (gear_at (happens w e) g).random)
       → Has (controller_at (happens w e) c).records.reserved (a, (gear_at (happens w e) g).random)
   stays_step c g a there held has =
-      (next.seen.each c (subst (λ n. c < n) (sym (controllers_count w e)) there)).from a (gear_at (happens w e) g).random
+      (next.seen.each c (subst (λ n. c < n) (sym (controllers_count w e)) there)).sees.from a (gear_at (happens w e) g).random
       (reserved_after (plan_seen p) next.moments (site_of p plan w k) (safe_page p plan w k) next.allow numbers_then c a g (gear_seen (gear_at (happens w e) g))
-      ((k.page.seen.each c there).to a (gear_at (happens w e) g).random has)
+      ((k.page.seen.each c there).sees.to a (gear_at (happens w e) g).random has)
       (to_page (happens w e) (page_after (site_of p plan w k) next.moments).gear next.seen.gear g held.0) held.1)
 
 -- A FRAME: what it stores, for the number that a gear has drawn

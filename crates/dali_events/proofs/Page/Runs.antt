@@ -1,13 +1,13 @@
 use Rattle.std.proofs.Common.{◌≡◌, ℕ, ◌<◌, Bool, true, refl, sym, subst, List, [], ◌∷◌, ◌++◌, append_assoc, map, get_or, length, ap, ◌∙◌, Option, None, Some}
-use Rattle.std.proofs.Common.{◌&&◌}
-use Rattle.std.proofs.Common.{slice_get}
+use Rattle.std.proofs.Common.{◌&&◌, if◌then◌else◌, slice_get}
 use Rattle.std.proofs.lemmas.List.{length-map, get_or-map}
 use Rattle.dali_gear.specs.Gear.{fresh}
 use Rattle.dali_statement.specs.{Gear.gear_seen, Page.Moment, Page.Sent, Page.Destroyed, Page.Reserves, Page.Enrols, Page.Releases, Page.Power}
 use Rattle.dali_statement.specs.{Page.Expires, Page.Plan, Page.Gear, Page.Site, Page.start, Page.all_allowed, Page.are_apart, Page.after}
 use Rattle.dali_script.specs.declared.records.Record.{Record}
 use Rattle.dali_script.specs.declared.records.Record.TheVariants as record_of
-use Rattle.dali_statement.{specs.Page.happens, proofs.Steps.Safe, proofs.Tests.first_of_both}
+use Rattle.dali_arbiter.specs.Arbiter.{owns}
+use Rattle.dali_statement.{specs.Page.happens, proofs.Own.OnList, proofs.Steps.Safe, proofs.Tests.first_of_both, proofs.Tests.equals}
 use Rattle.dali_statement.proofs.{Tests.second_of_both, Tests.mapped_at, Tests.at_index, Tests.placed, Whole.starts, Whole.safe_after, Whole.after_both}
 use Rattle.dali_events.specs.{Allowed.Allowed, Happens.happens as site_after, Laws.KeepsRecords, Page.plan_seen, Page.LeadsTo}
 use Rattle.dali_events.specs.Page.{IsKeeping, kept_by, IsMoment, gear_all, AreSeenAs, frames_in, frames_by, frames_of}
@@ -42,19 +42,17 @@ pub begins : (p : SitePlan) (capacity : ℕ) → Seen p (site_start p capacity) 
 begins p capacity = record {
   count = length-map p.blocks controller_begun;
   gear = refl;
-  said = λ c e. absurd (unowned e);
-  free = λ e. refl;
-  asked = tt;
+  owner = λ c e. absurd (unowned e);
   each = λ i h. let there = subst (λ n. i < n) (length-map p.blocks controller_begun) h in
-      subst (λ k. SeenBy p.used (start (plan_seen p)) i k) (sym (get_or-map controller_begun p.blocks i no_block nobody there)) (new i);
+      subst (λ k. SeenBy p.used (start (plan_seen p)) None [] i k) (sym (get_or-map controller_begun p.blocks i no_block nobody there)) (new i);
 } where
   unowned : {c : ℕ} → None ≡ Some c → ⊥
   unowned {c} e = absurd (cc)
 
-  new : (i : ℕ) → SeenBy p.used (start (plan_seen p)) i (controller_begun (get_or p.blocks i no_block))
+  new : (i : ℕ) → SeenBy p.used (start (plan_seen p)) None [] i (controller_begun (get_or p.blocks i no_block))
   new i = record {
-    to = λ a r h. elim h [ ];
-    from = λ a r e. absurd (cc);
+    told = [];
+    sees = record { list = ([], refl); to = λ a r h. elim h [ ]; from = λ a r e. absurd (cc); asked = tt; told = λ x h. elim h [ ] };
     tables = λ a r h. elim h [ ];
     found = λ x e. absurd (cc);
     ordered = λ x e. absurd (cc);
@@ -86,8 +84,10 @@ pub leads_to : (p : SitePlan) (w : World) (ms : List Moment) → IsSitePlan p �
 leads_to p w ms plan leads = record {
   history = (plan_is_seen p plan, leads.allow);
   gear = leads.seen.gear;
-  said = leads.seen.said;
-  reserved = λ c a r there. ((leads.seen.each c there).to a r, (leads.seen.each c there).from a r);
+  said = λ c e. subst (OnList ((after (start (plan_seen p)) ms).said c))
+      (ap (λ o. if owns o c then w.trace else []) e ∙ ap (λ t. if t then w.trace else []) (equals c c refl))
+          (leads.seen.each c (leads.seen.owner c e)).sees.list;
+  reserved = λ c a r there. let sees = (leads.seen.each c there).sees in (sees.to a r, sees.from a r);
   enrolled = λ c a r there h. (leads.seen.each c there).tables a r h;
 }
 
