@@ -1,30 +1,23 @@
 use Rattle.std.proofs.Common.{◌≡◌, ℕ, ◌<◌, Bool, true, false, List, [], ◌∷◌, ◌++◌, refl, sym, ap, subst, ◌∙◌, append_assoc, append-nil, arith, length}
-use Rattle.std.proofs.Common.{length-set}
-use Rattle.std.proofs.Common.{get_or, None, Some, inl, inr, map, if◌then◌else◌}
-use Rattle.std.{proofs.lemmas.List.length-map, specs.List.AllByRecursion}
+use Rattle.std.{proofs.{Common.{length-set, get_or, None, Some, inl, inr, map, if◌then◌else◌}, lemmas.List.length-map}, specs.List.AllByRecursion}
 use Rattle.dali_frame.specs.declared.frames.{Answer.Answer, Forward.Forward}
 use Rattle.dali_special.specs.Command.{command_of}
-use Rattle.dali_gear.specs.{Gear.Gear, Gear.fresh, Gear.gear_expired, Gear.gear_quieted, Row.row_after, Row.drawn_of, Row.stored_of, Row.stored_short}
-use Rattle.dali_gear.specs.declared.{gear_set.GearSet.GearSet, row.Reach.TheVariants.Everyone, row.Reach.TheVariants.Only}
-use Rattle.dali_script.specs.{Findings.asked_of, Findings.search_of, Findings.found_by, Findings.assigned, Records.Assignment, Records.Has}
-use Rattle.dali_script.{specs.declared.finding.Finding.Finding, proofs.Members.each_changed, proofs.Members.each_map}
-use Rattle.dali_statement.specs.Gear.{gear_seen}
-use Rattle.dali_statement.specs.Page.{Gear as PageGear, Moment, Site, start as page_start, after as page_after, are_apart}
-use Rattle.dali_statement.proofs.{Moved.At, Steps.Safe, Steps.told_gear, Whole.keeps_after, Whole.reserved_after}
-use Rattle.dali_events.specs.{Allowed.Allowed, Allowed.IsUp, Allowed.MaySend, Happens.happens, Happens.trace_running, Happens.gear_powered}
-use Rattle.dali_events.specs.{Happens.gear_interrupted, Page.plan_seen, Page.IsMoment, Page.AreSeenAs, Page.LeadsTo, Page.IsReadAs, Plan.Plan}
-use Rattle.dali_events.specs.{Plan.IsPlan, Plan.numbers_of, Promise.HoldsShort}
-use Rattle.dali_events.specs.Promise.{KeepsPromiseNow, KeepsAddresses, KeepsPromiseFrom, KeepsPromise, Names, IsSafe, KeepsGifts, IsSafeFrom, IsSafeHistory}
-use Rattle.dali_events.specs.{Runs.after, Runs.after_all, Runs.AllAllowed, Runs.IsRun, Runs.LeavesUsed, World.World, World.gear_at, World.controller_at}
-use Rattle.dali_events.specs.{World.start, World.gear_changed, declared.event.Event.Event, declared.used.Used.Used}
-use Rattle.dali_events.proofs.Invariant.{Arrived.gifts_start, Controllers.controllers_count, Drawn.Draws, Drawn.HasDrawn, Drawn.draws_step, Drawn.draws_start}
-use Rattle.dali_events.proofs.Invariant.{Drawn.are_drawn, Gifts.Gifts, Gifts.IsOwned, Gifts.Change, Gifts.SameAddresses, Gifts.no_change, Gifts.frame_changes}
-use Rattle.dali_events.proofs.Invariant.{Gifts.gifts_step, Gifts.gift_stays, Gifts.one_holder, Growing.after_both, Growing.allowed_front, Growing.allowed_rest}
-use Rattle.dali_events.proofs.Invariant.{Growing.leaves_front, Growing.leaves_rest, Keeping.AllKeep, Keeping.AreShort, Keeping.keeping_step}
-use Rattle.dali_events.proofs.Invariant.{Keeping.keeps_start, Keeping.records_of, Sending.IsKnown, Sending.known_step, Sending.known_start}
-use Rattle.dali_events.proofs.Page.{Bridge.Next, Bridge.found_told, Frames.stores_reserved, Frames.found_gear, Runs.Leads, Runs.each_event, Runs.begins}
-use Rattle.dali_events.proofs.Page.{Runs.leads_on}
-use Rattle.dali_events.proofs.Page.{Runs.leads_to, Runs.safe_so, Runs.gear_then, Runs.seen_both, Runs.to_page, Runs.from_page, Sites.apart_seen}
+use Rattle.dali_gear.specs.{Gear.{Gear, fresh, gear_expired, gear_quieted}, Row.{row_after, drawn_of, stored_of, stored_short}}
+use Rattle.dali_gear.specs.declared.{gear_set.GearSet.GearSet, row.Reach.TheVariants.{Everyone, Only}}
+use Rattle.dali_script.specs.{Findings.{asked_of, search_of, found_by, assigned}, Records.{Assignment, Has}, declared.finding.Finding.Finding}
+use Rattle.dali_script.proofs.Members.{each_changed, each_map}
+use Rattle.dali_statement.{specs.{Gear.gear_seen, Page.{Gear as PageGear, Moment, Site, start as page_start, after as page_after, are_apart}}, proofs.Moved.At}
+use Rattle.dali_statement.proofs.{Steps.{Safe, told_gear}, Whole.{keeps_after, reserved_after}}
+use Rattle.dali_events.specs.{Allowed.{Allowed, IsUp, MaySend}, Happens.{happens, trace_running, gear_powered, gear_interrupted}, Page.{plan_seen, IsMoment}}
+use Rattle.dali_events.specs.{Page.{AreSeenAs, LeadsTo, IsReadAs}, Plan.{Plan, IsPlan, numbers_of}, Promise.{HoldsShort, KeepsPromiseNow, KeepsAddresses}}
+use Rattle.dali_events.specs.{Promise.{KeepsPromiseFrom, KeepsPromise, Names, IsSafe, KeepsGifts, IsSafeFrom, IsSafeHistory}, Runs.{after, after_all}}
+use Rattle.dali_events.specs.{Runs.{AllAllowed, IsRun, LeavesUsed}, World.{World, gear_at, controller_at, start, gear_changed}, declared.event.Event.Event}
+use Rattle.dali_events.{specs.declared.used.Used.Used, proofs.Invariant.{Arrived.gifts_start, Controllers.controllers_count, Drawn.{Draws, HasDrawn}}}
+use Rattle.dali_events.proofs.Invariant.{Drawn.{draws_step, draws_start, are_drawn}, Gifts.{Gifts, IsOwned, Change, SameAddresses, no_change, frame_changes}}
+use Rattle.dali_events.proofs.Invariant.{Gifts.{gifts_step, gift_stays, one_holder}, Growing.{after_both, allowed_front, allowed_rest, leaves_front}}
+use Rattle.dali_events.proofs.Invariant.{Growing.leaves_rest, Keeping.{AllKeep, AreShort, keeping_step, keeps_start, records_of}, Sending.{IsKnown, known_step}}
+use Rattle.dali_events.proofs.{Invariant.Sending.known_start, Page.{Bridge.{Next, found_told}, Frames.{stores_reserved, found_gear}, Runs.{Leads, each_event}}}
+use Rattle.dali_events.proofs.Page.{Runs.{begins, leads_on, leads_to, safe_so, gear_then, seen_both, to_page, from_page}, Sites.apart_seen}
 use Rattle.dali_events.specs.declared.event.Event.TheVariants as event
 
 -- THE INVARIANT of every run: its moments are a history of the page, from which the rest follows

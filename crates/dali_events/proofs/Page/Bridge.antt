@@ -1,30 +1,17 @@
-use Rattle.std.proofs.Common.{◌≡◌, ◌⊎◌, inl, inr, ℕ, ◌<◌, Bool, true, false, refl, sym, ap, subst, ◌∙◌, List, [], ◌∷◌, map, Option, Some, None, length}
-use Rattle.std.proofs.Common.{get_or, set, length-set, ◌==◌, ◌&&◌, ◌||◌, if◌then◌else◌}
-use Rattle.std.proofs.lemmas.List.{get_or-set_same, get_or-set_other}
-use Rattle.dali_script.specs.Findings.{assigned}
-use Rattle.dali_script.specs.Records.{Assignment, Kept, Has, with_record}
-use Rattle.dali_script.{specs.declared.finding.Finding.Finding, specs.declared.records.Record.Record, proofs.Lists.has_map}
-use Rattle.dali_script.specs.declared.trace.Entry.{Entry}
-use Rattle.dali_script.proofs.Members.{Each, has_either}
-use Rattle.dali_script.specs.declared.records.Record.TheVariants as record_of
+use Rattle.std.proofs.Common.{◌≡◌, ◌⊎◌, inl, inr, ℕ, ◌<◌, Bool, true, false, refl, sym, ap, subst, ◌∙◌, List, [], ◌∷◌, map, Option, Some, None, length, get_or}
+use Rattle.std.proofs.{Common.{set, length-set, ◌==◌, ◌&&◌, ◌||◌, if◌then◌else◌}, lemmas.List.{get_or-set_same, get_or-set_other}}
 use Rattle.dali_arbiter.specs.Arbiter.{owns}
-use Rattle.dali_statement.specs.{Gear.gear_seen, Own.Own, Page.Gear, Page.Command, Page.Destroyed, Page.Moment, Page.Reserves, Page.Enrols, Page.Releases}
-use Rattle.dali_statement.specs.Page.{Site, all_allowed, after, are_apart, happens}
-use Rattle.dali_statement.proofs.Own.{Sees, forgets, emptied, reserved_by_it, enrolled_by_it, released_by_it, reserved_by_other, enrolled_by_other}
-use Rattle.dali_statement.proofs.Own.{released_by_other, may_enrol, may_release}
-use Rattle.dali_statement.proofs.{Steps.told_so, Tests.first_of_either, Tests.equal, Tests.equals}
-use Rattle.dali_events.specs.{Laws.KeepsRecords, Page.plan_seen, Page.IsKeeping, Plan.Plan as SitePlan, Plan.IsPlan as IsSitePlan, Used.used_shorts}
-use Rattle.dali_events.specs.{World.World, World.Controller, World.controller_at, World.nobody, declared.used.Used.Used}
-use Rattle.dali_events.proofs.Page.Sites.{reserve_allowed}
+use Rattle.dali_script.specs.{Findings.assigned, Records.{Assignment, Kept, Has, with_record}, declared.{finding.Finding.Finding, records.Record.Record}}
+use Rattle.dali_script.{specs.declared.trace.Entry.Entry, proofs.{Lists.has_map, Members.{Each, has_either}}}
+use Rattle.dali_statement.proofs.{Tests.{both, second_of_either, first_of_either, equal, equals}, Own.{Sees, forgets, emptied, reserved_by_it, enrolled_by_it}}
+use Rattle.dali_statement.proofs.{Own.{released_by_it, reserved_by_other, enrolled_by_other, released_by_other, may_enrol, may_release}, Steps.told_so}
+use Rattle.dali_statement.specs.{Gear.gear_seen, Own.Own, Page.{Gear, Command, Destroyed, Moment, Reserves, Enrols, Releases, Site, all_allowed, after}}
+use Rattle.dali_statement.specs.Page.{are_apart, happens}
+use Rattle.dali_events.specs.{Laws.KeepsRecords, Page.{plan_seen, IsKeeping}, Plan.{Plan as SitePlan, IsPlan as IsSitePlan}, Used.used_shorts, World.World}
+use Rattle.dali_events.{specs.{World.{Controller, controller_at, nobody}, declared.used.Used.Used}, proofs.Page.Sites.reserve_allowed}
+use Rattle.dali_script.specs.declared.records.Record.TheVariants as record_of
 
 -- A SITE AS THE PAGE SEES IT, by the view of each controller of its own, and a record that is kept.
-
-both : {a b : Bool} → a ≡ true → b ≡ true → (a && b) ≡ true
-both {a} {b} first second = rw (first, second) refl
-
-second_of_either : {b : Bool} (a : Bool) → b ≡ true → (a || b) ≡ true
-second_of_either {b} true e = refl
-second_of_either {b} false e = e
 
 -- ---------------------------------------------------------------- one controller
 

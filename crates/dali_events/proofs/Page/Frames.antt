@@ -1,38 +1,28 @@
 use Rattle.std.proofs.Common.{◌≡◌, ◌⊎◌, length, inl, inr, ℕ, zero, suc, ◌<◌, Bool, true, false, refl, sym, ap, subst, ◌∙◌, List, [], ◌∷◌, ◌++◌, map, Option}
-use Rattle.std.proofs.Common.{Some, None, length-set, ◌==◌, ◌&&◌, ◌||◌, if◌then◌else◌, IfSome, slice_get}
-use Rattle.std.specs.List.{AllByRecursion}
-use Rattle.dali_frame.specs.{declared.frames.Answer.Answer, declared.frames.Forward.Forward}
-use Rattle.dali_frame.specs.declared.frames.Answer.TheVariants as answer
-use Rattle.dali_special.specs.{Command.command_of, Command.is_send_twice, declared.command.Command.Command as Read}
-use Rattle.dali_special.proofs.Table.{read_spelled}
-use Rattle.dali_special.specs.declared.command.Command.TheVariants as read
-use Rattle.dali_gear.specs.{Gear.Gear as Real, Gear.fresh, Gear.is_active, Gear.is_found, Row.row_after, Row.stored_short, Row.answers_of}
-use Rattle.dali_gear.specs.declared.{gear_set.GearSet.GearSet, row.Reach.TheVariants.Everyone, row.Reach.TheVariants.Only}
+use Rattle.std.{proofs.Common.{Some, None, length-set, ◌==◌, ◌&&◌, ◌||◌, if◌then◌else◌, IfSome, slice_get}, specs.List.AllByRecursion}
+use Rattle.dali_frame.specs.declared.frames.{Answer.Answer, Forward.Forward}
+use Rattle.dali_special.{specs.{Command.{command_of, is_send_twice}, declared.command.Command.Command as Read}, proofs.Table.read_spelled}
+use Rattle.dali_gear.specs.{Gear.{Gear as Real, fresh, is_active, is_found}, Row.{row_after, stored_short, answers_of}, declared.gear_set.GearSet.GearSet}
+use Rattle.dali_gear.specs.declared.row.Reach.TheVariants.{Everyone, Only}
 use Rattle.dali_arbiter.specs.Arbiter.{bus_sent}
-use Rattle.dali_script.specs.{Findings.asked_of, Findings.search_of, Findings.found_by, Findings.assigned, Findings.later, Records.Assignment, Records.Has}
-use Rattle.dali_script.specs.{declared.finding.Finding.Finding, declared.records.Record.Record, declared.trace.Entry.Entry}
+use Rattle.dali_script.specs.{Findings.{asked_of, search_of, found_by, assigned, later}, Records.{Assignment, Has}, declared.finding.Finding.Finding}
+use Rattle.dali_script.{specs.declared.{records.Record.Record, trace.Entry.Entry}, proofs.Members.{Each, each_changed}}
+use Rattle.dali_statement.proofs.{Own.{another, Sees, may_put, forgets, emptied, puts}, Tests.{both, placed, either, first_of_either, equal, equals, some_is}}
+use Rattle.dali_statement.proofs.{Gear.found, Moved.At, One.{IsShort, vacant_by}, Rows.{sent_to_all, reached, heard, of_one, destroyed_one}, Steps.Safe}
+use Rattle.dali_statement.{proofs.Steps.{told_so, IsTrue, told_by, told_true}, specs.{Gear.{command_seen, gear_seen, HasShort}, Own.{Own, told_more}}}
+use Rattle.dali_statement.specs.Page.{byte, Command, Terminate, Initialise, Randomise, Search, Program, QueryShort, QueryRandom, Other, Gear, takes, Nothing}
+use Rattle.dali_statement.specs.Page.{Destroyed, Moment, Sent, Site, allowed, befalls, gear_after, may_miss, may_send, hears, are_apart, tells, happens}
+use Rattle.dali_statement.specs.Scripts.{heard_seen}
+use Rattle.dali_events.specs.{Allowed.{IsUp, MaySend, Hears}, Happens.{happens as site_after, trace_running, entry, goes_on, taken_by, told_sent}}
+use Rattle.dali_events.specs.{Happens.told_destroyed, Page.{plan_seen, IsMoment}, Plan.Plan as SitePlan, World.{World, gear_at, controller_at}}
+use Rattle.dali_events.{specs.{World.{controllers_changed, nobody}, declared.used.Used.Used}, proofs.{Invariant.Sending.lawful_of, Page.Bridge.Ordered}}
+use Rattle.dali_events.proofs.Page.Bridge.{own_of, By, SeenBy, ends, loses, Seen, Next, each_of}
+use Rattle.dali_frame.specs.declared.frames.Answer.TheVariants as answer
+use Rattle.dali_special.specs.declared.command.Command.TheVariants as read
 use Rattle.dali_script.specs.declared.records.Record.TheVariants as record_of
-use Rattle.dali_script.proofs.{Members.Each, Members.each_changed}
-use Rattle.dali_statement.specs.{Gear.command_seen, Gear.gear_seen, Gear.HasShort, Own.Own, Own.told_more}
-use Rattle.dali_statement.specs.Page.{byte, Command, Terminate, Initialise, Randomise, Search, Program, QueryShort, QueryRandom, Other, Gear}
-use Rattle.dali_statement.specs.Page.{takes, Nothing, Destroyed, Moment, Sent, Site, allowed, befalls, gear_after, may_miss, may_send}
-use Rattle.dali_statement.specs.{Page.hears, Page.are_apart, Page.tells, Page.happens, Scripts.heard_seen}
-use Rattle.dali_statement.{proofs.Gear.found, proofs.Moved.At, proofs.One.IsShort, proofs.One.vacant_by, proofs.Own.Sees, proofs.Own.may_put}
-use Rattle.dali_statement.proofs.{Own.forgets, Own.emptied, Own.puts, Rows.sent_to_all, Rows.reached, Rows.heard, Rows.of_one, Rows.destroyed_one, Steps.Safe}
-use Rattle.dali_statement.proofs.{Steps.told_so, Steps.IsTrue, Steps.told_by, Steps.told_true, Tests.placed, Tests.either}
-use Rattle.dali_statement.proofs.Tests.{first_of_either, equal, equals, some_is}
-use Rattle.dali_events.specs.{Allowed.IsUp, Allowed.MaySend, Allowed.Hears, Happens.happens as site_after, Happens.trace_running, Happens.entry}
-use Rattle.dali_events.specs.{Happens.goes_on, Happens.taken_by, Happens.told_sent, Happens.told_destroyed, Page.plan_seen, Page.IsMoment}
-use Rattle.dali_events.specs.{Plan.Plan as SitePlan, World.World, World.gear_at, World.controller_at, World.controllers_changed, World.nobody}
-use Rattle.dali_events.specs.declared.used.Used.{Used}
-use Rattle.dali_events.proofs.Invariant.Sending.{lawful_of}
-use Rattle.dali_events.proofs.Page.Bridge.{Ordered, own_of, By, SeenBy, ends, loses, Seen, Next, each_of}
 use Rattle.dali_events.specs.declared.event.Event.TheVariants as event
 
 -- FRAMES OF A SITE, as moments of the page.
-
-both : {a b : Bool} → a ≡ true → b ≡ true → (a && b) ≡ true
-both {a} {b} first second = rw (first, second) refl
 
 -- ---------------------------------------------------------------- what the page asks
 
@@ -62,12 +52,6 @@ shorts_of (g ∷ gs) each = (go g.short refl, shorts_of gs (λ n x at. each (suc
   go : (o : Option ℕ) → g.short ≡ o → IfSome o (λ a. a < 64)
   go None is = tt
   go (Some a) is = each zero (gear_seen g) refl a is
-
-another : (c d : ℕ) → (d ≡ c → ⊥) → (c == d) ≡ false
-another c d other = go (c == d) refl where
-  go : (b : Bool) → (c == d) ≡ b → b ≡ false
-  go true e = absurd (other (sym (equal c d e)))
-  go false e = refl
 
 none_stored : {a : ℕ} → None ≡ Some a → ⊥
 none_stored {a} e = absurd (cc)
@@ -238,7 +222,7 @@ module _ (p : SitePlan) (w : World) (s : Site) (seen : Seen p w s) (safe : Safe 
           (controllers_changed w.controllers c (told_sent (trace_running w c) f h))
       each_now true = each_of (SeenBy p.used next (Some c) trace_now) w.controllers c (told_sent (trace_running w c) f h (controller_at w c))
           (λ d here away. subst (λ t. By p.used next d (if t then trace_now else []) (controller_at w d).records (controller_at w d).outstanding
-          (controller_at w d).finding) (sym (another c d away)) (other d here away))
+          (controller_at w d).finding) (sym (another d c away)) (other d here away))
           (λ there. subst (λ t. By p.used next c (if t then trace_now else []) (controller_at w c).records (controller_at w c).outstanding
           (later (controller_at w c).finding found_here)) (sym own) sender)
       each_now false = each_of (SeenBy p.used next None []) w.controllers c (told_sent (trace_running w c) f h (controller_at w c)) other

@@ -1,22 +1,17 @@
 use Rattle.std.proofs.Common.{◌≡◌, ℕ, ◌<◌, Bool, true, refl, sym, subst, List, [], ◌∷◌, ◌++◌, append_assoc, map, get_or, length, ap, ◌∙◌, Option, None, Some}
-use Rattle.std.proofs.Common.{◌&&◌, if◌then◌else◌, slice_get}
-use Rattle.std.proofs.lemmas.List.{length-map, get_or-map}
+use Rattle.std.proofs.{Common.{◌&&◌, if◌then◌else◌, slice_get}, lemmas.List.{length-map, get_or-map}}
 use Rattle.dali_gear.specs.Gear.{fresh}
-use Rattle.dali_statement.specs.{Gear.gear_seen, Page.Moment, Page.Sent, Page.Destroyed, Page.Reserves, Page.Enrols, Page.Releases, Page.Power}
-use Rattle.dali_statement.specs.{Page.Expires, Page.Plan, Page.Gear, Page.Site, Page.start, Page.all_allowed, Page.are_apart, Page.after}
-use Rattle.dali_script.specs.declared.records.Record.{Record}
-use Rattle.dali_script.specs.declared.records.Record.TheVariants as record_of
 use Rattle.dali_arbiter.specs.Arbiter.{owns}
-use Rattle.dali_statement.{specs.Page.happens, proofs.Own.OnList, proofs.Steps.Safe, proofs.Tests.first_of_both, proofs.Tests.equals}
-use Rattle.dali_statement.proofs.{Tests.second_of_both, Tests.mapped_at, Tests.at_index, Tests.placed, Whole.starts, Whole.safe_after, Whole.after_both}
-use Rattle.dali_events.specs.{Allowed.Allowed, Happens.happens as site_after, Laws.KeepsRecords, Page.plan_seen, Page.LeadsTo}
-use Rattle.dali_events.specs.Page.{IsKeeping, kept_by, IsMoment, gear_all, AreSeenAs, frames_in, frames_by, frames_of}
-use Rattle.dali_events.specs.{Plan.Plan as SitePlan, Plan.IsPlan as IsSitePlan, Plan.no_block, Promise.HoldsShort, Runs.LeavesUsed, Runs.after_all, World.World}
-use Rattle.dali_events.specs.{World.gear_at}
-use Rattle.dali_events.specs.World.{controller_at, controller_begun}
-use Rattle.dali_events.specs.{World.nobody, World.start as site_start, declared.event.Event.Event}
-use Rattle.dali_events.proofs.Page.{Bridge.SeenBy, Bridge.Seen, Bridge.Next, Events.lapsed, Events.down, Events.power, Events.expires, Events.up, Events.acted}
-use Rattle.dali_events.proofs.Page.{Events.collided, Events.quiet, Events.foreign, Events.offered, Frames.sent, Frames.destroyed, Sites.plan_is_seen}
+use Rattle.dali_script.specs.declared.records.Record.{Record}
+use Rattle.dali_statement.proofs.{Tests.{both, first_of_both, equals, second_of_both, mapped_at, at_index, placed}, Own.OnList, Steps.Safe, Whole.starts}
+use Rattle.dali_statement.{proofs.Whole.{safe_after, after_both}, specs.{Gear.gear_seen, Page.{Moment, Sent, Destroyed, Reserves, Enrols, Releases, Power}}}
+use Rattle.dali_statement.specs.Page.{Expires, Plan, Gear, Site, start, all_allowed, are_apart, after, happens}
+use Rattle.dali_events.specs.{Allowed.Allowed, Happens.happens as site_after, Laws.KeepsRecords, Page.{plan_seen, LeadsTo, IsKeeping, kept_by, IsMoment}}
+use Rattle.dali_events.specs.{Page.{gear_all, AreSeenAs, frames_in, frames_by, frames_of}, Plan.{Plan as SitePlan, IsPlan as IsSitePlan, no_block}}
+use Rattle.dali_events.specs.{Promise.HoldsShort, Runs.{LeavesUsed, after_all}, World.{World, gear_at, controller_at, controller_begun, nobody}}
+use Rattle.dali_events.{specs.{World.start as site_start, declared.event.Event.Event}, proofs.Page.{Bridge.{SeenBy, Seen, Next}, Events.{lapsed, down, power}}}
+use Rattle.dali_events.proofs.Page.{Events.{expires, up, acted, collided, quiet, foreign, offered}, Frames.{sent, destroyed}, Sites.plan_is_seen}
+use Rattle.dali_script.specs.declared.records.Record.TheVariants as record_of
 use Rattle.dali_events.specs.declared.event.Event.TheVariants as event
 
 -- EACH EVENT IS MOMENTS OF THE PAGE, and a run is a history.
@@ -60,9 +55,6 @@ begins p capacity = record {
 
 -- ---------------------------------------------------------------- the moments of a run
 
-both : {a b : Bool} → a ≡ true → b ≡ true → (a && b) ≡ true
-both {a} {b} first second = rw (first, second) refl
-
 allowed_both : (p : Plan) (ms ns : List Moment) (s : Site) → all_allowed p s ms ≡ true → all_allowed p (after s ms) ns ≡ true
     → all_allowed p s (ms ++ ns) ≡ true
 allowed_both p [] ns s first second = second
@@ -86,7 +78,7 @@ leads_to p w ms plan leads = record {
   gear = leads.seen.gear;
   said = λ c e. subst (OnList ((after (start (plan_seen p)) ms).said c))
       (ap (λ o. if owns o c then w.trace else []) e ∙ ap (λ t. if t then w.trace else []) (equals c c refl))
-          (leads.seen.each c (leads.seen.owner c e)).sees.list;
+      (leads.seen.each c (leads.seen.owner c e)).sees.list;
   reserved = λ c a r there. let sees = (leads.seen.each c there).sees in (sees.to a r, sees.from a r);
   enrolled = λ c a r there h. (leads.seen.each c there).tables a r h;
 }
