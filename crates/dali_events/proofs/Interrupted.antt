@@ -1,11 +1,9 @@
 use Rattle.std.proofs.Common.{◌≡◌, ℕ, ◌+◌, Bool, true, false, List, [], ◌∷◌, map, None, refl, ap, ◌∙◌, zero-add, append-nil, ◌&&◌, if◌then◌else◌}
 use Rattle.dali_frame.specs.declared.frames.Forward.{Forward}
-use Rattle.dali_special.specs.{Command.command_of, declared.command.Command.Command}
-use Rattle.dali_special.specs.declared.command.Command.TheVariants.{Arc, Other, Randomise, Program}
-use Rattle.dali_gear.specs.Gear.{Gear, draws_a_number, gear_taken}
-use Rattle.dali_gear.specs.Row.{takes, next_draw, one_after, left_after, row_after, row_left, draws_needed, drawn_one, drawn_of, stored_short, stored_one}
-use Rattle.dali_gear.specs.{Row.stored_of, declared.row.Reach.TheVariants.Everyone}
-use Rattle.dali_events.specs.{Foreign.is_foreign, Foreign.is_foreign_as, Happens.taken_by, Happens.gear_interrupted, Happens.after_foreign, World.World}
+use Rattle.dali_special.specs.{Command.command_of, declared.command.Command.{Command, TheVariants.{Arc, Other, Randomise, Program}}}
+use Rattle.dali_gear.specs.{Gear.{Gear, draws_a_number, gear_taken}, Row.{takes, next_draw, one_after, left_after, row_after, row_left, draws_needed}}
+use Rattle.dali_gear.specs.{Row.{drawn_one, drawn_of, stored_short, stored_one, stored_of}, declared.row.Reach.TheVariants.Everyone}
+use Rattle.dali_events.specs.{Foreign.{is_foreign, is_foreign_as}, Happens.{taken_by, gear_interrupted, after_foreign}, World.World}
 
 -- A FRAME OF ANOTHER DEVICE: what gear with power do when they take it is what the event says.
 taken_one : (c : Command) (f : Forward) (r : ℕ) (g : Gear) → is_foreign_as c f ≡ true → gear_taken c r g ≡ record g { half = None }

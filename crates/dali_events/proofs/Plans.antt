@@ -1,13 +1,10 @@
 use Rattle.std.proofs.Common.{◌≡◌, ℕ, zero, suc, ◌<◌, ◌≤◌, Bool, true, false, List, [], ◌∷◌, All, length, get_or, map, Some, None, refl, sym, ap, subst, inl}
-use Rattle.std.proofs.Common.{inr, arith, ◌==◌, ◌||◌, nat_lt, nat_le, if◌then◌else◌}
-use Rattle.std.{proofs.lemmas.Bool.Decides.nat_tests, proofs.lemmas.List.length-map, specs.List.list_any}
+use Rattle.std.{proofs.{Common.{inr, arith, ◌==◌, ◌||◌, nat_lt, nat_le, if◌then◌else◌}, lemmas.{Bool.Decides.nat_tests, List.length-map}}, specs.List.list_any}
 use Rattle.dali_frame.specs.Random.{MASK24}
-use Rattle.dali_script.specs.Records.{Has, IsOnce, InBlock}
-use Rattle.dali_script.proofs.{Lists.few, Lists.has_at, Lists.has_map, Members.mapped_from, Members.once_append}
+use Rattle.dali_script.{specs.Records.{Has, IsOnce, InBlock}, proofs.{Lists.{few, has_at, has_map}, Members.{mapped_from, once_append}}}
 use Rattle.dali_events.specs.Plan.{any_pair, is_misordered, overlap, refusal_of, block_of, plan_of, no_block, Plan, AreUsed, IsPlan, used_refusal_of, plan_with}
 use Rattle.dali_events.specs.declared.plan.PlanError.TheVariants.{GearCount, ControllerCount, BlockOrder, BlockOverlap, DrawTooLarge, DrawTwice, UnknownGear}
-use Rattle.dali_events.specs.declared.plan.PlanError.TheVariants.{GearTwice, ShortTwice, RandomTooLarge, RandomTwice}
-use Rattle.dali_events.specs.declared.used.Used.{Used}
+use Rattle.dali_events.specs.declared.{plan.PlanError.TheVariants.{GearTwice, ShortTwice, RandomTooLarge, RandomTwice}, used.Used.Used}
 
 -- a plan that is not refused fails no test
 pub record IsAccepted (gear : ℕ) (blocks : List (ℕ × ℕ)) (draws : List ℕ) : Type 0 where

@@ -1,31 +1,25 @@
 use Rattle.std.proofs.Common.{◌≡◌, ℕ, zero, suc, ◌+◌, ◌<◌, ◌≤◌, Bool, true, false, List, [], ◌∷◌, ◌++◌, length, map, get_or, set, Option, Some, None, refl, sym}
 use Rattle.std.proofs.Common.{ap, subst, ◌∙◌, arith, zero-add, append-nil, get_or-set_same, set-set, ◌&&◌, ◌==◌, if◌then◌else◌, is_some}
 use Rattle.std.specs.{List.AllByRecursion, Prelude.unwrap_or}
-use Rattle.dali_frame.specs.declared.{frames.Answer.TheVariants.Damaged, frames.Forward.Forward, numbers.SearchAddress.SearchAddress}
-use Rattle.dali_special.specs.{Command.command_of, Command.is_question, Command.is_send_twice, declared.command.Command.Command}
-use Rattle.dali_special.specs.declared.command.Command.TheVariants.{Initialise, Randomise, Compare, Verify, QueryShort, RandomByte, Program}
-use Rattle.dali_special.specs.declared.command.Part.TheVariants.{High, Middle, Low}
-use Rattle.dali_gear.specs.Gear.{Gear, fresh, is_active, is_second, draws_a_number, gear_taken, half_after, answer, gear_expired, gear_quieted}
-use Rattle.dali_gear.specs.Row.{takes, next_draw, one_after, left_after, row_after, row_left, draws_needed, answers_of, option_cons, drawn_one, drawn_of}
-use Rattle.dali_gear.specs.{Row.stored_short, Row.stored_one, Row.stored_of, declared.gear_set.GearSet.GearSet}
-use Rattle.dali_gear.specs.declared.row.Reach.{Reach, TheVariants.Everyone, TheVariants.Only}
+use Rattle.dali_frame.specs.declared.{frames.{Answer.TheVariants.Damaged, Forward.Forward}, numbers.SearchAddress.SearchAddress}
+use Rattle.dali_special.specs.{Command.{command_of, is_question, is_send_twice}, declared.command.Command.{Command, TheVariants.{Initialise, Randomise}}}
+use Rattle.dali_special.specs.declared.command.{Command.TheVariants.{Compare, Verify, QueryShort, RandomByte, Program}, Part.TheVariants.{High, Middle, Low}}
+use Rattle.dali_gear.specs.{Gear.{Gear, fresh, is_active, is_second, draws_a_number, gear_taken, half_after, answer, gear_expired, gear_quieted}, Row.takes}
+use Rattle.dali_gear.specs.Row.{next_draw, one_after, left_after, row_after, row_left, draws_needed, answers_of, option_cons, drawn_one, drawn_of, stored_short}
+use Rattle.dali_gear.specs.{Row.{stored_one, stored_of}, declared.{gear_set.GearSet.GearSet, row.Reach.{Reach, TheVariants.{Everyone, Only}}}}
 use Rattle.dali_arbiter.specs.Arbiter.{Arbiter, owns, bus_destroyed}
-use Rattle.dali_script.specs.Findings.{Asked, search_of, asked_of, found_by}
-use Rattle.dali_script.specs.{Records.Assignment, Stages.Follows, Stages.next_stage, Stages.stage_of, declared.block.Block.Block, declared.orders.Order.Order}
-use Rattle.dali_script.specs.declared.orders.Order.TheVariants.{Put, Commit, Done, Halt}
-use Rattle.dali_script.specs.declared.stage.Stage.{Stage, TheVariants.Terminated}
-use Rattle.dali_script.specs.declared.stage.Stage.TheVariants.{InitialisedOnce, Initialised, RandomisedOnce, DrawFree, Hunted, HighAsked, MiddleAsked, Over}
-use Rattle.dali_script.{specs.declared.trace.Entry.Entry, proofs.Transactions.stage_none, proofs.Transactions.stage_more, proofs.Transactions.self}
+use Rattle.dali_script.specs.{Findings.{Asked, search_of, asked_of, found_by}, Records.Assignment, Stages.{Follows, next_stage, stage_of}}
+use Rattle.dali_script.specs.declared.{block.Block.Block, orders.Order.{Order, TheVariants.{Put, Commit, Done, Halt}}, stage.Stage.Stage}
+use Rattle.dali_script.specs.declared.stage.Stage.TheVariants.{Terminated, InitialisedOnce, Initialised, RandomisedOnce, DrawFree, Hunted, HighAsked}
+use Rattle.dali_script.{specs.declared.{stage.Stage.TheVariants.{MiddleAsked, Over}, trace.Entry.Entry}, proofs.Transactions.{stage_none, stage_more, self}}
+use Rattle.dali_events.specs.{Allowed.{Allowed, Hears, IsUp, IsDestroyed, MaySend, MayOrder}, Happens.{happens, trace_running, entry, goes_on, taken_by}}
+use Rattle.dali_events.specs.Happens.{sent_by, told_sent, told_destroyed, gives_up, keeps_bus, bus_acted, controller_acted, controller_informed, gear_powered}
+use Rattle.dali_events.specs.{Happens.{gear_interrupted, after_quiet}, Plan.Plan, Promise.{HoldsShort, KeepsPromiseNow, KeepsAddresses}, Runs.after}
+use Rattle.dali_events.specs.{Runs.{after_all, AllAllowed, IsRun, LeavesUsed}, Searching.EachPowered, Telling.{Happening, rightly, as_damaged, as_told}}
+use Rattle.dali_events.specs.{Telling.{happened, MayHappen, happened_all, AllMayHappen, after_happened, all_told, IsHistory}, World.{World, Controller, nobody}}
+use Rattle.dali_events.{specs.{World.{controller_at, controllers_changed, start}, declared.event.Event.Event}, proofs.Invariant.Growing.leaves_front}
+use Rattle.dali_events.proofs.Invariant.{Safe.keeps_promise, Sending.{follows_of, takes_powered}}
 use Rattle.dali_script.specs.declared.orders.Input.TheVariants as input
-use Rattle.dali_events.specs.Allowed.{Allowed, Hears, IsUp, IsDestroyed, MaySend, MayOrder}
-use Rattle.dali_events.specs.Happens.{happens, trace_running, entry, goes_on, taken_by, sent_by, told_sent, told_destroyed, gives_up, keeps_bus, bus_acted}
-use Rattle.dali_events.specs.Happens.{controller_acted, controller_informed, gear_powered, gear_interrupted, after_quiet}
-use Rattle.dali_events.specs.{Plan.Plan, Promise.HoldsShort, Promise.KeepsPromiseNow, Promise.KeepsAddresses, Runs.after, Runs.after_all, Runs.AllAllowed}
-use Rattle.dali_events.specs.{Runs.IsRun, Runs.LeavesUsed, Searching.EachPowered, Telling.Happening}
-use Rattle.dali_events.specs.Telling.{rightly, as_damaged, as_told, happened, MayHappen, happened_all, AllMayHappen, after_happened, all_told, IsHistory}
-use Rattle.dali_events.specs.World.{World, Controller, nobody, controller_at, controllers_changed, start}
-use Rattle.dali_events.specs.declared.event.Event.{Event}
-use Rattle.dali_events.proofs.Invariant.{Growing.leaves_front, Safe.keeps_promise, Sending.follows_of, Sending.takes_powered}
 use Rattle.dali_events.specs.declared.event.Event.TheVariants as event
 
 -- QUESTIONS: what they leave of gear, whichever gear they reach

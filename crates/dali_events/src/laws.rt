@@ -36,7 +36,7 @@ ghost use Rattle.dali_events.specs.declared.event.Event.{Event};
 ghost use Rattle.dali_statement.specs.Page.{Moment, Site, Reserves, Enrols, Releases, allowed, is_told, are_apart};
 ghost use Rattle.dali_statement.specs.Page.{IsPlan as IsPagePlan};
 ghost use Rattle.dali_statement.specs.Gear.{gear_seen};
-ghost use Rattle.dali_events.specs.Page.{owner_in, plan_seen, LeadsTo};
+ghost use Rattle.dali_events.specs.Page.{owner_in, plan_seen, IsReadAs, AreSeenAs, frames_in, frames_of};
 ghost use Rattle.dali_events.specs.World.{World, Controller, gear_at, start};
 ghost use Rattle.dali_events.specs.Happens.{happens, trace_running, entry, taken_by, after_quiet, after_foreign};
 ghost use Rattle.dali_events.specs.Happens.{keeps_bus};
@@ -116,13 +116,17 @@ pub fn gifts_stay_reserved()
         → KeepsReserved (after p capacity front) (after p capacity (front ++ later)) }
 {}
 
-/// EVERY RUN IS A HISTORY OF THE PAGE of `dali_statement`. To each moment of a run leads a history with the same gear,
-/// the same reservations, and with each table; the owner of the bus has in its list what its transaction has said; and
-/// later moments go on with it. So what five rules of senders promise is true of every run.
+/// EVERY RUN IS A HISTORY OF THE PAGE of `dali_statement`. Its log, read event by event, is a history that has the same
+/// gear after each event. At its end it has the same reservations and each table, and the owner of the bus has in its
+/// list what its transaction has said. Later events go on with it (`read`). So what five rules of senders promise is
+/// true of every run. No other history is that of the log: its frames are those of the log, in their order, each with
+/// its sender, and with what was heard or that it was destroyed (`frames`).
 pub fn every_run_is_a_history()
-    ensures { (p : Plan) (capacity : ℕ) (front rest : List Event) → IsRun p capacity (front ++ rest)
-        → (ms : List Moment) × (more : List Moment) × LeadsTo p (after p capacity front) ms
-        × LeadsTo p (after p capacity (front ++ rest)) (ms ++ more) }
+    ensures read { (p : Plan) (capacity : ℕ) (front rest : List Event) → IsRun p capacity (front ++ rest)
+        → (ms : List Moment) × (more : List Moment) × IsReadAs p capacity front ms
+        × IsReadAs p capacity (front ++ rest) (ms ++ more) }
+    ensures frames { (w : World) (log : List Event) (ms : List Moment) → AreSeenAs w log ms
+        → frames_in ms ≡ frames_of log }
 {}
 
 /// EVERY RUN IS SAFE. In every world of every run no two gear hold one short address. A gear that holds one holds it,
@@ -151,8 +155,8 @@ pub fn sites_meet_the_premises()
 
 /// ORDERS KEEP THE RULES. A record that a controller may order to be kept is one that rules 3 and 4 allow, on a site of
 /// the page where it has the same reservations and its finding was told: a reservation, of no address that used gear
-/// have (`reserve`), an enrolment (`enrol`), a release (`release`). Who may send on a site has its turn by rule 5
-/// (`turn`).
+/// have (`reserve`), an enrolment (`enrol`), a release (`release`). Who may send on a site owns the bus, or no
+/// controller owns it (`turn`).
 pub fn orders_keep_the_rules()
     ensures turn { (w : World) (c : ℕ) (f : Forward) → MaySend w c f → (unwrap_or w.bus.owner c == c) ≡ true }
     ensures reserve { (p : Plan) (s : Site) (k : Controller) (c : ℕ) → IsPlan p → (a r : ℕ)

@@ -1,15 +1,10 @@
 use Rattle.std.proofs.Common.{◌≡◌, ◌⊎◌, inl, inr, ℕ, zero, suc, ◌<◌, Bool, true, false, refl, sym, ap, subst, map, ◌∙◌, List, [], ◌∷◌, Option, Some, None, ◌==◌}
-use Rattle.std.proofs.Common.{◌&&◌, ◌||◌, not, nat_lt, slice_get, slice_set}
-use Rattle.std.specs.{List.list_any, List.list_all, Prelude.unwrap_or}
-use Rattle.dali_statement.specs.{Again.ended, Again.IsReplaced, Page.Gear, Page.holds, Page.Plan, Page.Moment, Page.start, Page.after, Page.differ}
-use Rattle.dali_statement.{specs.Page.IsPlan, specs.Page.IsHistory, proofs.Moved.At, proofs.Steps.Safe}
-use Rattle.dali_statement.proofs.Tests.{first_of_both, equal, equals, below_by, some_is, holds_is, holds_by, any_at, any_by, all_at, all_by, differ_at}
-use Rattle.dali_statement.proofs.{Tests.differ_by, Whole.starts, Whole.safe_after}
+use Rattle.std.{proofs.Common.{◌&&◌, ◌||◌, not, nat_lt, slice_get, slice_set}, specs.{List.{list_any, list_all}, Prelude.unwrap_or}}
+use Rattle.dali_statement.proofs.Tests.{both, first_of_both, equal, equals, below_by, some_is, holds_is, holds_by, any_at, any_by, all_at, all_by, differ_at}
+use Rattle.dali_statement.{proofs.{Tests.differ_by, Moved.At, Steps.Safe, Whole.{starts, safe_after}}, specs.{Again.{ended, IsReplaced}, Page.{Gear, holds}}}
+use Rattle.dali_statement.specs.Page.{Plan, Moment, start, after, differ, IsPlan, IsHistory}
 
 -- HISTORIES BEGIN WITH RECORDS.
-
-both : {a b : Bool} → a ≡ true → b ≡ true → (a && b) ≡ true
-both {a} {b} first second = rw (first, second) refl
 
 -- a gear that has the address has the number
 for_number : (a r : ℕ) (x : Gear) → (x.short ≡ Some a → x.random ≡ r) → (not (holds a x.short) || (x.random == r)) ≡ true

@@ -1,20 +1,14 @@
 use Rattle.std.proofs.Common.{◌≡◌, ℕ, true, false, List, [], ◌∷◌, ◌++◌, Option, Some, None, refl, sym, ap, ◌∙◌, arith, lit<, ◌<◌, nat_lt, Bool, map}
-use Rattle.std.proofs.Common.{if◌then◌else◌, slice_get, not, ◌==◌, ◌&&◌, ◌||◌}
-use Rattle.std.specs.{Prelude.unwrap_or, List.list_all}
+use Rattle.std.{proofs.Common.{if◌then◌else◌, slice_get, not, ◌==◌, ◌&&◌, ◌||◌}, specs.{Prelude.unwrap_or, List.list_all}}
 use Rattle.dali_statement.specs.Page.{High, Middle, Low, Command, Terminate, Initialise, Randomise, Search, Program, QueryShort, QueryRandom, Gear, Heard, Byte}
-use Rattle.dali_statement.specs.Page.{Nothing, Moment, Sent, Destroyed, Reserves, Enrols, Releases, Plan, Site, start, holds, is_told, happens, allowed}
-use Rattle.dali_statement.specs.Page.{differ, IsPlan, after, Holds}
-use Rattle.dali_statement.specs.Weaker.{Rules, Changes, after_by, all_by, Break, drawing, BreakUnder, BreakIf, BreakFrom, with_program, unnumbered}
-use Rattle.dali_statement.specs.Weaker.{initialised_since}
-use Rattle.dali_statement.specs.Weaker.{unqueried, unanswered, searched_since, programmed_since, unreserved, erasing, initialising_all, with_randomise}
-use Rattle.dali_statement.specs.Weaker.{none_programmed, is_terminated, unsent, destroying_any, enrolling, enrolling_beyond, with_reserve, twice, elsewhere}
-use Rattle.dali_statement.specs.Weaker.{used}
-use Rattle.dali_statement.specs.Weaker.{beyond, undrawn, with_release, mishearing, mishearing_bytes, Row, Shorts, Short, Block, Small, Below, Numbered, Tabled}
-use Rattle.dali_statement.specs.Weaker.{is_row}
-use Rattle.dali_statement.specs.Weaker.{IsPlanBut, with_lists, kept_by_others, kept_by_its_sender, kept_from_destroyed, counted, with_gear, missing, misreading}
-use Rattle.dali_statement.specs.Weaker.{executing_all}
-use Rattle.dali_statement.specs.Whole.{IsKeptByAll, IsKeptInStep}
-use Rattle.dali_statement.proofs.Tests.{first_of_both, second_of_both, equal, holds_by, all_at, not_true}
+use Rattle.dali_statement.specs.Page.{Nothing, Moment, Sent, Destroyed, Reserves, Enrols, Releases, Plan, Site, start, holds, is_told, happens, allowed, differ}
+use Rattle.dali_statement.specs.{Page.{IsPlan, after, Holds}, Weaker.{Rules, Changes, after_by, all_by, Break, drawing, BreakUnder, BreakIf, BreakFrom}}
+use Rattle.dali_statement.specs.Weaker.{with_program, unnumbered, initialised_since, unqueried, unanswered, searched_since, programmed_since, unreserved}
+use Rattle.dali_statement.specs.Weaker.{erasing, initialising_all, with_randomise, none_programmed, is_terminated, unsent, destroying_any, enrolling}
+use Rattle.dali_statement.specs.Weaker.{enrolling_beyond, with_reserve, twice, elsewhere, used, beyond, undrawn, with_release, mishearing, mishearing_bytes}
+use Rattle.dali_statement.specs.Weaker.{Row, Shorts, Short, Block, Small, Below, Numbered, Tabled, is_row, IsPlanBut, with_lists, kept_by_others}
+use Rattle.dali_statement.specs.{Weaker.{kept_by_its_sender, kept_from_destroyed, counted, with_gear, missing, misreading, executing_all}, Whole.IsKeptByAll}
+use Rattle.dali_statement.{specs.Whole.IsKeptInStep, proofs.Tests.{first_of_both, second_of_both, equal, holds_by, all_at, not_true}}
 
 -- SHORT HISTORIES, proved by computing: one that keeps all rules, and for each clause of a rule one that keeps all else and breaks
 -- the promise.
@@ -173,9 +167,6 @@ second_gets c a = Reserves c a 0x0ABCDE ∷ second c (found c a)
 
 abbrev given : List Moment
 given = opening 0 ++ first_gets 0 0
-
-given_holds : Holds (after (start plan) given) 0 0 0x123456
-given_holds = (_, refl, refl, refl)
 
 -- ---------------------------------------------------------------- all rules are kept
 

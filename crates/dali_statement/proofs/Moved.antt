@@ -1,7 +1,6 @@
 use Rattle.std.proofs.Common.{◌≡◌, ◌⊎◌, inl, inr, ℕ, zero, suc, Bool, true, false, refl, sym, ap, List, [], ◌∷◌, map, Option, Some, None}
 use Rattle.std.specs.Prelude.{if◌then◌else◌, slice_get}
-use Rattle.dali_statement.specs.Page.{Command, Gear, takes, Heard, Sent, may_miss, befalls, gear_after}
-use Rattle.dali_statement.proofs.Tests.{some_is}
+use Rattle.dali_statement.{specs.Page.{Command, Gear, takes, Heard, Sent, may_miss, befalls, gear_after}, proofs.Tests.some_is}
 
 -- WHAT BECOMES OF GEAR, place by place.
 

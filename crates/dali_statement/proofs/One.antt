@@ -1,9 +1,9 @@
 use Rattle.std.proofs.Common.{◌≡◌, ◌⊎◌, inl, inr, ℕ, ◌<◌, ◌+◌, ◌*◌, Bool, true, false, refl, sym, ap, ◌∙◌, arith, List, [], ◌∷◌, ◌++◌, Option, Some, None}
 use Rattle.std.specs.Prelude.{◌==◌, ◌&&◌, ◌||◌, if◌then◌else◌, option_map, unwrap_or, is_some}
-use Rattle.dali_statement.specs.Page.{Part, High, Middle, Low, same, number, Command, Terminate, Initialise, Randomise, Search, Program, QueryShort}
-use Rattle.dali_statement.specs.Page.{QueryRandom, Other, Gear, is_found, code, takes, holds, Heard, Byte, Nothing, Site}
-use Rattle.dali_statement.specs.Page.{byte, byte_sent, number_sent, is_vacant, is_open, tells, may_miss, may_send}
-use Rattle.dali_statement.proofs.Tests.{first_of_both, second_of_both, either, equal, equals, some_is, holds_is}
+use Rattle.dali_statement.{proofs.Tests.{both, first_of_both, second_of_both, either, equal, equals, some_is, holds_is}, specs.Page.{Part, High, Middle, Low}}
+use Rattle.dali_statement.specs.Page.{same, number, Command, Terminate, Initialise, Randomise, Search, Program, QueryShort, QueryRandom, Other, Gear, is_found}
+use Rattle.dali_statement.specs.Page.{code, takes, holds, Heard, Byte, Nothing, Site, byte, byte_sent, number_sent, is_vacant, is_open, tells, may_miss}
+use Rattle.dali_statement.specs.Page.{may_send}
 
 -- ONE GEAR, in a transaction that has said this.
 
@@ -259,9 +259,7 @@ may_longer s c newest older (Program (Some a)) said may =
     let sent = reserved_by (λ r. holds r (s.reserved c a)) (number_sent newest) (second_of_both _ _ may) in
     ap (λ l. is_vacant l && unwrap_or (option_map (λ r. holds r (s.reserved c a)) (number_sent l)) false) said
     ∙ both (vacant_longer newest older (first_of_both _ _ may))
-    (ap (λ o. unwrap_or (option_map (λ r. holds r (s.reserved c a)) o) false) (number_longer newest older sent.0 sent.1) ∙ sent.2) where
-      both : {x y : Bool} → x ≡ true → y ≡ true → (x && y) ≡ true
-      both {x} {y} first second = rw (first, second) refl
+    (ap (λ o. unwrap_or (option_map (λ r. holds r (s.reserved c a)) o) false) (number_longer newest older sent.0 sent.1) ∙ sent.2)
 may_longer s c newest older (Initialise d) said may = may
 may_longer s c newest older Randomise said may = ap is_open said ∙ open_longer newest older may
 may_longer s c newest older Terminate said may = refl
@@ -273,9 +271,6 @@ may_longer s c newest older Other said may = refl
 pub tells_longer : (m : Command) (h : Heard) (newest older : List (Command × Heard)) (q : Part) (a v : ℕ) → tells m h newest q a v ≡ true
     → tells m h (newest ++ older) q a v ≡ true
 tells_longer QueryShort (Byte w) newest older q a v e = go (number_sent newest) refl (second_of_both _ _ e) where
-  both : {x y : Bool} → x ≡ true → y ≡ true → (x && y) ≡ true
-  both {x} {y} first second = rw (first, second) refl
-
   go : (o : Option ℕ) → number_sent newest ≡ o → holds v (option_map (byte q) o) ≡ true
       → ((w == code (Some a)) && holds v (option_map (byte q) (number_sent (newest ++ older)))) ≡ true
   go None sent is = absurd (false_is is)

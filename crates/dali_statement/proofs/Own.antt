@@ -1,33 +1,21 @@
-use Rattle.std.proofs.Common.{◌≡◌, ◌⊎◌, inl, inr, ℕ, ◌<◌, Bool, true, false, refl, sym, ap, subst, ◌∙◌, List, [], ◌∷◌, ◌++◌, Option, Some, None}
-use Rattle.std.proofs.Common.{filter, ◌==◌, ◌&&◌, ◌||◌, not, nat_lt, if◌then◌else◌, is_none, option_map}
-use Rattle.std.specs.{List.list_any}
-use Rattle.dali_frame.specs.{Random.value_of, Random.number_of, Short.short_of, declared.frames.Answer.Answer, declared.frames.Forward.Forward}
+use Rattle.std.proofs.Common.{◌≡◌, ◌⊎◌, inl, inr, ℕ, ◌<◌, Bool, true, false, refl, sym, ap, subst, ◌∙◌, List, [], ◌∷◌, ◌++◌, Option, Some, None, filter, ◌==◌}
+use Rattle.std.{proofs.Common.{◌&&◌, ◌||◌, not, nat_lt, if◌then◌else◌, is_none, option_map}, specs.List.list_any}
+use Rattle.dali_frame.specs.{Random.{value_of, number_of}, Short.short_of, declared.frames.{Answer.Answer, Forward.Forward}}
+use Rattle.dali_special.{specs.{Command.{command_of, IsSpelled}, declared.command.Command.Command as Read}, proofs.Table.{read_spelled, short_small}}
+use Rattle.dali_script.specs.Findings.{Asked, nothing, high_byte, two_bytes, asked_of, asked_after, search_of, found_by, spelled_by, assigned}
+use Rattle.dali_script.specs.{declared.finding.Finding.{Finding, TheVariants.{Queried, Resolved}}, Records.{Assignment, Has, HasAddress, is_pair, without_pair}}
+use Rattle.dali_script.{specs.{Scripts.Lawful, declared.trace.Entry.Entry}, proofs.{Lists.has_map, Found.asked_more, Members.{has_left, has_right, has_either}}}
+use Rattle.dali_statement.proofs.Tests.{both, second_of_either, first_of_both, second_of_both, first_of_either, not_true, equal, equals, below_by, some_is}
+use Rattle.dali_statement.{proofs.{Tests.holds_by, Scripts.{rules_kept, query_tells}, Steps.{Safe, Told, told_so, bytes_tell}, Whole.goes}, specs.Page.Part}
+use Rattle.dali_statement.specs.Page.{High, Middle, Low, byte, Command, QueryShort, QueryRandom, Heard, holds, Sent, Reserves, Enrols, Releases, Plan, Site}
+use Rattle.dali_statement.specs.{Page.{tells, heard_by, list_after, happens, are_apart, may_send, allowed}, Gear.command_seen, Scripts.{heard_seen, entry_seen}}
+use Rattle.dali_statement.specs.{Scripts.{said_on, said_of}, Own.{Own, Puts, Keeps, told_more, own_after}}
 use Rattle.dali_frame.specs.declared.frames.Answer.TheVariants as answer
-use Rattle.dali_special.{specs.Command.command_of, specs.Command.IsSpelled, specs.declared.command.Command.Command as Read, proofs.Table.read_spelled}
-use Rattle.dali_special.proofs.Table.{short_small}
 use Rattle.dali_special.specs.declared.command.Command.TheVariants as read
 use Rattle.dali_special.specs.declared.command.Part.TheVariants as asked
-use Rattle.dali_script.specs.Findings.{Asked, nothing, high_byte, two_bytes, asked_of, asked_after, search_of, found_by, spelled_by, assigned}
-use Rattle.dali_script.specs.declared.finding.Finding.{Finding, TheVariants.Queried, TheVariants.Resolved}
-use Rattle.dali_script.specs.Records.{Assignment, Has, HasAddress, is_pair, without_pair}
-use Rattle.dali_script.{specs.Scripts.Lawful, specs.declared.trace.Entry.Entry, proofs.Lists.has_map}
-use Rattle.dali_script.proofs.{Found.asked_more, Members.has_left, Members.has_right, Members.has_either}
 use Rattle.dali_script.specs.declared.records.Record.TheVariants as record_of
-use Rattle.dali_statement.specs.Page.{Part, High, Middle, Low, byte, Command, QueryShort, QueryRandom, Heard, holds, Sent, Reserves}
-use Rattle.dali_statement.specs.Page.{Enrols, Releases, Plan, Site, tells, heard_by, list_after, happens, are_apart, may_send}
-use Rattle.dali_statement.specs.{Page.allowed, Gear.command_seen, Scripts.heard_seen, Scripts.entry_seen}
-use Rattle.dali_statement.specs.{Scripts.said_on, Scripts.said_of, Own.Own, Own.Puts, Own.Keeps, Own.told_more, Own.own_after}
-use Rattle.dali_statement.proofs.{Scripts.rules_kept, Scripts.query_tells, Steps.Safe, Steps.Told, Steps.told_so, Steps.bytes_tell, Whole.goes}
-use Rattle.dali_statement.proofs.Tests.{first_of_both, second_of_both, first_of_either, not_true, equal, equals, below_by, some_is, holds_by}
 
 -- A SENDER ALONE KEEPS THE RULES, by its own list.
-
-both : {a b : Bool} → a ≡ true → b ≡ true → (a && b) ≡ true
-both {a} {b} first second = rw (first, second) refl
-
-second_of_either : {b : Bool} (a : Bool) → b ≡ true → (a || b) ≡ true
-second_of_either {b} true e = refl
-second_of_either {b} false e = e
 
 -- ---------------------------------------------------------------- what was told
 
@@ -45,11 +33,6 @@ abbrev pub AskedSo : Told → Asked → Type 0
 AskedSo told nothing = Unit {0}
 AskedSo told (high_byte a high) = told High a high ≡ true
 AskedSo told (two_bytes a high middle) = (told High a high ≡ true) × (told Middle a middle ≡ true)
-
-asked_further : (old new : Told) → More old new → (q : Asked) → AskedSo old q → AskedSo new q
-asked_further old new more nothing e = tt
-asked_further old new more (high_byte a high) e = more High a high e
-asked_further old new more (two_bytes a high middle) e = (more High a high e.0, more Middle a middle e.1)
 
 asked_next : (old new : Told) (said : List (Command × Heard)) (x : Read) (h : Answer) (q : Asked) → More old new
     → ((r : Part) (a v : ℕ) → tells (command_seen x) (heard_seen h) said r a v ≡ true → new r a v ≡ true) → AskedSo old q → AskedSo new (asked_after x h q)
@@ -209,7 +192,7 @@ unfiltered test (y ∷ ys) x (inr more) is = go (test y) (unfiltered test ys x m
 abbrev HasPair : List Assignment → ℕ → ℕ → Type 0
 HasPair xs a r = Has xs (a, r)
 
-another : (d c : ℕ) → (d ≡ c → ⊥) → (c == d) ≡ false
+pub another : (d c : ℕ) → (d ≡ c → ⊥) → (c == d) ≡ false
 another d c other = go (c == d) refl where
   go : (b : Bool) → (c == d) ≡ b → b ≡ false
   go true e = absurd (other (sym (equal c d e)))

@@ -1,9 +1,8 @@
 use Rattle.std.proofs.Common.{◌≡◌, ◌⊎◌, inl, inr, ℕ, ◌<◌, Bool, true, false, refl, sym, ap, subst, ◌∙◌, Option, Some, None, ◌==◌, ◌&&◌, not, nat_lt}
-use Rattle.std.proofs.Common.{if◌then◌else◌, is_none}
-use Rattle.std.specs.List.{list_any}
-use Rattle.dali_statement.specs.Page.{Gear, holds, Plan, Site, is_told, Reserves, Enrols, Releases, happens, are_apart, allowed}
-use Rattle.dali_statement.proofs.{Moved.At, Sound.one_at, Sound.apart_at, Steps.Safe, Steps.told_gear}
-use Rattle.dali_statement.proofs.Tests.{first_of_both, second_of_both, either, equal, equals, below, some_is, holds_is, not_true}
+use Rattle.std.{proofs.Common.{if◌then◌else◌, is_none}, specs.List.list_any}
+use Rattle.dali_statement.{specs.Page.{Gear, holds, Plan, Site, is_told, Reserves, Enrols, Releases, happens, are_apart, allowed}, proofs.Moved.At}
+use Rattle.dali_statement.proofs.{Sound.{one_at, apart_at}, Steps.{Safe, told_gear}, Tests.{first_of_both, second_of_both, either, equal, equals, below}}
+use Rattle.dali_statement.proofs.Tests.{some_is, holds_is, not_true}
 
 -- RECORDS keep what is sound.
 

@@ -1,20 +1,15 @@
 use Rattle.std.proofs.Common.{◌≡◌, ℕ, ◌+◌, ◌*◌, ◌/◌, ◌%◌, Bool, true, false, refl, sym, ap, subst, ◌∙◌, arith, List, [], ◌∷◌, ◌++◌, map, Option, Some, None}
-use Rattle.std.proofs.Common.{◌==◌}
-use Rattle.std.proofs.Common.{◌&&◌, if◌then◌else◌, option_map, nat_lt}
-use Rattle.dali_frame.specs.{Random.value_of, Short.short_of}
-use Rattle.dali_frame.specs.declared.{frames.Answer.Answer, frames.Forward.Forward, numbers.SearchAddress.SearchAddress}
+use Rattle.std.proofs.Common.{◌==◌, ◌&&◌, if◌then◌else◌, option_map, nat_lt}
+use Rattle.dali_frame.specs.{Random.value_of, Short.short_of, declared.{frames.{Answer.Answer, Forward.Forward}, numbers.SearchAddress.SearchAddress}}
+use Rattle.dali_special.specs.{Command.{command_of, MASK}, declared.command.Command.Command as Read}
+use Rattle.dali_script.specs.{Findings.{search_after, at_power_on, search_from, search_of}, Records.{Assignment, Has}, Scripts.{Step, sends, is_asking}}
+use Rattle.dali_script.specs.Scripts.{AreAsking, Script, Open, Call, Draw, Probe, Hunt, Look, Give, PassOver, Resolve, Close, ArcPower, steps, IsHeard, MaySend}
+use Rattle.dali_script.specs.{Scripts.{IsFront, Lawful}, declared.{block.Block.Block, trace.Entry.Entry}}
+use Rattle.dali_statement.{proofs.{Tests.{both, first_of_both, equal, equals, holds_by, some_is}, One.{may_longer, tells_longer}}, specs.Gear.command_seen}
+use Rattle.dali_statement.specs.Page.{Part, High, Middle, Low, byte, Command, Search, QueryShort, code, holds, Heard, Byte, Site, number_sent, is_vacant, tells}
+use Rattle.dali_statement.specs.{Page.may_send, Scripts.{heard_seen, entry_seen, said_on, said_of}}
 use Rattle.dali_frame.specs.declared.frames.Answer.TheVariants as answer
-use Rattle.dali_special.specs.{Command.command_of, Command.MASK, declared.command.Command.Command as Read}
 use Rattle.dali_special.specs.declared.command.Command.TheVariants as read
-use Rattle.dali_script.specs.{Findings.search_after, Findings.at_power_on, Findings.search_from, Findings.search_of, Records.Assignment, Records.Has}
-use Rattle.dali_script.specs.Scripts.{Step, sends, is_asking, AreAsking, Script, Open, Call, Draw, Probe, Hunt, Look, Give, PassOver, Resolve, Close, ArcPower}
-use Rattle.dali_script.specs.Scripts.{steps, IsHeard, MaySend, IsFront, Lawful}
-use Rattle.dali_script.specs.declared.{block.Block.Block, trace.Entry.Entry}
-use Rattle.dali_statement.specs.{Gear.command_seen, Page.Part, Page.High}
-use Rattle.dali_statement.specs.Page.{Middle, Low, byte, Command, Search, QueryShort, code, holds, Heard, Byte, Site, number_sent, is_vacant, tells, may_send}
-use Rattle.dali_statement.specs.Scripts.{heard_seen, entry_seen, said_on, said_of}
-use Rattle.dali_statement.proofs.{One.may_longer, One.tells_longer}
-use Rattle.dali_statement.proofs.Tests.{first_of_both, equal, equals, holds_by, some_is}
 
 -- THE SCRIPTS KEEP RULES 1 AND 2, and QUERY SHORT ADDRESS is sent under a whole number.
 
@@ -96,9 +91,7 @@ may_program : (reserved : ℕ → Option ℕ) (r : SearchAddress) (a : ℕ) (hig
     ∷ (Search High r.high, heard_seen high) ∷ []) (read.Program (Some a)) ≡ true
 may_program reserved r a high middle low h vacant is =
     both (ap (λ g. is_vacant ((QueryShort, heard_seen g) ∷ (Search Low r.low, heard_seen low) ∷ (Search Middle r.middle, heard_seen middle)
-    ∷ (Search High r.high, heard_seen high) ∷ [])) vacant) (holds_by (value_of r) (reserved a) is) where
-      both : {x y : Bool} → x ≡ true → y ≡ true → (x && y) ≡ true
-      both {x} {y} first second = rw (first, second) refl
+    ∷ (Search High r.high, heard_seen high) ∷ [])) vacant) (holds_by (value_of r) (reserved a) is)
 
 module _ (b : Block) (records : List Assignment) (reserved : ℕ → Option ℕ) (same : (a r : ℕ) → Has records (a, r) → reserved a ≡ Some r) where
   each_script : (s : Script) → MaySend b records s → Keeps reserved at_power_on [] (steps s)
@@ -176,9 +169,6 @@ module _ (b : Block) (records : List Assignment) (reserved : ℕ → Option ℕ)
       ),
     ),
   )
-    where
-      both : {x y : Bool} → x ≡ true → y ≡ true → (x && y) ≡ true
-      both {x} {y} first second = rw (first, second) refl
   each_script (PassOver r) may = (refl, never, λ h w. (refl, never, λ h w. (refl, never, λ h w. (refl, never, λ h w. tt))))
   each_script (Resolve a) may = (refl, never, λ h w. (refl, never, λ h w. (refl, never, λ h w. tt)))
   each_script Close may = (refl, never, λ h w. tt)
@@ -207,6 +197,4 @@ query_tells b records t f s c older v a q lawful said same is short =
     (along (s.reserved c) at_power_on [] t f (steps lawful.0) lawful.2 (each_script b records (s.reserved c) same lawful.0 lawful.1)).1 (ap asks is) in
     ap (λ l. tells QueryShort (Byte v) l q a (byte q (value_of (search_of t)))) said
     ∙ tells_longer QueryShort (Byte v) (said_of t) older q a (byte q (value_of (search_of t))) (both (equals v (code (Some a)) (code_is v a short))
-    (ap (λ n. holds (byte q (value_of (search_of t))) (option_map (byte q) n)) sent ∙ equals (byte q (value_of (search_of t))) _ refl)) where
-      both : {x y : Bool} → x ≡ true → y ≡ true → (x && y) ≡ true
-      both {x} {y} first second = rw (first, second) refl
+    (ap (λ n. holds (byte q (value_of (search_of t))) (option_map (byte q) n)) sent ∙ equals (byte q (value_of (search_of t))) _ refl))

@@ -1,8 +1,7 @@
 use Rattle.std.proofs.Common.{◌≡◌, ◌⊎◌, inl, inr, ℕ, ◌<◌, ◌+◌, ◌*◌, ◌/◌, ◌%◌, Bool, true, false, refl, sym, ap, subst, ◌∙◌, arith, List, Option, Some, None}
-use Rattle.std.proofs.Common.{◌==◌, if◌then◌else◌}
-use Rattle.std.specs.List.{list_any}
-use Rattle.dali_statement.specs.Page.{Part, High, Middle, Low, byte, Gear, holds, Plan, are_apart}
-use Rattle.dali_statement.proofs.{Moved.At, One.IsShort, Tests.equal, Tests.some_is, Tests.differ_at}
+use Rattle.std.{proofs.Common.{◌==◌, if◌then◌else◌}, specs.List.list_any}
+use Rattle.dali_statement.{specs.Page.{Part, High, Middle, Low, byte, Gear, holds, Plan, are_apart}, proofs.{Moved.At, One.IsShort, Tests.{equal, some_is}}}
+use Rattle.dali_statement.proofs.Tests.{differ_at}
 
 -- WHAT IS SOUND of gear, records and what was told.
 

@@ -1,13 +1,10 @@
-use Rattle.std.proofs.Common.{◌≡◌, ◌⊎◌, inl, inr, ℕ, ◌<◌, ◌+◌, ◌*◌, Bool, true, false, refl, sym, ap, subst, ◌∙◌, arith, List, ◌∷◌, Option, Some, None}
-use Rattle.std.proofs.Common.{◌&&◌, nat_lt, if◌then◌else◌, option_map, slice_get}
-use Rattle.std.specs.{Prelude.unwrap_or, List.list_all}
-use Rattle.dali_statement.specs.Page.{Part, High, Middle, Low, same, byte, Command, QueryShort, QueryRandom, Other, Gear, is_found, takes, holds, answer, code}
-use Rattle.dali_statement.specs.Page.{Heard, Byte, Sent, Destroyed, Plan, Site, number_sent, is_told, tells, frame_at, gear_after, hears, are_apart, may_send}
-use Rattle.dali_statement.proofs.{Moved.At, Moved.Becomes, Moved.befallen, Moved.befalling, Moved.Takes, Moved.taken, Moved.taking, One.Knows, One.Few}
-use Rattle.dali_statement.proofs.{One.Given}
-use Rattle.dali_statement.proofs.{One.HeardOf, One.kept_by, One.new_by, One.knows_after, One.knows_missed, One.searched, One.found_live, One.found_random}
-use Rattle.dali_statement.proofs.{Sound.Sound, Sound.Moves, Sound.one_at, Sound.same_bytes, Sound.apart_at}
-use Rattle.dali_statement.proofs.Tests.{first_of_both, second_of_both, equal, below, below_by, holds_is, any_at, all_at}
+use Rattle.std.proofs.Common.{◌≡◌, ◌⊎◌, inl, inr, ℕ, ◌<◌, ◌+◌, ◌*◌, Bool, true, false, refl, sym, ap, subst, ◌∙◌, arith, List, ◌∷◌, Option, Some, None, ◌&&◌}
+use Rattle.std.{proofs.Common.{nat_lt, if◌then◌else◌, option_map, slice_get}, specs.{Prelude.unwrap_or, List.list_all}}
+use Rattle.dali_statement.proofs.{Tests.{both, first_of_both, second_of_both, equal, below, below_by, holds_is, any_at, all_at}, Moved.{At, Becomes, befallen}}
+use Rattle.dali_statement.proofs.{Moved.{befalling, Takes, taken, taking}, One.{Knows, Few, Given, HeardOf, kept_by, new_by, knows_after, knows_missed}}
+use Rattle.dali_statement.{proofs.{One.{searched, found_live, found_random}, Sound.{Sound, Moves, one_at, same_bytes, apart_at}}, specs.Page.{Part, High}}
+use Rattle.dali_statement.specs.Page.{Middle, Low, same, byte, Command, QueryShort, QueryRandom, Other, Gear, is_found, takes, holds, answer, code, Heard, Byte}
+use Rattle.dali_statement.specs.Page.{Sent, Destroyed, Plan, Site, number_sent, is_told, tells, frame_at, gear_after, hears, are_apart, may_send}
 
 -- EACH MOMENT that is allowed keeps what is sound.
 
@@ -210,9 +207,6 @@ bytes_tell p s safe a high middle low small told_high told_middle told_low =
     let is_low : byte Low x.random ≡ low = ap (λ y. byte Low y.random) (sym (same_as third.0 third.1 third.2 third.3)) ∙ third.4 in
     let is : x.random ≡ high * 65536 + middle * 256 + low = all_bytes x.random high middle low first.4 is_middle is_low in
     subst (λ n. is_told s a n ≡ true) is (whole_told x.random first.4 is_middle is_low) where
-      both : {b c : Bool} → b ≡ true → c ≡ true → (b && c) ≡ true
-      both {b} {c} one other = rw (one, other) refl
-
       all_bytes : (n h m l : ℕ) → byte High n ≡ h → byte Middle n ≡ m → byte Low n ≡ l → n ≡ h * 65536 + m * 256 + l
       all_bytes n h m l is_h is_m is_l = omega (arith, is_h, is_m, is_l)
 

@@ -1,6 +1,6 @@
 use Rattle.std.proofs.Common.{◌≡◌, ◌⊎◌, inl, inr, ℕ, ◌<◌, zero, suc, Bool, true, false, refl, sym, ap, subst, ◌∙◌, arith, List, [], ◌∷◌, map, Option, Some}
-use Rattle.std.proofs.Common.{length, get_or, ◌≤◌, None, ◌==◌, ◌&&◌, ◌||◌, not, nat_lt, slice_get, nat_le}
-use Rattle.std.{proofs.lemmas.Bool.Decides.nat_tests, specs.List.list_any, specs.List.list_all}
+use Rattle.std.proofs.{Common.{length, get_or, ◌≤◌, None, ◌==◌, ◌&&◌, ◌||◌, not, nat_lt, slice_get, nat_le}, lemmas.Bool.Decides.nat_tests}
+use Rattle.std.specs.List.{list_any, list_all}
 use Rattle.dali_statement.specs.Page.{same, holds, differ}
 
 -- WHAT TESTS SAY.
@@ -13,6 +13,9 @@ pub second_of_both : (a b : Bool) → (a && b) ≡ true → b ≡ true
 second_of_both true b e = e
 second_of_both false b e = absurd (cc)
 
+pub both : {a b : Bool} → a ≡ true → b ≡ true → (a && b) ≡ true
+both {a} {b} first second = rw (first, second) refl
+
 pub either : (a b : Bool) → (a || b) ≡ true → (a ≡ true) ⊎ (b ≡ true)
 either true b e = inl refl
 either false b e = inr e
@@ -20,6 +23,10 @@ either false b e = inr e
 pub first_of_either : (a b : Bool) → a ≡ true → (a || b) ≡ true
 first_of_either true b e = refl
 first_of_either false b e = absurd (cc)
+
+pub second_of_either : {b : Bool} (a : Bool) → b ≡ true → (a || b) ≡ true
+second_of_either {b} true e = refl
+second_of_either {b} false e = e
 
 pub not_true : (a : Bool) → not a ≡ true → a ≡ true → ⊥
 not_true true e is = absurd (cc)
@@ -125,18 +132,13 @@ differ_by {A} key (z ∷ zs) one =
           let from = mapped_at key zs at.0 at.1 at.2 in
           absurd (apart at.0 (one zero (suc at.0) m z from.0 refl from.1 is (sym from.2 ∙ holds_is m at.1 at.3)))
 
-      both : {a b : Bool} → a ≡ true → b ≡ true → (a && b) ≡ true
-      both {a} {b} first second = rw (first, second) refl
-
       go : (o : Option ℕ) → key z ≡ o → differ (map key zs) ≡ true → differ (o ∷ map key zs) ≡ true
       go None is rest = rest
       go (Some m) is rest = both (alone m (list_any (holds m) (map key zs)) is refl) rest
 
 pub all_by : {A : Type 0} (test : A → Bool) (xs : List A) → ((i : ℕ) (x : A) → slice_get xs i ≡ Some x → test x ≡ true) → list_all test xs ≡ true
 all_by {A} test [] each = refl
-all_by {A} test (x ∷ xs) each = both (each zero x refl) (all_by test xs (λ i y at. each (suc i) y at)) where
-  both : {a b : Bool} → a ≡ true → b ≡ true → (a && b) ≡ true
-  both {a} {b} first second = rw (first, second) refl
+all_by {A} test (x ∷ xs) each = both (each zero x refl) (all_by test xs (λ i y at. each (suc i) y at))
 
 pub below_by : (m n : ℕ) → m < n → nat_lt m n ≡ true
 below_by m n e = grind (arith, nat_tests)

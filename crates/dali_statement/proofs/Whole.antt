@@ -1,13 +1,12 @@
-use Rattle.std.proofs.Common.{◌≡◌, ◌⊎◌, inl, inr, ℕ, ◌<◌, Bool, true, false, refl, sym, ap, subst, ◌∙◌, List, [], ◌∷◌, ◌++◌, Option, Some, None, ◌==◌}
-use Rattle.std.proofs.Common.{◌&&◌, ◌||◌, not, nat_lt, if◌then◌else◌, is_none, slice_get}
-use Rattle.std.specs.{Prelude.unwrap_or, Prelude.is_some, List.list_any, List.list_all}
-use Rattle.dali_statement.specs.Page.{Part, byte, Command, Gear, holds, Heard, Moment, Sent, Destroyed, Reserves, Enrols, Releases, Power, Expires, Plan, Site}
-use Rattle.dali_statement.specs.Page.{start, is_told, tells, befalls, gear_after, heard_by, list_after, happens, hears, are_apart, may_send, allowed, IsPlan}
-use Rattle.dali_statement.specs.Page.{after, all_allowed, IsHistory, KeepsNow, KeepsAddresses, KeepsPromise}
-use Rattle.dali_statement.proofs.{Moved.At, Moved.Becomes, Moved.befallen, Moved.befalling, One.Knows, One.knows_nothing, Records.enrols, Records.reserves}
-use Rattle.dali_statement.proofs.{Records.releases, Sound.Sound, Sound.Moves, Sound.sound_after, Sound.one_at, Sound.apart_at, Steps.Safe, Steps.frame_moves}
-use Rattle.dali_statement.proofs.{Steps.frame_knows, Steps.destroyed_moves, Steps.told_true, Steps.told_gear, Tests.first_of_both}
-use Rattle.dali_statement.proofs.Tests.{second_of_both, either, equal, equals, below, some_is, holds_is, holds_by, any_at, any_by, all_at, differ_at, not_true}
+use Rattle.std.proofs.Common.{◌≡◌, ◌⊎◌, inl, inr, ℕ, ◌<◌, Bool, true, false, refl, sym, ap, subst, ◌∙◌, List, [], ◌∷◌, ◌++◌, Option, Some, None, ◌==◌, ◌&&◌}
+use Rattle.std.{proofs.Common.{◌||◌, not, nat_lt, if◌then◌else◌, is_none, slice_get}, specs.{Prelude.{unwrap_or, is_some}, List.{list_any, list_all}}}
+use Rattle.dali_statement.proofs.Tests.{both, first_of_both, second_of_both, either, equal, equals, below, some_is, holds_is, holds_by, any_at, any_by, all_at}
+use Rattle.dali_statement.proofs.{Tests.{differ_at, not_true}, Moved.{At, Becomes, befallen, befalling}, One.{Knows, knows_nothing}, Records.{enrols, reserves}}
+use Rattle.dali_statement.proofs.{Records.releases, Sound.{Sound, Moves, sound_after, one_at, apart_at}, Steps.{Safe, frame_moves, frame_knows}}
+use Rattle.dali_statement.{proofs.Steps.{destroyed_moves, told_true, told_gear}, specs.Page.{Part, byte, Command, Gear, holds, Heard, Moment, Sent, Destroyed}}
+use Rattle.dali_statement.specs.Page.{Reserves, Enrols, Releases, Power, Expires, Plan, Site, start, is_told, tells, befalls, gear_after, heard_by, list_after}
+use Rattle.dali_statement.specs.Page.{happens, hears, are_apart, may_send, allowed, IsPlan, after, all_allowed, IsHistory, KeepsNow, KeepsAddresses}
+use Rattle.dali_statement.specs.Page.{KeepsPromise}
 
 -- EVERY HISTORY KEEPS THE PROMISE.
 
@@ -261,9 +260,7 @@ after_both (m ∷ ms) ns s = after_both ms ns (happens s m)
 
 pub allowed_front : (p : Plan) (ms ns : List Moment) (s : Site) → all_allowed p s (ms ++ ns) ≡ true → all_allowed p s ms ≡ true
 allowed_front p [] ns s allow = refl
-allowed_front p (m ∷ ms) ns s allow = both (first_of_both _ _ allow) (allowed_front p ms ns (happens s m) (second_of_both _ _ allow)) where
-  both : {a b : Bool} → a ≡ true → b ≡ true → (a && b) ≡ true
-  both {a} {b} first second = rw (first, second) refl
+allowed_front p (m ∷ ms) ns s allow = both (first_of_both _ _ allow) (allowed_front p ms ns (happens s m) (second_of_both _ _ allow))
 
 allowed_rest : (p : Plan) (ms ns : List Moment) (s : Site) → all_allowed p s (ms ++ ns) ≡ true → all_allowed p (after s ms) ns ≡ true
 allowed_rest p [] ns s allow = allow

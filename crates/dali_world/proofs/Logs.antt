@@ -14,7 +14,7 @@ use Rattle.dali_controller.specs.{Machine.Machine, declared.way.Way.TheVariants.
 use Rattle.dali_statement.{specs.Page.Moment, specs.Page.KeepsPromise as KeepsPagePromise, proofs.Whole.every_history_keeps_the_promise}
 use Rattle.dali_events.specs.Allowed.{Allowed, IsUp, IsDue, MaySend}
 use Rattle.dali_events.specs.{Events.whose_step, Events.is_step_of, Events.event_of, Happens.happens, Laws.TablesAgree, Laws.KeepsRecords, Page.plan_seen}
-use Rattle.dali_events.specs.{Page.LeadsTo, Plan.Plan, Plan.IsPlan, Promise.IsSafe, Runs.after, Runs.after_all, Runs.IsRun, Runs.LeavesUsed}
+use Rattle.dali_events.specs.{Page.IsReadAs, Plan.Plan, Plan.IsPlan, Promise.IsSafe, Runs.after, Runs.after_all, Runs.IsRun, Runs.LeavesUsed}
 use Rattle.dali_events.specs.{Troubles.reach_under, World.World, World.Controller, World.controller_at, World.start}
 use Rattle.dali_events.specs.declared.{event.Event.Event, event.Outside.Outside, trouble.Trouble.Trouble, used.Used.Used}
 use Rattle.dali_events.proofs.Invariant.{Agreeing.tables_agree_in, Agreeing.records_kept, Controllers.controllers_count, Growing.after_more, Growing.run_more}
@@ -393,10 +393,10 @@ safe_now p queue log run = safe p run.plan (after p queue log) (holds_after p qu
 
 -- its log is a history of the page, which keeps the page's promise
 pub page_now : (p : Plan) (queue : ℕ) (log : List Event) → IsRun p queue log
-    → (ms : List Moment) × LeadsTo p (after p queue log) ms × KeepsPagePromise (plan_seen p) ms
+    → (ms : List Moment) × IsReadAs p queue log ms × KeepsPagePromise (plan_seen p) ms
 page_now p queue log run =
     let history = every_run_is_a_history p queue log [] (subst (λ (l : List Event). IsRun p queue l) (sym (append-nil log)) run) in
-    (history.0, history.2, every_history_keeps_the_promise (plan_seen p) history.0 history.2.history)
+    (history.0, history.2, every_history_keeps_the_promise (plan_seen p) history.0 history.2.leads.history)
 
 pub records_now : (p : Plan) (queue : ℕ) (log : List Event) → IsRun p queue log → KeepsRecords p (after p queue log)
 records_now p queue log run = records_kept p queue log [] (subst (λ (l : List Event). IsRun p queue l) (sym (append-nil log)) run)

@@ -8,7 +8,7 @@ ghost use Rattle.dali_events.specs.Foreign.{is_foreign};
 ghost use Rattle.dali_events.specs.World.{gear_at, controller_at};
 ghost use Rattle.dali_events.specs.Allowed.{IsUp, MaySend};
 ghost use Rattle.dali_statement.specs.Page.{Moment, KeepsPromise as KeepsPagePromise};
-ghost use Rattle.dali_events.specs.Page.{plan_seen, LeadsTo};
+ghost use Rattle.dali_events.specs.Page.{plan_seen, IsReadAs};
 ghost use Rattle.dali_events.specs.Runs.{IsRun};
 ghost use Rattle.dali_events.specs.Promise.{KeepsPromise, IsSafe, IsSafeHistory};
 ghost use Rattle.dali_events.specs.Laws.{TablesAgree, KeepsRecords};
@@ -393,12 +393,12 @@ impl SiteState {
     /// `dali_events`; the other clauses say more, of what was given and drawn. All gear and all controllers of the plan
     /// are there, and each controller keeps records of its block.
     ///
-    /// The log is a history of the page of `dali_statement`, which has the same gear, reservations and tables in
-    /// its end, and keeps the page's promise (`page`).
+    /// The log, read event by event, is a history of the page of `dali_statement`. It has the same gear after each
+    /// event, the same reservations and tables at its end, and keeps the page's promise (`page`).
     pub fn is_safe(&self)
         ensures promise { KeepsPromise self.now.plan self.now.queue self.now.log }
         ensures run { IsRun self.now.plan self.now.queue self.now.log }
-        ensures page { (ms : List Moment) × LeadsTo self.now.plan (world self.now) ms
+        ensures page { (ms : List Moment) × IsReadAs self.now.plan self.now.queue self.now.log ms
             × KeepsPagePromise (plan_seen self.now.plan) ms }
         ensures safe { IsSafeHistory self.now.plan self.now.queue self.now.log }
         ensures now { IsSafe (world self.now) }

@@ -1,15 +1,13 @@
 use Rattle.std.proofs.Common.{◌≡◌, ℕ, true, false, List, [], ◌∷◌, ◌++◌, Some, None, refl, inl, inr, lit<, lit≤, arith}
-use Rattle.dali_frame.specs.declared.frames.{Answer.TheVariants.Silence, Answer.TheVariants.Byte, Forward.Forward}
-use Rattle.dali_special.specs.{Command.command_of, Command.frame, declared.command.Command.TheVariants.Randomise}
-use Rattle.dali_gear.specs.Gear.{Gear, search_mask}
-use Rattle.dali_gear.specs.declared.state.InitialisationState.TheVariants.{Disabled, Enabled}
+use Rattle.dali_frame.specs.declared.frames.{Answer.TheVariants.{Silence, Byte}, Forward.Forward}
+use Rattle.dali_special.specs.{Command.{command_of, frame}, declared.command.Command.TheVariants.Randomise}
+use Rattle.dali_gear.specs.{Gear.{Gear, search_mask}, declared.state.InitialisationState.TheVariants.{Disabled, Enabled}}
 use Rattle.dali_arbiter.specs.Arbiter.{request_of, idle}
-use Rattle.dali_script.specs.{Scripts.Open, Scripts.Look, Stages.stage_of, declared.finding.Finding.TheVariants.Queried, declared.orders.Order.TheVariants.Put}
-use Rattle.dali_script.specs.declared.{orders.Order.TheVariants.Commit, records.Record.TheVariants.Reserve, records.Record.TheVariants.Release}
+use Rattle.dali_script.specs.{Scripts.{Open, Look}, Stages.stage_of, declared.{finding.Finding.TheVariants.Queried, orders.Order.TheVariants.{Put, Commit}}}
+use Rattle.dali_script.specs.declared.records.Record.TheVariants.{Reserve, Release}
+use Rattle.dali_events.specs.{Happens.happens, Plan.Plan, Runs.{after_all, AllAllowed}, World.{World, gear_at, controller_at, controller_begun, start}}
+use Rattle.dali_events.{specs.declared.event.Event.Event, proofs.Histories.Openings.{first_block, second_block, at_123456}}
 use Rattle.dali_script.specs.declared.orders.Input.TheVariants as input
-use Rattle.dali_events.specs.{Happens.happens, Plan.Plan, Runs.after_all, Runs.AllAllowed, World.World, World.gear_at, World.controller_at}
-use Rattle.dali_events.specs.{World.controller_begun, World.start, declared.event.Event.Event}
-use Rattle.dali_events.proofs.Histories.Openings.{first_block, second_block, at_123456}
 use Rattle.dali_events.specs.declared.event.Event.TheVariants as event
 
 -- SHORT HISTORIES, EACH WITH THE WORLD THAT THE RULES GIVE. They are proved by computing the definitions.

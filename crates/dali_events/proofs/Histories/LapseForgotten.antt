@@ -1,16 +1,14 @@
 use Rattle.std.proofs.Common.{◌≡◌, ◌⊎◌, ℕ, Bool, true, false, List, [], ◌∷◌, ◌++◌, Option, Some, None, refl, inl, inr, lit<, lit≤, not, ◌&&◌, if◌then◌else◌}
-use Rattle.dali_frame.specs.declared.frames.{Answer.Answer, Answer.TheVariants.Silence, Forward.Forward}
+use Rattle.dali_frame.specs.declared.frames.{Answer.{Answer, TheVariants.Silence}, Forward.Forward}
 use Rattle.dali_special.specs.Command.{command_of}
 use Rattle.dali_gear.specs.{Row.answers_of, declared.row.Reach.TheVariants.Everyone}
 use Rattle.dali_arbiter.specs.Arbiter.{owns}
-use Rattle.dali_script.specs.{Scripts.Lawful, Scripts.IsFirst, Scripts.Open, Stages.stage_of, declared.trace.Entry.Entry}
-use Rattle.dali_script.proofs.Giving.{first_of_both, second_of_both}
+use Rattle.dali_script.{specs.{Scripts.{Lawful, IsFirst, Open}, Stages.stage_of, declared.trace.Entry.Entry}, proofs.Giving.{first_of_both, second_of_both}}
+use Rattle.dali_events.specs.{Allowed.{Allowed, IsUp, MaySend, HasDraws, Hears}, Happens.{happens, entry, goes_on, sent_by, told_sent, taken_by, trace_sent}}
+use Rattle.dali_events.specs.{Plan.Plan, Promise.KeepsGifts, World.{World, controller_at, gear_at, controllers_changed, start}, declared.event.Event.Event}
+use Rattle.dali_events.proofs.Histories.{Openings.{first_block, second_block, at_123456, silent, opening, visit, two_numbers}, Tested.{is_allowed, allowed_by}}
+use Rattle.dali_events.proofs.Histories.Tested.{EachIs, after_each, each_is_by, each_is_after}
 use Rattle.dali_script.specs.declared.orders.Input.TheVariants as input
-use Rattle.dali_events.specs.{Allowed.Allowed, Allowed.IsUp, Allowed.MaySend, Allowed.HasDraws, Allowed.Hears, Happens.happens, Happens.entry, Happens.goes_on}
-use Rattle.dali_events.specs.{Happens.sent_by, Happens.told_sent, Happens.taken_by, Happens.trace_sent, Plan.Plan, Promise.KeepsGifts, World.World}
-use Rattle.dali_events.specs.{World.controller_at, World.gear_at, World.controllers_changed, World.start, declared.event.Event.Event}
-use Rattle.dali_events.proofs.Histories.Openings.{first_block, second_block, at_123456, silent, opening, visit, two_numbers}
-use Rattle.dali_events.proofs.Histories.Tested.{is_allowed, allowed_by, EachIs, after_each, each_is_by, each_is_after}
 use Rattle.dali_events.specs.declared.event.Event.TheVariants as event
 
 -- A LAPSE MATTERS. A variant of the rules in which nobody owns the bus after a lapse, others may begin, and the old owner may

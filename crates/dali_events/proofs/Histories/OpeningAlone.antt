@@ -1,16 +1,14 @@
 use Rattle.std.proofs.Common.{◌≡◌, ◌⊎◌, ℕ, Bool, true, false, List, [], ◌∷◌, ◌++◌, Some, None, refl, inl, inr, lit<, lit≤, ◌&&◌, ◌||◌, if◌then◌else◌}
-use Rattle.dali_frame.specs.declared.frames.{Answer.Answer, Answer.TheVariants.Silence, Forward.Forward}
-use Rattle.dali_special.specs.Command.{command_of}
-use Rattle.dali_special.specs.declared.command.{Command.Command, Command.TheVariants.Initialise, Command.TheVariants.Randomise, Target.TheVariants.Unaddressed}
+use Rattle.dali_frame.specs.declared.frames.{Answer.{Answer, TheVariants.Silence}, Forward.Forward}
+use Rattle.dali_special.specs.{Command.command_of, declared.command.{Command.{Command, TheVariants.{Initialise, Randomise}}, Target.TheVariants.Unaddressed}}
 use Rattle.dali_gear.specs.{Row.answers_of, declared.row.Reach.TheVariants.Everyone}
-use Rattle.dali_script.specs.{Commands.is_initialise, Records.Assignment, Scripts.Step, Scripts.sends, Scripts.IsFront, Scripts.Lawful, Stages.stage_of}
-use Rattle.dali_script.{specs.declared.block.Block.Block, specs.declared.trace.Entry.Entry, proofs.Firsts.first_for_all}
+use Rattle.dali_script.specs.{Commands.is_initialise, Records.Assignment, Scripts.{Step, sends, IsFront, Lawful}, Stages.stage_of, declared.block.Block.Block}
+use Rattle.dali_script.{specs.declared.trace.Entry.Entry, proofs.Firsts.first_for_all}
+use Rattle.dali_events.specs.{Allowed.{Allowed, IsUp, MaySend, HasDraws, Hears}, Happens.{happens, trace_running, entry, goes_on, sent_by, told_sent, taken_by}}
+use Rattle.dali_events.specs.{Plan.Plan, Promise.KeepsGifts, World.{World, controller_at, gear_at, controllers_changed, start}, declared.event.Event.Event}
+use Rattle.dali_events.proofs.Histories.{Openings.{first_block, at_123456, silent, opening, visit, two_numbers}, Tested.{is_allowed, allowed_by, EachIs}}
+use Rattle.dali_events.proofs.Histories.Tested.{after_each, each_is_by, each_is_after}
 use Rattle.dali_script.specs.declared.orders.Input.TheVariants as input
-use Rattle.dali_events.specs.{Allowed.Allowed, Allowed.IsUp, Allowed.MaySend, Allowed.HasDraws, Allowed.Hears, Happens.happens, Happens.trace_running}
-use Rattle.dali_events.specs.{Happens.entry, Happens.goes_on, Happens.sent_by, Happens.told_sent, Happens.taken_by, Plan.Plan, Promise.KeepsGifts, World.World}
-use Rattle.dali_events.specs.{World.controller_at, World.gear_at, World.controllers_changed, World.start, declared.event.Event.Event}
-use Rattle.dali_events.proofs.Histories.Openings.{first_block, at_123456, silent, opening, visit, two_numbers}
-use Rattle.dali_events.proofs.Histories.Tested.{is_allowed, allowed_by, EachIs, after_each, each_is_by, each_is_after}
 use Rattle.dali_events.specs.declared.event.Event.TheVariants as event
 
 -- TERMINATE MATTERS. A variant of the rules, and a list of events that it allows, in which a gear with a short address draws

@@ -1,20 +1,17 @@
 use Rattle.std.proofs.Common.{arith, inl, inr, Some, ◌≡◌, ℕ, ◌<◌, ◌==◌, true, List, [], ◌∷◌, ◌++◌, refl, sym, ap, subst, ◌∙◌, length}
 use Rattle.std.{proofs.lemmas.Bool.Decides.nat_tests, specs.List.AllByRecursion}
-use Rattle.dali_frame.specs.Random.{number_of}
-use Rattle.dali_frame.specs.declared.{frames.Answer.TheVariants.Byte, frames.Forward.Forward, numbers.SearchAddress.SearchAddress}
-use Rattle.dali_special.specs.{Command.command_of, declared.command.Command.Command, declared.command.Command.TheVariants.RandomByte}
-use Rattle.dali_special.specs.declared.command.Part.TheVariants.{High, Middle, Low}
-use Rattle.dali_script.specs.{Findings.Asked, Findings.two_bytes, Findings.asked_of, Findings.search_of, Findings.found_by, Records.Assignment, Records.Has}
-use Rattle.dali_script.{specs.declared.finding.Finding.TheVariants.Resolved, proofs.Lists.has_map, proofs.Members.same_member}
-use Rattle.dali_events.specs.{Allowed.Allowed, Happens.happens, Happens.trace_running, Happens.entry}
-use Rattle.dali_events.specs.Laws.{GiftsAreReserved, GiftsAreOwned, KeepsReserved, TablesAgree, HasFound, FindingsAgree, IsReservedFor, KeepsRecords}
-use Rattle.dali_events.specs.{Plan.Plan, Plan.IsPlan, Promise.IsEnrolled, Promise.NamesGear, Promise.Names, Promise.IsSafe, Promise.HoldsShort, Runs.after}
-use Rattle.dali_events.specs.{Runs.after_all, Runs.AllAllowed, Runs.IsRun, Runs.AreDrawn, Runs.LeavesUsed, Used.gear_of_used, World.World, World.gear_at}
-use Rattle.dali_events.specs.{World.controller_at, World.start, declared.event.Event.Event, declared.event.Event.TheVariants.Sent, declared.used.Used.Used}
-use Rattle.dali_events.proofs.Invariant.{Controllers.controllers_count, Drawn.drawn_in_front, Gifts.IsOwned, Growing.after_both, Growing.allowed_front}
-use Rattle.dali_events.proofs.Invariant.{Growing.allowed_rest, Growing.leaves_front, Growing.leaves_rest, Growing.last_allowed, Keeping.records_of, Safe.Holds}
-use Rattle.dali_events.proofs.Invariant.Safe.{keeps_step, stays_step, holds_step, holds_after, safe, run_front, keeps_promise, finding_named, found_names}
-use Rattle.dali_events.proofs.Invariant.Starting.{start_count, stands}
+use Rattle.dali_frame.specs.{Random.number_of, declared.{frames.{Answer.TheVariants.Byte, Forward.Forward}, numbers.SearchAddress.SearchAddress}}
+use Rattle.dali_special.specs.{Command.command_of, declared.command.{Command.{Command, TheVariants.RandomByte}, Part.TheVariants.{High, Middle, Low}}}
+use Rattle.dali_script.specs.{Findings.{Asked, two_bytes, asked_of, search_of, found_by}, Records.{Assignment, Has}}
+use Rattle.dali_script.{specs.declared.finding.Finding.TheVariants.Resolved, proofs.{Lists.has_map, Members.same_member}}
+use Rattle.dali_events.specs.{Allowed.Allowed, Happens.{happens, trace_running, entry}, Laws.{GiftsAreReserved, GiftsAreOwned, KeepsReserved, TablesAgree}}
+use Rattle.dali_events.specs.{Laws.{HasFound, FindingsAgree, IsReservedFor, KeepsRecords}, Plan.{Plan, IsPlan}, Promise.{IsEnrolled, NamesGear, Names, IsSafe}}
+use Rattle.dali_events.specs.{Promise.HoldsShort, Runs.{after, after_all, AllAllowed, IsRun, AreDrawn, LeavesUsed}, Used.gear_of_used, World.{World, gear_at}}
+use Rattle.dali_events.specs.{World.{controller_at, start}, declared.{event.Event.{Event, TheVariants.Sent}, used.Used.Used}}
+use Rattle.dali_events.proofs.Invariant.{Controllers.controllers_count, Drawn.drawn_in_front, Gifts.IsOwned, Growing.{after_both, allowed_front, allowed_rest}}
+use Rattle.dali_events.proofs.Invariant.{Growing.{leaves_front, leaves_rest, last_allowed}, Keeping.records_of, Safe.{Holds, keeps_step, stays_step}}
+use Rattle.dali_events.proofs.Invariant.{Safe.{holds_step, holds_after, safe, run_front, keeps_promise, finding_named, found_names}, Starting.start_count}
+use Rattle.dali_events.proofs.Invariant.Starting.{stands}
 
 -- GIFTS STAY RESERVED
 pub gifts_owned : (p : Plan) (capacity : ℕ) (front rest : List Event) → IsRun p capacity (front ++ rest) → GiftsAreOwned p.used (after p capacity front)

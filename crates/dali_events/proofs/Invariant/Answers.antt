@@ -1,10 +1,8 @@
 use Rattle.std.proofs.Common.{◌≡◌, ◌≢◌, ℕ, ◌+◌, ◌<◌, ◌≤◌, inl, inr, Bool, true, false, zero, suc, List, [], ◌∷◌, refl, sym, ap, subst, ◌∙◌, arith, length, map}
-use Rattle.std.proofs.Common.{get_or, Option, Some, None, add-zero, zero-add, if◌then◌else◌}
-use Rattle.std.specs.List.{AllByRecursion}
+use Rattle.std.{proofs.Common.{get_or, Option, Some, None, add-zero, zero-add, if◌then◌else◌}, specs.List.AllByRecursion}
 use Rattle.dali_frame.specs.declared.frames.Answer.{Answer, TheVariants.Byte}
 use Rattle.dali_special.specs.declared.command.Command.{Command}
-use Rattle.dali_gear.specs.Gear.{Gear, fresh, answer}
-use Rattle.dali_gear.specs.{Row.takes, Row.option_cons, Row.answers_of, Row.stored_short, Row.stored_one, Row.stored_of, declared.row.Reach.Reach}
+use Rattle.dali_gear.specs.{Gear.{Gear, fresh, answer}, Row.{takes, option_cons, answers_of, stored_short, stored_one, stored_of}, declared.row.Reach.Reach}
 use Rattle.dali_script.specs.Records.{Has, IsOnce}
 use Rattle.dali_events.specs.Allowed.{Hears}
 

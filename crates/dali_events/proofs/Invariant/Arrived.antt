@@ -1,8 +1,7 @@
 use Rattle.std.proofs.Common.{◌≡◌, ℕ, ◌<◌, inl, inr, sym, ap, subst, ◌∙◌, map, get_or, replicate, Some, None}
 use Rattle.dali_gear.specs.Gear.{fresh}
 use Rattle.dali_script.{specs.Records.Has, proofs.Lists.has_map}
-use Rattle.dali_events.specs.{Plan.Plan, Plan.AreUsed, Used.earlier_gift, Used.with_used, World.start}
-use Rattle.dali_events.proofs.Invariant.Gifts.{Gifts, IsOwned}
+use Rattle.dali_events.{specs.{Plan.{Plan, AreUsed}, Used.{earlier_gift, with_used}, World.start}, proofs.Invariant.Gifts.{Gifts, IsOwned}}
 use Rattle.dali_events.proofs.Invariant.Starting.{IsUsedOrFresh, row_at, start_count, gear_of, shorts_of, gift_of_used, drawn_at, given_at, stands_at}
 
 -- WHAT HOLDS OF GIFTS AT THE START: the addresses of used gear count as given before.

@@ -1,12 +1,11 @@
 use Rattle.std.proofs.Common.{◌≡◌, ℕ, ◌<◌, Bool, true, false, List, refl, ◌∙◌, length, length-set, get_or, Option, Some, None}
 use Rattle.dali_special.specs.Command.{command_of}
-use Rattle.dali_script.specs.{Findings.search_of, Findings.asked_of, Findings.found_by, Findings.later, Records.Kept}
-use Rattle.dali_script.specs.declared.{finding.Finding.Finding, orders.Input.Input, orders.Order.Order, orders.Order.TheVariants.Commit, records.Record.Record}
-use Rattle.dali_script.proofs.Members.{Each, each_changed}
+use Rattle.dali_script.specs.{Findings.{search_of, asked_of, found_by, later}, Records.Kept, declared.{finding.Finding.Finding, orders.Input.Input}}
+use Rattle.dali_script.{specs.declared.{orders.Order.{Order, TheVariants.Commit}, records.Record.Record}, proofs.Members.{Each, each_changed}}
+use Rattle.dali_events.specs.{Events.{event_of, whose_step}, Happens.{happens, with_outstanding, controller_informed, controller_acted, trace_running}}
+use Rattle.dali_events.specs.{Happens.{told_sent, told_destroyed, told_lapsed, owner_told, gone_down, come_up}, World.{World, Controller, controller_at}}
+use Rattle.dali_events.specs.{World.nobody, declared.event.{Event.Event, Outside.Outside}}
 use Rattle.dali_script.specs.declared.orders.Input.TheVariants as input
-use Rattle.dali_events.specs.{Events.event_of, Events.whose_step, Happens.happens, Happens.with_outstanding, Happens.controller_informed}
-use Rattle.dali_events.specs.Happens.{controller_acted, trace_running, told_sent, told_destroyed, told_lapsed, owner_told, gone_down, come_up}
-use Rattle.dali_events.specs.{World.World, World.Controller, World.controller_at, World.nobody, declared.event.Event.Event, declared.event.Outside.Outside}
 use Rattle.dali_events.specs.declared.event.Event.TheVariants as event
 use Rattle.dali_events.specs.declared.event.Outside.TheVariants as outside
 

@@ -1,9 +1,8 @@
-use Rattle.std.proofs.Common.{◌≡◌, ℕ, List, [], ◌∷◌, ◌++◌, refl, subst}
-use Rattle.std.specs.List.{AllByRecursion}
+use Rattle.std.{proofs.Common.{◌≡◌, ℕ, List, [], ◌∷◌, ◌++◌, refl, subst}, specs.List.AllByRecursion}
 use Rattle.dali_gear.specs.Row.{heard_of}
 use Rattle.dali_script.specs.Records.{Has}
-use Rattle.dali_events.specs.{Allowed.Allowed, Allowed.Hears, Happens.happens, Plan.Plan, Runs.after, Runs.after_all, Runs.AllAllowed, Runs.IsRun}
-use Rattle.dali_events.specs.{Runs.LeavesUsed, Used.used_shorts, World.World, World.start, declared.event.Event.Event, declared.used.Used.Used}
+use Rattle.dali_events.specs.{Allowed.{Allowed, Hears}, Happens.happens, Plan.Plan, Runs.{after, after_all, AllAllowed, IsRun, LeavesUsed}, Used.used_shorts}
+use Rattle.dali_events.specs.{World.{World, start}, declared.{event.Event.Event, used.Used.Used}}
 
 -- HISTORIES GROW AT THE END. The world after a list of events and then more is the world after the two together.
 pub after_both : (w : World) (es fs : List Event) → after_all w (es ++ fs) ≡ after_all (after_all w es) fs

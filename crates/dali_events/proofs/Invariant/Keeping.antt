@@ -1,14 +1,12 @@
-use Rattle.std.proofs.Common.{◌≡◌, ℕ, ◌<◌, List, refl, subst, ◌∙◌, length, Option, Some, None}
-use Rattle.std.proofs.lemmas.List.{get_or-map, length-map}
-use Rattle.dali_script.specs.{Findings.assigned, Records.Assignment, Records.Kept, Records.InBlock, Records.IsKept, Records.MayAdd, Records.Fits}
-use Rattle.dali_script.specs.{Records.address_of, declared.block.Block.Block, declared.finding.Finding.Finding, declared.orders.Order.Order}
-use Rattle.dali_script.specs.declared.orders.Order.TheVariants.{Put, Commit, Done, Halt}
-use Rattle.dali_script.specs.declared.records.Record.{Record, TheVariants.Reserve, TheVariants.Enrol, TheVariants.Release}
-use Rattle.dali_script.proofs.{Lists.has_map, Lists.kept_none, Lists.kept_more, Lists.block_stays, Lists.reserved_fits, Members.Each}
-use Rattle.dali_events.specs.{Allowed.Allowed, Allowed.MayOrder, Allowed.MayCommit, Happens.happens, Happens.with_outstanding, Happens.controller_informed}
-use Rattle.dali_events.specs.{Laws.KeepsRecords, Plan.Plan, Plan.IsPlan, Plan.block_at, Plan.no_block, World.World, World.Controller, World.controller_at}
-use Rattle.dali_events.specs.{World.nobody, World.controller_begun, World.start, declared.event.Event.Event}
-use Rattle.dali_events.proofs.Invariant.Controllers.{Property, Stands, Of, AddsOrder, Adds, controllers_step, controllers_count}
+use Rattle.std.proofs.{Common.{◌≡◌, ℕ, ◌<◌, List, refl, subst, ◌∙◌, length, Option, Some, None}, lemmas.List.{get_or-map, length-map}}
+use Rattle.dali_script.specs.{Findings.assigned, Records.{Assignment, Kept, InBlock, IsKept, MayAdd, Fits, address_of}, declared.block.Block.Block}
+use Rattle.dali_script.specs.declared.{finding.Finding.Finding, orders.Order.{Order, TheVariants.{Put, Commit, Done, Halt}}, records.Record.Record}
+use Rattle.dali_script.{specs.declared.records.Record.TheVariants.{Reserve, Enrol, Release}, proofs.Lists.{has_map, kept_none, kept_more, block_stays}}
+use Rattle.dali_script.proofs.{Lists.reserved_fits, Members.Each}
+use Rattle.dali_events.specs.{Allowed.{Allowed, MayOrder, MayCommit}, Happens.{happens, with_outstanding, controller_informed}, Laws.KeepsRecords, Plan.Plan}
+use Rattle.dali_events.specs.{Plan.{IsPlan, block_at, no_block}, World.{World, Controller, controller_at, nobody, controller_begun, start}}
+use Rattle.dali_events.{specs.declared.event.Event.Event, proofs.Invariant.Controllers.{Property, Stands, Of, AddsOrder, Adds, controllers_step}}
+use Rattle.dali_events.proofs.Invariant.Controllers.{controllers_count}
 use Rattle.dali_events.specs.declared.event.Event.TheVariants as event
 
 -- RECORDS ARE KEPT, AND AN OUTSTANDING ONE MAY BE ADDED

@@ -1,28 +1,23 @@
 use Rattle.std.proofs.Common.{◌≡◌, ℕ, ◌<◌, Bool, true, false, List, [], ◌∷◌, ◌++◌, refl, sym, ap, subst, ◌∙◌, append_assoc, append-nil, arith, length}
-use Rattle.std.proofs.Common.{length-set}
-use Rattle.std.proofs.Common.{get_or, None, Some, inl, inr, map, if◌then◌else◌}
-use Rattle.std.{proofs.lemmas.List.length-map, specs.List.AllByRecursion}
+use Rattle.std.{proofs.{Common.{length-set, get_or, None, Some, inl, inr, map, if◌then◌else◌}, lemmas.List.length-map}, specs.List.AllByRecursion}
 use Rattle.dali_frame.specs.declared.frames.{Answer.Answer, Forward.Forward}
 use Rattle.dali_special.specs.Command.{command_of}
-use Rattle.dali_gear.specs.{Gear.Gear, Gear.fresh, Gear.gear_expired, Gear.gear_quieted, Row.row_after, Row.drawn_of, Row.stored_of, Row.stored_short}
-use Rattle.dali_gear.specs.declared.{gear_set.GearSet.GearSet, row.Reach.TheVariants.Everyone, row.Reach.TheVariants.Only}
-use Rattle.dali_script.specs.{Findings.asked_of, Findings.search_of, Findings.found_by, Findings.assigned, Records.Assignment, Records.Has}
-use Rattle.dali_script.{specs.declared.finding.Finding.Finding, proofs.Members.each_changed, proofs.Members.each_map}
-use Rattle.dali_statement.specs.Gear.{gear_seen}
-use Rattle.dali_statement.specs.Page.{Gear as PageGear, Moment, Site, start as page_start, after as page_after, are_apart}
-use Rattle.dali_statement.proofs.{Moved.At, Steps.Safe, Steps.told_gear, Whole.keeps_after, Whole.reserved_after}
-use Rattle.dali_events.specs.{Allowed.Allowed, Allowed.IsUp, Allowed.MaySend, Happens.happens, Happens.trace_running, Happens.gear_powered}
-use Rattle.dali_events.specs.{Happens.gear_interrupted, Page.plan_seen, Page.LeadsTo, Plan.Plan, Plan.IsPlan, Plan.numbers_of, Promise.HoldsShort}
-use Rattle.dali_events.specs.Promise.{KeepsPromiseNow, KeepsAddresses, KeepsPromiseFrom, KeepsPromise, Names, IsSafe, KeepsGifts, IsSafeFrom, IsSafeHistory}
-use Rattle.dali_events.specs.{Runs.after, Runs.after_all, Runs.AllAllowed, Runs.IsRun, Runs.LeavesUsed, World.World, World.gear_at, World.controller_at}
-use Rattle.dali_events.specs.{World.start, World.gear_changed, declared.event.Event.Event, declared.used.Used.Used}
-use Rattle.dali_events.proofs.Invariant.{Arrived.gifts_start, Controllers.controllers_count, Drawn.Draws, Drawn.HasDrawn, Drawn.draws_step, Drawn.draws_start}
-use Rattle.dali_events.proofs.Invariant.{Drawn.are_drawn, Gifts.Gifts, Gifts.IsOwned, Gifts.Change, Gifts.SameAddresses, Gifts.no_change, Gifts.frame_changes}
-use Rattle.dali_events.proofs.Invariant.{Gifts.gifts_step, Gifts.gift_stays, Gifts.one_holder, Growing.after_both, Growing.allowed_front, Growing.allowed_rest}
-use Rattle.dali_events.proofs.Invariant.{Growing.leaves_front, Growing.leaves_rest, Keeping.AllKeep, Keeping.AreShort, Keeping.keeping_step}
-use Rattle.dali_events.proofs.Invariant.{Keeping.keeps_start, Keeping.records_of, Sending.IsKnown, Sending.known_step, Sending.known_start}
-use Rattle.dali_events.proofs.Page.{Bridge.Next, Frames.stores_reserved, Frames.found_gear, Runs.Leads, Runs.each_event, Runs.begins, Runs.leads_on}
-use Rattle.dali_events.proofs.Page.{Runs.leads_to, Runs.safe_so, Runs.to_page, Runs.from_page, Sites.apart_seen}
+use Rattle.dali_gear.specs.{Gear.{Gear, fresh, gear_expired, gear_quieted}, Row.{row_after, drawn_of, stored_of, stored_short}}
+use Rattle.dali_gear.specs.declared.{gear_set.GearSet.GearSet, row.Reach.TheVariants.{Everyone, Only}}
+use Rattle.dali_script.specs.{Findings.{asked_of, search_of, found_by, assigned}, Records.{Assignment, Has}, declared.finding.Finding.Finding}
+use Rattle.dali_script.proofs.Members.{each_changed, each_map}
+use Rattle.dali_statement.{specs.{Gear.gear_seen, Page.{Gear as PageGear, Moment, Site, start as page_start, after as page_after, are_apart}}, proofs.Moved.At}
+use Rattle.dali_statement.proofs.{Steps.{Safe, told_gear}, Whole.{keeps_after, reserved_after}}
+use Rattle.dali_events.specs.{Allowed.{Allowed, IsUp, MaySend}, Happens.{happens, trace_running, gear_powered, gear_interrupted}, Page.{plan_seen, IsMoment}}
+use Rattle.dali_events.specs.{Page.{AreSeenAs, LeadsTo, IsReadAs}, Plan.{Plan, IsPlan, numbers_of}, Promise.{HoldsShort, KeepsPromiseNow, KeepsAddresses}}
+use Rattle.dali_events.specs.{Promise.{KeepsPromiseFrom, KeepsPromise, Names, IsSafe, KeepsGifts, IsSafeFrom, IsSafeHistory}, Runs.{after, after_all}}
+use Rattle.dali_events.specs.{Runs.{AllAllowed, IsRun, LeavesUsed}, World.{World, gear_at, controller_at, start, gear_changed}, declared.event.Event.Event}
+use Rattle.dali_events.{specs.declared.used.Used.Used, proofs.Invariant.{Arrived.gifts_start, Controllers.controllers_count, Drawn.{Draws, HasDrawn}}}
+use Rattle.dali_events.proofs.Invariant.{Drawn.{draws_step, draws_start, are_drawn}, Gifts.{Gifts, IsOwned, Change, SameAddresses, no_change, frame_changes}}
+use Rattle.dali_events.proofs.Invariant.{Gifts.{gifts_step, gift_stays, one_holder}, Growing.{after_both, allowed_front, allowed_rest, leaves_front}}
+use Rattle.dali_events.proofs.Invariant.{Growing.leaves_rest, Keeping.{AllKeep, AreShort, keeping_step, keeps_start, records_of}, Sending.{IsKnown, known_step}}
+use Rattle.dali_events.proofs.{Invariant.Sending.known_start, Page.{Bridge.{Next, found_told}, Frames.{stores_reserved, found_gear}, Runs.{Leads, each_event}}}
+use Rattle.dali_events.proofs.Page.{Runs.{begins, leads_on, leads_to, safe_so, gear_then, seen_both, to_page, from_page}, Sites.apart_seen}
 use Rattle.dali_events.specs.declared.event.Event.TheVariants as event
 
 -- THE INVARIANT of every run: its moments are a history of the page, from which the rest follows
@@ -60,17 +55,17 @@ module _ (p : Plan) (plan : IsPlan p) (w : World) (k : Holds p w) where
   pub finding_named : (c : ℕ) (x : Finding) → c < length w.controllers → (controller_at w c).finding ≡ Some x → Names w (assigned x)
   finding_named c x there is =
       seen_named (assigned x).0 (assigned x).1 (told_gear (plan_seen p) site_of safe_page (assigned x).0 (assigned x).1
-      ((k.page.seen.each c there).found x is))
+      (found_told (k.page.seen.each c there) x is))
 
   -- a gear that holds an address that is reserved has the number
   pub reserved_number : (c a r g : ℕ) → c < length w.controllers → Has (controller_at w c).records.reserved (a, r) → HoldsShort w g a
       → (gear_at w g).random ≡ r
   reserved_number c a r g there has held =
-      safe_page.sound.for_gear c a r g (gear_seen (gear_at w g)) ((k.page.seen.each c there).to a r has)
+      safe_page.sound.for_gear c a r g (gear_seen (gear_at w g)) ((k.page.seen.each c there).sees.to a r has)
       (to_page w site_of.gear k.page.seen.gear g held.0) held.1
 
   small : AreShort w
-  small c there y is = go (told_gear (plan_seen p) site_of safe_page (assigned y).0 (assigned y).1 ((k.page.seen.each c there).found y is)) where
+  small c there y is = go (told_gear (plan_seen p) site_of safe_page (assigned y).0 (assigned y).1 (found_told (k.page.seen.each c there) y is)) where
     go : (g : ℕ) × (x : PageGear) × At site_of.gear g x × (x.short ≡ Some (assigned y).0) × (x.random ≡ (assigned y).1) → (assigned y).0 < 64
     go who = safe_page.sound.short who.0 who.1 who.2 (assigned y).0 who.3
 
@@ -84,14 +79,14 @@ module _ (p : Plan) (plan : IsPlan p) (w : World) (e : Event) (here : Allowed w 
   numbers = apart_seen w (are_drawn p w plan k.draws)
 
   -- the moments of the page that it is
-  pub next : Next p (happens w e) (site_of p plan w k)
+  pub next : Next p (happens w e) (site_of p plan w k) (IsMoment w e)
   next = each_event p plan w (site_of p plan w k) k.page.seen (safe_page p plan w k) (records_of p w k.keeps) e here leaves numbers
 
   numbers_then : are_apart (page_after (site_of p plan w k) next.moments).gear ≡ true
   numbers_then = ap are_apart next.seen.gear ∙ apart_seen (happens w e) (are_drawn p (happens w e) plan (draws_step p w e k.draws))
 
   page : Leads p (happens w e) (k.moments ++ next.moments)
-  page = leads_on p w (happens w e) k.moments k.page next
+  page = leads_on p w (happens w e) k.moments (IsMoment w e) k.page next
 
   -- who holds a short address keeps it, with the random address
   pub stays_at : (g a : ℕ) → HoldsShort w g a → HoldsShort (happens w e) g a × ((gear_at (happens w e) g).random ≡ (gear_at w g).random)
@@ -112,9 +107,9 @@ module _ (p : Plan) (plan : IsPlan p) (w : World) (e : Event) (here : Allowed w 
       → Has (controller_at w c).records.reserved (a, (gear_at (happens w e) g).random)
       → Has (controller_at (happens w e) c).records.reserved (a, (gear_at (happens w e) g).random)
   stays_step c g a there held has =
-      (next.seen.each c (subst (λ n. c < n) (sym (controllers_count w e)) there)).from a (gear_at (happens w e) g).random
+      (next.seen.each c (subst (λ n. c < n) (sym (controllers_count w e)) there)).sees.from a (gear_at (happens w e) g).random
       (reserved_after (plan_seen p) next.moments (site_of p plan w k) (safe_page p plan w k) next.allow numbers_then c a g (gear_seen (gear_at (happens w e) g))
-      ((k.page.seen.each c there).to a (gear_at (happens w e) g).random has)
+      ((k.page.seen.each c there).sees.to a (gear_at (happens w e) g).random has)
       (to_page (happens w e) (page_after (site_of p plan w k) next.moments).gear next.seen.gear g held.0) held.1)
 
 -- A FRAME: what it stores, for the number that a gear has drawn
@@ -243,15 +238,18 @@ keeps_all p plan w (e ∷ es) all leave k =
       both : KeepsGifts w (happens w e) → KeepsGifts (happens w e) (after_all (happens w e) es) → KeepsGifts w (after_all (happens w e) es)
       both first rest g a h = let one = first g a h in let two = rest g a one.0 in (two.0, two.1 ∙ one.1)
 
--- later moments go on with the earlier ones
+-- later moments go on with the earlier ones, and are those of the later events
 pub moments_all : (p : Plan) (plan : IsPlan p) (w : World) (es : List Event) (all : AllAllowed w es) (leave : AllByRecursion (LeavesUsed p.used) es)
-    (k : Holds p w) → (more : List Moment) × ((holds_all p plan w es all leave k).moments ≡ k.moments ++ more)
+    (k : Holds p w) → (more : List Moment) × ((holds_all p plan w es all leave k).moments ≡ k.moments ++ more) × AreSeenAs w es more
 unfolding holds_all holds_step
-moments_all p plan w [] all leave k = ([], sym (append-nil k.moments))
+moments_all p plan w [] all leave k = ([], sym (append-nil k.moments), refl)
 moments_all p plan w (e ∷ es) all leave k =
-    let first = (next p plan w e all.0 leave.0 k).moments in
-    let later = moments_all p plan (happens w e) es all.1 leave.1 (holds_step p plan w e all.0 leave.0 k) in
-    (first ++ later.0, later.1 ∙ append_assoc k.moments first later.0)
+    let first = next p plan w e all.0 leave.0 k in
+    let later = moments_all p plan (happens w e) es all.1 leave.1 (holds_step p plan w e all.0 leave.0 k) in (
+      first.moments ++ later.0,
+      later.1 ∙ append_assoc k.moments first.moments later.0,
+      (first.moments, later.0, refl, first.is, gear_then p w (happens w e) (site_of p plan w k) (IsMoment w e) k.page.seen first, later.2),
+    )
 
 -- A WORLD OF A RUN IS SAFE
 pub safe : (p : Plan) → IsPlan p → (w : World) → Holds p w → IsSafe w
@@ -338,17 +336,26 @@ keeps_promise p capacity log run = promise_from p run.plan (start p capacity) (h
 
 -- A RUN IS A HISTORY OF THE PAGE, and its moments go on with those before
 pub every_run_is_a_history : (p : Plan) (capacity : ℕ) (front rest : List Event) → IsRun p capacity (front ++ rest)
-    → (ms : List Moment) × (more : List Moment) × LeadsTo p (after p capacity front) ms × LeadsTo p (after p capacity (front ++ rest)) (ms ++ more)
+    → (ms : List Moment) × (more : List Moment) × IsReadAs p capacity front ms × IsReadAs p capacity (front ++ rest) (ms ++ more)
+unfolding holds_start
 every_run_is_a_history p capacity front rest run =
-    let k = holds_after p capacity front (run_front p capacity front rest run) in
+    let begun = holds_start p run.plan capacity in
+    let all = allowed_front (start p capacity) front rest run.allowed in
+    let leave = leaves_front p.used front rest run.leaves in
+    let k = holds_all p run.plan (start p capacity) front all leave begun in
+    let first = moments_all p run.plan (start p capacity) front all leave begun in
     let allowed = allowed_rest (start p capacity) front rest run.allowed in
     let leaves = leaves_rest p.used front rest run.leaves in
     let later = holds_all p run.plan (after p capacity front) rest allowed leaves k in
-    let more = moments_all p run.plan (after p capacity front) rest allowed leaves k in (
+    let more = moments_all p run.plan (after p capacity front) rest allowed leaves k in
+    let seen : AreSeenAs (start p capacity) front k.moments = subst (AreSeenAs (start p capacity) front) (sym first.1) first.2 in (
       k.moments,
       more.0,
-      leads_to p (after p capacity front) k.moments run.plan k.page,
-      subst (λ w. LeadsTo p w (k.moments ++ more.0)) (sym (after_both (start p capacity) front rest))
-          (leads_to p (after_all (after p capacity front) rest) (k.moments ++ more.0) run.plan
-          (subst (Leads p (after_all (after p capacity front) rest)) more.1 later.page)),
+      record { moments = seen; leads = leads_to p (after p capacity front) k.moments run.plan k.page },
+      record {
+        moments = seen_both (start p capacity) front rest k.moments more.0 seen more.2;
+        leads = subst (λ w. LeadsTo p w (k.moments ++ more.0)) (sym (after_both (start p capacity) front rest))
+            (leads_to p (after_all (after p capacity front) rest) (k.moments ++ more.0) run.plan
+            (subst (Leads p (after_all (after p capacity front) rest)) more.1 later.page));
+      },
     )

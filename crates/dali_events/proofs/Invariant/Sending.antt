@@ -1,21 +1,18 @@
 use Rattle.std.proofs.Common.{◌≡◌, ℕ, ◌<◌, inl, inr, Bool, true, false, List, [], ◌∷◌, ◌++◌, refl, sym, subst, arith, length, get_or, replicate, Option, Some}
-use Rattle.std.proofs.Common.{None, ◌&&◌, ◌==◌, if◌then◌else◌}
-use Rattle.std.proofs.lemmas.Bool.Decides.{nat_tests}
+use Rattle.std.proofs.{Common.{None, ◌&&◌, ◌==◌, if◌then◌else◌}, lemmas.Bool.Decides.nat_tests}
 use Rattle.dali_frame.specs.declared.frames.{Answer.Answer, Forward.Forward}
-use Rattle.dali_special.{specs.Command.command_of, specs.Command.IsSpelled, specs.declared.command.Command.Command, proofs.Table.read_spelled}
-use Rattle.dali_gear.specs.{Gear.Gear, Gear.fresh, Gear.gear_expired, Gear.gear_quieted, Row.takes, Row.row_after, Row.drawn_of, Row.answers_of}
-use Rattle.dali_gear.specs.declared.row.Reach.{Reach, TheVariants.Everyone, TheVariants.Only}
+use Rattle.dali_special.{specs.{Command.{command_of, IsSpelled}, declared.command.Command.Command}, proofs.Table.read_spelled}
+use Rattle.dali_gear.specs.{Gear.{Gear, fresh, gear_expired, gear_quieted}, Row.{takes, row_after, drawn_of, answers_of}, declared.row.Reach.Reach}
+use Rattle.dali_gear.specs.declared.row.Reach.TheVariants.{Everyone, Only}
 use Rattle.dali_arbiter.specs.Arbiter.{owns}
-use Rattle.dali_script.specs.{Records.Assignment, Scripts.Lawful, Stages.Follows, Stages.next_stage, Stages.stage_of}
-use Rattle.dali_script.specs.declared.{block.Block.Block, stage.Stage.Stage, trace.Entry.Entry}
-use Rattle.dali_script.proofs.{Firsts.first_for_all, Lists.has_map, Members.Each, Members.each_changed, Members.each_map}
+use Rattle.dali_script.specs.{Records.Assignment, Scripts.Lawful, Stages.{Follows, next_stage, stage_of}, declared.{block.Block.Block, stage.Stage.Stage}}
+use Rattle.dali_script.{specs.declared.trace.Entry.Entry, proofs.{Firsts.first_for_all, Lists.has_map, Members.{Each, each_changed, each_map}}}
 use Rattle.dali_script.proofs.Transactions.{follows_lawful, stage_more, stage_none}
-use Rattle.dali_events.specs.{Allowed.Allowed, Allowed.MaySend, Allowed.Hears, Happens.happens, Happens.trace_running, Happens.entry, Happens.goes_on}
-use Rattle.dali_events.specs.{Happens.gear_powered, Happens.gear_interrupted, Plan.Plan, Plan.AreUsed, Runs.after, Runs.after_all, Runs.AllAllowed}
-use Rattle.dali_events.specs.{Used.with_used, World.World, World.gear_at, World.controller_at, World.start, declared.event.Event.Event}
-use Rattle.dali_events.proofs.Invariant.{Answers.answers_have, Answers.heard_byte, Known.Knows, Known.Agrees, Known.IsShort, Known.knows_step}
-use Rattle.dali_events.proofs.Invariant.{Known.knows_inactive, Known.knows_halved, Known.short_taken, Starting.IsUsedOrFresh, Starting.row_at}
-use Rattle.dali_events.proofs.Invariant.{Starting.start_count, Takes.Moved, Takes.stays, Takes.goes, Takes.moves_at, Takes.row_length}
+use Rattle.dali_events.specs.{Allowed.{Allowed, MaySend, Hears}, Happens.{happens, trace_running, entry, goes_on, gear_powered, gear_interrupted}, Plan.Plan}
+use Rattle.dali_events.specs.{Plan.AreUsed, Runs.{after, after_all, AllAllowed}, Used.with_used, World.{World, gear_at, controller_at, start}}
+use Rattle.dali_events.{specs.declared.event.Event.Event, proofs.Invariant.{Answers.{answers_have, heard_byte}, Known.{Knows, Agrees, IsShort, knows_step}}}
+use Rattle.dali_events.proofs.Invariant.{Known.{knows_inactive, knows_halved, short_taken}, Starting.{IsUsedOrFresh, row_at, start_count}, Takes.{Moved, stays}}
+use Rattle.dali_events.proofs.Invariant.Takes.{goes, moves_at, row_length}
 use Rattle.dali_events.specs.declared.event.Event.TheVariants as event
 
 -- A SENDER'S FRAME FOLLOWS the trace that it goes on with

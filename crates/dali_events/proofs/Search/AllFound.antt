@@ -1,29 +1,22 @@
 use Rattle.std.proofs.Common.{◌≡◌, ℕ, ◌<◌, ◌≤◌, ◌⊎◌, inl, inr, Bool, true, false, List, [], ◌∷◌, ◌++◌, refl, sym, ap, subst, ◌∙◌, arith, length, get_or, Option}
-use Rattle.std.proofs.Common.{Some, None, nat_le, if◌then◌else◌}
-use Rattle.std.proofs.lemmas.Bool.Decides.{nat_tests}
-use Rattle.dali_frame.specs.Random.{value_of, MASK24}
-use Rattle.dali_frame.specs.declared.{frames.Answer.Answer, frames.Forward.Forward, numbers.SearchAddress.SearchAddress}
-use Rattle.dali_special.specs.{Command.command_of, declared.command.Command.Command}
-use Rattle.dali_special.specs.declared.command.Command.TheVariants.{Terminate, Randomise, Compare, Withdraw}
-use Rattle.dali_gear.specs.Gear.{Gear, fresh, YES, draws_a_number, answer, short_after}
-use Rattle.dali_gear.specs.Row.{takes, row_after, drawn_of, draws_needed, answers_of}
-use Rattle.dali_gear.specs.declared.{row.Reach.Reach, row.Reach.TheVariants.Everyone, row.Reach.TheVariants.Only, state.InitialisationState.TheVariants.Enabled}
+use Rattle.std.proofs.{Common.{Some, None, nat_le, if◌then◌else◌}, lemmas.Bool.Decides.nat_tests}
+use Rattle.dali_frame.specs.{Random.{value_of, MASK24}, declared.{frames.{Answer.Answer, Forward.Forward}, numbers.SearchAddress.SearchAddress}}
+use Rattle.dali_special.specs.{Command.command_of, declared.command.Command.{Command, TheVariants.{Terminate, Randomise, Compare, Withdraw}}}
+use Rattle.dali_gear.specs.{Gear.{Gear, fresh, YES, draws_a_number, answer, short_after}, Row.{takes, row_after, drawn_of, draws_needed, answers_of}}
+use Rattle.dali_gear.specs.declared.{row.Reach.{Reach, TheVariants.{Everyone, Only}}, state.InitialisationState.TheVariants.Enabled}
 use Rattle.dali_arbiter.specs.Arbiter.{owns}
-use Rattle.dali_script.specs.{Findings.search_of, Records.Assignment, Records.Has, Scripts.Open, Scripts.steps, Scripts.IsFront}
-use Rattle.dali_script.specs.Stages.{Follows, next_stage, stage_of, IsSearched}
-use Rattle.dali_script.{specs.declared.block.Block.Block, specs.declared.stage.Stage.Stage, specs.declared.trace.Entry.Entry, proofs.Firsts.terminate_first}
-use Rattle.dali_script.proofs.{Found.searched_lawful, Members.Each, Members.each_map, Members.has_right, Transactions.stage_more, Transactions.stage_none}
-use Rattle.dali_script.specs.declared.stage.Stage.TheVariants as stage
-use Rattle.dali_events.specs.{Allowed.Allowed, Allowed.MaySend, Happens.happens, Happens.trace_running, Happens.entry, Happens.goes_on}
-use Rattle.dali_events.specs.{Happens.gear_interrupted, Plan.Plan, Plan.IsPlan, Plan.numbers_of, Runs.after, Runs.after_all, Runs.AllAllowed}
-use Rattle.dali_events.specs.Searching.{EachPowered, IsCalm, AreCalm, CompletesOpening, HIGHEST, sent_event, up_to_compare, SearchesAll, NobodyAnswers}
-use Rattle.dali_events.specs.Searching.{number_at, IsHalfway, BreaksNoPair, BreakNoPair, HasShort, PassesOver, PassesNobody, PassNobody}
-use Rattle.dali_events.specs.{World.World, World.gear_at, World.controller_at, World.start, declared.event.Event.Event}
-use Rattle.dali_events.proofs.Invariant.{Answers.answers_have, Drawn.Draws, Drawn.draws_step, Drawn.draws_all, Drawn.draws_after, Drawn.are_drawn}
-use Rattle.dali_events.proofs.Invariant.{Growing.after_both, Growing.allowed_front, Growing.allowed_rest, Known.Knows, Known.IsActive}
-use Rattle.dali_events.proofs.Invariant.Sending.{IsKnown, known_step, known_all, known_after, lawful_of, follows_of, knows_running, powered_takes}
-use Rattle.dali_events.proofs.Invariant.Takes.{Moved, stays, goes, moves_at, row_length}
+use Rattle.dali_script.specs.{Findings.search_of, Records.{Assignment, Has}, Scripts.{Open, steps, IsFront}, Stages.{Follows, next_stage, stage_of, IsSearched}}
+use Rattle.dali_script.{specs.declared.{block.Block.Block, stage.Stage.Stage, trace.Entry.Entry}, proofs.{Firsts.terminate_first, Found.searched_lawful}}
+use Rattle.dali_script.proofs.{Members.{Each, each_map, has_right}, Transactions.{stage_more, stage_none}}
+use Rattle.dali_events.specs.{Allowed.{Allowed, MaySend}, Happens.{happens, trace_running, entry, goes_on, gear_interrupted}, Plan.{Plan, IsPlan, numbers_of}}
+use Rattle.dali_events.specs.{Runs.{after, after_all, AllAllowed}, Searching.{EachPowered, IsCalm, AreCalm, CompletesOpening, HIGHEST, sent_event}}
+use Rattle.dali_events.specs.Searching.{up_to_compare, SearchesAll, NobodyAnswers, number_at, IsHalfway, BreaksNoPair, BreakNoPair, HasShort, PassesOver}
+use Rattle.dali_events.specs.{Searching.{PassesNobody, PassNobody}, World.{World, gear_at, controller_at, start}, declared.event.Event.Event}
+use Rattle.dali_events.proofs.Invariant.{Answers.answers_have, Drawn.{Draws, draws_step, draws_all, draws_after, are_drawn}, Growing.after_both}
+use Rattle.dali_events.proofs.Invariant.{Growing.{allowed_front, allowed_rest}, Known.{Knows, IsActive}, Sending.{IsKnown, known_step, known_all, known_after}}
+use Rattle.dali_events.proofs.Invariant.{Sending.{lawful_of, follows_of, knows_running, powered_takes}, Takes.{Moved, stays, goes, moves_at, row_length}}
 use Rattle.dali_events.proofs.Search.Opening.{draws_at, Opens, opens_step, Ready, drawn_ready, ready_step}
+use Rattle.dali_script.specs.declared.stage.Stage.TheVariants as stage
 use Rattle.dali_events.specs.declared.event.Event.TheVariants as event
 
 -- THE OPENING

@@ -1,16 +1,12 @@
 use Rattle.std.proofs.Common.{◌≡◌, ℕ, ◌+◌, ◌<◌, ◌≤◌, ◌⊎◌, inl, inr, Bool, true, false, zero, suc, List, [], ◌∷◌, refl, sym, ap, subst, ◌∙◌, arith, length, Some}
-use Rattle.std.proofs.Common.{None, ◌&&◌, ◌==◌, nat_le, if◌then◌else◌}
-use Rattle.std.proofs.lemmas.Bool.Decides.{nat_tests}
-use Rattle.dali_frame.specs.Random.{value_of, MASK24}
-use Rattle.dali_frame.specs.declared.{frames.Answer.TheVariants.Silence, frames.Answer.TheVariants.Byte, numbers.SearchAddress.SearchAddress}
-use Rattle.dali_special.specs.{Command.program_data, declared.command.Command.Command}
-use Rattle.dali_special.specs.declared.command.{Command.TheVariants.Compare, Command.TheVariants.QueryShort, Command.TheVariants.RandomByte, Part.Part}
-use Rattle.dali_gear.specs.{Gear.Gear, Gear.YES, Gear.is_enabled, Gear.is_active, Gear.is_found, Gear.byte_at, Gear.answer, Gear.answer_to, Row.option_cons}
-use Rattle.dali_gear.specs.{Row.answers_of, Row.heard_of, declared.row.Reach.TheVariants.Everyone, declared.state.InitialisationState.TheVariants.Enabled}
+use Rattle.std.proofs.{Common.{None, ◌&&◌, ◌==◌, nat_le, if◌then◌else◌}, lemmas.Bool.Decides.nat_tests}
+use Rattle.dali_frame.specs.{Random.{value_of, MASK24}, declared.{frames.Answer.TheVariants.{Silence, Byte}, numbers.SearchAddress.SearchAddress}}
+use Rattle.dali_special.specs.{Command.program_data, declared.command.{Command.{Command, TheVariants.{Compare, QueryShort, RandomByte}}, Part.Part}}
+use Rattle.dali_gear.specs.{Gear.{Gear, YES, is_enabled, is_active, is_found, byte_at, answer, answer_to}, Row.{option_cons, answers_of, heard_of}}
+use Rattle.dali_gear.specs.declared.{row.Reach.TheVariants.Everyone, state.InitialisationState.TheVariants.Enabled}
 use Rattle.dali_script.{specs.Records.Has, proofs.Members.same_member}
-use Rattle.dali_events.specs.{Runs.AreDrawn, Searching.EachPowered, Wanted.is_wanted, Wanted.wants, Wanted.gear_of, Wanted.OfPowered, Wanted.Seek}
-use Rattle.dali_events.specs.{Wanted.AreApart, Wanted.IsOpened, World.World, World.gear_at}
-use Rattle.dali_events.proofs.Invariant.{Answers.answered, Answers.answers_have, Known.found_random, Sending.powered_takes, Sending.takes_powered}
+use Rattle.dali_events.specs.{Runs.AreDrawn, Searching.EachPowered, Wanted.{is_wanted, wants, gear_of, OfPowered, Seek, AreApart, IsOpened}, World.World}
+use Rattle.dali_events.{specs.World.gear_at, proofs.Invariant.{Answers.{answered, answers_have}, Known.found_random, Sending.{powered_takes, takes_powered}}}
 use Rattle.dali_events.proofs.Search.Wanted.{number_same, enabled_is, wanted_powered, wanted_enabled, wanted_active, is_wanted_by, wants_by, wants_at}
 
 -- COMPARE: who has a random address above the search address is silent, and no other

@@ -1,11 +1,8 @@
-use Rattle.std.proofs.Common.{◌≡◌, ℕ, ◌<◌, true, List, refl, sym, subst, ◌∙◌, length}
-use Rattle.std.specs.List.{count_by}
+use Rattle.std.{proofs.Common.{◌≡◌, ℕ, ◌<◌, true, List, refl, sym, subst, ◌∙◌, length}, specs.List.count_by}
 use Rattle.dali_frame.specs.Random.{MASK24}
-use Rattle.dali_special.specs.declared.command.Command.{Command}
-use Rattle.dali_special.specs.declared.command.Command.TheVariants.{Terminate, Initialise, Randomise, Withdraw, Program, SearchHigh, SearchMiddle}
-use Rattle.dali_gear.specs.{Gear.Gear, Gear.is_active, Gear.gear_taken, Row.row_after, declared.row.Reach.TheVariants.Everyone}
-use Rattle.dali_events.specs.Wanted.{is_wanted, wants, is_bare, gear_of, OfPowered, IsOpened, NoneNamed, NoneNamedBut}
-use Rattle.dali_events.proofs.Invariant.Takes.{row_length}
+use Rattle.dali_special.specs.declared.command.Command.{Command, TheVariants.{Terminate, Initialise, Randomise, Withdraw, Program, SearchHigh, SearchMiddle}}
+use Rattle.dali_gear.specs.{Gear.{Gear, is_active, gear_taken}, Row.row_after, declared.row.Reach.TheVariants.Everyone}
+use Rattle.dali_events.{specs.Wanted.{is_wanted, wants, is_bare, gear_of, OfPowered, IsOpened, NoneNamed, NoneNamedBut}, proofs.Invariant.Takes.row_length}
 use Rattle.dali_events.proofs.Search.Wanted.{Enabling, Drawing, Unnamed, UnnamedBut, count_same, powered_over, wants_same, after_at}
 
 -- GEAR BY GEAR THE SAME but for the search address and the half pair

@@ -1,20 +1,17 @@
 use Rattle.std.proofs.Common.{◌≡◌, ℕ, ◌+◌, ◌<◌, ◌≤◌, ◌⊎◌, inl, inr, Bool, true, false, zero, suc, List, [], ◌∷◌, refl, sym, subst, arith, length, get_or}
-use Rattle.std.proofs.Common.{Option, Some, None, add-zero, zero-add, ◌-◌, ◌&&◌, ◌==◌, if◌then◌else◌}
-use Rattle.std.specs.Prelude.{unwrap_or}
-use Rattle.dali_frame.specs.{Random.value_of, Random.MASK24, Short.short_of, declared.frames.Answer.Answer, declared.frames.Answer.TheVariants.Silence}
-use Rattle.dali_frame.specs.declared.{frames.Answer.TheVariants.Byte, frames.Answer.TheVariants.Damaged, numbers.SearchAddress.SearchAddress}
-use Rattle.dali_special.specs.Command.{MASK}
-use Rattle.dali_special.specs.declared.command.Command.{Command, TheVariants.Terminate, TheVariants.Initialise, TheVariants.Randomise}
-use Rattle.dali_special.specs.declared.command.Command.TheVariants.{Withdraw, SearchHigh, SearchMiddle, SearchLow, Program, QueryShort, Compare, RandomByte}
-use Rattle.dali_special.specs.declared.command.{Part.TheVariants.High, Part.TheVariants.Middle, Part.TheVariants.Low, Target.TheVariants.Unaddressed}
+use Rattle.std.{proofs.Common.{Option, Some, None, add-zero, zero-add, ◌-◌, ◌&&◌, ◌==◌, if◌then◌else◌}, specs.Prelude.unwrap_or}
+use Rattle.dali_frame.specs.{Random.{value_of, MASK24}, Short.short_of, declared.frames.Answer.{Answer, TheVariants.{Silence, Byte, Damaged}}}
+use Rattle.dali_frame.specs.declared.numbers.SearchAddress.{SearchAddress}
+use Rattle.dali_special.specs.{Command.MASK, declared.command.Command.{Command, TheVariants.{Terminate, Initialise, Randomise, Withdraw, SearchHigh}}}
+use Rattle.dali_special.specs.declared.command.{Command.TheVariants.{SearchMiddle, SearchLow, Program, QueryShort, Compare, RandomByte}, Part.TheVariants.High}
+use Rattle.dali_special.specs.declared.command.{Part.TheVariants.{Middle, Low}, Target.TheVariants.Unaddressed}
 use Rattle.dali_gear.specs.Gear.{Gear, fresh, is_active, is_enabled, is_found, is_second, concerns, draws_a_number, gear_taken, state_after, short_after}
-use Rattle.dali_gear.specs.{Gear.half_after, Row.takes, Row.left_after, Row.row_after, Row.drawn_one, Row.drawn_of, Row.draws_needed, declared.row.Reach.Reach}
+use Rattle.dali_gear.specs.{Gear.half_after, Row.{takes, left_after, row_after, drawn_one, drawn_of, draws_needed}, declared.row.Reach.Reach}
 use Rattle.dali_gear.specs.declared.state.InitialisationState.TheVariants.{Enabled, Withdrawn}
-use Rattle.dali_script.specs.{Records.Assignment, Records.Has, Scripts.is_asking}
-use Rattle.dali_script.specs.Stages.{Follows, next_stage, hunted, doubted, queried, named, verified, answered, bytes_heard, number_heard}
-use Rattle.dali_script.{specs.declared.block.Block.Block, specs.declared.stage.Stage.Stage, proofs.Transactions.asks_hunting}
-use Rattle.dali_script.specs.declared.stage.Stage.TheVariants as stage
+use Rattle.dali_script.specs.{Records.{Assignment, Has}, Scripts.is_asking, Stages.{Follows, next_stage, hunted, doubted, queried, named, verified, answered}}
+use Rattle.dali_script.{specs.{Stages.{bytes_heard, number_heard}, declared.{block.Block.Block, stage.Stage.Stage}}, proofs.Transactions.asks_hunting}
 use Rattle.dali_events.proofs.Invariant.Known.{Knows, IsActive, found_random}
+use Rattle.dali_script.specs.declared.stage.Stage.TheVariants as stage
 
 -- WITH NUMBERS ENOUGH, who would draw draws one of them
 record DrawsNumber (reach : Reach) (c : Command) (k : ℕ) (gs : List Gear) (left : List ℕ) (i : ℕ) : Type 0 where

@@ -1,11 +1,9 @@
-use Rattle.std.proofs.Common.{◌≡◌, ◌≢◌, ℕ, ◌<◌, Bool, true, false, List, refl, sym, subst, ◌∙◌, length, Some, None, ◌&&◌, if◌then◌else◌}
-use Rattle.std.specs.List.{count_by}
-use Rattle.dali_frame.specs.{Random.value_of, Random.MASK24, declared.numbers.SearchAddress.SearchAddress}
+use Rattle.std.{proofs.Common.{◌≡◌, ◌≢◌, ℕ, ◌<◌, Bool, true, false, List, refl, sym, subst, ◌∙◌, length, Some, None, ◌&&◌, if◌then◌else◌}, specs.List.count_by}
+use Rattle.dali_frame.specs.{Random.{value_of, MASK24}, declared.numbers.SearchAddress.SearchAddress}
 use Rattle.dali_special.specs.declared.command.Command.TheVariants.{Program}
-use Rattle.dali_gear.specs.{Gear.Gear, Gear.is_active, Gear.is_found, Gear.gear_taken, Gear.short_after, Row.row_after, declared.row.Reach.TheVariants.Everyone}
-use Rattle.dali_events.specs.Wanted.{is_wanted, wants, gear_of, Seek, IsOpened, NoneNamedBut}
-use Rattle.dali_events.proofs.{Invariant.Known.found_random, Invariant.Takes.row_length, Search.Heard.random_found}
-use Rattle.dali_events.proofs.Search.Wanted.{count_same, Enabling, Drawing, UnnamedBut, powered_over, wants_same, after_at}
+use Rattle.dali_gear.specs.{Gear.{Gear, is_active, is_found, gear_taken, short_after}, Row.row_after, declared.row.Reach.TheVariants.Everyone}
+use Rattle.dali_events.{specs.Wanted.{is_wanted, wants, gear_of, Seek, IsOpened, NoneNamedBut}, proofs.Invariant.{Known.found_random, Takes.row_length}}
+use Rattle.dali_events.proofs.Search.{Heard.random_found, Wanted.{count_same, Enabling, Drawing, UnnamedBut, powered_over, wants_same, after_at}}
 
 -- PROGRAM SHORT ADDRESS: the gear after it
 abbrev pub after_program : ℕ → List Gear → List ℕ → List Gear

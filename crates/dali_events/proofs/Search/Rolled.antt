@@ -1,17 +1,13 @@
 use Rattle.std.proofs.Common.{◌≡◌, ℕ, ◌⊎◌, inl, inr, true, List, [], ◌∷◌, ◌++◌, refl, sym, ap, subst, ◌∙◌, arith, append_assoc, append-nil, Some, None, ◌==◌}
 use Rattle.std.{proofs.lemmas.Bool.Decides.nat_tests, specs.List.AllByRecursion}
-use Rattle.dali_frame.specs.Random.{value_of, MASK24}
-use Rattle.dali_frame.specs.declared.{frames.Answer.Answer, frames.Answer.TheVariants.Silence, numbers.SearchAddress.SearchAddress}
-use Rattle.dali_special.specs.Command.{command_of}
-use Rattle.dali_special.specs.declared.command.Command.TheVariants.{Terminate, Initialise, Compare, SearchHigh, SearchMiddle, SearchLow}
+use Rattle.dali_frame.specs.{Random.{value_of, MASK24}, declared.{frames.Answer.{Answer, TheVariants.Silence}, numbers.SearchAddress.SearchAddress}}
+use Rattle.dali_special.specs.{Command.command_of, declared.command.Command.TheVariants.{Terminate, Initialise, Compare, SearchHigh, SearchMiddle, SearchLow}}
 use Rattle.dali_special.specs.declared.command.Target.TheVariants.{Unaddressed}
-use Rattle.dali_script.specs.{Scripts.IsFront, Stages.stage_of, declared.orders.Input.Input, declared.orders.Order.Order, declared.stage.Stage.Stage}
-use Rattle.dali_script.specs.declared.stage.Stage.TheVariants.{Terminated, InitialisedOnce, Initialised, WokenHigh, WokenLow, Hunted}
-use Rattle.dali_script.specs.declared.trace.Entry.{Entry}
-use Rattle.dali_events.specs.Calling.{Runs, RunsOn, Calls, Orders, HasCalled, roll_call}
-use Rattle.dali_events.specs.{Happens.happens, Happens.trace_running, Plan.Plan, Runs.after, Runs.after_all, Runs.IsRun, Searching.sent_event, World.World}
-use Rattle.dali_events.{specs.World.start, specs.declared.event.Event.Event, proofs.Invariant.Growing.after_both, proofs.Invariant.Growing.allowed_front}
-use Rattle.dali_events.proofs.{Invariant.Growing.leaves_front, Search.Called.called, Search.Traced.IsAmong, Search.Traced.traced, Search.Traced.runs_part}
+use Rattle.dali_script.specs.{Scripts.IsFront, Stages.stage_of, declared.{orders.{Input.Input, Order.Order}, stage.Stage.{Stage, TheVariants.Terminated}}}
+use Rattle.dali_script.specs.declared.{stage.Stage.TheVariants.{InitialisedOnce, Initialised, WokenHigh, WokenLow, Hunted}, trace.Entry.Entry}
+use Rattle.dali_events.specs.{Calling.{Runs, RunsOn, Calls, Orders, HasCalled, roll_call}, Happens.{happens, trace_running}, Plan.Plan, Runs.{after, after_all}}
+use Rattle.dali_events.{specs.{Runs.IsRun, Searching.sent_event, World.{World, start}, declared.event.Event.Event}, proofs.Invariant.Growing.after_both}
+use Rattle.dali_events.proofs.{Invariant.Growing.{allowed_front, leaves_front}, Search.{Called.called, Traced.{IsAmong, traced, runs_part}}}
 use Rattle.dali_events.specs.declared.event.Event.TheVariants as event
 
 -- THE ROLL WAS CALLED, AND NOBODY WAS HEARD: from the frames of the transaction to the log.

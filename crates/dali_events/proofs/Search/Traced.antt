@@ -1,12 +1,10 @@
 use Rattle.std.proofs.Common.{◌≡◌, ℕ, ◌⊎◌, inl, inr, Bool, true, false, List, [], ◌∷◌, ◌++◌, refl, sym, ap, subst, ◌∙◌, arith, Option, Some, None, ◌==◌}
-use Rattle.std.proofs.Common.{if◌then◌else◌}
-use Rattle.std.proofs.lemmas.Bool.Decides.{nat_tests}
+use Rattle.std.proofs.{Common.if◌then◌else◌, lemmas.Bool.Decides.nat_tests}
 use Rattle.dali_frame.specs.declared.frames.{Answer.Answer, Forward.Forward}
 use Rattle.dali_arbiter.specs.Arbiter.{Arbiter, owns, bus_lapsed, bus_freed, bus_muted}
-use Rattle.dali_script.specs.declared.orders.{Input.Input, Order.Order, Order.TheVariants.Put, Order.TheVariants.Commit, Order.TheVariants.Done}
-use Rattle.dali_script.specs.declared.{orders.Order.TheVariants.Halt, trace.Entry.Entry}
-use Rattle.dali_events.specs.{Calling.Runs, Calling.RunsOn, Happens.happens, Happens.trace_running, Happens.entry, Happens.goes_on, Happens.gives_up}
-use Rattle.dali_events.specs.{Happens.bus_acted, Runs.after_all, Searching.sent_event, World.World, declared.event.Event.Event}
+use Rattle.dali_script.specs.declared.{orders.{Input.Input, Order.{Order, TheVariants.{Put, Commit, Done, Halt}}}, trace.Entry.Entry}
+use Rattle.dali_events.specs.{Calling.{Runs, RunsOn}, Happens.{happens, trace_running, entry, goes_on, gives_up, bus_acted}, Runs.after_all}
+use Rattle.dali_events.specs.{Searching.sent_event, World.World, declared.event.Event.Event}
 use Rattle.dali_events.specs.declared.event.Event.TheVariants as event
 
 -- WHERE A FRAME OF THE RUNNING TRANSACTION WAS SENT: its event stands in the log, what ran before it are the frames before

@@ -1,14 +1,12 @@
 use Rattle.std.proofs.Common.{◌≡◌, ◌≢◌, ℕ, ◌+◌, ◌<◌, ◌≤◌, Bool, true, false, zero, suc, List, [], ◌∷◌, refl, sym, subst, ◌∙◌, arith, length, Option, Some, None}
-use Rattle.std.proofs.Common.{◌&&◌, ◌||◌, ◌==◌, not, is_some, if◌then◌else◌}
-use Rattle.std.proofs.lemmas.{Bool.Decides.nat_tests, List.Folds.list_any_at, List.Sums.sum_by-cons}
+use Rattle.std.proofs.{Common.{◌&&◌, ◌||◌, ◌==◌, not, is_some, if◌then◌else◌}, lemmas.{Bool.Decides.nat_tests, List.{Folds.list_any_at, Sums.sum_by-cons}}}
 use Rattle.std.specs.List.{list_any, count_by}
 use Rattle.dali_frame.specs.Random.{MASK24}
 use Rattle.dali_special.specs.declared.command.Command.{Command}
-use Rattle.dali_gear.specs.Gear.{Gear, fresh, is_enabled, is_active, gear_taken}
-use Rattle.dali_gear.specs.{Row.takes, Row.row_after, Row.drawn_of, declared.row.Reach.TheVariants.Everyone}
-use Rattle.dali_gear.specs.declared.state.InitialisationState.{InitialisationState, TheVariants.Disabled, TheVariants.Enabled, TheVariants.Withdrawn}
-use Rattle.dali_events.specs.Wanted.{is_wanted, wants, is_bare, gear_of, OfPowered, IsOpened, NoneNamed}
-use Rattle.dali_events.proofs.Invariant.{Sending.powered_takes, Sending.takes_powered, Takes.Moved, Takes.stays, Takes.goes, Takes.moves_at}
+use Rattle.dali_gear.specs.{Gear.{Gear, fresh, is_enabled, is_active, gear_taken}, Row.{takes, row_after, drawn_of}, declared.row.Reach.TheVariants.Everyone}
+use Rattle.dali_gear.specs.declared.state.InitialisationState.{InitialisationState, TheVariants.{Disabled, Enabled, Withdrawn}}
+use Rattle.dali_events.{specs.Wanted.{is_wanted, wants, is_bare, gear_of, OfPowered, IsOpened, NoneNamed}, proofs.Invariant.Sending.powered_takes}
+use Rattle.dali_events.proofs.Invariant.{Sending.takes_powered, Takes.{Moved, stays, goes, moves_at}}
 
 -- TESTS THAT PASS TOGETHER
 pub both_pass : (a b : Bool) → (a && b) ≡ true → (a ≡ true) × (b ≡ true)

@@ -1,14 +1,12 @@
-use Rattle.std.proofs.Common.{◌≡◌, ◌≢◌, ℕ, ◌<◌, Bool, true, false, List, refl, sym, subst, ◌∙◌, length, Some, None, ◌&&◌, if◌then◌else◌}
-use Rattle.std.specs.List.{count_by}
-use Rattle.dali_frame.specs.{Random.value_of, Random.MASK24, declared.numbers.SearchAddress.SearchAddress}
+use Rattle.std.{proofs.Common.{◌≡◌, ◌≢◌, ℕ, ◌<◌, Bool, true, false, List, refl, sym, subst, ◌∙◌, length, Some, None, ◌&&◌, if◌then◌else◌}, specs.List.count_by}
+use Rattle.dali_frame.specs.{Random.{value_of, MASK24}, declared.numbers.SearchAddress.SearchAddress}
 use Rattle.dali_special.specs.declared.command.Command.TheVariants.{Withdraw}
-use Rattle.dali_gear.specs.Gear.{Gear, is_enabled, is_active, is_found, gear_taken, state_after}
-use Rattle.dali_gear.specs.{Row.row_after, declared.row.Reach.TheVariants.Everyone}
-use Rattle.dali_gear.specs.declared.state.InitialisationState.{InitialisationState, TheVariants.Disabled, TheVariants.Enabled, TheVariants.Withdrawn}
-use Rattle.dali_events.specs.{Searching.HasShort, Wanted.is_wanted, Wanted.wants, Wanted.gear_of, Wanted.Seek, Wanted.IsOpened, Wanted.NoneNamed}
-use Rattle.dali_events.{specs.Wanted.NoneNamedBut, specs.Wanted.AreNamed, proofs.Invariant.Known.found_random, proofs.Invariant.Takes.row_length}
-use Rattle.dali_events.proofs.Search.{Heard.random_found, Wanted.enabled_is, Wanted.wanted_powered, Wanted.wanted_enabled}
-use Rattle.dali_events.proofs.Search.Wanted.{is_wanted_by, wants_by, wants_at, count_less, Enabling, Drawing, Unnamed, UnnamedBut, powered_over, after_at}
+use Rattle.dali_gear.specs.{Gear.{Gear, is_enabled, is_active, is_found, gear_taken, state_after}, Row.row_after, declared.row.Reach.TheVariants.Everyone}
+use Rattle.dali_gear.specs.declared.state.InitialisationState.{InitialisationState, TheVariants.{Disabled, Enabled, Withdrawn}}
+use Rattle.dali_events.specs.{Searching.HasShort, Wanted.{is_wanted, wants, gear_of, Seek, IsOpened, NoneNamed, NoneNamedBut, AreNamed}}
+use Rattle.dali_events.proofs.{Invariant.{Known.found_random, Takes.row_length}, Search.{Heard.random_found, Wanted.{enabled_is, wanted_powered}}}
+use Rattle.dali_events.proofs.Search.Wanted.{wanted_enabled, is_wanted_by, wants_by, wants_at, count_less, Enabling, Drawing, Unnamed, UnnamedBut, powered_over}
+use Rattle.dali_events.proofs.Search.Wanted.{after_at}
 
 -- WITHDRAW: the gear after it
 abbrev pub after_withdraw : List Gear → List ℕ → List Gear

@@ -1,5 +1,4 @@
-use Rattle.std.proofs.Common.{◌≡◌, take, drop, map, false}
-use Rattle.std.specs.List.{list_any}
+use Rattle.std.{proofs.Common.{◌≡◌, take, drop, map, false}, specs.List.list_any}
 use Rattle.dali_events.specs.Plan.{block_of, is_misordered}
 use Rattle.dali_events.proofs.plan.blocks_of.Given as goal
 

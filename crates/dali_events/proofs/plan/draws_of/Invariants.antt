@@ -1,5 +1,4 @@
-use Rattle.std.proofs.Common.{◌≡◌, take, drop, false, nat_lt}
-use Rattle.std.specs.List.{list_any}
+use Rattle.std.{proofs.Common.{◌≡◌, take, drop, false, nat_lt}, specs.List.list_any}
 use Rattle.dali_events.proofs.plan.draws_of.Given as goal
 
 abbrev pub invariant-loop-draw : goal.invariant-loop-draw

@@ -1,5 +1,4 @@
-use Rattle.std.proofs.Common.{◌≡◌, drop, ◌==◌, ◌||◌}
-use Rattle.std.specs.List.{list_any}
+use Rattle.std.{proofs.Common.{◌≡◌, drop, ◌==◌, ◌||◌}, specs.List.list_any}
 use Rattle.dali_events.proofs.plan.is_among.Given as goal
 
 abbrev pub invariant-loop-other : goal.invariant-loop-other

@@ -1,5 +1,4 @@
-use Rattle.std.proofs.Common.{◌<◌, arith, subst, All}
-use Rattle.std.proofs.lemmas.List.{take_all, Elements.All-more}
+use Rattle.std.proofs.{Common.{◌<◌, arith, subst, All}, lemmas.List.{take_all, Elements.All-more}}
 use Rattle.dali_events.proofs.used.all_short.Goals as goal
 
 pub loop-at-preserved : goal.loop-at-preserved

@@ -1,5 +1,4 @@
-use Rattle.std.proofs.Common.{◌≡◌, drop, ◌==◌}
-use Rattle.std.specs.List.{list_any}
+use Rattle.std.{proofs.Common.{◌≡◌, drop, ◌==◌}, specs.List.list_any}
 use Rattle.dali_events.proofs.used.some_drawn.Given as goal
 
 abbrev pub invariant-loop-one : goal.invariant-loop-one
