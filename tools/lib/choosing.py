@@ -8,7 +8,7 @@ import pathlib
 import threading
 import typing
 
-from lib import ROOT, commanding, driver_words, programs, serving, texts
+from lib import ROOT, commanding, driver_words, serving, standard, texts
 
 PAGE = ROOT / "tools/lib/choose.html"
 ASKED = ("records", "driver", "block")
@@ -69,5 +69,5 @@ def chosen(port: int, is_opened: bool, read: collections.abc.Callable[[list[str]
     with Server(port, read) as server:
         serving.tell(server.address(), is_opened)
         server.serve_forever()
-    programs.say(f"the records are in {os.path.abspath(server.chosen.records[0])}")
+    standard.say(f"the records are in {os.path.abspath(server.chosen.records[0])}")
     return server.chosen, server.opened

@@ -8,7 +8,7 @@ import shlex
 import shutil
 import typing
 
-from lib import ROOT, joining, programs
+from lib import ROOT, joining, programs, standard
 
 OPTIONS = ("--driver", "--driver-timeout")
 # What tools/drive alone takes besides: a file each.
@@ -115,5 +115,5 @@ def can_start(title: str, driver: list[str]) -> bool:
     """Whether a driver is a program that can be run. Where it is none, that is said."""
     if shutil.which(driver[0]):
         return True
-    programs.say(f"{title}: the driver '{driver[0]}' cannot be started: it is no program that can be run")
+    standard.say(f"{title}: the driver '{driver[0]}' cannot be started: it is no program that can be run")
     return False

@@ -6,16 +6,12 @@ import pathlib
 import signal
 import typing
 
-from lib import ROOT, call_words, proving, standard
+from lib import ROOT, call_words, proving
 
 REFUSED, INTERRUPTED = proving.REFUSED, proving.INTERRUPTED
 Interrupted = proving.Interrupted
 # The signals that a build takes for itself while it goes on.
 KEPT = (signal.SIGTERM, signal.SIGHUP, signal.SIGINT)
-
-
-def say(text: str) -> None:
-    standard.say(text)
 
 
 def is_known(name: str) -> bool:

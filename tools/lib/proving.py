@@ -137,10 +137,6 @@ def processors() -> int:
     return max(min(len(os.sched_getaffinity(0)), free_memory() // MEMORY), 1)
 
 
-def say(text: str) -> None:
-    standard.say(text)
-
-
 @contextlib.contextmanager
 def signs_of_life(text: Callable[[], str]) -> Iterator[None]:
     """Says this every ten seconds meanwhile, with how long it has been so."""
@@ -148,7 +144,7 @@ def signs_of_life(text: Callable[[], str]) -> Iterator[None]:
 
     def tell():
         while not ended.wait(SIGN):
-            say(f"{text()}, {minutes(time.monotonic() - begun)} so far")
+            standard.say(f"{text()}, {minutes(time.monotonic() - begun)} so far")
 
     telling = threading.Thread(target=tell, daemon=True)
     telling.start()
@@ -246,7 +242,7 @@ class Build:
         keep(crate, self.read[crate])
         count = len(self.crates) - len(self.left) - len(self.running)
         so_far = f"{count} of {len(self.crates)} crates proved after {minutes(time.monotonic() - self.first)} ({crate.name})"
-        say(f"{self.title}: {so_far}{self.guess()}")
+        standard.say(f"{self.title}: {so_far}{self.guess()}")
 
     def guess(self) -> str:
         """What is left, by what all took that was done so far, beside their seconds. The first crates say too little for a guess."""
@@ -363,11 +359,11 @@ def kit() -> str | None:
     """The name of the kit that is there, or None. Says so where there is none, or another than the repository was proved with."""
     named = (ROOT / "KIT").read_text().strip()
     if not shutil.which("rt"):
-        say(f"the Rattle kit is missing: README.md says what is needed; the repository was last proved with {named}")
+        standard.say(f"the Rattle kit is missing: README.md says what is needed; the repository was last proved with {named}")
         return None
     found = subprocess.run(["rt", "version"], capture_output=True, text=True, stdin=subprocess.DEVNULL).stdout.strip()
     if found != named:
-        say(f"note: this is {found}; the repository was last proved with {named}")
+        standard.say(f"note: this is {found}; the repository was last proved with {named}")
     return found
 
 
@@ -392,7 +388,7 @@ def prove(title: str, programs: list[str], is_measured: bool) -> int:
     run = Build(title, crates, is_measured)
     about = max(round(run.clock(crates) / 60), 1)
     begun = f"proving {len(crates)} crates on {run.processors} processors, which takes {about} to {3 * about} minutes"
-    say(f"{title}: {begun}; the prover's words go to crates/NAME/out/build.log")
+    standard.say(f"{title}: {begun}; the prover's words go to crates/NAME/out/build.log")
     try:
         with signs_of_life(run.now):
             run.run()
@@ -401,11 +397,11 @@ def prove(title: str, programs: list[str], is_measured: bool) -> int:
         return 0
     except Refused as refused:
         log = workspace()[str(refused)].log
-        say(f"{title}: {refused} is refused; the end of {log}:")
-        say("\n".join(log.read_text(errors="replace").splitlines()[-20:]))
+        standard.say(f"{title}: {refused} is refused; the end of {log}:")
+        standard.say("\n".join(log.read_text(errors="replace").splitlines()[-20:]))
         return REFUSED
     except Changed as changed:
-        say(f"{title}: {changed} was edited while it was proved, or one above it: run this again")
+        standard.say(f"{title}: {changed} was edited while it was proved, or one above it: run this again")
         return REFUSED
     finally:
         run.stop()
@@ -425,10 +421,10 @@ def build(title: str, programs: list[str], is_measured: bool = False) -> int:
             wait_for_others(title, lock)
             return prove(title, programs, is_measured)
     except Interrupted:
-        say(f"{title}: interrupted; what is proved is kept, and the next run goes on there")
+        standard.say(f"{title}: interrupted; what is proved is kept, and the next run goes on there")
         return INTERRUPTED
     except OSError as error:
-        say(f"{title}: nothing can be built in {ROOT}: {error.strerror}")
+        standard.say(f"{title}: nothing can be built in {ROOT}: {error.strerror}")
         return MISSING
     finally:
         for number, how in before.items():
@@ -466,5 +462,5 @@ def wait_for_others(title: str, lock: io.TextIOWrapper) -> None:
     try:
         fcntl.flock(lock, fcntl.LOCK_EX | fcntl.LOCK_NB)
     except BlockingIOError:
-        say(f"{title}: waiting for another build of this checkout")
+        standard.say(f"{title}: waiting for another build of this checkout")
         fcntl.flock(lock, fcntl.LOCK_EX)

@@ -19,7 +19,7 @@ import typing
 import urllib.request
 import webbrowser
 
-from lib import ROOT, commanding, joining, places, programs, story, texts, viewer, walking
+from lib import ROOT, commanding, joining, places, standard, story, texts, viewer, walking
 
 LOOPBACK = "127.0.0.1"
 PAGE = ROOT / "tools/lib/page.html"
@@ -104,9 +104,9 @@ def locked(file: pathlib.Path) -> typing.TextIO | None:
             address = opened.read()
             if is_served(address):
                 print(address, flush=True)
-                programs.say("a page is served over these records already, at this address")
+                standard.say("a page is served over these records already, at this address")
                 return None
-            programs.say("a command that an earlier page began still works on the bus: this waits until it has ended")
+            standard.say("a command that an earlier page began still works on the bus: this waits until it has ended")
             fcntl.flock(opened, fcntl.LOCK_EX)
         if os.path.exists(file) and os.path.samestat(os.fstat(opened.fileno()), os.stat(file)):
             return opened
@@ -119,14 +119,14 @@ def served(make: collections.abc.Callable[[int, str], "Server"], port: int, kept
         try:
             return make(kept.port, kept.token)
         except OSError:
-            programs.say(f"port {kept.port}, which the page had before, is taken: its address is another one now")
+            standard.say(f"port {kept.port}, which the page had before, is taken: its address is another one now")
     return make(port, kept.token)
 
 
 def tell(address: str, is_opened: bool) -> None:
     """Says where a page is served, and starts a browser with it if that is wanted."""
     print(address, flush=True)
-    programs.say("open this address in a browser; interrupt this program when you are done")
+    standard.say("open this address in a browser; interrupt this program when you are done")
     if is_opened:
         threading.Thread(target=webbrowser.open, args=(address,), daemon=True).start()
 

@@ -13,7 +13,7 @@ import subprocess
 import time
 import typing
 
-from lib import ROOT, layouts, proving
+from lib import ROOT, layouts, proving, standard
 
 BARE = ROOT / "tools/lib/bare"
 EXAMPLE = ROOT / "examples" / "c"
@@ -158,7 +158,7 @@ def build_words(crate: proving.Crate) -> list[str | pathlib.Path]:
 def make_module(title: str, crate: proving.Crate) -> None:
     """Proves a library, and has the kit build it."""
     place, jobs = place_of(crate.name), proving.proof_words(crate, min(proving.processors(), 4))
-    proving.say(f"{title}: proving {crate.name}")
+    standard.say(f"{title}: proving {crate.name}")
     run([f"{proving.kit_folder()}/bin/rattle", "check", *static_words(crate), *jobs, "-o", place / "checked"], cwd=crate.folder)
     run([*build_words(crate), "-o", place / "built.a"], cwd=crate.folder)
 

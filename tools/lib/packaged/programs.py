@@ -2,7 +2,7 @@
 
 import pathlib
 
-from lib import ROOT, standard
+from lib import ROOT
 
 REFUSED, INTERRUPTED = 126, 130
 FOLDER = ROOT / "programs"
@@ -10,10 +10,6 @@ FOLDER = ROOT / "programs"
 
 class Interrupted(Exception):
     """A signal that ends what goes on before a program is started. None does."""
-
-
-def say(text: str) -> None:
-    standard.say(text)
 
 
 def is_known(name: str) -> bool:
