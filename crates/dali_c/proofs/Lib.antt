@@ -2,3 +2,4 @@ mod Bytes
 mod Lists
 mod Machines
 mod Halves
+mod Hosts

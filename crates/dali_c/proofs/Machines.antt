@@ -84,7 +84,7 @@ spells_once p a b one other =
     ∙ ap (λ n. record b { tally = n }) (some_once one.tally other.tally)
 
 -- so a struct holds one machine.
-held_once : (p : PlainMachine) (s : State) (m : Machine) → IsHeld p s → Holds p m → m ≡ machine_with s (kept_of p.records)
+pub held_once : (p : PlainMachine) (s : State) (m : Machine) → IsHeld p s → Holds p m → m ≡ machine_with s (kept_of p.records)
 held_once p s m held holds = holds.is ∙ ap (λ x. machine_with x (kept_of p.records)) (spells_once p.state holds.state s holds.held.spells held.spells)
 
 pub read_of : (p : PlainMachine) (s : State) → IsHeld p s → IsRead p s

@@ -11,3 +11,4 @@ pub mod Machines
 pub mod Levels
 pub mod Receivers
 pub mod Calls
+pub mod Hosts

@@ -23,6 +23,7 @@ ghost use Rattle.dali_c.specs.Machines.{VERSION, IsRead, Holds};
 ghost use Rattle.dali_c.specs.Levels.{AreLevels};
 ghost use Rattle.dali_c.specs.Receivers.{receiver_of, window_of, IsTold, IsHeard};
 ghost use Rattle.dali_c.specs.Calls.{AnswersAdd, Steps, refusal, OK, NOT_DUE, NO_MACHINE, BAD_ARGUMENT, NO_RECORDS};
+ghost use Rattle.dali_c.specs.Hosts.{HasStepped};
 ghost use Rattle.dali_c.specs.Calls.{DOES_NOT_FIT, ADDRESS_TAKEN, RANDOM_TAKEN, NOT_RESERVED};
 
 use crate::codes::{bool_of, due_code, input_of};
@@ -149,6 +150,7 @@ pub extern "C" fn dali_machine_step(
         → accepts (due_after m.last) i ≡ true → (result ≡ OK) × Steps m i machine.new order.new }
     ensures not_due { (m : Machine) → (i : Input) → Holds machine.old m → input_of input byte ≡ Some i
         → accepts (due_after m.last) i ≡ false → result ≡ NOT_DUE }
+    ensures ok { result ≡ OK → HasStepped machine.old input byte machine.new order.new }
     ensures bad { (m : Machine) → Holds machine.old m → input_of input byte ≡ None → result ≡ BAD_ARGUMENT }
     ensures no_machine { ((m : Machine) → Holds machine.old m → ⊥) → result ≡ refusal machine.old }
     ensures held { (result ≡ refusal machine.old → ⊥) → (m : Machine) × Holds machine.old m }
@@ -174,6 +176,7 @@ pub extern "C" fn dali_machine_go(
 
     ensures done { (m : Machine) → (i : Input) → Holds machine.old m → input_of input byte ≡ Some i
         → accepts (due_after m.last) i ≡ true → (result ≡ OK) × Steps m i machine.new order.new }
+    ensures ok { result ≡ OK → HasStepped machine.old input byte machine.new order.new }
     ensures not_due { (m : Machine) → (i : Input) → Holds machine.old m → input_of input byte ≡ Some i
         → accepts (due_after m.last) i ≡ false → result ≡ NOT_DUE }
     ensures bad { input_of input byte ≡ None → result ≡ BAD_ARGUMENT }

@@ -9,3 +9,6 @@ pub mod Ran
 pub mod Spelled
 mod Blocks
 pub mod Giving
+mod Acts
+mod Outstanding
+mod Rules

@@ -5,6 +5,8 @@ use Rattle.dali_script.specs.declared.orders.Input.TheVariants.{Start, Survey, H
 use Rattle.dali_script.specs.declared.orders.Input.TheVariants.{Destroyed, Lapsed, Committed}
 use Rattle.dali_script.specs.declared.orders.Input.TheVariants.{CommitFailed}
 use Rattle.dali_commissioning.specs.declared.driver.DriverLink.{DriverLink}
+use Rattle.dali_commissioning.specs.declared.driver.DriverFault.{DriverFault}
+use Rattle.dali_commissioning.specs.declared.driver.DriverFault.TheVariants as fault
 
 -- what is read from a driver, what is written to it, the number of the line that was read last,
 -- that line, and whether any gear was heard
@@ -47,3 +49,13 @@ pub record Talk : Type 0 where
 abbrev pub talk_of : {R W : Type 0} → (R → Option (List ℕ)) → (W → Option (List ℕ))
     → DriverLink R W → Talk
 talk_of remaining contents d = record { written = contents d.writer; left = remaining d.reader }
+
+-- after this fault a line may have been written in part
+abbrev pub IsPart : DriverFault → Type 0
+IsPart fault.Write = Unit {0}
+IsPart fault.Memory = Unit {0}
+IsPart fault.BadLine = ⊥
+IsPart fault.LongLine = ⊥
+IsPart fault.TornLine = ⊥
+IsPart fault.Ended = ⊥
+IsPart fault.Read = ⊥

@@ -8,3 +8,4 @@ pub mod Places
 pub mod Runs
 pub mod Looking
 pub mod Giving
+pub mod Acts

@@ -3,6 +3,8 @@
 ghost use Rattle.std.specs.Prelude.{◌≡◌, ◌≢◌, ℕ, [], ◌∷◌, true, None, Some, Err, Option, IfOk, IfErr, OnOk};
 ghost use Rattle.std.specs.Prelude.{IfSome, MatchOption};
 ghost use Rattle.std.specs.Io.KnownBytes.{Appends};
+ghost use Rattle.std.specs.Prelude.{◌⊎◌};
+ghost use Rattle.dali_commissioning.specs.Acts.{KeepsRules, LeavesRules, HasWritten, MayCommitLast};
 ghost use Rattle.dali_frame.specs.declared.frames.Forward.{Forward};
 ghost use Rattle.dali_script.specs.Records.{Fits};
 ghost use Rattle.dali_script.specs.Due.{due_after, accepts, record_ordered};
@@ -10,7 +12,7 @@ ghost use Rattle.dali_script.specs.declared.orders.Due.TheVariants as due;
 ghost use Rattle.dali_script.specs.declared.orders.Order.TheVariants.{Put};
 ghost use Rattle.dali_script.specs.Sending.{opens};
 ghost use Rattle.dali_commissioning.specs.Steps.{IsStep, if_heard, opened_by};
-ghost use Rattle.dali_commissioning.specs.Drivers.{writer_of, talk_of};
+ghost use Rattle.dali_commissioning.specs.Drivers.{writer_of, talk_of, IsPart};
 ghost use Rattle.dali_commissioning.specs.Steps.{order_line, record_told, is_kept};
 ghost use Rattle.dali_commissioning.specs.Conducted.{Hears, Commits, MayCommit, Stays, IsAt, IsLeft, HasTaken};
 ghost use Rattle.dali_commissioning.specs.Conducted.{order_of};
@@ -74,6 +76,8 @@ fn put<R: Read, W: Write>(
         (order_line waiting.old (Some (Put priority frame)))) }
     ensures read { IfOk result (Hears (talk_of R.remaining W.contents driver.old)
         (talk_of R.remaining W.contents driver.new)) }
+    ensures part { IfErr result (λ fault. IsPart fault ⊎ Appends (W.contents (writer_of driver.old))
+        (W.contents (writer_of driver.new)) (order_line waiting.old (Some (Put priority frame)))) }
     ensures waiting { IfOk result (λ told. waiting.new
         ≡ if_heard told (opened_by waiting.old (Some (Put priority frame)))) }
 {
@@ -84,13 +88,14 @@ fn put<R: Read, W: Write>(
 }
 
 /// Commits a record.
-#[tactic(auto, using(crate::proofs::Steps::one_more))]
+#[tactic(auto, using(crate::proofs::Steps::one_more, crate::proofs::Rules::one_more_last))]
 fn commit<K: Keep>(keep: &mut K, added: Record) -> Result<(), KeepError>
     requires { Fits (K.block keep.old) added }
     ensures stays { Stays K.is_up K.is_sound keep.old keep.new }
     ensures block { K.block keep.new ≡ K.block keep.old }
     ensures adds { OnOk result (Commits K.is_up K.is_sound K.holds keep.old keep.new (added ∷ [])) }
     ensures left { MayCommit K.is_up K.is_sound K.holds keep.old keep.new [] }
+    ensures last { MayCommitLast K.is_up K.is_sound K.holds keep.old keep.new [] (Some added) }
 {
     keep.commit(added)
 }
@@ -131,6 +136,10 @@ fn answer<K: Keep, R: Read, W: Write>(
     ensures adds { IfOk result (λ told. Commits K.is_up K.is_sound K.holds keep.old keep.new
         (record_told told (record_ordered (Some order.now)))) }
     ensures left { IfErr result (λ _. MayCommit K.is_up K.is_sound K.holds keep.old keep.new []) }
+    ensures last { IfErr result (λ _. MayCommitLast K.is_up K.is_sound K.holds keep.old keep.new []
+        (record_ordered (Some order.now))) }
+    ensures begun { IfErr result (λ fault. HasWritten fault (talk_of R.remaining W.contents driver.old)
+        (talk_of R.remaining W.contents driver.new) (order_line waiting.old (Some order.now))) }
     ensures not_spent { result ≢ Err CommissionFault.StepsSpent }
     ensures one_run { result ≢ Err CommissionFault.RunsSpent }
     ensures none_lost { result ≢ Err CommissionFault.QuestionLost }
@@ -186,6 +195,9 @@ fn end_at(order: &Order) -> Option<Ended>
 /// The machine is told Committed only of a record that the store has then. It does at most so many orders. If a
 /// record cannot be committed, it is told nothing: what the store reads then decides. `watch` sees each order before it
 /// is done.
+///
+/// Whatever the driver answers, what was put and committed keeps the rules for senders of `dali_statement`, if the
+/// machine is new (`rules`); if it is left before its end, so does the order that was outstanding (`left_rules`).
 #[tactic(auto, using(crate::proofs::Steps::left_at, crate::proofs::Steps::taken_at))]
 pub fn conduct<K: Keep, R: Read, W: Write, P: Watch>(
     machine: &mut Machine,
@@ -214,6 +226,11 @@ pub fn conduct<K: Keep, R: Read, W: Write, P: Watch>(
     ensures none_lost { result ≢ Err CommissionFault.QuestionLost }
     ensures stays { Stays K.is_up K.is_sound keep.old keep.new }
     ensures block { K.block keep.new ≡ K.block keep.old }
+    ensures rules { IfOk result (λ _. machine.old.trace ≡ [] → KeepsRules K.is_up K.is_sound K.holds keep.old keep.new
+        machine.old.kept (talk_of R.remaining W.contents driver.old) (talk_of R.remaining W.contents driver.new)) }
+    ensures left_rules { IfErr result (λ fault. machine.old.trace ≡ [] → LeavesRules K.is_up K.is_sound K.holds fault
+        keep.old keep.new machine.old.kept (talk_of R.remaining W.contents driver.old)
+        (talk_of R.remaining W.contents driver.new)) }
 {
     let mut waiting = None;
     let mut committed = false;

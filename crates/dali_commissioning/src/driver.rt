@@ -108,14 +108,14 @@ impl<R: Drop, W: Drop> Drop for DriverLink<R, W> {
 }
 
 impl<R: Read, W: Write> DriverLink<R, W> {
-    ghost use Rattle.std.specs.Prelude.{◌++◌, [], ◌∷◌, ◌||◌, true, false, None, Err, OnOk, IfOk};
+    ghost use Rattle.std.specs.Prelude.{◌⊎◌, ◌++◌, [], ◌∷◌, ◌||◌, true, false, None, Err, OnOk, IfOk, IfErr};
     ghost use Rattle.std.specs.Io.KnownBytes.{Appends, Consumes};
     ghost use Rattle.dali_script.specs.Due.{accepts};
     ghost use Rattle.dali_script.specs.declared.orders.Due.TheVariants as due;
     ghost use Rattle.dali_commissioning.specs.Lines.{told_of, Tells, put_text};
     ghost use Rattle.dali_commissioning.specs.Drivers.{reader_of, writer_of, lines_of, next_line, line_of};
     ghost use Rattle.dali_commissioning.specs.Census.{IsPut, answer_told};
-    ghost use Rattle.dali_commissioning.specs.Drivers.{has_heard, is_answer, talk_of};
+    ghost use Rattle.dali_commissioning.specs.Drivers.{has_heard, is_answer, talk_of, IsPart};
     ghost use Rattle.dali_commissioning.specs.declared.driver.DriverFault.TheVariants.{BadLine};
 
     /// A driver of which no line was read. What it writes is read by `reader`, and it reads what `writer` writes.
@@ -218,6 +218,7 @@ impl<R: Read, W: Write> DriverLink<R, W> {
         ensures reader { reader_of self.new ≡ reader_of self.old }
         ensures lines { lines_of self.new ≡ lines_of self.old }
         ensures heard { has_heard self.new ≡ has_heard self.old }
+        ensures part { IfErr result IsPart }
         ensures not_bad { result ≢ Err BadLine }
     {
         self.text.clear();
@@ -240,6 +241,8 @@ impl<R: Read, W: Write> DriverLink<R, W> {
         ensures wrote { IfOk result (λ _. Appends (W.contents (writer_of self.old)) (W.contents (writer_of self.new))
             (put_text priority frame half)) }
         ensures told { IfOk result (Tells (R.remaining (reader_of self.old)) (R.remaining (reader_of self.new))) }
+        ensures part { IfErr result (λ fault. IsPart fault ⊎ Appends (W.contents (writer_of self.old))
+            (W.contents (writer_of self.new)) (put_text priority frame half)) }
         ensures of_bus { IfOk result (λ told. accepts due.Bus told ≡ true) }
         ensures lines { IfOk result (λ _. lines_of self.new ≡ next_line (lines_of self.old)) }
         ensures heard { IfOk result (λ told. has_heard self.new ≡ has_heard self.old || is_answer told) }

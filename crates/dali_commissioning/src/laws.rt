@@ -1,6 +1,6 @@
 //! What follows from the contracts of this crate, in its words. Programs don't call these.
 
-ghost use Rattle.std.specs.Prelude.{◌≡◌, ℕ, ◌<◌, ◌≤◌, true, None, Some, List, [], length};
+ghost use Rattle.std.specs.Prelude.{◌≡◌, ℕ, ◌<◌, ◌≤◌, true, None, Some, List, [], ◌++◌, length};
 ghost use Rattle.dali_frame.specs.declared.frames.Forward.{Forward};
 ghost use Rattle.dali_script.specs.Due.{accepts};
 ghost use Rattle.dali_script.specs.declared.orders.Due.TheVariants as due;
@@ -16,8 +16,11 @@ ghost use Rattle.dali_commissioning.specs.Census.{AreHeard, entries_of, query_at
 ghost use Rattle.dali_commissioning.specs.Unaddressed.{waking, withdrawing, comparing, ending, AreLawful};
 ghost use Rattle.dali_frame.specs.declared.frames.Answer.{Answer};
 ghost use Rattle.dali_controller.specs.Machine.{Machine};
-ghost use Rattle.dali_commissioning.specs.Steps.{Step, AreSteps, committed_by};
+ghost use Rattle.dali_commissioning.specs.Steps.{Step, AreSteps, committed_by, last_order};
 ghost use Rattle.dali_commissioning.specs.Giving.{ReserveNothing, Gives};
+ghost use Rattle.dali_statement.specs.Own.{AreOwn};
+ghost use Rattle.dali_controller.specs.Acts.{own_of};
+ghost use Rattle.dali_commissioning.specs.Acts.{acts_by, outstanding, records_of};
 
 use dali_frame::laws::frames_are_spelled;
 
@@ -73,3 +76,15 @@ pub fn frames_are_read_back()
 {
     frames_are_spelled();
 }
+
+/// WHAT IS CONDUCTED KEEPS TO ITS SCRIPTS, whatever a driver answers. The steps that a machine took from its start
+/// (`AreSteps`) are acts of a program on the page of `dali_statement`: each frame is lawful by the records that the
+/// store took before (`own`), and so is an order that is not done yet (`last`). The records that they keep are those
+/// that the store took, in their order (`records`).
+pub fn what_is_conducted_keeps_to_scripts()
+    ensures own { (m n : Machine) (steps : List Step) → m.last ≡ None → m.trace ≡ [] → AreSteps m steps n
+        → AreOwn (own_of m) (acts_by steps) }
+    ensures last { (m n : Machine) (steps : List Step) → m.last ≡ None → m.trace ≡ [] → AreSteps m steps n
+        → AreOwn (own_of m) (acts_by steps ++ outstanding (last_order steps)) }
+    ensures records { (steps : List Step) → records_of (acts_by steps) ≡ committed_by steps }
+{}

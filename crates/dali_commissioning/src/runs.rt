@@ -4,6 +4,8 @@ ghost use Rattle.std.specs.Prelude.{◌≡◌, ◌≢◌, ◌<◌, ◌↔◌, tr
 ghost use Rattle.dali_script.specs.Due.{accepts};
 ghost use Rattle.dali_script.specs.declared.orders.Due.TheVariants as due;
 ghost use Rattle.dali_script.specs.declared.orders.End.TheVariants as ends;
+ghost use Rattle.dali_statement.specs.Own.{Act};
+ghost use Rattle.dali_commissioning.specs.Acts.{RunsKeepRules, RunsLeaveRules, IsLeftRun};
 ghost use Rattle.dali_commissioning.specs.Drivers.{talk_of};
 ghost use Rattle.dali_commissioning.specs.Steps.{has_committed};
 ghost use Rattle.dali_commissioning.specs.Conducted.{Stays};
@@ -59,6 +61,9 @@ fn run<K: Keep, R: Read, W: Write, P: Watch>(
         (talk_of R.remaining W.contents driver.new) }
     ensures one_run { result ≢ Err CommissionFault.RunsSpent }
     ensures none_lost { result ≢ Err CommissionFault.QuestionLost }
+    ensures left_rules { IfErr result (λ reason. (acts : List Act) × IsLeftRun K.is_up K.is_sound K.holds
+        (K.block keep.old) reason keep.old keep.new (talk_of R.remaining W.contents driver.old)
+        (talk_of R.remaining W.contents driver.new) acts) }
 {
     let kept = match keep.read() {
         Ok(kept) => kept,
@@ -76,6 +81,8 @@ fn run<K: Keep, R: Read, W: Write, P: Watch>(
 /// so many in a row have committed nothing. Answers what came of the last one.
 ///
 /// One run may leave gear if an answer was lost. The store has all that was committed, however it ends.
+/// Whatever the driver answers, what was put and committed keeps the rules for senders of `dali_statement`, all runs as
+/// one sender that restarts (`rules`, `left_rules`).
 #[tactic(auto, using(crate::proofs::Ran::none_ran, crate::proofs::Ran::all_ran))]
 pub fn commission<K: Keep, R: Read, W: Write, P: Watch>(
     keep: &mut K,
@@ -101,6 +108,11 @@ pub fn commission<K: Keep, R: Read, W: Write, P: Watch>(
     ensures left { IfErr result (λ _. Grows K.is_up K.is_sound K.holds keep.old keep.new) }
     ensures stays { Stays K.is_up K.is_sound keep.old keep.new }
     ensures block { K.block keep.new ≡ K.block keep.old }
+    ensures rules { IfOk result (λ _. RunsKeepRules K.is_up K.is_sound K.holds (K.block keep.old) start keep.old
+        keep.new (talk_of R.remaining W.contents driver.old) (talk_of R.remaining W.contents driver.new)) }
+    ensures left_rules { IfErr result (λ reason. RunsLeaveRules K.is_up K.is_sound K.holds (K.block keep.old) start
+        reason keep.old keep.new (talk_of R.remaining W.contents driver.old)
+        (talk_of R.remaining W.contents driver.new)) }
 {
     let mut quiet = 0;
     for _ in 0..MOST_RUNS {

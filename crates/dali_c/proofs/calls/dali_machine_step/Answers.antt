@@ -1,3 +1,5 @@
+use Rattle.std.proofs.Common.{sym, ◌∙◌}
+use Rattle.dali_c.proofs.Hosts.{stepped, refused}
 use Rattle.dali_c.proofs.calls.dali_machine_step.Goals as goal
 
 pub returns-in-None-clause-done : goal.returns-in-None-clause-done
@@ -11,3 +13,10 @@ returns-in-None-clause-not_due c m i holds = absurd (c.in-None.ensures m holds)
 
 pub returns-in-None-clause-bad : goal.returns-in-None-clause-bad
 returns-in-None-clause-bad c m holds = absurd (c.in-None.ensures m holds)
+
+pub returns-in-Some-clause-ok : goal.returns-in-Some-clause-ok
+returns-in-Some-clause-ok c ok =
+    stepped _ _ c.args.input c.args.byte _ _ _ c.in-Some.ensures.machine c.go_on.ensures.done c.go_on.ensures.not_due c.go_on.ensures.bad ok
+
+pub returns-in-None-clause-ok : goal.returns-in-None-clause-ok
+returns-in-None-clause-ok c ok = refused c.args.machine.now (sym c.refusal.ensures ∙ ok)

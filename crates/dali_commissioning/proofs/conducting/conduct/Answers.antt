@@ -1,6 +1,7 @@
 use Rattle.std.proofs.Common.{◌∙◌, sym, refl, rules}
 use Rattle.dali_commissioning.proofs.Steps.{at_begun, at_further, left_at, left_at_fault, stays_further}
 use Rattle.dali_commissioning.proofs.conducting.conduct.Goals as goal
+use Rattle.dali_commissioning.proofs.Rules.{rules_kept, rules_left, rules_spent}
 
 pub loop-init : goal.loop-init
 loop-init g c = record {
@@ -23,6 +24,18 @@ loop-preserved g c = record {
 pub returns-in-Err-clause-fault : goal.returns-in-Err-clause-fault
 returns-in-Err-clause-fault g c = left_at_fault g.K.Keep.is_up g.K.Keep.is_sound g.K.Keep.holds _ _ _ _ _ _ _ _ _ _ _ _ c.loop.invariant.at
     c.in-Err.ensures.stays c.in-Err.ensures.left
+
+pub returns-in-Some-clause-rules : goal.returns-in-Some-clause-rules
+returns-in-Some-clause-rules g c = λ idle. rules_kept g.K.Keep.is_up g.K.Keep.is_sound g.K.Keep.holds _ _ _ _ _ _ _ _ _ _ _
+    c.requires.start idle c.loop.invariant.at
+
+pub returns-in-Err-clause-left_rules : goal.returns-in-Err-clause-left_rules
+returns-in-Err-clause-left_rules g c = λ idle. rules_left g.K.Keep.is_up g.K.Keep.is_sound g.K.Keep.holds _ _ _ _ _ _ _ _ _ _ _ _ _ _
+    c.requires.start idle c.loop.invariant.at c.in-Err.ensures.stays c.in-Err.ensures.last c.in-Err.ensures.begun
+
+pub returns-clause-left_rules : goal.returns-clause-left_rules
+returns-clause-left_rules g c = λ idle. rules_spent g.K.Keep.is_up g.K.Keep.is_sound g.K.Keep.holds _ _ _ _ _ _ _ _ _ _ _
+    c.requires.start idle c.loop.invariant.at
 
 pub returns-in-Err-clause-stays : goal.returns-in-Err-clause-stays
 returns-in-Err-clause-stays g c =

@@ -2,12 +2,32 @@ use Rattle.std.proofs.Common.{◌≡◌, Err, rules, sym, ◌∙◌}
 use Rattle.std.proofs.lemmas.Result.{err_from_is_err_and}
 use Rattle.dali_commissioning.proofs.{Ran.of_block, Ran.ran_more, Ran.ended_otherwise, Ran.ended_quiet, Ran.grows_further, Ran.spent_after, Steps.stays_further}
 use Rattle.dali_commissioning.proofs.runs.commission.Goals as goal
+use Rattle.dali_commissioning.proofs.Rules.{one_more_keeps, runs_left, runs_spent_rules}
 
 pub returns-in_err-pass-clause-left : goal.returns-in_err-pass-clause-left
 returns-in_err-pass-clause-left g c =
     let p = err_from_is_err_and c.from_residual.result c.from_residual.ensures.1 in
     rw p.1 (grows_further g.K.Keep.is_up g.K.Keep.is_sound g.K.Keep.holds _ _ _
     c.loop.invariant.ran.stays c.run.ensures.stays c.loop.invariant.ran.grows c.in_err-pass.ensures.left)
+
+pub returns-then-not-is_all_found-clause-rules : goal.returns-then-not-is_all_found-clause-rules
+returns-then-not-is_all_found-clause-rules g c =
+    one_more_keeps g.K.Keep.is_up g.K.Keep.is_sound g.K.Keep.holds _ _ _ _ _ _ _ _ _ _ _ c.loop.invariant.ran
+    (of_block g.K.Keep.is_up g.K.Keep.is_sound g.K.Keep.holds _ _ _ _ _ _ _ _ c.loop.invariant.block c.in_ok-pass.ensures.ran)
+
+pub returns-then-quiet-quiet_runs-clause-rules : goal.returns-then-quiet-quiet_runs-clause-rules
+returns-then-quiet-quiet_runs-clause-rules g c =
+    one_more_keeps g.K.Keep.is_up g.K.Keep.is_sound g.K.Keep.holds _ _ _ _ _ _ _ _ _ _ _ c.loop.invariant.ran
+    (of_block g.K.Keep.is_up g.K.Keep.is_sound g.K.Keep.holds _ _ _ _ _ _ _ _ c.loop.invariant.block c.in_ok-pass.ensures.ran)
+
+pub returns-clause-left_rules : goal.returns-clause-left_rules
+returns-clause-left_rules g c = runs_spent_rules g.K.Keep.is_up g.K.Keep.is_sound g.K.Keep.holds _ _ _ _ _ _ _ _ c.loop.invariant.ran
+
+pub returns-in_err-pass-clause-left_rules : goal.returns-in_err-pass-clause-left_rules
+returns-in_err-pass-clause-left_rules g c =
+    let p = err_from_is_err_and c.from_residual.result c.from_residual.ensures.1 in
+    rw p.1 (rw p.2 (runs_left g.K.Keep.is_up g.K.Keep.is_sound g.K.Keep.holds _ _ _ _ _ _ _ _ _ _ _ _
+    c.loop.invariant.ran c.run.ensures.stays c.loop.invariant.block c.in_err-pass.ensures.left_rules))
 
 pub returns-in_err-pass-clause-stays : goal.returns-in_err-pass-clause-stays
 returns-in_err-pass-clause-stays g c =
