@@ -107,6 +107,16 @@ Follows {S = S} is_up is_sound holds kept_of block table hanging replies ms was 
     × HasSurveyed is_up is_sound holds kept_of block table hanging mid x at pass
     × MendedSo pass (kept_of keep) replies ms ended at y))
 
+-- MENDED: each short address that is meant, and what follows
+abbrev pub HasMendedSo : {S : Type 0} (is_up is_sound : S → Type 0)
+    (holds : S → List Record → Type 0) (kept_of : S → Kept) → Block → Kept → Mend
+    → List Assignment → List Reply → List Mending → S → S → Talk → Talk
+    → Result (Unit {0}) Failure → Type 0
+HasMendedSo is_up is_sound holds kept_of block table wanted hanging replies ms was keep x y ended =
+    (at : Talk)
+    × AreMended table (meant_from wanted.named.items 0 replies) [] ms x at
+    × Follows is_up is_sound holds kept_of block table hanging replies ms was keep at y ended
+
 -- WHAT A MEND COMES TO once each short address was asked: the gear of the table that are away are
 -- looked for at those that are meant. If what was heard lets none be mended, nothing else is put,
 -- and the records are as they were. Else each that is meant is mended, and only then surveys
@@ -117,15 +127,14 @@ abbrev pub MendsTo : {S : Type 0} (is_up is_sound : S → Type 0)
 MendsTo is_up is_sound holds kept_of block table records others wanted replies ms was keep x y
     ended =
     (hanging : List Assignment)
-    × (begun : Talk)
+    × (at : Talk)
     × AreLookedFor table records others wanted (meant_from wanted.named.items 0 replies) 0 replies
-    [] hanging x begun
+    [] hanging x at
     × (((failure : Failure)
     × (refused_from table others wanted hanging 0 replies ≡ Some failure)
     × (ended ≡ Err failure)
     × (keep ≡ was)
-    × (y ≡ begun))
+    × (y ≡ at))
     ⊎ ((refused_from table others wanted hanging 0 replies ≡ None)
-    × ((at : Talk)
-    × AreMended table (meant_from wanted.named.items 0 replies) [] ms begun at
-    × Follows is_up is_sound holds kept_of block table hanging replies ms was keep at y ended)))
+    × HasMendedSo is_up is_sound holds kept_of block table wanted hanging replies ms was keep at y
+    ended))

@@ -9,15 +9,16 @@ ghost use Rattle.dali_commissioning.specs.Census.{AreCounted};
 ghost use Rattle.dali_commissioning.specs.Drivers.{Talk, talk_of};
 ghost use Rattle.dali_commissioning.specs.Places.{places};
 ghost use Rattle.dali_commission_program.specs.Mends.{HasPut, IsMended, AreMended, HasSurveyed, MendedSo, Follows};
-ghost use Rattle.dali_commission_program.specs.Mends.{MendsTo, mended_as};
-ghost use Rattle.dali_commission_program.specs.Sharing.{with_left, why_open, is_any_left_shared};
+ghost use Rattle.dali_commission_program.specs.Mends.{HasMendedSo, MendsTo, mended_as};
+ghost use Rattle.dali_commission_program.specs.Hanging.{AreLookedFor};
+ghost use Rattle.dali_commission_program.specs.Sharing.{with_left, why_open, is_any_left_shared, meant_from};
 ghost use Rattle.dali_commission_program.specs.Reports.{heard_of};
 ghost use Rattle.dali_commission_program.specs.Tellings.{AreMendsTold, HasMended};
 
 use crate::ending::{AtLast, ask_at_last};
 use crate::failure::{Failure, REFUSED, add, ended_as, failure_of};
 use crate::finishing::read;
-use crate::hanging::look_for_all;
+use crate::hanging::{Hanging, look_for_all};
 use crate::progress::{Aim, Manner, Progress};
 use crate::records::{kept, lend};
 use crate::report::{Came, Report, heard_of, own_rows};
@@ -244,6 +245,52 @@ fn follow<S: Voice, K: Keep, R: Read, W: Write>(
     }
 }
 
+/// Looks for the gear of the tables that are away at the short addresses that are mended.
+fn look<S: Voice, R: Read, W: Write>(
+    driver: &mut DriverLink<R, W>,
+    progress: &Progress<'_, S>,
+    site: &Site<'_>,
+    replies: &[Reply],
+) -> Result<Hanging, Failure>
+    requires { length replies.now ≤ 64 }
+    ensures { IfOk result (λ hanging. AreLookedFor site.now.table.now site.now.before.now site.now.others.now
+        site.now.wanted.now (meant_from site.now.wanted.now.named.items 0 replies.now) 0 replies.now [] hanging.items
+        (talk_of R.remaining W.contents driver.old) (talk_of R.remaining W.contents driver.new)) }
+{
+    let meant = meant_of(&site.wanted.named, replies);
+    let mut hanging = ArrayVec::new();
+    match look_for_all(driver, progress, site, &meant, 0, replies, &mut hanging) {
+        Ok(()) => Ok(hanging),
+        Err(fault) => Err(failure_of(fault, driver.lines())),
+    }
+}
+
+/// Mends the short addresses that are meant, and goes on, by what was heard before.
+fn mend_meant<S: Voice, K: Keep, R: Read, W: Write>(
+    store: &mut K,
+    driver: &mut DriverLink<R, W>,
+    progress: &mut Progress<'_, S>,
+    site: &Site<'_>,
+    replies: &[Reply],
+    hanging: &[Pair],
+    mended: &mut Vec<Mending>,
+) -> Result<Came, Failure>
+    requires few { length replies.now ≤ 64 }
+    requires none { mended.old.items ≡ [] }
+    ensures { IfOk result (λ came. HasMendedSo K.is_up K.is_sound K.holds K.kept (K.block store.old)
+        site.now.table.now site.now.wanted.now hanging.now replies.now mended.new.items store.old store.new
+        (talk_of R.remaining W.contents driver.old) (talk_of R.remaining W.contents driver.new) came.ended) }
+{
+    let meant = meant_of(&site.wanted.named, replies);
+    mend_all(driver, progress, site.table, &meant, mended)?;
+    let work = Work {
+        replies,
+        hanging,
+        mended,
+    };
+    follow(store, driver, progress, site, &work)
+}
+
 /// What a mend comes to, by what was heard of each short address.
 fn mends_by<S: Voice, K: Keep, R: Read, W: Write>(
     store: &mut K,
@@ -259,21 +306,11 @@ fn mends_by<S: Voice, K: Keep, R: Read, W: Write>(
         site.now.before.now site.now.others.now site.now.wanted.now replies.now mended.new.items store.old store.new
         (talk_of R.remaining W.contents driver.old) (talk_of R.remaining W.contents driver.new) came.ended) }
 {
-    let meant = meant_of(&site.wanted.named, replies);
-    let mut hanging = ArrayVec::new();
-    if let Err(fault) = look_for_all(driver, progress, site, &meant, 0, replies, &mut hanging) {
-        return Err(failure_of(fault, driver.lines()));
-    }
+    let hanging = look(driver, progress, site, replies)?;
     if let Some(refusal) = refused_from(site, &hanging, 0, replies) {
         return Ok(came_refused(site, replies, refusal));
     }
-    mend_all(driver, progress, site.table, &meant, mended)?;
-    let work = Work {
-        replies,
-        hanging: &hanging,
-        mended,
-    };
-    follow(store, driver, progress, site, &work)
+    mend_meant(store, driver, progress, site, replies, &hanging, mended)
 }
 
 /// What a mend comes to: each short address is asked first.
