@@ -117,10 +117,24 @@ HasMendedSo is_up is_sound holds kept_of block table wanted hanging replies ms w
     × AreMended table (meant_from wanted.named.items 0 replies) [] ms x at
     × Follows is_up is_sound holds kept_of block table hanging replies ms was keep at y ended
 
+-- If what was heard lets none be mended, nothing is put, and the records are as they were.
+abbrev pub MendsBeside : {S : Type 0} (is_up is_sound : S → Type 0)
+    (holds : S → List Record → Type 0) (kept_of : S → Kept) → Block → Kept → List Block → Mend
+    → List Assignment → List Reply → List Mending → S → S → Talk → Talk
+    → Result (Unit {0}) Failure → Type 0
+MendsBeside is_up is_sound holds kept_of block table others wanted hanging replies ms was keep x y
+    ended =
+    ((failure : Failure)
+    × (refused_from table others wanted hanging 0 replies ≡ Some failure)
+    × (ended ≡ Err failure)
+    × (keep ≡ was)
+    × (y ≡ x))
+    ⊎ ((refused_from table others wanted hanging 0 replies ≡ None)
+    × HasMendedSo is_up is_sound holds kept_of block table wanted hanging replies ms was keep x y
+    ended)
+
 -- WHAT A MEND COMES TO once each short address was asked: the gear of the table that are away are
--- looked for at those that are meant. If what was heard lets none be mended, nothing else is put,
--- and the records are as they were. Else each that is meant is mended, and only then surveys
--- follow.
+-- looked for at those that are meant. Then each of these is mended, and only then surveys follow.
 abbrev pub MendsTo : {S : Type 0} (is_up is_sound : S → Type 0)
     (holds : S → List Record → Type 0) (kept_of : S → Kept) → Block → Kept → Kept → List Block
     → Mend → List Reply → List Mending → S → S → Talk → Talk → Result (Unit {0}) Failure → Type 0
@@ -130,11 +144,5 @@ MendsTo is_up is_sound holds kept_of block table records others wanted replies m
     × (at : Talk)
     × AreLookedFor table records others wanted (meant_from wanted.named.items 0 replies) 0 replies
     [] hanging x at
-    × (((failure : Failure)
-    × (refused_from table others wanted hanging 0 replies ≡ Some failure)
-    × (ended ≡ Err failure)
-    × (keep ≡ was)
-    × (y ≡ at))
-    ⊎ ((refused_from table others wanted hanging 0 replies ≡ None)
-    × HasMendedSo is_up is_sound holds kept_of block table wanted hanging replies ms was keep at y
-    ended))
+    × MendsBeside is_up is_sound holds kept_of block table others wanted hanging replies ms was keep
+    at y ended

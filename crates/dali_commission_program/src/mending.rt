@@ -9,7 +9,7 @@ ghost use Rattle.dali_commissioning.specs.Census.{AreCounted};
 ghost use Rattle.dali_commissioning.specs.Drivers.{Talk, talk_of};
 ghost use Rattle.dali_commissioning.specs.Places.{places};
 ghost use Rattle.dali_commission_program.specs.Mends.{HasPut, IsMended, AreMended, HasSurveyed, MendedSo, Follows};
-ghost use Rattle.dali_commission_program.specs.Mends.{HasMendedSo, MendsTo, mended_as};
+ghost use Rattle.dali_commission_program.specs.Mends.{HasMendedSo, MendsBeside, MendsTo, mended_as};
 ghost use Rattle.dali_commission_program.specs.Hanging.{AreLookedFor};
 ghost use Rattle.dali_commission_program.specs.Sharing.{with_left, why_open, is_any_left_shared, meant_from};
 ghost use Rattle.dali_commission_program.specs.Reports.{heard_of};
@@ -291,6 +291,28 @@ fn mend_meant<S: Voice, K: Keep, R: Read, W: Write>(
     follow(store, driver, progress, site, &work)
 }
 
+/// What a mend comes to, by what was heard of each short address, if these gear of the tables hang at others.
+fn mends_beside<S: Voice, K: Keep, R: Read, W: Write>(
+    store: &mut K,
+    driver: &mut DriverLink<R, W>,
+    progress: &mut Progress<'_, S>,
+    site: &Site<'_>,
+    replies: &[Reply],
+    hanging: &[Pair],
+    mended: &mut Vec<Mending>,
+) -> Result<Came, Failure>
+    requires few { length replies.now ≤ 64 }
+    requires none { mended.old.items ≡ [] }
+    ensures { IfOk result (λ came. MendsBeside K.is_up K.is_sound K.holds K.kept (K.block store.old)
+        site.now.table.now site.now.others.now site.now.wanted.now hanging.now replies.now mended.new.items store.old
+        store.new (talk_of R.remaining W.contents driver.old) (talk_of R.remaining W.contents driver.new) came.ended) }
+{
+    if let Some(refusal) = refused_from(site, hanging, 0, replies) {
+        return Ok(came_refused(site, replies, refusal));
+    }
+    mend_meant(store, driver, progress, site, replies, hanging, mended)
+}
+
 /// What a mend comes to, by what was heard of each short address.
 fn mends_by<S: Voice, K: Keep, R: Read, W: Write>(
     store: &mut K,
@@ -307,10 +329,7 @@ fn mends_by<S: Voice, K: Keep, R: Read, W: Write>(
         (talk_of R.remaining W.contents driver.old) (talk_of R.remaining W.contents driver.new) came.ended) }
 {
     let hanging = look(driver, progress, site, replies)?;
-    if let Some(refusal) = refused_from(site, &hanging, 0, replies) {
-        return Ok(came_refused(site, replies, refusal));
-    }
-    mend_meant(store, driver, progress, site, replies, &hanging, mended)
+    mends_beside(store, driver, progress, site, replies, &hanging, mended)
 }
 
 /// What a mend comes to: each short address is asked first.
