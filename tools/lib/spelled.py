@@ -11,7 +11,7 @@ import typing
 
 # The file that has each enum, and the one in which its numbers, names and words stand, where that is another.
 ORDERS, CODES = "crates/dali_script/src/orders.rt", "crates/dali_c/src/codes.rt"
-SAID = "crates/dali_commission_program/src/said.rt"
+SAID = "crates/dali_commission_said/src/said.rt"
 ENUMS = {
     "AddError": ("crates/dali_script/src/records.rt",),
     "Answer": ("crates/dali_frame/src/frames.rt", CODES),
@@ -21,7 +21,7 @@ ENUMS = {
     "Due": (ORDERS, CODES),
     "End": (ORDERS,),
     "Event": ("crates/dali_events/src/event.rt",),
-    "Failure": ("crates/dali_commission_program/src/failure.rt",),
+    "Failure": ("crates/dali_commission_said/src/failure.rt",),
     "Fault": (ORDERS,),
     "Frame": ("crates/dali_wire/src/receiver.rt", "crates/dali_c/src/receivers.rt"),
     "Half": ("crates/dali_script/src/sending.rt", CODES),
@@ -40,7 +40,7 @@ ENUMS = {
     "ReplayFault": ("crates/dali_grammar/src/fault.rt",),
     "Report": ("crates/dali_standing/src/report.rt",),
     "SiteLine": ("crates/dali_grammar/src/site_line.rt",),
-    "StoreFault": ("crates/dali_commission_program/src/stores.rt",),
+    "StoreFault": ("crates/dali_commission_said/src/failure.rt",),
     "ThreadsFault": ("crates/dali_threads/src/setup.rt",),
     "Trouble": ("crates/dali_events/src/trouble.rt",),
 }

@@ -4,8 +4,8 @@ use Rattle.std.proofs.Common.{Result, Ok, Err, IfErr, Option, Some, None, IfSome
 use Rattle.std.proofs.lemmas.List.{map-append}
 use Rattle.sqlite.specs.declared.error.Error.{Error}
 use Rattle.dali_reserve.specs.declared.error.KeepError.TheVariants.{NoMemory}
-use Rattle.dali_commission_program.specs.declared.stores.StoreFault.{StoreFault}
-use Rattle.dali_commission_program.specs.declared.stores.StoreFault.TheVariants.{Store}
+use Rattle.dali_commission_said.specs.declared.failure.StoreFault.{StoreFault}
+use Rattle.dali_commission_said.specs.declared.failure.StoreFault.TheVariants.{Store}
 use Rattle.dali_commission.specs.Faults.{closed_fault, IsUnread, IsUnwritten, IsUnopened}
 use Rattle.dali_commission.specs.Logs.{IsDamaged}
 use Rattle.dali_commission.specs.Opened.{names_of}

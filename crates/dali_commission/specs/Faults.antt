@@ -11,8 +11,8 @@ use Rattle.dali_reserve.specs.declared.error.KeepError.TheVariants.{NoMemory, St
 use Rattle.dali_reserve.specs.Refusals.{RefusesRead}
 use Rattle.dali_sqlite.specs.declared.copy.CopyError.{CopyError}
 use Rattle.dali_sqlite.specs.declared.copy.CopyError.TheVariants as copy
-use Rattle.dali_commission_program.specs.declared.stores.StoreFault.{StoreFault}
-use Rattle.dali_commission_program.specs.declared.stores.StoreFault.TheVariants as fault
+use Rattle.dali_commission_said.specs.declared.failure.StoreFault.{StoreFault}
+use Rattle.dali_commission_said.specs.declared.failure.StoreFault.TheVariants as fault
 use Rattle.dali_commission.specs.Logs.{IsDamaged}
 
 -- WHAT A REFUSAL of the system is to a file of records; and with the system's own error, if it is

@@ -1,15 +1,15 @@
 use Rattle.std.proofs.Common.{◌≡◌, ◌∙◌, true, ℕ, List, Option, Some, Result, Ok, Err, OnOk, subst, sym, inr}
 use Rattle.std.specs.Prelude.{MatchOption}
 use Rattle.dali_console.specs.Status.{status_after}
-use Rattle.dali_commission_program.specs.declared.failure.Failure.{Failure}
-use Rattle.dali_commission_program.specs.declared.report.Report.{Report}
-use Rattle.dali_commission_program.specs.declared.said.Said.{Said}
-use Rattle.dali_commission_program.specs.declared.tasks.Asked.{Asked}
-use Rattle.dali_commission_program.specs.Calls.{Call, Look}
+use Rattle.dali_commission_said.specs.declared.failure.Failure.{Failure}
+use Rattle.dali_commission_said.specs.declared.report.Report.{Report}
+use Rattle.dali_commission_said.specs.declared.said.Said.{Said}
+use Rattle.dali_commission_tasks.specs.declared.tasks.Asked.{Asked}
+use Rattle.dali_commission_stores.specs.Calls.{Call, Look}
 use Rattle.dali_commission_program.specs.Done.{HasDone, HasAnswered, HasServed}
-use Rattle.dali_commission_program.specs.Failures.{status_of, end_name, or_refused}
+use Rattle.dali_commission_said.specs.Failures.{status_of, end_name, or_refused}
 use Rattle.dali_commission_program.specs.Object.{report_text}
-use Rattle.dali_commission_program.specs.Words.{Values, IsAsked}
+use Rattle.dali_commission_words.specs.Words.{Values, IsAsked}
 
 -- a task that was done, and written
 by_both : {F : Type 0} (made : F → F → Call → Type 0) (saw : F → Look → Type 0) (told : Said → Type 0) (wrote : List ℕ → Type 0) (asked : Asked)

@@ -1,22 +1,27 @@
-use Rattle.std.specs.Prelude.{◌≡◌, ◌⊎◌, ℕ, true, List, Result, Ok}
+use Rattle.std.specs.Prelude.{◌≡◌, ◌⊎◌, ℕ, true, List, Result, Ok, Option, Err, IfSome}
 use Rattle.std.specs.declared.alloc.Global.{Global}
 use Rattle.std.specs.declared.string.String.{String}
 use Rattle.dali_script.specs.declared.block.Block.{Block}
 use Rattle.dali_script.specs.Records.{Kept}
-use Rattle.dali_commission_program.specs.declared.report.Report.{Report}
-use Rattle.dali_commission_program.specs.declared.said.Said.{Said}
-use Rattle.dali_commission_program.specs.declared.tasks.Asked.{Asked}
-use Rattle.dali_commission_program.specs.declared.tasks.TableForm.{TableForm}
-use Rattle.dali_commission_program.specs.declared.tasks.Task.{Task}
-use Rattle.dali_commission_program.specs.declared.tasks.Task.TheVariants as task
-use Rattle.dali_commission_program.specs.Calls.{Call, Look, Read}
-use Rattle.dali_commission_program.specs.Came.{HasShown}
-use Rattle.dali_commission_program.specs.Clearing.{HasCleared}
-use Rattle.dali_commission_program.specs.Failures.{end_name}
+use Rattle.dali_commission_said.specs.declared.report.Report.{Report}
+use Rattle.dali_commission_said.specs.declared.said.Said.{Said}
+use Rattle.dali_commission_tasks.specs.declared.tasks.Asked.{Asked}
+use Rattle.dali_commission_tasks.specs.declared.tasks.TableForm.{TableForm}
+use Rattle.dali_commission_tasks.specs.declared.tasks.Task.{Task}
+use Rattle.dali_commission_tasks.specs.declared.tasks.Task.TheVariants as task
+use Rattle.dali_commission_stores.specs.Calls.{Call, Look, Read}
+use Rattle.dali_commission_asked.specs.Came.{HasShown, HasChecked}
+use Rattle.dali_commission_cleared.specs.Clearing.{HasCleared}
+use Rattle.dali_commission_said.specs.Failures.{end_name}
 use Rattle.dali_commission_program.specs.Object.{report_text}
-use Rattle.dali_commission_program.specs.Tables.{only, table_text}
-use Rattle.dali_commission_program.specs.Tellings.{HasRunWell, HasChecked, HasReplaced, HasMended}
-use Rattle.dali_commission_program.specs.Words.{Values, IsAsked}
+use Rattle.dali_commission_said.specs.Tables.{only, table_text}
+use Rattle.dali_commission_mended.specs.Tellings.{HasRunWell, HasMended}
+use Rattle.dali_commission_replaced.specs.Tellings.{HasReplaced}
+use Rattle.dali_commission_words.specs.Words.{Values, IsAsked}
+use Rattle.std.specs.Borrow.{Bor}
+use Rattle.dali_commission_said.specs.declared.failure.Failure.{Failure}
+use Rattle.dali_commission_tasks.specs.declared.tasks.Mend.{Mend}
+use Rattle.dali_commission_said.specs.Said.{why_said}
 
 -- A TABLE was written: that of the records of a name, as they were read
 abbrev pub HasTabled : {F : Type 0} → (F → Look → Type 0) → (List ℕ → Type 0) → List ℕ → TableForm
@@ -55,3 +60,8 @@ HasServed made saw told wrote shown =
     × (asked : Asked)
     × IsAsked name values asked
     × HasAnswered made saw told wrote asked)
+
+-- WHY THE PROGRAM ENDED was said, if it did not end well and that needs to be said
+abbrev pub WhyTold : (Said → Type 0) → Result (Unit {0}) Failure → Option (Bor (List ℕ)) → Type 0
+WhyTold told (Ok done) records = Unit {0}
+WhyTold told (Err failure) records = IfSome (why_said failure records) told

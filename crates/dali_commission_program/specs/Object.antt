@@ -1,16 +1,16 @@
-use Rattle.std.specs.Prelude.{◌≡◌, ℕ, ◌+◌, Bool, List, [], ◌∷◌, ◌++◌, Option, Some, None}
-use Rattle.std.specs.Prelude.{codes, decimal}
+use Rattle.std.specs.Prelude.{◌≡◌, ℕ, ◌+◌, Bool, List, [], ◌∷◌, ◌++◌, Option, Some, None, codes}
+use Rattle.std.specs.Prelude.{decimal}
 use Rattle.std.specs.Borrow.{Bor}
 use Rattle.json.specs.Print.{print}
-use Rattle.json.specs.Token.{Token, begin_object, end_object, begin_array, end_array}
-use Rattle.json.specs.Token.{key, string, number, boolean, null}
+use Rattle.json.specs.Token.{Token, begin_object, end_object, begin_array, end_array, key, string}
+use Rattle.json.specs.Token.{number, boolean, null}
 use Rattle.json.specs.Written.{Written}
 use Rattle.dali_frame.specs.Hex.{random_text}
 use Rattle.dali_commissioning.specs.declared.verdict.Place.{Place}
 use Rattle.dali_commissioning.specs.declared.verdict.Place.TheVariants as place
 use Rattle.dali_commission_program.specs.declared.object.Value.{Value}
 use Rattle.dali_commission_program.specs.declared.object.Value.TheVariants as value
-use Rattle.dali_commission_program.specs.declared.report.Report.{Report}
+use Rattle.dali_commission_said.specs.declared.report.Report.{Report}
 
 -- WHAT A WRITER HAS AFTER A CALL: these tokens, after those before
 abbrev pub IsPut : Written → Written → List Token → Type 0

@@ -6,12 +6,10 @@ ghost use Rattle.json.specs.Print.{print};
 ghost use Rattle.json.specs.Token.{begin_object, end_object};
 ghost use Rattle.dali_commission_program.specs.Object.{IsPut, value_token, member_tokens, begin_list, entries};
 ghost use Rattle.dali_commission_program.specs.Object.{gear_tokens, number_tokens, missing_tokens, oddity};
-ghost use Rattle.dali_commission_program.specs.Object.{strangers_tokens, head_tokens, list_tokens};
-ghost use Rattle.dali_commission_program.specs.Object.{report_tokens, report_text};
+ghost use Rattle.dali_commission_program.specs.Object.{strangers_tokens, head_tokens, list_tokens, report_tokens};
+ghost use Rattle.dali_commission_program.specs.Object.{report_text};
 
-use crate::failure::Failure;
-use crate::report::{Report, Row};
-use crate::said::Voice;
+use dali_commission_said::{Failure, Report, Row, Voice};
 use dali_commissioning::Place;
 use dali_frame::Random24;
 use json::Writer;

@@ -1,32 +1,25 @@
 //! The program: what it reads of the system, does, and says.
 
 ghost use Rattle.std.specs.Borrow.{Bor};
-ghost use Rattle.std.specs.Prelude.{◌≡◌, ℕ, List, Option, true, OnOk, option_map, slice_get};
-ghost use Rattle.std.specs.Prelude.{string_bytes};
+ghost use Rattle.std.specs.Prelude.{◌≡◌, ℕ, List, Option, true, IfOk, OnOk, option_map, slice_get, string_bytes};
 ghost use Rattle.dali_console.specs.Status.{status_after};
-ghost use Rattle.dali_commission_program.specs.Failures.{status_of, end_name, or_refused, refused_name};
+ghost use Rattle.dali_commission_said.specs.Failures.{status_of, end_name, or_refused, refused_name};
 ghost use Rattle.dali_commission_program.specs.Object.{report_text};
-ghost use Rattle.dali_commission_program.specs.Tables.{only};
-ghost use Rattle.dali_commission_program.specs.Tellings.{WhyTold};
-ghost use Rattle.dali_commission_program.specs.Done.{HasTabled, HasDone, HasAnswered, HasServed};
+ghost use Rattle.dali_commission_said.specs.Tables.{only};
+ghost use Rattle.dali_commission_program.specs.Done.{WhyTold, HasTabled, HasDone, HasAnswered, HasServed};
+ghost use Rattle.dali_commission_words.specs.Words.{IsAsked};
 
-use crate::checking::checks;
-use crate::clearing::clears;
-use crate::failure::Failure;
-use crate::identifying::identify;
-use crate::mending::mends;
 use crate::object::write_report;
-use crate::progress::Manner;
-use crate::records::{Reading, lend, lend_copy};
-use crate::replacing::{note_first, replaces};
-use crate::report::Report;
-use crate::running::Running;
-use crate::said::{Voice, say, why_said};
-use crate::stores::Stores;
-use crate::table::push_table;
-use crate::tasks::{Asked, TableForm, Task};
-use crate::words::{PROGRAM, asked_of};
-use dali_words::{Shows, asked};
+use dali_commission_asked::{checks, identify};
+use dali_commission_cleared::clears;
+use dali_commission_mended::{Running, mends};
+use dali_commission_replaced::{note_first, replaces};
+use dali_commission_said::{Failure, Manner, Report, Voice, push_table, say, why_said};
+use dali_commission_stores::{Reading, Stores, lend, lend_copy};
+use dali_commission_tasks::{Asked, TableForm, Task};
+use dali_commission_words::{PROGRAM, asked_of};
+use dali_words::{CommandLine, LineFault, Shows, asked};
+use std::alloc::Global;
 use std::env::Env;
 use std::time::Clock;
 
@@ -193,6 +186,13 @@ fn ended<S: Voice>(
     ended
 }
 
+/// What a line asks for. A function of another crate cannot be handed over as a value.
+fn asked_by(alloc: Global, line: &CommandLine) -> Result<Asked, LineFault>
+    ensures { IfOk result (IsAsked (string_bytes line.now.subcommand) line.now.values.items) }
+{
+    asked_of(alloc, line)
+}
+
 /// Does what the words of the command line ask for, and says on standard error why it ended before its end. The driver
 /// is the system's input and output.
 pub fn run_and_say<S, F>(system: &S, stores: &mut F, is_terminal: bool) -> Result<(), Failure>
@@ -202,7 +202,7 @@ where
     ensures why { (name : Option (Bor (List ℕ))) × WhyTold (S.told system.now) result name }
     ensures done { OnOk result (HasServed F.made F.saw (S.told system.now) (S.wrote system.now) (S.shown system.now)) }
 {
-    let found = match asked(system, &PROGRAM, asked_of) {
+    let found = match asked(system, &PROGRAM, asked_by) {
         Ok(found) => found,
         Err(fault) => return ended(system, Err(Failure::Console(fault)), None),
     };

@@ -1,6 +1,6 @@
 use Rattle.std.proofs.Common.{◌≡◌, IfErr}
-use Rattle.dali_commission_program.specs.declared.stores.StoreFault.{StoreFault}
-use Rattle.dali_commission_program.specs.declared.failure.Failure.TheVariants.{Store}
+use Rattle.dali_commission_said.specs.declared.failure.StoreFault.{StoreFault}
+use Rattle.dali_commission_said.specs.declared.failure.Failure.TheVariants.{Store}
 use Rattle.dali_commission.specs.Faults.{IsUnclosed}
 use Rattle.dali_commission.proofs.files.shut_all.Given as goal
 

@@ -1,0 +1,4 @@
+pub mod Came
+pub mod Ending
+pub mod Frames
+pub mod Sharing

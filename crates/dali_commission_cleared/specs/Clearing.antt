@@ -1,0 +1,152 @@
+use Rattle.std.specs.Prelude.{◌≡◌, ◌⊎◌, ℕ, Bool, true, false, if◌then◌else◌, List, [], ◌∷◌, Result}
+use Rattle.std.specs.Prelude.{Ok, Err, None, not, ◌++◌, ◌↔◌, IsTrue, string_bytes}
+use Rattle.std.specs.List.{list_any}
+use Rattle.std.specs.declared.alloc.Global.{Global}
+use Rattle.std.specs.declared.string.String.{String}
+use Rattle.dali_script.specs.declared.block.Block.{Block}
+use Rattle.dali_script.specs.declared.orders.Input.{Input}
+use Rattle.dali_script.specs.Records.{Kept, without_records}
+use Rattle.dali_commissioning.specs.declared.census.Reply.{Reply}
+use Rattle.dali_commissioning.specs.declared.verdict.Place.{Place}
+use Rattle.dali_commissioning.specs.Census.{AreCounted, is_silent}
+use Rattle.dali_commissioning.specs.Drivers.{Talk}
+use Rattle.dali_commissioning.specs.Places.{places}
+use Rattle.dali_commissioning.specs.Unaddressed.{AreLeftOver, asking}
+use Rattle.dali_commission_cleared.specs.declared.eraser.Eraser.{Eraser}
+use Rattle.dali_commission_said.specs.declared.failure.Failure.{Failure}
+use Rattle.dali_commission_said.specs.declared.failure.Failure.TheVariants.{NotCleared}
+use Rattle.dali_commission_said.specs.declared.failure.Failure.TheVariants.{NobodyAnswered}
+use Rattle.dali_commission_stores.specs.Calls.{Call, Renamed, Look, AreMade}
+use Rattle.dali_commission_stores.specs.Calls as look
+use Rattle.dali_commission_cleared.specs.Erasing.{begun, erasing_next, erasing_told}
+use Rattle.dali_commission_asked.specs.Frames.{AreFrames}
+use Rattle.dali_commission_said.specs.declared.reports.Which.TheVariants as which
+use Rattle.dali_commission_said.specs.declared.said.Said.{Said}
+use Rattle.dali_commission_said.specs.declared.said.Said.TheVariants as said
+use Rattle.dali_commission_stores.specs.Keeping.{IsAside, AreFree, AreKeptTold}
+use Rattle.dali_commission_said.specs.Said.{AreTold, places_said}
+use Rattle.dali_commission_stores.specs.Settling.{kept_at}
+
+-- FILES ARE PUT ASIDE, one after the other
+abbrev pub asides : List (String Global) → ℕ → List Call
+asides [] number = []
+asides (name ∷ more) number =
+    Renamed (string_bytes name) (kept_at (string_bytes name) number) ∷ asides more number
+
+abbrev pub AreRenamed : {F : Type 0} → (F → F → Call → Type 0) → (F → Look → Type 0)
+    → List (String Global) → ℕ → F → F → Type 0
+AreRenamed made saw names number x y =
+    AreFree saw x number names × AreMade made (asides names number) x y
+
+-- those that are there and not empty, where they lie
+abbrev pub AddsFilled : {F : Type 0} → (F → Look → Type 0) → F → List ℕ → List (String Global)
+    → List (String Global) → Type 0
+AddsFilled saw x name before after =
+    (place : String Global)
+    × saw x (look.Lies name (string_bytes place))
+    × ((saw x (look.Has (string_bytes place) false) × (after ≡ before))
+    ⊎ ((k : Kept)
+    × (bare : Bool)
+    × saw x (look.Read (string_bytes place) k)
+    × (IsTrue bare ↔ ((k.reserved ≡ []) × (k.enrolled ≡ [])))
+    × (after ≡ (if bare then before else before ++ place ∷ []))))
+
+abbrev pub AreFilled : {F : Type 0} → (F → Look → Type 0) → F → List (String Global)
+    → List (String Global) → List (String Global) → Type 0
+AreFilled saw x before [] after = after ≡ before
+AreFilled saw x before (name ∷ more) after =
+    (mid : List (String Global))
+    × AddsFilled saw x (string_bytes name) before mid
+    × AreFilled saw x mid more after
+
+-- and it is said where they are kept
+abbrev pub ArePutAside : {F : Type 0} → (F → F → Call → Type 0) → (F → Look → Type 0)
+    → (Said → Type 0) → List (String Global) → F → F → Type 0
+ArePutAside {F = F} made saw told records x y =
+    (names : List (String Global))
+    × (number : ℕ)
+    × AreFilled saw x [] records names
+    × ((from : F) × AreRenamed made saw names number from y)
+    × AreKeptTold told number names
+
+-- and so are the new files that a stopped replacement has left beside any of them
+abbrev pub IsNewAside : {F : Type 0} → (F → F → Call → Type 0) → (F → Look → Type 0) → List ℕ → F
+    → F → Type 0
+IsNewAside made saw name x y =
+    (place : String Global)
+    × saw x (look.Lies name (string_bytes place))
+    × IsAside made saw (string_bytes place) x y
+
+abbrev pub AreNewAside : {F : Type 0} → (F → F → Call → Type 0) → (F → Look → Type 0)
+    → List (String Global) → F → F → Type 0
+AreNewAside made saw [] x y = x ≡ y
+AreNewAside made saw (name ∷ more) x y =
+    (z : _) × IsNewAside made saw (string_bytes name) x z × AreNewAside made saw more z y
+
+-- ALL GEAR LOSE THEIR SHORT ADDRESSES by the frames of the machine, put until none is due; then
+-- each short address is asked
+abbrev pub all_shorts : Block
+all_shorts = record { first = 0; last = 63 }
+
+abbrev pub HaveErased : Eraser → Eraser → Talk → Talk → Type 0
+HaveErased d e x y = (told : List Input) × AreFrames erasing_next erasing_told d told e x y
+
+abbrev pub IsRound : List Reply → Talk → Talk → Type 0
+IsRound replies x y =
+    (e : Eraser)
+    × (at : Talk)
+    × HaveErased begun e x at
+    × (erasing_next e ≡ None)
+    × AreCounted (without_records all_shorts) [] 0 replies at y
+
+-- round after round, as long as gear answer at short addresses
+abbrev pub is_any : List Reply → Bool
+is_any replies = list_any (λ reply. not (is_silent reply)) replies
+
+abbrev pub AreCleared : List ℕ → List Reply → List Reply → Talk → Talk → Type 0
+AreCleared [] last replies x y = (replies ≡ last) × (y ≡ x)
+AreCleared (number ∷ more) last replies x y =
+    (one : List Reply)
+    × (at : Talk)
+    × IsRound one x at
+    × (((is_any one ≡ false) × (replies ≡ one) × (y ≡ at))
+    ⊎ ((is_any one ≡ true) × AreCleared more one replies at y))
+
+-- and if none answers there any more, gear without short address are to answer
+abbrev pub IsFollowed : List Reply → Bool → Talk → Talk → Type 0
+IsFollowed replies found x y =
+    ((is_any replies ≡ true) × (y ≡ x))
+    ⊎ ((is_any replies ≡ false) × AreLeftOver asking found x y)
+
+-- WHAT A CLEAR COMES TO
+abbrev pub cleared_as : List Reply → Bool → Result (Unit {0}) Failure
+cleared_as replies found =
+    if is_any replies then Err NotCleared
+    else (if found then Ok tt else Err NobodyAnswered)
+
+abbrev pub cleared_said : Result (Unit {0}) Failure → List Said
+cleared_said (Ok done) = said.Cleared ∷ []
+cleared_said (Err failure) = []
+
+abbrev pub ClearsTo : Result (Unit {0}) Failure → List Said → List Place → Talk → Talk → Type 0
+ClearsTo ended lines stand x y =
+    (replies : List Reply)
+    × (found : Bool)
+    × (at : Talk)
+    × AreCleared (1 ∷ 2 ∷ 3 ∷ 4 ∷ []) [] replies x at
+    × IsFollowed replies found at y
+    × (ended ≡ cleared_as replies found)
+    × (stand ≡ places (without_records all_shorts) [] replies)
+    × (lines ≡ places_said which.All 0 stand ++ cleared_said ended)
+
+-- A CLEAR THAT ENDED SO has put the files aside before, and said which gear still answer
+abbrev pub HasCleared : {F : Type 0} → (F → F → Call → Type 0) → (F → Look → Type 0)
+    → (Said → Type 0) → List (String Global) → Result (Unit {0}) Failure → Type 0
+HasCleared {F = F} made saw told records ended =
+    ((from to : F) × ArePutAside made saw told records from to)
+    × ((from to : F) × AreNewAside made saw records from to)
+    × ((lines : List Said)
+    × (stand : List Place)
+    × (x y : Talk)
+    × ClearsTo ended lines stand x y
+    × AreTold told lines)

@@ -1,0 +1,4 @@
+pub mod Hanging
+pub mod Mends
+pub mod Runs
+pub mod Tellings

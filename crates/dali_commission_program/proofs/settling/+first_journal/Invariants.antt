@@ -1,5 +1,0 @@
-use Rattle.std.proofs.Common.{length}
-use Rattle.dali_commission_program.proofs.settling.+first_journal.Given as goal
-
-abbrev pub decreases-first_journal : goal.decreases-first_journal
-decreases-first_journal g l = length l.names.now

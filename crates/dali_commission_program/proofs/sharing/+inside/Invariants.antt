@@ -1,5 +1,0 @@
-use Rattle.std.proofs.Common.{length}
-use Rattle.dali_commission_program.proofs.sharing.+inside.Given as goal
-
-abbrev pub decreases-inside : goal.decreases-inside
-decreases-inside l = length l.pairs.now

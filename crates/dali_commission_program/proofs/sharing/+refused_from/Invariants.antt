@@ -1,5 +1,0 @@
-use Rattle.std.proofs.Common.{length}
-use Rattle.dali_commission_program.proofs.sharing.+refused_from.Given as goal
-
-abbrev pub decreases-refused_from : goal.decreases-refused_from
-decreases-refused_from l = length l.replies.now

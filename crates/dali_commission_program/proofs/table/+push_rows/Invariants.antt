@@ -1,5 +1,0 @@
-use Rattle.std.proofs.Common.{length}
-use Rattle.dali_commission_program.proofs.table.+push_rows.Given as goal
-
-abbrev pub decreases-push_rows : goal.decreases-push_rows
-decreases-push_rows l = length l.rows.now

@@ -1,5 +1,0 @@
-use Rattle.std.proofs.Common.{length}
-use Rattle.dali_commission_program.proofs.words.+push_all.Given as goal
-
-abbrev pub decreases-push_all : goal.decreases-push_all
-decreases-push_all g l = length l.values.now

@@ -1,0 +1,148 @@
+//! An exchange of files that an earlier call has begun is brought to its end, and the bus is asked what is there.
+
+ghost use Rattle.std.specs.Prelude.{◌≡◌, true, IfOk, IfSome};
+ghost use Rattle.dali_commissioning.specs.declared.census.Reply.TheVariants as heard;
+ghost use Rattle.dali_commissioning.specs.Census.{IsAnswered};
+ghost use Rattle.dali_commissioning.specs.Drivers.{Talk, talk_of};
+ghost use Rattle.dali_replacement.specs.Permit.{confirmed_at, confirmed_random};
+ghost use Rattle.dali_replacement.specs.Swapping.{address_of};
+ghost use Rattle.dali_replacement.specs.Tables.{AreGiven};
+ghost use Rattle.dali_commission_stores.specs.Calls.{Read};
+ghost use Rattle.dali_commission_said.specs.Failures.{although_exchanged};
+ghost use Rattle.dali_commission_stores.specs.Settling.{IsSettled};
+ghost use Rattle.dali_commission_replaced.specs.Tellings.{FinishTold, HasReplaced};
+
+use crate::confirming::Asking;
+use dali_commission_said::{Failure, Report, Said, Voice, add, or_say, say};
+use dali_commission_stores::{Stores, found, read, say_kept, settle};
+use dali_commissioning::DriverLink;
+use dali_frame::Short;
+use dali_replacement::{Come, Confirmed, ReplaceRefusal, Swap, gathered};
+use dali_script::Kept;
+use std::io;
+use std::io::{Read, Write};
+
+/// Brings a swap of an earlier call to its end, or takes it back, and says which. Whether the new files have taken the
+/// places of the old ones.
+fn finishes<S: Voice + AllocGlobal, F: Stores>(
+    system: &S,
+    stores: &mut F,
+    swap: &Swap,
+) -> Result<bool, Failure>
+    ensures settled { IfOk result (IsSettled F.made swap.now stores.old stores.new) }
+    ensures told { IfOk result (λ is_done. FinishTold (S.told system.now) (address_of swap.now) is_done) }
+{
+    let is_done = settle(system, stores, swap)?;
+    if is_done {
+        say(system, &Said::Exchanged(swap.short().number()));
+        let _ = say_kept(system, swap.names(), swap.number());
+    } else {
+        say(system, &Said::TakenBack(swap.short().number()));
+    }
+    Ok(is_done)
+}
+
+/// The same. The swap, if it is of this short address and its files are exchanged now.
+fn finished<S: Voice + AllocGlobal, F: Stores>(
+    system: &S,
+    stores: &mut F,
+    swap: Swap,
+    short: Short,
+) -> Result<Option<Swap>, Failure>
+    ensures { IfOk result (λ done. IfSome done (λ swap. (address_of swap ≡ short)
+        × IsSettled F.made swap stores.old stores.new true)) }
+{
+    if finishes(system, stores, &swap)? && swap.short() == short {
+        Ok(Some(swap))
+    } else {
+        Ok(None)
+    }
+}
+
+/// Brings each swap of an earlier call to its end. That of this short address, if its files are exchanged now.
+pub(crate) fn exchanged<S: Voice + AllocGlobal, F: Stores>(
+    system: &S,
+    stores: &mut F,
+    names: &[String],
+    short: Short,
+) -> Result<Option<Swap>, Failure>
+    ensures { IfOk result (λ done. IfSome done (λ swap. (address_of swap ≡ short)
+        × ((from to : F) × IsSettled F.made swap from to true))) }
+{
+    let [name, more @ ..] = names else {
+        return Ok(None);
+    };
+    let done = match or_say(system, name, found(system.alloc(), stores, name))? {
+        Some(swap) => finished(system, stores, swap, short)?,
+        None => None,
+    };
+    match exchanged(system, stores, more, short)? {
+        Some(later) => Ok(Some(later)),
+        None => Ok(done),
+    }
+}
+
+/// The new gear has the address by these tables, which are those of the files now, and all others are there.
+fn heard<S: Voice, R: Read, W: Write>(
+    asking: &Asking<'_, S>,
+    driver: &mut DriverLink<R, W>,
+    tables: &[Kept],
+    report: &mut Report,
+) -> Result<Confirmed, Failure>
+    ensures heard { IfOk result (λ seen. (from : Talk) × IsAnswered asking.now.wanted.now.short
+        (heard.Random (confirmed_random seen)) from (talk_of R.remaining W.contents driver.new)) }
+    ensures given { IfOk result (λ seen. AreGiven asking.now.wanted.now.short (confirmed_random seen) tables.now) }
+    ensures short { IfOk result (λ seen. confirmed_at seen ≡ asking.now.wanted.now.short) }
+{
+    let short = asking.wanted.short;
+    let random = match tables {
+        [table, ..] => table.enrolled_at(short),
+        [] => None,
+    };
+    let Some(random) = random else {
+        return Err(asking.refusal(ReplaceRefusal::NotGiven));
+    };
+    let table = match gathered(tables, short) {
+        Ok(table) => table,
+        Err(other) => return Err(Failure::NotReplaced(other, ReplaceRefusal::Disagree)),
+    };
+    let others = asking.others_there(driver, Come::Given(random), table, report)?;
+    asking.confirm(driver, others, tables)
+}
+
+/// What a refusal is once the files are exchanged.
+fn although_exchanged(failure: Failure) -> Failure
+    ensures { result ≡ although_exchanged failure }
+{
+    match failure {
+        Failure::NotReplaced(short, refusal) => Failure::NotConfirmed(short, refusal),
+        _ => failure,
+    }
+}
+
+/// Asks the bus whether the new gear has the address, once the files are exchanged.
+pub(crate) fn confirms<S, F>(
+    asking: &Asking<'_, S>,
+    stores: &F,
+    swap: &Swap,
+    report: &mut Report,
+) -> Result<Confirmed, Failure>
+where
+    S: Input + Print + Voice + AllocGlobal,
+    F: Stores,
+    ensures short { IfOk result (λ seen. confirmed_at seen ≡ asking.now.wanted.now.short) }
+    ensures told { IfOk result (λ _. HasReplaced (S.told asking.now.system.now) asking.now.wanted.now.short) }
+{
+    let system = asking.system;
+    let mut tables = Vec::new(system.alloc());
+    for name in swap.names() {
+        add(&mut tables, read(system, stores, name)?)?;
+    }
+    let mut driver = DriverLink::new(system.alloc(), system.reader(), io::writer(system));
+    let heard = heard(asking, &mut driver, &tables, report);
+    let confirmed = report
+        .note_lines(system, &driver, heard)
+        .map_err(although_exchanged)?;
+    asking.say_confirmed(&confirmed, &tables);
+    Ok(confirmed)
+}

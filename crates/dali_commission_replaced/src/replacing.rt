@@ -1,0 +1,527 @@
+//! `replace`: a new luminaire gets the short address of one that is gone.
+
+ghost use Rattle.std.specs.Prelude.{◌≡◌, ◌↔◌, ◌⊎◌, ℕ, List, true, Some, IsTrue, IfOk, OnOk, string_bytes, option_map};
+ghost use Rattle.std.specs.Prelude.{slice_get, MatchOption};
+ghost use Rattle.dali_script.specs.Records.{HasAddress};
+ghost use Rattle.dali_replacement.specs.Permit.{confirmed_at, others_at};
+ghost use Rattle.dali_replacement.specs.Tables.{IsGathered, Lacks};
+ghost use Rattle.dali_commission_stores.specs.Calls.{Lies, Read};
+ghost use Rattle.dali_commission_replaced.specs.Replacing.{IsAnywhere, IsGiver, IsDue, AreAside};
+ghost use Rattle.dali_commission_said.specs.Reports.{own_rows};
+ghost use Rattle.dali_commission_said.specs.Tables.{rows};
+ghost use Rattle.dali_commission_stores.specs.Seen.{ComeSo};
+ghost use Rattle.dali_commission_stores.specs.Settling.{new_at};
+ghost use Rattle.dali_commission_replaced.specs.Tellings.{HasReplaced};
+
+use crate::confirming::Asking;
+use crate::finishing::{confirms, exchanged};
+use dali_commission_asked::ask_at_last;
+use dali_commission_said::{
+    Failure, Manner, Progress, REFUSED, Report, Said, StoreFault, Voice, add, ended_as, ended_said,
+    failure_of, or_say, say, say_all, say_refused,
+};
+use dali_commission_stores::{
+    Borrower, Filling, Holder, Reading, Stores, exchange, found, free_number, kept, lend,
+    lend_copy, put_one_aside, read, say_kept,
+};
+use dali_commission_tasks::Replacement;
+use dali_commissioning::{DriverLink, Ended, outside};
+use dali_frame::Short;
+use dali_replacement::{
+    Come, Confirmed, Giver, MOST_FILES, OthersThere, Permit, ReplaceRefusal, Swap, gathered,
+    giver_from, new_of,
+};
+use dali_reserve::Keep;
+use dali_script::{Block, End, Kept};
+use std::alloc::Global;
+use std::io;
+use std::io::{Read, Write};
+
+/// Whether this table has the short address.
+#[tactic(auto, using(dali_script::proofs::Lists::address_found))]
+fn has_address(table: &Kept, short: Short) -> bool
+    ensures { IsTrue result ↔ HasAddress table.now.enrolled short }
+{
+    table.enrolled_at(short).is_some()
+}
+
+/// Whether a table has this short address.
+fn is_anywhere(tables: &[Kept], short: Short) -> bool
+    ensures { IsTrue result ↔ IsAnywhere short tables.now }
+{
+    match tables {
+        [] => false,
+        [table, more @ ..] => has_address(table, short) || is_anywhere(more, short),
+    }
+}
+
+/// Who gives the new gear its short address, into these records, and says how the surveys ended. The records say
+/// whether the new gear has the address: there is none here for any other gear that was heard.
+#[derive(Drop)]
+struct Giving<'a, S, R, W> {
+    system: &'a S,
+    driver: &'a mut DriverLink<R, W>,
+    permit: &'a Permit,
+    table: &'a Kept,
+    manner: Manner,
+}
+
+impl<S: Voice, R: Read, W: Write> Borrower for Giving<'_, S, R, W> {
+    type Out = ();
+
+    ghost use Rattle.std.specs.Prelude.{◌≡◌, Ok};
+    ghost use Rattle.dali_commission_replaced.specs.Replacing.{HasGiven};
+
+    ghost came = { λ giving kept _. HasGiven (S.told giving.system.now) kept };
+
+    fn take<K: Keep>(self, store: &mut K) -> Result<(), Failure> {
+        let (system, permit, table) = (self.system, self.permit, self.table);
+        let mut progress = Progress::new(system, self.manner, 1);
+        let came = permit.give(store, self.driver, &mut progress, table);
+        progress.end();
+        let pass = match came {
+            Ok(pass) => pass,
+            Err(fault) => return Err(failure_of(fault, self.driver.lines())),
+        };
+        let kept = kept(store)?;
+        let last = match ask_at_last(self.driver, &pass, &kept) {
+            Ok(last) => last,
+            Err(fault) => return Err(failure_of(fault, self.driver.lines())),
+        };
+        let pass = last.pass(&pass);
+        say_all(system, &ended_said(&pass, &kept, progress.aim()));
+        match pass.ended {
+            Ended::Done(End::BlockFull) => Ok(()),
+            ended => ended_as(ended, last.is_there),
+        }
+    }
+}
+
+/// What is decided before the bus is asked.
+#[derive(Drop)]
+struct Plan {
+    /// What each new table is to have beside the new gear.
+    table: Kept,
+    /// The number of the file from whose block the short address is given.
+    giver: usize,
+    come: Come,
+}
+
+/// A swap of files that may begin.
+#[derive(Drop)]
+struct DueSwap {
+    swap: Swap,
+    /// The new gear that was heard.
+    confirmed: Confirmed,
+    news: Vec<Kept>,
+}
+
+/// The number of the file from whose block the short address is given.
+fn giver(wanted: &Replacement, all: &[Kept]) -> Result<usize, Failure>
+    ensures { IfOk result (λ number. IsGiver wanted.now all.now number) }
+{
+    let (short, block) = (wanted.short, wanted.block);
+    let refused = Err(Failure::NotReplaced(short, ReplaceRefusal::NoGiver));
+    if short < block.first || block.last < short || all.len() > MOST_FILES {
+        return refused;
+    }
+    if let [only] = all {
+        return match outside(only, block) {
+            Some(short) => Err(Failure::Outside(short)),
+            None => Ok(0),
+        };
+    }
+    match giver_from(0, short, all) {
+        Giver::One(number) => Ok(number as usize),
+        Giver::Nobody | Giver::Several => refused,
+    }
+}
+
+/// What is to be in each new table beside the new gear.
+fn table(wanted: &Replacement, all: &[Kept]) -> Result<Kept, Failure>
+    ensures all { IfOk result (λ table. IsGathered wanted.now.short all.now table) }
+    ensures without { IfOk result (λ table. Lacks wanted.now.short table) }
+{
+    let short = wanted.short;
+    if !is_anywhere(all, short) {
+        return Err(Failure::NotReplaced(short, ReplaceRefusal::NotInTables));
+    }
+    for gone in wanted.missing.iter() {
+        if *gone == short || !is_anywhere(all, *gone) {
+            return Err(Failure::NotReplaced(*gone, ReplaceRefusal::NotMissing));
+        }
+    }
+    match gathered(all, short) {
+        Ok(table) => Ok(table),
+        Err(short) => Err(Failure::NotReplaced(short, ReplaceRefusal::Disagree)),
+    }
+}
+
+/// Who replaces a luminaire in the records of a site.
+#[derive(Drop)]
+struct Replacing<'a, S> {
+    asking: &'a Asking<'a, S>,
+    /// Where the files lie.
+    names: &'a [String],
+    report: &'a mut Report,
+}
+
+/// Whether another one's new records have come no further than the giver's.
+fn is_behind(other: &Come, come: &Come) -> bool
+    ensures { IsTrue result ↔ ((other.now ≡ Come.Nowhere) ⊎ (other.now ≡ come.now)) }
+{
+    matches!(other, Come::Nowhere) || other == come
+}
+
+impl<S: Input + Print + Voice + AllocGlobal> Replacing<'_, S> {
+    /// How far the new file of a name has come, beside what the old one has.
+    fn come<F: Stores>(
+        &self,
+        stores: &F,
+        name: &str,
+        old: &Kept,
+        is_giver: bool,
+    ) -> Result<Come, Failure>
+        ensures { IfOk result (ComeSo F.saw stores.now name.now old.now is_giver self.now.asking.now.wanted.now.short) }
+    {
+        let new = new_of(self.asking.system.alloc(), name)?;
+        if !stores.has(&new) {
+            return Ok(Come::Nowhere);
+        }
+        let new = read(self.asking.system, stores, &new)?;
+        match Come::of(&new, old, self.asking.wanted.short, is_giver) {
+            Some(come) => Ok(come),
+            None => Err(self.asking.refusal(ReplaceRefusal::OtherNew)),
+        }
+    }
+
+    /// How far an earlier call has come. No other new file has another gear there than the giver's.
+    fn all_come<F: Stores>(&self, stores: &F, all: &[Kept], giver: usize) -> Result<Come, Failure>
+        ensures { IfOk result (λ come. (name : List ℕ) × (old : Kept)
+            × (option_map (λ it. string_bytes it) (slice_get self.now.names.now giver) ≡ Some name)
+            × (slice_get all.now giver ≡ Some old)
+            × ComeSo F.saw stores.now name old true self.now.asking.now.wanted.now.short come) }
+    {
+        let (Some(name), Some(old)) = (self.names.get(giver), all.get(giver)) else {
+            return Err(REFUSED);
+        };
+        let come = self.come(stores, name, old, true)?;
+        for (number, (name, old)) in self.names.iter().zip(all).enumerate() {
+            if number != giver && !is_behind(&self.come(stores, name, old, false)?, &come) {
+                return Err(self.asking.refusal(ReplaceRefusal::OtherNew));
+            }
+        }
+        Ok(come)
+    }
+
+    /// What is decided before the bus is asked, by what the files have.
+    fn plan<F: Stores>(&self, stores: &F, all: &[Kept]) -> Result<Plan, Failure>
+        ensures all { IfOk result (λ plan. IsGathered self.now.asking.now.wanted.now.short all.now plan.table) }
+        ensures giver { IfOk result (λ plan. IsGiver self.now.asking.now.wanted.now all.now plan.giver) }
+    {
+        let table = table(self.asking.wanted, all)?;
+        let giver = giver(self.asking.wanted, all)?;
+        let come = self.all_come(stores, all, giver)?;
+        Ok(Plan { table, giver, come })
+    }
+
+    /// Lends the new file of a name.
+    fn renew<F: Stores, B: Borrower>(
+        &self,
+        stores: &mut F,
+        name: &str,
+        block: Block,
+        borrower: B,
+    ) -> Result<Kept, Failure>
+        ensures { IfOk result (λ kept. F.saw stores.new (Read (new_at name.now) kept)) }
+    {
+        let system = self.asking.system;
+        let new = new_of(system.alloc(), name)?;
+        let done = lend(system.alloc(), stores, &new, block, borrower);
+        or_say(system, &new, done)?;
+        read(system, stores, &new)
+    }
+
+    /// The new table of each file, if the giver's has been this one.
+    fn news<F: Stores>(
+        &self,
+        stores: &mut F,
+        all: &[Kept],
+        first: &Kept,
+    ) -> Result<Vec<Kept>, Failure> {
+        let mut news = Vec::new(self.asking.system.alloc());
+        for (name, old) in self.names.iter().zip(all) {
+            let filling = Filling {
+                from: first,
+                before: old,
+            };
+            add(&mut news, self.renew(stores, name, Block::ALL, filling)?)?;
+        }
+        Ok(news)
+    }
+
+    /// The names of the files.
+    fn copied_names(&self) -> Result<Vec<String>, Failure> {
+        let mut names = Vec::new(self.asking.system.alloc());
+        for name in self.names {
+            add(
+                &mut names,
+                String::from_str(self.asking.system.alloc(), name)?,
+            )?;
+        }
+        Ok(names)
+    }
+
+    /// Gives the short address in the new file of the giver.
+    fn give<F: Stores, R: Read, W: Write>(
+        &self,
+        stores: &mut F,
+        driver: &mut DriverLink<R, W>,
+        name: &str,
+        others: &OthersThere,
+    ) -> Result<Kept, Failure>
+        ensures { IfOk result (λ kept. F.saw stores.new (Read (new_at name.now) kept)) }
+    {
+        let asking = self.asking;
+        let permit = match others.look(driver) {
+            Ok(permit) => permit,
+            Err(fault) => return Err(asking.fault(fault, driver)),
+        };
+        let giving = Giving {
+            system: asking.system,
+            driver,
+            permit: &permit,
+            table: others.table(),
+            manner: asking.manner,
+        };
+        self.renew(stores, name, permit.block(), giving)
+    }
+
+    /// What the new file of the giver has. The short address is given in it if an earlier call has not done so.
+    fn first<F: Stores, R: Read, W: Write>(
+        &self,
+        stores: &mut F,
+        driver: &mut DriverLink<R, W>,
+        giver: usize,
+        others: &OthersThere,
+    ) -> Result<Kept, Failure>
+        ensures { IfOk result (λ kept. (name : List ℕ)
+            × (option_map (λ it. string_bytes it) (slice_get self.now.names.now giver) ≡ Some name)
+            × F.saw stores.new (Read (new_at name) kept)) }
+    {
+        let Some(name) = self.names.get(giver) else {
+            return Err(REFUSED);
+        };
+        if !matches!(others.come(), Come::Nowhere) {
+            say(self.asking.system, &Said::GoneOn);
+        }
+        if matches!(others.come(), Come::Given(_)) {
+            read(
+                self.asking.system,
+                stores,
+                &new_of(self.asking.system.alloc(), name)?,
+            )
+        } else {
+            self.give(stores, driver, name, others)
+        }
+    }
+
+    /// Makes the new tables complete, once the giver's new file has this one. The swap that is due then.
+    fn due<F: Stores, R: Read, W: Write>(
+        &self,
+        stores: &mut F,
+        driver: &mut DriverLink<R, W>,
+        all: &[Kept],
+        others: OthersThere,
+        first: &Kept,
+    ) -> Result<DueSwap, Failure>
+        ensures { IfOk result (IsDue (others_at others) all.now) }
+    {
+        let asking = self.asking;
+        let news = self.news(stores, all, first)?;
+        let confirmed = asking.confirm(driver, others, &news)?;
+        let number = free_number(asking.system.alloc(), stores, self.names)?;
+        match Swap::of(&confirmed, all, &news, number, self.copied_names()?) {
+            Ok(swap) => Ok(DueSwap {
+                swap,
+                confirmed,
+                news,
+            }),
+            Err(refusal) => Err(asking.refusal(refusal)),
+        }
+    }
+
+    /// Gives the short address. The swap that is due then.
+    fn gives<F: Stores, R: Read, W: Write>(
+        &mut self,
+        stores: &mut F,
+        driver: &mut DriverLink<R, W>,
+        all: &[Kept],
+    ) -> Result<DueSwap, Failure>
+        ensures { IfOk result (IsDue self.old.asking.now.wanted.now.short all.now) }
+    {
+        let asking = self.asking;
+        if asking.wanted.is_again {
+            put_aside(asking.system, stores, self.names)?;
+        }
+        let plan = self.plan(stores, all)?;
+        let giver = plan.giver;
+        let others = asking.others_there(driver, plan.come, plan.table, self.report)?;
+        let first = self.first(stores, driver, giver, &others)?;
+        // What else the giver's new file has reserved tells a later call that the address is given there.
+        if first.enrolled_at(asking.wanted.short).is_none() {
+            return Err(asking.not_given(driver));
+        }
+        self.due(stores, driver, all, others, &first)
+    }
+}
+
+/// Puts all new files of these names aside. No journal lies beside their files, and all others are kept from these.
+fn put_aside<S: Voice + AllocGlobal, F: Stores>(
+    system: &S,
+    stores: &mut F,
+    names: &[String],
+) -> Result<(), Failure>
+    ensures { OnOk result (AreAside F.made F.saw names.now stores.old stores.new) }
+{
+    let [name, more @ ..] = names else {
+        return Ok(());
+    };
+    put_one_aside(system, stores, name)?;
+    put_aside(system, stores, more)
+}
+
+impl<S: Input + Print + Voice + AllocGlobal, F: Stores> Holder<F> for Replacing<'_, S> {
+    type Due = DueSwap;
+
+    type Out = DueSwap;
+
+    ghost use Rattle.std.specs.Prelude.{◌≡◌};
+    ghost use Rattle.dali_commission_replaced.specs.Replacing.{IsDue};
+    ghost use Rattle.dali_commission_stores.specs.Settling.{IsExchanged};
+
+    ghost dues = { λ replacing all due. IsDue replacing.asking.now.wanted.now.short all due };
+
+    ghost ends = { λ _ from to due out. IsExchanged F.made due.swap from to × (out ≡ due) };
+
+    fn refused(&self, name: &str, failure: Failure) -> Failure {
+        say_refused(self.asking.system, name, failure)
+    }
+
+    fn take(&mut self, stores: &mut F, all: &[Kept]) -> Result<DueSwap, Failure> {
+        let system = self.asking.system;
+        // They may have been announced while the files were opened.
+        for name in self.names {
+            if found(system.alloc(), stores, name)?.is_some() {
+                return Err(Failure::Unfinished);
+            }
+        }
+        let mut driver = DriverLink::new(system.alloc(), system.reader(), io::writer(system));
+        let gave = self.gives(stores, &mut driver, all);
+        self.report.note_lines(system, &driver, gave)
+    }
+
+    /// Exchanges the files.
+    fn then(self, stores: &mut F, due: DueSwap) -> Result<DueSwap, Failure> {
+        exchange(self.asking.system, stores, &due.swap)?;
+        Ok(due)
+    }
+}
+
+/// Where a file of this name lies.
+fn place_of<S: Voice + AllocGlobal, F: Stores>(
+    system: &S,
+    stores: &F,
+    name: &str,
+) -> Result<String, Failure>
+    ensures { IfOk result (λ at. F.saw stores.now (Lies name.now (string_bytes at))) }
+{
+    let place = or_say(system, name, stores.place_of(system.alloc(), name))?;
+    // A journal names each file on a line.
+    if place.contains("\n") {
+        return Err(say_refused(system, name, Failure::Store(StoreFault::CannotOpen)));
+    }
+    Ok(place)
+}
+
+/// Where the files of these names lie.
+fn places_of<S: Voice + AllocGlobal, F: Stores>(
+    system: &S,
+    stores: &F,
+    records: &[String],
+) -> Result<Vec<String>, Failure> {
+    let mut names = Vec::new(system.alloc());
+    for name in records {
+        add(&mut names, place_of(system, stores, name)?)?;
+    }
+    Ok(names)
+}
+
+/// Whether no file is another one, and none lies where another one's new file is to lie.
+fn are_apart(alloc: Global, names: &[String]) -> Result<bool, Failure> {
+    for (number, name) in names.iter().enumerate() {
+        let new = new_of(alloc, name)?;
+        for (at, other) in names.iter().enumerate() {
+            let is_same = at != number && other.as_str() == name.as_str();
+            if is_same || other.as_str() == new.as_str() {
+                return Ok(false);
+            }
+        }
+    }
+    Ok(true)
+}
+
+/// Notes the table of the first file, when a luminaire is replaced. If that cannot be read any more, none is noted.
+pub fn note_first<F: Stores>(alloc: Global, stores: &F, name: Option<&str>, report: &mut Report)
+    ensures { MatchOption name.entry (report.new ≡ report.old) (λ it. (report.new ≡ report.old)
+        ⊎ ((kept : Kept) × F.saw stores.now (Read it.now kept)
+        × (report.new.table.items ≡ own_rows kept.reserved (rows kept.enrolled)))) }
+{
+    if let Some(name) = name {
+        if let Ok(kept) = lend_copy(alloc, stores, name, Reading) {
+            report.note_table(&kept);
+        }
+    }
+}
+
+/// Gives a new luminaire the short address of one that is gone, in all records of the site; or finishes what an earlier
+/// call has begun. The new gear that was heard to have the address.
+pub fn replaces<S, F>(
+    system: &S,
+    stores: &mut F,
+    manner: Manner,
+    records: &[String],
+    wanted: &Replacement,
+    report: &mut Report,
+) -> Result<Confirmed, Failure>
+where
+    S: Input + Print + Voice + AllocGlobal,
+    F: Stores,
+    ensures short { IfOk result (λ seen. confirmed_at seen ≡ wanted.now.short) }
+    ensures told { IfOk result (λ _. HasReplaced (S.told system.now) wanted.now.short) }
+{
+    let asking = Asking {
+        system,
+        wanted,
+        manner,
+    };
+    let names = places_of(system, stores, records)?;
+    if !are_apart(system.alloc(), &names)? {
+        return Err(asking.refusal(ReplaceRefusal::SameFile));
+    }
+    if let Some(swap) = exchanged(system, stores, &names, wanted.short)? {
+        return confirms(&asking, stores, &swap, report);
+    }
+    for name in names.iter() {
+        let _ = read(system, stores, name)?;
+    }
+    let replacing = Replacing {
+        asking: &asking,
+        names: &names,
+        report,
+    };
+    let done = stores.hold(system.alloc(), &names, replacing)?;
+    asking.say_confirmed(&done.confirmed, &done.news);
+    let _ = say_kept(system, done.swap.names(), done.swap.number());
+    Ok(done.confirmed)
+}

@@ -1,0 +1,5 @@
+pub mod Failures
+pub mod Progress
+pub mod Reports
+pub mod Said
+pub mod Tables

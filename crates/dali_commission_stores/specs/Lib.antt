@@ -1,0 +1,4 @@
+pub mod Calls
+pub mod Keeping
+pub mod Seen
+pub mod Settling

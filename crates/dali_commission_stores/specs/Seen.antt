@@ -1,0 +1,66 @@
+use Rattle.std.specs.Prelude.{◌≡◌, ◌⊎◌, ℕ, Bool, true, false, List, [], ◌∷◌, Option, Some, None}
+use Rattle.std.specs.Prelude.{string_bytes}
+use Rattle.std.specs.declared.alloc.Global.{Global}
+use Rattle.std.specs.declared.string.String.{String}
+use Rattle.dali_script.specs.declared.block.Block.{Block}
+use Rattle.dali_script.specs.Records.{Kept}
+use Rattle.dali_commissioning.specs.Runs.{outside}
+use Rattle.dali_replacement.specs.declared.come.Come.{Come}
+use Rattle.dali_replacement.specs.declared.come.Come.TheVariants.{Nowhere}
+use Rattle.dali_replacement.specs.Come.{come_of}
+use Rattle.dali_replacement.specs.declared.swap.Lies.{Lies}
+use Rattle.dali_replacement.specs.declared.swapping.Swap.{Swap}
+use Rattle.dali_commission_stores.specs.declared.records.Seen.{Seen}
+use Rattle.dali_commission_stores.specs.Calls.{Look}
+use Rattle.dali_commission_stores.specs.Calls as look
+use Rattle.dali_commission_stores.specs.Settling.{new_at, journal_at, kept_at}
+
+-- NO JOURNAL lies beside the records of a name: it was looked for where they lie
+abbrev pub IsBeside : {F : Type 0} → (F → Look → Type 0) → F → List ℕ → List ℕ → Type 0
+IsBeside saw x name journal =
+    (at : List ℕ)
+    × saw x (look.Lies name at)
+    × saw x (look.Text (journal_at at) None)
+    × (journal ≡ journal_at at)
+
+-- RECORDS THAT WERE SEEN: a copy of them was read, they are of the block, and no journal lay beside
+-- them
+abbrev pub IsSeen : {F : Type 0} → (F → Look → Type 0) → F → List ℕ → Block → Seen → Type 0
+IsSeen saw x name block seen =
+    (kept : Kept)
+    × saw x (look.Read name kept)
+    × (outside block kept.reserved ≡ None)
+    × IsBeside saw x name (string_bytes seen.journal)
+    × (seen.name.now ≡ name)
+    × (seen.block ≡ block)
+
+-- what lies at the place of a file of a swap, and beside it
+abbrev pub LiesSo : {F : Type 0} → (F → Look → Type 0) → F → List ℕ → ℕ → Lies → Type 0
+LiesSo saw x name number lies =
+    saw x (look.Has (journal_at name) lies.journal)
+    × saw x (look.Has (new_at name) lies.new)
+    × saw x (look.Has name lies.at)
+    × saw x (look.Has (kept_at name number) lies.kept)
+
+-- the journal of a swap beside the records of a name: its text was read, or there is none
+abbrev pub IsFound : {F : Type 0} → (F → Look → Type 0) → F → List ℕ → Option Swap → Type 0
+IsFound saw x name None = saw x (look.Text (journal_at name) None)
+IsFound saw x name (Some swap) = (text : List ℕ) × saw x (look.Text (journal_at name) (Some text))
+
+-- THE FIRST JOURNAL that lies beside one of some names
+abbrev pub IsFirstJournal : {F : Type 0} → (F → Look → Type 0) → F → List (String Global)
+    → Option (List ℕ) → Type 0
+IsFirstJournal saw x [] at = at ≡ None
+IsFirstJournal saw x (name ∷ more) at =
+    (saw x (look.Has (journal_at (string_bytes name)) true)
+    × (at ≡ Some (journal_at (string_bytes name))))
+    ⊎ (saw x (look.Has (journal_at (string_bytes name)) false) × IsFirstJournal saw x more at)
+
+-- HOW FAR THE NEW FILE of a name has come, beside what the old one has
+abbrev pub ComeSo : {F : Type 0} → (F → Look → Type 0) → F → List ℕ → Kept → Bool → ℕ → Come
+    → Type 0
+ComeSo saw x name old is_giver short come =
+    (saw x (look.Has (new_at name) false) × (come ≡ Nowhere))
+    ⊎ ((new : Kept)
+    × saw x (look.Read (new_at name) new)
+    × (come_of is_giver short new old ≡ Some come))

@@ -1,0 +1,100 @@
+//! Old files that are kept and new ones that are put aside: under names that nothing else has.
+
+ghost use Rattle.std.specs.Prelude.{◌≡◌, true, IfOk, OnOk, ℕ, IsTrue, string_bytes, false};
+ghost use Rattle.dali_commission_stores.specs.Calls.{Has};
+ghost use Rattle.dali_commission_stores.specs.Keeping.{AreKeptTold, IsAside, AreFree, aside_at};
+
+use crate::records::{Reading, lend};
+use crate::stores::Stores;
+use dali_commission_said::{Failure, Said, StoreFault, Voice, or_say, say};
+use dali_replacement::{aside_of, kept_of, new_of};
+use dali_script::Block;
+use std::alloc::Global;
+
+/// Says where the old files of these names are kept.
+pub fn say_kept<S: Voice + AllocGlobal>(
+    system: &S,
+    names: &[String],
+    number: u32,
+) -> Result<(), Failure>
+    ensures { OnOk result (AreKeptTold (S.told system.now) number names.now) }
+{
+    let [name, more @ ..] = names else {
+        return Ok(());
+    };
+    let kept = kept_of(system.alloc(), name, number)?;
+    say(system, &Said::KeptAs(name, &kept));
+    say_kept(system, more, number)
+}
+
+/// Puts aside the new file that an earlier call has left for a name, if there is one.
+pub fn put_one_aside<S: Voice + AllocGlobal, F: Stores>(
+    system: &S,
+    stores: &mut F,
+    name: &str,
+) -> Result<(), Failure>
+    ensures { OnOk result (IsAside F.made F.saw name.now stores.old stores.new) }
+{
+    let alloc = system.alloc();
+    let new = new_of(alloc, name)?;
+    if !stores.has(&new) {
+        return Ok(());
+    }
+    let aside = free_aside(alloc, stores, name)?;
+    // Once it is closed, nothing of it lies in a log.
+    or_say(system, &new, lend(alloc, stores, &new, Block::ALL, Reading))?;
+    or_say(system, &new, stores.rename(alloc, &new, &aside))?;
+    say(system, &Said::Aside(&new, &aside));
+    Ok(())
+}
+
+/// How many numbers are tried for a name.
+const MOST: u32 = 10_000;
+
+fn is_free<F: Stores>(
+    alloc: Global,
+    stores: &F,
+    names: &[String],
+    number: u32,
+) -> Result<bool, Failure>
+    ensures { IfOk result (λ is_free. IsTrue is_free → AreFree F.saw stores.now number names.now) }
+{
+    let [name, more @ ..] = names else {
+        return Ok(true);
+    };
+    if stores.has(&kept_of(alloc, name, number)?) {
+        Ok(false)
+    } else {
+        is_free(alloc, stores, more, number)
+    }
+}
+
+/// The least number under which no old file of these names is kept.
+pub fn free_number<F: Stores>(alloc: Global, stores: &F, names: &[String]) -> Result<u32, Failure>
+    ensures { IfOk result (λ number. AreFree F.saw stores.now number names.now) }
+{
+    for number in 1..MOST {
+        if is_free(alloc, stores, names, number)? {
+            return Ok(number);
+        }
+    }
+    Err(Failure::Store(StoreFault::CannotOpen))
+}
+
+/// The first name for a new file that is put aside which nothing has.
+pub(crate) fn free_aside<F: Stores>(
+    alloc: Global,
+    stores: &F,
+    name: &str,
+) -> Result<String, Failure>
+    ensures { IfOk result (λ aside. F.saw stores.now (Has (string_bytes aside) false)
+        × ((number : ℕ) × (string_bytes aside ≡ aside_at name.now number))) }
+{
+    for number in 1..MOST {
+        let aside = aside_of(alloc, name, number)?;
+        if !stores.has(&aside) {
+            return Ok(aside);
+        }
+    }
+    Err(Failure::Store(StoreFault::CannotOpen))
+}

@@ -1,0 +1,145 @@
+//! Where records are kept: by a name, as in a file.
+
+ghost use Rattle.std.specs.Prelude.{◌≡◌, List, IfOk, option_map, string_bytes};
+
+use crate::records::Seen;
+use dali_commission_said::Failure;
+use dali_reserve::Keep;
+use dali_script::Kept;
+use std::alloc::Global;
+
+/// Who does something with records while they are open.
+pub trait Borrower: Drop {
+    ghost use Rattle.dali_script.specs.Records.{Kept};
+
+    /// What comes of it.
+    type Out: Drop;
+
+    /// What it does, if this came of it and the records are these then.
+    ghost came: { Self → Kept → Self.Out → Type 0 };
+
+    /// Does it.
+    fn take<K: Keep>(self, store: &mut K) -> Result<Self::Out, Failure>
+        ensures { IfOk result (came self (K.kept store.new)) };
+}
+
+/// Who does something while the records of several names are held, in these places.
+pub trait Holder<F>: Drop {
+    ghost use Rattle.std.specs.Prelude.{List};
+    ghost use Rattle.dali_script.specs.Records.{Kept};
+
+    /// What is to be done once their files are closed.
+    type Due: Drop;
+
+    /// What comes of that.
+    type Out: Drop;
+
+    /// The records of this name cannot be had, for this reason: it is said, and answered what the program ends with.
+    fn refused(&self, name: &str, failure: Failure) -> Failure
+        ensures { result ≡ failure };
+
+    /// What is due, by the records of the names.
+    ghost dues: { Self → List Kept → Self.Due → Type 0 };
+
+    /// What it does once the files are closed, from the places before to those after it, if this was due and that came
+    /// of it.
+    ghost ends: { Self → F → F → Self.Due → Self.Out → Type 0 };
+
+    /// Does what is to be done with the records, in the order of their names, and with their files open.
+    fn take(&mut self, stores: &mut F, all: &[Kept]) -> Result<Self::Due, Failure>
+        ensures { IfOk result (dues self.old all.now) };
+
+    /// Does what is to be done then, if that ended well, with each file closed and nothing beside it.
+    fn then(self, stores: &mut F, due: Self::Due) -> Result<Self::Out, Failure>
+        ensures { IfOk result (ends self stores.old stores.new due) };
+}
+
+/// Who does something alone, in these places.
+pub trait Actor<F>: Drop {
+    /// What comes of it.
+    type Out: Drop;
+
+    /// What it does: from the places before to those after it, if this came of it.
+    ghost acts: { Self → F → F → Self.Out → Type 0 };
+
+    /// Does it.
+    fn act(self, stores: &mut F) -> Result<Self::Out, Failure>
+        ensures { IfOk result (acts self stores.old stores.new) };
+}
+
+/// Places where records are kept.
+///
+/// Records are lent and not handed out, so that nothing else has to know what they are kept in. Contracts see which
+/// calls were made that change something, with their names, from the places before a call to those after it, and what
+/// was seen at a look (`saw`); not what lies there, which other programs may change.
+pub trait Stores: Sized {
+    ghost use Rattle.dali_script.specs.Records.{Kept};
+    ghost use Rattle.dali_commission_stores.specs.Calls.{Call, Wrote, Renamed, Likened, Removed};
+    ghost use Rattle.dali_commission_stores.specs.Calls.{Look, Has, Text, Lies, Read};
+
+    ghost made: { Self → Self → Call → Type 0 };
+
+    ghost saw: { Self → Look → Type 0 };
+
+    /// Whether something has this name, or that cannot be told.
+    fn has(&self, name: &str) -> bool
+        ensures { saw self.now (Has name.now result) };
+
+    /// Opens the records that were seen, lends them, and closes them. They are made if there are none. `Unfinished`
+    /// if the journal lies there once they are open. What the borrower ends with goes before why they could not be
+    /// closed.
+    fn lend<B: Borrower>(&mut self, seen: &Seen<'_>, borrower: B) -> Result<B::Out, Failure>
+        ensures { IfOk result (λ out. (kept : Kept) × B.came borrower kept out) };
+
+    /// Lends a copy of the records of this name, as to a controller with all addresses; one with no records if they
+    /// are not there. They are only read: nothing that the borrower does to the copy changes them. `Unfinished` if
+    /// this journal lies there once they are read.
+    fn lend_copy<B: Borrower>(
+        &self,
+        name: &str,
+        journal: &str,
+        borrower: B,
+    ) -> Result<B::Out, Failure>
+        ensures { IfOk result (λ out. (kept : Kept) × saw self.now (Read name.now kept) × B.came borrower kept out) };
+
+    /// The name under which lies what has this name, whatever links lead there, also if nothing lies there.
+    fn place_of(&self, alloc: Global, name: &str) -> Result<String, Failure>
+        ensures { IfOk result (λ at. saw self.now (Lies name.now (string_bytes at))) };
+
+    /// Reads the records of these names, each of another file, and keeps all others from opening them, until the holder
+    /// is done. The caller has seen by `lend_copy` that they are records.
+    fn hold<H: Holder<Self>>(
+        &mut self,
+        alloc: Global,
+        names: &[String],
+        holder: H,
+    ) -> Result<H::Out, Failure>
+        ensures { IfOk result (λ out. (by : H) × (from : Self) × (all : List Kept) × (due : H.Due)
+            × H.dues holder all due × H.ends by from self.new due out) };
+
+    /// Keeps all others from acting by what has this name, until the actor is done.
+    fn alone<A: Actor<Self>>(&mut self, name: &str, actor: A) -> Result<A::Out, Failure>
+        ensures { IfOk result (A.acts actor self.old self.new) };
+
+    /// The text of this name. None if there is none.
+    fn text(&self, alloc: Global, name: &str) -> Result<Option<String>, Failure>
+        ensures { IfOk result (λ text. saw self.now (Text name.now (option_map (λ it. string_bytes it) text))) };
+
+    /// Writes a text under this name. A stop leaves none or all of it; once it is written no stop takes it away, nor
+    /// what was done in its folder before.
+    fn write(&mut self, alloc: Global, name: &str, text: &str) -> Result<(), Failure>
+        ensures { made self.old self.new (Wrote name.now text.now) };
+
+    /// Gives what has one name another one in the same folder, where nothing else is left then. A stop leaves it under
+    /// one of the two; once it has the other one, no stop takes that away.
+    fn rename(&mut self, alloc: Global, from: &str, to: &str) -> Result<(), Failure>
+        ensures { made self.old self.new (Renamed from.now to.now) };
+
+    /// Copies to `name` who may read and write `to`, as far as the system allows that.
+    fn liken(&mut self, name: &str, to: &str)
+        ensures { made self.old self.new (Likened name.now to.now) };
+
+    /// Removes what has this name, if it is there. No stop brings it back.
+    fn remove(&mut self, alloc: Global, name: &str) -> Result<(), Failure>
+        ensures { made self.old self.new (Removed name.now) };
+}
