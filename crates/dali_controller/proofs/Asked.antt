@@ -1,9 +1,8 @@
 use Rattle.std.proofs.Common.{◌≡◌, ℕ, ◌+◌, ◌-◌, ◌<◌, ◌≤◌, subst, Bool, true, false, List, Option, Some, None, refl, sym, ap, ◌∙◌, arith, ◌↔◌, ◌==◌, IsSome}
 use Rattle.std.proofs.Common.{IfSome, MatchOption, is_some, not, ◌&&◌, ◌||◌, zero, suc, slice_index_or, if◌then◌else◌}
-use Rattle.dali_script.specs.Records.{Assignment, Kept, Has, HasAddress, InBlock, Marks}
-use Rattle.dali_script.proofs.Lists.{has_map}
-use Rattle.dali_controller.specs.Course.{number_at, is_asked, asked_among, is_open, open_among, least_open, is_another, is_anothers}
-use Rattle.dali_controller.{specs.Shorts.has_short, specs.declared.shorts.Shorts.Shorts, proofs.Courses.found_number}
+use Rattle.dali_script.{specs.Records.{Assignment, Kept, Has, HasAddress, InBlock, Marks}, proofs.Lists.has_map}
+use Rattle.dali_controller.specs.{Course.{number_at, is_asked, asked_among, is_open, open_among, least_open, is_another, is_anothers}, Shorts.has_short}
+use Rattle.dali_controller.{specs.declared.shorts.Shorts.Shorts, proofs.Courses.found_number}
 
 -- WHAT A SURVEY ASKS AND GIVES, one short address after the other.
 

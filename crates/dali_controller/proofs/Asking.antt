@@ -1,16 +1,14 @@
 use Rattle.std.proofs.Common.{◌≡◌, inl, inr, ℕ, ◌<◌, Bool, true, false, refl, sym, ap, subst, ◌∙◌, arith, Some, None, ◌&&◌, nat_lt, if◌then◌else◌}
-use Rattle.std.proofs.lemmas.Bool.Decides.{nat_tests}
-use Rattle.dali_frame.specs.{Priority.LATER, declared.frames.Answer.Answer, declared.numbers.SearchAddress.SearchAddress}
-use Rattle.dali_special.{specs.Command.command_of, specs.Command.frame_of, specs.declared.command.Command.Command, proofs.Table.read_written}
-use Rattle.dali_script.specs.{Stages.stage_of, Stages.Follows, declared.orders.Order.Order, declared.orders.Order.TheVariants.Put}
-use Rattle.dali_script.specs.declared.stage.Stage.TheVariants.{Unnamed, Withdrawn, Hunted}
-use Rattle.dali_script.proofs.Transactions.{lawful_follows}
-use Rattle.dali_controller.specs.{Course.Course, Course.closing_of, Course.byte_to_send, Course.bytes_to_send, Machine.Machine}
-use Rattle.dali_controller.specs.Moments.{AsksNext, Begins, IsHeard, IsMoment}
+use Rattle.std.proofs.lemmas.Bool.Decides.nat_tests
+use Rattle.dali_frame.specs.{Priority.LATER, declared.{frames.Answer.Answer, numbers.SearchAddress.SearchAddress}}
+use Rattle.dali_special.{specs.{Command.{command_of, frame_of}, declared.command.Command.Command}, proofs.Table.read_written}
+use Rattle.dali_script.specs.{Stages.{stage_of, Follows}, declared.{orders.Order.{Order, TheVariants.Put}, stage.Stage.TheVariants.{Unnamed, Withdrawn}}}
+use Rattle.dali_script.{specs.declared.stage.Stage.TheVariants.Hunted, proofs.Transactions.lawful_follows}
+use Rattle.dali_controller.specs.{Course.{Course, closing_of, byte_to_send, bytes_to_send}, Machine.Machine, Moments.{AsksNext, Begins, IsHeard, IsMoment}}
 use Rattle.dali_controller.specs.Next.{is_hunting, has_room, hunted_in, compared_in, begins_at, beginning, next_course, course_on, asked_on, most_silent}
-use Rattle.dali_controller.specs.{Orders.IsOrderedTo, Orders.machine_ordered_on, Whole.AsksOn, Whole.Knows, Whole.Sends, declared.purpose.Purpose.Purpose}
-use Rattle.dali_controller.{specs.declared.purpose.Purpose.TheVariants.Hunting, proofs.Beginnings.hunted_begins}
-use Rattle.dali_controller.proofs.Steps.{Goes, goes_hunted, not_empty, begun_none, begin_moment, calm_less}
+use Rattle.dali_controller.specs.{Orders.{IsOrderedTo, machine_ordered_on}, Whole.{AsksOn, Knows, Sends}, declared.purpose.Purpose.Purpose}
+use Rattle.dali_controller.{specs.declared.purpose.Purpose.TheVariants.Hunting, proofs.{Beginnings.hunted_begins, Steps.{Goes, goes_hunted, not_empty}}}
+use Rattle.dali_controller.proofs.Steps.{begun_none, begin_moment, calm_less}
 
 -- A HUNT ASKS ON, in the transaction that runs.
 

@@ -1,33 +1,28 @@
 use Rattle.std.proofs.Common.{◌≡◌, ◌⊎◌, inl, inr, ℕ, ◌<◌, ◌≤◌, Bool, true, false, refl, sym, ap, subst, ◌∙◌, arith, Option, Some, None, ◌==◌, ◌&&◌, is_some}
-use Rattle.std.proofs.Common.{nat_lt, if◌then◌else◌}
-use Rattle.std.proofs.lemmas.Bool.{ne_eqb, Decides.nat_tests}
-use Rattle.dali_frame.specs.{Priority.LATER, Random.value_of, Random.MASK24, declared.frames.Answer.Answer, declared.frames.Answer.TheVariants.Silence}
-use Rattle.dali_frame.specs.declared.{frames.Answer.TheVariants.Byte, frames.Answer.TheVariants.Damaged, numbers.SearchAddress.SearchAddress}
-use Rattle.dali_special.specs.Command.{frame_of}
-use Rattle.dali_script.specs.{Records.Has, Records.Kept, Stages.stage_of, declared.orders.End.End, declared.orders.End.TheVariants.AllFound}
-use Rattle.dali_script.specs.declared.orders.{End.TheVariants.BlockFull, End.TheVariants.GaveUp, Order.Order, Order.TheVariants.Commit, Order.TheVariants.Put}
-use Rattle.dali_script.specs.declared.{records.Record.TheVariants.Reserve, records.Record.TheVariants.Release, stage.Stage.Stage}
+use Rattle.std.proofs.{Common.{nat_lt, if◌then◌else◌}, lemmas.Bool.{ne_eqb, Decides.nat_tests}}
+use Rattle.dali_frame.specs.{Priority.LATER, Random.{value_of, MASK24}, declared.frames.Answer.{Answer, TheVariants.{Silence, Byte, Damaged}}}
+use Rattle.dali_frame.specs.declared.numbers.SearchAddress.SearchAddress
+use Rattle.dali_special.specs.Command.frame_of
+use Rattle.dali_script.specs.{Records.{Has, Kept}, Stages.stage_of, declared.orders.{End.{End, TheVariants.{AllFound, BlockFull, GaveUp}}, Order.Order}}
+use Rattle.dali_script.specs.declared.{orders.Order.TheVariants.{Commit, Put}, records.Record.TheVariants.{Reserve, Release}, stage.Stage.Stage}
 use Rattle.dali_script.specs.declared.stage.Stage.TheVariants.{Free, Opened, DrawBarred, Probed, Hunted, Unnamed, Unanswered, Inconclusive, Withdrawn}
 use Rattle.dali_script.specs.declared.stage.Stage.TheVariants.{HighAsked, PassedOver, MiddleAsked, Spelled}
-use Rattle.dali_search.specs.{Ascending.Ascent, Ascending.leads_to, Ascending.ascended, Ascending.ascent_at_first, Least.Search, Least.answered}
-use Rattle.dali_search.specs.declared.step.Step.{Step, TheVariants.Again, TheVariants.Found, TheVariants.Nobody}
+use Rattle.dali_search.specs.{Ascending.{Ascent, leads_to, ascended, ascent_at_first}, Least.{Search, answered}, declared.step.Step.{Step, TheVariants.Again}}
+use Rattle.dali_search.specs.declared.step.Step.TheVariants.{Found, Nobody}
 use Rattle.dali_controller.specs.Course.{Course, least_open, closing_of, after_step, address_for, is_yes, hunted, closing, resolving, searching_first}
 use Rattle.dali_controller.specs.Course.{opening_anew, opening_at_last, drawing, calling, hunting_first, hunting_above, ask_or_call, next_asked, visiting}
-use Rattle.dali_controller.specs.Course.{asking_again, byte_to_send, bytes_to_send}
-use Rattle.dali_controller.specs.{Legs.ascent_on, Legs.search_on, Legs.way_on, Legs.is_searching, Machine.Machine, Machine.machine_surveying}
-use Rattle.dali_controller.specs.Moments.{AsksNext, Begins, Begun, Enrolled, IsBetween, IsHeard, IsMoment, IsUngiven, IsNextTo}
+use Rattle.dali_controller.specs.{Course.{asking_again, byte_to_send, bytes_to_send}, Legs.{ascent_on, search_on, way_on, is_searching}, Machine.Machine}
+use Rattle.dali_controller.specs.{Machine.machine_surveying, Moments.{AsksNext, Begins, Begun, Enrolled, IsBetween, IsHeard, IsMoment, IsUngiven, IsNextTo}}
 use Rattle.dali_controller.specs.Next.{next_course, beginning, at_rest, compared_in, begins_at, goes_on_to, silenced, silenced_on, missed_again, is_failed}
 use Rattle.dali_controller.specs.Next.{most_silent, unanswered, has_open, may_draw, asks_again, full, ungiven, undrawn, nobody_left, hunted_to, hunted_in}
-use Rattle.dali_controller.specs.Next.{blocked, is_blocked, called_to, called_in, asked_once, is_hunting, question}
-use Rattle.dali_controller.specs.Orders.{Cause, IsBegun, AllAreFound, IsUndrawn, IsUngivable, IsBlockFull, IsStuck, IsOrdered, IsOrderedTo, machine_ordered}
-use Rattle.dali_controller.specs.{Orders.machine_ordered_on, States.machine_with, States.course_of, Tally.asked_again, Tally.silent_call, Tally.heard_call}
-use Rattle.dali_controller.specs.Whole.{Knows, IsSurvey, IsWithinSilence, IsWhole, IsUnstarted, Pending}
-use Rattle.dali_controller.specs.declared.{leg.Leg.Leg, purpose.Purpose.Purpose}
+use Rattle.dali_controller.specs.{Next.{blocked, is_blocked, called_to, called_in, asked_once, is_hunting, question}, Orders.{Cause, IsBegun, AllAreFound}}
+use Rattle.dali_controller.specs.Orders.{IsUndrawn, IsUngivable, IsBlockFull, IsStuck, IsOrdered, IsOrderedTo, machine_ordered, machine_ordered_on}
+use Rattle.dali_controller.specs.{States.{machine_with, course_of}, Tally.{asked_again, silent_call, heard_call}, Whole.{Knows, IsSurvey, IsWithinSilence}}
+use Rattle.dali_controller.specs.{Whole.{IsWhole, IsUnstarted, Pending}, declared.{leg.Leg.{Leg, TheVariants as leg}, purpose.Purpose.Purpose}}
 use Rattle.dali_controller.specs.declared.purpose.Purpose.TheVariants.{Opening, Probing, Visiting, Resolving, Closing, Asking, Hunting, Calling, Drawing}
-use Rattle.dali_controller.specs.declared.{state.State.State, tally.Tally.Tally, way.Way.Way, way.Way.TheVariants.Fresh, way.Way.TheVariants.Surveying}
-use Rattle.dali_controller.proofs.{Courses.goes_on_way, Courses.searches_first_way, Courses.ask_way, Given.goes_on_open}
-use Rattle.dali_controller.proofs.Steps.{begun_moment, begun_none, calm_less, less_calm, sends_open}
-use Rattle.dali_controller.specs.declared.leg.Leg.TheVariants as leg
+use Rattle.dali_controller.{specs.declared.{state.State.State, tally.Tally.Tally, way.Way.{Way, TheVariants.{Fresh, Surveying}}}, proofs.Courses.goes_on_way}
+use Rattle.dali_controller.proofs.{Courses.{searches_first_way, ask_way}, Given.goes_on_open, Steps.{begun_moment, begun_none, calm_less, less_calm}}
+use Rattle.dali_controller.proofs.Steps.sends_open
 
 -- WHERE A TRANSACTION MAY BEGIN, at each stage of the one that leads there.
 

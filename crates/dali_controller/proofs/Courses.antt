@@ -1,31 +1,24 @@
 use Rattle.std.proofs.Common.{◌≡◌, ℕ, ◌+◌, ◌-◌, ◌<◌, inl, inr, Bool, true, false, List, [], ◌∷◌, ◌++◌, refl, sym, ap, subst, ◌∙◌, arith, Option, Some, None}
-use Rattle.std.proofs.Common.{◌==◌, nat_lt, MatchOption, is_some, suc, if◌then◌else◌}
-use Rattle.std.proofs.lemmas.Bool.Decides.{nat_tests}
-use Rattle.dali_frame.specs.{Priority.LATER, Random.value_of}
-use Rattle.dali_frame.specs.declared.{frames.Answer.Answer, frames.Forward.Forward, numbers.SearchAddress.SearchAddress}
+use Rattle.std.proofs.{Common.{◌==◌, nat_lt, MatchOption, is_some, suc, if◌then◌else◌}, lemmas.Bool.Decides.nat_tests}
+use Rattle.dali_frame.specs.{Priority.LATER, Random.value_of, declared.{frames.{Answer.Answer, Forward.Forward}, numbers.SearchAddress.SearchAddress}}
 use Rattle.dali_special.specs.{Command.frame_of, declared.command.Command.Command}
-use Rattle.dali_script.specs.{Due.due_after, Due.frame_put, Records.Assignment, Records.Kept, Records.Has, Records.IsOnce, Records.addresses, Records.randoms}
-use Rattle.dali_script.specs.{Records.HasAddress, Records.HasRandom, Stages.stage_of}
-use Rattle.dali_script.specs.declared.orders.{End.TheVariants.AllFound, End.TheVariants.BlockFull, End.TheVariants.GaveUp, Order.Order, Order.TheVariants.Put}
-use Rattle.dali_script.specs.declared.{orders.Order.TheVariants.Commit, records.Record.TheVariants.Reserve, records.Record.TheVariants.Enrol, stage.Stage.Stage}
-use Rattle.dali_script.specs.declared.stage.Stage.TheVariants.{Free, Opened, Probed, Unnamed, Unanswered, Inconclusive, HighAsked, Spelled, Hunted, DrawBarred}
-use Rattle.dali_script.{specs.declared.stage.Stage.TheVariants.PassedOver, proofs.Lists.has_map, proofs.Members.same_member, proofs.Transactions.stage_none}
-use Rattle.dali_script.specs.declared.orders.Due.TheVariants as due
-use Rattle.dali_script.specs.declared.orders.Input.TheVariants as input
-use Rattle.dali_search.specs.Ascending.{leads_to, ascent_at_first}
-use Rattle.dali_search.specs.Least.{Search, step_after, probe_after, next_probe, answered}
-use Rattle.dali_search.specs.declared.step.Step.{Step, TheVariants.Again, TheVariants.Found, TheVariants.Nobody}
+use Rattle.dali_script.specs.{Due.{due_after, frame_put}, Records.{Assignment, Kept, Has, IsOnce, addresses, randoms, HasAddress, HasRandom}, Stages.stage_of}
+use Rattle.dali_script.specs.declared.orders.{End.TheVariants.{AllFound, BlockFull, GaveUp}, Order.{Order, TheVariants.{Put, Commit}}, Due.TheVariants as due}
+use Rattle.dali_script.specs.declared.{orders.Input.TheVariants as input, records.Record.TheVariants.{Reserve, Enrol}, stage.Stage.{Stage, TheVariants.Free}}
+use Rattle.dali_script.specs.declared.stage.Stage.TheVariants.{Opened, Probed, Unnamed, Unanswered, Inconclusive, HighAsked, Spelled, Hunted, DrawBarred}
+use Rattle.dali_script.{specs.declared.stage.Stage.TheVariants.PassedOver, proofs.{Lists.has_map, Members.same_member, Transactions.stage_none}}
+use Rattle.dali_search.specs.{Ascending.{leads_to, ascent_at_first}, Least.{Search, step_after, probe_after, next_probe, answered}, declared.step.Step.Step}
+use Rattle.dali_search.specs.declared.step.Step.TheVariants.{Again, Found, Nobody}
 use Rattle.dali_controller.specs.Course.{Course, turn_of, call_turn, is_yes, after_step, number_at, address_for, unless_enrolled, unfinished_at}
 use Rattle.dali_controller.specs.Course.{unfinished_among, hunted, searching_on, searching_first, here_or_later, closing, going_on, ask_or_call, next_asked}
 use Rattle.dali_controller.specs.Course.{going_on_early, visit_or_opening, next_unfinished, drawing, calling, opening_at_last, opening_anew, hunting_first}
-use Rattle.dali_controller.specs.{Machine.Machine, Machine.machine_lost, Machine.machine_told, Moments.IsMoment, Moments.IsNext}
-use Rattle.dali_controller.specs.Next.{begins_at, course_by, course_on, asked_on, next_course, beginning, full, asks_again, undrawn, has_open, nobody_left}
-use Rattle.dali_controller.specs.Next.{BeginsWith, silenced, silenced_on, missed_again, is_failed, most_silent, goes_on_to, hunted_to, compared_in, called_to}
-use Rattle.dali_controller.specs.Next.{blocked, is_blocked, may_draw, ungiven, question, unanswered, at_rest, asked_once}
-use Rattle.dali_controller.specs.Orders.{machine_ordered, AfterFinding, IsFollowed, IsSought}
-use Rattle.dali_controller.specs.{Tally.asked_again, Tally.silent_call, Tally.heard_call, Whole.IsWhole, Whole.Pending, declared.purpose.Purpose.Purpose}
+use Rattle.dali_controller.specs.{Machine.{Machine, machine_lost, machine_told}, Moments.{IsMoment, IsNext}, Next.{begins_at, course_by, course_on, asked_on}}
+use Rattle.dali_controller.specs.Next.{next_course, beginning, full, asks_again, undrawn, has_open, nobody_left, BeginsWith, silenced, silenced_on}
+use Rattle.dali_controller.specs.Next.{missed_again, is_failed, most_silent, goes_on_to, hunted_to, compared_in, called_to, blocked, is_blocked, may_draw}
+use Rattle.dali_controller.specs.{Next.{ungiven, question, unanswered, at_rest, asked_once}, Orders.{machine_ordered, AfterFinding, IsFollowed, IsSought}}
+use Rattle.dali_controller.specs.{Tally.{asked_again, silent_call, heard_call}, Whole.{IsWhole, Pending}, declared.purpose.Purpose.Purpose}
 use Rattle.dali_controller.specs.declared.purpose.Purpose.TheVariants.{Opening, Probing, Visiting, Resolving, Closing, Asking, Hunting, Calling, Drawing}
-use Rattle.dali_controller.specs.declared.{purpose.Purpose.TheVariants.PassingOver, way.Way.Way, way.Way.TheVariants.Fresh, way.Way.TheVariants.Surveying}
+use Rattle.dali_controller.specs.declared.{purpose.Purpose.TheVariants.PassingOver, way.Way.{Way, TheVariants.{Fresh, Surveying}}}
 
 -- THE COURSE OF A MACHINE is the one of the table of moments.
 

@@ -1,19 +1,15 @@
 use Rattle.std.proofs.Common.{◌≡◌, ℕ, [], ◌∷◌, true, false, Some, None, refl, sym, ◌∙◌}
-use Rattle.dali_frame.specs.declared.frames.Answer.TheVariants.{Silence, Damaged}
-use Rattle.dali_frame.specs.declared.{frames.Forward.Forward, numbers.SearchAddress.SearchAddress}
+use Rattle.dali_frame.specs.declared.{frames.{Answer.TheVariants.{Silence, Damaged}, Forward.Forward}, numbers.SearchAddress.SearchAddress}
 use Rattle.dali_special.specs.declared.command.Command.TheVariants.{Compare, Randomise}
-use Rattle.dali_script.specs.{Due.due_after, Due.accepts, Records.Kept, Stages.stage_of, declared.orders.End.End, declared.orders.End.TheVariants.AllFound}
-use Rattle.dali_script.specs.declared.orders.{End.TheVariants.BlockFull, End.TheVariants.GaveUp, Input.Input, Order.TheVariants.Put, Order.TheVariants.Commit}
-use Rattle.dali_script.specs.declared.{orders.Order.TheVariants.Done, records.Record.TheVariants.Enrol, records.Record.TheVariants.Release}
+use Rattle.dali_script.specs.{Due.{due_after, accepts}, Records.Kept, Stages.stage_of, declared.orders.End.{End, TheVariants.{AllFound, BlockFull, GaveUp}}}
+use Rattle.dali_script.specs.declared.{orders.{Input.Input, Order.TheVariants.{Put, Commit, Done}}, records.Record.TheVariants.{Enrol, Release}}
 use Rattle.dali_script.specs.declared.stage.Stage.TheVariants.{Unanswered, Inconclusive, Withdrawn, Hunted, DrawFree, DrawBarred}
 use Rattle.dali_search.specs.Least.{answered, at_first as search_at_first}
 use Rattle.dali_controller.specs.Course.{course_at_first, sought, probed, searching_anew, closing, next_unfinished, turn_of, calling, hunting_first, drawing}
-use Rattle.dali_controller.specs.Course.{missed, passing_over, opening_at_last, asking}
-use Rattle.dali_controller.specs.Machine.{Machine, at_first, machine_lost, silent_after}
-use Rattle.dali_controller.specs.{Next.next_course, Next.begins_at, Next.called_in, Next.nobody_left, Next.silenced, Next.ungiven, Orders.IsWarranted}
-use Rattle.dali_controller.specs.Tally.{uncounted, none_passed, with_passed, silent_call, heard_call, missed_by, passed_over, asked_again}
-use Rattle.dali_controller.specs.declared.purpose.Purpose.TheVariants.{Calling, Drawing, Visiting}
-use Rattle.dali_controller.specs.declared.{tally.Tally.Tally, way.Way.TheVariants.Surveying}
+use Rattle.dali_controller.specs.{Course.{missed, passing_over, opening_at_last, asking}, Machine.{Machine, at_first, machine_lost, silent_after}}
+use Rattle.dali_controller.specs.{Next.{next_course, begins_at, called_in, nobody_left, silenced, ungiven}, Orders.IsWarranted, Tally.{uncounted, none_passed}}
+use Rattle.dali_controller.specs.Tally.{with_passed, silent_call, heard_call, missed_by, passed_over, asked_again}
+use Rattle.dali_controller.specs.declared.{purpose.Purpose.TheVariants.{Calling, Drawing, Visiting}, tally.Tally.Tally, way.Way.TheVariants.Surveying}
 
 -- WORKED EXAMPLES of the definitions.
 

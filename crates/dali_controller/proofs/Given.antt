@@ -1,25 +1,19 @@
 use Rattle.std.proofs.Common.{arith, ◌≡◌, ◌⊎◌, inl, inr, ℕ, Bool, true, false, List, [], refl, sym, ap, subst, ◌∙◌, Option, Some, None, is_some}
-use Rattle.dali_frame.specs.{Priority.FIRST, Priority.LATER, Random.value_of}
-use Rattle.dali_frame.specs.declared.{frames.Answer.TheVariants.Silence, frames.Forward.Forward, numbers.SearchAddress.SearchAddress}
-use Rattle.dali_special.specs.Command.{command_of, frame_of}
-use Rattle.dali_special.specs.declared.command.Command.{Command, TheVariants.Terminate, TheVariants.Program}
-use Rattle.dali_script.specs.Findings.{MayEnrol, assigned, finding_of}
-use Rattle.dali_script.specs.Records.{Assignment, Has, HasAddress, HasRandom, IsLeastFree, IsFull, IsMap, IsFresh, MayAdd}
-use Rattle.dali_script.specs.{Scripts.Lawful, Stages.leads, Stages.stage_of, declared.finding.Finding.Finding, declared.finding.Finding.TheVariants.Queried}
-use Rattle.dali_script.specs.declared.{finding.Finding.TheVariants.Resolved, orders.End.End, orders.End.TheVariants.BlockFull, orders.End.TheVariants.GaveUp}
-use Rattle.dali_script.specs.declared.orders.{Input.Input, Order.Order, Order.TheVariants.Put, Order.TheVariants.Commit, Order.TheVariants.Done}
-use Rattle.dali_script.specs.declared.{orders.Order.TheVariants.Halt, records.Record.Record, records.Record.TheVariants.Reserve}
-use Rattle.dali_script.specs.declared.{records.Record.TheVariants.Enrol, records.Record.TheVariants.Release, stage.Stage.Stage}
-use Rattle.dali_script.specs.declared.stage.Stage.TheVariants.{Free, Terminated, Opened, Probed, Unnamed, Unanswered, Inconclusive, Withdrawn, Spelled}
-use Rattle.dali_script.proofs.{Lists.has_map, Members.same_member, Transactions.follows_lawful, Transactions.stage_none}
-use Rattle.dali_script.specs.declared.orders.Fault.TheVariants as fault
-use Rattle.dali_script.specs.declared.orders.Input.TheVariants as input
+use Rattle.dali_frame.specs.{Priority.{FIRST, LATER}, Random.value_of, declared.frames.{Answer.TheVariants.Silence, Forward.Forward}}
+use Rattle.dali_frame.specs.declared.numbers.SearchAddress.SearchAddress
+use Rattle.dali_special.specs.{Command.{command_of, frame_of}, declared.command.Command.{Command, TheVariants.{Terminate, Program}}}
+use Rattle.dali_script.specs.{Findings.{MayEnrol, assigned, finding_of}, Records.{Assignment, Has, HasAddress, HasRandom, IsLeastFree, IsFull, IsMap, IsFresh}}
+use Rattle.dali_script.specs.{Records.MayAdd, Scripts.Lawful, Stages.{leads, stage_of}, declared.finding.Finding.{Finding, TheVariants.{Queried, Resolved}}}
+use Rattle.dali_script.specs.declared.orders.{End.{End, TheVariants.{BlockFull, GaveUp}}, Input.{Input, TheVariants as input}, Order.{Order, TheVariants.Put}}
+use Rattle.dali_script.specs.declared.{orders.{Order.TheVariants.{Commit, Done, Halt}, Fault.TheVariants as fault}, records.Record.Record}
+use Rattle.dali_script.specs.declared.{records.Record.TheVariants.{Reserve, Enrol, Release}, stage.Stage.{Stage, TheVariants.{Free, Terminated, Opened}}}
+use Rattle.dali_script.{specs.declared.stage.Stage.TheVariants.{Probed, Unnamed, Unanswered, Inconclusive, Withdrawn, Spelled}, proofs.Lists.has_map}
+use Rattle.dali_script.proofs.{Members.same_member, Transactions.{follows_lawful, stage_none}}
 use Rattle.dali_controller.specs.Course.{Course, closing_of, turn_of, searching_on, going_on, going_on_early, visit_or_opening, next_unfinished, ask_or_call}
-use Rattle.dali_controller.specs.{Course.next_asked, Machine.Machine, Machine.machine_told}
-use Rattle.dali_controller.specs.Next.{next_course, begins_at, course_by, course_on, beginning, BeginsWith}
-use Rattle.dali_controller.specs.Orders.{IsAllowed, MayEnrolOn, MayOrderPut, IsWarranted, IsBegun, IsCaused, Contradicts, AfterMask, AfterMaskOn, AfterFinding}
-use Rattle.dali_controller.specs.Orders.{AfterEnrolled, IsFollowed, IsSought, IsOrdered, IsGiven, running_close}
-use Rattle.dali_controller.specs.declared.{purpose.Purpose.TheVariants.Closing, way.Way.Way, way.Way.TheVariants.Fresh, way.Way.TheVariants.Surveying}
+use Rattle.dali_controller.specs.{Course.next_asked, Machine.{Machine, machine_told}, Next.{next_course, begins_at, course_by, course_on, beginning}}
+use Rattle.dali_controller.specs.{Next.BeginsWith, Orders.{IsAllowed, MayEnrolOn, MayOrderPut, IsWarranted, IsBegun, IsCaused, Contradicts, AfterMask}}
+use Rattle.dali_controller.specs.Orders.{AfterMaskOn, AfterFinding, AfterEnrolled, IsFollowed, IsSought, IsOrdered, IsGiven, running_close}
+use Rattle.dali_controller.specs.declared.{purpose.Purpose.TheVariants.Closing, way.Way.{Way, TheVariants.{Fresh, Surveying}}}
 
 -- WHICH ORDER A MACHINE GIVES at which stage, once it was told its input: what is told of a step leaves no other.
 pub record IsGivenBy (t : Machine) (o : Order) : Type 0 where

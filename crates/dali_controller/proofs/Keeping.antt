@@ -1,14 +1,12 @@
 use Rattle.std.proofs.Common.{◌≡◌, ℕ, ◌<◌, Option, Some, None, Result, Ok, Err, sym, subst, ap, ◌∙◌, IfSome, IfOk}
 use Rattle.dali_frame.specs.Random.{value_of, MASK24}
-use Rattle.dali_script.specs.{Records.Kept, Records.HasRandom, Records.Fits, Records.MayAdd, Records.with_record, declared.orders.Input.Input}
-use Rattle.dali_script.specs.declared.orders.Order.{Order, TheVariants.Put, TheVariants.Commit, TheVariants.Done, TheVariants.Halt}
-use Rattle.dali_script.{specs.declared.records.Record.Record, specs.declared.records.Record.TheVariants.Reserve, proofs.Lists.has_last, proofs.Lists.has_map}
-use Rattle.dali_script.specs.declared.orders.Input.TheVariants as input
-use Rattle.dali_controller.specs.{Course.Course, Legs.way_on, Legs.is_searching, Legs.search_on, Legs.ascent_on, Machine.Machine, Next.BeginsWith}
-use Rattle.dali_controller.specs.Orders.{IsGiven, IsAnswered, IsFollowedAt, machine_after}
-use Rattle.dali_controller.specs.{States.machine_with, Steps.IsBefore, Steps.with_some, Steps.kept_by, Whole.IsWhole, Whole.IsStoring, Whole.IsVisitedOn}
-use Rattle.dali_controller.specs.{Whole.Knows, Whole.Pending, declared.purpose.Purpose.TheVariants.Visiting, declared.state.State.State}
-use Rattle.dali_controller.specs.declared.way.Way.{Way, TheVariants.Fresh, TheVariants.Surveying}
+use Rattle.dali_script.specs.{Records.{Kept, HasRandom, Fits, MayAdd, with_record}, declared.orders.{Input.{Input, TheVariants as input}, Order.Order}}
+use Rattle.dali_script.specs.declared.{orders.Order.TheVariants.{Put, Commit, Done, Halt}, records.Record.{Record, TheVariants.Reserve}}
+use Rattle.dali_script.proofs.Lists.{has_last, has_map}
+use Rattle.dali_controller.specs.{Course.Course, Legs.{way_on, is_searching, search_on, ascent_on}, Machine.Machine, Next.BeginsWith, Orders.IsGiven}
+use Rattle.dali_controller.specs.{Orders.{IsAnswered, IsFollowedAt, machine_after}, States.machine_with, Steps.{IsBefore, with_some, kept_by}, Whole.IsWhole}
+use Rattle.dali_controller.specs.{Whole.{IsStoring, IsVisitedOn, Knows, Pending}, declared.{purpose.Purpose.TheVariants.Visiting, state.State.State}}
+use Rattle.dali_controller.specs.declared.way.Way.{Way, TheVariants.{Fresh, Surveying}}
 
 -- WHAT IS RESERVED FROM NOW ON was drawn.
 pub reserved_now : (s : State) (k new : Kept) (a n : ℕ) → IsBefore s k input.Committed new → s.last ≡ Some (Commit (Reserve a n))

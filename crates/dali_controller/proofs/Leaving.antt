@@ -1,15 +1,13 @@
 use Rattle.std.proofs.Common.{map, ◌≡◌, inl, ℕ, ◌<◌, Bool, true, false, refl, sym, ap, subst, ◌∙◌, arith, Some, None, ◌&&◌, not, is_some}
-use Rattle.dali_frame.specs.{Priority.LATER, Random.value_of, Random.MASK24, declared.numbers.SearchAddress.SearchAddress}
+use Rattle.dali_frame.specs.{Priority.LATER, Random.{value_of, MASK24}, declared.numbers.SearchAddress.SearchAddress}
 use Rattle.dali_special.specs.{Command.frame_of, declared.command.Command.TheVariants.Program}
-use Rattle.dali_script.specs.Records.{IsKept, IsMap, InBlock, HasAddress, Kept, Has, HasRandom, Fits, MayAdd}
-use Rattle.dali_script.specs.{Stages.stage_of, declared.orders.Order.Order, declared.orders.Order.TheVariants.Put}
-use Rattle.dali_script.specs.declared.{orders.Order.TheVariants.Commit, records.Record.TheVariants.Reserve, stage.Stage.TheVariants.Unnamed}
-use Rattle.dali_controller.specs.{Course.Course, Course.closing_of, Course.address_for, Course.least_open, Course.is_anothers, Machine.Machine}
-use Rattle.dali_controller.specs.{Machine.is_withheld, Machine.is_withheld_by, Moments.IsHeard, Moments.IsNext, Moments.IsFirstFree, Moments.IsUngiven}
-use Rattle.dali_controller.specs.{Next.most_silent, Orders.AfterReserved, Orders.AfterMaskBy, Orders.AfterMaskOn, Orders.AfterMaskSurveyed, Orders.IsOrderedTo}
-use Rattle.dali_controller.specs.{Orders.is_left_by, Orders.machine_ordered, Whole.Knows, Whole.IsVisitedOn, declared.purpose.Purpose.TheVariants.Visiting}
-use Rattle.dali_controller.specs.declared.{shorts.Shorts.Shorts, way.Way.Way, way.Way.TheVariants.Fresh, way.Way.TheVariants.Surveying}
-use Rattle.dali_controller.proofs.{Asked.least_open_is, Asked.open_unreserved, Courses.address_is, Steps.IsMasked, Steps.calm_less, Steps.ordered_on}
+use Rattle.dali_script.specs.{Records.{IsKept, IsMap, InBlock, HasAddress, Kept, Has, HasRandom, Fits, MayAdd}, Stages.stage_of, declared.orders.Order.Order}
+use Rattle.dali_script.specs.declared.{orders.Order.TheVariants.{Put, Commit}, records.Record.TheVariants.Reserve, stage.Stage.TheVariants.Unnamed}
+use Rattle.dali_controller.specs.{Course.{Course, closing_of, address_for, least_open, is_anothers}, Machine.{Machine, is_withheld, is_withheld_by}}
+use Rattle.dali_controller.specs.{Moments.{IsHeard, IsNext, IsFirstFree, IsUngiven}, Next.most_silent, Orders.{AfterReserved, AfterMaskBy, AfterMaskOn}}
+use Rattle.dali_controller.specs.{Orders.{AfterMaskSurveyed, IsOrderedTo, is_left_by, machine_ordered}, Whole.{Knows, IsVisitedOn}}
+use Rattle.dali_controller.specs.declared.{purpose.Purpose.TheVariants.Visiting, shorts.Shorts.Shorts, way.Way.{Way, TheVariants.{Fresh, Surveying}}}
+use Rattle.dali_controller.proofs.{Asked.{least_open_is, open_unreserved}, Courses.address_is, Steps.{IsMasked, calm_less, ordered_on}}
 
 -- GEAR THAT ANSWERED MASK is given what is reserved for it, or an address is reserved, or it is left.
 

@@ -1,17 +1,13 @@
 use Rattle.std.proofs.Common.{◌≡◌, ◌↔◌, ◌⊎◌, inl, inr, ℕ, ◌<◌, true, false, nat_eq, List, Bool, Some, sym, refl, subst, ap, arith, is_some, IfSome}
-use Rattle.std.proofs.lemmas.Bool.Decides.{nat_tests}
-use Rattle.dali_frame.specs.Random.{value_of}
-use Rattle.dali_frame.specs.declared.{frames.Answer.TheVariants.Silence, frames.Forward.Forward, numbers.SearchAddress.SearchAddress}
-use Rattle.dali_special.specs.{Command.IsSpelled, Command.command_of, declared.command.Command.Command, declared.command.Command.TheVariants.Program}
-use Rattle.dali_script.specs.Records.{Assignment, Kept, Has, HasAddress, IsMap, IsOnce, addresses}
-use Rattle.dali_script.specs.{Scripts.MayGive, Scripts.Lawful, Stages.leads, Stages.given, Stages.stage_of, Stages.Follows, declared.stage.Stage.Stage}
-use Rattle.dali_script.specs.declared.stage.Stage.TheVariants.{Free, Unnamed, HighAsked, MiddleAsked, Hunted}
-use Rattle.dali_script.specs.declared.trace.Entry.{Entry}
-use Rattle.dali_script.proofs.{Lists.has_map, Members.same_member, Transactions.follows_lawful, Transactions.lawful_follows}
+use Rattle.std.proofs.lemmas.Bool.Decides.nat_tests
+use Rattle.dali_frame.specs.{Random.value_of, declared.{frames.{Answer.TheVariants.Silence, Forward.Forward}, numbers.SearchAddress.SearchAddress}}
+use Rattle.dali_special.specs.{Command.{IsSpelled, command_of}, declared.command.Command.{Command, TheVariants.Program}}
+use Rattle.dali_script.specs.{Records.{Assignment, Kept, Has, HasAddress, IsMap, IsOnce, addresses}, Scripts.{MayGive, Lawful}, Stages.{leads, given, stage_of}}
+use Rattle.dali_script.specs.{Stages.Follows, declared.{stage.Stage.{Stage, TheVariants.{Free, Unnamed, HighAsked, MiddleAsked, Hunted}}, trace.Entry.Entry}}
+use Rattle.dali_script.proofs.{Lists.has_map, Members.same_member, Transactions.{follows_lawful, lawful_follows}}
 use Rattle.dali_search.specs.{Ascending.Ascent, Least.Search}
-use Rattle.dali_controller.specs.Whole.{Sends, Knows, IsChosen}
-use Rattle.dali_controller.specs.declared.purpose.Purpose.{Purpose, TheVariants.Resolving, TheVariants.Asking}
-use Rattle.dali_controller.{specs.declared.way.Way.Way, proofs.Steps.first_spelled, proofs.Steps.sends_follow}
+use Rattle.dali_controller.specs.{Whole.{Sends, Knows, IsChosen}, declared.{purpose.Purpose.{Purpose, TheVariants.{Resolving, Asking}}, way.Way.Way}}
+use Rattle.dali_controller.proofs.Steps.{first_spelled, sends_follow}
 
 -- what a transaction sends it has chosen
 pub sends_chosen : (k : Kept) (n : SearchAddress) (p : Purpose) (s : Stage) (c : Command) → Sends k n p s c → IsChosen n p s c

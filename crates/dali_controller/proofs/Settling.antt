@@ -1,15 +1,12 @@
 use Rattle.std.proofs.Common.{◌≡◌, ◌⊎◌, inl, inr, ℕ, ◌<◌, List, refl, sym, ap, subst, ◌∙◌, arith, Some, None}
-use Rattle.dali_frame.specs.{Random.value_of, Random.MASK24, declared.numbers.SearchAddress.SearchAddress}
-use Rattle.dali_script.specs.{Records.HasAddress, Records.Assignment, Records.Has, Records.HasRandom, Stages.stage_of}
-use Rattle.dali_script.specs.declared.finding.Finding.TheVariants.{Queried, Resolved}
-use Rattle.dali_script.specs.declared.{orders.Order.Order, orders.Order.TheVariants.Commit, orders.Order.TheVariants.Halt, records.Record.TheVariants.Enrol}
-use Rattle.dali_script.{specs.declared.stage.Stage.TheVariants.Withdrawn, specs.declared.stage.Stage.TheVariants.Spelled, proofs.Lists.has_map}
-use Rattle.dali_script.specs.declared.orders.Fault.TheVariants as fault
-use Rattle.dali_controller.specs.{Course.Course, Course.closing_of, Machine.Machine, Moments.Settles, Moments.IsBetween, Moments.IsHeard, Moments.IsNext}
-use Rattle.dali_controller.specs.{Next.begins_at, Next.most_silent, Orders.Contradicts, Orders.IsOrderedTo, Orders.IsSought, Orders.MayEnrolOn}
-use Rattle.dali_controller.specs.{Orders.machine_ordered, Whole.Knows, Whole.IsReady, declared.purpose.Purpose.TheVariants.Visiting}
-use Rattle.dali_controller.specs.declared.{purpose.Purpose.TheVariants.Resolving, purpose.Purpose.TheVariants.Asking, way.Way.Way, way.Way.TheVariants.Fresh}
-use Rattle.dali_controller.{specs.declared.way.Way.TheVariants.Surveying, proofs.Steps.calm_less, proofs.Steps.ordered_on}
+use Rattle.dali_frame.specs.{Random.{value_of, MASK24}, declared.numbers.SearchAddress.SearchAddress}
+use Rattle.dali_script.specs.{Records.{HasAddress, Assignment, Has, HasRandom}, Stages.stage_of, declared.finding.Finding.TheVariants.{Queried, Resolved}}
+use Rattle.dali_script.specs.declared.{orders.{Order.{Order, TheVariants.{Commit, Halt}}, Fault.TheVariants as fault}, records.Record.TheVariants.Enrol}
+use Rattle.dali_script.{specs.declared.stage.Stage.TheVariants.{Withdrawn, Spelled}, proofs.Lists.has_map}
+use Rattle.dali_controller.specs.{Course.{Course, closing_of}, Machine.Machine, Moments.{Settles, IsBetween, IsHeard, IsNext}, Next.{begins_at, most_silent}}
+use Rattle.dali_controller.specs.{Orders.{Contradicts, IsOrderedTo, IsSought, MayEnrolOn, machine_ordered}, Whole.{Knows, IsReady}}
+use Rattle.dali_controller.specs.declared.{purpose.Purpose.TheVariants.{Visiting, Resolving, Asking}, way.Way.{Way, TheVariants.{Fresh, Surveying}}}
+use Rattle.dali_controller.proofs.Steps.{calm_less, ordered_on}
 
 -- TO SETTLE
 same_address : (r q : SearchAddress) (b d : ℕ) → Withdrawn r b ≡ Withdrawn q d → b ≡ d

@@ -1,19 +1,15 @@
 use Rattle.std.proofs.Common.{◌≡◌, ℕ, ◌⊎◌, inl, inr, Bool, true, false, refl, Option, Some, None, ◌==◌, nat_lt, if◌then◌else◌}
-use Rattle.dali_frame.specs.{Random.value_of, declared.frames.Answer.Answer, declared.frames.Answer.TheVariants.Silence}
-use Rattle.dali_frame.specs.declared.{frames.Answer.TheVariants.Byte, frames.Answer.TheVariants.Damaged, numbers.SearchAddress.SearchAddress}
-use Rattle.dali_script.specs.{Records.Kept, Stages.stage_of}
-use Rattle.dali_script.specs.declared.orders.{End.TheVariants.BlockFull, End.TheVariants.GaveUp, Order.Order, Order.TheVariants.Put, Order.TheVariants.Commit}
-use Rattle.dali_script.specs.declared.{records.Record.TheVariants.Reserve, stage.Stage.Stage, stage.Stage.TheVariants.Free}
-use Rattle.dali_script.specs.declared.stage.Stage.TheVariants.{Opened, Probed, Unnamed, Unanswered, Inconclusive, HighAsked, Hunted, DrawBarred, PassedOver}
-use Rattle.dali_search.specs.{Ascending.leads_to, Ascending.ascent_at_first, Least.answered, declared.step.Step.Step}
-use Rattle.dali_search.specs.declared.step.Step.TheVariants.{Again, Found, Nobody}
+use Rattle.dali_frame.specs.{Random.value_of, declared.{frames.Answer.{Answer, TheVariants.{Silence, Byte, Damaged}}, numbers.SearchAddress.SearchAddress}}
+use Rattle.dali_script.specs.{Records.Kept, Stages.stage_of, declared.orders.{End.TheVariants.{BlockFull, GaveUp}, Order.{Order, TheVariants.{Put, Commit}}}}
+use Rattle.dali_script.specs.declared.{records.Record.TheVariants.Reserve, stage.Stage.{Stage, TheVariants.{Free, Opened, Probed, Unnamed, Unanswered}}}
+use Rattle.dali_script.specs.declared.stage.Stage.TheVariants.{Inconclusive, HighAsked, Hunted, DrawBarred, PassedOver}
+use Rattle.dali_search.specs.{Ascending.{leads_to, ascent_at_first}, Least.answered, declared.step.Step.{Step, TheVariants.{Again, Found, Nobody}}}
 use Rattle.dali_controller.specs.Course.{Course, is_yes, after_step, address_for, hunted, searching_on, searching_first, closing, going_on, ask_or_call}
 use Rattle.dali_controller.specs.Course.{next_asked, going_on_early, visit_or_opening, next_unfinished, drawing, calling, opening_at_last, opening_anew}
-use Rattle.dali_controller.specs.{Course.hunting_first, Machine.Machine, Next.begins_at, Next.course_on}
-use Rattle.dali_controller.specs.Next.{asked_on, next_course, full, asks_again, undrawn, has_open, nobody_left, silenced, silenced_on, missed_again, is_failed}
-use Rattle.dali_controller.specs.Next.{most_silent, goes_on_to, hunted_to, compared_in, blocked, is_blocked, may_draw, ungiven, unanswered, at_rest, asked_once}
-use Rattle.dali_controller.specs.{Tally.asked_again, Tally.heard_call, declared.purpose.Purpose.Purpose, declared.purpose.Purpose.TheVariants.Calling}
-use Rattle.dali_controller.specs.declared.{purpose.Purpose.TheVariants.Hunting, way.Way.Way, way.Way.TheVariants.Fresh, way.Way.TheVariants.Surveying}
+use Rattle.dali_controller.specs.{Course.hunting_first, Machine.Machine, Next.{begins_at, course_on, asked_on, next_course, full, asks_again, undrawn}}
+use Rattle.dali_controller.specs.Next.{has_open, nobody_left, silenced, silenced_on, missed_again, is_failed, most_silent, goes_on_to, hunted_to, compared_in}
+use Rattle.dali_controller.specs.{Next.{blocked, is_blocked, may_draw, ungiven, unanswered, at_rest, asked_once}, Tally.{asked_again, heard_call}}
+use Rattle.dali_controller.specs.declared.{purpose.Purpose.{Purpose, TheVariants.{Calling, Hunting}}, way.Way.{Way, TheVariants.{Fresh, Surveying}}}
 
 -- WHEN A ROLL CALL COUNTS AS SILENT: only after one that was.
 

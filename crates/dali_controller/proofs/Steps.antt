@@ -1,36 +1,29 @@
 use Rattle.std.proofs.Common.{lit<, ◌≡◌, ◌⊎◌, inl, inr, ℕ, ◌+◌, ◌<◌, ◌≤◌, Bool, true, false, List, [], ◌∷◌, ◌++◌, refl, sym, ap, ap₂, subst, ◌∙◌, arith, Option}
-use Rattle.std.proofs.Common.{Some, None, ◌-◌, ◌==◌, ◌||◌, is_some, if◌then◌else◌}
-use Rattle.std.{proofs.lemmas.Bool.Decides.nat_tests, specs.Prelude.unwrap_or}
-use Rattle.dali_frame.specs.{Priority.FIRST, Priority.LATER, Random.value_of, Short.short_of, declared.frames.Answer.Answer}
-use Rattle.dali_frame.specs.declared.frames.Answer.TheVariants.{Silence, Byte, Damaged}
+use Rattle.std.{proofs.{Common.{Some, None, ◌-◌, ◌==◌, ◌||◌, is_some, if◌then◌else◌}, lemmas.Bool.Decides.nat_tests}, specs.Prelude.unwrap_or}
+use Rattle.dali_frame.specs.{Priority.{FIRST, LATER}, Random.value_of, Short.short_of, declared.frames.Answer.{Answer, TheVariants.{Silence, Byte, Damaged}}}
 use Rattle.dali_frame.specs.declared.{frames.Forward.Forward, numbers.SearchAddress.SearchAddress}
-use Rattle.dali_special.specs.Command.{MASK, command_of, frame_of, IsSpelled}
-use Rattle.dali_special.specs.declared.command.Command.{Command, TheVariants.Terminate, TheVariants.Initialise, TheVariants.Randomise, TheVariants.Compare}
-use Rattle.dali_special.specs.declared.command.Command.TheVariants.{Withdraw, SearchHigh, SearchMiddle, SearchLow, Program, QueryShort, RandomByte, Arc}
-use Rattle.dali_special.specs.declared.command.{Part.TheVariants.Middle, Part.TheVariants.Low, Target.TheVariants.Unaddressed}
-use Rattle.dali_special.proofs.Table.{read_written}
-use Rattle.dali_script.specs.{Due.due_after, Due.frame_put, Findings.later, Findings.finding_of, Records.IsKept, Records.Kept, Records.Has, Records.Fits}
-use Rattle.dali_script.specs.{Records.MayAdd, Scripts.MayGive, Scripts.Lawful, Scripts.is_asking, Scripts.ASKING}
-use Rattle.dali_script.specs.Stages.{hunted, byte_heard, bytes_heard, finding_at, stage_of, next_stage, queried, named, verified, answered, doubted, Follows}
-use Rattle.dali_script.specs.declared.{finding.Finding.Finding, orders.End.End, orders.End.TheVariants.GaveUp, orders.Order.Order}
-use Rattle.dali_script.specs.declared.orders.Order.TheVariants.{Put, Commit, Done, Halt}
-use Rattle.dali_script.specs.declared.{records.Record.Record, stage.Stage.Stage}
+use Rattle.dali_special.specs.{Command.{MASK, command_of, frame_of, IsSpelled}, declared.command.Command.{Command, TheVariants.{Terminate, Initialise}}}
+use Rattle.dali_special.specs.declared.command.Command.TheVariants.{Randomise, Compare, Withdraw, SearchHigh, SearchMiddle, SearchLow, Program, QueryShort}
+use Rattle.dali_special.specs.declared.command.{Command.TheVariants.{RandomByte, Arc}, Part.TheVariants.{Middle, Low}, Target.TheVariants.Unaddressed}
+use Rattle.dali_special.proofs.Table.read_written
+use Rattle.dali_script.specs.{Due.{due_after, frame_put}, Findings.{later, finding_of}, Records.{IsKept, Kept, Has, Fits, MayAdd}, Scripts.{MayGive, Lawful}}
+use Rattle.dali_script.specs.{Scripts.{is_asking, ASKING}, Stages.{hunted, byte_heard, bytes_heard, finding_at, stage_of, next_stage, queried, named, verified}}
+use Rattle.dali_script.specs.{Stages.{answered, doubted, Follows}, declared.{finding.Finding.Finding, orders.{End.{End, TheVariants.GaveUp}, Order.Order}}}
+use Rattle.dali_script.specs.declared.{orders.{Order.TheVariants.{Put, Commit, Done, Halt}, Due.TheVariants as due}, records.Record.Record, stage.Stage.Stage}
 use Rattle.dali_script.specs.declared.stage.Stage.TheVariants.{Free, Terminated, InitialisedOnce, Initialised, RandomisedOnce, HighSent, MiddleSent, NumberSent}
 use Rattle.dali_script.specs.declared.stage.Stage.TheVariants.{Found, Unnamed, Unanswered, Inconclusive, Programmed, Confirmed, Withdrawn, HighAsked}
 use Rattle.dali_script.specs.declared.stage.Stage.TheVariants.{MiddleAsked, Spelled, LowSent, Hunted, Over, WokenHigh, WokenLow, WokenMiddle, DrawFree}
-use Rattle.dali_script.{specs.declared.trace.Entry.Entry, proofs.Found.finding_after, proofs.Lists.has_map}
-use Rattle.dali_script.proofs.Transactions.{self, equal, middle_next, low_next, turn, gives, lawful_follows, stage_none, stage_more}
-use Rattle.dali_script.specs.declared.orders.Due.TheVariants as due
+use Rattle.dali_script.{specs.declared.trace.Entry.Entry, proofs.{Found.finding_after, Lists.has_map, Transactions.{self, equal, middle_next, low_next, turn}}}
+use Rattle.dali_script.proofs.Transactions.{gives, lawful_follows, stage_none, stage_more}
 use Rattle.dali_search.specs.{Ascending.Ascent, Least.Search}
 use Rattle.dali_controller.specs.Course.{Course, first_of, turn_of, closing_of, address_for, least_open, byte_to_send, bytes_to_send, call_turn}
 use Rattle.dali_controller.specs.Machine.{machine_lost, machine_heard_to, Machine, silent_after, tries_after, is_complete, is_ended, is_passed_by}
-use Rattle.dali_controller.specs.Moments.{FoundAt, Arrived, CalmAt, IsHeard, Begins, Begun, IsNext, IsMoment, IsUngiven, IsNextTo}
-use Rattle.dali_controller.specs.{Next.at_rest, Next.begins_at, Next.course_by, Next.beginning, Next.next_course, Next.most_silent, Orders.IsBegun}
-use Rattle.dali_controller.specs.Orders.{AfterMaskBy, AfterMaskOn, IsOrderedTo, is_left_by, machine_ordered, machine_ordered_on, running_close, asked_by}
-use Rattle.dali_controller.specs.Whole.{IsWhole, Sends, AsksOn, Knows, IsWithinSilence, IsReady, IsSending, IsStoredIn, Pending}
-use Rattle.dali_controller.specs.declared.purpose.Purpose.{Purpose, TheVariants.Opening}
-use Rattle.dali_controller.specs.declared.purpose.Purpose.TheVariants.{Probing, Visiting, Resolving, Closing, Asking, Hunting, Calling, Drawing, PassingOver}
-use Rattle.dali_controller.specs.declared.way.Way.{Way, TheVariants.Fresh, TheVariants.Surveying}
+use Rattle.dali_controller.specs.{Moments.{FoundAt, Arrived, CalmAt, IsHeard, Begins, Begun, IsNext, IsMoment, IsUngiven, IsNextTo}, Next.{at_rest, begins_at}}
+use Rattle.dali_controller.specs.{Next.{course_by, beginning, next_course, most_silent}, Orders.{IsBegun, AfterMaskBy, AfterMaskOn, IsOrderedTo, is_left_by}}
+use Rattle.dali_controller.specs.{Orders.{machine_ordered, machine_ordered_on, running_close, asked_by}, Whole.{IsWhole, Sends, AsksOn, Knows, IsWithinSilence}}
+use Rattle.dali_controller.specs.{Whole.{IsReady, IsSending, IsStoredIn, Pending}, declared.purpose.Purpose.{Purpose, TheVariants.{Opening, Probing, Visiting}}}
+use Rattle.dali_controller.specs.declared.{purpose.Purpose.TheVariants.{Resolving, Closing, Asking, Hunting, Calling, Drawing, PassingOver}, way.Way.Way}
+use Rattle.dali_controller.specs.declared.way.Way.TheVariants.{Fresh, Surveying}
 
 -- THE COMMANDS OF A TRANSACTION. A command that is sent at a stage may follow there and is read from its frame; it is no
 -- direct arc power; past the first one no close runs; and what is known where it leads to.

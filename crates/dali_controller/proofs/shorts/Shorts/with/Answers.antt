@@ -1,5 +1,4 @@
-use Rattle.std.proofs.Common.{ap, w64, ◌==◌}
-use Rattle.std.proofs.lemmas.Nat.Bits.{bit_at_set_same, bit_at_set_other}
+use Rattle.std.proofs.{Common.{ap, w64, ◌==◌}, lemmas.Nat.Bits.{bit_at_set_same, bit_at_set_other}}
 use Rattle.dali_controller.proofs.shorts.Shorts.with.Goals as goal
 
 pub returns-clause-added : goal.returns-clause-added

@@ -1,5 +1,4 @@
-use Rattle.std.proofs.Common.{ap, w64, ◌==◌}
-use Rattle.std.proofs.lemmas.Nat.Bits.{bit_at_clear_same, bit_at_clear_other}
+use Rattle.std.proofs.{Common.{ap, w64, ◌==◌}, lemmas.Nat.Bits.{bit_at_clear_same, bit_at_clear_other}}
 use Rattle.dali_controller.proofs.shorts.Shorts.without.Goals as goal
 
 pub returns-clause-removed : goal.returns-clause-removed

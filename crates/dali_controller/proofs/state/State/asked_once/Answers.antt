@@ -1,6 +1,5 @@
 use Rattle.std.proofs.Common.{sym, ap, ◌∙◌, ◌==◌}
-use Rattle.dali_controller.specs.{Next.asked_once, Next.begins_at, States.machine_with}
-use Rattle.dali_controller.proofs.Beginnings.{goes_on_moment, again_moment, high_between}
+use Rattle.dali_controller.{specs.{Next.{asked_once, begins_at}, States.machine_with}, proofs.Beginnings.{goes_on_moment, again_moment, high_between}}
 use Rattle.dali_controller.proofs.state.State.asked_once.Goals as goal
 
 pub returns-then-silences-eq0 : goal.returns-then-silences-eq0

@@ -1,7 +1,6 @@
 use Rattle.std.proofs.Common.{sym, ◌∙◌, subst}
-use Rattle.dali_script.specs.Records.{Has}
-use Rattle.dali_controller.specs.States.{machine_with}
-use Rattle.dali_controller.proofs.{Leaving.withheld_left, Leaving.withheld_searching, Leaving.gives_masked, Steps.sends_program}
+use Rattle.dali_script.specs.Records.Has
+use Rattle.dali_controller.{specs.States.machine_with, proofs.{Leaving.{withheld_left, withheld_searching, gives_masked}, Steps.sends_program}}
 use Rattle.dali_controller.proofs.state.State.give.Goals as goal
 
 pub leave-requires-clause-opened : goal.leave-requires-clause-opened

@@ -1,7 +1,5 @@
-use Rattle.std.proofs.Common.{◌≡◌, ◌+◌, arith}
-use Rattle.std.proofs.lemmas.Bool.Decides.{nat_tests}
-use Rattle.dali_controller.{specs.States.machine_with, proofs.Courses.followed_lost, proofs.Steps.lost_ended, proofs.Steps.lost_moment, proofs.Steps.waiting}
-use Rattle.dali_controller.proofs.state.State.lost.Goals as goal
+use Rattle.std.proofs.{Common.{◌≡◌, ◌+◌, arith}, lemmas.Bool.Decides.nat_tests}
+use Rattle.dali_controller.{specs.States.machine_with, proofs.{Courses.followed_lost, Steps.{lost_ended, lost_moment, waiting}, state.State.lost.Goals as goal}}
 
 pub returns-then-self-eq-TRIES-clause-moment : goal.returns-then-self-eq-TRIES-clause-moment
 returns-then-self-eq-TRIES-clause-moment c =

@@ -1,6 +1,5 @@
 use Rattle.std.proofs.Common.{sym, ◌∙◌, subst}
-use Rattle.dali_controller.specs.{Course.searching_first, Moments.Begun, States.machine_with, States.course_of}
-use Rattle.dali_controller.proofs.Beginnings.{opened_moment}
+use Rattle.dali_controller.{specs.{Course.searching_first, Moments.Begun, States.{machine_with, course_of}}, proofs.Beginnings.opened_moment}
 use Rattle.dali_controller.proofs.state.State.search_first.Goals as goal
 
 pub returns-in-Fresh : goal.returns-in-Fresh
