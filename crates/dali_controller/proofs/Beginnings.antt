@@ -18,11 +18,11 @@ use Rattle.dali_controller.specs.Next.{most_silent, unanswered, has_open, may_dr
 use Rattle.dali_controller.specs.{Next.{blocked, is_blocked, called_to, called_in, asked_once, is_hunting, question}, Orders.{Cause, IsBegun, AllAreFound}}
 use Rattle.dali_controller.specs.Orders.{IsUndrawn, IsUngivable, IsBlockFull, IsStuck, IsOrdered, IsOrderedTo, machine_ordered, machine_ordered_on}
 use Rattle.dali_controller.specs.{States.{machine_with, course_of}, Tally.{asked_again, silent_call, heard_call}, Whole.{Knows, IsSurvey, IsWithinSilence}}
-use Rattle.dali_controller.specs.{Whole.{IsWhole, IsUnstarted, Pending}, declared.{leg.Leg.{Leg, TheVariants as leg}, purpose.Purpose.Purpose}}
-use Rattle.dali_controller.specs.declared.purpose.Purpose.TheVariants.{Opening, Probing, Visiting, Resolving, Closing, Asking, Hunting, Calling, Drawing}
-use Rattle.dali_controller.{specs.declared.{state.State.State, tally.Tally.Tally, way.Way.{Way, TheVariants.{Fresh, Surveying}}}, proofs.Courses.goes_on_way}
-use Rattle.dali_controller.proofs.{Courses.{searches_first_way, ask_way}, Given.goes_on_open, Steps.{begun_moment, begun_none, calm_less, less_calm}}
-use Rattle.dali_controller.proofs.Steps.sends_open
+use Rattle.dali_controller.specs.{Whole.{IsWhole, IsUnstarted, Pending}, declared.{leg.Leg.Leg, purpose.Purpose.{Purpose, TheVariants.{Opening, Probing}}}}
+use Rattle.dali_controller.specs.declared.{purpose.Purpose.TheVariants.{Visiting, Resolving, Closing, Asking, Hunting, Calling, Drawing}, state.State.State}
+use Rattle.dali_controller.{specs.declared.{tally.Tally.Tally, way.Way.{Way, TheVariants.{Fresh, Surveying}}}, proofs.Courses.{goes_on_way, searches_first_way}}
+use Rattle.dali_controller.proofs.{Courses.ask_way, Given.goes_on_open, Steps.{begun_moment, begun_none, calm_less, less_calm, sends_open}}
+use Rattle.dali_controller.specs.declared.leg.Leg.TheVariants as leg
 
 -- WHERE A TRANSACTION MAY BEGIN, at each stage of the one that leads there.
 

@@ -3,10 +3,10 @@ use Rattle.std.proofs.{Common.{◌==◌, nat_lt, MatchOption, is_some, suc, if�
 use Rattle.dali_frame.specs.{Priority.LATER, Random.value_of, declared.{frames.{Answer.Answer, Forward.Forward}, numbers.SearchAddress.SearchAddress}}
 use Rattle.dali_special.specs.{Command.frame_of, declared.command.Command.Command}
 use Rattle.dali_script.specs.{Due.{due_after, frame_put}, Records.{Assignment, Kept, Has, IsOnce, addresses, randoms, HasAddress, HasRandom}, Stages.stage_of}
-use Rattle.dali_script.specs.declared.orders.{End.TheVariants.{AllFound, BlockFull, GaveUp}, Order.{Order, TheVariants.{Put, Commit}}, Due.TheVariants as due}
-use Rattle.dali_script.specs.declared.{orders.Input.TheVariants as input, records.Record.TheVariants.{Reserve, Enrol}, stage.Stage.{Stage, TheVariants.Free}}
-use Rattle.dali_script.specs.declared.stage.Stage.TheVariants.{Opened, Probed, Unnamed, Unanswered, Inconclusive, HighAsked, Spelled, Hunted, DrawBarred}
-use Rattle.dali_script.{specs.declared.stage.Stage.TheVariants.PassedOver, proofs.{Lists.has_map, Members.same_member, Transactions.stage_none}}
+use Rattle.dali_script.specs.declared.orders.{End.TheVariants.{AllFound, BlockFull, GaveUp}, Order.{Order, TheVariants.{Put, Commit}}}
+use Rattle.dali_script.specs.declared.{records.Record.TheVariants.{Reserve, Enrol}, stage.Stage.{Stage, TheVariants.{Free, Opened, Probed, Unnamed}}}
+use Rattle.dali_script.specs.declared.stage.Stage.TheVariants.{Unanswered, Inconclusive, HighAsked, Spelled, Hunted, DrawBarred, PassedOver}
+use Rattle.dali_script.proofs.{Lists.has_map, Members.same_member, Transactions.stage_none}
 use Rattle.dali_search.specs.{Ascending.{leads_to, ascent_at_first}, Least.{Search, step_after, probe_after, next_probe, answered}, declared.step.Step.Step}
 use Rattle.dali_search.specs.declared.step.Step.TheVariants.{Again, Found, Nobody}
 use Rattle.dali_controller.specs.Course.{Course, turn_of, call_turn, is_yes, after_step, number_at, address_for, unless_enrolled, unfinished_at}
@@ -19,6 +19,8 @@ use Rattle.dali_controller.specs.{Next.{ungiven, question, unanswered, at_rest, 
 use Rattle.dali_controller.specs.{Tally.{asked_again, silent_call, heard_call}, Whole.{IsWhole, Pending}, declared.purpose.Purpose.Purpose}
 use Rattle.dali_controller.specs.declared.purpose.Purpose.TheVariants.{Opening, Probing, Visiting, Resolving, Closing, Asking, Hunting, Calling, Drawing}
 use Rattle.dali_controller.specs.declared.{purpose.Purpose.TheVariants.PassingOver, way.Way.{Way, TheVariants.{Fresh, Surveying}}}
+use Rattle.dali_script.specs.declared.orders.Due.TheVariants as due
+use Rattle.dali_script.specs.declared.orders.Input.TheVariants as input
 
 -- THE COURSE OF A MACHINE is the one of the table of moments.
 

@@ -4,16 +4,17 @@ use Rattle.dali_frame.specs.declared.numbers.SearchAddress.SearchAddress
 use Rattle.dali_special.specs.{Command.{command_of, frame_of}, declared.command.Command.{Command, TheVariants.{Terminate, Program}}}
 use Rattle.dali_script.specs.{Findings.{MayEnrol, assigned, finding_of}, Records.{Assignment, Has, HasAddress, HasRandom, IsLeastFree, IsFull, IsMap, IsFresh}}
 use Rattle.dali_script.specs.{Records.MayAdd, Scripts.Lawful, Stages.{leads, stage_of}, declared.finding.Finding.{Finding, TheVariants.{Queried, Resolved}}}
-use Rattle.dali_script.specs.declared.orders.{End.{End, TheVariants.{BlockFull, GaveUp}}, Input.{Input, TheVariants as input}, Order.{Order, TheVariants.Put}}
-use Rattle.dali_script.specs.declared.{orders.{Order.TheVariants.{Commit, Done, Halt}, Fault.TheVariants as fault}, records.Record.Record}
-use Rattle.dali_script.specs.declared.{records.Record.TheVariants.{Reserve, Enrol, Release}, stage.Stage.{Stage, TheVariants.{Free, Terminated, Opened}}}
-use Rattle.dali_script.{specs.declared.stage.Stage.TheVariants.{Probed, Unnamed, Unanswered, Inconclusive, Withdrawn, Spelled}, proofs.Lists.has_map}
+use Rattle.dali_script.specs.declared.orders.{End.{End, TheVariants.{BlockFull, GaveUp}}, Input.Input, Order.{Order, TheVariants.{Put, Commit, Done, Halt}}}
+use Rattle.dali_script.specs.declared.{records.Record.{Record, TheVariants.{Reserve, Enrol, Release}}, stage.Stage.{Stage, TheVariants.{Free, Terminated}}}
+use Rattle.dali_script.{specs.declared.stage.Stage.TheVariants.{Opened, Probed, Unnamed, Unanswered, Inconclusive, Withdrawn, Spelled}, proofs.Lists.has_map}
 use Rattle.dali_script.proofs.{Members.same_member, Transactions.{follows_lawful, stage_none}}
 use Rattle.dali_controller.specs.Course.{Course, closing_of, turn_of, searching_on, going_on, going_on_early, visit_or_opening, next_unfinished, ask_or_call}
 use Rattle.dali_controller.specs.{Course.next_asked, Machine.{Machine, machine_told}, Next.{next_course, begins_at, course_by, course_on, beginning}}
 use Rattle.dali_controller.specs.{Next.BeginsWith, Orders.{IsAllowed, MayEnrolOn, MayOrderPut, IsWarranted, IsBegun, IsCaused, Contradicts, AfterMask}}
 use Rattle.dali_controller.specs.Orders.{AfterMaskOn, AfterFinding, AfterEnrolled, IsFollowed, IsSought, IsOrdered, IsGiven, running_close}
 use Rattle.dali_controller.specs.declared.{purpose.Purpose.TheVariants.Closing, way.Way.{Way, TheVariants.{Fresh, Surveying}}}
+use Rattle.dali_script.specs.declared.orders.Fault.TheVariants as fault
+use Rattle.dali_script.specs.declared.orders.Input.TheVariants as input
 
 -- WHICH ORDER A MACHINE GIVES at which stage, once it was told its input: what is told of a step leaves no other.
 pub record IsGivenBy (t : Machine) (o : Order) : Type 0 where

@@ -1,12 +1,12 @@
 use Rattle.std.proofs.Common.{◌≡◌, ℕ, ◌<◌, Option, Some, None, Result, Ok, Err, sym, subst, ap, ◌∙◌, IfSome, IfOk}
 use Rattle.dali_frame.specs.Random.{value_of, MASK24}
-use Rattle.dali_script.specs.{Records.{Kept, HasRandom, Fits, MayAdd, with_record}, declared.orders.{Input.{Input, TheVariants as input}, Order.Order}}
-use Rattle.dali_script.specs.declared.{orders.Order.TheVariants.{Put, Commit, Done, Halt}, records.Record.{Record, TheVariants.Reserve}}
-use Rattle.dali_script.proofs.Lists.{has_last, has_map}
+use Rattle.dali_script.specs.{Records.{Kept, HasRandom, Fits, MayAdd, with_record}, declared.orders.{Input.Input, Order.{Order, TheVariants.{Put, Commit}}}}
+use Rattle.dali_script.{specs.declared.{orders.Order.TheVariants.{Done, Halt}, records.Record.{Record, TheVariants.Reserve}}, proofs.Lists.{has_last, has_map}}
 use Rattle.dali_controller.specs.{Course.Course, Legs.{way_on, is_searching, search_on, ascent_on}, Machine.Machine, Next.BeginsWith, Orders.IsGiven}
 use Rattle.dali_controller.specs.{Orders.{IsAnswered, IsFollowedAt, machine_after}, States.machine_with, Steps.{IsBefore, with_some, kept_by}, Whole.IsWhole}
 use Rattle.dali_controller.specs.{Whole.{IsStoring, IsVisitedOn, Knows, Pending}, declared.{purpose.Purpose.TheVariants.Visiting, state.State.State}}
 use Rattle.dali_controller.specs.declared.way.Way.{Way, TheVariants.{Fresh, Surveying}}
+use Rattle.dali_script.specs.declared.orders.Input.TheVariants as input
 
 -- WHAT IS RESERVED FROM NOW ON was drawn.
 pub reserved_now : (s : State) (k new : Kept) (a n : ℕ) → IsBefore s k input.Committed new → s.last ≡ Some (Commit (Reserve a n))

@@ -1,12 +1,13 @@
 use Rattle.std.proofs.Common.{◌≡◌, ◌⊎◌, inl, inr, ℕ, ◌<◌, List, refl, sym, ap, subst, ◌∙◌, arith, Some, None}
 use Rattle.dali_frame.specs.{Random.{value_of, MASK24}, declared.numbers.SearchAddress.SearchAddress}
 use Rattle.dali_script.specs.{Records.{HasAddress, Assignment, Has, HasRandom}, Stages.stage_of, declared.finding.Finding.TheVariants.{Queried, Resolved}}
-use Rattle.dali_script.specs.declared.{orders.{Order.{Order, TheVariants.{Commit, Halt}}, Fault.TheVariants as fault}, records.Record.TheVariants.Enrol}
-use Rattle.dali_script.{specs.declared.stage.Stage.TheVariants.{Withdrawn, Spelled}, proofs.Lists.has_map}
+use Rattle.dali_script.specs.declared.{orders.Order.{Order, TheVariants.{Commit, Halt}}, records.Record.TheVariants.Enrol, stage.Stage.TheVariants.Withdrawn}
+use Rattle.dali_script.{specs.declared.stage.Stage.TheVariants.Spelled, proofs.Lists.has_map}
 use Rattle.dali_controller.specs.{Course.{Course, closing_of}, Machine.Machine, Moments.{Settles, IsBetween, IsHeard, IsNext}, Next.{begins_at, most_silent}}
 use Rattle.dali_controller.specs.{Orders.{Contradicts, IsOrderedTo, IsSought, MayEnrolOn, machine_ordered}, Whole.{Knows, IsReady}}
 use Rattle.dali_controller.specs.declared.{purpose.Purpose.TheVariants.{Visiting, Resolving, Asking}, way.Way.{Way, TheVariants.{Fresh, Surveying}}}
 use Rattle.dali_controller.proofs.Steps.{calm_less, ordered_on}
+use Rattle.dali_script.specs.declared.orders.Fault.TheVariants as fault
 
 -- TO SETTLE
 same_address : (r q : SearchAddress) (b d : ℕ) → Withdrawn r b ≡ Withdrawn q d → b ≡ d

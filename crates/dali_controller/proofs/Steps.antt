@@ -9,8 +9,8 @@ use Rattle.dali_special.proofs.Table.read_written
 use Rattle.dali_script.specs.{Due.{due_after, frame_put}, Findings.{later, finding_of}, Records.{IsKept, Kept, Has, Fits, MayAdd}, Scripts.{MayGive, Lawful}}
 use Rattle.dali_script.specs.{Scripts.{is_asking, ASKING}, Stages.{hunted, byte_heard, bytes_heard, finding_at, stage_of, next_stage, queried, named, verified}}
 use Rattle.dali_script.specs.{Stages.{answered, doubted, Follows}, declared.{finding.Finding.Finding, orders.{End.{End, TheVariants.GaveUp}, Order.Order}}}
-use Rattle.dali_script.specs.declared.{orders.{Order.TheVariants.{Put, Commit, Done, Halt}, Due.TheVariants as due}, records.Record.Record, stage.Stage.Stage}
-use Rattle.dali_script.specs.declared.stage.Stage.TheVariants.{Free, Terminated, InitialisedOnce, Initialised, RandomisedOnce, HighSent, MiddleSent, NumberSent}
+use Rattle.dali_script.specs.declared.{orders.Order.TheVariants.{Put, Commit, Done, Halt}, records.Record.Record, stage.Stage.{Stage, TheVariants.Free}}
+use Rattle.dali_script.specs.declared.stage.Stage.TheVariants.{Terminated, InitialisedOnce, Initialised, RandomisedOnce, HighSent, MiddleSent, NumberSent}
 use Rattle.dali_script.specs.declared.stage.Stage.TheVariants.{Found, Unnamed, Unanswered, Inconclusive, Programmed, Confirmed, Withdrawn, HighAsked}
 use Rattle.dali_script.specs.declared.stage.Stage.TheVariants.{MiddleAsked, Spelled, LowSent, Hunted, Over, WokenHigh, WokenLow, WokenMiddle, DrawFree}
 use Rattle.dali_script.{specs.declared.trace.Entry.Entry, proofs.{Found.finding_after, Lists.has_map, Transactions.{self, equal, middle_next, low_next, turn}}}
@@ -24,6 +24,7 @@ use Rattle.dali_controller.specs.{Orders.{machine_ordered, machine_ordered_on, r
 use Rattle.dali_controller.specs.{Whole.{IsReady, IsSending, IsStoredIn, Pending}, declared.purpose.Purpose.{Purpose, TheVariants.{Opening, Probing, Visiting}}}
 use Rattle.dali_controller.specs.declared.{purpose.Purpose.TheVariants.{Resolving, Closing, Asking, Hunting, Calling, Drawing, PassingOver}, way.Way.Way}
 use Rattle.dali_controller.specs.declared.way.Way.TheVariants.{Fresh, Surveying}
+use Rattle.dali_script.specs.declared.orders.Due.TheVariants as due
 
 -- THE COMMANDS OF A TRANSACTION. A command that is sent at a stage may follow there and is read from its frame; it is no
 -- direct arc power; past the first one no close runs; and what is known where it leads to.

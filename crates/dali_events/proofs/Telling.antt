@@ -9,16 +9,18 @@ use Rattle.dali_gear.specs.Row.{next_draw, one_after, left_after, row_after, row
 use Rattle.dali_gear.specs.{Row.{stored_one, stored_of}, declared.{gear_set.GearSet.GearSet, row.Reach.{Reach, TheVariants.{Everyone, Only}}}}
 use Rattle.dali_arbiter.specs.Arbiter.{Arbiter, owns, bus_destroyed}
 use Rattle.dali_script.specs.{Findings.{Asked, search_of, asked_of, found_by}, Records.Assignment, Stages.{Follows, next_stage, stage_of}}
-use Rattle.dali_script.specs.declared.{block.Block.Block, orders.{Order.{Order, TheVariants.{Put, Commit, Done, Halt}}, Input.TheVariants as input}}
-use Rattle.dali_script.specs.declared.stage.Stage.{Stage, TheVariants.{Terminated, InitialisedOnce, Initialised, RandomisedOnce, DrawFree, Hunted, HighAsked}}
+use Rattle.dali_script.specs.declared.{block.Block.Block, orders.Order.{Order, TheVariants.{Put, Commit, Done, Halt}}, stage.Stage.Stage}
+use Rattle.dali_script.specs.declared.stage.Stage.TheVariants.{Terminated, InitialisedOnce, Initialised, RandomisedOnce, DrawFree, Hunted, HighAsked}
 use Rattle.dali_script.{specs.declared.{stage.Stage.TheVariants.{MiddleAsked, Over}, trace.Entry.Entry}, proofs.Transactions.{stage_none, stage_more, self}}
 use Rattle.dali_events.specs.{Allowed.{Allowed, Hears, IsUp, IsDestroyed, MaySend, MayOrder}, Happens.{happens, trace_running, entry, goes_on, taken_by}}
 use Rattle.dali_events.specs.Happens.{sent_by, told_sent, told_destroyed, gives_up, keeps_bus, bus_acted, controller_acted, controller_informed, gear_powered}
 use Rattle.dali_events.specs.{Happens.{gear_interrupted, after_quiet}, Plan.Plan, Promise.{HoldsShort, KeepsPromiseNow, KeepsAddresses}, Runs.after}
 use Rattle.dali_events.specs.{Runs.{after_all, AllAllowed, IsRun, LeavesUsed}, Searching.EachPowered, Telling.{Happening, rightly, as_damaged, as_told}}
 use Rattle.dali_events.specs.{Telling.{happened, MayHappen, happened_all, AllMayHappen, after_happened, all_told, IsHistory}, World.{World, Controller, nobody}}
-use Rattle.dali_events.specs.{World.{controller_at, controllers_changed, start}, declared.event.Event.{Event, TheVariants as event}}
-use Rattle.dali_events.proofs.Invariant.{Growing.leaves_front, Safe.keeps_promise, Sending.{follows_of, takes_powered}}
+use Rattle.dali_events.{specs.{World.{controller_at, controllers_changed, start}, declared.event.Event.Event}, proofs.Invariant.Growing.leaves_front}
+use Rattle.dali_events.proofs.Invariant.{Safe.keeps_promise, Sending.{follows_of, takes_powered}}
+use Rattle.dali_script.specs.declared.orders.Input.TheVariants as input
+use Rattle.dali_events.specs.declared.event.Event.TheVariants as event
 
 -- QUESTIONS: what they leave of gear, whichever gear they reach
 no_draw : (t : Bool) (c : Command) (g : Gear) → is_question c ≡ true → (t && draws_a_number c g) ≡ false

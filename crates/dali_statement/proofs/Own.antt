@@ -1,17 +1,19 @@
 use Rattle.std.proofs.Common.{◌≡◌, ◌⊎◌, inl, inr, ℕ, ◌<◌, Bool, true, false, refl, sym, ap, subst, ◌∙◌, List, [], ◌∷◌, ◌++◌, Option, Some, None, filter, ◌==◌}
 use Rattle.std.{proofs.Common.{◌&&◌, ◌||◌, not, nat_lt, if◌then◌else◌, is_none, option_map}, specs.List.list_any}
-use Rattle.dali_frame.specs.{Random.{value_of, number_of}, Short.short_of, declared.frames.{Answer.{Answer, TheVariants as answer}, Forward.Forward}}
-use Rattle.dali_special.specs.{Command.{command_of, IsSpelled}, declared.command.{Command.{Command as Read, TheVariants as read}, Part.TheVariants as asked}}
-use Rattle.dali_special.proofs.Table.{read_spelled, short_small}
+use Rattle.dali_frame.specs.{Random.{value_of, number_of}, Short.short_of, declared.frames.{Answer.Answer, Forward.Forward}}
+use Rattle.dali_special.{specs.{Command.{command_of, IsSpelled}, declared.command.Command.Command as Read}, proofs.Table.{read_spelled, short_small}}
 use Rattle.dali_script.specs.Findings.{Asked, nothing, high_byte, two_bytes, asked_of, asked_after, search_of, found_by, spelled_by, assigned}
-use Rattle.dali_script.specs.declared.{finding.Finding.{Finding, TheVariants.{Queried, Resolved}}, trace.Entry.Entry, records.Record.TheVariants as record_of}
-use Rattle.dali_script.{specs.{Records.{Assignment, Has, HasAddress, is_pair, without_pair}, Scripts.Lawful}, proofs.{Lists.has_map, Found.asked_more}}
-use Rattle.dali_script.proofs.Members.{has_left, has_right, has_either}
+use Rattle.dali_script.specs.{declared.finding.Finding.{Finding, TheVariants.{Queried, Resolved}}, Records.{Assignment, Has, HasAddress, is_pair, without_pair}}
+use Rattle.dali_script.{specs.{Scripts.Lawful, declared.trace.Entry.Entry}, proofs.{Lists.has_map, Found.asked_more, Members.{has_left, has_right, has_either}}}
 use Rattle.dali_statement.proofs.Tests.{both, second_of_either, first_of_both, second_of_both, first_of_either, not_true, equal, equals, below_by, some_is}
 use Rattle.dali_statement.{proofs.{Tests.holds_by, Scripts.{rules_kept, query_tells}, Steps.{Safe, Told, told_so, bytes_tell}, Whole.goes}, specs.Page.Part}
 use Rattle.dali_statement.specs.Page.{High, Middle, Low, byte, Command, QueryShort, QueryRandom, Heard, holds, Sent, Reserves, Enrols, Releases, Plan, Site}
 use Rattle.dali_statement.specs.{Page.{tells, heard_by, list_after, happens, are_apart, may_send, allowed}, Gear.command_seen, Scripts.{heard_seen, entry_seen}}
 use Rattle.dali_statement.specs.{Scripts.{said_on, said_of}, Own.{Own, Puts, Keeps, told_more, own_after}}
+use Rattle.dali_frame.specs.declared.frames.Answer.TheVariants as answer
+use Rattle.dali_special.specs.declared.command.Command.TheVariants as read
+use Rattle.dali_special.specs.declared.command.Part.TheVariants as asked
+use Rattle.dali_script.specs.declared.records.Record.TheVariants as record_of
 
 -- A SENDER ALONE KEEPS THE RULES, by its own list.
 

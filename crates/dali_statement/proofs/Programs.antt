@@ -1,6 +1,6 @@
 use Rattle.std.proofs.Common.{◌≡◌, inl, inr, ℕ, zero, suc, ◌<◌, Bool, true, false, refl, sym, ap, subst, ◌∙◌, List, [], ◌∷◌, ◌++◌, Option, Some, None, ◌==◌}
 use Rattle.std.{proofs.Common.{◌&&◌, ◌||◌, if◌then◌else◌, slice_get}, specs.{List.list_all, Prelude.is_some}}
-use Rattle.dali_script.specs.{Records.{Assignment, Has, InBlock}, Findings.asked_of, declared.records.Record.{Record, TheVariants as record_of}}
+use Rattle.dali_script.specs.{Records.{Assignment, Has, InBlock}, Findings.asked_of, declared.records.Record.Record}
 use Rattle.dali_statement.proofs.{Tests.{both, first_of_both, second_of_both, first_of_either, equals, some_is, all_by, all_at}, Own.{AskedSo, Sees, may_put}}
 use Rattle.dali_statement.proofs.Own.{forgets, emptied, puts, reserved_by_it, enrolled_by_it, released_by_it, reserved_by_other, enrolled_by_other}
 use Rattle.dali_statement.{proofs.{Own.{released_by_other, may_reserve, may_enrol, may_release}, Steps.Safe, Whole.{goes, starts}}, specs.Page.{Command, Heard}}
@@ -8,6 +8,7 @@ use Rattle.dali_statement.specs.Page.{Moment, Sent, Destroyed, Reserves, Enrols,
 use Rattle.dali_statement.specs.{Page.{are_apart, may_send, allowed, IsPlan, all_allowed, IsHistory}, Scripts.said_of, Own.{Own, Act, Puts, Loses, Begins}}
 use Rattle.dali_statement.specs.Own.{Keeps, own_after, own_all, IsOwn, AreOwn, IsSender, IsLoser, IsKeeper, IsShown, AreBegins, Follows, IsProgram}
 use Rattle.dali_statement.specs.Own.{rest_allowed, rest_all_allowed}
+use Rattle.dali_script.specs.declared.records.Record.TheVariants as record_of
 
 -- PROGRAMS ON ONE BUS, with other senders that keep the rules: what happens is a history.
 

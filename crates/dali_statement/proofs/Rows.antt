@@ -1,10 +1,11 @@
 use Rattle.std.proofs.Common.{◌≡◌, ◌≢◌, ◌⊎◌, inl, inr, ℕ, ◌+◌, Bool, true, false, refl, sym, ap, ap₂, ◌∙◌, List, [], ◌∷◌, map, Option, Some, None, ◌&&◌, ◌||◌}
 use Rattle.std.{proofs.Common.if◌then◌else◌, specs.List.{list_any, AllByRecursion}}
-use Rattle.dali_special.specs.{Command.{is_send_twice, IsSpelled}, declared.command.Command.{Command as Read, TheVariants as read}}
+use Rattle.dali_special.specs.{Command.{is_send_twice, IsSpelled}, declared.command.Command.Command as Read}
 use Rattle.dali_gear.specs.{Gear.{Gear as Real, draws_a_number, gear_taken, after_frame, answer_to, answer as real_answer}, Row.{reaches, takes as is_taken}}
 use Rattle.dali_gear.specs.{Row.{next_draw, one_after, left_after, row_after, option_cons, answers_of}, declared.row.Reach.{Reach, TheVariants.Everyone}}
 use Rattle.dali_statement.specs.{Gear.{part_seen, command_seen, gear_seen, HasShort}, Page.{Command, Gear, takes, holds, answer, QueryShort, QueryRandom, Byte}}
 use Rattle.dali_statement.{specs.Page.{Destroyed, befalls, gear_after, hears}, proofs.{Gear.{step, pair, query, random}, Tests.equals}}
+use Rattle.dali_special.specs.declared.command.Command.TheVariants as read
 
 -- A ROW OF GEAR takes frames, and is heard, as the page says.
 

@@ -1,14 +1,15 @@
 use Rattle.std.proofs.Common.{◌≡◌, ℕ, ◌+◌, ◌*◌, ◌/◌, ◌%◌, Bool, true, false, refl, sym, ap, subst, ◌∙◌, arith, List, [], ◌∷◌, ◌++◌, map, Option, Some, None}
 use Rattle.std.proofs.Common.{◌==◌, ◌&&◌, if◌then◌else◌, option_map, nat_lt}
-use Rattle.dali_frame.specs.{Random.value_of, Short.short_of, declared.frames.{Answer.{Answer, TheVariants as answer}, Forward.Forward}}
-use Rattle.dali_frame.specs.declared.numbers.SearchAddress.SearchAddress
-use Rattle.dali_special.specs.{Command.{command_of, MASK}, declared.command.Command.{Command as Read, TheVariants as read}}
+use Rattle.dali_frame.specs.{Random.value_of, Short.short_of, declared.{frames.{Answer.Answer, Forward.Forward}, numbers.SearchAddress.SearchAddress}}
+use Rattle.dali_special.specs.{Command.{command_of, MASK}, declared.command.Command.Command as Read}
 use Rattle.dali_script.specs.{Findings.{search_after, at_power_on, search_from, search_of}, Records.{Assignment, Has}, Scripts.{Step, sends, is_asking}}
 use Rattle.dali_script.specs.Scripts.{AreAsking, Script, Open, Call, Draw, Probe, Hunt, Look, Give, PassOver, Resolve, Close, ArcPower, steps, IsHeard, MaySend}
 use Rattle.dali_script.specs.{Scripts.{IsFront, Lawful}, declared.{block.Block.Block, trace.Entry.Entry}}
 use Rattle.dali_statement.{proofs.{Tests.{both, first_of_both, equal, equals, holds_by, some_is}, One.{may_longer, tells_longer}}, specs.Gear.command_seen}
 use Rattle.dali_statement.specs.Page.{Part, High, Middle, Low, byte, Command, Search, QueryShort, code, holds, Heard, Byte, Site, number_sent, is_vacant, tells}
 use Rattle.dali_statement.specs.{Page.may_send, Scripts.{heard_seen, entry_seen, said_on, said_of}}
+use Rattle.dali_frame.specs.declared.frames.Answer.TheVariants as answer
+use Rattle.dali_special.specs.declared.command.Command.TheVariants as read
 
 -- THE SCRIPTS KEEP RULES 1 AND 2, and QUERY SHORT ADDRESS is sent under a whole number.
 

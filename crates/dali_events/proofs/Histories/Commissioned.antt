@@ -1,10 +1,11 @@
 use Rattle.std.proofs.Common.{◌≡◌, ℕ, ◌<◌, ◌≤◌, List, [], ◌∷◌, ◌++◌, Some, refl, inl, inr, lit<, arith}
 use Rattle.dali_frame.specs.{Random.MASK24, declared.frames.{Answer.{Answer, TheVariants.Silence}, Forward.Forward}}
 use Rattle.dali_special.specs.Command.{command_of, frame}
-use Rattle.dali_script.specs.{Records.{Has, InBlock}, Stages.stage_of, declared.{trace.Entry.Entry, orders.Input.TheVariants as input}}
+use Rattle.dali_script.specs.{Records.{Has, InBlock}, Stages.stage_of, declared.trace.Entry.Entry}
 use Rattle.dali_events.specs.{Plan.{Plan, IsPlan, block_at}, Runs.{after, AllAllowed}, Searching.{SearchesAll, NobodyAnswers, up_to_compare, sent_event}}
 use Rattle.dali_events.{specs.{World.{gear_at, start}, declared.event.Event.Event}, proofs.Histories.Openings.{first_block, at_123456, query, visit}}
 use Rattle.dali_events.proofs.{Histories.Tested.all_allowed_by, Invariant.Growing.leave_none, Plans.none_used}
+use Rattle.dali_script.specs.declared.orders.Input.TheVariants as input
 
 -- A WHOLE RUN: one gear and one controller. An opening, a number that is reserved, an address that is given, and at last a
 -- COMPARE under FFFFFE that nobody answers. It shows that the laws speak of something.

@@ -4,9 +4,11 @@ use Rattle.dali_special.specs.{Command.{command_of, frame}, declared.command.Com
 use Rattle.dali_gear.specs.{Gear.{Gear, search_mask}, declared.state.InitialisationState.TheVariants.{Disabled, Enabled}}
 use Rattle.dali_arbiter.specs.Arbiter.{request_of, idle}
 use Rattle.dali_script.specs.{Scripts.{Open, Look}, Stages.stage_of, declared.{finding.Finding.TheVariants.Queried, orders.Order.TheVariants.{Put, Commit}}}
-use Rattle.dali_script.specs.declared.{orders.Input.TheVariants as input, records.Record.TheVariants.{Reserve, Release}}
+use Rattle.dali_script.specs.declared.records.Record.TheVariants.{Reserve, Release}
 use Rattle.dali_events.specs.{Happens.happens, Plan.Plan, Runs.{after_all, AllAllowed}, World.{World, gear_at, controller_at, controller_begun, start}}
-use Rattle.dali_events.{specs.declared.event.Event.{Event, TheVariants as event}, proofs.Histories.Openings.{first_block, second_block, at_123456}}
+use Rattle.dali_events.{specs.declared.event.Event.Event, proofs.Histories.Openings.{first_block, second_block, at_123456}}
+use Rattle.dali_script.specs.declared.orders.Input.TheVariants as input
+use Rattle.dali_events.specs.declared.event.Event.TheVariants as event
 
 -- SHORT HISTORIES, EACH WITH THE WORLD THAT THE RULES GIVE. They are proved by computing the definitions.
 

@@ -1,12 +1,14 @@
 use Rattle.std.proofs.Common.{◌≡◌, ℕ, true, List, [], ◌∷◌, ◌++◌, Some, None, refl, inl, lit<}
 use Rattle.dali_frame.specs.declared.frames.Answer.TheVariants.{Silence, Byte}
-use Rattle.dali_special.specs.Command.command_of
+use Rattle.dali_special.specs.Command.{command_of}
 use Rattle.dali_script.specs.{Findings.assigned, Records.MayAdd, Stages.stage_of, declared.{finding.Finding.{Finding, TheVariants.Queried}, orders.Input.Input}}
-use Rattle.dali_script.specs.declared.{orders.{Input.TheVariants as input, Order.TheVariants.Commit}, records.Record.TheVariants.Release}
+use Rattle.dali_script.specs.declared.{orders.Order.TheVariants.Commit, records.Record.TheVariants.Release}
 use Rattle.dali_events.specs.{Allowed.{Allowed, IsUp, IsDue}, Happens.{happens, controller_informed}, Plan.Plan, Promise.KeepsPromiseNow, Runs.after}
-use Rattle.dali_events.specs.{World.{World, controller_at, gear_at, start}, declared.event.Event.{Event, TheVariants as event}}
-use Rattle.dali_events.proofs.Histories.{Openings.{first_block, at_123456, at_0abcde, query, opening, visit, two_gear}, Tested.{is_allowed, allowed_by, EachIs}}
-use Rattle.dali_events.proofs.Histories.Tested.{after_each, each_passes, each_is_by, each_is_after}
+use Rattle.dali_events.{specs.{World.{World, controller_at, gear_at, start}, declared.event.Event.Event}, proofs.Histories.Openings.{first_block, at_123456}}
+use Rattle.dali_events.proofs.Histories.{Openings.{at_0abcde, query, opening, visit, two_gear}, Tested.{is_allowed, allowed_by, EachIs, after_each}}
+use Rattle.dali_events.proofs.Histories.Tested.{each_passes, each_is_by, each_is_after}
+use Rattle.dali_script.specs.declared.orders.Input.TheVariants as input
+use Rattle.dali_events.specs.declared.event.Event.TheVariants as event
 
 -- THE OTHER ADDRESS MATTERS. A variant of the rules, in which a controller may also release what it has reserved for a gear that
 -- has this address; and a list of events that it allows, in which two gear store one address.

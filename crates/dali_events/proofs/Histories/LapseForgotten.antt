@@ -1,14 +1,15 @@
 use Rattle.std.proofs.Common.{◌≡◌, ◌⊎◌, ℕ, Bool, true, false, List, [], ◌∷◌, ◌++◌, Option, Some, None, refl, inl, inr, lit<, lit≤, not, ◌&&◌, if◌then◌else◌}
 use Rattle.dali_frame.specs.declared.frames.{Answer.{Answer, TheVariants.Silence}, Forward.Forward}
-use Rattle.dali_special.specs.Command.command_of
+use Rattle.dali_special.specs.Command.{command_of}
 use Rattle.dali_gear.specs.{Row.answers_of, declared.row.Reach.TheVariants.Everyone}
-use Rattle.dali_arbiter.specs.Arbiter.owns
-use Rattle.dali_script.specs.{Scripts.{Lawful, IsFirst, Open}, Stages.stage_of, declared.{trace.Entry.Entry, orders.Input.TheVariants as input}}
-use Rattle.dali_script.proofs.Giving.{first_of_both, second_of_both}
+use Rattle.dali_arbiter.specs.Arbiter.{owns}
+use Rattle.dali_script.{specs.{Scripts.{Lawful, IsFirst, Open}, Stages.stage_of, declared.trace.Entry.Entry}, proofs.Giving.{first_of_both, second_of_both}}
 use Rattle.dali_events.specs.{Allowed.{Allowed, IsUp, MaySend, HasDraws, Hears}, Happens.{happens, entry, goes_on, sent_by, told_sent, taken_by, trace_sent}}
 use Rattle.dali_events.specs.{Plan.Plan, Promise.KeepsGifts, World.{World, controller_at, gear_at, controllers_changed, start}, declared.event.Event.Event}
-use Rattle.dali_events.{specs.declared.event.Event.TheVariants as event, proofs.Histories.Openings.{first_block, second_block, at_123456, silent, opening}}
-use Rattle.dali_events.proofs.Histories.{Openings.{visit, two_numbers}, Tested.{is_allowed, allowed_by, EachIs, after_each, each_is_by, each_is_after}}
+use Rattle.dali_events.proofs.Histories.{Openings.{first_block, second_block, at_123456, silent, opening, visit, two_numbers}, Tested.{is_allowed, allowed_by}}
+use Rattle.dali_events.proofs.Histories.Tested.{EachIs, after_each, each_is_by, each_is_after}
+use Rattle.dali_script.specs.declared.orders.Input.TheVariants as input
+use Rattle.dali_events.specs.declared.event.Event.TheVariants as event
 
 -- A LAPSE MATTERS. A variant of the rules in which nobody owns the bus after a lapse, others may begin, and the old owner may
 -- still go on with its trace; and a list of events that it allows, in which a gear with a short address draws another number.

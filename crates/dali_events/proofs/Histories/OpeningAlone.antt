@@ -3,11 +3,13 @@ use Rattle.dali_frame.specs.declared.frames.{Answer.{Answer, TheVariants.Silence
 use Rattle.dali_special.specs.{Command.command_of, declared.command.{Command.{Command, TheVariants.{Initialise, Randomise}}, Target.TheVariants.Unaddressed}}
 use Rattle.dali_gear.specs.{Row.answers_of, declared.row.Reach.TheVariants.Everyone}
 use Rattle.dali_script.specs.{Commands.is_initialise, Records.Assignment, Scripts.{Step, sends, IsFront, Lawful}, Stages.stage_of, declared.block.Block.Block}
-use Rattle.dali_script.{specs.declared.{trace.Entry.Entry, orders.Input.TheVariants as input}, proofs.Firsts.first_for_all}
+use Rattle.dali_script.{specs.declared.trace.Entry.Entry, proofs.Firsts.first_for_all}
 use Rattle.dali_events.specs.{Allowed.{Allowed, IsUp, MaySend, HasDraws, Hears}, Happens.{happens, trace_running, entry, goes_on, sent_by, told_sent, taken_by}}
 use Rattle.dali_events.specs.{Plan.Plan, Promise.KeepsGifts, World.{World, controller_at, gear_at, controllers_changed, start}, declared.event.Event.Event}
-use Rattle.dali_events.{specs.declared.event.Event.TheVariants as event, proofs.Histories.Openings.{first_block, at_123456, silent, opening, visit}}
-use Rattle.dali_events.proofs.Histories.{Openings.two_numbers, Tested.{is_allowed, allowed_by, EachIs, after_each, each_is_by, each_is_after}}
+use Rattle.dali_events.proofs.Histories.{Openings.{first_block, at_123456, silent, opening, visit, two_numbers}, Tested.{is_allowed, allowed_by, EachIs}}
+use Rattle.dali_events.proofs.Histories.Tested.{after_each, each_is_by, each_is_after}
+use Rattle.dali_script.specs.declared.orders.Input.TheVariants as input
+use Rattle.dali_events.specs.declared.event.Event.TheVariants as event
 
 -- TERMINATE MATTERS. A variant of the rules, and a list of events that it allows, in which a gear with a short address draws
 -- another number.

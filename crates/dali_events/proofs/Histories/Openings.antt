@@ -1,9 +1,10 @@
 use Rattle.std.proofs.Common.{◌≡◌, ℕ, List, [], ◌∷◌, ◌++◌, arith}
 use Rattle.dali_frame.specs.{Random.value_of, Short.code_of, declared.{frames.Answer.TheVariants.{Silence, Byte}, numbers.SearchAddress.SearchAddress}}
-use Rattle.dali_special.specs.Command.frame
-use Rattle.dali_script.specs.declared.{block.Block.Block, orders.{Input.{Input, TheVariants as input}, Order.TheVariants.{Put, Commit}}}
-use Rattle.dali_script.specs.declared.records.Record.TheVariants.Reserve
-use Rattle.dali_events.specs.declared.event.Event.{Event, TheVariants as event}
+use Rattle.dali_special.specs.Command.{frame}
+use Rattle.dali_script.specs.declared.{block.Block.Block, orders.{Input.Input, Order.TheVariants.{Put, Commit}}, records.Record.TheVariants.Reserve}
+use Rattle.dali_events.specs.declared.event.Event.{Event}
+use Rattle.dali_script.specs.declared.orders.Input.TheVariants as input
+use Rattle.dali_events.specs.declared.event.Event.TheVariants as event
 
 -- HOW THE HISTORIES BEGIN: the blocks of two controllers, the numbers of two gear, an opening, and a visit.
 

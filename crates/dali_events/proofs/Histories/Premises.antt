@@ -1,11 +1,13 @@
 use Rattle.std.proofs.Common.{◌≡◌, List, [], ◌∷◌, ◌++◌, refl, inl, lit<, Some}
-use Rattle.dali_frame.specs.declared.frames.Answer.TheVariants.Silence
+use Rattle.dali_frame.specs.declared.frames.Answer.TheVariants.{Silence}
 use Rattle.dali_special.specs.Command.{command_of, frame}
-use Rattle.dali_gear.specs.Gear.fresh
-use Rattle.dali_script.specs.{Stages.stage_of, declared.orders.Input.TheVariants as input}
-use Rattle.dali_events.specs.{Plan.Plan, Promise.{KeepsPromiseNow, IsSafe}, Runs.{after, after_all, AllAllowed}, World.{World, gear_at, start}}
-use Rattle.dali_events.{specs.declared.event.Event.{Event, TheVariants as event}, proofs.Histories.Openings.{first_block, at_123456, at_0abcde, up_to_draw}}
-use Rattle.dali_events.proofs.Histories.{Openings.{opening, visit, two_gear}, Tested.all_allowed_by}
+use Rattle.dali_gear.specs.Gear.{fresh}
+use Rattle.dali_script.specs.Stages.{stage_of}
+use Rattle.dali_script.specs.declared.orders.Input.TheVariants as input
+use Rattle.dali_events.specs.{Plan.Plan, Promise.KeepsPromiseNow, Promise.IsSafe, Runs.after, Runs.after_all, Runs.AllAllowed, World.World, World.gear_at}
+use Rattle.dali_events.{specs.World.start, specs.declared.event.Event.Event, proofs.Histories.Openings.first_block, proofs.Histories.Openings.at_123456}
+use Rattle.dali_events.proofs.Histories.{Openings.at_0abcde, Openings.up_to_draw, Openings.opening, Openings.visit, Openings.two_gear, Tested.all_allowed_by}
+use Rattle.dali_events.specs.declared.event.Event.TheVariants as event
 
 -- PLAN AND FACTORY MATTER. Two plans that are refused, and a gear that does not come from the factory; each with a list of
 -- events that are all allowed, and with an address that two gear hold in the end.

@@ -1,15 +1,16 @@
 use Rattle.std.proofs.Common.{◌≡◌, ◌⊎◌, inl, inr, ℕ, ◌<◌, ◌≤◌, Bool, true, false, List, [], ◌∷◌, ◌++◌, length, Option, Some, None, is_none, refl, ap, arith}
 use Rattle.std.{proofs.{Common.{◌==◌, ◌&&◌, not, if◌then◌else◌, nat_lt, nat_le}, lemmas.Bool.Decides.nat_tests}, specs.List.AllByRecursion}
 use Rattle.dali_frame.specs.{Priority.{FIRST, LATER}, Random.MASK24, declared.frames.{Answer.{Answer, TheVariants.{Silence, Byte, Damaged}}, Forward.Forward}}
-use Rattle.dali_special.specs.Command.command_of
+use Rattle.dali_special.specs.Command.{command_of}
 use Rattle.dali_gear.specs.{Row.{draws_needed, answers_of}, declared.row.Reach.{Reach, TheVariants.{Everyone, Only}}}
-use Rattle.dali_arbiter.specs.Arbiter.owns
+use Rattle.dali_arbiter.specs.Arbiter.{owns}
 use Rattle.dali_script.specs.{Records.{Assignment, Kept, InBlock, IsFresh}, Scripts.{Lawful, IsFirst}, Stages.{stage_of, follows, in_block}}
-use Rattle.dali_script.specs.declared.{block.Block.Block, orders.{Input.{Input, TheVariants as input}, Order.{Order, TheVariants.{Put, Commit, Done}}}}
-use Rattle.dali_script.{specs.declared.{records.Record.{Record, TheVariants.Reserve}, trace.Entry.Entry}, proofs.Giving.{first_of_both, second_of_both}}
+use Rattle.dali_script.specs.declared.{block.Block.Block, orders.{Input.Input, Order.{Order, TheVariants.{Put, Commit, Done}}}, records.Record.Record}
+use Rattle.dali_script.{specs.declared.{records.Record.TheVariants.Reserve, trace.Entry.Entry}, proofs.Giving.{first_of_both, second_of_both}}
 use Rattle.dali_script.proofs.Transactions.{equal, lawful_follows, follows_from_test}
 use Rattle.dali_events.specs.{Allowed.{Allowed, IsUp, IsDown, MaySend, HasDraws, Hears, IsCommit, IsDue, MayCommit, MayPut, MayOrder}, Happens.happens}
 use Rattle.dali_events.specs.{Happens.controller_informed, Runs.AllAllowed, World.{World, Controller, controller_at}, declared.event.Event.Event}
+use Rattle.dali_script.specs.declared.orders.Input.TheVariants as input
 use Rattle.dali_events.specs.declared.event.Event.TheVariants as event
 
 -- WHETHER AN EVENT IS ALLOWED, AS A TEST: what passes it is allowed. So a history is shown to be allowed by computing. The test

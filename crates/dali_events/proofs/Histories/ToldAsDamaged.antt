@@ -1,12 +1,13 @@
 use Rattle.std.proofs.Common.{◌≡◌, ℕ, Bool, true, List, [], ◌∷◌, ◌++◌, map, Some, None, refl, lit<, arith, ◌&&◌}
 use Rattle.dali_frame.specs.{Random.value_of, declared.frames.Answer.TheVariants.Silence}
 use Rattle.dali_special.specs.{Command.{command_of, frame}, declared.command.{Command.TheVariants.Initialise, Target.TheVariants.Unaddressed}}
-use Rattle.dali_script.specs.{Stages.stage_of, declared.orders.{Order.TheVariants.{Put, Commit}, Input.TheVariants as input}}
-use Rattle.dali_script.{specs.declared.records.Record.TheVariants.Reserve, proofs.Giving.{first_of_both, second_of_both}}
+use Rattle.dali_script.specs.{Stages.stage_of, declared.{orders.Order.TheVariants.{Put, Commit}, records.Record.TheVariants.Reserve}}
+use Rattle.dali_script.proofs.Giving.{first_of_both, second_of_both}
 use Rattle.dali_events.specs.{Allowed.{Allowed, IsDestroyed}, Plan.Plan, Promise.KeepsPromiseNow, Runs.after, Telling.{Happening, rightly, as_damaged}}
 use Rattle.dali_events.specs.{Telling.{happened, AllMayHappen, after_happened, all_told}, World.{World, gear_at, start}}
-use Rattle.dali_events.{specs.declared.event.Event.TheVariants as event, proofs.Histories.Openings.{first_block, second_block, at_123456, silent, query}}
-use Rattle.dali_events.proofs.Histories.{Openings.{opening, two_gear}, Tested.{is_allowed, allowed_by}}
+use Rattle.dali_events.proofs.Histories.{Openings.{first_block, second_block, at_123456, silent, query, opening, two_gear}, Tested.{is_allowed, allowed_by}}
+use Rattle.dali_script.specs.declared.orders.Input.TheVariants as input
+use Rattle.dali_events.specs.declared.event.Event.TheVariants as event
 
 -- A QUESTION THAT WAS DESTROYED, and told as damaged: the half pair that it leaves. And why no other frame is told so: two histories
 -- in which one is.

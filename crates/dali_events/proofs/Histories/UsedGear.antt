@@ -1,11 +1,12 @@
 use Rattle.std.proofs.Common.{◌≡◌, true, false, List, [], ◌∷◌, ◌++◌, Some, refl, lit<}
 use Rattle.dali_frame.specs.declared.frames.{Answer.TheVariants.{Silence, Byte}, Forward.Forward}
 use Rattle.dali_special.specs.Command.{command_of, frame}
-use Rattle.dali_script.specs.{Stages.stage_of, declared.orders.{End.TheVariants.GaveUp, Order.TheVariants.{Put, Commit, Done}, Input.TheVariants as input}}
-use Rattle.dali_script.specs.declared.records.Record.TheVariants.Reserve
+use Rattle.dali_script.specs.{Stages.stage_of, declared.orders.{End.TheVariants.GaveUp, Order.TheVariants.{Put, Commit, Done}}}
+use Rattle.dali_script.specs.declared.records.Record.TheVariants.{Reserve}
 use Rattle.dali_events.specs.{Plan.Plan, Promise.KeepsPromiseNow, Runs.{after, AllAllowed}, World.{gear_at, start}, declared.event.Event.Event}
-use Rattle.dali_events.{specs.declared.event.Event.TheVariants as event, proofs.Histories.Openings.{first_block, at_123456, silent, query, opening, visit}}
-use Rattle.dali_events.proofs.Histories.{Openings.two_gear, Tested.all_allowed_by}
+use Rattle.dali_events.proofs.Histories.{Openings.{first_block, at_123456, silent, query, opening, visit, two_gear}, Tested.all_allowed_by}
+use Rattle.dali_script.specs.declared.orders.Input.TheVariants as input
+use Rattle.dali_events.specs.declared.event.Event.TheVariants as event
 
 -- WHAT A SURVEY CANNOT SEE, AND WHAT IT MUST HEED. Two histories with a used gear that are allowed, but for the premise that
 -- nobody reserves its address; at the end of each two gear hold one address.

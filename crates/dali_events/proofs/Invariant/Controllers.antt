@@ -1,11 +1,13 @@
 use Rattle.std.proofs.Common.{◌≡◌, ℕ, ◌<◌, Bool, true, false, List, refl, ◌∙◌, length, length-set, get_or, Option, Some, None}
-use Rattle.dali_special.specs.Command.command_of
+use Rattle.dali_special.specs.Command.{command_of}
 use Rattle.dali_script.specs.{Findings.{search_of, asked_of, found_by, later}, Records.Kept, declared.{finding.Finding.Finding, orders.Input.Input}}
-use Rattle.dali_script.{specs.declared.{orders.{Input.TheVariants as input, Order.{Order, TheVariants.Commit}}, records.Record.Record}, proofs.Members.Each}
-use Rattle.dali_script.proofs.Members.each_changed
+use Rattle.dali_script.{specs.declared.{orders.Order.{Order, TheVariants.Commit}, records.Record.Record}, proofs.Members.{Each, each_changed}}
 use Rattle.dali_events.specs.{Events.{event_of, whose_step}, Happens.{happens, with_outstanding, controller_informed, controller_acted, trace_running}}
 use Rattle.dali_events.specs.{Happens.{told_sent, told_destroyed, told_lapsed, owner_told, gone_down, come_up}, World.{World, Controller, controller_at}}
-use Rattle.dali_events.specs.{World.nobody, declared.event.{Event.{Event, TheVariants as event}, Outside.{Outside, TheVariants as outside}}}
+use Rattle.dali_events.specs.{World.nobody, declared.event.{Event.Event, Outside.Outside}}
+use Rattle.dali_script.specs.declared.orders.Input.TheVariants as input
+use Rattle.dali_events.specs.declared.event.Event.TheVariants as event
+use Rattle.dali_events.specs.declared.event.Outside.TheVariants as outside
 
 -- what happens from outside is no controller's step
 pub nobodys_step : (x : Outside) → whose_step (event_of x) ≡ None

@@ -1,15 +1,16 @@
 use Rattle.std.proofs.Common.{◌≡◌, ℕ, ◌<◌, ◌⊎◌, inl, inr, Bool, true, false, List, [], ◌∷◌, ◌++◌, refl, sym, ap, subst, length, map, append_assoc, get_or}
 use Rattle.std.proofs.{Common.{replicate, None, if◌then◌else◌}, lemmas.List.map-append}
-use Rattle.dali_frame.specs.Random.MASK24
+use Rattle.dali_frame.specs.Random.{MASK24}
 use Rattle.dali_special.specs.{Command.command_of, declared.command.Command.Command}
 use Rattle.dali_gear.specs.{Gear.{Gear, fresh, draws_a_number, gear_expired, gear_quieted}, Row.{row_after, row_left, drawn_of}, declared.row.Reach.Reach}
 use Rattle.dali_gear.specs.declared.row.Reach.TheVariants.{Everyone, Only}
 use Rattle.dali_script.{specs.Records.{Has, IsOnce}, proofs.{Lists.has_map, Members.{has_left, has_right, has_either, once_front, Each, each_changed}}}
-use Rattle.dali_script.proofs.Members.each_map
+use Rattle.dali_script.proofs.Members.{each_map}
 use Rattle.dali_events.specs.{Happens.{happens, gear_powered, gear_interrupted}, Plan.{Plan, IsPlan, numbers_of}, Runs.{after, after_all, IsRun, AreDrawn}}
-use Rattle.dali_events.specs.{Used.{used_randoms, earlier_draw, with_used}, World.{World, gear_at, start}, declared.event.Event.{Event, TheVariants as event}}
+use Rattle.dali_events.specs.{Used.{used_randoms, earlier_draw, with_used}, World.{World, gear_at, start}, declared.event.Event.Event}
 use Rattle.dali_events.proofs.Invariant.{Starting.{IsUsedOrFresh, row_at, start_count, used_numbers, drawn_at}, Takes.{Moved, stays, goes, moves_at}}
 use Rattle.dali_events.proofs.Invariant.Takes.{row_length, numbers_stay}
+use Rattle.dali_events.specs.declared.event.Event.TheVariants as event
 
 -- gear k has no random address, or drew it
 abbrev pub HasDrawn : List (ℕ × ℕ) → ℕ → Gear → Type 0

@@ -5,8 +5,9 @@ use Rattle.dali_script.{specs.declared.records.Record.TheVariants.{Reserve, Enro
 use Rattle.dali_script.proofs.{Lists.reserved_fits, Members.Each}
 use Rattle.dali_events.specs.{Allowed.{Allowed, MayOrder, MayCommit}, Happens.{happens, with_outstanding, controller_informed}, Laws.KeepsRecords, Plan.Plan}
 use Rattle.dali_events.specs.{Plan.{IsPlan, block_at, no_block}, World.{World, Controller, controller_at, nobody, controller_begun, start}}
-use Rattle.dali_events.{specs.declared.event.Event.{Event, TheVariants as event}, proofs.Invariant.Controllers.{Property, Stands, Of, AddsOrder, Adds}}
-use Rattle.dali_events.proofs.Invariant.Controllers.{controllers_step, controllers_count}
+use Rattle.dali_events.{specs.declared.event.Event.Event, proofs.Invariant.Controllers.{Property, Stands, Of, AddsOrder, Adds, controllers_step}}
+use Rattle.dali_events.proofs.Invariant.Controllers.{controllers_count}
+use Rattle.dali_events.specs.declared.event.Event.TheVariants as event
 
 -- RECORDS ARE KEPT, AND AN OUTSTANDING ONE MAY BE ADDED
 pub record IsNewRecord (kept : Kept) (x : Record) : Type 0 where

@@ -1,14 +1,15 @@
 use Rattle.std.proofs.Common.{◌≡◌, ℕ, ◌<◌, ◌⊎◌, inl, inr, Bool, true, false, List, refl, sym, ap, subst, ◌∙◌, arith, Option, Some, None, ◌-◌, ◌&&◌, ◌==◌}
 use Rattle.std.{proofs.{Common.if◌then◌else◌, lemmas.Bool.Decides.nat_tests}, specs.Prelude.unwrap_or}
 use Rattle.dali_frame.specs.{Random.value_of, Short.{code_of, short_of}, declared.frames.Answer.{Answer, TheVariants.{Silence, Byte, Damaged}}}
-use Rattle.dali_frame.specs.declared.numbers.SearchAddress.SearchAddress
+use Rattle.dali_frame.specs.declared.numbers.SearchAddress.{SearchAddress}
 use Rattle.dali_special.specs.{Command.{MASK, program_data, IsSpelled}, declared.command.Command.{Command, TheVariants.{Terminate, Initialise, Randomise}}}
 use Rattle.dali_special.specs.declared.command.Command.TheVariants.{Withdraw, SearchHigh, SearchMiddle, SearchLow, Program, QueryShort, Compare, RandomByte}
 use Rattle.dali_special.{specs.declared.command.{Part.TheVariants.{High, Middle, Low}, Target.TheVariants.Unaddressed}, proofs.Table.short_of_code}
 use Rattle.dali_gear.specs.{Gear.{Gear, is_active, is_found, is_second, concerns, random_after, state_after, short_after, gear_taken, answer}, Row.stored_short}
-use Rattle.dali_gear.specs.declared.state.InitialisationState.TheVariants.Enabled
+use Rattle.dali_gear.specs.declared.state.InitialisationState.TheVariants.{Enabled}
 use Rattle.dali_script.specs.{Records.Assignment, Stages.{Follows, next_stage, hunted, doubted, queried, named, verified, answered, bytes_heard, number_heard}}
-use Rattle.dali_script.specs.{Stages.IsSearched, declared.{block.Block.Block, stage.Stage.{Stage, TheVariants as stage}}}
+use Rattle.dali_script.specs.{Stages.IsSearched, declared.{block.Block.Block, stage.Stage.Stage}}
+use Rattle.dali_script.specs.declared.stage.Stage.TheVariants as stage
 
 -- WHAT A STAGE SAYS OF EACH POWERED GEAR that takes part in the initialisation
 abbrev pub IsActive : Gear → Type 0

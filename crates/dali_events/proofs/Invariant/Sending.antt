@@ -4,15 +4,16 @@ use Rattle.dali_frame.specs.declared.frames.{Answer.Answer, Forward.Forward}
 use Rattle.dali_special.{specs.{Command.{command_of, IsSpelled}, declared.command.Command.Command}, proofs.Table.read_spelled}
 use Rattle.dali_gear.specs.{Gear.{Gear, fresh, gear_expired, gear_quieted}, Row.{takes, row_after, drawn_of, answers_of}, declared.row.Reach.Reach}
 use Rattle.dali_gear.specs.declared.row.Reach.TheVariants.{Everyone, Only}
-use Rattle.dali_arbiter.specs.Arbiter.owns
+use Rattle.dali_arbiter.specs.Arbiter.{owns}
 use Rattle.dali_script.specs.{Records.Assignment, Scripts.Lawful, Stages.{Follows, next_stage, stage_of}, declared.{block.Block.Block, stage.Stage.Stage}}
 use Rattle.dali_script.{specs.declared.trace.Entry.Entry, proofs.{Firsts.first_for_all, Lists.has_map, Members.{Each, each_changed, each_map}}}
 use Rattle.dali_script.proofs.Transactions.{follows_lawful, stage_more, stage_none}
 use Rattle.dali_events.specs.{Allowed.{Allowed, MaySend, Hears}, Happens.{happens, trace_running, entry, goes_on, gear_powered, gear_interrupted}, Plan.Plan}
 use Rattle.dali_events.specs.{Plan.AreUsed, Runs.{after, after_all, AllAllowed}, Used.with_used, World.{World, gear_at, controller_at, start}}
-use Rattle.dali_events.{specs.declared.event.Event.{Event, TheVariants as event}, proofs.Invariant.{Answers.{answers_have, heard_byte}, Known.{Knows, Agrees}}}
-use Rattle.dali_events.proofs.Invariant.{Known.{IsShort, knows_step, knows_inactive, knows_halved, short_taken}, Starting.{IsUsedOrFresh, row_at, start_count}}
-use Rattle.dali_events.proofs.Invariant.Takes.{Moved, stays, goes, moves_at, row_length}
+use Rattle.dali_events.{specs.declared.event.Event.Event, proofs.Invariant.{Answers.{answers_have, heard_byte}, Known.{Knows, Agrees, IsShort, knows_step}}}
+use Rattle.dali_events.proofs.Invariant.{Known.{knows_inactive, knows_halved, short_taken}, Starting.{IsUsedOrFresh, row_at, start_count}, Takes.{Moved, stays}}
+use Rattle.dali_events.proofs.Invariant.Takes.{goes, moves_at, row_length}
+use Rattle.dali_events.specs.declared.event.Event.TheVariants as event
 
 -- A SENDER'S FRAME FOLLOWS the trace that it goes on with
 owner_runs : (o : Option ℕ) (c : ℕ) (t : List Entry) → o ≡ Some c → (if owns o c then t else []) ≡ t

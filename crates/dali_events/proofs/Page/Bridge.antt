@@ -1,14 +1,15 @@
 use Rattle.std.proofs.Common.{◌≡◌, ◌⊎◌, inl, inr, ℕ, ◌<◌, Bool, true, false, refl, sym, ap, subst, ◌∙◌, List, [], ◌∷◌, map, Option, Some, None, length, get_or}
 use Rattle.std.proofs.{Common.{set, length-set, ◌==◌, ◌&&◌, ◌||◌, if◌then◌else◌}, lemmas.List.{get_or-set_same, get_or-set_other}}
-use Rattle.dali_arbiter.specs.Arbiter.owns
+use Rattle.dali_arbiter.specs.Arbiter.{owns}
 use Rattle.dali_script.specs.{Findings.assigned, Records.{Assignment, Kept, Has, with_record}, declared.{finding.Finding.Finding, records.Record.Record}}
-use Rattle.dali_script.{specs.declared.{records.Record.TheVariants as record_of, trace.Entry.Entry}, proofs.{Lists.has_map, Members.{Each, has_either}}}
+use Rattle.dali_script.{specs.declared.trace.Entry.Entry, proofs.{Lists.has_map, Members.{Each, has_either}}}
 use Rattle.dali_statement.proofs.{Tests.{both, second_of_either, first_of_either, equal, equals}, Own.{Sees, forgets, emptied, reserved_by_it, enrolled_by_it}}
 use Rattle.dali_statement.proofs.{Own.{released_by_it, reserved_by_other, enrolled_by_other, released_by_other, may_enrol, may_release}, Steps.told_so}
 use Rattle.dali_statement.specs.{Gear.gear_seen, Own.Own, Page.{Gear, Command, Destroyed, Moment, Reserves, Enrols, Releases, Site, all_allowed, after}}
 use Rattle.dali_statement.specs.Page.{are_apart, happens}
 use Rattle.dali_events.specs.{Laws.KeepsRecords, Page.{plan_seen, IsKeeping}, Plan.{Plan as SitePlan, IsPlan as IsSitePlan}, Used.used_shorts, World.World}
 use Rattle.dali_events.{specs.{World.{Controller, controller_at, nobody}, declared.used.Used.Used}, proofs.Page.Sites.reserve_allowed}
+use Rattle.dali_script.specs.declared.records.Record.TheVariants as record_of
 
 -- A SITE AS THE PAGE SEES IT, by the view of each controller of its own, and a record that is kept.
 

@@ -1,20 +1,23 @@
 use Rattle.std.proofs.Common.{◌≡◌, ◌⊎◌, inl, inr, ℕ, zero, suc, ◌<◌, Bool, true, false, refl, sym, ap, subst, ◌∙◌, List, [], ◌∷◌, map, Option, Some, None}
 use Rattle.std.proofs.Common.{length, get_or, set, length-set, ◌&&◌, if◌then◌else◌}
-use Rattle.dali_frame.specs.declared.frames.Forward.Forward
-use Rattle.dali_special.specs.Command.command_of
+use Rattle.dali_frame.specs.declared.frames.Forward.{Forward}
+use Rattle.dali_special.specs.Command.{command_of}
 use Rattle.dali_gear.specs.Gear.{Gear as Real, fresh, with_power, without_power, gear_expired, gear_quieted}
 use Rattle.dali_arbiter.specs.Arbiter.{Arbiter, owns, bus_freed, bus_muted, bus_lapsed}
-use Rattle.dali_script.specs.{Findings.assigned, Records.{Assignment, Has, Kept}, declared.{finding.Finding.Finding, orders.Input.Input}}
-use Rattle.dali_script.specs.declared.{orders.{Input.TheVariants as input, Order.{Order, TheVariants.{Put, Commit, Done, Halt}}}, records.Record.Record}
-use Rattle.dali_script.{specs.{declared.records.Record.TheVariants as record_of, Scripts.IsFirst}, proofs.{Firsts.first_for_all, Members.{Each, each_changed}}}
+use Rattle.dali_script.specs.{Findings.assigned, Records.{Assignment, Has, Kept}, declared.{finding.Finding.Finding, orders.{Input.Input, Order.Order}}}
+use Rattle.dali_script.specs.{declared.{orders.Order.TheVariants.{Put, Commit, Done, Halt}, records.Record.Record}, Scripts.IsFirst}
+use Rattle.dali_script.proofs.{Firsts.first_for_all, Members.{Each, each_changed}}
 use Rattle.dali_statement.{proofs.{Tests.{both, some_is}, Gear.{power_on, expired}, Own.may_put}, specs.{Gear.{command_seen, gear_seen}, Page.{Gear, Command}}}
 use Rattle.dali_statement.specs.Page.{Moment, Destroyed, Power, Expires, Site, allowed, may_send, befalls, are_apart, after, happens}
 use Rattle.dali_events.specs.{Allowed.{MayOrder, MayCommit, IsCollided}, Happens.{happens as site_after, with_outstanding, kept_after, outstanding_told}}
 use Rattle.dali_events.specs.Happens.{outstanding_after, controller_acted, gives_up, put_after, owner_told, told_lapsed, told_destroyed, gone_down, come_up}
 use Rattle.dali_events.specs.{Happens.{gear_interrupted, controller_informed}, Laws.KeepsRecords, Page.{plan_seen, IsKeeping, IsMoment, kept_by}}
 use Rattle.dali_events.specs.{Plan.{Plan as SitePlan, IsPlan as IsSitePlan}, Runs.LeavesUsed, World.{World, Controller, controller_at, controllers_changed}}
-use Rattle.dali_events.{specs.{World.nobody, declared.{used.Used.Used, event.Event.TheVariants as event}}, proofs.Page.Bridge.{Ordered, own_of, SeenBy, ends}}
-use Rattle.dali_events.proofs.Page.Bridge.{loses, stays, restarts, unordered, Seen, Next, Informed, each_of, uninformed, informed}
+use Rattle.dali_events.{specs.{World.nobody, declared.used.Used.Used}, proofs.Page.Bridge.{Ordered, own_of, SeenBy, ends, loses, stays, restarts, unordered}}
+use Rattle.dali_events.proofs.Page.Bridge.{Seen, Next, Informed, each_of, uninformed, informed}
+use Rattle.dali_script.specs.declared.orders.Input.TheVariants as input
+use Rattle.dali_script.specs.declared.records.Record.TheVariants as record_of
+use Rattle.dali_events.specs.declared.event.Event.TheVariants as event
 
 -- EACH EVENT but frames, as moments of the page.
 

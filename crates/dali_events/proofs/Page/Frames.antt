@@ -1,23 +1,26 @@
 use Rattle.std.proofs.Common.{◌≡◌, ◌⊎◌, length, inl, inr, ℕ, zero, suc, ◌<◌, Bool, true, false, refl, sym, ap, subst, ◌∙◌, List, [], ◌∷◌, ◌++◌, map, Option}
 use Rattle.std.{proofs.Common.{Some, None, length-set, ◌==◌, ◌&&◌, ◌||◌, if◌then◌else◌, IfSome, slice_get}, specs.List.AllByRecursion}
-use Rattle.dali_frame.specs.declared.frames.{Answer.{Answer, TheVariants as answer}, Forward.Forward}
-use Rattle.dali_special.specs.{Command.{command_of, is_send_twice}, declared.command.Command.{Command as Read, TheVariants as read}}
-use Rattle.dali_special.proofs.Table.read_spelled
+use Rattle.dali_frame.specs.declared.frames.{Answer.Answer, Forward.Forward}
+use Rattle.dali_special.{specs.{Command.{command_of, is_send_twice}, declared.command.Command.Command as Read}, proofs.Table.read_spelled}
 use Rattle.dali_gear.specs.{Gear.{Gear as Real, fresh, is_active, is_found}, Row.{row_after, stored_short, answers_of}, declared.gear_set.GearSet.GearSet}
 use Rattle.dali_gear.specs.declared.row.Reach.TheVariants.{Everyone, Only}
-use Rattle.dali_arbiter.specs.Arbiter.bus_sent
+use Rattle.dali_arbiter.specs.Arbiter.{bus_sent}
 use Rattle.dali_script.specs.{Findings.{asked_of, search_of, found_by, assigned, later}, Records.{Assignment, Has}, declared.finding.Finding.Finding}
-use Rattle.dali_script.{specs.declared.{records.Record.{Record, TheVariants as record_of}, trace.Entry.Entry}, proofs.Members.{Each, each_changed}}
+use Rattle.dali_script.{specs.declared.{records.Record.Record, trace.Entry.Entry}, proofs.Members.{Each, each_changed}}
 use Rattle.dali_statement.proofs.{Own.{another, Sees, may_put, forgets, emptied, puts}, Tests.{both, placed, either, first_of_either, equal, equals, some_is}}
 use Rattle.dali_statement.proofs.{Gear.found, Moved.At, One.{IsShort, vacant_by}, Rows.{sent_to_all, reached, heard, of_one, destroyed_one}, Steps.Safe}
 use Rattle.dali_statement.{proofs.Steps.{told_so, IsTrue, told_by, told_true}, specs.{Gear.{command_seen, gear_seen, HasShort}, Own.{Own, told_more}}}
 use Rattle.dali_statement.specs.Page.{byte, Command, Terminate, Initialise, Randomise, Search, Program, QueryShort, QueryRandom, Other, Gear, takes, Nothing}
 use Rattle.dali_statement.specs.Page.{Destroyed, Moment, Sent, Site, allowed, befalls, gear_after, may_miss, may_send, hears, are_apart, tells, happens}
-use Rattle.dali_statement.specs.Scripts.heard_seen
+use Rattle.dali_statement.specs.Scripts.{heard_seen}
 use Rattle.dali_events.specs.{Allowed.{IsUp, MaySend, Hears}, Happens.{happens as site_after, trace_running, entry, goes_on, taken_by, told_sent}}
 use Rattle.dali_events.specs.{Happens.told_destroyed, Page.{plan_seen, IsMoment}, Plan.Plan as SitePlan, World.{World, gear_at, controller_at}}
-use Rattle.dali_events.specs.{World.{controllers_changed, nobody}, declared.{used.Used.Used, event.Event.TheVariants as event}}
-use Rattle.dali_events.proofs.{Invariant.Sending.lawful_of, Page.Bridge.{Ordered, own_of, By, SeenBy, ends, loses, Seen, Next, each_of}}
+use Rattle.dali_events.{specs.{World.{controllers_changed, nobody}, declared.used.Used.Used}, proofs.{Invariant.Sending.lawful_of, Page.Bridge.Ordered}}
+use Rattle.dali_events.proofs.Page.Bridge.{own_of, By, SeenBy, ends, loses, Seen, Next, each_of}
+use Rattle.dali_frame.specs.declared.frames.Answer.TheVariants as answer
+use Rattle.dali_special.specs.declared.command.Command.TheVariants as read
+use Rattle.dali_script.specs.declared.records.Record.TheVariants as record_of
+use Rattle.dali_events.specs.declared.event.Event.TheVariants as event
 
 -- FRAMES OF A SITE, as moments of the page.
 

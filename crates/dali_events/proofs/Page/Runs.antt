@@ -1,17 +1,18 @@
 use Rattle.std.proofs.Common.{◌≡◌, ℕ, ◌<◌, Bool, true, refl, sym, subst, List, [], ◌∷◌, ◌++◌, append_assoc, map, get_or, length, ap, ◌∙◌, Option, None, Some}
 use Rattle.std.proofs.{Common.{◌&&◌, if◌then◌else◌, slice_get}, lemmas.List.{length-map, get_or-map}}
-use Rattle.dali_gear.specs.Gear.fresh
-use Rattle.dali_arbiter.specs.Arbiter.owns
-use Rattle.dali_script.specs.declared.records.Record.{Record, TheVariants as record_of}
+use Rattle.dali_gear.specs.Gear.{fresh}
+use Rattle.dali_arbiter.specs.Arbiter.{owns}
+use Rattle.dali_script.specs.declared.records.Record.{Record}
 use Rattle.dali_statement.proofs.{Tests.{both, first_of_both, equals, second_of_both, mapped_at, at_index, placed}, Own.OnList, Steps.Safe, Whole.starts}
 use Rattle.dali_statement.{proofs.Whole.{safe_after, after_both}, specs.{Gear.gear_seen, Page.{Moment, Sent, Destroyed, Reserves, Enrols, Releases, Power}}}
 use Rattle.dali_statement.specs.Page.{Expires, Plan, Gear, Site, start, all_allowed, are_apart, after, happens}
 use Rattle.dali_events.specs.{Allowed.Allowed, Happens.happens as site_after, Laws.KeepsRecords, Page.{plan_seen, LeadsTo, IsKeeping, kept_by, IsMoment}}
 use Rattle.dali_events.specs.{Page.{gear_all, AreSeenAs, frames_in, frames_by, frames_of}, Plan.{Plan as SitePlan, IsPlan as IsSitePlan, no_block}}
 use Rattle.dali_events.specs.{Promise.HoldsShort, Runs.{LeavesUsed, after_all}, World.{World, gear_at, controller_at, controller_begun, nobody}}
-use Rattle.dali_events.{specs.{World.start as site_start, declared.event.Event.{Event, TheVariants as event}}, proofs.Page.Bridge.{SeenBy, Seen, Next}}
-use Rattle.dali_events.proofs.Page.{Events.{lapsed, down, power, expires, up, acted, collided, quiet, foreign, offered}, Frames.{sent, destroyed}}
-use Rattle.dali_events.proofs.Page.Sites.plan_is_seen
+use Rattle.dali_events.{specs.{World.start as site_start, declared.event.Event.Event}, proofs.Page.{Bridge.{SeenBy, Seen, Next}, Events.{lapsed, down, power}}}
+use Rattle.dali_events.proofs.Page.{Events.{expires, up, acted, collided, quiet, foreign, offered}, Frames.{sent, destroyed}, Sites.plan_is_seen}
+use Rattle.dali_script.specs.declared.records.Record.TheVariants as record_of
+use Rattle.dali_events.specs.declared.event.Event.TheVariants as event
 
 -- EACH EVENT IS MOMENTS OF THE PAGE, and a run is a history.
 

@@ -1,10 +1,10 @@
 use Rattle.std.proofs.Common.{◌≡◌, ◌⊎◌, inl, inr, ℕ, zero, suc, ◌<◌, ◌+◌, Bool, true, false, refl, sym, ap, subst, ◌∙◌, arith, List, [], ◌∷◌, ◌++◌, map, Option}
 use Rattle.std.{proofs.Common.{Some, None, length, get_or, replicate, ◌==◌, ◌&&◌, not, nat_lt, nat_le, if◌then◌else◌, is_none, slice_get}, specs.List.list_any}
-use Rattle.std.specs.Prelude.unwrap_or
+use Rattle.std.specs.Prelude.{unwrap_or}
 use Rattle.dali_frame.specs.{Random.MASK24, declared.frames.Forward.Forward}
-use Rattle.dali_gear.specs.Gear.fresh
+use Rattle.dali_gear.specs.Gear.{fresh}
 use Rattle.dali_script.specs.{Findings.assigned, Records.{Has, HasAddress, InBlock}, declared.{block.Block.Block, finding.Finding.Finding}}
-use Rattle.dali_script.{specs.declared.records.Record.TheVariants as record_of, proofs.{Lists.has_map, Members.{same_member, mapped_from}}}
+use Rattle.dali_script.proofs.{Lists.has_map, Members.{same_member, mapped_from}}
 use Rattle.dali_statement.proofs.Tests.{both, first_of_both, second_of_both, equal, equals, some_is, holds_is, holds_by, any_at, mapped_at, differ_by, all_by}
 use Rattle.dali_statement.{proofs.Tests.{below_by, within_by, within_is, at_index}, specs.{Gear.gear_seen, Page.{Gear, holds, Site, are_apart, IsPlan}}}
 use Rattle.dali_statement.specs.Page.{is_told, allowed, Reserves, Enrols, Releases}
@@ -12,6 +12,7 @@ use Rattle.dali_events.specs.{Allowed.{MayCommit, MaySend}, Page.{owner_in, plan
 use Rattle.dali_events.specs.{Runs.{after as after_log, IsRun, AreDrawn, IsDrawer}, Used.{with_used, used_shorts, earlier_gift}, World.{World, Controller}}
 use Rattle.dali_events.{specs.{World.{gear_at, start as site_start}, declared.event.Event.Event}, proofs.Invariant.{Arrived.gifts_start, Drawn.drawn_in_front}}
 use Rattle.dali_events.proofs.Invariant.Gifts.{IsOwned, one_holder}
+use Rattle.dali_script.specs.declared.records.Record.TheVariants as record_of
 
 -- SITES: their numbers, their plans and their records.
 

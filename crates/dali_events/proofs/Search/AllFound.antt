@@ -4,19 +4,20 @@ use Rattle.dali_frame.specs.{Random.{value_of, MASK24}, declared.{frames.{Answer
 use Rattle.dali_special.specs.{Command.command_of, declared.command.Command.{Command, TheVariants.{Terminate, Randomise, Compare, Withdraw}}}
 use Rattle.dali_gear.specs.{Gear.{Gear, fresh, YES, draws_a_number, answer, short_after}, Row.{takes, row_after, drawn_of, draws_needed, answers_of}}
 use Rattle.dali_gear.specs.declared.{row.Reach.{Reach, TheVariants.{Everyone, Only}}, state.InitialisationState.TheVariants.Enabled}
-use Rattle.dali_arbiter.specs.Arbiter.owns
+use Rattle.dali_arbiter.specs.Arbiter.{owns}
 use Rattle.dali_script.specs.{Findings.search_of, Records.{Assignment, Has}, Scripts.{Open, steps, IsFront}, Stages.{Follows, next_stage, stage_of, IsSearched}}
-use Rattle.dali_script.{specs.declared.{block.Block.Block, stage.Stage.{Stage, TheVariants as stage}, trace.Entry.Entry}, proofs.Firsts.terminate_first}
-use Rattle.dali_script.proofs.{Found.searched_lawful, Members.{Each, each_map, has_right}, Transactions.{stage_more, stage_none}}
+use Rattle.dali_script.{specs.declared.{block.Block.Block, stage.Stage.Stage, trace.Entry.Entry}, proofs.{Firsts.terminate_first, Found.searched_lawful}}
+use Rattle.dali_script.proofs.{Members.{Each, each_map, has_right}, Transactions.{stage_more, stage_none}}
 use Rattle.dali_events.specs.{Allowed.{Allowed, MaySend}, Happens.{happens, trace_running, entry, goes_on, gear_interrupted}, Plan.{Plan, IsPlan, numbers_of}}
 use Rattle.dali_events.specs.{Runs.{after, after_all, AllAllowed}, Searching.{EachPowered, IsCalm, AreCalm, CompletesOpening, HIGHEST, sent_event}}
 use Rattle.dali_events.specs.Searching.{up_to_compare, SearchesAll, NobodyAnswers, number_at, IsHalfway, BreaksNoPair, BreakNoPair, HasShort, PassesOver}
 use Rattle.dali_events.specs.{Searching.{PassesNobody, PassNobody}, World.{World, gear_at, controller_at, start}, declared.event.Event.Event}
-use Rattle.dali_events.{specs.declared.event.Event.TheVariants as event, proofs.Invariant.{Answers.answers_have, Drawn.{Draws, draws_step, draws_all}}}
-use Rattle.dali_events.proofs.Invariant.{Drawn.{draws_after, are_drawn}, Growing.{after_both, allowed_front, allowed_rest}, Known.{Knows, IsActive}}
-use Rattle.dali_events.proofs.Invariant.Sending.{IsKnown, known_step, known_all, known_after, lawful_of, follows_of, knows_running, powered_takes}
-use Rattle.dali_events.proofs.{Invariant.Takes.{Moved, stays, goes, moves_at, row_length}, Search.Opening.{draws_at, Opens, opens_step, Ready, drawn_ready}}
-use Rattle.dali_events.proofs.Search.Opening.ready_step
+use Rattle.dali_events.proofs.Invariant.{Answers.answers_have, Drawn.{Draws, draws_step, draws_all, draws_after, are_drawn}, Growing.after_both}
+use Rattle.dali_events.proofs.Invariant.{Growing.{allowed_front, allowed_rest}, Known.{Knows, IsActive}, Sending.{IsKnown, known_step, known_all, known_after}}
+use Rattle.dali_events.proofs.Invariant.{Sending.{lawful_of, follows_of, knows_running, powered_takes}, Takes.{Moved, stays, goes, moves_at, row_length}}
+use Rattle.dali_events.proofs.Search.Opening.{draws_at, Opens, opens_step, Ready, drawn_ready, ready_step}
+use Rattle.dali_script.specs.declared.stage.Stage.TheVariants as stage
+use Rattle.dali_events.specs.declared.event.Event.TheVariants as event
 
 -- THE OPENING
 abbrev OpensAll : Stage → List Gear → Type 0

@@ -1,21 +1,22 @@
 use Rattle.std.proofs.Common.{◌≡◌, ℕ, ◌<◌, ◌≤◌, ◌⊎◌, inl, inr, Bool, true, false, List, [], ◌∷◌, ◌++◌, refl, sym, ap, subst, ◌∙◌, arith, length, get_or, Option}
 use Rattle.std.proofs.{Common.{Some, None, append_assoc, lit≤, nat_le, ◌&&◌, ◌-◌, ◌==◌, if◌then◌else◌}, lemmas.Bool.Decides.nat_tests}
-use Rattle.std.specs.Prelude.unwrap_or
+use Rattle.std.specs.Prelude.{unwrap_or}
 use Rattle.dali_frame.specs.{Random.{value_of, MASK24}, declared.frames.{Answer.{Answer, TheVariants.{Silence, Byte, Damaged}}, Forward.Forward}}
-use Rattle.dali_frame.specs.declared.numbers.SearchAddress.SearchAddress
+use Rattle.dali_frame.specs.declared.numbers.SearchAddress.{SearchAddress}
 use Rattle.dali_special.specs.{Command.command_of, declared.command.Command.{Command, TheVariants.{Initialise, Randomise, Compare, SearchHigh, SearchMiddle}}}
 use Rattle.dali_special.specs.declared.command.{Command.TheVariants.SearchLow, Target.TheVariants.Unaddressed}
 use Rattle.dali_gear.specs.{Gear.{Gear, fresh, is_second, concerns, gear_taken, gear_quieted, gear_expired, state_after, half_after, answer, YES}, Row.takes}
 use Rattle.dali_gear.specs.{Row.{row_after, drawn_of}, declared.{row.Reach.TheVariants.Everyone, state.InitialisationState.TheVariants.Enabled}}
 use Rattle.dali_script.specs.{Records.Assignment, Scripts.is_asking, Stages.{Follows, next_stage, hunted, doubted, stage_of}, declared.block.Block.Block}
-use Rattle.dali_script.{specs.declared.{stage.Stage.{Stage, TheVariants as stage}, trace.Entry.Entry}, proofs.Members.{Each, each_changed, each_map}}
-use Rattle.dali_script.proofs.Transactions.{stage_more, asks_hunting}
+use Rattle.dali_script.{specs.declared.{stage.Stage.Stage, trace.Entry.Entry}, proofs.{Members.{Each, each_changed, each_map}, Transactions.stage_more}}
+use Rattle.dali_script.proofs.Transactions.{asks_hunting}
 use Rattle.dali_events.specs.{Allowed.{Allowed, MaySend}, Calling.{Runs, RunsOn, Keeps, KeepsOn, Calls, Attends, IsCalled}, Happens.{happens, trace_running}}
 use Rattle.dali_events.specs.{Happens.{entry, goes_on, gives_up, gear_powered, gear_interrupted}, Plan.Plan, Runs.{after, after_all, AllAllowed, IsRun}}
 use Rattle.dali_events.specs.{Runs.{IsDrawer, AreDrawn}, Searching.sent_event, World.{World, gear_at, controller_at, start}, declared.event.Event.Event}
-use Rattle.dali_events.{specs.declared.event.Event.TheVariants as event, proofs.Invariant.{Drawn.drawn_in_front, Growing.{after_both, allowed_front}}}
-use Rattle.dali_events.proofs.Invariant.{Growing.allowed_rest, Known.Knows, Sending.{IsKnown, known_after, follows_of, powered_takes}, Takes.{Moved, stays}}
-use Rattle.dali_events.proofs.Invariant.Takes.{goes, moves_at, row_length}
+use Rattle.dali_events.proofs.Invariant.{Drawn.drawn_in_front, Growing.{after_both, allowed_front, allowed_rest}, Known.Knows, Sending.{IsKnown, known_after}}
+use Rattle.dali_events.proofs.Invariant.{Sending.{follows_of, powered_takes}, Takes.{Moved, stays, goes, moves_at, row_length}}
+use Rattle.dali_script.specs.declared.stage.Stage.TheVariants as stage
+use Rattle.dali_events.specs.declared.event.Event.TheVariants as event
 
 -- WHO IS CALLED, gear by gear: from the first INITIALISE of a transaction on, at each of its stages.
 

@@ -1,18 +1,20 @@
 use Rattle.std.proofs.Common.{◌≡◌, ℕ, ◌<◌, ◌⊎◌, inl, inr, Bool, true, false, List, [], ◌∷◌, ◌++◌, refl, sym, ap, subst, ◌∙◌, length, get_or, Some, None}
-use Rattle.std.proofs.Common.if◌then◌else◌
+use Rattle.std.proofs.Common.{if◌then◌else◌}
 use Rattle.dali_frame.specs.{Random.value_of, declared.{frames.{Answer.Answer, Forward.Forward}, numbers.SearchAddress.SearchAddress}}
 use Rattle.dali_special.specs.{Command.command_of, declared.command.Command.{Command, TheVariants.{Terminate, Randomise, SearchHigh, RandomByte, Arc}}}
-use Rattle.dali_special.specs.declared.command.Part.TheVariants.High
+use Rattle.dali_special.specs.declared.command.Part.TheVariants.{High}
 use Rattle.dali_gear.specs.{Gear.{Gear, fresh, half_after, gear_expired, gear_quieted}, Row.{takes, row_after, drawn_of}}
-use Rattle.dali_gear.specs.declared.row.Reach.TheVariants.Everyone
+use Rattle.dali_gear.specs.declared.row.Reach.TheVariants.{Everyone}
 use Rattle.dali_script.specs.{Records.Assignment, Scripts.IsFirst, Stages.{Follows, stage_of, IsBeforeDraw}, declared.{block.Block.Block, stage.Stage.Stage}}
-use Rattle.dali_script.{specs.declared.{stage.Stage.TheVariants as stage, trace.Entry.Entry}, proofs.{Firsts.first_for_all, Members.{Each, each_changed}}}
-use Rattle.dali_script.proofs.{Members.each_map, Transactions.{stage_none, follows_lawful, randomise_at}}
+use Rattle.dali_script.{specs.declared.trace.Entry.Entry, proofs.{Firsts.first_for_all, Members.{Each, each_changed, each_map}, Transactions.stage_none}}
+use Rattle.dali_script.proofs.Transactions.{follows_lawful, randomise_at}
 use Rattle.dali_events.specs.{Allowed.{Allowed, MaySend}, Events.frame_in, Happens.{happens, trace_running, entry, goes_on, gear_powered, gear_interrupted}}
 use Rattle.dali_events.specs.{Plan.Plan, Runs.{after, after_all, AllAllowed, IsRun}, Searching.{EachPowered, EachActive, number_at}, World.{World, gear_at}}
-use Rattle.dali_events.{specs.{World.{controller_at, start}, declared.event.Event.{Event, TheVariants as event}}, proofs.Invariant.Growing.after_more}
-use Rattle.dali_events.proofs.Invariant.{Growing.{allowed_front, last_allowed}, Known.{Knows, IsActive, Unnumbered}, Sending.{IsKnown, known_after, lawful_of}}
-use Rattle.dali_events.proofs.Invariant.{Sending.{follows_of, knows_running, powered_takes}, Takes.{Moved, stays, goes, moves_at, row_length}}
+use Rattle.dali_events.{specs.{World.{controller_at, start}, declared.event.Event.Event}, proofs.Invariant.Growing.{after_more, allowed_front, last_allowed}}
+use Rattle.dali_events.proofs.Invariant.{Known.{Knows, IsActive, Unnumbered}, Sending.{IsKnown, known_after, lawful_of, follows_of, knows_running}}
+use Rattle.dali_events.proofs.Invariant.{Sending.powered_takes, Takes.{Moved, stays, goes, moves_at, row_length}}
+use Rattle.dali_script.specs.declared.stage.Stage.TheVariants as stage
+use Rattle.dali_events.specs.declared.event.Event.TheVariants as event
 
 -- NO HALF PAIR AFTER A FIRST FRAME
 abbrev pub Whole : ℕ → Gear → Type 0

@@ -1,11 +1,12 @@
 use Rattle.std.{proofs.Common.{◌≡◌, ℕ, ◌<◌, ◌≤◌, true, false, List, refl, sym, subst, ◌∙◌, length, Option, Some, None}, specs.List.count_by}
-use Rattle.dali_frame.specs.Random.MASK24
+use Rattle.dali_frame.specs.Random.{MASK24}
 use Rattle.dali_special.specs.declared.command.{Command.{Command, TheVariants.{Terminate, Initialise, Randomise}}, Target.TheVariants.Unaddressed}
 use Rattle.dali_gear.specs.{Gear.{Gear, is_active, draws_a_number, gear_taken, state_after, half_after}, Row.{row_after, drawn_of, draws_needed}}
 use Rattle.dali_gear.specs.declared.{row.Reach.TheVariants.Everyone, state.InitialisationState.TheVariants.{Disabled, Enabled}}
-use Rattle.dali_script.specs.{Records.Has, declared.stage.Stage.{Stage, TheVariants as stage}}
+use Rattle.dali_script.specs.{Records.Has, declared.stage.Stage.Stage}
 use Rattle.dali_events.{specs.Wanted.{is_wanted, is_bare, gear_of, OfPowered, IsOpened, NoneNamed}, proofs.Invariant.{Sending.powered_takes, Takes.row_length}}
 use Rattle.dali_events.proofs.Search.{Opening.draws_at, Wanted.{wanted_count, after_at}}
+use Rattle.dali_script.specs.declared.stage.Stage.TheVariants as stage
 
 -- WHAT AN OPENING SAYS of each powered gear: one without short address is ENABLED, and one with it DISABLED
 abbrev pub OpenedBy : Gear → Type 0

@@ -2,12 +2,13 @@ use Rattle.std.proofs.Common.{◌≡◌, ℕ, ◌⊎◌, inl, inr, true, List, [
 use Rattle.std.{proofs.lemmas.Bool.Decides.nat_tests, specs.List.AllByRecursion}
 use Rattle.dali_frame.specs.{Random.{value_of, MASK24}, declared.{frames.Answer.{Answer, TheVariants.Silence}, numbers.SearchAddress.SearchAddress}}
 use Rattle.dali_special.specs.{Command.command_of, declared.command.Command.TheVariants.{Terminate, Initialise, Compare, SearchHigh, SearchMiddle, SearchLow}}
-use Rattle.dali_special.specs.declared.command.Target.TheVariants.Unaddressed
+use Rattle.dali_special.specs.declared.command.Target.TheVariants.{Unaddressed}
 use Rattle.dali_script.specs.{Scripts.IsFront, Stages.stage_of, declared.{orders.{Input.Input, Order.Order}, stage.Stage.{Stage, TheVariants.Terminated}}}
 use Rattle.dali_script.specs.declared.{stage.Stage.TheVariants.{InitialisedOnce, Initialised, WokenHigh, WokenLow, Hunted}, trace.Entry.Entry}
 use Rattle.dali_events.specs.{Calling.{Runs, RunsOn, Calls, Orders, HasCalled, roll_call}, Happens.{happens, trace_running}, Plan.Plan, Runs.{after, after_all}}
-use Rattle.dali_events.specs.{Runs.IsRun, Searching.sent_event, World.{World, start}, declared.event.Event.{Event, TheVariants as event}}
-use Rattle.dali_events.proofs.{Invariant.Growing.{after_both, allowed_front, leaves_front}, Search.{Called.called, Traced.{IsAmong, traced, runs_part}}}
+use Rattle.dali_events.{specs.{Runs.IsRun, Searching.sent_event, World.{World, start}, declared.event.Event.Event}, proofs.Invariant.Growing.after_both}
+use Rattle.dali_events.proofs.{Invariant.Growing.{allowed_front, leaves_front}, Search.{Called.called, Traced.{IsAmong, traced, runs_part}}}
+use Rattle.dali_events.specs.declared.event.Event.TheVariants as event
 
 -- THE ROLL WAS CALLED, AND NOBODY WAS HEARD: from the frames of the transaction to the log.
 

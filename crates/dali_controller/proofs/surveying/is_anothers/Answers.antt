@@ -1,5 +1,6 @@
 use Rattle.std.proofs.Common.{◌∙◌, sym, ap, Some, None, not, ◌==◌, ◌||◌}
-use Rattle.dali_controller.proofs.{Asked.{anothers_none, anothers_some}, Courses.number_is, surveying.is_anothers.Goals as goal}
+use Rattle.dali_controller.proofs.{Asked.anothers_none, Asked.anothers_some, Courses.number_is}
+use Rattle.dali_controller.proofs.surveying.is_anothers.Goals as goal
 
 pub returns-else-has : goal.returns-else-has
 returns-else-has c =

@@ -1,8 +1,9 @@
 use Rattle.std.proofs.Common.{◌≡◌, ◌<◌, ◌+◌, ◌∙◌, arith, sym, ap, subst, refl, true, false, Some}
-use Rattle.dali_controller.{specs.{Course.is_open, Shorts.has_short}, proofs.Asked.{mark_at, open_tested, open_passed, open_found}}
-use Rattle.dali_controller.proofs.surveying.least_open.{Goals as goal, Goals.then-not-reserved-place+then-not-enrolled-place+in_ok-short+else-not-has}
+use Rattle.dali_controller.{specs.Course.is_open, specs.Shorts.has_short, proofs.Asked.mark_at, proofs.Asked.open_tested, proofs.Asked.open_passed}
+use Rattle.dali_controller.proofs.{Asked.open_found, surveying.least_open.Goals.then-not-reserved-place+then-not-enrolled-place+in_ok-short+else-not-has}
 use Rattle.dali_controller.proofs.surveying.least_open.Goals.{else-not-reserved-place, else-not-reserved-place-via-else-not-reserved-place}
-use Rattle.dali_controller.proofs.surveying.least_open.Goals.else-not-reserved-place-via-then-not-reserved-place+else-not-enrolled-place
+use Rattle.dali_controller.proofs.surveying.least_open.Goals.{else-not-reserved-place-via-then-not-reserved-place+else-not-enrolled-place}
+use Rattle.dali_controller.proofs.surveying.least_open.Goals as goal
 
 pub loop-number-preserved : goal.loop-number-preserved
 loop-number-preserved c =

@@ -1,7 +1,8 @@
 use Rattle.std.proofs.Common.{◌≡◌, ◌<◌, ◌∙◌, arith, sym, ap, true, false, not, ◌||◌, slice_index_or}
-use Rattle.dali_controller.{specs.Course.is_asked, proofs.Asked.{mark_at, asked_by, asked_passed, asked_found, short_some}}
-use Rattle.dali_controller.proofs.surveying.next_asked.{Goals as goal, Goals.then-not-enrolled-from-via-then-not-enrolled-from}
-use Rattle.dali_controller.proofs.surveying.next_asked.Goals.then-not-enrolled-from-via-else-not-enrolled-from+then-reserved-from
+use Rattle.dali_controller.{specs.Course.is_asked, proofs.Asked.mark_at, proofs.Asked.asked_by, proofs.Asked.asked_passed}
+use Rattle.dali_controller.proofs.{Asked.asked_found, Asked.short_some, surveying.next_asked.Goals.then-not-enrolled-from-via-then-not-enrolled-from}
+use Rattle.dali_controller.proofs.surveying.next_asked.Goals.{then-not-enrolled-from-via-else-not-enrolled-from+then-reserved-from}
+use Rattle.dali_controller.proofs.surveying.next_asked.Goals as goal
 
 pub loop-address-preserved : goal.loop-address-preserved
 loop-address-preserved c =

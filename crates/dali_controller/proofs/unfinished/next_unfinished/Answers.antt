@@ -1,5 +1,6 @@
 use Rattle.std.proofs.Common.{◌≡◌, ◌<◌, ◌∙◌, sym, arith, Some}
-use Rattle.dali_controller.{specs.Course.unfinished_at, proofs.{Courses.{one_passed, one_found}, unfinished.next_unfinished.Goals as goal}}
+use Rattle.dali_controller.{specs.Course.unfinished_at, proofs.Courses.one_passed, proofs.Courses.one_found}
+use Rattle.dali_controller.proofs.unfinished.next_unfinished.Goals as goal
 
 pub loop-address-preserved : goal.loop-address-preserved
 loop-address-preserved c =

@@ -1,6 +1,7 @@
 use Rattle.std.proofs.Common.{◌∙◌, sym, Some, None}
 use Rattle.dali_script.{specs.Records.HasRandom, proofs.Lists.has_map}
-use Rattle.dali_controller.proofs.{Courses.{number_is, address_is, none_reserved, unfinished_is}, unfinished.unfinished_at.Goals as goal}
+use Rattle.dali_controller.proofs.Courses.{number_is, address_is, none_reserved, unfinished_is}
+use Rattle.dali_controller.proofs.unfinished.unfinished_at.Goals as goal
 
 pub returns-in-None-clause-reserved : goal.returns-in-None-clause-reserved
 returns-in-None-clause-reserved c = has_map (λ q. q.1) c.args.kept.now.reserved (c.args.address, c.in_ok-random.random) c.in_ok-random.ensures.value

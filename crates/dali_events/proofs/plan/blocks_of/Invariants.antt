@@ -1,5 +1,6 @@
 use Rattle.std.{proofs.Common.{◌≡◌, take, drop, map, false}, specs.List.list_any}
-use Rattle.dali_events.{specs.Plan.{block_of, is_misordered}, proofs.plan.blocks_of.Given as goal}
+use Rattle.dali_events.specs.Plan.{block_of, is_misordered}
+use Rattle.dali_events.proofs.plan.blocks_of.Given as goal
 
 abbrev pub invariant-loop-first : goal.invariant-loop-first
 invariant-loop-first l = record {

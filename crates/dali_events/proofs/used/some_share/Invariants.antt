@@ -1,5 +1,6 @@
 use Rattle.std.proofs.Common.{◌≡◌, drop, ◌==◌}
-use Rattle.dali_events.{specs.{Plan.any_pair, Used.mark_of}, proofs.used.some_share.Given as goal}
+use Rattle.dali_events.specs.{Plan.any_pair, Used.mark_of}
+use Rattle.dali_events.proofs.used.some_share.Given as goal
 
 abbrev pub invariant-loop-i : goal.invariant-loop-i
 invariant-loop-i l =

@@ -1,5 +1,6 @@
 use Rattle.dali_statement.proofs.Histories.{others_are_needed, in_step_is_needed, own_destroyed_is_needed, destroyed_is_needed, counted_is_needed}
-use Rattle.dali_statement.proofs.{Histories.as_its_own_is_needed, laws.each_clause_of_lists_is_needed.Goals as goal}
+use Rattle.dali_statement.proofs.Histories.{as_its_own_is_needed}
+use Rattle.dali_statement.proofs.laws.each_clause_of_lists_is_needed.Goals as goal
 
 pub returns : goal.returns
 returns c = record {

@@ -1,5 +1,6 @@
 use Rattle.dali_statement.proofs.Histories.{hearing_is_needed, bytes_are_needed, draws_are_needed, whole_is_needed, one_frame_is_needed, sender_is_needed}
-use Rattle.dali_statement.proofs.{Histories.destroyed_rules_are_needed, laws.each_premise_is_needed.Goals as goal}
+use Rattle.dali_statement.proofs.Histories.{destroyed_rules_are_needed}
+use Rattle.dali_statement.proofs.laws.each_premise_is_needed.Goals as goal
 
 pub returns : goal.returns
 returns c = record {

@@ -1,4 +1,5 @@
-use Rattle.dali_statement.proofs.{Gear.{step, pair, query, random, power_off, power_on, expired, quieted}, laws.gear_are_those_of_the_page.Goals as goal}
+use Rattle.dali_statement.proofs.Gear.{step, pair, query, random, power_off, power_on, expired, quieted}
+use Rattle.dali_statement.proofs.laws.gear_are_those_of_the_page.Goals as goal
 
 pub returns : goal.returns
 returns c = record {

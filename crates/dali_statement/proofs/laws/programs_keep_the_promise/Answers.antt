@@ -1,4 +1,5 @@
-use Rattle.dali_statement.proofs.{Programs.programs_make_a_history, Whole.every_history_keeps_the_promise, laws.programs_keep_the_promise.Goals as goal}
+use Rattle.dali_statement.proofs.{Programs.programs_make_a_history, Whole.every_history_keeps_the_promise}
+use Rattle.dali_statement.proofs.laws.programs_keep_the_promise.Goals as goal
 
 pub returns : goal.returns
 returns c = record {

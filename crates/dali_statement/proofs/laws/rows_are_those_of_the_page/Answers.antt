@@ -1,4 +1,5 @@
-use Rattle.dali_statement.proofs.{Rows.{sent_to_all, reached, heard}, laws.rows_are_those_of_the_page.Goals as goal}
+use Rattle.dali_statement.proofs.Rows.{sent_to_all, reached, heard}
+use Rattle.dali_statement.proofs.laws.rows_are_those_of_the_page.Goals as goal
 
 pub returns : goal.returns
 returns c = record {

@@ -1,6 +1,7 @@
 use Rattle.std.proofs.Common.{ap, sym, ◌∙◌}
 use Rattle.dali_search.specs.Ascending.{ascended, leads_to}
-use Rattle.dali_controller.{specs.{Legs.ascent_on, declared.leg.Leg.Leg}, proofs.{Beginnings.left_asks, state.State.answered.Goals as goal}}
+use Rattle.dali_controller.{specs.Legs.ascent_on, specs.declared.leg.Leg.Leg, proofs.Beginnings.left_asks}
+use Rattle.dali_controller.proofs.state.State.answered.Goals as goal
 
 pub returns-in-Nobody : goal.returns-in-Nobody
 returns-in-Nobody c =

@@ -1,8 +1,9 @@
 use Rattle.std.proofs.Common.{ap₂, ℕ}
-use Rattle.dali_frame.specs.Priority.LATER
-use Rattle.dali_script.specs.declared.orders.Order.TheVariants.Put
-use Rattle.dali_controller.specs.{Course.taking, Orders.machine_ordered_on, States.{course_of, machine_with}, declared.purpose.Purpose.Purpose}
-use Rattle.dali_controller.{specs.declared.purpose.Purpose.TheVariants.Hunting, proofs.{Legs.counted_leg, state.State.ask_on.Goals as goal}}
+use Rattle.dali_frame.specs.Priority.{LATER}
+use Rattle.dali_script.specs.declared.orders.Order.TheVariants.{Put}
+use Rattle.dali_controller.specs.{Course.taking, Orders.machine_ordered_on, States.course_of, States.machine_with, declared.purpose.Purpose.Purpose}
+use Rattle.dali_controller.{specs.declared.purpose.Purpose.TheVariants.Hunting, proofs.Legs.counted_leg}
+use Rattle.dali_controller.proofs.state.State.ask_on.Goals as goal
 
 pub returns-clause-state : goal.returns-clause-state
 returns-clause-state c =

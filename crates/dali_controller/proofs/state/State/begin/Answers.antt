@@ -1,6 +1,7 @@
 use Rattle.std.proofs.Common.{◌∙◌, ap, refl}
-use Rattle.dali_special.specs.Command.frame_of
-use Rattle.dali_controller.{specs.{Course.taking, States.{course_of, machine_with}}, proofs.{Legs.counted_leg, Steps.begun_by, state.State.begin.Goals as goal}}
+use Rattle.dali_special.specs.Command.{frame_of}
+use Rattle.dali_controller.{specs.Course.taking, specs.States.course_of, specs.States.machine_with, proofs.Legs.counted_leg, proofs.Steps.begun_by}
+use Rattle.dali_controller.proofs.state.State.begin.Goals as goal
 
 pub returns : goal.returns
 returns c =

@@ -1,6 +1,7 @@
 use Rattle.std.proofs.Common.{ap, Some, ◌∙◌}
-use Rattle.dali_script.specs.declared.orders.Order.TheVariants.Commit
-use Rattle.dali_controller.{specs.States.machine_with, proofs.{Beginnings.{reserved_moment, released_moment}, state.State.committed.Goals as goal}}
+use Rattle.dali_script.specs.declared.orders.Order.TheVariants.{Commit}
+use Rattle.dali_controller.{specs.States.machine_with, proofs.Beginnings.reserved_moment, proofs.Beginnings.released_moment}
+use Rattle.dali_controller.proofs.state.State.committed.Goals as goal
 
 pub visit-requires-clause-drawn : goal.visit-requires-clause-drawn
 visit-requires-clause-drawn c = (c.requires.reserved c.in-Reserve.field-0 c.in-Reserve.number c.in-Reserve.is).0

@@ -1,5 +1,6 @@
 use Rattle.std.proofs.Common.{sym, ◌∙◌}
-use Rattle.dali_controller.proofs.{Beginnings.{full_asks, full_closes}, state.State.full.Goals as goal}
+use Rattle.dali_controller.proofs.Beginnings.{full_asks, full_closes}
+use Rattle.dali_controller.proofs.state.State.full.Goals as goal
 
 pub returns-then-asks_again : goal.returns-then-asks_again
 returns-then-asks_again c =

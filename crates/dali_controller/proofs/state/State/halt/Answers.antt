@@ -1,6 +1,7 @@
 use Rattle.std.proofs.Common.{ap₂, List, ℕ}
 use Rattle.dali_script.specs.declared.{orders.Order.TheVariants.Halt, trace.Entry.Entry}
-use Rattle.dali_controller.{specs.{Orders.machine_ordered, States.machine_with}, proofs.{Legs.counted_leg, state.State.halt.Goals as goal}}
+use Rattle.dali_controller.{specs.Orders.machine_ordered, specs.States.machine_with, proofs.Legs.counted_leg}
+use Rattle.dali_controller.proofs.state.State.halt.Goals as goal
 
 pub returns-clause-state : goal.returns-clause-state
 returns-clause-state c =

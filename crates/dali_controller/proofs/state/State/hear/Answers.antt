@@ -1,7 +1,8 @@
 use Rattle.std.proofs.Common.{◌≡◌, sym, subst, ◌∙◌}
-use Rattle.dali_script.specs.Stages.stage_of
-use Rattle.dali_controller.{specs.{Machine.Machine, Moments.IsHeard, States.machine_with, declared.state.State.State}, proofs.Legs.{hears_told, told_is}}
-use Rattle.dali_controller.proofs.{Steps.{hear_heard, heard_by, sending, sending_lawful}, state.State.hear.Goals as goal}
+use Rattle.dali_script.specs.Stages.{stage_of}
+use Rattle.dali_controller.specs.{Machine.Machine, Moments.IsHeard, States.machine_with, declared.state.State.State}
+use Rattle.dali_controller.proofs.{Legs.hears_told, Legs.told_is, Steps.hear_heard, Steps.heard_by, Steps.sending, Steps.sending_lawful}
+use Rattle.dali_controller.proofs.state.State.hear.Goals as goal
 
 pub push-requires-clause-lawful : goal.push-requires-clause-lawful
 push-requires-clause-lawful c =

@@ -1,4 +1,5 @@
-use Rattle.dali_controller.{specs.States.machine_with, proofs.{Steps.{sending, sending_lawful}, state.State.heard.Goals as goal}}
+use Rattle.dali_controller.{specs.States.machine_with, proofs.{Steps.sending, Steps.sending_lawful}}
+use Rattle.dali_controller.proofs.state.State.heard.Goals as goal
 
 pub after-reached-requires-clause-lawful : goal.after-reached-requires-clause-lawful
 after-reached-requires-clause-lawful c =

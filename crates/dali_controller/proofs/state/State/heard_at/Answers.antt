@@ -1,4 +1,5 @@
-use Rattle.dali_controller.{specs.States.machine_with, proofs.{Courses.followed_heard, state.State.heard_at.Goals as goal}}
+use Rattle.dali_controller.{specs.States.machine_with, proofs.Courses.followed_heard}
+use Rattle.dali_controller.proofs.state.State.heard_at.Goals as goal
 
 pub returns-clause-followed : goal.returns-clause-followed
 returns-clause-followed c =

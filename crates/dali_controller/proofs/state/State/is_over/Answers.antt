@@ -1,9 +1,10 @@
 use Rattle.std.proofs.Common.{◌≡◌, ℕ, Bool, true, false, ◌∙◌, sym, refl, ap, Option, Some, None, ◌||◌, not, is_some}
 use Rattle.dali_frame.specs.{Random.value_of, declared.numbers.SearchAddress.SearchAddress}
-use Rattle.dali_script.specs.{Records.{IsKept, Has, HasRandom}, Stages.may_give_some, declared.{orders.End.End, stage.Stage.{Stage, TheVariants.Unnamed}}}
-use Rattle.dali_script.proofs.Giving.goes_on_by
-use Rattle.dali_controller.specs.{Course.closing_of, Machine.{Machine, is_complete, is_passed_by, is_withheld}, States.machine_with}
-use Rattle.dali_controller.proofs.{Courses.address_is, state.State.is_over.Goals as goal}
+use Rattle.dali_script.specs.{Records.IsKept, Records.Has, Records.HasRandom, Stages.may_give_some, declared.orders.End.End, declared.stage.Stage.Stage}
+use Rattle.dali_script.{specs.declared.stage.Stage.TheVariants.Unnamed, proofs.Giving.goes_on_by}
+use Rattle.dali_controller.specs.{Course.closing_of, Machine.Machine, Machine.is_complete, Machine.is_passed_by, Machine.is_withheld, States.machine_with}
+use Rattle.dali_controller.proofs.Courses.{address_is}
+use Rattle.dali_controller.proofs.state.State.is_over.Goals as goal
 
 -- What is reserved for a number decides both.
 over_some : (w : Machine) (r : SearchAddress) (a : ℕ) → IsKept w.kept → Has w.kept.reserved (a, value_of r)

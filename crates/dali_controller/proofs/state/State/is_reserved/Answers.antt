@@ -1,4 +1,5 @@
-use Rattle.dali_controller.proofs.{Sending.{reserved_is, reserved_none}, state.State.is_reserved.Goals as goal}
+use Rattle.dali_controller.proofs.Sending.{reserved_is, reserved_none}
+use Rattle.dali_controller.proofs.state.State.is_reserved.Goals as goal
 
 pub returns-in-Some-clause-has : goal.returns-in-Some-clause-has
 returns-in-Some-clause-has c =

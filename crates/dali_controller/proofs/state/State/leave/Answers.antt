@@ -1,5 +1,6 @@
 use Rattle.std.proofs.Common.{sym, ◌∙◌, subst}
-use Rattle.dali_controller.{specs.{Moments.Begun, Next.ungiven, States.machine_with}, proofs.{Beginnings.ungiven_moment, state.State.leave.Goals as goal}}
+use Rattle.dali_controller.{specs.Moments.Begun, specs.Next.ungiven, specs.States.machine_with, proofs.Beginnings.ungiven_moment}
+use Rattle.dali_controller.proofs.state.State.leave.Goals as goal
 
 pub returns-in-Fresh : goal.returns-in-Fresh
 returns-in-Fresh c =

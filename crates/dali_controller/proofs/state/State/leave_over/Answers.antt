@@ -1,6 +1,7 @@
 use Rattle.std.proofs.Common.{None, sym, ◌∙◌, subst}
-use Rattle.dali_controller.{specs.{Moments.{Begun, IsFirstFree}, Next.ungiven, States.machine_with}, proofs.Beginnings.{ungiven_moment, ungiven_full}}
-use Rattle.dali_controller.proofs.{Beginnings.none_drawn, state.State.leave_over.Goals as goal}
+use Rattle.dali_controller.specs.{Moments.Begun, Moments.IsFirstFree, Next.ungiven, States.machine_with}
+use Rattle.dali_controller.proofs.Beginnings.{ungiven_moment, ungiven_full, none_drawn}
+use Rattle.dali_controller.proofs.state.State.leave_over.Goals as goal
 
 pub returns-in-Fresh : goal.returns-in-Fresh
 returns-in-Fresh c =

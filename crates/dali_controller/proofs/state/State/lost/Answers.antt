@@ -1,5 +1,6 @@
 use Rattle.std.proofs.{Common.{◌≡◌, ◌+◌, arith}, lemmas.Bool.Decides.nat_tests}
-use Rattle.dali_controller.{specs.States.machine_with, proofs.{Courses.followed_lost, Steps.{lost_ended, lost_moment, waiting}, state.State.lost.Goals as goal}}
+use Rattle.dali_controller.{specs.States.machine_with, proofs.{Courses.followed_lost, Steps.{lost_ended, lost_moment, waiting}}}
+use Rattle.dali_controller.proofs.state.State.lost.Goals as goal
 
 pub returns-then-self-eq-TRIES-clause-moment : goal.returns-then-self-eq-TRIES-clause-moment
 returns-then-self-eq-TRIES-clause-moment c =

@@ -1,5 +1,6 @@
 use Rattle.std.proofs.Common.{sym, ◌∙◌}
-use Rattle.dali_controller.{specs.States.{machine_with, course_of}, proofs.{Beginnings.left_undrawn, state.State.nobody_left.Goals as goal}}
+use Rattle.dali_controller.{specs.States.machine_with, specs.States.course_of, proofs.Beginnings.left_undrawn}
+use Rattle.dali_controller.proofs.state.State.nobody_left.Goals as goal
 
 pub returns-then-found-eq0 : goal.returns-then-found-eq0
 returns-then-found-eq0 c =

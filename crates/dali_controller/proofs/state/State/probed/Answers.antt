@@ -1,6 +1,7 @@
-use Rattle.std.proofs.Common.◌∙◌
+use Rattle.std.proofs.Common.{◌∙◌}
 use Rattle.dali_search.specs.declared.step.Step.TheVariants.{Again, Found, Nobody}
-use Rattle.dali_controller.proofs.{Beginnings.probed_state, Courses.answered_is, state.State.probed.Goals as goal}
+use Rattle.dali_controller.proofs.{Beginnings.probed_state, Courses.answered_is}
+use Rattle.dali_controller.proofs.state.State.probed.Goals as goal
 
 pub returns-in-Again : goal.returns-in-Again
 returns-in-Again c =

@@ -1,6 +1,7 @@
-use Rattle.std.proofs.Common.refl
-use Rattle.dali_script.specs.Stages.stage_of
-use Rattle.dali_controller.{specs.States.machine_with, proofs.{Legs.counted_leg, Steps.{put_next, put_whole}, state.State.put.Goals as goal}}
+use Rattle.std.proofs.Common.{refl}
+use Rattle.dali_script.specs.Stages.{stage_of}
+use Rattle.dali_controller.{specs.States.machine_with, proofs.Legs.counted_leg, proofs.Steps.put_next, proofs.Steps.put_whole}
+use Rattle.dali_controller.proofs.state.State.put.Goals as goal
 
 pub returns-clause-next : goal.returns-clause-next
 returns-clause-next c =

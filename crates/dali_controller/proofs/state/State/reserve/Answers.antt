@@ -1,5 +1,6 @@
-use Rattle.dali_controller.{specs.{Legs.way_on, States.machine_with}, proofs.{Courses.stays_moment, Leaving.{free_searching, reservable, reserves}}}
-use Rattle.dali_controller.proofs.{Leaving.unfree_left, state.State.reserve.Goals as goal}
+use Rattle.dali_controller.{specs.Legs.way_on, specs.States.machine_with, proofs.Courses.stays_moment}
+use Rattle.dali_controller.proofs.Leaving.{free_searching, reservable, reserves, unfree_left}
+use Rattle.dali_controller.proofs.state.State.reserve.Goals as goal
 
 pub commit-requires-clause-fits : goal.commit-requires-clause-fits
 commit-requires-clause-fits c =

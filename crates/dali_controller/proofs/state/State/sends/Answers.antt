@@ -1,5 +1,6 @@
 use Rattle.std.proofs.Common.{◌≡◌, false, true, sym, ◌∙◌}
-use Rattle.dali_controller.{specs.{Machine.Machine, States.machine_with}, proofs.{Sending.{sends_allowed, sends_refused}, state.State.sends.Goals as goal}}
+use Rattle.dali_controller.{specs.Machine.Machine, specs.States.machine_with, proofs.Sending.sends_allowed, proofs.Sending.sends_refused}
+use Rattle.dali_controller.proofs.state.State.sends.Goals as goal
 
 pub returns-then-allows_by : goal.returns-then-allows_by
 returns-then-allows_by c =

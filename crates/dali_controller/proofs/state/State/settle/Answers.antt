@@ -1,6 +1,7 @@
 use Rattle.std.proofs.{Common.{◌≡◌, arith}, lemmas.Bool.Decides.nat_tests}
 use Rattle.dali_controller.{specs.States.machine_with, proofs.{Beginnings.goes_on_moment, Courses.stays_moment, Settling.contradicts_by_random}}
-use Rattle.dali_controller.proofs.{Settling.{halts_by_address, halts_by_random, enrols, settled_between}, state.State.settle.Goals as goal}
+use Rattle.dali_controller.proofs.Settling.{halts_by_address, halts_by_random, enrols, settled_between}
+use Rattle.dali_controller.proofs.state.State.settle.Goals as goal
 
 pub returns-in-Some-clause-moment : goal.returns-in-Some-clause-moment
 returns-in-Some-clause-moment c =

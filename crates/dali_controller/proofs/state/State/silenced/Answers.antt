@@ -1,6 +1,7 @@
 use Rattle.std.proofs.Common.{ap, sym, ◌∙◌}
 use Rattle.dali_controller.specs.{Legs.way_on, Next.{beginning, most_silent}, States.machine_with, declared.way.Way.TheVariants.{Fresh, Surveying}}
-use Rattle.dali_controller.proofs.{Beginnings.{silenced_moment, silenced_closes, silenced_anew, visited_leg, failed_visit}, state.State.silenced.Goals as goal}
+use Rattle.dali_controller.proofs.Beginnings.{silenced_moment, silenced_closes, silenced_anew, visited_leg, failed_visit}
+use Rattle.dali_controller.proofs.state.State.silenced.Goals as goal
 
 pub returns-then-self-most_silent-clause-moment : goal.returns-then-self-most_silent-clause-moment
 returns-then-self-most_silent-clause-moment c =

@@ -1,5 +1,6 @@
-use Rattle.dali_controller.{specs.{Moments.IsMoment, States.machine_with}, proofs.Beginnings.{start_moment, moment_ordered, moment_state}}
-use Rattle.dali_controller.proofs.{Courses.followed_start, state.State.start.Goals as goal}
+use Rattle.dali_controller.specs.{Moments.IsMoment, States.machine_with}
+use Rattle.dali_controller.proofs.{Beginnings.start_moment, Beginnings.moment_ordered, Beginnings.moment_state, Courses.followed_start}
+use Rattle.dali_controller.proofs.state.State.start.Goals as goal
 
 moment : (c : goal.After-go_on) → IsMoment (machine_with c.args.self.now c.args.kept.now) c.go_on.result (machine_with c.go_on.new.self c.args.kept.now)
 moment c = start_moment (machine_with c.args.self.now c.args.kept.now) _ _ c.requires.whole c.requires.unstarted c.go_on.ensures

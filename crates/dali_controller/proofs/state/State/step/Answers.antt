@@ -1,6 +1,7 @@
 use Rattle.std.proofs.Common.{◌≡◌, Some, subst}
 use Rattle.dali_script.specs.declared.{orders.Order.TheVariants.Commit, records.Record.TheVariants.Reserve}
-use Rattle.dali_controller.{specs.Steps.IsBefore, proofs.{Keeping.visited_now, state.State.step.Goals as goal}}
+use Rattle.dali_controller.{specs.Steps.IsBefore, proofs.Keeping.visited_now}
+use Rattle.dali_controller.proofs.state.State.step.Goals as goal
 
 pub committed-requires-clause-reserved : goal.committed-requires-clause-reserved
 committed-requires-clause-reserved c a n is =

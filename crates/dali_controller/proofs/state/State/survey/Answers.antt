@@ -1,5 +1,6 @@
-use Rattle.dali_controller.{specs.{Machine.machine_surveying, Moments.IsMoment, States.machine_with}, proofs.Beginnings.{survey_moment, moment_ordered}}
-use Rattle.dali_controller.proofs.{Beginnings.moment_state, Courses.followed_survey, Legs.unstarted_leg, state.State.survey.Goals as goal}
+use Rattle.dali_controller.specs.{Machine.machine_surveying, Moments.IsMoment, States.machine_with}
+use Rattle.dali_controller.proofs.{Beginnings.survey_moment, Beginnings.moment_ordered, Beginnings.moment_state, Courses.followed_survey, Legs.unstarted_leg}
+use Rattle.dali_controller.proofs.state.State.survey.Goals as goal
 
 moment : (c : goal.After-go_on)
     → IsMoment (machine_surveying (machine_with c.args.self.now c.args.kept.now)) c.go_on.result (machine_with c.go_on.new.self c.args.kept.now)

@@ -1,4 +1,5 @@
-use Rattle.dali_controller.{specs.States.machine_with, proofs.{Courses.put_moment, state.State.turn.Goals as goal}}
+use Rattle.dali_controller.{specs.States.machine_with, proofs.Courses.put_moment}
+use Rattle.dali_controller.proofs.state.State.turn.Goals as goal
 
 pub returns-clause-moment : goal.returns-clause-moment
 returns-clause-moment c =

@@ -1,5 +1,6 @@
 use Rattle.std.proofs.Common.{sym, ◌∙◌}
-use Rattle.dali_controller.{specs.States.{machine_with, course_of}, proofs.{Beginnings.undrawn_full, state.State.undrawn.Goals as goal}}
+use Rattle.dali_controller.{specs.States.machine_with, specs.States.course_of, proofs.Beginnings.undrawn_full}
+use Rattle.dali_controller.proofs.state.State.undrawn.Goals as goal
 
 pub returns-then-not-has_open : goal.returns-then-not-has_open
 returns-then-not-has_open c =

@@ -1,5 +1,6 @@
 use Rattle.std.proofs.Common.{sym, ◌∙◌}
-use Rattle.dali_controller.{specs.States.machine_with, proofs.{Beginnings.ungiven_full, state.State.ungiven.Goals as goal}}
+use Rattle.dali_controller.{specs.States.machine_with, proofs.Beginnings.ungiven_full}
+use Rattle.dali_controller.proofs.state.State.ungiven.Goals as goal
 
 pub returns-else-may_draw : goal.returns-else-may_draw
 returns-else-may_draw c =

@@ -1,5 +1,6 @@
 use Rattle.std.proofs.Common.{◌≡◌, None, sym}
-use Rattle.dali_events.{specs.Plan.refusal_of, proofs.{Plans.{accepted, plan_is, gear_is, blocks_are}, plan.Plan.new.Goals as goal}}
+use Rattle.dali_events.{specs.Plan.refusal_of, proofs.Plans.accepted, proofs.Plans.plan_is, proofs.Plans.gear_is, proofs.Plans.blocks_are}
+use Rattle.dali_events.proofs.plan.Plan.new.Goals as goal
 
 pub invariant_of-result : goal.invariant_of-result
 invariant_of-result c =

@@ -1,5 +1,6 @@
 use Rattle.std.proofs.Common.{◌<◌, sym, subst}
-use Rattle.dali_events.proofs.{Plans.there_in, plan.Plan.row.Goals as goal}
+use Rattle.dali_events.proofs.Plans.{there_in}
+use Rattle.dali_events.proofs.plan.Plan.row.Goals as goal
 
 pub place-requires : goal.place-requires
 place-requires c =

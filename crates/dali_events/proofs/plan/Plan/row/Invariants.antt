@@ -1,6 +1,7 @@
 use Rattle.std.proofs.Common.{◌≡◌, drop, length, replicate}
-use Rattle.dali_gear.specs.Gear.fresh
-use Rattle.dali_events.{specs.Used.with_used, proofs.plan.Plan.row.Given as goal}
+use Rattle.dali_gear.specs.Gear.{fresh}
+use Rattle.dali_events.specs.Used.{with_used}
+use Rattle.dali_events.proofs.plan.Plan.row.Given as goal
 
 abbrev pub invariant-loop-used : goal.invariant-loop-used
 invariant-loop-used l = record {

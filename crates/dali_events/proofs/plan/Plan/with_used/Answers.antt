@@ -1,5 +1,6 @@
 use Rattle.std.proofs.Common.{◌≡◌, None, sym, subst}
-use Rattle.dali_events.{specs.Plan.{Plan, IsPlan, used_refusal_of, plan_with}, proofs.{Plans.with_is, plan.Plan.with_used.Goals as goal}}
+use Rattle.dali_events.{specs.Plan.Plan, specs.Plan.IsPlan, specs.Plan.used_refusal_of, specs.Plan.plan_with, proofs.Plans.with_is}
+use Rattle.dali_events.proofs.plan.Plan.with_used.Goals as goal
 
 pub invariant_of-result : goal.invariant_of-result
 invariant_of-result c =
