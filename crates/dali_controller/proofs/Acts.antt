@@ -1,13 +1,13 @@
 use Rattle.std.proofs.Common.{◌≡◌, ◌⊎◌, inl, inr, ℕ, ◌<◌, Bool, true, false, refl, sym, ap, subst, ◌∙◌, arith, List, [], ◌∷◌, ◌++◌, Option, Some, None, ◌==◌}
-use Rattle.std.proofs.Common.if◌then◌else◌
+use Rattle.std.proofs.Common.{if◌then◌else◌}
 use Rattle.dali_frame.specs.{Priority.{FIRST, LATER}, declared.frames.{Answer.Answer, Forward.Forward}}
-use Rattle.dali_special.specs.Command.command_of
+use Rattle.dali_special.specs.Command.{command_of}
 use Rattle.dali_script.specs.{Findings.{search_of, asked_of, found_by, finding_of, assigned, later, MayEnrol}, declared.finding.Finding.Finding}
 use Rattle.dali_script.specs.declared.{finding.Finding.TheVariants.{Queried, Resolved}, records.Record.Record, trace.Entry.Entry, orders.Input.Input}
 use Rattle.dali_script.specs.{declared.orders.Order.{Order, TheVariants.{Put, Commit, Done, Halt}}, Records.{Assignment, Has, Kept, with_record}}
 use Rattle.dali_script.{specs.{Scripts.Lawful, Due.{due_after, accepts, frame_put, record_ordered}}, proofs.Found.finding_more}
 use Rattle.dali_statement.{specs.Own.{Own, Act, Puts, Loses, Begins, Keeps, told_more, own_after, own_all, IsOwn, AreOwn}, proofs.Tests.{equal, equals}}
-use Rattle.dali_statement.proofs.Tests.some_is
+use Rattle.dali_statement.proofs.Tests.{some_is}
 use Rattle.dali_controller.specs.{Machine.{Machine, machine_heard, machine_lost, machine_committed, machine_told}, Orders.{IsAllowed, MayCommit, MayEnrolOn}}
 use Rattle.dali_controller.specs.{Orders.{IsAnswered, machine_ordered, machine_after}, declared.way.Way.{Way, TheVariants.{Fresh, Surveying}}, Acts.acts_told}
 use Rattle.dali_controller.specs.Acts.{acts_ordered, Steps, Takes, acts_of, own_of}

@@ -1,5 +1,5 @@
 use Rattle.std.proofs.Common.{◌≡◌, inl, inr, ℕ, ◌<◌, Bool, true, false, refl, sym, ap, subst, ◌∙◌, arith, Some, None, ◌&&◌, nat_lt, if◌then◌else◌}
-use Rattle.std.proofs.lemmas.Bool.Decides.nat_tests
+use Rattle.std.proofs.lemmas.Bool.Decides.{nat_tests}
 use Rattle.dali_frame.specs.{Priority.LATER, declared.{frames.Answer.Answer, numbers.SearchAddress.SearchAddress}}
 use Rattle.dali_special.{specs.{Command.{command_of, frame_of}, declared.command.Command.Command}, proofs.Table.read_written}
 use Rattle.dali_script.specs.{Stages.{stage_of, Follows}, declared.{orders.Order.{Order, TheVariants.Put}, stage.Stage.TheVariants.{Unnamed, Withdrawn}}}

@@ -1,8 +1,8 @@
 use Rattle.std.proofs.Common.{◌≡◌, ◌⊎◌, inl, inr, ℕ, ◌<◌, ◌≤◌, Bool, true, false, refl, sym, ap, subst, ◌∙◌, arith, Option, Some, None, ◌==◌, ◌&&◌, is_some}
 use Rattle.std.proofs.{Common.{nat_lt, if◌then◌else◌}, lemmas.Bool.{ne_eqb, Decides.nat_tests}}
 use Rattle.dali_frame.specs.{Priority.LATER, Random.{value_of, MASK24}, declared.frames.Answer.{Answer, TheVariants.{Silence, Byte, Damaged}}}
-use Rattle.dali_frame.specs.declared.numbers.SearchAddress.SearchAddress
-use Rattle.dali_special.specs.Command.frame_of
+use Rattle.dali_frame.specs.declared.numbers.SearchAddress.{SearchAddress}
+use Rattle.dali_special.specs.Command.{frame_of}
 use Rattle.dali_script.specs.{Records.{Has, Kept}, Stages.stage_of, declared.orders.{End.{End, TheVariants.{AllFound, BlockFull, GaveUp}}, Order.Order}}
 use Rattle.dali_script.specs.declared.{orders.Order.TheVariants.{Commit, Put}, records.Record.TheVariants.{Reserve, Release}, stage.Stage.Stage}
 use Rattle.dali_script.specs.declared.stage.Stage.TheVariants.{Free, Opened, DrawBarred, Probed, Hunted, Unnamed, Unanswered, Inconclusive, Withdrawn}

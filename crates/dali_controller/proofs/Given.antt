@@ -1,6 +1,6 @@
 use Rattle.std.proofs.Common.{arith, ◌≡◌, ◌⊎◌, inl, inr, ℕ, Bool, true, false, List, [], refl, sym, ap, subst, ◌∙◌, Option, Some, None, is_some}
 use Rattle.dali_frame.specs.{Priority.{FIRST, LATER}, Random.value_of, declared.frames.{Answer.TheVariants.Silence, Forward.Forward}}
-use Rattle.dali_frame.specs.declared.numbers.SearchAddress.SearchAddress
+use Rattle.dali_frame.specs.declared.numbers.SearchAddress.{SearchAddress}
 use Rattle.dali_special.specs.{Command.{command_of, frame_of}, declared.command.Command.{Command, TheVariants.{Terminate, Program}}}
 use Rattle.dali_script.specs.{Findings.{MayEnrol, assigned, finding_of}, Records.{Assignment, Has, HasAddress, HasRandom, IsLeastFree, IsFull, IsMap, IsFresh}}
 use Rattle.dali_script.specs.{Records.MayAdd, Scripts.Lawful, Stages.{leads, stage_of}, declared.finding.Finding.{Finding, TheVariants.{Queried, Resolved}}}

@@ -1,7 +1,7 @@
 use Rattle.std.proofs.Common.{◌≡◌, ℕ, true, false, List, [], ◌∷◌, ◌++◌, refl, sym, ap, subst, ◌∙◌, Option, Some, None, ◌||◌}
 use Rattle.dali_frame.specs.declared.{frames.{Answer.Answer, Forward.Forward}, numbers.SearchAddress.SearchAddress}
 use Rattle.dali_script.specs.{Due.frame_put, Findings.{later, finding_of}, Records.Kept, Stages.stage_of, declared.{finding.Finding.Finding, stage.Stage.Stage}}
-use Rattle.dali_script.specs.declared.trace.Entry.Entry
+use Rattle.dali_script.specs.declared.trace.Entry.{Entry}
 use Rattle.dali_search.specs.{Ascending.ascent_at_first, Least.at_first}
 use Rattle.dali_controller.specs.{Course.closing_of, Legs.{way_on, is_searching, from_on, silences_on, search_on, ascent_on, with_silences}, Machine.Machine}
 use Rattle.dali_controller.specs.Machine.{machine_told, asked_after, heard_after, is_complete, is_ended, is_passed_by, silent_after, tries_after}

@@ -1,5 +1,5 @@
 use Rattle.std.proofs.Common.{◌≡◌, ◌↔◌, ◌⊎◌, inl, inr, ℕ, ◌<◌, true, false, nat_eq, List, Bool, Some, sym, refl, subst, ap, arith, is_some, IfSome}
-use Rattle.std.proofs.lemmas.Bool.Decides.nat_tests
+use Rattle.std.proofs.lemmas.Bool.Decides.{nat_tests}
 use Rattle.dali_frame.specs.{Random.value_of, declared.{frames.{Answer.TheVariants.Silence, Forward.Forward}, numbers.SearchAddress.SearchAddress}}
 use Rattle.dali_special.specs.{Command.{IsSpelled, command_of}, declared.command.Command.{Command, TheVariants.Program}}
 use Rattle.dali_script.specs.{Records.{Assignment, Kept, Has, HasAddress, IsMap, IsOnce, addresses}, Scripts.{MayGive, Lawful}, Stages.{leads, given, stage_of}}

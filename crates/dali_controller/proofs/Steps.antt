@@ -5,7 +5,7 @@ use Rattle.dali_frame.specs.declared.{frames.Forward.Forward, numbers.SearchAddr
 use Rattle.dali_special.specs.{Command.{MASK, command_of, frame_of, IsSpelled}, declared.command.Command.{Command, TheVariants.{Terminate, Initialise}}}
 use Rattle.dali_special.specs.declared.command.Command.TheVariants.{Randomise, Compare, Withdraw, SearchHigh, SearchMiddle, SearchLow, Program, QueryShort}
 use Rattle.dali_special.specs.declared.command.{Command.TheVariants.{RandomByte, Arc}, Part.TheVariants.{Middle, Low}, Target.TheVariants.Unaddressed}
-use Rattle.dali_special.proofs.Table.read_written
+use Rattle.dali_special.proofs.Table.{read_written}
 use Rattle.dali_script.specs.{Due.{due_after, frame_put}, Findings.{later, finding_of}, Records.{IsKept, Kept, Has, Fits, MayAdd}, Scripts.{MayGive, Lawful}}
 use Rattle.dali_script.specs.{Scripts.{is_asking, ASKING}, Stages.{hunted, byte_heard, bytes_heard, finding_at, stage_of, next_stage, queried, named, verified}}
 use Rattle.dali_script.specs.{Stages.{answered, doubted, Follows}, declared.{finding.Finding.Finding, orders.{End.{End, TheVariants.GaveUp}, Order.Order}}}

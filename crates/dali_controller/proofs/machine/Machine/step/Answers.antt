@@ -1,4 +1,4 @@
-use Rattle.std.proofs.Common.refl
+use Rattle.std.proofs.Common.{refl}
 use Rattle.dali_controller.{specs.{States.machine_with, Steps.IsBefore}, proofs.Keeping.{kept_may, before_is, given_answered, given_begins, given_followed}}
 use Rattle.dali_controller.proofs.machine.Machine.step.Goals as goal
 

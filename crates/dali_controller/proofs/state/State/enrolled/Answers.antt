@@ -1,7 +1,7 @@
 use Rattle.std.proofs.{Common.{◌≡◌, ◌∙◌, arith}, lemmas.Bool.Decides.nat_tests}
 use Rattle.dali_script.proofs.{Giving.one_address, Lists.{has_map, reserved_fits}}
 use Rattle.dali_controller.{specs.States.machine_with, proofs.{Beginnings.enrolled_moment, state.State.enrolled.Goals.in_default-via-in-Some+else-ne}}
-use Rattle.dali_controller.proofs.state.State.enrolled.Goals.in_default-via-in_default
+use Rattle.dali_controller.proofs.state.State.enrolled.Goals.{in_default-via-in_default}
 use Rattle.dali_controller.proofs.state.State.enrolled.Goals as goal
 
 pub commit-requires-clause-fits : goal.commit-requires-clause-fits

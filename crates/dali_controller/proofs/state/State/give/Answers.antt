@@ -1,5 +1,5 @@
 use Rattle.std.proofs.Common.{sym, ◌∙◌, subst}
-use Rattle.dali_script.specs.Records.Has
+use Rattle.dali_script.specs.Records.{Has}
 use Rattle.dali_controller.{specs.States.machine_with, proofs.{Leaving.{withheld_left, withheld_searching, gives_masked}, Steps.sends_program}}
 use Rattle.dali_controller.proofs.state.State.give.Goals as goal
 
