@@ -1,27 +1,24 @@
-use Rattle.std.proofs.Common.{◌≡◌, ◌⊎◌, inl, inr, ℕ, ◌<◌, ◌≤◌, Bool, true, false, refl, sym, ap, subst, ◌∙◌, arith, Option, Some, None, ◌==◌, ◌&&◌, is_some}
-use Rattle.std.proofs.{Common.{nat_lt, if◌then◌else◌}, lemmas.Bool.{ne_eqb, Decides.nat_tests}}
-use Rattle.dali_frame.specs.{Priority.LATER, Random.{value_of, MASK24}, declared.frames.Answer.{Answer, TheVariants.{Silence, Byte, Damaged}}}
-use Rattle.dali_frame.specs.declared.numbers.SearchAddress.{SearchAddress}
-use Rattle.dali_special.specs.Command.{frame_of}
+use Rattle.std.proofs.Common.{◌≡◌, ◌⊎◌, inl, inr, ℕ, ◌<◌, ◌≤◌, Bool, true, false, refl, sym, ap, subst, ◌∙◌, arith, Option, Some, None, ◌==◌, ◌&&◌, nat_lt}
+use Rattle.std.proofs.{Common.if◌then◌else◌, lemmas.Bool.{ne_eqb, Decides.nat_tests}}
+use Rattle.dali_frame.specs.{Random.{value_of, MASK24}, declared.{frames.Answer.{Answer, TheVariants.Silence}, numbers.SearchAddress.SearchAddress}}
 use Rattle.dali_script.specs.{Records.{Has, Kept}, Stages.stage_of, declared.orders.{End.{End, TheVariants.{AllFound, BlockFull, GaveUp}}, Order.Order}}
-use Rattle.dali_script.specs.declared.{orders.Order.TheVariants.{Commit, Put}, records.Record.TheVariants.{Reserve, Release}, stage.Stage.Stage}
-use Rattle.dali_script.specs.declared.stage.Stage.TheVariants.{Free, Opened, DrawBarred, Probed, Hunted, Unnamed, Unanswered, Inconclusive, Withdrawn}
-use Rattle.dali_script.specs.declared.stage.Stage.TheVariants.{HighAsked, PassedOver, MiddleAsked, Spelled}
-use Rattle.dali_search.specs.{Ascending.{Ascent, leads_to, ascended, ascent_at_first}, Least.{Search, answered}, declared.step.Step.{Step, TheVariants.Again}}
-use Rattle.dali_search.specs.declared.step.Step.TheVariants.{Found, Nobody}
+use Rattle.dali_script.specs.declared.{orders.Order.TheVariants.Commit, records.Record.TheVariants.{Reserve, Release}, stage.Stage.{Stage, TheVariants.Free}}
+use Rattle.dali_script.specs.declared.stage.Stage.TheVariants.{Opened, DrawBarred, Probed, Hunted, Unnamed, Unanswered, Inconclusive, Withdrawn, HighAsked}
+use Rattle.dali_script.specs.declared.stage.Stage.TheVariants.{PassedOver, MiddleAsked, Spelled}
+use Rattle.dali_search.specs.{Ascending.{Ascent, leads_to, ascended}, Least.{Search, answered}, declared.step.Step.{Step, TheVariants.{Again, Found, Nobody}}}
 use Rattle.dali_controller.specs.Course.{Course, least_open, closing_of, after_step, address_for, is_yes, hunted, closing, resolving, searching_first}
 use Rattle.dali_controller.specs.Course.{opening_anew, opening_at_last, drawing, calling, hunting_first, hunting_above, ask_or_call, next_asked, visiting}
-use Rattle.dali_controller.specs.{Course.{asking_again, byte_to_send, bytes_to_send}, Legs.{ascent_on, search_on, way_on, is_searching}, Machine.Machine}
-use Rattle.dali_controller.specs.{Machine.machine_surveying, Moments.{AsksNext, Begins, Begun, Enrolled, IsBetween, IsHeard, IsMoment, IsUngiven, IsNextTo}}
-use Rattle.dali_controller.specs.Next.{next_course, beginning, at_rest, compared_in, begins_at, goes_on_to, silenced, silenced_on, missed_again, is_failed}
-use Rattle.dali_controller.specs.Next.{most_silent, unanswered, has_open, may_draw, asks_again, full, ungiven, undrawn, nobody_left, hunted_to, hunted_in}
-use Rattle.dali_controller.specs.{Next.{blocked, is_blocked, called_to, called_in, asked_once, is_hunting, question}, Orders.{Cause, IsBegun, AllAreFound}}
-use Rattle.dali_controller.specs.Orders.{IsUndrawn, IsUngivable, IsBlockFull, IsStuck, IsOrdered, IsOrderedTo, machine_ordered, machine_ordered_on}
-use Rattle.dali_controller.specs.{States.{machine_with, course_of}, Tally.{asked_again, silent_call, heard_call}, Whole.{Knows, IsSurvey, IsWithinSilence}}
-use Rattle.dali_controller.specs.{Whole.{IsWhole, IsUnstarted, Pending}, declared.{leg.Leg.Leg, purpose.Purpose.{Purpose, TheVariants.{Opening, Probing}}}}
-use Rattle.dali_controller.specs.declared.{purpose.Purpose.TheVariants.{Visiting, Resolving, Closing, Asking, Hunting, Calling, Drawing}, state.State.State}
-use Rattle.dali_controller.{specs.declared.{tally.Tally.Tally, way.Way.{Way, TheVariants.{Fresh, Surveying}}}, proofs.Courses.{goes_on_way, searches_first_way}}
-use Rattle.dali_controller.proofs.{Courses.ask_way, Given.goes_on_open, Steps.{begun_moment, begun_none, calm_less, less_calm, sends_open}}
+use Rattle.dali_controller.specs.{Course.asking_again, Legs.{ascent_on, search_on, way_on, is_searching}, Machine.{Machine, machine_surveying}}
+use Rattle.dali_controller.specs.{Moments.{AsksNext, Begins, Begun, Enrolled, IsBetween, IsHeard, IsMoment, IsUngiven, IsNextTo}, Next.{next_course, beginning}}
+use Rattle.dali_controller.specs.Next.{at_rest, compared_in, begins_at, goes_on_to, silenced, silenced_on, missed_again, is_failed, most_silent, unanswered}
+use Rattle.dali_controller.specs.Next.{has_open, may_draw, asks_again, full, ungiven, undrawn, nobody_left, hunted_to, hunted_in, blocked, is_blocked}
+use Rattle.dali_controller.specs.{Next.{called_to, called_in, asked_once, is_hunting, question}, Orders.{Cause, IsBegun, AllAreFound, IsUndrawn, IsUngivable}}
+use Rattle.dali_controller.specs.{Orders.{IsBlockFull, IsStuck, IsOrdered, IsOrderedTo, machine_ordered, machine_ordered_on}, States.{machine_with, course_of}}
+use Rattle.dali_controller.specs.{Tally.{asked_again, silent_call, heard_call}, Whole.{Knows, IsSurvey, IsWithinSilence, IsWhole, IsUnstarted, Pending}}
+use Rattle.dali_controller.specs.declared.{leg.Leg.Leg, purpose.Purpose.{Purpose, TheVariants.{Opening, Probing, Visiting, Resolving, Closing, Asking}}}
+use Rattle.dali_controller.specs.declared.{purpose.Purpose.TheVariants.{Hunting, Calling, Drawing}, state.State.State, tally.Tally.Tally, way.Way.Way}
+use Rattle.dali_controller.{specs.declared.way.Way.TheVariants.{Fresh, Surveying}, proofs.Courses.{searches_first_keeps, either, asks_again_with}}
+use Rattle.dali_controller.proofs.{Courses.goes_on_keeps, Given.goes_on_open, Steps.{begun_moment, calm_less, sends_open, KnowsFor}}
 use Rattle.dali_controller.specs.declared.leg.Leg.TheVariants as leg
 
 -- WHERE A TRANSACTION MAY BEGIN, at each stage of the one that leads there.
@@ -34,42 +31,23 @@ record IsShut (t : Machine) (c : Course) : Type 0 where
 opens : (t : Machine) (c : Course) → c.way ≡ t.course.way → closing_of c.purpose ≡ None → IsShut t c
 opens t c way unclosed = record { way = way; closes = λ e is. absurd (let none : Some e ≡ None = sym (ap closing_of is) ∙ unclosed in cc) }
 
-same_end : (d e : End) → Closing d ≡ Closing e → d ≡ e
-same_end d e is = cc
-
 shuts : (t : Machine) (c : Course) (d : End) → c.way ≡ t.course.way → c.purpose ≡ Closing d → Cause t d → IsShut t c
-shuts t c d way is cause = record { way = way; closes = λ e also. subst (Cause t) (same_end d e (sym is ∙ also)) cause }
-
-open_or_closing : (p : Purpose) → (closing_of p ≡ None) ⊎ ((e : End) × (p ≡ Closing e))
-open_or_closing (Closing e) = inr (e, refl)
-open_or_closing _ = inl refl
-
-closing_calm : (y : Way) (e : End) (i : ℕ) → i < most_silent y → IsWithinSilence y (Closing e) i
-closing_calm y GaveUp i less = omega arith
-closing_calm y AllFound i less = less
-closing_calm y BlockFull i less = less
+shuts t c d way is cause = record { way = way; closes = λ e also. let same : d ≡ e = cc in subst (Cause t) same cause }
 
 -- it may begin if searches did not lead to nothing too often, and no close was begun
 shut_begins : (t : Machine) (c : Course) → t.tries < 8 → t.silent < most_silent t.course.way → closing_of t.course.purpose ≡ None → IsShut t c
     → ((r : SearchAddress) → stage_of t.trace ≡ Unnamed r → IsUngiven t.course.way t r × IsNextTo t.course.way t c.purpose c.number)
     → ((r : SearchAddress) (b : ℕ) → stage_of t.trace ≡ Withdrawn r b → Has t.kept.enrolled (b, value_of r)) → Begins t c
 shut_begins t c tries silent going shut unnamed found =
-    let less : t.silent < most_silent c.way = subst (λ y. t.silent < most_silent y) (sym shut.way) silent in
-    record {
-      tries = tries;
-      way = shut.way;
-      calm = calm less (open_or_closing c.purpose);
-      turns = turns (open_or_closing c.purpose);
-      unnamed = unnamed;
-      found = found;
-    } where
-      calm : t.silent < most_silent c.way → (closing_of c.purpose ≡ None) ⊎ ((e : End) × (c.purpose ≡ Closing e)) → IsWithinSilence c.way c.purpose t.silent
-      calm less (inl unclosed) = less_calm c.way c.purpose t.silent unclosed less
-      calm less (inr x) = subst (λ p. IsWithinSilence c.way p t.silent) (sym x.1) (closing_calm c.way x.0 t.silent less)
+    let x = go c.purpose refl in
+    record { tries = tries; way = shut.way; calm = x.0; turns = x.1; unnamed = unnamed; found = found } where
+      less : t.silent < most_silent c.way
+      less = subst (λ y. t.silent < most_silent y) (sym shut.way) silent
 
-      turns : (closing_of c.purpose ≡ None) ⊎ ((e : End) × (c.purpose ≡ Closing e)) → IsBegun t (closing_of c.purpose)
-      turns (inl unclosed) = begun_none t (closing_of c.purpose) unclosed going
-      turns (inr x) = subst (λ p. IsBegun t (closing_of p)) (sym x.1) (inr (going, shut.closes x.0 x.1))
+      go : (p : Purpose) → c.purpose ≡ p → IsWithinSilence c.way p t.silent × IsBegun t (closing_of p)
+      go (Closing GaveUp) is = (omega (arith, less), inr (going, shut.closes GaveUp is))
+      go (Closing e) is = (less, inr (going, shut.closes e is))
+      go _ is = (less, going)
 
 -- ---------------------------------------------------------------- between two transactions
 
@@ -79,15 +57,12 @@ between_shut t c b shut = shut_begins t c b.tries b.silent b.going shut (λ r e.
 pub between_begins : (t : Machine) (c : Course) → IsBetween t → c.way ≡ t.course.way → closing_of c.purpose ≡ None → Begins t c
 between_begins t c b way unclosed = between_shut t c b (opens t c way unclosed)
 
-between_closes : (t : Machine) (c : Course) (e : End) → IsBetween t → c.way ≡ t.course.way → c.purpose ≡ Closing e → Cause t e → Begins t c
-between_closes t c e b way is cause = between_shut t c b (shuts t c e way is cause)
-
--- a transaction that has no finding, and was no visit that found gear without short address
-pub heard_between : (t : Machine) (s : Stage) → IsHeard t s → closing_of t.course.purpose ≡ None → t.silent < most_silent t.course.way
+-- a transaction that has no finding, is no close, and was no visit that found gear without short address
+heard_between : (t : Machine) (s : Stage) → IsHeard t s → closing_of t.course.purpose ≡ None → IsWithinSilence t.course.way t.course.purpose t.silent
     → ((r : SearchAddress) → s ≡ Unnamed r → ⊥) → ((r : SearchAddress) (b : ℕ) → s ≡ Withdrawn r b → ⊥) → IsBetween t
 heard_between t s h going calm unnamed found = record {
   tries = h.tries;
-  silent = calm;
+  silent = calm_less t.course.way t.course.purpose t.silent going calm;
   going = going;
   unnamed = λ r e. unnamed r (sym h.stage ∙ e);
   found = λ r b e. absurd (found r b (sym h.stage ∙ e));
@@ -97,46 +72,38 @@ heard_between t s h going calm unnamed found = record {
 
 pub goes_on_moment : (t : Machine) (o : Order) (new : Machine) → IsBetween t → next_course t ≡ goes_on_to t → Begun t (goes_on_to t) o new → IsMoment t o new
 goes_on_moment t o new b next begun =
-    begun_moment t (goes_on_to t) o new (sym next)
-    (between_begins t (goes_on_to t) b (goes_on_way t.kept t.course.opened t.course) (goes_on_open t)) begun
+    begun_moment t (goes_on_to t) o new (sym next) (between_begins t (goes_on_to t) b (goes_on_keeps t).way (goes_on_open t)) begun
 
 -- ---------------------------------------------------------------- after an opening
 
 pub opened_moment : (t : Machine) (s : Stage) (o : Order) (new : Machine) → IsHeard t s → (s ≡ Opened) ⊎ (s ≡ DrawBarred)
     → Begun t (searching_first t.course.way t.course) o new → IsMoment t o new
-opened_moment t s o new h is begun = go is where
-  first : Course
-  first = searching_first t.course.way t.course
+opened_moment t s o new h is begun =
+    let x = go is in
+    let first = searching_first t.course.way t.course in
+    begun_moment t first o new (sym (ap (begins_at t) h.stage ∙ x.1))
+    (between_begins t first x.0 (searches_first_keeps t.course.way t.course).way (unclosed t.course.way)) begun where
+      unclosed : (y : Way) → closing_of (searching_first y t.course).purpose ≡ None
+      unclosed Fresh = refl
+      unclosed Surveying = refl
 
-  unclosed : (y : Way) → closing_of (searching_first y t.course).purpose ≡ None
-  unclosed Fresh = refl
-  unclosed Surveying = refl
+      none : (t.course.purpose ≡ Opening) ⊎ (t.course.purpose ≡ Drawing) → closing_of t.course.purpose ≡ None
+      none (inl e) = ap closing_of e
+      none (inr e) = ap closing_of e
 
-  by : (s : Stage) → IsHeard t s → closing_of t.course.purpose ≡ None → t.silent < most_silent t.course.way → begins_at t s ≡ first
-      → ((r : SearchAddress) → s ≡ Unnamed r → ⊥) → ((r : SearchAddress) (b : ℕ) → s ≡ Withdrawn r b → ⊥) → IsMoment t o new
-  by s h going calm next unnamed found =
-      begun_moment t first o new (sym (ap (begins_at t) h.stage ∙ next))
-      (between_begins t first (heard_between t s h going calm unnamed found) (searches_first_way t.course.way t.course) (unclosed t.course.way)) begun
-
-  none : (t.course.purpose ≡ Opening) ⊎ (t.course.purpose ≡ Drawing) → closing_of t.course.purpose ≡ None
-  none (inl e) = ap closing_of e
-  none (inr e) = ap closing_of e
-
-  go : (s ≡ Opened) ⊎ (s ≡ DrawBarred) → IsMoment t o new
-  go (inl e) =
-      let x : IsHeard t Opened = subst (IsHeard t) e h in
-      by Opened x (none x.arrived) (calm_less t.course.way t.course.purpose t.silent (none x.arrived) x.calm) refl (λ r e. cc) (λ r b e. cc)
-  go (inr e) =
-      let x : IsHeard t DrawBarred = subst (IsHeard t) e h in
-      let going : closing_of t.course.purpose ≡ None = ap closing_of x.arrived in
-      by DrawBarred x going (calm_less t.course.way t.course.purpose t.silent going x.calm) refl (λ r e. cc) (λ r b e. cc)
+      go : (s ≡ Opened) ⊎ (s ≡ DrawBarred) → IsBetween t × (begins_at t s ≡ searching_first t.course.way t.course)
+      go (inl e) =
+          let x : IsHeard t Opened = subst (IsHeard t) e h in
+          (heard_between t Opened x (none x.arrived) x.calm (λ r e. cc) (λ r b e. cc), ap (begins_at t) e)
+      go (inr e) =
+          let x : IsHeard t DrawBarred = subst (IsHeard t) e h in
+          (heard_between t DrawBarred x (ap closing_of x.arrived) x.calm (λ r e. cc) (λ r b e. cc), ap (begins_at t) e)
 
 -- ---------------------------------------------------------------- after a question
 
 silence_is : (h : Answer) → is_yes h ≡ false → h ≡ Silence
 silence_is Silence e = refl
-silence_is (Byte v) e = absurd (cc)
-silence_is Damaged e = absurd (cc)
+silence_is _ e = absurd (cc)
 
 pub probed_moment : (t : Machine) (r : SearchAddress) (h : Answer) (s : Search) (step : Step) (o : Order) (new : Machine) → IsHeard t (Probed r h)
     → s ≡ answered t.course.search (is_yes h) → s.step ≡ step → (step ≡ Nobody → (is_yes h ≡ false) × (t.course.search.probe ≡ 0xFFFFFE))
@@ -149,14 +116,11 @@ probed_moment t r h s step o new heard is leads nobody begun =
       next : begins_at t (Probed r h) ≡ c
       next = ap (λ (x : Search). after_step x.step (record t.course { search = x })) (sym is) ∙ ap (λ x. after_step x (record t.course { search = s })) leads
 
-      going : closing_of t.course.purpose ≡ None
-      going = ap closing_of heard.arrived.0
-
       between : IsBetween t
-      between = heard_between t (Probed r h) heard going (calm_less t.course.way t.course.purpose t.silent going heard.calm) (λ q e. cc) (λ q b e. cc)
+      between = heard_between t (Probed r h) heard (ap closing_of heard.arrived.0) heard.calm (λ q e. cc) (λ q b e. cc)
 
-      probing : Knows t.course.way t.kept t.course.number t.course.search t.course.ascent t.course.opened Probing
-      probing = subst (Knows t.course.way t.kept t.course.number t.course.search t.course.ascent t.course.opened) heard.arrived.0 heard.knows
+      probing : KnowsFor t Probing
+      probing = subst (KnowsFor t) heard.arrived.0 heard.knows
 
       cause : (is_yes h ≡ false) × (t.course.search.probe ≡ 0xFFFFFE) → Cause t AllFound
       cause x = (
@@ -172,21 +136,14 @@ probed_moment t r h s step o new heard is leads nobody begun =
           → Begins t (after_step step (record t.course { search = s }))
       begins Again nobody = between_begins t _ between refl refl
       begins (Found n) nobody = between_begins t _ between refl refl
-      begins Nobody nobody = between_closes t _ AllFound between refl refl (cause (nobody refl))
+      begins Nobody nobody = between_shut t _ between (shuts t _ AllFound refl refl (cause (nobody refl)))
 
 -- ---------------------------------------------------------------- gear that cannot be addressed
 
-ask_or_call_open : (c : Course) (next : Option ℕ) → closing_of (ask_or_call c next).purpose ≡ None
-ask_or_call_open c None = refl
-ask_or_call_open c (Some a) = refl
-
 full_shut : (t : Machine) (c : Course) → c.way ≡ t.course.way → t.course.way ≡ Surveying → IsUngivable t → IsShut t (full t c)
 full_shut t c way survey ungivable = go (asks_again t) refl where
-  again : Course
-  again = record c { from = 0; opened = false; ascent = ascent_at_first; tally = asked_again c.tally }
-
-  go : (b : Bool) → asks_again t ≡ b → IsShut t (if b then ask_or_call again (next_asked t.kept 0) else closing c BlockFull)
-  go true is = opens t _ (ask_way again (next_asked t.kept 0) ∙ way) (ask_or_call_open again (next_asked t.kept 0))
+  go : (b : Bool) → asks_again t ≡ b → IsShut t (if b then asking_again t.kept c else closing c BlockFull)
+  go true is = asks_again_with (IsShut t) t.kept c (opens t _ way refl) (λ a. opens t _ way refl)
   go false is = shuts t _ BlockFull way refl (subst (IsBlockFull t) (sym survey) (ungivable, is))
 
 undrawn_shut : (t : Machine) (c : Course) → c.way ≡ t.course.way → t.course.way ≡ Surveying → c.tally ≡ t.course.tally → IsUndrawn t → IsShut t (undrawn t c)
@@ -214,8 +171,7 @@ record IsHunted (t : Machine) (r : SearchAddress) (h : Answer) (left : ℕ) : Ty
   pub going : closing_of t.course.purpose ≡ None
 
 hunted_between : (t : Machine) (r : SearchAddress) (h : Answer) (left : ℕ) → IsHunted t r h left → IsBetween t
-hunted_between t r h left x =
-    heard_between t (Hunted r (Some h) left) x.heard x.going (calm_less t.course.way t.course.purpose t.silent x.going x.heard.calm) (λ q e. cc) (λ q b e. cc)
+hunted_between t r h left x = heard_between t (Hunted r (Some h) left) x.heard x.going x.heard.calm (λ q e. cc) (λ q b e. cc)
 
 hunted_shut : (t : Machine) (r : SearchAddress) (h : Answer) (left : ℕ) → IsHunted t r h left → t.course.purpose ≡ Hunting → IsShut t (hunted_in t h)
 hunted_shut t r h left x hunting = go (leads_to (hunted t.course h).ascent) refl where
@@ -232,20 +188,15 @@ hunted_shut t r h left x hunting = go (leads_to (hunted t.course h).ascent) refl
     none = none;
   })
 
-pub surveys : (y : Way) → IsSurvey y → y ≡ Surveying
+surveys : (y : Way) → IsSurvey y → y ≡ Surveying
 surveys Fresh survey = absurd survey
 surveys Surveying survey = refl
-
-hunts_heard : (t : Machine) (r : SearchAddress) (h : Answer) (left : ℕ) → IsHeard t (Hunted r (Some h) left) → t.course.purpose ≡ Hunting → IsHunted t r h left
-hunts_heard t r h left heard hunting =
-    let known : Knows t.course.way t.kept t.course.number t.course.search t.course.ascent t.course.opened Hunting =
-    subst (Knows t.course.way t.kept t.course.number t.course.search t.course.ascent t.course.opened) hunting heard.knows in
-    record { heard = heard; survey = surveys t.course.way known.1; going = ap closing_of hunting }
 
 pub hunted_begins : (t : Machine) (r : SearchAddress) (h : Answer) (left : ℕ) → IsHeard t (Hunted r (Some h) left) → t.course.purpose ≡ Hunting
     → Begins t (hunted_in t h)
 hunted_begins t r h left heard hunting =
-    let x = hunts_heard t r h left heard hunting in
+    let known : KnowsFor t Hunting = subst (KnowsFor t) hunting heard.knows in
+    let x : IsHunted t r h left = record { heard = heard; survey = surveys t.course.way known.1; going = ap closing_of hunting } in
     between_shut t (hunted_in t h) (hunted_between t r h left x) (hunted_shut t r h left x hunting)
 
 -- ---------------------------------------------------------------- after a roll call
@@ -292,16 +243,12 @@ called_shut t r h left x is opened mask true e = go (is_blocked t.course.tally) 
 pub called_moment : (t : Machine) (r : SearchAddress) (h : Answer) (left : ℕ) (o : Order) (new : Machine) → IsHeard t (Hunted r (Some h) left)
     → t.course.purpose ≡ Calling → Begun t (called_in t h) o new → IsMoment t o new
 called_moment t r h left o new heard is begun =
-    let known : Knows t.course.way t.kept t.course.number t.course.search t.course.ascent t.course.opened Calling =
-    subst (Knows t.course.way t.kept t.course.number t.course.search t.course.ascent t.course.opened) is heard.knows in
+    let known : KnowsFor t Calling = subst (KnowsFor t) is heard.knows in
     let x : IsHunted t r h left = record { heard = heard; survey = surveys t.course.way known.0.1; going = ap closing_of is } in
     begun_moment t (called_in t h) o new (sym (ap (begins_at t) heard.stage ∙ ap (λ p. compared_in t p h) is))
     (between_shut t (called_in t h) (hunted_between t r h left x) (called_shut t r h left x is known.0.0 known.1 (is_yes h) refl)) begun
 
 -- ---------------------------------------------------------------- after MASK was answered
-
-same_unnamed : (r q : SearchAddress) → Unnamed r ≡ Unnamed q → r ≡ q
-same_unnamed r q e = cc
 
 ungiven_shut : (t : Machine) (r : SearchAddress) (y : Way) → t.course.way ≡ y → stage_of t.trace ≡ Unnamed r → IsUngiven y t r → IsShut t (ungiven t y)
 ungiven_shut t r Fresh way stage left = shuts t _ BlockFull refl refl (subst (IsBlockFull t) (sym way) (r, stage, left))
@@ -322,8 +269,8 @@ ungiven_moment t r o new h left begun =
     begun_moment t (ungiven t t.course.way) o new (sym next)
     (shut_begins t (ungiven t t.course.way) h.tries (calm_less t.course.way t.course.purpose t.silent going h.calm) going
     (ungiven_shut t r t.course.way refl h.stage left)
-    (λ q e. (subst (IsUngiven t.course.way t) (same_unnamed r q (sym h.stage ∙ e)) left, ungiven_next t t.course.way next))
-    (λ q b e. absurd (let other : Unnamed r ≡ Withdrawn q b = sym h.stage ∙ e in cc))) begun
+    (λ q e. (let same : r ≡ q = cc (sym h.stage ∙ e) in subst (IsUngiven t.course.way t) same left, ungiven_next t t.course.way next))
+    (λ q b e. absurd (cc (sym h.stage ∙ e)))) begun
 
 -- ---------------------------------------------------------------- after a visit that failed
 
@@ -338,7 +285,7 @@ silenced_begins t tries visiting few unnamed found = go (t.silent == most_silent
   again false = opens t _ refl refl
 
   on : (y : Way) → IsShut t (silenced_on t y)
-  on Fresh = opens t _ (goes_on_way t.kept t.course.opened t.course) (goes_on_open t)
+  on Fresh = opens t _ (goes_on_keeps t).way (goes_on_open t)
   on Surveying = again (is_failed t.course.tally.failed (value_of t.course.number))
 
   go : (b : Bool) → (t.silent == most_silent t.course.way) ≡ b → Begins t (if b then closing t.course GaveUp else silenced_on t t.course.way)
@@ -346,28 +293,23 @@ silenced_begins t tries visiting few unnamed found = go (t.silent == most_silent
     tries = tries;
     way = refl;
     calm = few;
-    turns = inr (going, inl (same t.silent (most_silent t.course.way) is));
+    turns = inr (going, inl (grind (arith, nat_tests)));
     unnamed = λ r e. absurd (unnamed r e);
     found = λ r b e. absurd (found r b e);
-  } where
-    same : (n m : ℕ) → (n == m) ≡ true → n ≡ m
-    same n m e = grind (arith, nat_tests)
-  go false is = shut_begins t (silenced_on t t.course.way) tries (less t.silent (most_silent t.course.way) few is) going (on t.course.way)
-      (λ r e. absurd (unnamed r e)) (λ r b e. absurd (found r b e)) where
-        less : (n m : ℕ) → n ≤ m → (n == m) ≡ false → n < m
-        less n m most e = grind (arith, nat_tests)
+  }
+  go false is =
+      shut_begins t (silenced_on t t.course.way) tries (grind (arith, nat_tests)) going (on t.course.way)
+      (λ r e. absurd (unnamed r e)) (λ r b e. absurd (found r b e))
 
 pub silenced_moment : (t : Machine) (r : SearchAddress) (o : Order) (new : Machine)
     → IsHeard t (Unanswered r) ⊎ ((other : Option ℕ) × IsHeard t (Inconclusive r other))
     → next_course t ≡ silenced t → Begun t (silenced t) o new → IsMoment t o new
 silenced_moment t r o new (inl h) next begun =
-    begun_moment t (silenced t) o new (sym next) (silenced_begins t h.tries h.arrived.0 h.calm.0
-    (λ q e. let other : Unanswered r ≡ Unnamed q = sym h.stage ∙ e in cc) (λ q b e. let other : Unanswered r ≡ Withdrawn q b = sym h.stage ∙ e in cc)) begun
-silenced_moment t r o new (inr x) next begun =
-    let h = x.1 in
-    begun_moment t (silenced t) o new (sym next) (silenced_begins t h.tries h.arrived.0 h.calm.0
-    (λ q e. let other : Inconclusive r x.0 ≡ Unnamed q = sym h.stage ∙ e in cc)
-    (λ q b e. let other : Inconclusive r x.0 ≡ Withdrawn q b = sym h.stage ∙ e in cc)) begun
+    begun_moment t (silenced t) o new (sym next)
+    (silenced_begins t h.tries h.arrived.0 h.calm.0 (λ q e. cc (sym h.stage ∙ e)) (λ q b e. cc (sym h.stage ∙ e))) begun
+silenced_moment t r o new (inr (other, h)) next begun =
+    begun_moment t (silenced t) o new (sym next)
+    (silenced_begins t h.tries h.arrived.0 h.calm.0 (λ q e. cc (sym h.stage ∙ e)) (λ q b e. cc (sym h.stage ∙ e))) begun
 
 early_calm : (y : Way) (o : Bool) (i : ℕ) → o ≡ false → (i ≤ most_silent y) × (i ≡ most_silent y → o ≡ true) → i < most_silent y
 early_calm y o i early calm = omega (arith, late) where
@@ -379,52 +321,44 @@ pub resolved_moment : (t : Machine) (r : SearchAddress) (a : ℕ) (o : Order) (n
 resolved_moment t r a o new h early reserved begun =
     let next : next_course t ≡ resolving t.course a r =
     ap (begins_at t) h.stage ∙ ap (λ o. unanswered t r o (address_for t.kept.reserved (value_of r))) early ∙ ap (unanswered t r false) reserved in
-    let going : closing_of t.course.purpose ≡ None = ap closing_of h.arrived.0 in
+    let calm : IsWithinSilence t.course.way t.course.purpose t.silent =
+    rw h.arrived.0 (early_calm t.course.way t.course.opened t.silent early h.calm) in
     begun_moment t (resolving t.course a r) o new (sym next)
-    (between_begins t _ (heard_between t (Unanswered r) h going (early_calm t.course.way t.course.opened t.silent early h.calm) (λ q e. cc) (λ q b e. cc)) refl
-    refl) begun
+    (between_begins t _ (heard_between t (Unanswered r) h (ap closing_of h.arrived.0) calm (λ q e. cc) (λ q b e. cc)) refl refl) begun
 
 -- ---------------------------------------------------------------- after a number was passed over
 
 pub passed_moment : (t : Machine) (r : SearchAddress) (o : Order) (new : Machine) → IsHeard t (PassedOver r) → Begun t (hunting_above t.course) o new
     → IsMoment t o new
 passed_moment t r o new h begun =
-    let going : closing_of t.course.purpose ≡ None = ap closing_of h.arrived in
     begun_moment t (hunting_above t.course) o new (sym (ap (begins_at t) h.stage))
-    (between_begins t _ (heard_between t (PassedOver r) h going (calm_less t.course.way t.course.purpose t.silent going h.calm) (λ q e. cc) (λ q b e. cc)) refl
-    refl) begun
+    (between_begins t _ (heard_between t (PassedOver r) h (ap closing_of h.arrived) h.calm (λ q e. cc) (λ q b e. cc)) refl refl) begun
 
 -- ---------------------------------------------------------------- after queries
 
 -- no close queries
-queried_between : (t : Machine) (s : Stage) → IsHeard t s → closing_of t.course.purpose ≡ None → IsWithinSilence t.course.way t.course.purpose t.silent
-    → ((r : SearchAddress) → s ≡ Unnamed r → ⊥) → ((r : SearchAddress) (b : ℕ) → s ≡ Withdrawn r b → ⊥) → IsBetween t
-queried_between t s h going calm unnamed found =
-    heard_between t s h going (calm_less t.course.way t.course.purpose t.silent going calm) unnamed found
-
-asked_open : (p : Purpose) (b : ℕ) → ((p ≡ Resolving b) × (b < 64)) ⊎ (p ≡ Asking b) → closing_of p ≡ None
-asked_open p b (inl is) = ap closing_of is.0
+asked_open : (p : Purpose) (b : ℕ) → (p ≡ Resolving b) ⊎ (p ≡ Asking b) → closing_of p ≡ None
+asked_open p b (inl is) = ap closing_of is
 asked_open p b (inr is) = ap closing_of is
 
+unheard_open : (p : Purpose) (b : ℕ) → ((p ≡ Resolving b) × (b < 64)) ⊎ (p ≡ Asking b) → closing_of p ≡ None
+unheard_open p b (inl is) = ap closing_of is.0
+unheard_open p b (inr is) = ap closing_of is
+
 pub high_between : (t : Machine) (b : ℕ) (high : Option ℕ) → IsHeard t (HighAsked b high) → IsBetween t
-high_between t b None h = queried_between t (HighAsked b None) h (asked_open t.course.purpose b h.arrived) h.calm (λ r e. cc) (λ r c e. cc)
+high_between t b None h = heard_between t _ h (unheard_open t.course.purpose b h.arrived) h.calm (λ r e. cc) (λ r c e. cc)
 high_between t b (Some high) h =
-    queried_between t (HighAsked b (Some high)) h
-    (sends_open t.kept t.course.number t.course.purpose (HighAsked b (Some high)) h.arrived.0 h.arrived.1 (λ e. cc)) h.calm
-    (λ r e. cc) (λ r c e. cc)
+    heard_between t _ h (sends_open t.kept t.course.number t.course.purpose (HighAsked b (Some high)) h.arrived.0 h.arrived.1 (λ e. cc)) h.calm (λ r e. cc)
+    (λ r c e. cc)
 
 pub middle_between : (t : Machine) (b : ℕ) (bytes : Option (ℕ × ℕ)) → IsHeard t (MiddleAsked b bytes) → IsBetween t
-middle_between t b None h = queried_between t (MiddleAsked b None) h (asked_open t.course.purpose b h.arrived) h.calm (λ r e. cc) (λ r c e. cc)
+middle_between t b None h = heard_between t _ h (unheard_open t.course.purpose b h.arrived) h.calm (λ r e. cc) (λ r c e. cc)
 middle_between t b (Some bytes) h =
-    queried_between t (MiddleAsked b (Some bytes)) h
-    (sends_open t.kept t.course.number t.course.purpose (MiddleAsked b (Some bytes)) h.arrived.0 h.arrived.1 (λ e. cc))
-    h.calm (λ r e. cc) (λ r c e. cc)
+    heard_between t _ h (sends_open t.kept t.course.number t.course.purpose (MiddleAsked b (Some bytes)) h.arrived.0 h.arrived.1 (λ e. cc)) h.calm (λ r e. cc)
+    (λ r c e. cc)
 
 pub spelled_between : (t : Machine) (b : ℕ) (number : Option ℕ) → IsHeard t (Spelled b number) → IsBetween t
-spelled_between t b number h = queried_between t (Spelled b number) h (unclosed h.arrived) h.calm (λ r e. cc) (λ r c e. cc) where
-  unclosed : (t.course.purpose ≡ Resolving b) ⊎ (t.course.purpose ≡ Asking b) → closing_of t.course.purpose ≡ None
-  unclosed (inl is) = ap closing_of is
-  unclosed (inr is) = ap closing_of is
+spelled_between t b number h = heard_between t _ h (asked_open t.course.purpose b h.arrived) h.calm (λ r e. cc) (λ r c e. cc)
 
 -- a short address that was silent is asked again
 pub again_moment : (t : Machine) (b : ℕ) (high : Option ℕ) (o : Order) (new : Machine) → IsHeard t (HighAsked b high) → (t.asked ≡ 0 → ⊥)
@@ -449,18 +383,17 @@ enrolled_moment t b n o new e begun = goes_on_moment t o new e.between (ap (begi
 
 -- ---------------------------------------------------------------- the start
 
-unstarted_between : (w t : Machine) → IsUnstarted w → t.tries ≡ w.tries → t.silent ≡ w.silent → t.trace ≡ w.trace → t.course.purpose ≡ w.course.purpose
-    → IsBetween t
-unstarted_between w t u tries silent trace purpose =
+unstarted_between : (t : Machine) (w : Machine) → IsUnstarted w → t.tries ≡ w.tries → t.silent ≡ w.silent → t.trace ≡ w.trace
+    → t.course.purpose ≡ w.course.purpose → IsBetween t
+unstarted_between t w u tries silent trace purpose =
     let few : w.tries < 8 = u.ready.tries in
-    let calm : w.silent < most_silent Fresh = subst (λ y. w.silent < most_silent y) u.fresh
-    (subst (λ p. IsWithinSilence w.course.way p w.silent) u.opening u.ready.calm) in
+    let calm : w.silent < most_silent Fresh = rw u.fresh at (rw u.opening at u.ready.calm) in
     record {
-      tries = subst (λ n. n < 8) (sym tries) few;
-      silent = subst (λ n. n < most_silent t.course.way) (sym silent) (most t.course.way calm);
+      tries = omega arith;
+      silent = rw silent (most t.course.way calm);
       going = ap closing_of (purpose ∙ u.opening);
-      unnamed = λ r e. let other : Free ≡ Unnamed r = sym u.free ∙ ap stage_of (sym trace) ∙ e in cc;
-      found = λ r b e. absurd (let other : Free ≡ Withdrawn r b = sym u.free ∙ ap stage_of (sym trace) ∙ e in cc);
+      unnamed = λ r e. cc (sym u.free ∙ ap stage_of (sym trace) ∙ e);
+      found = λ r b e. absurd (cc (sym u.free ∙ ap stage_of (sym trace) ∙ e));
     } where
       most : (y : Way) → w.silent < most_silent Fresh → w.silent < most_silent y
       most Fresh less = less
@@ -476,7 +409,7 @@ pub survey_moment : (w : Machine) (o : Order) (new : Machine) → IsWhole w → 
 survey_moment w o new whole none begun =
     let t : Machine = machine_surveying w in
     let u : IsUnstarted w = subst (Pending w) none whole in
-    goes_on_moment t o new (unstarted_between w t u refl refl refl refl) (ap (begins_at t) u.free ∙ ap (at_rest t) none) begun
+    goes_on_moment t o new (unstarted_between t w u refl refl refl refl) (ap (begins_at t) u.free ∙ ap (at_rest t) none) begun
 
 -- ---------------------------------------------------------------- what a moment gives
 
@@ -489,31 +422,23 @@ moment_state t o new m = m.next.state ∙ ap (λ c. machine_ordered_on t c o) m.
 -- ---------------------------------------------------------------- what begins by a test
 
 pub undrawn_full : (t : Machine) (c : Course) (o : Order) (new : Machine) → has_open t ≡ false → Begun t (full t c) o new → Begun t (undrawn t c) o new
-undrawn_full t c o new is begun =
-    subst (λ b. Begun t (if b then (if nat_lt c.tally.draws 3 then drawing c else closing c GaveUp) else full t c) o new) (sym is) begun
+undrawn_full t c o new is begun = rw is begun
 
 -- gear do not draw if no address is open
 pub none_drawn : (t : Machine) → None ≡ least_open t.kept t.heard → may_draw t ≡ false
-none_drawn t none = subst (λ o. (nat_lt t.course.tally.draws 3 && is_some o) ≡ false) none (go (nat_lt t.course.tally.draws 3)) where
+none_drawn t none = rw (← none) (go (nat_lt t.course.tally.draws 3)) where
   go : (b : Bool) → (b && false) ≡ false
   go true = refl
   go false = refl
 
 pub ungiven_full : (t : Machine) (o : Order) (new : Machine) → may_draw t ≡ false → Begun t (full t t.course) o new → Begun t (ungiven t Surveying) o new
-ungiven_full t o new is begun = subst (λ b. Begun t (if b then opening_anew t.course else full t t.course) o new) (sym is) begun
+ungiven_full t o new is begun = rw is begun
 
 pub left_undrawn : (t : Machine) (c : Course) (o : Order) (new : Machine) → c.ascent.found ≡ 0 → Begun t (undrawn t c) o new → Begun t (nobody_left t c) o new
-left_undrawn t c o new is begun = subst (λ n. Begun t (if n == 0 then undrawn t c else calling c) o new) (sym is) begun
+left_undrawn t c o new is begun = let none : (c.ascent.found == 0) ≡ true = ap (λ n. n == 0) is in rw none begun
 
-full_asked : (t : Machine) (c : Course) (o : Order) (new : Machine) → asks_again t ≡ true → Begun t (asking_again t.kept c) o new → Begun t (full t c) o new
-full_asked t c o new is begun = subst (λ b. Begun t (if b then asking_again t.kept c else closing c BlockFull) o new) (sym is) begun
-
-full_closed : (t : Machine) (c : Course) (o : Order) (new : Machine) → asks_again t ≡ false → Begun t (closing c BlockFull) o new → Begun t (full t c) o new
-full_closed t c o new is begun = subst (λ b. Begun t (if b then asking_again t.kept c else closing c BlockFull) o new) (sym is) begun
-
-pub full_closes : (s : State) (k : Kept) (o : Order) (new : Machine) → asks_again (machine_with s k) ≡ false
-    → Begun (machine_with s k) (closing (course_of s) BlockFull) o new → Begun (machine_with s k) (full (machine_with s k) (course_of s)) o new
-full_closes s k o new is begun = full_closed (machine_with s k) (course_of s) o new is begun
+pub full_closes : (t : Machine) (c : Course) (o : Order) (new : Machine) → asks_again t ≡ false → Begun t (closing c BlockFull) o new → Begun t (full t c) o new
+full_closes t c o new is begun = rw is begun
 
 -- short addresses are asked again: gear are searched no longer
 abbrev asking_state : State → Tally → State
@@ -522,51 +447,34 @@ asking_state s y = record s { leg = leg.Asking 0 0; tally = y }
 again_on : (s : State) (k : Kept) (l : Leg) (y : Tally) (o : Order) (new : Machine) → l ≡ leg.Hunting (ascent_on l) → y ≡ asked_again s.tally
     → Begun (machine_with (asking_state s y) k) (ask_or_call (course_of (asking_state s y)) (next_asked k 0)) o new
     → Begun (machine_with (record s { leg = l }) k) (asking_again k (course_of (record s { leg = l }))) o new
-again_on s k (leg.Revisiting from) y o new hunting tally b = absurd (cc)
-again_on s k (leg.Asking from silences) y o new hunting tally b = absurd (cc)
-again_on s k (leg.Searching x) y o new hunting tally b = absurd (cc)
-again_on s k (leg.Hunting a) y o new hunting tally b = go
-    (subst (λ z. Begun (machine_with (asking_state s z) k) (ask_or_call (course_of (asking_state s z)) (next_asked k 0)) o new) tally b) where
-      go : Begun (machine_with (asking_state s (asked_again s.tally)) k) (ask_or_call (course_of (asking_state s (asked_again s.tally))) (next_asked k 0)) o new
-          → Begun (machine_with (record s { leg = leg.Hunting a }) k) (asking_again k (course_of (record s { leg = leg.Hunting a }))) o new
-      go c = counts (next_asked k 0) c where
-        d : Course
-        d = course_of (asking_state s (asked_again s.tally))
+again_on s k (leg.Hunting a) y o new hunting tally b = counts (next_asked k 0) (rw tally at b) where
+  d : Course
+  d = course_of (asking_state s (asked_again s.tally))
 
-        -- whether a short address is asked or the roll is called, no silence was counted
-        counts : (next : Option ℕ) → Begun (machine_with (asking_state s (asked_again s.tally)) k) (ask_or_call d next) o new
-            → Begun (machine_with (record s { leg = leg.Hunting a }) k) (ask_or_call d next) o new
-        counts None e = record { order = e.order; state = e.state; knows = e.knows }
-        counts (Some n) e = record { order = e.order; state = e.state; knows = e.knows }
+  -- whether a short address is asked or the roll is called, no silence was counted
+  counts : (next : Option ℕ) → Begun (machine_with (asking_state s (asked_again s.tally)) k) (ask_or_call d next) o new
+      → Begun (machine_with (record s { leg = leg.Hunting a }) k) (ask_or_call d next) o new
+  counts None e = record { order = e.order; state = e.state; knows = e.knows }
+  counts (Some n) e = record { order = e.order; state = e.state; knows = e.knows }
+again_on s k _ y o new hunting tally b = absurd (cc)
 
 pub full_asks : (s : State) (k : Kept) (y : Tally) (o : Order) (new : Machine) → s.leg ≡ leg.Hunting (ascent_on s.leg) → asks_again (machine_with s k) ≡ true
     → y ≡ asked_again s.tally → Begun (machine_with (asking_state s y) k) (ask_or_call (course_of (asking_state s y)) (next_asked k 0)) o new
     → Begun (machine_with s k) (full (machine_with s k) (course_of s)) o new
-full_asks s k y o new hunting is tally b = full_asked (machine_with s k) (course_of s) o new is (again_on s k s.leg y o new hunting tally b)
+full_asks s k y o new hunting is tally b = rw is (again_on s k s.leg y o new hunting tally b)
 
 -- ---------------------------------------------------------------- no gear is left
 
 unasked_beginning : (c : Course) (sent : SearchAddress) (left : ℕ) → is_hunting c.purpose ≡ false → beginning c ≡ question c sent left
-unasked_beginning c sent left none =
-    ap (λ b. if b && nat_lt (bytes_to_send c.number sent) left then Put LATER (frame_of (byte_to_send c.number sent)) else beginning c) (sym none)
-
-ask_or_call_other : (c : Course) (next : Option ℕ) → is_hunting (ask_or_call c next).purpose ≡ false
-ask_or_call_other c None = refl
-ask_or_call_other c (Some a) = refl
+unasked_beginning c sent left none = rw none
 
 full_other : (t : Machine) (c : Course) → is_hunting (full t c).purpose ≡ false
-full_other t c = go (asks_again t) where
-  go : (b : Bool) → is_hunting (if b then asking_again t.kept c else closing c BlockFull).purpose ≡ false
-  go true = ask_or_call_other (record c { from = 0; opened = false; ascent = ascent_at_first; tally = asked_again c.tally }) (next_asked t.kept 0)
-  go false = refl
+full_other t c = let other = λ (d : Course). is_hunting d.purpose ≡ false in either other (asks_again t) (asks_again_with other t.kept c refl (λ a. refl)) refl
 
 left_other : (t : Machine) (c : Course) → is_hunting (nobody_left t c).purpose ≡ false
-left_other t c = go (c.ascent.found == 0) (has_open t) (nat_lt c.tally.draws 3) where
-  go : (b d e : Bool) → is_hunting (if b then (if d then (if e then drawing c else closing c GaveUp) else full t c) else calling c).purpose ≡ false
-  go true true true = refl
-  go true true false = refl
-  go true false e = full_other t c
-  go false d e = refl
+left_other t c =
+    let other = λ (d : Course). is_hunting d.purpose ≡ false in
+    either other (c.ascent.found == 0) (either other (has_open t) (either other (nat_lt c.tally.draws 3) refl refl) (full_other t c)) refl
 
 -- after the last no of a hunt
 abbrev hunting_state : State → Ascent → State
@@ -644,17 +552,11 @@ probed_state s k x y r h said step o new heard is says told leads nobody begun =
 
 pub silenced_closes : (t : Machine) (o : Order) (new : Machine) → t.silent ≡ most_silent t.course.way → Begun t (closing t.course GaveUp) o new
     → Begun t (silenced t) o new
-silenced_closes t o new is begun =
-    subst (λ b. Begun t (if b then closing t.course GaveUp else silenced_on t t.course.way) o new)
-    (sym (same t.silent (most_silent t.course.way) is)) begun where
-      same : (n m : ℕ) → n ≡ m → (n == m) ≡ true
-      same n m e = grind (arith, nat_tests)
+silenced_closes t o new is begun = let same : (t.silent == most_silent t.course.way) ≡ true = grind (arith, nat_tests) in rw same begun
 
 pub silenced_anew : (t : Machine) (y : Way) (o : Order) (new : Machine) → (t.silent ≡ most_silent t.course.way → ⊥) → t.course.way ≡ y
     → Begun t (silenced_on t y) o new → Begun t (silenced t) o new
-silenced_anew t y o new more way begun =
-    subst (λ b. Begun t (if b then closing t.course GaveUp else silenced_on t t.course.way) o new) (sym (ne_eqb t.silent (most_silent t.course.way) more))
-    (subst (λ z. Begun t (silenced_on t z) o new) (sym way) begun)
+silenced_anew t y o new more way begun = rw (ne_eqb t.silent (most_silent t.course.way) more) (subst (λ z. Begun t (silenced_on t z) o new) (sym way) begun)
 
 -- if gear are not searched in a survey, a visit is one of a start
 pub visited_leg : (l : Leg) (k : Kept) (n : SearchAddress)
@@ -665,7 +567,6 @@ visited_leg l k n (inr (inl is)) knows =
     absurd (let no : false ≡ true = (subst (λ (l : Leg). Knows (way_on l) k n (search_on l) (ascent_on l) (is_searching l) Visiting) is.2 knows).1 in cc)
 visited_leg l k n (inr (inr is)) knows = ap way_on is.1
 
-pub failed_visit : (t : Machine) (r : SearchAddress) → IsHeard t (Unanswered r) ⊎ ((other : Option ℕ) × IsHeard t (Inconclusive r other))
-    → Knows t.course.way t.kept t.course.number t.course.search t.course.ascent t.course.opened Visiting
-failed_visit t r (inl h) = subst (Knows t.course.way t.kept t.course.number t.course.search t.course.ascent t.course.opened) h.arrived.0 h.knows
-failed_visit t r (inr x) = subst (Knows t.course.way t.kept t.course.number t.course.search t.course.ascent t.course.opened) x.1.arrived.0 x.1.knows
+pub failed_visit : (t : Machine) (r : SearchAddress) → IsHeard t (Unanswered r) ⊎ ((other : Option ℕ) × IsHeard t (Inconclusive r other)) → KnowsFor t Visiting
+failed_visit t r (inl h) = subst (KnowsFor t) h.arrived.0 h.knows
+failed_visit t r (inr x) = subst (KnowsFor t) x.1.arrived.0 x.1.knows

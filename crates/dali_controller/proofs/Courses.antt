@@ -1,24 +1,24 @@
 use Rattle.std.proofs.Common.{◌≡◌, ℕ, ◌+◌, ◌-◌, ◌<◌, inl, inr, Bool, true, false, List, [], ◌∷◌, ◌++◌, refl, sym, ap, subst, ◌∙◌, arith, Option, Some, None}
-use Rattle.std.proofs.{Common.{◌==◌, nat_lt, MatchOption, is_some, suc, if◌then◌else◌}, lemmas.Bool.Decides.nat_tests}
-use Rattle.dali_frame.specs.{Priority.LATER, Random.value_of, declared.{frames.{Answer.Answer, Forward.Forward}, numbers.SearchAddress.SearchAddress}}
+use Rattle.std.proofs.{Common.{◌==◌, nat_lt, MatchOption, is_some, suc, if◌then◌else◌, ◌⊎◌}, lemmas.Bool.Decides.nat_tests}
+use Rattle.dali_frame.specs.{Priority.LATER, Random.value_of, declared.frames.{Answer.{Answer, TheVariants.Silence}, Forward.Forward}}
+use Rattle.dali_frame.specs.declared.numbers.SearchAddress.{SearchAddress}
 use Rattle.dali_special.specs.{Command.frame_of, declared.command.Command.Command}
 use Rattle.dali_script.specs.{Due.{due_after, frame_put}, Records.{Assignment, Kept, Has, IsOnce, addresses, randoms, HasAddress, HasRandom}, Stages.stage_of}
-use Rattle.dali_script.specs.declared.orders.{End.TheVariants.{AllFound, BlockFull, GaveUp}, Order.{Order, TheVariants.{Put, Commit}}}
-use Rattle.dali_script.specs.declared.{records.Record.TheVariants.{Reserve, Enrol}, stage.Stage.{Stage, TheVariants.{Free, Opened, Probed, Unnamed}}}
-use Rattle.dali_script.specs.declared.stage.Stage.TheVariants.{Unanswered, Inconclusive, HighAsked, Spelled, Hunted, DrawBarred, PassedOver}
-use Rattle.dali_script.proofs.{Lists.has_map, Members.same_member, Transactions.stage_none}
+use Rattle.dali_script.specs.declared.{orders.Order.{Order, TheVariants.{Put, Commit}}, records.Record.TheVariants.{Reserve, Enrol}, stage.Stage.Stage}
+use Rattle.dali_script.specs.declared.stage.Stage.TheVariants.{Free, Opened, Probed, Unnamed, Unanswered, Inconclusive, HighAsked, Spelled, Hunted, DrawBarred}
+use Rattle.dali_script.{specs.declared.stage.Stage.TheVariants.PassedOver, proofs.{Lists.has_map, Members.same_member, Transactions.stage_none}}
 use Rattle.dali_search.specs.{Ascending.{leads_to, ascent_at_first}, Least.{Search, step_after, probe_after, next_probe, answered}, declared.step.Step.Step}
 use Rattle.dali_search.specs.declared.step.Step.TheVariants.{Again, Found, Nobody}
 use Rattle.dali_controller.specs.Course.{Course, turn_of, call_turn, is_yes, after_step, number_at, address_for, unless_enrolled, unfinished_at}
-use Rattle.dali_controller.specs.Course.{unfinished_among, hunted, searching_on, searching_first, here_or_later, closing, going_on, ask_or_call, next_asked}
-use Rattle.dali_controller.specs.Course.{going_on_early, visit_or_opening, next_unfinished, drawing, calling, opening_at_last, opening_anew, hunting_first}
-use Rattle.dali_controller.specs.{Machine.{Machine, machine_lost, machine_told}, Moments.{IsMoment, IsNext}, Next.{begins_at, course_by, course_on, asked_on}}
-use Rattle.dali_controller.specs.Next.{next_course, beginning, full, asks_again, undrawn, has_open, nobody_left, BeginsWith, silenced, silenced_on}
-use Rattle.dali_controller.specs.Next.{missed_again, is_failed, most_silent, goes_on_to, hunted_to, compared_in, called_to, blocked, is_blocked, may_draw}
-use Rattle.dali_controller.specs.{Next.{ungiven, question, unanswered, at_rest, asked_once}, Orders.{machine_ordered, AfterFinding, IsFollowed, IsSought}}
-use Rattle.dali_controller.specs.{Tally.{asked_again, silent_call, heard_call}, Whole.{IsWhole, Pending}, declared.purpose.Purpose.Purpose}
-use Rattle.dali_controller.specs.declared.purpose.Purpose.TheVariants.{Opening, Probing, Visiting, Resolving, Closing, Asking, Hunting, Calling, Drawing}
-use Rattle.dali_controller.specs.declared.{purpose.Purpose.TheVariants.PassingOver, way.Way.{Way, TheVariants.{Fresh, Surveying}}}
+use Rattle.dali_controller.specs.Course.{unfinished_among, hunted, searching_on, searching_first, here_or_later, going_on, ask_or_call, next_asked}
+use Rattle.dali_controller.specs.Course.{going_on_early, visit_or_opening, next_unfinished, calling, searching_anew, visiting, asking, hunting_on, opening}
+use Rattle.dali_controller.specs.{Course.{calling_first, asking_again}, Machine.{Machine, machine_lost, machine_told}, Moments.{IsMoment, IsNext}}
+use Rattle.dali_controller.specs.Next.{begins_at, course_by, course_on, asked_on, next_course, beginning, full, asks_again, undrawn, has_open, BeginsWith}
+use Rattle.dali_controller.specs.Next.{silenced, silenced_on, missed_again, is_failed, most_silent, goes_on_to, hunted_to, compared_in, called_to, is_blocked}
+use Rattle.dali_controller.specs.{Next.{may_draw, ungiven, question, unanswered, at_rest, asked_once, hunted_in}, Orders.{machine_ordered, AfterFinding}}
+use Rattle.dali_controller.specs.{Orders.{IsFollowed, IsSought}, Whole.{IsWhole, Pending}, declared.purpose.Purpose.{Purpose, TheVariants.{Opening, Probing}}}
+use Rattle.dali_controller.specs.declared.purpose.Purpose.TheVariants.{Visiting, Resolving, Closing, Asking, Hunting, Calling, Drawing, PassingOver}
+use Rattle.dali_controller.specs.{declared.way.Way.{Way, TheVariants.{Fresh, Surveying}}, Tally.asked_again}
 use Rattle.dali_script.specs.declared.orders.Due.TheVariants as due
 use Rattle.dali_script.specs.declared.orders.Input.TheVariants as input
 
@@ -224,139 +224,139 @@ followed_heard w mid o f h put is sent told another unconfirmed hunted called = 
   enrolled = λ b n e. absurd (let there = subst (λ l. frame_put l ≡ Some f) (sym (heard_last w f h put) ∙ e) put in cc);
 }
 
--- ---------------------------------------------------------------- how a machine began
+-- ---------------------------------------------------------------- what a course keeps
 
--- stays as it is
-visit_way : (c : Course) (next : Option (ℕ × ℕ)) → (visit_or_opening c next).way ≡ c.way
-visit_way c None = refl
-visit_way c (Some next) = refl
+-- one of two courses, by a test
+pub either : (P : Course → Type 0) {new other : Course} (b : Bool) → P new → P other → P (if b then new else other)
+either P true one two = one
+either P false one two = two
 
-pub ask_way : (c : Course) (next : Option ℕ) → (ask_or_call c next).way ≡ c.way
-ask_way c None = refl
-ask_way c (Some a) = refl
+-- what holds of each course with which a machine goes on
+asks_by : (P : Course → Type 0) (c : Course) (next : Option ℕ) → P (calling_first c) → ((a : ℕ) → P (asking c a)) → P (ask_or_call c next)
+asks_by P c None calls asks = calls
+asks_by P c (Some a) calls asks = asks a
 
-pub goes_on_way : (k : Kept) (o : Bool) (c : Course) → (going_on k o c).way ≡ c.way
-goes_on_way k o c = go o where
-  early : (y : Way) → (going_on_early k y c).way ≡ c.way
-  early Fresh = visit_way c (next_unfinished k c.from)
-  early Surveying = ask_way c (next_asked k c.from)
+abbrev again : Course → Course
+again c = record c { from = 0; opened = false; ascent = ascent_at_first; tally = asked_again c.tally }
 
-  searches : (y : Way) → (searching_on y c).way ≡ c.way
-  searches Fresh = refl
-  searches Surveying = refl
+pub asks_again_with : (P : Course → Type 0) (k : Kept) (c : Course) → P (calling_first (again c)) → ((a : ℕ) → P (asking (again c) a)) → P (asking_again k c)
+asks_again_with P k c calls asks = asks_by P (again c) (next_asked k 0) calls asks
 
-  go : (o : Bool) → (going_on k o c).way ≡ c.way
-  go true = searches c.way
-  go false = early c.way
+pub goes_on_with : (P : Course → Type 0) (k : Kept) (o : Bool) (c : Course) → P (searching_anew c) → P (hunting_on c) → P (opening c)
+    → ((from r : ℕ) → P (visiting (record c { from = from }) r)) → P (calling_first c) → ((a : ℕ) → P (asking c a)) → P (going_on k o c)
+goes_on_with P k true c anew on opens visits calls asks = go c.way where
+  go : (y : Way) → P (searching_on y c)
+  go Fresh = anew
+  go Surveying = on
+goes_on_with P k false c anew on opens visits calls asks = go c.way where
+  visit : (next : Option (ℕ × ℕ)) → P (visit_or_opening c next)
+  visit None = opens
+  visit (Some next) = visits next.0 next.1
 
-pub searches_first_way : (y : Way) (c : Course) → (searching_first y c).way ≡ c.way
-searches_first_way Fresh c = refl
-searches_first_way Surveying c = refl
+  go : (y : Way) → P (going_on_early k y c)
+  go Fresh = visit (next_unfinished k c.from)
+  go Surveying = asks_by P c (next_asked k c.from) calls asks
 
-pub full_way : (t : Machine) (c : Course) → (full t c).way ≡ c.way
-full_way t c = go (asks_again t) where
-  again : Course
-  again = record c { from = 0; opened = false; ascent = ascent_at_first; tally = asked_again c.tally }
+-- how a machine began stays as it is, and no silent roll call is counted that was not counted before
+pub record Keeps (c new : Course) : Type 0 where
+  pub way : new.way ≡ c.way
+  pub silent : new.tally.is_silent ≡ true → c.tally.is_silent ≡ true
 
-  go : (b : Bool) → (if b then ask_or_call again (next_asked t.kept 0) else closing c BlockFull).way ≡ c.way
-  go true = ask_way again (next_asked t.kept 0)
-  go false = refl
+stays : {c new : Course} → new.way ≡ c.way → new.tally.is_silent ≡ c.tally.is_silent → Keeps c new
+stays {c} {new} way same = record { way = way; silent = λ s. sym same ∙ s }
 
-pub undrawn_way : (t : Machine) (c : Course) → (undrawn t c).way ≡ c.way
-undrawn_way t c = go (has_open t) (nat_lt c.tally.draws 3) where
-  go : (b d : Bool) → (if b then (if d then drawing c else closing c GaveUp) else full t c).way ≡ c.way
-  go true true = refl
-  go true false = refl
-  go false d = full_way t c
+pub goes_on_keeps : (t : Machine) → Keeps t.course (goes_on_to t)
+goes_on_keeps t =
+    goes_on_with (Keeps t.course) t.kept t.course.opened t.course (stays refl refl) (stays refl refl) (stays refl refl) (λ a r. stays refl refl)
+    (stays refl refl) (λ a. stays refl refl)
 
-pub nobody_left_way : (t : Machine) (c : Course) → (nobody_left t c).way ≡ c.way
-nobody_left_way t c = go (c.ascent.found == 0) where
-  go : (b : Bool) → (if b then undrawn t c else calling c).way ≡ c.way
-  go true = undrawn_way t c
-  go false = refl
+pub searches_first_keeps : (y : Way) (c : Course) → Keeps c (searching_first y c)
+searches_first_keeps Fresh c = stays refl refl
+searches_first_keeps Surveying c = stays refl refl
 
-pub hunts_way : (t : Machine) (s : Step) (c : Course) → (hunted_to t s c).way ≡ c.way
-hunts_way t Again c = refl
-hunts_way t (Found r) c = refl
-hunts_way t Nobody c = nobody_left_way t c
+full_keeps : (t : Machine) (c : Course) → Keeps c (full t c)
+full_keeps t c = either (Keeps c) (asks_again t) (asks_again_with (Keeps c) t.kept c (stays refl refl) (λ a. stays refl refl)) (stays refl refl)
 
-pub blocked_way : (t : Machine) → (blocked t).way ≡ t.course.way
-blocked_way t = go (may_draw t) where
-  go : (b : Bool) → (if b then opening_at_last t.course else closing t.course GaveUp).way ≡ t.course.way
-  go true = refl
-  go false = refl
+undrawn_keeps : (t : Machine) (c : Course) → Keeps c (undrawn t c)
+undrawn_keeps t c =
+    either (Keeps c) (has_open t) (either (Keeps c) (nat_lt c.tally.draws 3) (stays refl refl) (stays refl refl)) (full_keeps t c)
 
-pub called_way : (t : Machine) (b : Bool) → (called_to t b t.course).way ≡ t.course.way
-called_way t false = go t.course.tally.is_silent where
-  go : (b : Bool) → (if b then closing t.course AllFound else calling (record t.course { tally = silent_call t.course.tally })).way ≡ t.course.way
-  go true = refl
-  go false = refl
-called_way t true = go (is_blocked t.course.tally) where
-  go : (b : Bool) → (if b then blocked t else hunting_first (record t.course { tally = heard_call t.course.tally })).way ≡ t.course.way
-  go true = blocked_way t
-  go false = refl
+hunts_keep : (t : Machine) (s : Step) (c : Course) → Keeps c (hunted_to t s c)
+hunts_keep t Nobody c = either (Keeps c) (c.ascent.found == 0) (undrawn_keeps t c) (stays refl refl)
+hunts_keep t Again c = stays refl refl
+hunts_keep t (Found r) c = stays refl refl
 
-pub ungiven_way : (t : Machine) (y : Way) → (ungiven t y).way ≡ t.course.way
-ungiven_way t Fresh = refl
-ungiven_way t Surveying = go (may_draw t) where
-  go : (b : Bool) → (if b then opening_anew t.course else full t t.course).way ≡ t.course.way
-  go true = refl
-  go false = full_way t t.course
+pub hunted_keeps : (t : Machine) (h : Answer) → Keeps t.course (hunted_in t h)
+hunted_keeps t h = let k = hunts_keep t (leads_to (hunted t.course h).ascent) (hunted t.course h) in record { way = k.way; silent = k.silent }
 
-pub silenced_way : (t : Machine) → (silenced t).way ≡ t.course.way
-silenced_way t = go (t.silent == most_silent t.course.way) where
-  again : (b : Bool) → (missed_again b t.course).way ≡ t.course.way
-  again true = refl
-  again false = refl
+-- gear answered a roll call
+heard_keeps : (t : Machine) → Keeps t.course (called_to t true t.course)
+heard_keeps t =
+    either (Keeps t.course) (is_blocked t.course.tally)
+    (either (Keeps t.course) (may_draw t) (record { way = refl; silent = λ s. cc }) (stays refl refl)) (record { way = refl; silent = λ s. cc })
 
-  on : (y : Way) → (silenced_on t y).way ≡ t.course.way
-  on Fresh = goes_on_way t.kept t.course.opened t.course
+ungiven_keeps : (t : Machine) (y : Way) → Keeps t.course (ungiven t y)
+ungiven_keeps t Fresh = stays refl refl
+ungiven_keeps t Surveying = either (Keeps t.course) (may_draw t) (stays refl refl) (full_keeps t t.course)
+
+silenced_keeps : (t : Machine) → Keeps t.course (silenced t)
+silenced_keeps t = either (Keeps t.course) (t.silent == most_silent t.course.way) (stays refl refl) (on t.course.way) where
+  again : (b : Bool) → Keeps t.course (missed_again b t.course)
+  again true = stays refl refl
+  again false = stays refl refl
+
+  on : (y : Way) → Keeps t.course (silenced_on t y)
+  on Fresh = goes_on_keeps t
   on Surveying = again (is_failed t.course.tally.failed (value_of t.course.number))
 
-  go : (b : Bool) → (if b then closing t.course GaveUp else silenced_on t t.course.way).way ≡ t.course.way
-  go true = refl
-  go false = on t.course.way
+-- a COMPARE of a roll call was heard as silence: only how the machine began stays
+pub record IsSilentCall (t : Machine) (s : Stage) : Type 0 where
+  pub number : SearchAddress
+  pub left : ℕ
+  pub stage : s ≡ Hunted number (Some Silence) left
+  pub calling : t.course.purpose ≡ Calling
+  pub way : (begins_at t s).way ≡ t.course.way
+
+-- the transaction that begins at a stage
+pub keeps : (t : Machine) (s : Stage) → Keeps t.course (begins_at t s) ⊎ IsSilentCall t s
+keeps t (Hunted r (Some h) left) = go t.course.purpose refl h where
+  ends : (called_to t false t.course).way ≡ t.course.way
+  ends = either (λ d. d.way ≡ t.course.way) t.course.tally.is_silent refl refl
+
+  go : (p : Purpose) → t.course.purpose ≡ p → (h : Answer) → Keeps t.course (compared_in t p h) ⊎ IsSilentCall t (Hunted r (Some h) left)
+  go Calling is Silence =
+      inr (record { number = r; left = left; stage = refl; calling = is; way = ap (λ p. (compared_in t p Silence).way) is ∙ ends })
+  go Calling is _ = inl (heard_keeps t)
+  go _ is h = inl (hunted_keeps t h)
+keeps t Free = inl (go t.last) where
+  go : (last : Option Order) → Keeps t.course (at_rest t last)
+  go (Some (Put p f)) = stays refl refl
+  go (Some (Commit (Reserve a n))) = stays refl refl
+  go _ = goes_on_keeps t
+keeps t (HighAsked a high) = inl (go (t.asked == 0)) where
+  go : (b : Bool) → Keeps t.course (asked_once t b)
+  go true = goes_on_keeps t
+  go false = stays refl refl
+keeps t (Probed r h) = inl (go (answered t.course.search (is_yes h))) where
+  go : (x : Search) → Keeps t.course (after_step x.step (record t.course { search = x }))
+  go x = on x.step where
+    on : (s : Step) → Keeps t.course (after_step s (record t.course { search = x }))
+    on Again = stays refl refl
+    on (Found r) = stays refl refl
+    on Nobody = stays refl refl
+keeps t (Unanswered r) = inl (go t.course.opened (address_for t.kept.reserved (value_of r))) where
+  go : (opened : Bool) (a : Option ℕ) → Keeps t.course (unanswered t r opened a)
+  go false (Some a) = stays refl refl
+  go _ _ = silenced_keeps t
+keeps t Opened = inl (searches_first_keeps t.course.way t.course)
+keeps t DrawBarred = inl (searches_first_keeps t.course.way t.course)
+keeps t (Unnamed r) = inl (ungiven_keeps t t.course.way)
+keeps t (Inconclusive r other) = inl (silenced_keeps t)
+keeps t (PassedOver r) = inl (stays refl refl)
+keeps t _ = inl (goes_on_keeps t)
 
 pub keeps_way : (t : Machine) → (next_course t).way ≡ t.course.way
-keeps_way t = go (stage_of t.trace) where
-  on : (goes_on_to t).way ≡ t.course.way
-  on = goes_on_way t.kept t.course.opened t.course
-
-  unheard : (r : SearchAddress) (opened : Bool) (a : Option ℕ) → (unanswered t r opened a).way ≡ t.course.way
-  unheard r false (Some a) = refl
-  unheard r false None = silenced_way t
-  unheard r true a = silenced_way t
-
-  rest : (last : Option Order) → (at_rest t last).way ≡ t.course.way
-  rest (Some (Put p f)) = refl
-  rest (Some (Commit (Reserve a n))) = refl
-  rest _ = on
-
-  asks : (b : Bool) → (asked_once t b).way ≡ t.course.way
-  asks true = on
-  asks false = refl
-
-  answers : (s : Step) (c : Course) → (after_step s c).way ≡ c.way
-  answers Again c = refl
-  answers (Found r) c = refl
-  answers Nobody c = refl
-
-  compares : (p : Purpose) (h : Answer) → (compared_in t p h).way ≡ t.course.way
-  compares Calling h = called_way t (is_yes h)
-  compares _ h = hunts_way t (leads_to (hunted t.course h).ascent) (hunted t.course h)
-
-  go : (s : Stage) → (begins_at t s).way ≡ t.course.way
-  go Free = rest t.last
-  go Opened = searches_first_way t.course.way t.course
-  go DrawBarred = searches_first_way t.course.way t.course
-  go (Hunted r (Some h) left) = compares t.course.purpose h
-  go (HighAsked a high) = asks (t.asked == 0)
-  go (Probed r h) = answers (answered t.course.search (is_yes h)).step (record t.course { search = answered t.course.search (is_yes h) })
-  go (Unnamed r) = ungiven_way t t.course.way
-  go (Unanswered r) = unheard r t.course.opened (address_for t.kept.reserved (value_of r))
-  go (Inconclusive r other) = silenced_way t
-  go (PassedOver r) = refl
-  go _ = on
+keeps_way t = elim (keeps t (stage_of t.trace)) [ inl k ↦ k.way | inr x ↦ x.way ]
 
 pub keeps_fresh : (t : Machine) → t.course.way ≡ Fresh → (next_course t).way ≡ Fresh
 keeps_fresh t fresh = keeps_way t ∙ fresh

@@ -1,4 +1,4 @@
-use Rattle.std.proofs.Common.{arith, ◌≡◌, ◌⊎◌, inl, inr, ℕ, Bool, true, false, List, [], refl, sym, ap, subst, ◌∙◌, Option, Some, None, is_some}
+use Rattle.std.proofs.Common.{arith, ◌≡◌, ◌⊎◌, inl, inr, ℕ, true, List, [], refl, sym, ap, subst, ◌∙◌, Option, Some, None, is_some}
 use Rattle.dali_frame.specs.{Priority.{FIRST, LATER}, Random.value_of, declared.frames.{Answer.TheVariants.Silence, Forward.Forward}}
 use Rattle.dali_frame.specs.declared.numbers.SearchAddress.{SearchAddress}
 use Rattle.dali_special.specs.{Command.{command_of, frame_of}, declared.command.Command.{Command, TheVariants.{Terminate, Program}}}
@@ -8,13 +8,13 @@ use Rattle.dali_script.specs.declared.orders.{End.{End, TheVariants.{BlockFull, 
 use Rattle.dali_script.specs.declared.{records.Record.{Record, TheVariants.{Reserve, Enrol, Release}}, stage.Stage.{Stage, TheVariants.{Free, Terminated}}}
 use Rattle.dali_script.{specs.declared.stage.Stage.TheVariants.{Opened, Probed, Unnamed, Unanswered, Inconclusive, Withdrawn, Spelled}, proofs.Lists.has_map}
 use Rattle.dali_script.proofs.{Members.same_member, Transactions.{follows_lawful, stage_none}}
-use Rattle.dali_controller.specs.Course.{Course, closing_of, turn_of, searching_on, going_on, going_on_early, visit_or_opening, next_unfinished, ask_or_call}
-use Rattle.dali_controller.specs.{Course.next_asked, Machine.{Machine, machine_told}, Next.{next_course, begins_at, course_by, course_on, beginning}}
-use Rattle.dali_controller.specs.{Next.BeginsWith, Orders.{IsAllowed, MayEnrolOn, MayOrderPut, IsWarranted, IsBegun, IsCaused, Contradicts, AfterMask}}
-use Rattle.dali_controller.specs.Orders.{AfterMaskOn, AfterFinding, AfterEnrolled, IsFollowed, IsSought, IsOrdered, IsGiven, running_close}
-use Rattle.dali_controller.specs.declared.{purpose.Purpose.TheVariants.Closing, way.Way.{Way, TheVariants.{Fresh, Surveying}}}
-use Rattle.dali_script.specs.declared.orders.Fault.TheVariants as fault
+use Rattle.dali_controller.specs.{Course.{Course, closing_of, turn_of, going_on}, Machine.{Machine, machine_told}, Next.{next_course, begins_at, course_by}}
+use Rattle.dali_controller.specs.{Next.{course_on, beginning, BeginsWith}, Orders.{IsAllowed, MayEnrolOn, MayOrderPut, IsWarranted, IsBegun, IsCaused}}
+use Rattle.dali_controller.specs.Orders.{Contradicts, AfterMask, AfterMaskOn, AfterFinding, AfterEnrolled, IsFollowed, IsSought, IsOrdered, IsGiven}
+use Rattle.dali_controller.specs.{Orders.running_close, declared.{purpose.Purpose.TheVariants.Closing, way.Way.{Way, TheVariants.{Fresh, Surveying}}}}
+use Rattle.dali_controller.proofs.Courses.{goes_on_with}
 use Rattle.dali_script.specs.declared.orders.Input.TheVariants as input
+use Rattle.dali_script.specs.declared.orders.Fault.TheVariants as fault
 
 -- WHICH ORDER A MACHINE GIVES at which stage, once it was told its input: what is told of a step leaves no other.
 pub record IsGivenBy (t : Machine) (o : Order) : Type 0 where
@@ -223,26 +223,7 @@ enrolled t o b n given last free own = go o given (given.followed.enrolled b n l
 
 -- A CLOSE THAT WAS HEARD is the end that it was begun with.
 pub goes_on_open : (t : Machine) → closing_of (going_on t.kept t.course.opened t.course).purpose ≡ None
-goes_on_open t = go t.course.opened where
-  visits : (next : Option (ℕ × ℕ)) → closing_of (visit_or_opening t.course next).purpose ≡ None
-  visits None = refl
-  visits (Some next) = refl
-
-  asks : (next : Option ℕ) → closing_of (ask_or_call t.course next).purpose ≡ None
-  asks None = refl
-  asks (Some a) = refl
-
-  early : (y : Way) → closing_of (going_on_early t.kept y t.course).purpose ≡ None
-  early Fresh = visits (next_unfinished t.kept t.course.from)
-  early Surveying = asks (next_asked t.kept t.course.from)
-
-  searches : (y : Way) → closing_of (searching_on y t.course).purpose ≡ None
-  searches Fresh = refl
-  searches Surveying = refl
-
-  go : (opened : Bool) → closing_of (going_on t.kept opened t.course).purpose ≡ None
-  go true = searches t.course.way
-  go false = early t.course.way
+goes_on_open t = goes_on_with (λ c. closing_of c.purpose ≡ None) t.kept t.course.opened t.course refl refl refl (λ a r. refl) refl (λ a. refl)
 
 -- no frame is put if a close was heard: it would be none of the close, and begin no other
 no_put : (t : Machine) (p : ℕ) (f : Forward) (e : End) → running_close t ≡ Some e → stage_of t.trace ≡ Terminated → MayOrderPut t p f

@@ -26,6 +26,10 @@ use Rattle.dali_controller.specs.declared.{purpose.Purpose.TheVariants.{Resolvin
 use Rattle.dali_controller.specs.declared.way.Way.TheVariants.{Fresh, Surveying}
 use Rattle.dali_script.specs.declared.orders.Due.TheVariants as due
 
+-- what is known of a machine's course while its transaction is for this
+abbrev pub KnowsFor : Machine → Purpose → Type 0
+KnowsFor t p = Knows t.course.way t.kept t.course.number t.course.search t.course.ascent t.course.opened p
+
 -- THE COMMANDS OF A TRANSACTION. A command that is sent at a stage may follow there and is read from its frame; it is no
 -- direct arc power; past the first one no close runs; and what is known where it leads to.
 pub record Goes (k : Kept) (n : SearchAddress) (p : Purpose) (s : Stage) (c : Command) : Type 0 where
@@ -294,10 +298,6 @@ sends_calm k n y p _ c o i e calm = calm
 pub calm_less : (y : Way) (p : Purpose) (i : ℕ) → closing_of p ≡ None → IsWithinSilence y p i → i < most_silent y
 calm_less y (Closing end) i e calm = absurd (cc)
 calm_less y _ i e calm = calm
-
-pub less_calm : (y : Way) (p : Purpose) (i : ℕ) → closing_of p ≡ None → i < most_silent y → IsWithinSilence y p i
-less_calm y (Closing end) i e less = absurd (cc)
-less_calm y _ i e less = less
 
 -- A FRAME THAT IS OUTSTANDING
 pub sending : (w : Machine) (l : Option Order) (f : Forward) → frame_put l ≡ Some f → Pending w l → IsSending w f
