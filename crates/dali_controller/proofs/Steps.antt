@@ -1,6 +1,6 @@
 use Rattle.std.proofs.Common.{lit<, ◌≡◌, ◌⊎◌, inl, inr, ℕ, ◌+◌, ◌<◌, ◌≤◌, Bool, true, false, List, [], ◌∷◌, ◌++◌, refl, sym, ap, ap₂, subst, ◌∙◌, arith, Option}
 use Rattle.std.{proofs.{Common.{Some, None, ◌-◌, ◌==◌, ◌||◌, is_some, if◌then◌else◌}, lemmas.Bool.Decides.nat_tests}, specs.Prelude.unwrap_or}
-use Rattle.dali_frame.specs.{Priority.{FIRST, LATER}, Random.value_of, Short.short_of, declared.frames.Answer.{Answer, TheVariants.{Silence, Byte, Damaged}}}
+use Rattle.dali_frame.specs.{Priority.{FIRST, LATER}, Random.value_of, Short.short_of, declared.frames.Answer.{Answer, TheVariants.{Silence, Byte}}}
 use Rattle.dali_frame.specs.declared.{frames.Forward.Forward, numbers.SearchAddress.SearchAddress}
 use Rattle.dali_special.specs.{Command.{MASK, command_of, frame_of, IsSpelled}, declared.command.Command.{Command, TheVariants.{Terminate, Initialise}}}
 use Rattle.dali_special.specs.declared.command.Command.TheVariants.{Randomise, Compare, Withdraw, SearchHigh, SearchMiddle, SearchLow, Program, QueryShort}
@@ -8,8 +8,8 @@ use Rattle.dali_special.specs.declared.command.{Command.TheVariants.{RandomByte,
 use Rattle.dali_special.proofs.Table.{read_written}
 use Rattle.dali_script.specs.{Due.{due_after, frame_put}, Findings.{later, finding_of}, Records.{IsKept, Kept, Has, Fits, MayAdd}, Scripts.{MayGive, Lawful}}
 use Rattle.dali_script.specs.{Scripts.{is_asking, ASKING}, Stages.{hunted, byte_heard, bytes_heard, finding_at, stage_of, next_stage, queried, named, verified}}
-use Rattle.dali_script.specs.{Stages.{answered, doubted, Follows}, declared.{finding.Finding.Finding, orders.{End.{End, TheVariants.GaveUp}, Order.Order}}}
-use Rattle.dali_script.specs.declared.{orders.Order.TheVariants.{Put, Commit, Done, Halt}, records.Record.Record, stage.Stage.{Stage, TheVariants.Free}}
+use Rattle.dali_script.specs.{Stages.{answered, doubted, Follows, leads, given}, declared.{finding.Finding.Finding, orders.End.{End, TheVariants.GaveUp}}}
+use Rattle.dali_script.specs.declared.{orders.Order.{Order, TheVariants.{Put, Commit, Done}}, records.Record.Record, stage.Stage.{Stage, TheVariants.Free}}
 use Rattle.dali_script.specs.declared.stage.Stage.TheVariants.{Terminated, InitialisedOnce, Initialised, RandomisedOnce, HighSent, MiddleSent, NumberSent}
 use Rattle.dali_script.specs.declared.stage.Stage.TheVariants.{Found, Unnamed, Unanswered, Inconclusive, Programmed, Confirmed, Withdrawn, HighAsked}
 use Rattle.dali_script.specs.declared.stage.Stage.TheVariants.{MiddleAsked, Spelled, LowSent, Hunted, Over, WokenHigh, WokenLow, WokenMiddle, DrawFree}
@@ -40,22 +40,27 @@ pub record Goes (k : Kept) (n : SearchAddress) (p : Purpose) (s : Stage) (c : Co
   pub arrives : (h : Answer) → Arrived k n p (next_stage s c h)
 
 going : {k : Kept} {n : SearchAddress} {p : Purpose} {s : Stage} {c : Command} → Follows k.block k.reserved s c → IsSpelled c → ((g : Forward) → c ≡ Arc g → ⊥)
-    → ((s ≡ Free → ⊥) → closing_of p ≡ None)
-    → ((h : Answer) → Arrived k n p (next_stage s c h)) → Goes k n p s c
+    → ((s ≡ Free → ⊥) → closing_of p ≡ None) → ((h : Answer) → Arrived k n p (next_stage s c h)) → Goes k n p s c
 going {k} {n} {p} {s} {c} follows spelled addressing unclosed arrives =
     record { follows = follows; spelled = spelled; addressing = addressing; unclosed = unclosed; arrives = arrives }
+
+some_is : (x c : Command) → Some x ≡ Some c → c ≡ x
+some_is x c e = cc
+
+-- by its turn, of a transaction that is no close
+plain : {k : Kept} {n : SearchAddress} {p : Purpose} {s : Stage} {c d : Command} → Some d ≡ Some c → is_some (leads s d Silence) ≡ true → given s d ≡ None
+    → ((g : Forward) → d ≡ Arc g → ⊥) → closing_of p ≡ None → IsSpelled d → ((h : Answer) → Arrived k n p (next_stage s d h)) → Goes k n p s c
+plain {k} {n} {p} {s} {c} {d} is on none addressing unclosed spelled arrives =
+    rw (some_is d c is) (going (turn on none) spelled addressing (λ later. unclosed) arrives)
 
 -- the queries of a random address, of both kinds of transaction that ask it
 abbrev IsAsked : Purpose → ℕ → Type 0
 IsAsked p b = (p ≡ Resolving b) ⊎ (p ≡ Asking b)
 
-turn_middle : (p : Purpose) (n : SearchAddress) (b high : ℕ) → IsAsked p b → turn_of p n (HighAsked b (Some high)) ≡ Some (RandomByte b Middle)
-turn_middle p n b high (inl is) = rw is refl
-turn_middle p n b high (inr is) = rw is refl
-
-turn_low : (p : Purpose) (n : SearchAddress) (b : ℕ) (bytes : ℕ × ℕ) → IsAsked p b → turn_of p n (MiddleAsked b (Some bytes)) ≡ Some (RandomByte b Low)
-turn_low p n b bytes (inl is) = rw is refl
-turn_low p n b bytes (inr is) = rw is refl
+turns_asked : (p : Purpose) (n : SearchAddress) (b high : ℕ) (bytes : ℕ × ℕ) → IsAsked p b
+    → (turn_of p n (HighAsked b (Some high)) ≡ Some (RandomByte b Middle)) × (turn_of p n (MiddleAsked b (Some bytes)) ≡ Some (RandomByte b Low))
+turns_asked p n b high bytes (inl is) = rw is (refl, refl)
+turns_asked p n b high bytes (inr is) = rw is (refl, refl)
 
 unheard : {p : Purpose} {b : ℕ} → IsAsked p b → b < 64 → ((p ≡ Resolving b) × (b < 64)) ⊎ (p ≡ Asking b)
 unheard (inl is) small = inl (is, small)
@@ -63,11 +68,11 @@ unheard (inr is) small = inr is
 
 arrives_high : (k : Kept) (n : SearchAddress) (p : Purpose) (b : ℕ) (high : Option ℕ) → IsAsked p b → b < 64 → Arrived k n p (HighAsked b high)
 arrives_high k n p b None is small = unheard is small
-arrives_high k n p b (Some high) is small = (RandomByte b Middle, (turn_middle p n b high is, (is, small), tt))
+arrives_high k n p b (Some high) is small = (RandomByte b Middle, ((turns_asked p n b high (0, 0) is).0, (is, small), tt))
 
 arrives_middle : (k : Kept) (n : SearchAddress) (p : Purpose) (b : ℕ) (bytes : Option (ℕ × ℕ)) → IsAsked p b → b < 64 → Arrived k n p (MiddleAsked b bytes)
 arrives_middle k n p b None is small = unheard is small
-arrives_middle k n p b (Some bytes) is small = (RandomByte b Low, (turn_low p n b bytes is, (is, small), tt))
+arrives_middle k n p b (Some bytes) is small = (RandomByte b Low, ((turns_asked p n b 0 bytes is).1, (is, small), tt))
 
 goes_first : (k : Kept) (n : SearchAddress) (p : Purpose) → IsSpelled (first_of p n) → Goes k n p Free (first_of p n)
 goes_first k n Opening small = going (turn refl refl) tt (λ g x. cc) (λ later. refl) (λ h. inl (Initialise Unaddressed, (refl, tt, tt)))
@@ -81,17 +86,14 @@ goes_first k n Hunting small = going (turn refl refl) tt (λ g x. cc) (λ later.
 goes_first k n _ small = going (turn refl refl) tt (λ g x. cc) (λ later. refl) (λ h. (SearchMiddle n.middle, (refl, refl, tt)))
 
 arrives_queried : (k : Kept) (n r : SearchAddress) (h : Answer) → r ≡ n → Arrived k n Visiting (queried r h)
-arrives_queried k n r Silence is = (refl, is)
-arrives_queried k n r Damaged is = (refl, is)
 arrives_queried k n r (Byte v) is = go (short_of v) (v == MASK) where
   go : (o : Option ℕ) (m : Bool) → Arrived k n Visiting (named r o m)
   go (Some b) m = (Withdraw, (refl, sym is, tt))
   go None true = (refl, is)
   go None false = (refl, is)
+arrives_queried k n r _ is = (refl, is)
 
 arrives_verified : (k : Kept) (n r : SearchAddress) (a : ℕ) (h : Answer) → r ≡ n → MayGive k.block k.reserved r a → Arrived k n Visiting (verified r a h)
-arrives_verified k n r a Silence is may = (refl, is)
-arrives_verified k n r a Damaged is may = (refl, is)
 arrives_verified k n r a (Byte v) is may = go (short_of v) where
   go : (o : Option ℕ) → Arrived k n Visiting (answered r a o)
   go None = (refl, is)
@@ -99,12 +101,10 @@ arrives_verified k n r a (Byte v) is may = go (short_of v) where
     same : (m : Bool) → Arrived k n Visiting (if m then Confirmed r a else Inconclusive r (Some b))
     same true = (Withdraw, (refl, sym is, may))
     same false = (refl, is)
+arrives_verified k n r a _ is may = (refl, is)
 
 whole : (n : SearchAddress) (high middle : ℕ) → n.high ≡ high → n.middle ≡ middle → n ≡ record { high = high; middle = middle; low = n.low }
 whole n high middle one two = rw (← one, ← two) refl
-
-some_is : (x c : Command) → Some x ≡ Some c → c ≡ x
-some_is x c e = cc
 
 -- in a hunt a search byte or COMPARE follows, until all bytes are those of the number
 hunts_none : (k : Kept) (n r : SearchAddress) (left : ℕ) → bytes_to_send n r < left → Arrived k n Hunting (Hunted r None left)
@@ -120,42 +120,36 @@ leads_asking r left (SearchLow low) ask = refl
 leads_asking r left Compare ask = refl
 leads_asking r left _ ask = absurd (cc)
 
-pub goes_hunted : (k : Kept) (n : SearchAddress) (p : Purpose) (r : SearchAddress) (last : Option Answer) (left : ℕ) (c : Command) → p ≡ Hunting
-    → c ≡ byte_to_send n r
-    → bytes_to_send n r < left → Goes k n p (Hunted r last left) c
-goes_hunted k n p r last left c hunting is room =
-    subst (λ q. Goes k n q (Hunted r last left) c) (sym hunting)
-    (subst (λ d. Goes k n Hunting (Hunted r last left) d) (sym is)
-    (go (r.high == n.high) refl (r.low == n.low) refl (r.middle == n.middle) refl room)) where
-      some : (left == 0) ≡ false
-      some = grind (arith, nat_tests, room)
+pub goes_hunted : (k : Kept) (n r : SearchAddress) (last : Option Answer) (left : ℕ) → bytes_to_send n r < left
+    → Goes k n Hunting (Hunted r last left) (byte_to_send n r)
+goes_hunted k n r last left room = go (r.high == n.high) refl (r.low == n.low) refl (r.middle == n.middle) refl where
+  some : (left == 0) ≡ false
+  some = grind (arith, nat_tests, room)
 
-      asks : (d : Command) → is_asking d ≡ true → ((h : Answer) → Arrived k n Hunting (unwrap_or (hunted r (left - 1) d h) Over)) → IsSpelled d
-          → ((g : Forward) → d ≡ Arc g → ⊥) → Goes k n Hunting (Hunted r last left) d
-      asks d ask arrives spelled addressing =
-          going (turn (rw some (leads_asking r (left - 1) d ask)) refl) spelled addressing (λ later. refl) (λ h. rw some (arrives h))
+  asks : (d : Command) → is_asking d ≡ true → ((h : Answer) → Arrived k n Hunting (unwrap_or (hunted r (left - 1) d h) Over)) → IsSpelled d
+      → ((g : Forward) → d ≡ Arc g → ⊥) → Goes k n Hunting (Hunted r last left) d
+  asks d ask arrives spelled addressing =
+      going (turn (rw some (leads_asking r (left - 1) d ask)) refl) spelled addressing (λ later. refl) (λ h. rw some (arrives h))
 
-      -- if a byte is sent, the others stay as they are
-      byte : (m : SearchAddress) → bytes_to_send n m + 1 ≤ bytes_to_send n r → Arrived k n Hunting (Hunted m None (left - 1))
-      byte m fewer = hunts_none k n m (left - 1) (omega (arith, fewer, room))
+  -- if a byte is sent, the others stay as they are
+  byte : (m : SearchAddress) → bytes_to_send n m + 1 ≤ bytes_to_send n r → Arrived k n Hunting (Hunted m None (left - 1))
+  byte m fewer = hunts_none k n m (left - 1) (omega (arith, fewer, room))
 
-      go : (b : Bool) → (r.high == n.high) ≡ b → (d : Bool) → (r.low == n.low) ≡ d → (e : Bool) → (r.middle == n.middle) ≡ e
-          → bytes_to_send n r < left
-          → Goes k n Hunting (Hunted r last left) (if b then (if d then (if e then Compare else SearchMiddle n.middle) else SearchLow n.low)
-          else SearchHigh n.high)
-      go false one d two e three room =
-          asks (SearchHigh n.high) refl (λ h. byte (record r { high = n.high }) (rw (one, self n.high) (omega arith))) tt (λ g x. cc)
-      go true one false two e three room =
-          asks (SearchLow n.low) refl (λ h. byte (record r { low = n.low }) (rw (two, self n.low) (omega arith))) tt (λ g x. cc)
-      go true one true two false three room =
-          asks (SearchMiddle n.middle) refl (λ h. byte (record r { middle = n.middle }) (rw (three, self n.middle) (omega arith))) tt (λ g x. cc)
-      go true one true two true three room =
-          asks Compare refl (λ h. (inl refl, same)) tt (λ g x. cc) where
-            same : r ≡ n
-            same = let high : r.high ≡ n.high = equal r.high n.high one in let low : r.low ≡ n.low = equal r.low n.low two in
-                let middle : r.middle ≡ n.middle = equal r.middle n.middle three in
-                ap (λ x. record { high = x; middle = r.middle; low = r.low }) high ∙ ap (λ x. record { high = n.high; middle = x; low = r.low }) middle
-                ∙ ap (λ x. record { high = n.high; middle = n.middle; low = x }) low
+  go : (b : Bool) → (r.high == n.high) ≡ b → (d : Bool) → (r.low == n.low) ≡ d → (e : Bool) → (r.middle == n.middle) ≡ e
+      → Goes k n Hunting (Hunted r last left) (if b then (if d then (if e then Compare else SearchMiddle n.middle) else SearchLow n.low) else SearchHigh n.high)
+  go false one d two e three =
+      asks (SearchHigh n.high) refl (λ h. byte (record r { high = n.high }) (rw (one, self n.high) (omega arith))) tt (λ g x. cc)
+  go true one false two e three =
+      asks (SearchLow n.low) refl (λ h. byte (record r { low = n.low }) (rw (two, self n.low) (omega arith))) tt (λ g x. cc)
+  go true one true two false three =
+      asks (SearchMiddle n.middle) refl (λ h. byte (record r { middle = n.middle }) (rw (three, self n.middle) (omega arith))) tt (λ g x. cc)
+  go true one true two true three =
+      asks Compare refl (λ h. (inl refl, same)) tt (λ g x. cc) where
+        same : r ≡ n
+        same = let high : r.high ≡ n.high = equal r.high n.high one in let low : r.low ≡ n.low = equal r.low n.low two in
+            let middle : r.middle ≡ n.middle = equal r.middle n.middle three in
+            ap (λ x. record { high = x; middle = r.middle; low = r.low }) high ∙ ap (λ x. record { high = n.high; middle = x; low = r.low }) middle
+            ∙ ap (λ x. record { high = n.high; middle = n.middle; low = x }) low
 
 -- in a roll call COMPARE
 call_is : (last : Option Answer) (left : ℕ) (c : Command) → call_turn last left ≡ Some c → c ≡ Compare
@@ -164,20 +158,17 @@ call_is (Some Silence) left c e = go (left == 1) e where
   go : (b : Bool) → (if b then Some Compare else None) ≡ Some c → c ≡ Compare
   go true e = some_is Compare c e
   go false e = absurd (cc)
-call_is (Some (Byte v)) left c e = absurd (cc)
-call_is (Some Damaged) left c e = absurd (cc)
+call_is _ left c e = absurd (cc)
 
-goes_called : (k : Kept) (n r : SearchAddress) (last : Option Answer) (left : ℕ) (c : Command) → c ≡ Compare → r ≡ n → 0 < left
-    → Goes k n Calling (Hunted r last left) c
-goes_called k n r last left c is same more =
+goes_called : (k : Kept) (n r : SearchAddress) (last : Option Answer) (left : ℕ) → r ≡ n → 0 < left → Goes k n Calling (Hunted r last left) Compare
+goes_called k n r last left same more =
     let some : (left == 0) ≡ false = grind (arith, nat_tests, more) in
-    subst (λ d. Goes k n Calling (Hunted r last left) d) (sym is)
-    (going (turn (rw some refl) refl) tt (λ g x. cc) (λ later. refl) (λ h. rw some (inr refl, same)))
+    going (turn (rw some refl) refl) tt (λ g x. cc) (λ later. refl) (λ h. rw some (inr refl, same))
 
 goes_asked : (k : Kept) (n : SearchAddress) (p : Purpose) (r : SearchAddress) (last : Option Answer) (left : ℕ) (c : Command) → AsksOn p n r last left c
     → Goes k n p (Hunted r last left) c
-goes_asked k n Hunting r last left c e = goes_hunted k n Hunting r last left c refl e.0 e.1
-goes_asked k n Calling r last left c e = goes_called k n r last left c (call_is last left c e.0) e.1 e.2
+goes_asked k n Hunting r last left c e = rw e.0 (goes_hunted k n r last left e.1)
+goes_asked k n Calling r last left c e = rw (call_is last left c e.0) (goes_called k n r last left e.1 e.2)
 goes_asked k n _ r last left c e = elim e [ ]
 
 whole_called : (n : SearchAddress) (high low : ℕ) → n.high ≡ high → n.low ≡ low → record { high = high; middle = n.middle; low = low } ≡ n
@@ -185,65 +176,48 @@ whole_called n high low one two = rw (← one, ← two) refl
 
 arrives_doubted : (k : Kept) (n : SearchAddress) (h : Answer) → Arrived k n Drawing (doubted h)
 arrives_doubted k n Silence = (Randomise, (refl, tt, tt))
-arrives_doubted k n (Byte v) = refl
-arrives_doubted k n Damaged = refl
+arrives_doubted k n _ = refl
 
 goes : (k : Kept) (n : SearchAddress) (p : Purpose) (s : Stage) (c : Command) → Sends k n p s c → Goes k n p s c
-goes k n Opening Terminated c e = rw (some_is _ c e.0) (going (turn refl refl) tt (λ g x. cc) (λ later. refl) (λ h. (Initialise Unaddressed, (refl, tt, tt))))
-goes k n Opening InitialisedOnce c e = rw (some_is _ c e.0) (going (turn refl refl) tt (λ g x. cc) (λ later. refl) (λ h. (Randomise, (refl, tt, tt))))
-goes k n Opening Initialised c e = rw (some_is _ c e.0) (going (turn refl refl) tt (λ g x. cc) (λ later. refl) (λ h. (Randomise, (refl, tt, tt))))
-goes k n Opening RandomisedOnce c e = rw (some_is _ c e.0) (going (turn refl refl) tt (λ g x. cc) (λ later. refl) (λ h. inl refl))
-goes k n Calling Terminated c e = rw (some_is _ c e.0) (going (turn refl refl) tt (λ g x. cc) (λ later. refl) (λ h. (Initialise Unaddressed, (refl, tt, tt))))
-goes k n Calling InitialisedOnce c e = rw (some_is _ c e.0) (going (turn refl refl) tt (λ g x. cc) (λ later. refl) (λ h. (SearchHigh n.high, (refl, tt, tt))))
-goes k n Calling Initialised c e = rw (some_is _ c e.0) (going (turn refl refl) tt (λ g x. cc) (λ later. refl) (λ h. (SearchLow n.low, (refl, refl, tt))))
-goes k n Calling (WokenHigh high) c e =
-    rw (some_is _ c e.0) (going (turn refl refl) tt (λ g x. cc) (λ later. refl) (λ h. (SearchMiddle n.middle, (refl, (e.1, refl), tt))))
-goes k n Calling (WokenLow high low) c e =
-    rw (some_is _ c e.0) (going (turn refl refl) tt (λ g x. cc) (λ later. refl)
-    (λ h. (Compare, (refl, whole_called n high low e.1.0 e.1.1, lit< tt))))
-goes k n Drawing Terminated c e = rw (some_is _ c e.0) (going (turn refl refl) tt (λ g x. cc) (λ later. refl) (λ h. (Initialise Unaddressed, (refl, tt, tt))))
-goes k n Drawing InitialisedOnce c e = rw (some_is _ c e.0) (going (turn refl refl) tt (λ g x. cc) (λ later. refl) (λ h. (SearchHigh n.high, (refl, tt, tt))))
-goes k n Drawing Initialised c e = rw (some_is _ c e.0) (going (turn refl refl) tt (λ g x. cc) (λ later. refl) (λ h. (SearchMiddle n.middle, (refl, refl, tt))))
-goes k n Drawing (WokenHigh high) c e =
-    rw (some_is _ c e.0) (going (turn refl refl) tt (λ g x. cc) (λ later. refl) (λ h. (Compare, (refl, (e.1, refl), tt))))
-goes k n Drawing (WokenMiddle high middle) c e =
-    rw (some_is _ c e.0) (going (turn refl refl) tt (λ g x. cc) (λ later. refl) (λ h. arrives_doubted k n h))
-goes k n Drawing DrawFree c e = rw (some_is _ c e.0) (going (turn refl refl) tt (λ g x. cc) (λ later. refl) (λ h. (Randomise, (refl, tt, tt))))
-goes k n Drawing RandomisedOnce c e = rw (some_is _ c e.0) (going (turn refl refl) tt (λ g x. cc) (λ later. refl) (λ h. inr refl))
-goes k n PassingOver (HighSent high) c e =
-    rw (some_is _ c e.0) (going (turn refl refl) tt (λ g x. cc) (λ later. refl) (λ h. (SearchLow n.low, (refl, (e.1, refl), tt))))
-goes k n PassingOver (MiddleSent high middle) c e =
-    rw (some_is _ c e.0) (going (turn refl refl) tt (λ g x. cc) (λ later. refl) (λ h. (Withdraw, (refl, whole n high middle e.1.0 e.1.1, tt))))
-goes k n PassingOver (NumberSent r) c e = rw (some_is _ c e.0) (going (turn refl refl) tt (λ g x. cc) (λ later. refl) (λ h. refl))
-goes k n Probing (HighSent high) c e =
-    rw (some_is _ c e.0) (going (turn refl refl) tt (λ g x. cc) (λ later. refl) (λ h. (SearchLow n.low, (refl, (e.1, refl), tt))))
-goes k n Visiting (HighSent high) c e =
-    rw (some_is _ c e.0) (going (turn refl refl) tt (λ g x. cc) (λ later. refl) (λ h. (SearchLow n.low, (refl, (e.1, refl), tt))))
-goes k n Probing (MiddleSent high middle) c e =
-    rw (some_is _ c e.0) (going (turn refl refl) tt (λ g x. cc) (λ later. refl) (λ h. (Compare, (refl, whole n high middle e.1.0 e.1.1, tt))))
-goes k n Visiting (MiddleSent high middle) c e =
-    rw (some_is _ c e.0) (going (turn refl refl) tt (λ g x. cc) (λ later. refl) (λ h. (QueryShort, (refl, whole n high middle e.1.0 e.1.1, tt))))
-goes k n Hunting (HighSent high) c e =
-    rw (some_is _ c e.0) (going (turn refl refl) tt (λ g x. cc) (λ later. refl) (λ h. (SearchMiddle n.middle, (refl, (e.1, refl), tt))))
+goes k n Opening Terminated c e = plain e.0 refl refl (λ g x. cc) refl tt (λ h. (Initialise Unaddressed, (refl, tt, tt)))
+goes k n Opening InitialisedOnce c e = plain e.0 refl refl (λ g x. cc) refl tt (λ h. (Randomise, (refl, tt, tt)))
+goes k n Opening Initialised c e = plain e.0 refl refl (λ g x. cc) refl tt (λ h. (Randomise, (refl, tt, tt)))
+goes k n Opening RandomisedOnce c e = plain e.0 refl refl (λ g x. cc) refl tt (λ h. inl refl)
+goes k n Calling Terminated c e = plain e.0 refl refl (λ g x. cc) refl tt (λ h. (Initialise Unaddressed, (refl, tt, tt)))
+goes k n Calling InitialisedOnce c e = plain e.0 refl refl (λ g x. cc) refl tt (λ h. (SearchHigh n.high, (refl, tt, tt)))
+goes k n Calling Initialised c e = plain e.0 refl refl (λ g x. cc) refl tt (λ h. (SearchLow n.low, (refl, refl, tt)))
+goes k n Calling (WokenHigh high) c e = plain e.0 refl refl (λ g x. cc) refl tt (λ h. (SearchMiddle n.middle, (refl, (e.1, refl), tt)))
+goes k n Calling (WokenLow high low) c e = plain e.0 refl refl (λ g x. cc) refl tt (λ h. (Compare, (refl, whole_called n high low e.1.0 e.1.1, lit< tt)))
+goes k n Drawing Terminated c e = plain e.0 refl refl (λ g x. cc) refl tt (λ h. (Initialise Unaddressed, (refl, tt, tt)))
+goes k n Drawing InitialisedOnce c e = plain e.0 refl refl (λ g x. cc) refl tt (λ h. (SearchHigh n.high, (refl, tt, tt)))
+goes k n Drawing Initialised c e = plain e.0 refl refl (λ g x. cc) refl tt (λ h. (SearchMiddle n.middle, (refl, refl, tt)))
+goes k n Drawing (WokenHigh high) c e = plain e.0 refl refl (λ g x. cc) refl tt (λ h. (Compare, (refl, (e.1, refl), tt)))
+goes k n Drawing (WokenMiddle high middle) c e = plain e.0 refl refl (λ g x. cc) refl tt (λ h. arrives_doubted k n h)
+goes k n Drawing DrawFree c e = plain e.0 refl refl (λ g x. cc) refl tt (λ h. (Randomise, (refl, tt, tt)))
+goes k n Drawing RandomisedOnce c e = plain e.0 refl refl (λ g x. cc) refl tt (λ h. inr refl)
+goes k n PassingOver (HighSent high) c e = plain e.0 refl refl (λ g x. cc) refl tt (λ h. (SearchLow n.low, (refl, (e.1, refl), tt)))
+goes k n PassingOver (MiddleSent high middle) c e = plain e.0 refl refl (λ g x. cc) refl tt (λ h. (Withdraw, (refl, whole n high middle e.1.0 e.1.1, tt)))
+goes k n PassingOver (NumberSent r) c e = plain e.0 refl refl (λ g x. cc) refl tt (λ h. refl)
+goes k n Probing (HighSent high) c e = plain e.0 refl refl (λ g x. cc) refl tt (λ h. (SearchLow n.low, (refl, (e.1, refl), tt)))
+goes k n Visiting (HighSent high) c e = plain e.0 refl refl (λ g x. cc) refl tt (λ h. (SearchLow n.low, (refl, (e.1, refl), tt)))
+goes k n Probing (MiddleSent high middle) c e = plain e.0 refl refl (λ g x. cc) refl tt (λ h. (Compare, (refl, whole n high middle e.1.0 e.1.1, tt)))
+goes k n Visiting (MiddleSent high middle) c e = plain e.0 refl refl (λ g x. cc) refl tt (λ h. (QueryShort, (refl, whole n high middle e.1.0 e.1.1, tt)))
+goes k n Hunting (HighSent high) c e = plain e.0 refl refl (λ g x. cc) refl tt (λ h. (SearchMiddle n.middle, (refl, (e.1, refl), tt)))
 goes k n Hunting (LowSent high low) c e =
-    rw (some_is _ c e.0) (going (turn refl refl) tt (λ g x. cc) (λ later. refl)
-    (λ h. hunts_none k n (record { high = high; middle = n.middle; low = low }) ASKING (bytes_few n high low e.1.0 e.1.1)))
+    plain e.0 refl refl (λ g x. cc) refl tt
+    (λ h. hunts_none k n (record { high = high; middle = n.middle; low = low }) ASKING (bytes_few n high low e.1.0 e.1.1))
 goes k n p (Hunted r last left) c e = goes_asked k n p r last left c e
-goes k n Probing (NumberSent r) c e = rw (some_is _ c e.0) (going (turn refl refl) tt (λ g x. cc) (λ later. refl) (λ h. (refl, sym e.1)))
-goes k n Visiting (NumberSent r) c e = rw (some_is _ c e.0) (going (turn refl refl) tt (λ g x. cc) (λ later. refl) (λ h. arrives_queried k n r h (sym e.1)))
-goes k n Visiting (Found r b) c e = rw (some_is _ c e.0) (going (turn refl refl) tt (λ g x. cc) (λ later. refl) (λ h. (refl, sym e.1)))
+goes k n Probing (NumberSent r) c e = plain e.0 refl refl (λ g x. cc) refl tt (λ h. (refl, sym e.1))
+goes k n Visiting (NumberSent r) c e = plain e.0 refl refl (λ g x. cc) refl tt (λ h. arrives_queried k n r h (sym e.1))
+goes k n Visiting (Found r b) c e = plain e.0 refl refl (λ g x. cc) refl tt (λ h. (refl, sym e.1))
 goes k n (Resolving a) (HighAsked b high) c e =
-    rw (some_is _ c e.0) (going (turn (rw (self b) refl) refl) e.1.1 (λ g x. cc) (λ later. refl)
-    (λ h. subst (Arrived k n (Resolving a)) (sym (middle_next b high h)) (arrives_middle k n (Resolving a) b (bytes_heard high h) e.1.0 e.1.1)))
-goes k n (Resolving a) (MiddleAsked b bytes) c e =
-    rw (some_is _ c e.0) (going (turn (rw (self b) refl) refl) e.1.1 (λ g x. cc) (λ later. refl)
-    (λ h. subst (Arrived k n (Resolving a)) (sym (low_next b bytes h)) e.1.0))
+    plain e.0 (rw (self b) refl) refl (λ g x. cc) refl e.1.1
+    (λ h. rw (middle_next b high h) (arrives_middle k n (Resolving a) b (bytes_heard high h) e.1.0 e.1.1))
+goes k n (Resolving a) (MiddleAsked b bytes) c e = plain e.0 (rw (self b) refl) refl (λ g x. cc) refl e.1.1 (λ h. rw (low_next b bytes h) e.1.0)
 goes k n (Asking a) (HighAsked b (Some high)) c e =
-    rw (some_is _ c e.0) (going (turn (rw (self b) refl) refl) e.1.1 (λ g x. cc) (λ later. refl)
-    (λ h. subst (Arrived k n (Asking a)) (sym (middle_next b (Some high) h)) (arrives_middle k n (Asking a) b (bytes_heard (Some high) h) e.1.0 e.1.1)))
-goes k n (Asking a) (MiddleAsked b (Some bytes)) c e =
-    rw (some_is _ c e.0) (going (turn (rw (self b) refl) refl) e.1.1 (λ g x. cc) (λ later. refl)
-    (λ h. subst (Arrived k n (Asking a)) (sym (low_next b (Some bytes) h)) e.1.0))
+    plain e.0 (rw (self b) refl) refl (λ g x. cc) refl e.1.1
+    (λ h. rw (middle_next b (Some high) h) (arrives_middle k n (Asking a) b (bytes_heard (Some high) h) e.1.0 e.1.1))
+goes k n (Asking a) (MiddleAsked b (Some bytes)) c e = plain e.0 (rw (self b) refl) refl (λ g x. cc) refl e.1.1 (λ h. rw (low_next b (Some bytes) h) e.1.0)
 goes k n p Free c e = subst (Goes k n p Free) (sym e.0) (goes_first k n p (subst IsSpelled e.0 e.1))
 goes k n Visiting (Unnamed r) c e = rw e.2.3 (going (gives refl e.2.2) e.2.1 (λ g x. cc) (λ later. refl) (λ h. (QueryShort, (refl, sym e.1, e.2.2))))
 goes k n Visiting (Programmed r a) c e =
@@ -261,27 +235,17 @@ sends_open k n p s c e later = (goes k n p s c e).unclosed later
 not_withdrawn : (k : Kept) (n : SearchAddress) (p : Purpose) (r : SearchAddress) (b : ℕ) (c : Command) → Sends k n p (Withdrawn r b) c → ⊥
 not_withdrawn k n p r b c e = let on = (goes k n p (Withdrawn r b) c e).follows.leads_on in cc
 
-calm_unanswered : (y : Way) (o : Bool) (i : ℕ) → i < most_silent y → (r : SearchAddress)
-    → CalmAt (Unanswered r) y Visiting o (silent_after (Unanswered r) o i)
-calm_unanswered y true i h r = (omega arith, λ e. refl)
-calm_unanswered y false i h r = (omega arith, λ e. absurd (omega arith))
-
-calm_visiting : (y : Way) (o : Bool) (i : ℕ) → i < most_silent y → (r : SearchAddress) (other : Option ℕ)
-    → CalmAt (Inconclusive r other) y Visiting o (silent_after (Inconclusive r other) o i)
-calm_visiting y true i h r other = (omega arith, λ e. refl)
-calm_visiting y false i h r other = (omega arith, λ e. absurd (omega arith))
+pub calm_less : (y : Way) (p : Purpose) (i : ℕ) → closing_of p ≡ None → IsWithinSilence y p i → i < most_silent y
+calm_less y (Closing end) i e calm = absurd (cc)
+calm_less y _ i e calm = calm
 
 pub calm_at : (k : Kept) (n : SearchAddress) (y : Way) (o : Bool) (p : Purpose) (i : ℕ) (there : Stage) → Arrived k n p there → IsWithinSilence y p i
     → CalmAt there y p o (silent_after there o i)
-calm_at k n y o p i (Unanswered r) there e =
-    let h : i < most_silent y = subst (λ q. IsWithinSilence y q i) there.0 e in
-    calm_unanswered y o i h r
-calm_at k n y o p i (Inconclusive r other) there e =
-    let h : i < most_silent y = subst (λ q. IsWithinSilence y q i) there.0 e in
-    calm_visiting y o i h r other
-calm_at k n y o p i (Withdrawn r b) there e = rw there.0 (zero_less (most_silent y) i (subst (λ q. IsWithinSilence y q i) there.0 e)) where
-  zero_less : (most i : ℕ) → i < most → 0 < most
-  zero_less most i h = omega arith
+calm_at k n y true p i (Unanswered r) there e = let less = calm_less y p i (ap closing_of there.0) e in (omega arith, λ e. refl)
+calm_at k n y false p i (Unanswered r) there e = let less = calm_less y p i (ap closing_of there.0) e in (omega arith, λ e. absurd (omega arith))
+calm_at k n y true p i (Inconclusive r other) there e = let less = calm_less y p i (ap closing_of there.0) e in (omega arith, λ e. refl)
+calm_at k n y false p i (Inconclusive r other) there e = let less = calm_less y p i (ap closing_of there.0) e in (omega arith, λ e. absurd (omega arith))
+calm_at k n y o p i (Withdrawn r b) there e = let less = calm_less y p i (ap closing_of there.0) e in rw there.0 (omega (arith, less))
 calm_at k n y o p i _ there e = e
 
 pub tries_less : (complete : Bool) (n : ℕ) → n < 8 → tries_after complete n < 8
@@ -294,10 +258,6 @@ pub sends_calm : (k : Kept) (n : SearchAddress) (y : Way) (p : Purpose) (s : Sta
 sends_calm k n y p (Unanswered r) c o i e calm = absurd (let on = (goes k n p (Unanswered r) c e).follows.leads_on in cc)
 sends_calm k n y p (Inconclusive r other) c o i e calm = absurd (let on = (goes k n p (Inconclusive r other) c e).follows.leads_on in cc)
 sends_calm k n y p _ c o i e calm = calm
-
-pub calm_less : (y : Way) (p : Purpose) (i : ℕ) → closing_of p ≡ None → IsWithinSilence y p i → i < most_silent y
-calm_less y (Closing end) i e calm = absurd (cc)
-calm_less y _ i e calm = calm
 
 -- A FRAME THAT IS OUTSTANDING
 pub sending : (w : Machine) (l : Option Order) (f : Forward) → frame_put l ≡ Some f → Pending w l → IsSending w f
@@ -314,28 +274,44 @@ sending_lawful w f e =
     lawful_follows w.kept.block w.kept.reserved w.trace f (goes w.kept w.course.number w.course.purpose (stage_of w.trace) (command_of f) e.sends).follows
 
 -- TO GO ON
-put_whole_at : (w : Machine) (s : Stage) (c : Command) (p : ℕ) (f : Forward) → IsHeard w s → Sends w.kept w.course.number w.course.purpose s c
-    → command_of f ≡ c
-    → IsWhole (record w { last = Some (Put p f) })
-put_whole_at w s c p f h e read = record {
+pub put_whole : (w : Machine) (s : Stage) (c : Command) (p : ℕ) (f : Forward) → IsHeard w s → Sends w.kept w.course.number w.course.purpose s c
+    → (IsSpelled c → command_of f ≡ c) → IsWhole (record w { last = Some (Put p f) })
+put_whole w s c p f h e read = record {
   ready = record {
     tries = h.tries;
     calm = sends_calm w.kept w.course.number w.course.way w.course.purpose s c w.course.opened w.silent e h.calm;
     knows = h.knows;
   };
-  sends = subst (λ x. Sends w.kept w.course.number w.course.purpose x (command_of f)) (sym h.stage)
-      (subst (λ d. Sends w.kept w.course.number w.course.purpose s d) (sym read) e);
+  sends = rw (h.stage, read (goes w.kept w.course.number w.course.purpose s c e).spelled) e;
 }
-
-pub put_whole : (w : Machine) (s : Stage) (c : Command) (p : ℕ) (f : Forward) → IsHeard w s → Sends w.kept w.course.number w.course.purpose s c
-    → (IsSpelled c → command_of f ≡ c) → IsWhole (record w { last = Some (Put p f) })
-put_whole w s c p f h e read = put_whole_at w s c p f h e (read (goes w.kept w.course.number w.course.purpose s c e).spelled)
 
 pub begun_none : (t : Machine) (o : Option End) → o ≡ None → running_close t ≡ None → IsBegun t o
 begun_none t o is none = subst (IsBegun t) (sym is) none
 
 pub not_empty : (t : List Entry) (s : Stage) → stage_of t ≡ s → (s ≡ Free → ⊥) → t ≡ [] → ⊥
 not_empty t s is later empty = later (sym is ∙ ap stage_of empty ∙ stage_none)
+
+-- a later frame, with the course that it leaves
+pub later_ordered : (t : Machine) (c : Course) (s : Stage) (d : Command) → Goes t.kept c.number c.purpose s d → stage_of t.trace ≡ s → (s ≡ Free → ⊥)
+    → t.tries < 8 → t.silent < most_silent t.course.way → closing_of t.course.purpose ≡ None
+    → ((r : SearchAddress) → stage_of t.trace ≡ Unnamed r → AfterMaskOn t.course.way t c r (Put LATER (frame_of d)))
+    → ((r : SearchAddress) (b : ℕ) → s ≡ Withdrawn r b → ⊥) → IsOrderedTo t c (Put LATER (frame_of d))
+later_ordered t c s d on stage later tries calm going masked found =
+    let spelled : command_of (frame_of d) ≡ d = read_written d on.spelled in
+    let unclosed = on.unclosed later in
+    record {
+      allowed = inr (
+        refl,
+        not_empty t.trace s stage later,
+        lawful_follows t.kept.block t.kept.reserved t.trace (frame_of d) (rw (stage, spelled) on.follows),
+      );
+      addressing = λ g is. on.addressing g (sym spelled ∙ is);
+      caused = (begun_none t (closing_of c.purpose) unclosed going, inl unclosed);
+      given_up = λ n. absurd (omega (arith, tries, n));
+      silent = λ n. absurd (omega (arith, calm, n));
+      unnamed = masked;
+      found = λ r b is. absurd (found r b (sym stage ∙ is));
+    }
 
 abbrev pub IsMasked : Machine → Order → Type 0
 IsMasked w o = (r : SearchAddress) → stage_of w.trace ≡ Unnamed r → AfterMaskOn w.course.way w w.course r o
@@ -344,39 +320,20 @@ put_next_at : (w : Machine) (s : Stage) (c : Command) → IsHeard w s → Sends 
     → IsMasked w (Put LATER (frame_of c)) → w.asked ≡ asked_by w.course.opened w.asked
     → IsNext w (Put LATER (frame_of c)) (record w { last = Some (Put LATER (frame_of c)) })
 put_next_at w s c h e later masked counted =
-    let going : closing_of w.course.purpose ≡ None = (goes w.kept w.course.number w.course.purpose s c e).unclosed later in
-    let calm : w.silent < most_silent w.course.way = calm_less w.course.way w.course.purpose w.silent going
-    (sends_calm w.kept w.course.number w.course.way w.course.purpose s c w.course.opened w.silent e h.calm) in
-    let tries : w.tries < 8 = h.tries in
-    let spelled : command_of (frame_of c) ≡ c = read_written c (goes w.kept w.course.number w.course.purpose s c e).spelled in
-    let sends : Sends w.kept w.course.number w.course.purpose (stage_of w.trace) (command_of (frame_of c)) =
-    subst (λ x. Sends w.kept w.course.number w.course.purpose x (command_of (frame_of c))) (sym h.stage)
-    (subst (λ d. Sends w.kept w.course.number w.course.purpose s d) (sym spelled) e) in
+    let on = goes w.kept w.course.number w.course.purpose s c e in
+    let going = on.unclosed later in
+    let calm = sends_calm w.kept w.course.number w.course.way w.course.purpose s c w.course.opened w.silent e h.calm in
     record {
-      order = record {
-        allowed = inr (
-          refl,
-          not_empty w.trace s h.stage later,
-          lawful_follows w.kept.block w.kept.reserved w.trace (frame_of c)
-              (goes w.kept w.course.number w.course.purpose (stage_of w.trace) (command_of (frame_of c)) sends).follows,
-        );
-        addressing = λ g is. (goes w.kept w.course.number w.course.purpose s c e).addressing g (sym spelled ∙ is);
-        caused = (begun_none w (closing_of w.course.purpose) going going, inl going);
-        given_up = λ n. absurd (omega arith);
-        silent = λ n. absurd (omega arith);
-        unnamed = masked;
-        found = λ r b is. absurd (not_withdrawn w.kept w.course.number w.course.purpose r b c
-            (subst (λ x. Sends w.kept w.course.number w.course.purpose x c) (sym h.stage ∙ is) e));
-      };
+      order = later_ordered w w.course s c on h.stage later h.tries (calm_less w.course.way w.course.purpose w.silent going calm) going masked
+          (λ r b is. not_withdrawn w.kept w.course.number w.course.purpose r b c
+          (subst (λ x. Sends w.kept w.course.number w.course.purpose x c) is e));
       state = ap (λ a. record w { last = Some (Put LATER (frame_of c)); asked = a }) counted;
     }
 
 pub put_next : (w : Machine) (s : Stage) (c : Command) (p : ℕ) (f : Forward) → IsHeard w s → Sends w.kept w.course.number w.course.purpose s c → (s ≡ Free → ⊥)
     → IsMasked w (Put LATER (frame_of c)) → w.asked ≡ asked_by w.course.opened w.asked → p ≡ LATER → f ≡ frame_of c
     → IsNext w (Put p f) (record w { last = Some (Put p f) })
-put_next w s c p f h e later masked counted first is =
-    subst (λ q. IsNext w (Put q f) (record w { last = Some (Put q f) })) (sym first)
-    (subst (λ g. IsNext w (Put LATER g) (record w { last = Some (Put LATER g) })) (sym is) (put_next_at w s c h e later masked counted))
+put_next w s c p f h e later masked counted first is = rw (first, is) (put_next_at w s c h e later masked counted)
 
 -- TO BEGIN
 terminates : (p : Purpose) (n : SearchAddress) → (closing_of p ≡ None) ⊎ ((FIRST ≡ FIRST) × (frame_of (first_of p n) ≡ frame_of Terminate))
@@ -405,57 +362,46 @@ masked_first Fresh w c r ungiven next = inr (ungiven.0, ungiven.1, next)
 masked_first Surveying w c r ungiven next =
     left_follows w r (address_for w.kept.reserved (value_of r)) (least_open w.kept w.heard) _ ungiven next
 
-first_read : (k : Kept) (p : Purpose) (n : SearchAddress) → IsSpelled (first_of p n) → command_of (frame_of (first_of p n)) ≡ first_of p n
-first_read k p n small = read_written (first_of p n) small
-
-first_lawful : (k : Kept) (p : Purpose) (n : SearchAddress) → IsSpelled (first_of p n) → Lawful k.block k.reserved [] (frame_of (first_of p n))
-first_lawful k p n small =
-    lawful_follows k.block k.reserved [] (frame_of (first_of p n)) (rw (first_read k p n small, stage_none) (goes_first k n p small).follows)
-
 abbrev IsKnown : Machine → Course → Type 0
 IsKnown t c = Knows c.way t.kept c.number c.search c.ascent c.opened c.purpose
-
-begin_ordered : (t : Machine) (c : Course) → Begins t c → IsKnown t c → IsOrderedTo t c (beginning c)
-begin_ordered t c b knows =
-    let tries : t.tries < 8 = b.tries in
-    let small : IsSpelled (first_of c.purpose c.number) = first_spelled c.way t.kept c.number c.search c.ascent c.opened c.purpose knows in
-    record {
-      allowed = inl (refl, first_lawful t.kept c.purpose c.number small);
-      addressing = λ g is. (goes_first t.kept c.number c.purpose small).addressing g (sym (first_read t.kept c.purpose c.number small) ∙ is);
-      caused = (b.turns, terminates c.purpose c.number);
-      given_up = λ e. absurd (omega arith);
-      silent = λ e. silent_closes c.way c.purpose t.silent b.calm (e ∙ ap most_silent (sym b.way));
-      unnamed = λ r e. let x = b.unnamed r e in masked_first t.course.way t c r x.0 x.1;
-      found = b.found;
-    }
 
 free_of : (t : List Entry) → t ≡ [] → stage_of t ≡ Free
 free_of t empty = ap stage_of empty ∙ stage_none
 
-begin_whole : (t : Machine) (c : Course) → Begins t c → IsKnown t c → IsWhole (machine_ordered_on t c (beginning c))
-begin_whole t c b knows =
+pub begin_moment : (t : Machine) (c : Course) → c ≡ next_course t → Begins t c → IsKnown t c → IsMoment t (beginning c) (machine_ordered_on t c (beginning c))
+begin_moment t c is b knows =
+    let tries : t.tries < 8 = b.tries in
     let small : IsSpelled (first_of c.purpose c.number) = first_spelled c.way t.kept c.number c.search c.ascent c.opened c.purpose knows in
-    let read : command_of (frame_of (first_of c.purpose c.number)) ≡ first_of c.purpose c.number = first_read t.kept c.purpose c.number small in
+    let read : command_of (frame_of (first_of c.purpose c.number)) ≡ first_of c.purpose c.number = read_written (first_of c.purpose c.number) small in
+    let on = goes_first t.kept c.number c.purpose small in
     record {
-      ready = record { tries = b.tries; calm = b.calm; knows = knows };
-      sends = subst (λ s. Sends t.kept c.number c.purpose s (command_of (frame_of (first_of c.purpose c.number)))) (sym stage_none)
-          (read, subst IsSpelled (sym read) small);
+      begins = λ e. refl;
+      course = is;
+      next = record {
+        order = record {
+          allowed = inl (
+            refl,
+            lawful_follows t.kept.block t.kept.reserved [] (frame_of (first_of c.purpose c.number)) (rw (read, stage_none) on.follows),
+          );
+          addressing = λ g is. on.addressing g (sym read ∙ is);
+          caused = (b.turns, terminates c.purpose c.number);
+          given_up = λ e. absurd (omega arith);
+          silent = λ e. silent_closes c.way c.purpose t.silent b.calm (e ∙ ap most_silent (sym b.way));
+          unnamed = λ r e. let x = b.unnamed r e in masked_first t.course.way t c r x.0 x.1;
+          found = b.found;
+        };
+        state = refl;
+      };
+      whole = record {
+        ready = record { tries = b.tries; calm = b.calm; knows = knows };
+        sends = rw (stage_none, read) (refl, small);
+      };
     }
-
-pub begin_moment : (t : Machine) (c : Course) → c ≡ next_course t → Begins t c → IsKnown t c
-    → IsMoment t (beginning c) (machine_ordered_on t c (beginning c))
-begin_moment t c is b knows = record {
-  begins = λ e. refl;
-  course = is;
-  next = record { order = begin_ordered t c b knows; state = refl };
-  whole = begin_whole t c b knows;
-}
 
 -- a transaction that begins with the next course, if it may begin, is a moment
 pub begun_moment : (t : Machine) (c : Course) (o : Order) (new : Machine) → c ≡ next_course t → Begins t c → Begun t c o new → IsMoment t o new
 begun_moment t c o new is b begun =
-    subst (λ (n : Machine). IsMoment t o n) (sym begun.state)
-    (subst (λ x. IsMoment t x (machine_ordered_on t c x)) (sym begun.order) (begin_moment t c is b begun.knows))
+    rw (begun.state, begun.order) (begin_moment t c is b begun.knows)
 
 -- what begins a transaction
 pub begun_by : (t : Machine) (c : Course) (u : List Entry) (q : ℕ) (f : Forward) (asked : ℕ) → IsKnown t c → u ≡ [] → q ≡ FIRST
@@ -470,8 +416,7 @@ begun_by t c u q f asked knows empty first is counted = record {
 
 -- TO STORE
 pub commit_whole : (w : Machine) (x : Record) (t : List Entry) → IsReady w → closing_of w.course.purpose ≡ None → Fits w.kept.block x → MayAdd w.kept x
-    → IsStoredIn x w.course.purpose → t ≡ []
-    → IsWhole (record w { trace = t; last = Some (Commit x) })
+    → IsStoredIn x w.course.purpose → t ≡ [] → IsWhole (record w { trace = t; last = Some (Commit x) })
 commit_whole w x t ready going fits may stored empty = record {
   ready = record { tries = ready.tries; calm = ready.calm; knows = ready.knows };
   free = free_of t empty;
@@ -481,31 +426,23 @@ commit_whole w x t ready going fits may stored empty = record {
   stored = stored;
 }
 
-found_at : (s : Stage) (earlier found : Option Finding) → found ≡ later earlier (finding_at s) → FoundAt s found
-found_at (Withdrawn r b) earlier found is = is
-found_at (Spelled b (Some n)) earlier found is = is
-found_at (Spelled b None) earlier found is = tt
-found_at _ earlier found is = tt
-
-trace_found_at : (s : Stage) (found : Option Finding) → found ≡ finding_at s → FoundAt s found
-trace_found_at (Withdrawn r b) found is = is
-trace_found_at (Spelled b (Some n)) found is = is
-trace_found_at (Spelled b None) found is = tt
-trace_found_at _ found is = tt
+found_at : (s : Stage) (found : Option Finding) → ((x : Finding) → finding_at s ≡ Some x → found ≡ Some x) → FoundAt s found
+found_at (Withdrawn r b) found is = is _ refl
+found_at (Spelled b (Some n)) found is = is _ refl
+found_at (Spelled b None) found is = tt
+found_at _ found is = tt
 
 -- what is told of a frame that was heard
 abbrev pub heard_by : Machine → Forward → Answer → Machine
 heard_by w f h = machine_heard_to w (w.trace ++ (record { frame = f; heard = h }) ∷ []) h
 
-pub hear_heard : (w : Machine) (f : Forward) (h : Answer) → IsWhole w → frame_put w.last ≡ Some f
-    → IsHeard (heard_by w f h) (stage_of (heard_by w f h).trace)
+pub hear_heard : (w : Machine) (f : Forward) (h : Answer) → IsWhole w → frame_put w.last ≡ Some f → IsHeard (heard_by w f h) (stage_of (heard_by w f h).trace)
 hear_heard w f h whole put =
     let sent : IsSending w f = sending w w.last f put whole in
     let now : Entry = record { frame = f; heard = h } in
     let t : List Entry = w.trace ++ now ∷ [] in
     let arrived : Arrived w.kept w.course.number w.course.purpose (stage_of t) =
-    subst (Arrived w.kept w.course.number w.course.purpose) (sym (stage_more w.trace now))
-    ((goes w.kept w.course.number w.course.purpose (stage_of w.trace) (command_of f) sent.sends).arrives h) in
+    rw (stage_more w.trace now) ((goes w.kept w.course.number w.course.purpose (stage_of w.trace) (command_of f) sent.sends).arrives h) in
     let found : finding_of t ≡ finding_at (stage_of t) = finding_after w.kept.block w.kept.reserved w.trace now (sending_lawful w f sent) in
     record {
       stage = refl;
@@ -514,8 +451,8 @@ hear_heard w f h whole put =
       arrived = arrived;
       calm = calm_at w.kept w.course.number w.course.way w.course.opened w.course.purpose w.silent (stage_of t) arrived sent.ready.calm;
       knows = sent.ready.knows;
-      finding = found_at (stage_of t) w.finding (later w.finding (finding_of t)) (ap (later w.finding) found);
-      trace_finding = trace_found_at (stage_of t) (finding_of t) found;
+      finding = found_at (stage_of t) (later w.finding (finding_of t)) (λ x e. ap (later w.finding) (found ∙ e));
+      trace_finding = found_at (stage_of t) (finding_of t) (λ x e. found ∙ e);
     }
 
 -- LOST
@@ -539,10 +476,7 @@ rests : (w : Machine) → due_after w.last ≡ due.Bus → next_course (machine_
 rests w bus = ap (begins_at (machine_lost w)) stage_none ∙ go w.last bus where
   go : (l : Option Order) → due_after l ≡ due.Bus → at_rest (machine_lost w) l ≡ w.course
   go (Some (Put p f)) bus = refl
-  go None bus = absurd (cc)
-  go (Some (Commit x)) bus = absurd (cc)
-  go (Some (Done e)) bus = absurd (cc)
-  go (Some (Halt y)) bus = absurd (cc)
+  go _ bus = absurd (cc)
 
 -- the same transaction once more, after it was lost
 pub lost_moment : (w : Machine) (t : List Entry) (o : Order) (new : Machine) → IsWhole w → due_after w.last ≡ due.Bus → t ≡ [] → (w.tries + 1 ≡ 8 → ⊥)
@@ -568,14 +502,11 @@ pub ordered_on : (t : Machine) (o : Order) (new : Machine) → new ≡ machine_o
 ordered_on t o new state = state ∙ ap (λ c. machine_ordered_on t c o) (sym (ap (λ (m : Machine). m.course) state))
 
 pub lost_ended : (w : Machine) (t : List Entry) (o : Order) (new : Machine) → IsWhole w → due_after w.last ≡ due.Bus → t ≡ [] → w.tries + 1 ≡ 8
-    → o ≡ Done GaveUp
-    → new ≡ machine_ordered (record w { trace = t; tries = w.tries + 1 }) o → IsNext (machine_lost w) o new
+    → o ≡ Done GaveUp → new ≡ machine_ordered (record w { trace = t; tries = w.tries + 1 }) o → IsNext (machine_lost w) o new
 lost_ended w t o new whole put empty is done state = record {
-  order = subst (λ c. IsOrderedTo (machine_lost w) c o)
-      (sym (ap (λ (m : Machine). m.course) state ∙ ap (course_by (record w { trace = t; tries = w.tries + 1 })) done))
-      (subst (IsOrderedTo (machine_lost w) w.course) (sym done) (lost_ended_at w (waiting w w.last put whole) is));
-  state = ordered_on (machine_lost w) o new
-      (state ∙ ap (λ u. machine_ordered (record w { trace = u; tries = w.tries + 1 }) o) empty);
+  order = rw (ap (λ (m : Machine). m.course) state ∙ ap (course_by (record w { trace = t; tries = w.tries + 1 })) done, done)
+      (lost_ended_at w (waiting w w.last put whole) is);
+  state = ordered_on (machine_lost w) o new (state ∙ ap (λ u. machine_ordered (record w { trace = u; tries = w.tries + 1 }) o) empty);
 }
 
 -- TO GIVE
@@ -594,8 +525,7 @@ sends_program k n r p a m kept visiting is h =
 
 -- before the start
 pub whole_at_first : (w : Machine) → w.trace ≡ [] → w.last ≡ None → w.tries ≡ 0 → w.silent ≡ 0 → w.course.opened ≡ false → w.course.purpose ≡ Opening
-    → w.course.way ≡ Fresh → w.course.from ≡ 0
-    → IsWhole w
+    → w.course.way ≡ Fresh → w.course.from ≡ 0 → IsWhole w
 whole_at_first w trace last tries silent opened opening fresh first = rw last (record {
   ready = record {
     tries = rw tries (lit< tt);
