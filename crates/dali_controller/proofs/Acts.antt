@@ -1,16 +1,14 @@
-use Rattle.std.proofs.Common.{◌≡◌, ◌⊎◌, inl, inr, ℕ, ◌<◌, Bool, true, false, refl, sym, ap, subst, ◌∙◌, arith, List, [], ◌∷◌, ◌++◌, Option, Some, None, ◌==◌}
+use Rattle.std.proofs.Common.{◌≡◌, inl, inr, ℕ, Bool, true, false, refl, sym, ap, subst, ◌∙◌, arith, List, [], ◌∷◌, ◌++◌, Option, Some, None, ◌==◌}
 use Rattle.std.proofs.Common.{if◌then◌else◌}
 use Rattle.dali_frame.specs.{Priority.{FIRST, LATER}, declared.frames.{Answer.Answer, Forward.Forward}}
 use Rattle.dali_special.specs.Command.{command_of}
-use Rattle.dali_script.specs.{Findings.{search_of, asked_of, found_by, finding_of, assigned, later, MayEnrol}, declared.finding.Finding.Finding}
-use Rattle.dali_script.specs.declared.{finding.Finding.TheVariants.{Queried, Resolved}, records.Record.Record, trace.Entry.Entry, orders.Input.Input}
-use Rattle.dali_script.specs.{declared.orders.Order.{Order, TheVariants.{Put, Commit, Done, Halt}}, Records.{Assignment, Has, Kept, with_record}}
-use Rattle.dali_script.{specs.{Scripts.Lawful, Due.{due_after, accepts, frame_put, record_ordered}}, proofs.Found.finding_more}
-use Rattle.dali_statement.{specs.Own.{Own, Act, Puts, Loses, Begins, Keeps, told_more, own_after, own_all, IsOwn, AreOwn}, proofs.Tests.{equal, equals}}
-use Rattle.dali_statement.proofs.Tests.{some_is}
-use Rattle.dali_controller.specs.{Machine.{Machine, machine_heard, machine_lost, machine_committed, machine_told}, Orders.{IsAllowed, MayCommit, MayEnrolOn}}
-use Rattle.dali_controller.specs.{Orders.{IsAnswered, machine_ordered, machine_after}, declared.way.Way.{Way, TheVariants.{Fresh, Surveying}}, Acts.acts_told}
-use Rattle.dali_controller.specs.Acts.{acts_ordered, Steps, Takes, acts_of, own_of}
+use Rattle.dali_script.specs.{Findings.{search_of, asked_of, found_by, finding_of, assigned, later}, declared.{finding.Finding.Finding, records.Record.Record}}
+use Rattle.dali_script.specs.{declared.{trace.Entry.Entry, orders.{Input.Input, Order.{Order, TheVariants.{Put, Commit, Done, Halt}}}}, Records.Assignment}
+use Rattle.dali_script.{specs.{Records.{Has, with_record}, Scripts.Lawful, Due.{due_after, accepts, frame_put, record_ordered}}, proofs.Found.finding_more}
+use Rattle.dali_statement.{specs.Own.{Own, Act, Puts, Begins, Keeps, told_more, own_after, own_all, IsOwn, AreOwn}, proofs.Tests.{equal, equals, some_is}}
+use Rattle.dali_controller.specs.{Machine.{Machine, machine_heard, machine_lost, machine_committed, machine_told}, Orders.{IsAllowed, MayCommit, IsAnswered}}
+use Rattle.dali_controller.specs.{Orders.{machine_ordered, machine_after}, Acts.{acts_told, acts_ordered, Steps, Takes, acts_of, own_of}}
+use Rattle.dali_controller.proofs.Given.{enrols_assigned}
 use Rattle.dali_script.specs.declared.records.Record.TheVariants as record_of
 use Rattle.dali_script.specs.declared.orders.Input.TheVariants as input
 
@@ -20,19 +18,19 @@ never : {A : Type 0} → false ≡ true → A
 never {A} e = absurd (cc)
 
 -- what is outstanding may be done
-abbrev Pends : Option Order → Own → Type 0
+abbrev pub Pends : Option Order → Own → Type 0
 Pends (Some (Put p f)) v = Lawful v.kept.block v.kept.reserved v.trace f
 Pends (Some (Commit x)) v = IsOwn v (Keeps x)
 Pends _ v = Unit {0}
 
-record Stands (m : Machine) (v : Own) : Type 0 where
+pub record Stands (m : Machine) (v : Own) : Type 0 where
   pub trace : v.trace ≡ m.trace
   pub kept : v.kept ≡ m.kept
   pub found : (x : Finding) → finding_of m.trace ≡ Some x → Has v.told (assigned x)
   pub pends : Pends m.last v
 
 -- after an input, before the order
-record Told (t : Machine) (v : Own) : Type 0 where
+pub record Told (t : Machine) (v : Own) : Type 0 where
   pub trace : v.trace ≡ t.trace
   pub kept : v.kept ≡ t.kept
   pub found : (x : Finding) → finding_of t.trace ≡ Some x → Has v.told (assigned x)
@@ -45,9 +43,6 @@ none_found {x} e = absurd (cc)
 
 put_is_no_commit : {p : ℕ} {f : Forward} {x : Record} → Some (Put p f) ≡ Some (Commit x) → ⊥
 put_is_no_commit {p} {f} {x} e = absurd (let no : None ≡ Some x = ap record_ordered e in cc)
-
-none_is_no_commit : {x : Record} → None ≡ Some (Commit x) → ⊥
-none_is_no_commit {x} e = absurd (cc)
 
 -- a finding of more frames is that of those before, or a new one
 more_found : (o n : Option Finding) (told : List Assignment) → ((x : Finding) → o ≡ Some x → Has told (assigned x)) → (x : Finding) → later o n ≡ Some x
@@ -88,19 +83,15 @@ module _ (m : Machine) (v : Own) (stands : Stands m v) where
     enrolled = enrols x is own;
   }
 
-  told_step : (i : Input) → accepts (due_after m.last) i ≡ true
+  pub told_step : (i : Input) → accepts (due_after m.last) i ≡ true
       → AreOwn v (acts_told m.last i) × Told (machine_told m i) (own_all v (acts_told m.last i))
   told_step i accepted = go m.last refl i stands.pends accepted where
     go : (last : Option Order) → m.last ≡ last → (i : Input) → Pends last v → accepts (due_after last) i ≡ true
         → AreOwn v (acts_told last i) × Told (machine_told m i) (own_all v (acts_told last i))
-    go None is input.Start pends e = (
-      tt,
-      record { trace = stands.trace; kept = stands.kept; found = stands.found; enrolled = λ b r c. absurd (none_is_no_commit (sym is ∙ c)) },
-    )
-    go None is input.Survey pends e = (
-      tt,
-      record { trace = stands.trace; kept = stands.kept; found = stands.found; enrolled = λ b r c. absurd (none_is_no_commit (sym is ∙ c)) },
-    )
+    go None is input.Start pends e =
+        (tt, record { trace = stands.trace; kept = stands.kept; found = stands.found; enrolled = λ b r c. absurd (cc (sym is ∙ c)) })
+    go None is input.Survey pends e =
+        (tt, record { trace = stands.trace; kept = stands.kept; found = stands.found; enrolled = λ b r c. absurd (cc (sym is ∙ c)) })
     go (Some (Put p f)) is (input.Heard h) pends e =
         ((pends, tt), subst (λ o. Told (machine_heard m o h) (own_after v (Puts f h))) (sym (ap frame_put is)) (heard f h p is))
     go (Some (Put p f)) is input.Destroyed pends e = ((pends, tt), lost f p is)
@@ -113,18 +104,13 @@ module _ (m : Machine) (v : Own) (stands : Stands m v) where
 
 -- ---------------------------------------------------------------- an order
 
-assigned_by : (way : Way) (reserved : List Assignment) (x : Finding) (pair : Assignment) → MayEnrolOn way reserved x pair → pair ≡ assigned x
-assigned_by Fresh reserved (Queried a r) pair may = may
-assigned_by Fresh reserved (Resolved a r) pair may = may.0
-assigned_by Surveying reserved x pair may = may
-
 module _ (t : Machine) (v : Own) (told : Told t v) where
   commits : (x : Record) → MayCommit t x → IsOwn (record v { trace = [] }) (Keeps x)
   commits (record_of.Reserve a r) may = subst (λ k. IsOwn (record { kept = k; trace = []; told = v.told }) (Keeps (record_of.Reserve a r)))
       (sym told.kept) (may.fits.0, may.fits.1, may.may.0)
   commits (record_of.Enrol b r) may =
       let w = may.warranted in
-      subst (Has v.told) (sym (assigned_by t.course.way t.kept.reserved w.0 (b, r) w.3)) (told.found w.0 w.2)
+      subst (Has v.told) (sym (enrols_assigned t.course.way t.kept.reserved w.0 (b, r) w.3)) (told.found w.0 w.2)
   commits (record_of.Release a r) may =
       let w = may.warranted in
       (subst (λ k. Has k.reserved (a, r)) (sym told.kept) may.may, w.0, told.enrolled w.0 r w.1, w.2)
@@ -137,7 +123,7 @@ module _ (t : Machine) (v : Own) (told : Told t v) where
     pends = pends;
   }
 
-  ordered : (o : Order) → IsAllowed t o → AreOwn v (acts_ordered o) × Stands (machine_ordered t o) (own_all v (acts_ordered o))
+  pub ordered : (o : Order) → IsAllowed t o → AreOwn v (acts_ordered o) × Stands (machine_ordered t o) (own_all v (acts_ordered o))
   ordered (Commit x) may = ((tt, tt), anew (Commit x) (commits x may) refl)
   ordered (Done e) may = ((tt, tt), anew (Done e) tt refl)
   ordered (Halt w) may = ((tt, tt), anew (Halt w) tt refl)
@@ -165,7 +151,7 @@ module _ (t : Machine) (v : Own) (told : Told t v) where
 
 -- ---------------------------------------------------------------- all steps
 
-may_order : (m : Machine) (i : Input) (o : Order) → IsAnswered m i o → IsAllowed (machine_told m i) o
+pub may_order : (m : Machine) (i : Input) (o : Order) → IsAnswered m i o → IsAllowed (machine_told m i) o
 may_order m input.CommitFailed o is = subst (λ k. IsAllowed (machine_told m input.CommitFailed) k) (sym is) tt
 may_order m input.Start o is = is.allowed
 may_order m input.Survey o is = is.allowed
@@ -174,7 +160,7 @@ may_order m input.Destroyed o is = is.allowed
 may_order m input.Lapsed o is = is.allowed
 may_order m input.Committed o is = is.allowed
 
-own_both : (v : Own) (now later : List Act) → AreOwn v now → AreOwn (own_all v now) later → AreOwn v (now ++ later)
+pub own_both : (v : Own) (now later : List Act) → AreOwn v now → AreOwn (own_all v now) later → AreOwn v (now ++ later)
 own_both v [] later first rest = rest
 own_both v (a ∷ now) later first rest = (first.0, own_both (own_after v a) now later first.1 rest)
 
@@ -187,13 +173,14 @@ steps_own m v (s ∷ steps) stands takes =
     (own_both (own_all v (acts_told m.last s.0)) (acts_ordered s.1) (acts_of (Some s.1) steps) next.0
     (steps_own (machine_after m s.0 s.1) (own_all (own_all v (acts_told m.last s.0)) (acts_ordered s.1)) steps next.1 takes.2))
 
+pub stands_first : (m : Machine) → m.last ≡ None → m.trace ≡ [] → Stands m (own_of m)
+stands_first m unstarted idle = record {
+  trace = sym idle;
+  kept = refl;
+  found = λ x e. absurd (none_found (ap finding_of (sym idle) ∙ e));
+  pends = subst (λ o. Pends o (own_of m)) (sym unstarted) tt;
+}
+
 pub machines_keep_to_scripts : (m : Machine) (steps : Steps) → m.last ≡ None → m.trace ≡ [] → Takes m steps → AreOwn (own_of m) (acts_of None steps)
 machines_keep_to_scripts m steps unstarted idle takes =
-    subst (λ o. AreOwn (own_of m) (acts_of o steps)) unstarted (steps_own m (own_of m) steps stands takes) where
-      stands : Stands m (own_of m)
-      stands = record {
-        trace = sym idle;
-        kept = refl;
-        found = λ x e. absurd (none_found (ap finding_of (sym idle) ∙ e));
-        pends = subst (λ o. Pends o (own_of m)) (sym unstarted) tt;
-      }
+    subst (λ o. AreOwn (own_of m) (acts_of o steps)) unstarted (steps_own m (own_of m) steps (stands_first m unstarted idle) takes)

@@ -1,10 +1,10 @@
-use Rattle.std.proofs.Common.{arith, ◌≡◌, ◌⊎◌, inl, inr, ℕ, true, List, [], refl, sym, ap, subst, ◌∙◌, Option, Some, None, is_some}
+use Rattle.std.proofs.Common.{arith, ◌≡◌, ◌⊎◌, inl, inr, ℕ, true, List, [], refl, sym, ap, subst, ◌∙◌, Option, Some, None, is_some, ap₂}
 use Rattle.dali_frame.specs.{Priority.{FIRST, LATER}, Random.value_of, declared.frames.{Answer.TheVariants.Silence, Forward.Forward}}
 use Rattle.dali_frame.specs.declared.numbers.SearchAddress.{SearchAddress}
 use Rattle.dali_special.specs.{Command.{command_of, frame_of}, declared.command.Command.{Command, TheVariants.{Terminate, Program}}}
-use Rattle.dali_script.specs.{Findings.{MayEnrol, assigned, finding_of}, Records.{Assignment, Has, HasAddress, HasRandom, IsLeastFree, IsFull, IsMap, IsFresh}}
-use Rattle.dali_script.specs.{Records.MayAdd, Scripts.Lawful, Stages.{leads, stage_of}, declared.finding.Finding.{Finding, TheVariants.{Queried, Resolved}}}
-use Rattle.dali_script.specs.declared.orders.{End.{End, TheVariants.{BlockFull, GaveUp}}, Input.Input, Order.{Order, TheVariants.{Put, Commit, Done, Halt}}}
+use Rattle.dali_script.specs.{Findings.{assigned, finding_of}, Records.{Assignment, Has, HasAddress, HasRandom, IsLeastFree, IsFull, IsMap, IsFresh, MayAdd}}
+use Rattle.dali_script.specs.{Scripts.Lawful, Stages.{leads, stage_of}, declared.{finding.Finding.{Finding, TheVariants.{Queried, Resolved}}, orders.End.End}}
+use Rattle.dali_script.specs.declared.orders.{End.TheVariants.{BlockFull, GaveUp}, Input.Input, Order.{Order, TheVariants.{Put, Commit, Done, Halt}}}
 use Rattle.dali_script.specs.declared.{records.Record.{Record, TheVariants.{Reserve, Enrol, Release}}, stage.Stage.{Stage, TheVariants.{Free, Terminated}}}
 use Rattle.dali_script.{specs.declared.stage.Stage.TheVariants.{Opened, Probed, Unnamed, Unanswered, Inconclusive, Withdrawn, Spelled}, proofs.Lists.has_map}
 use Rattle.dali_script.proofs.{Members.same_member, Transactions.{follows_lawful, stage_none}}
@@ -28,12 +28,9 @@ given_by m input.CommitFailed o other given = absurd (other refl)
 given_by m _ o other given = record { ordered = given.answered; begins = given.begins; followed = given.followed }
 
 -- what is enrolled is the pair of a finding
-found_assigned : (reserved : List Assignment) (x : Finding) (p : Assignment) → MayEnrol reserved x p → p ≡ assigned x
-found_assigned reserved (Queried a r) p may = may
-found_assigned reserved (Resolved a r) p may = may.0
-
 pub enrols_assigned : (y : Way) (reserved : List Assignment) (x : Finding) (p : Assignment) → MayEnrolOn y reserved x p → p ≡ assigned x
-enrols_assigned Fresh reserved x p may = found_assigned reserved x p may
+enrols_assigned Fresh reserved (Queried a r) p may = may
+enrols_assigned Fresh reserved (Resolved a r) p may = may.0
 enrols_assigned Surveying reserved x p may = may
 
 -- the last order was the commit of no enrolment
@@ -46,21 +43,15 @@ pub turns : (t : Machine) (o : Order) (c : Command) → IsGivenBy t o → turn_o
 turns t o c given turn = given.followed.sent c turn
 
 -- A TRANSACTION THAT BEGINS. A first frame is that of the transaction that begins; it is put if no later one may be.
-put_first : (t : Machine) (p : ℕ) (f : Forward) → p ≡ FIRST → BeginsWith (course_by t (Put p f)) (Put p f) → Put p f ≡ beginning (next_course t)
-put_first t p f first begins =
-    let here : BeginsWith (next_course t) (Put FIRST f) = subst (λ q. BeginsWith (course_by t (Put q f)) (Put q f)) first begins in
-    ap (λ q. Put q f) first ∙ ap (λ g. Put FIRST g) (here refl)
-
 abbrev NothingLater : Machine → Type 0
 NothingLater t = (f : Forward) → (t.trace ≡ [] → ⊥) → Lawful t.kept.block t.kept.reserved t.trace f → ⊥
 
 put_begins : (t : Machine) (p : ℕ) (f : Forward) → MayOrderPut t p f → BeginsWith (course_by t (Put p f)) (Put p f) → NothingLater t
     → Put p f ≡ beginning (next_course t)
-put_begins t p f (inl may) begins none = put_first t p f may.0 begins
+put_begins t p f (inl may) begins none =
+    let here : BeginsWith (next_course t) (Put FIRST f) = subst (λ q. BeginsWith (course_by t (Put q f)) (Put q f)) may.0 begins in
+    ap₂ Put may.0 (here refl)
 put_begins t p f (inr may) begins none = absurd (none f may.1 may.2)
-
-nothing_free : (t : Machine) → t.trace ≡ [] → NothingLater t
-nothing_free t free f running lawful = running free
 
 -- a transaction is over at these stages, and has found nothing
 abbrev pub IsSpent : Stage → Type 0
@@ -94,35 +85,27 @@ unwarranted t _ named none last w = grind (arith, w)
 no_conflict : (t : Machine) (c : Course) → finding_of t.trace ≡ None → IsCaused t c (Halt fault.Conflict) → ⊥
 no_conflict t c none cause = let found = cause.2 in cc
 
-no_end : (t : Machine) (c : Course) (e : End) → (t.tries ≡ 8 → ⊥) → (stage_of t.trace ≡ Terminated → ⊥) → IsCaused t c (Done e) → ⊥
-no_end t c e tries unclosed (inl cause) = tries cause.1
-no_end t c e tries unclosed (inr cause) = unclosed cause.1
-
 begins_anew : (t : Machine) (o : Order) → IsGivenBy t o → NothingLater t → ((r : SearchAddress) → stage_of t.trace ≡ Unnamed r → ⊥)
-    → (stage_of t.trace ≡ Terminated → ⊥)
-    → finding_of t.trace ≡ None → IsNoEnrolment t.last → (t.tries ≡ 8 → ⊥) → o ≡ beginning (next_course t)
+    → (stage_of t.trace ≡ Terminated → ⊥) → finding_of t.trace ≡ None → IsNoEnrolment t.last → (t.tries ≡ 8 → ⊥) → o ≡ beginning (next_course t)
 begins_anew t (Put p f) given none named unclosed found last tries = put_begins t p f given.ordered.allowed given.begins none
 begins_anew t (Commit x) given none named unclosed found last tries = absurd (unwarranted t x named found last given.ordered.allowed.warranted)
-begins_anew t (Done e) given none named unclosed found last tries = absurd (no_end t t.course e tries unclosed given.ordered.caused)
+begins_anew t (Done e) given none named unclosed found last tries =
+    elim given.ordered.caused [ inl cause ↦ absurd (tries cause.1) | inr cause ↦ absurd (unclosed cause.1) ]
 begins_anew t (Halt fault.Conflict) given none named unclosed found last tries = absurd (no_conflict t t.course found given.ordered.caused)
 begins_anew t (Halt fault.Store) given none named unclosed found last tries = elim given.ordered.caused [ ]
 
 -- after a transaction that found nothing
 pub begins_after : (t : Machine) (o : Order) (s : Stage) → IsGivenBy t o → stage_of t.trace ≡ s → IsSpent s → finding_of t.trace ≡ None → IsNoEnrolment t.last
-    → (t.tries ≡ 8 → ⊥)
-    → o ≡ beginning (next_course t)
+    → (t.tries ≡ 8 → ⊥) → o ≡ beginning (next_course t)
 begins_after t o s given stage spent found last tries =
-    begins_anew t o given (nothing_after t s stage (λ c. spent_ends s c spent))
-    (λ r e. subst IsSpent (sym stage ∙ e) spent) (λ e. subst IsSpent (sym stage ∙ e) spent) found last tries
+    begins_anew t o given (nothing_after t s stage (λ c. spent_ends s c spent)) (λ r e. subst IsSpent (sym stage ∙ e) spent)
+    (λ e. subst IsSpent (sym stage ∙ e) spent) found last tries
 
 -- if no transaction runs
 pub begins_free : (t : Machine) (o : Order) → IsGivenBy t o → t.trace ≡ [] → IsNoEnrolment t.last → (t.tries ≡ 8 → ⊥) → o ≡ beginning (next_course t)
 begins_free t o given free last tries =
     let stage : stage_of t.trace ≡ Free = ap stage_of free ∙ stage_none in
-    begins_anew t o given (nothing_free t free)
-    (λ r e. let other : Free ≡ Unnamed r = sym stage ∙ e in cc)
-    (λ e. let other : Free ≡ Terminated = sym stage ∙ e in cc)
-    (ap finding_of free) last tries
+    begins_anew t o given (λ f running lawful. running free) (λ r e. cc (sym stage ∙ e)) (λ e. cc (sym stage ∙ e)) (ap finding_of free) last tries
 
 -- A VISIT WHERE MASK WAS ANSWERED. The address that is reserved for the number is programmed; else the least free one
 -- is reserved; else the close begins.
@@ -134,10 +117,7 @@ IsUnnamedBy t r o =
     × ((course_by t o).purpose ≡ Closing BlockFull)))
 
 closes : (t : Machine) (c : Course) (p : ℕ) (f : Forward) → c.purpose ≡ Closing BlockFull → IsCaused t c (Put p f) → Put p f ≡ Put FIRST (frame_of Terminate)
-closes t c p f full cause = go cause.1 where
-  go : (closing_of c.purpose ≡ None) ⊎ ((p ≡ FIRST) × (f ≡ frame_of Terminate)) → Put p f ≡ Put FIRST (frame_of Terminate)
-  go (inl none) = absurd (let ends : Some BlockFull ≡ None = sym (ap closing_of full) ∙ none in cc)
-  go (inr is) = ap (λ q. Put q f) is.0 ∙ ap (λ g. Put FIRST g) is.1
+closes t c p f full cause = elim cause.1 [ inl none ↦ absurd (cc (sym (ap closing_of full) ∙ none)) | inr is ↦ ap₂ Put is.0 is.1 ]
 
 pub unnamed : (t : Machine) (o : Order) (r : SearchAddress) → t.course.way ≡ Fresh → IsGivenBy t o → stage_of t.trace ≡ Unnamed r → IsUnnamedBy t r o
 unnamed t o r fresh given stage = go o (subst (λ y. AfterMaskOn y t (course_by t o) r o) fresh (given.ordered.unnamed r stage)) given.ordered.caused where
@@ -193,31 +173,24 @@ pub withdrawn_known : (t : Machine) (o : Order) (r : SearchAddress) (b : ℕ) �
     → IsMap t.kept.enrolled → Has t.kept.enrolled (b, value_of r) → o ≡ beginning (next_course t)
 withdrawn_known t o r b given stage map has =
     begins_known t o b (value_of r) given (nothing_after t (Withdrawn r b) stage (λ c e. let none : is_some (leads (Withdrawn r b) c Silence) ≡ true = e in cc))
-    map has
-    (given.ordered.found r b stage)
+    map has (given.ordered.found r b stage)
 
 pub spelled_known : (t : Machine) (o : Order) (b n : ℕ) → IsGivenBy t o → stage_of t.trace ≡ Spelled b (Some n)
-    → IsSought t.course.purpose t.course.number n
-    → IsMap t.kept.enrolled → Has t.kept.enrolled (b, n) → o ≡ beginning (next_course t)
+    → IsSought t.course.purpose t.course.number n → IsMap t.kept.enrolled → Has t.kept.enrolled (b, n) → o ≡ beginning (next_course t)
 spelled_known t o b n given stage visited map has =
     begins_known t o b n given (nothing_after t (Spelled b (Some n)) stage (λ c e. let none : is_some (leads (Spelled b (Some n)) c Silence) ≡ true = e in cc))
-    map has
-    (given.followed.told b n stage visited)
+    map has (given.followed.told b n stage visited)
 
 -- AN ENROLMENT THAT IS KEPT. A transaction begins if no other address is reserved for the number; else one is
 -- released.
-enrolled_once : (b n d m : ℕ) → Some (Commit (Enrol b n)) ≡ Some (Commit (Enrol d m)) → d ≡ b
-enrolled_once b n d m e = cc
-
 pub enrolled : (t : Machine) (o : Order) (b n : ℕ) → IsGivenBy t o → t.last ≡ Some (Commit (Enrol b n)) → t.trace ≡ []
-    → ((a : ℕ) → Has t.kept.reserved (a, n) → a ≡ b)
-    → o ≡ beginning (next_course t)
+    → ((a : ℕ) → Has t.kept.reserved (a, n) → a ≡ b) → o ≡ beginning (next_course t)
 enrolled t o b n given last free own = go o given (given.followed.enrolled b n last) where
   go : (o : Order) → IsGivenBy t o → AfterEnrolled t b n o → o ≡ beginning (next_course t)
-  go (Put p f) given is = put_begins t p f given.ordered.allowed given.begins (nothing_free t free)
+  go (Put p f) given is = put_begins t p f given.ordered.allowed given.begins (λ f running lawful. running free)
   go (Commit x) given is =
       let other : IsWarranted t (Release is.0 n) = subst (λ y. IsWarranted t y) is.2 given.ordered.allowed.warranted in
-      absurd (other.2 (enrolled_once b n other.0 n (sym last ∙ other.1) ∙ sym (own is.0 is.1)))
+      let same : other.0 ≡ b = cc (sym last ∙ other.1) in absurd (other.2 (same ∙ sym (own is.0 is.1)))
   go (Done e) given is = elim is [ ]
   go (Halt why) given is = elim is [ ]
 
@@ -231,26 +204,19 @@ no_put : (t : Machine) (p : ℕ) (f : Forward) (e : End) → running_close t ≡
 no_put t p f e runs stage (inl may) cause =
     let unclosed : closing_of (next_course t).purpose ≡ None = ap (λ s. closing_of (begins_at t s).purpose) stage ∙ goes_on_open t in
     let here : IsBegun t (closing_of (next_course t).purpose) = (subst (λ q. IsCaused t (course_by t (Put q f)) (Put q f)) may.0 cause).0 in
-    let ends : running_close t ≡ None = subst (λ c. IsBegun t c) unclosed here in
-    cc
+    let ends : running_close t ≡ None = subst (λ c. IsBegun t c) unclosed here in cc
 no_put t p f e runs stage (inr may) cause =
     let here : (running_close t ≡ None) ⊎ ((LATER ≡ FIRST) × (f ≡ frame_of Terminate)) =
     subst (λ s. (closing_of (course_on t s).purpose ≡ None) ⊎ ((LATER ≡ FIRST) × (f ≡ frame_of Terminate))) stage
     (subst (λ q. IsCaused t (course_by t (Put q f)) (Put q f)) may.0 cause).1 in
-    go here
-  where
-    go : (running_close t ≡ None) ⊎ ((LATER ≡ FIRST) × (f ≡ frame_of Terminate)) → ⊥
-    go (inl none) = cc
-    go (inr is) = omega (arith, is.0)
+    elim here [ inl none ↦ cc | inr is ↦ omega (arith, is.0) ]
 
 pub closed : (t : Machine) (o : Order) (e : End) → IsGivenBy t o → running_close t ≡ Some e → stage_of t.trace ≡ Terminated → finding_of t.trace ≡ None
     → (t.tries ≡ 8 → ⊥) → o ≡ Done e
 closed t o e given runs stage found tries = go o given.ordered.allowed given.ordered.caused where
   ended : (x : End) → ((x ≡ GaveUp) × (t.tries ≡ 8)) ⊎ ((running_close t ≡ Some x) × (stage_of t.trace ≡ Terminated)) → Done x ≡ Done e
   ended x (inl is) = absurd (tries is.1)
-  ended x (inr is) = ap Done (same x (sym is.0 ∙ runs)) where
-    same : (x : End) → Some x ≡ Some e → x ≡ e
-    same x k = cc
+  ended x (inr is) = let same : x ≡ e = cc (sym is.0 ∙ runs) in ap Done same
 
   go : (o : Order) → IsAllowed t o → IsCaused t (course_by t o) o → o ≡ Done e
   go (Put p f) may cause = absurd (no_put t p f e runs stage may cause)

@@ -1,5 +1,5 @@
 use Rattle.std.proofs.Common.{sym, ◌∙◌}
-use Rattle.dali_controller.{proofs.Beginnings.{full_asks, full_closes}, specs.States.machine_with}
+use Rattle.dali_controller.{proofs.Beginnings.{full_asks, full_closes}, specs.States.course_of}
 use Rattle.dali_controller.proofs.state.State.full.Goals as goal
 
 pub returns-then-asks_again : goal.returns-then-asks_again
@@ -10,4 +10,4 @@ returns-then-asks_again c =
 
 pub returns-else-asks_again : goal.returns-else-asks_again
 returns-else-asks_again c =
-    full_closes (machine_with c.args.self.now c.args.kept.now) _ _ _ (sym c.asks_again.ensures ∙ c.if-asks_again.false) c.close.ensures
+    full_closes _ (course_of c.args.self.now) _ _ (sym c.asks_again.ensures ∙ c.if-asks_again.false) c.close.ensures
