@@ -13,9 +13,7 @@ mark_is xs marks a m small = go (slice_index_or marks a false) refl (number_at x
   go true is None none = absurd (none ((m.marked a small).0 is))
   go true is (Some r) there = refl
   go false is None none = refl
-  go false is (Some r) there =
-      let marked : slice_index_or marks a false ≡ true = (m.marked a small).1 (has_map (λ (q : Assignment). q.0) xs (a, r) there) in
-      sym is ∙ marked
+  go false is (Some r) there = sym is ∙ (m.marked a small).1 (has_map (λ (q : Assignment). q.0) xs (a, r) there)
 
 -- the mark at a place that is the short address
 pub mark_at : (marks : List Bool) (i a : ℕ) (b : Bool) → i ≡ a → slice_index_or marks i false ≡ b → slice_index_or marks a false ≡ b
@@ -29,15 +27,8 @@ asked_by k reserved enrolled a are_reserved are_enrolled small =
     ap (λ b. not b || is_some (number_at k.reserved a)) (sym (mark_is k.enrolled enrolled a are_enrolled small))
     ∙ ap (λ b. not (slice_index_or enrolled a false) || b) (sym (mark_is k.reserved reserved a are_reserved small))
 
-pub asked_passed : (k : Kept) (a : ℕ) → a < 64 → is_asked k a ≡ false → asked_among k (64 - a) a ≡ asked_among k (64 - (a + 1)) (a + 1)
-asked_passed k a small none =
-    let more : 64 - a ≡ suc (64 - (a + 1)) = omega arith in
-    ap (λ n. asked_among k n a) more ∙ ap (λ b. if b then Some a else asked_among k (64 - (a + 1)) (a + 1)) none
-
-pub asked_found : (k : Kept) (a : ℕ) → a < 64 → is_asked k a ≡ true → asked_among k (64 - a) a ≡ Some a
-asked_found k a small is =
-    let more : 64 - a ≡ suc (64 - (a + 1)) = omega arith in
-    ap (λ n. asked_among k n a) more ∙ ap (λ b. if b then Some a else asked_among k (64 - (a + 1)) (a + 1)) is
+pub asked_more : (k : Kept) (a : ℕ) → a < 64 → asked_among k (64 - a) a ≡ (if is_asked k a then Some a else asked_among k (64 - (a + 1)) (a + 1))
+asked_more k a small = let more : 64 - a ≡ suc (64 - (a + 1)) = omega arith in ap (λ n. asked_among k n a) more
 
 -- ---------------------------------------------------------------- what is open
 
@@ -48,24 +39,16 @@ open_by k heard reserved enrolled a are_reserved are_enrolled small =
     ∙ ap (λ b. not (slice_index_or reserved a false) && not b && not (has_short heard a)) (sym (mark_is k.enrolled enrolled a are_enrolled small))
 
 pub open_tested : (k : Kept) (heard : Shorts) (reserved enrolled : List Bool) (a : ℕ) (one two three : Bool) → Marks k.reserved reserved
-    → Marks k.enrolled enrolled
-    → a < 64 → slice_index_or reserved a false ≡ one → slice_index_or enrolled a false ≡ two → has_short heard a ≡ three
+    → Marks k.enrolled enrolled → a < 64 → slice_index_or reserved a false ≡ one → slice_index_or enrolled a false ≡ two → has_short heard a ≡ three
     → is_open k heard a ≡ (not one && not two && not three)
 open_tested k heard reserved enrolled a one two three are_reserved are_enrolled small is_reserved is_enrolled is_heard =
     open_by k heard reserved enrolled a are_reserved are_enrolled small
     ∙ ap (λ b. not b && not (slice_index_or enrolled a false) && not (has_short heard a)) is_reserved
     ∙ ap (λ b. not one && not b && not (has_short heard a)) is_enrolled ∙ ap (λ b. not one && not two && not b) is_heard
 
-pub open_passed : (k : Kept) (heard : Shorts) (a last : ℕ) → a < last + 1 → is_open k heard a ≡ false
-    → open_among k heard (last + 1 - a) a ≡ open_among k heard (last + 1 - (a + 1)) (a + 1)
-open_passed k heard a last small none =
-    let more : last + 1 - a ≡ suc (last + 1 - (a + 1)) = omega arith in
-    ap (λ n. open_among k heard n a) more ∙ ap (λ b. if b then Some a else open_among k heard (last + 1 - (a + 1)) (a + 1)) none
-
-pub open_found : (k : Kept) (heard : Shorts) (a last : ℕ) → a < last + 1 → is_open k heard a ≡ true → open_among k heard (last + 1 - a) a ≡ Some a
-open_found k heard a last small is =
-    let more : last + 1 - a ≡ suc (last + 1 - (a + 1)) = omega arith in
-    ap (λ n. open_among k heard n a) more ∙ ap (λ b. if b then Some a else open_among k heard (last + 1 - (a + 1)) (a + 1)) is
+pub open_more : (k : Kept) (heard : Shorts) (a last : ℕ) → a < last + 1
+    → open_among k heard (last + 1 - a) a ≡ (if is_open k heard a then Some a else open_among k heard (last + 1 - (a + 1)) (a + 1))
+open_more k heard a last small = let more : last + 1 - a ≡ suc (last + 1 - (a + 1)) = omega arith in ap (λ n. open_among k heard n a) more
 
 -- ---------------------------------------------------------------- what is another's
 
@@ -84,14 +67,11 @@ anothers_some k heard a r n is = ap (λ o. has_short heard a || is_another r o) 
 pub open_among_is : (k : Kept) (heard : Shorts) (n from a : ℕ) → open_among k heard n from ≡ Some a → (from ≤ a) × (a < from + n) × (is_open k heard a ≡ true)
 open_among_is k heard zero from a e = absurd (cc)
 open_among_is k heard (suc n) from a e = go (is_open k heard from) refl e (open_among_is k heard n (from + 1) a) where
-  some_same : Some from ≡ Some a → from ≡ a
-  some_same e = cc
-
   go : (b : Bool) → is_open k heard from ≡ b → (if b then Some from else open_among k heard n (from + 1)) ≡ Some a
       → (open_among k heard n (from + 1) ≡ Some a → (from + 1 ≤ a) × (a < from + 1 + n) × (is_open k heard a ≡ true))
       → (from ≤ a) × (a < from + suc n) × (is_open k heard a ≡ true)
   go true is e later =
-      let same : from ≡ a = some_same e in (omega (arith, same), omega (arith, same), subst (λ x. is_open k heard x ≡ true) same is)
+      let same : from ≡ a = cc in (omega (arith, same), omega (arith, same), subst (λ x. is_open k heard x ≡ true) same is)
   go false is e later = let rest = later e in (omega (arith, rest.0), omega (arith, rest.1), rest.2)
 
 pub least_open_is : (k : Kept) (heard : Shorts) (a : ℕ) → least_open k heard ≡ Some a → InBlock k.block a × (is_open k heard a ≡ true)

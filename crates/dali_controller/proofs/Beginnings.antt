@@ -76,13 +76,14 @@ goes_on_moment t o new b next begun =
 
 -- ---------------------------------------------------------------- after an opening
 
-pub opened_moment : (t : Machine) (s : Stage) (o : Order) (new : Machine) → IsHeard t s → (s ≡ Opened) ⊎ (s ≡ DrawBarred)
-    → Begun t (searching_first t.course.way t.course) o new → IsMoment t o new
-opened_moment t s o new h is begun =
+pub opened_moment : (t : Machine) (s : Stage) (y : Way) (o : Order) (new : Machine) → IsHeard t s → (s ≡ Opened) ⊎ (s ≡ DrawBarred) → t.course.way ≡ y
+    → Begun t (searching_first y t.course) o new → IsMoment t o new
+opened_moment t s y o new h is way begun =
     let x = go is in
     let first = searching_first t.course.way t.course in
     begun_moment t first o new (sym (ap (begins_at t) h.stage ∙ x.1))
-    (between_begins t first x.0 (searches_first_keeps t.course.way t.course).way (unclosed t.course.way)) begun where
+    (between_begins t first x.0 (searches_first_keeps t.course.way t.course).way (unclosed t.course.way))
+    (subst (λ z. Begun t (searching_first z t.course) o new) (sym way) begun) where
       unclosed : (y : Way) → closing_of (searching_first y t.course).purpose ≡ None
       unclosed Fresh = refl
       unclosed Surveying = refl
@@ -261,16 +262,16 @@ ungiven_next : (t : Machine) (y : Way) → next_course t ≡ ungiven t y → IsN
 ungiven_next t Fresh next = refl
 ungiven_next t Surveying next = sym (ap beginning next)
 
-pub ungiven_moment : (t : Machine) (r : SearchAddress) (o : Order) (new : Machine) → IsHeard t (Unnamed r) → IsUngiven t.course.way t r
-    → Begun t (ungiven t t.course.way) o new → IsMoment t o new
-ungiven_moment t r o new h left begun =
+pub ungiven_moment : (t : Machine) (r : SearchAddress) (y : Way) (o : Order) (new : Machine) → IsHeard t (Unnamed r) → IsUngiven t.course.way t r
+    → t.course.way ≡ y → Begun t (ungiven t y) o new → IsMoment t o new
+ungiven_moment t r y o new h left way begun =
     let going : closing_of t.course.purpose ≡ None = ap closing_of h.arrived.0 in
     let next : next_course t ≡ ungiven t t.course.way = ap (begins_at t) h.stage in
     begun_moment t (ungiven t t.course.way) o new (sym next)
     (shut_begins t (ungiven t t.course.way) h.tries (calm_less t.course.way t.course.purpose t.silent going h.calm) going
     (ungiven_shut t r t.course.way refl h.stage left)
     (λ q e. (let same : r ≡ q = cc (sym h.stage ∙ e) in subst (IsUngiven t.course.way t) same left, ungiven_next t t.course.way next))
-    (λ q b e. absurd (cc (sym h.stage ∙ e)))) begun
+    (λ q b e. absurd (cc (sym h.stage ∙ e)))) (subst (λ z. Begun t (ungiven t z) o new) (sym way) begun)
 
 -- ---------------------------------------------------------------- after a visit that failed
 

@@ -16,9 +16,8 @@ use Rattle.dali_controller.specs.{Course.{calling_first, asking_again}, Machine.
 use Rattle.dali_controller.specs.Next.{begins_at, course_by, course_on, asked_on, next_course, beginning, full, asks_again, undrawn, has_open, BeginsWith}
 use Rattle.dali_controller.specs.Next.{silenced, silenced_on, missed_again, is_failed, most_silent, goes_on_to, hunted_to, compared_in, called_to, is_blocked}
 use Rattle.dali_controller.specs.{Next.{may_draw, ungiven, question, unanswered, at_rest, asked_once, hunted_in}, Orders.{machine_ordered, AfterFinding}}
-use Rattle.dali_controller.specs.{Orders.{IsFollowed, IsSought}, Whole.{IsWhole, Pending}, declared.purpose.Purpose.{Purpose, TheVariants.{Opening, Probing}}}
-use Rattle.dali_controller.specs.declared.purpose.Purpose.TheVariants.{Visiting, Resolving, Closing, Asking, Hunting, Calling, Drawing, PassingOver}
-use Rattle.dali_controller.specs.{declared.way.Way.{Way, TheVariants.{Fresh, Surveying}}, Tally.asked_again}
+use Rattle.dali_controller.specs.{Orders.{IsFollowed, IsSought}, Whole.{IsWhole, Pending}, declared.purpose.Purpose.{Purpose, TheVariants.{Opening, Hunting}}}
+use Rattle.dali_controller.specs.{declared.{purpose.Purpose.TheVariants.Calling, way.Way.{Way, TheVariants.{Fresh, Surveying}}}, Tally.asked_again}
 use Rattle.dali_script.specs.declared.orders.Due.TheVariants as due
 use Rattle.dali_script.specs.declared.orders.Input.TheVariants as input
 
@@ -38,16 +37,14 @@ course_stays t (Hunted r (Some h) left) c e = go t.course.purpose e where
   go _ e = refl
 course_stays t _ c e = refl
 
-put_course : (w : Machine) (s : Stage) (c : Command) (o : Order) (new : Course) → stage_of w.trace ≡ s → turn_of w.course.purpose w.course.number s ≡ Some c
-    → o ≡ Put LATER (frame_of c) → new ≡ w.course → new ≡ course_by w o
-put_course w s c o new stage turn is same =
-    same ∙ sym (ap (course_by w) is ∙ ap (course_on w) stage ∙ course_stays w s c turn)
-
 pub put_moment : (w : Machine) (s : Stage) (c : Command) (o : Order) (new : Machine) → stage_of w.trace ≡ s
-    → turn_of w.course.purpose w.course.number s ≡ Some c
-    → o ≡ Put LATER (frame_of c) → new.course ≡ w.course → IsNext w o new → IsWhole new → IsMoment w o new
-put_moment w s c o new stage turn is same next whole =
-    record { begins = rw is (λ e. absurd (cc)); course = put_course w s c o new.course stage turn is same; next = next; whole = whole }
+    → turn_of w.course.purpose w.course.number s ≡ Some c → o ≡ Put LATER (frame_of c) → new.course ≡ w.course → IsNext w o new → IsWhole new → IsMoment w o new
+put_moment w s c o new stage turn is same next whole = record {
+  begins = rw is (λ e. absurd (cc));
+  course = same ∙ sym (ap (course_by w) is ∙ ap (course_on w) stage ∙ course_stays w s c turn);
+  next = next;
+  whole = whole;
+}
 
 -- ---------------------------------------------------------------- a search that is answered
 
@@ -56,9 +53,8 @@ whole : (s : Search) (answers : List (ℕ × Bool)) (probe : ℕ) (step : Step) 
 whole s answers probe step one two three = rw (← one, ← two, ← three) refl
 
 probe_is : (s t : Step) (last next now : ℕ) → s ≡ t → (s ≡ Again → now ≡ next) → ((s ≡ Again → ⊥) → now ≡ last) → now ≡ next_probe t last next
-probe_is Again t last next now is again ended = subst (λ x. now ≡ next_probe x last next) is (again refl)
-probe_is (Found r) t last next now is again ended = subst (λ x. now ≡ next_probe x last next) is (ended (λ e. cc))
-probe_is Nobody t last next now is again ended = subst (λ x. now ≡ next_probe x last next) is (ended (λ e. cc))
+probe_is Again t last next now is again ended = rw (← is) (again refl)
+probe_is _ t last next now is again ended = rw (← is) (ended (λ e. cc))
 
 pub answered_is : (old new : Search) (said : Bool) (s : Step) → old.step ≡ Again → (old.step ≡ Again → new.answers ≡ old.answers ++ (old.probe, said) ∷ [])
     → (old.step ≡ Again → s ≡ step_after new.answers)
@@ -137,15 +133,9 @@ surely_finished k a sure = go (number_at k.reserved a) (found_number k.reserved 
   go (Some r) there = is_enrolled r (address_for k.enrolled r) (found_address k.enrolled r) (sure r there)
 
 -- the next one is looked for one address after the other
-pub one_passed : (k : Kept) (a : ℕ) → a < 64 → unfinished_at k a ≡ None → unfinished_among k (64 - a) a ≡ unfinished_among k (64 - (a + 1)) (a + 1)
-one_passed k a small none =
-    let more : 64 - a ≡ suc (64 - (a + 1)) = omega arith in
-    ap (λ n. unfinished_among k n a) more ∙ ap (λ o. here_or_later a o (unfinished_among k (64 - (a + 1)) (a + 1))) none
-
-pub one_found : (k : Kept) (a r : ℕ) → a < 64 → unfinished_at k a ≡ Some r → unfinished_among k (64 - a) a ≡ Some (a + 1, r)
-one_found k a r small is =
-    let more : 64 - a ≡ suc (64 - (a + 1)) = omega arith in
-    ap (λ n. unfinished_among k n a) more ∙ ap (λ o. here_or_later a o (unfinished_among k (64 - (a + 1)) (a + 1))) is
+pub one_more : (k : Kept) (a : ℕ) → a < 64
+    → unfinished_among k (64 - a) a ≡ here_or_later a (unfinished_at k a) (unfinished_among k (64 - (a + 1)) (a + 1))
+one_more k a small = let more : 64 - a ≡ suc (64 - (a + 1)) = omega arith in ap (λ n. unfinished_among k n a) more
 
 -- ---------------------------------------------------------------- what follows
 
@@ -153,44 +143,28 @@ no_turn : (p : Purpose) (n : SearchAddress) (s : Stage) (c : Command) → s ≡ 
 no_turn p n s c free e = go p (subst (λ x. turn_of p n x ≡ Some c) free e) where
   go : (p : Purpose) → turn_of p n Free ≡ Some c → ⊥
   go Opening e = cc
-  go Probing e = cc
-  go Visiting e = cc
-  go (Resolving a) e = cc
-  go (Closing x) e = cc
-  go (Asking a) e = cc
-  go Hunting e = cc
-  go Calling e = cc
-  go Drawing e = cc
-  go PassingOver e = cc
+  go _ e = cc
 
 -- the start, and a transaction that was lost, follow neither queries nor an enrolment
-followed_free : (t : Machine) (o : Order) → stage_of t.trace ≡ Free → t.last ≡ None → IsFollowed t o
-followed_free t o free none = record {
+followed_free : (t : Machine) (o : Order) → stage_of t.trace ≡ Free → ((b n : ℕ) → t.last ≡ Some (Commit (Enrol b n)) → ⊥) → IsFollowed t o
+followed_free t o free unenrolled = record {
   sent = λ c e. absurd (no_turn t.course.purpose t.course.number (stage_of t.trace) c free e);
-  told = λ b n s e. absurd (let there : Free ≡ Spelled b (Some n) = sym free ∙ s in cc);
-  another = λ b n s e. absurd (let there : Free ≡ Spelled b (Some n) = sym free ∙ s in cc);
-  unconfirmed = λ r x s. absurd (let there : Free ≡ Inconclusive r x = sym free ∙ s in cc);
-  hunted = λ r h left s p. absurd (let there : Free ≡ Hunted r (Some h) left = sym free ∙ s in cc);
-  called = λ r h left s p x. absurd (let there : Free ≡ Hunted r (Some h) left = sym free ∙ s in cc);
-  enrolled = λ b n e. absurd (let there : None ≡ Some (Commit (Enrol b n)) = sym none ∙ e in cc);
+  told = λ b n s e. absurd (cc (sym free ∙ s));
+  another = λ b n s e. absurd (cc (sym free ∙ s));
+  unconfirmed = λ r x s. absurd (cc (sym free ∙ s));
+  hunted = λ r h left s p. absurd (cc (sym free ∙ s));
+  called = λ r h left s p x. absurd (cc (sym free ∙ s));
+  enrolled = λ b n e. absurd (unenrolled b n e);
 }
 
 pub followed_start : (w : Machine) (o : Order) → IsWhole w → w.last ≡ None → IsFollowed (machine_told w input.Start) o
-followed_start w o whole none = followed_free (machine_told w input.Start) o (subst (Pending w) none whole).free none
+followed_start w o whole none = followed_free w o (subst (Pending w) none whole).free (λ b n e. cc (sym none ∙ e))
 
 pub followed_survey : (w : Machine) (o : Order) → IsWhole w → w.last ≡ None → IsFollowed (machine_told w input.Survey) o
-followed_survey w o whole none = followed_free (machine_told w input.Survey) o (subst (Pending w) none whole).free none
+followed_survey w o whole none = followed_free (machine_told w input.Survey) o (subst (Pending w) none whole).free (λ b n e. cc (sym none ∙ e))
 
 pub followed_lost : (w : Machine) (o : Order) → due_after w.last ≡ due.Bus → IsFollowed (machine_lost w) o
-followed_lost w o bus = record {
-  sent = λ c e. absurd (no_turn w.course.purpose w.course.number (stage_of []) c stage_none e);
-  told = λ b n s e. absurd (let there : Free ≡ Spelled b (Some n) = sym stage_none ∙ s in cc);
-  another = λ b n s e. absurd (let there : Free ≡ Spelled b (Some n) = sym stage_none ∙ s in cc);
-  unconfirmed = λ r x s. absurd (let there : Free ≡ Inconclusive r x = sym stage_none ∙ s in cc);
-  hunted = λ r h left s p. absurd (let there : Free ≡ Hunted r (Some h) left = sym stage_none ∙ s in cc);
-  called = λ r h left s p x. absurd (let there : Free ≡ Hunted r (Some h) left = sym stage_none ∙ s in cc);
-  enrolled = λ b n e. absurd (let there = subst (λ l. due_after l ≡ due.Bus) e bus in cc);
-}
+followed_lost w o bus = followed_free (machine_lost w) o stage_none (λ b n e. let there = subst (λ l. due_after l ≡ due.Bus) e bus in cc)
 
 heard_last : (m : Machine) (f : Forward) (h : Answer) → frame_put m.last ≡ Some f → (machine_told m (input.Heard h)).last ≡ m.last
 heard_last m f h put = rw put refl
@@ -207,22 +181,15 @@ pub followed_heard : (w mid : Machine) (o : Order) (f : Forward) (h : Answer) �
     → ((r : SearchAddress) (g : Answer) (left : ℕ) → stage_of mid.trace ≡ Hunted r (Some g) left → mid.course.purpose ≡ Calling
     → call_turn (Some g) left ≡ None → o ≡ beginning (next_course mid))
     → IsFollowed (machine_told w (input.Heard h)) o
-followed_heard w mid o f h put is sent told another unconfirmed hunted called = record {
-  sent = subst (λ (t : Machine). (c : Command) → turn_of t.course.purpose t.course.number (stage_of t.trace) ≡ Some c → o ≡ Put LATER (frame_of c)) is sent;
-  told = subst (λ (t : Machine). (b n : ℕ) → stage_of t.trace ≡ Spelled b (Some n) → IsSought t.course.purpose t.course.number n → AfterFinding t b n o)
-      is told;
-  another = subst (λ (t : Machine). (b n : ℕ) → stage_of t.trace ≡ Spelled b (Some n) → (IsSought t.course.purpose t.course.number n → ⊥)
-      → o ≡ beginning (next_course t)) is another;
-  unconfirmed = subst (λ (t : Machine). (r : SearchAddress) (x : Option ℕ) → stage_of t.trace ≡ Inconclusive r x → o ≡ beginning (next_course t))
-      is unconfirmed;
-  hunted = subst (λ (t : Machine). (r : SearchAddress) (g : Answer) (left : ℕ) → stage_of t.trace ≡ Hunted r (Some g) left
-      → t.course.purpose ≡ Hunting → o ≡ question (next_course t) r left)
-      is hunted;
-  called = subst (λ (t : Machine). (r : SearchAddress) (g : Answer) (left : ℕ) → stage_of t.trace ≡ Hunted r (Some g) left
-      → t.course.purpose ≡ Calling → call_turn (Some g) left ≡ None → o ≡ beginning (next_course t))
-      is called;
-  enrolled = λ b n e. absurd (let there = subst (λ l. frame_put l ≡ Some f) (sym (heard_last w f h put) ∙ e) put in cc);
-}
+followed_heard w mid o f h put is sent told another unconfirmed hunted called = subst (λ t. IsFollowed t o) is (record {
+  sent = sent;
+  told = told;
+  another = another;
+  unconfirmed = unconfirmed;
+  hunted = hunted;
+  called = called;
+  enrolled = λ b n e. absurd (let there = subst (λ l. frame_put l ≡ Some f) (sym (heard_last w f h put) ∙ ap (λ (t : Machine). t.last) (sym is) ∙ e) put in cc);
+})
 
 -- ---------------------------------------------------------------- what a course keeps
 
@@ -310,7 +277,7 @@ silenced_keeps t = either (Keeps t.course) (t.silent == most_silent t.course.way
   on Surveying = again (is_failed t.course.tally.failed (value_of t.course.number))
 
 -- a COMPARE of a roll call was heard as silence: only how the machine began stays
-pub record IsSilentCall (t : Machine) (s : Stage) : Type 0 where
+pub record IsSilentAt (t : Machine) (s : Stage) : Type 0 where
   pub number : SearchAddress
   pub left : ℕ
   pub stage : s ≡ Hunted number (Some Silence) left
@@ -318,12 +285,12 @@ pub record IsSilentCall (t : Machine) (s : Stage) : Type 0 where
   pub way : (begins_at t s).way ≡ t.course.way
 
 -- the transaction that begins at a stage
-pub keeps : (t : Machine) (s : Stage) → Keeps t.course (begins_at t s) ⊎ IsSilentCall t s
+pub keeps : (t : Machine) (s : Stage) → Keeps t.course (begins_at t s) ⊎ IsSilentAt t s
 keeps t (Hunted r (Some h) left) = go t.course.purpose refl h where
   ends : (called_to t false t.course).way ≡ t.course.way
   ends = either (λ d. d.way ≡ t.course.way) t.course.tally.is_silent refl refl
 
-  go : (p : Purpose) → t.course.purpose ≡ p → (h : Answer) → Keeps t.course (compared_in t p h) ⊎ IsSilentCall t (Hunted r (Some h) left)
+  go : (p : Purpose) → t.course.purpose ≡ p → (h : Answer) → Keeps t.course (compared_in t p h) ⊎ IsSilentAt t (Hunted r (Some h) left)
   go Calling is Silence =
       inr (record { number = r; left = left; stage = refl; calling = is; way = ap (λ p. (compared_in t p Silence).way) is ∙ ends })
   go Calling is _ = inl (heard_keeps t)

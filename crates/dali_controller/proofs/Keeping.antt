@@ -1,7 +1,7 @@
-use Rattle.std.proofs.Common.{◌≡◌, ℕ, ◌<◌, Option, Some, None, Result, Ok, Err, sym, subst, ap, ◌∙◌, IfSome, IfOk}
+use Rattle.std.proofs.Common.{◌≡◌, ℕ, ◌<◌, Option, Some, Result, Ok, Err, sym, subst, ap, ◌∙◌, IfSome, IfOk}
 use Rattle.dali_frame.specs.Random.{value_of, MASK24}
-use Rattle.dali_script.specs.{Records.{Kept, HasRandom, Fits, MayAdd, with_record}, declared.orders.{Input.Input, Order.{Order, TheVariants.{Put, Commit}}}}
-use Rattle.dali_script.{specs.declared.{orders.Order.TheVariants.{Done, Halt}, records.Record.{Record, TheVariants.Reserve}}, proofs.Lists.{has_last, has_map}}
+use Rattle.dali_script.specs.{Records.{Kept, HasRandom, Fits, MayAdd, with_record}, declared.orders.{Input.Input, Order.{Order, TheVariants.Commit}}}
+use Rattle.dali_script.{specs.declared.records.Record.{Record, TheVariants.Reserve}, proofs.Lists.{has_last, has_map}}
 use Rattle.dali_controller.specs.{Course.Course, Legs.{way_on, is_searching, search_on, ascent_on}, Machine.Machine, Next.BeginsWith, Orders.IsGiven}
 use Rattle.dali_controller.specs.{Orders.{IsAnswered, IsFollowedAt, machine_after}, States.machine_with, Steps.{IsBefore, with_some, kept_by}, Whole.IsWhole}
 use Rattle.dali_controller.specs.{Whole.{IsStoring, IsVisitedOn, Knows, Pending}, declared.{purpose.Purpose.TheVariants.Visiting, state.State.State}}
@@ -33,17 +33,8 @@ visited_now s k new a n before last =
 pub kept_may : (s : State) (k : Kept) (i : Input) → IsWhole (machine_with s k) → IfSome (kept_by s.last i) (λ x. Fits k.block x × MayAdd k x)
 kept_may s k i whole = go s.last i whole where
   go : (l : Option Order) (i : Input) → Pending (machine_with s k) l → IfSome (kept_by l i) (λ x. Fits k.block x × MayAdd k x)
-  go None i p = tt
-  go (Some (Put q f)) i p = tt
-  go (Some (Commit x)) input.Start p = tt
-  go (Some (Commit x)) input.Survey p = tt
-  go (Some (Commit x)) (input.Heard h) p = tt
-  go (Some (Commit x)) input.Destroyed p = tt
-  go (Some (Commit x)) input.Lapsed p = tt
   go (Some (Commit x)) input.Committed p = (p.fits, p.may)
-  go (Some (Commit x)) input.CommitFailed p = tt
-  go (Some (Done e)) i p = tt
-  go (Some (Halt why)) i p = tt
+  go _ _ p = tt
 
 -- WHAT A STEP GIVES, clause by clause
 pub given_answered : {E : Type 0} (r : Result Order E) (m : Machine) (i : Input) → IfOk r (λ o. IsGiven m i o) → IfOk r (λ o. IsAnswered m i o)

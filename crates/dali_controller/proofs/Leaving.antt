@@ -5,9 +5,9 @@ use Rattle.dali_script.specs.{Records.{IsKept, IsMap, InBlock, HasAddress, Kept,
 use Rattle.dali_script.specs.declared.{orders.Order.TheVariants.{Put, Commit}, records.Record.TheVariants.Reserve, stage.Stage.TheVariants.Unnamed}
 use Rattle.dali_controller.specs.{Course.{Course, closing_of, address_for, least_open, is_anothers}, Machine.{Machine, is_withheld, is_withheld_by}}
 use Rattle.dali_controller.specs.{Moments.{IsHeard, IsNext, IsFirstFree, IsUngiven}, Next.most_silent, Orders.{AfterReserved, AfterMaskBy, AfterMaskOn}}
-use Rattle.dali_controller.specs.{Orders.{AfterMaskSurveyed, IsOrderedTo, is_left_by, machine_ordered}, Whole.{Knows, IsVisitedOn}}
-use Rattle.dali_controller.specs.declared.{purpose.Purpose.TheVariants.Visiting, shorts.Shorts.Shorts, way.Way.{Way, TheVariants.{Fresh, Surveying}}}
-use Rattle.dali_controller.proofs.{Asked.{least_open_is, open_unreserved}, Courses.address_is, Steps.{IsMasked, calm_less, ordered_on}}
+use Rattle.dali_controller.specs.{Orders.{IsOrderedTo, is_left_by, machine_ordered}, Whole.IsVisitedOn, declared.purpose.Purpose.TheVariants.Visiting}
+use Rattle.dali_controller.{specs.declared.{shorts.Shorts.Shorts, way.Way.{Way, TheVariants.{Fresh, Surveying}}}, proofs.Asked.{least_open_is, open_unreserved}}
+use Rattle.dali_controller.proofs.{Courses.address_is, Steps.{IsMasked, calm_less, ordered_on, KnowsFor}}
 
 -- GEAR THAT ANSWERED MASK is given what is reserved for it, or an address is reserved, or it is left.
 
@@ -39,33 +39,25 @@ pub withheld_left : (w : Machine) (r : SearchAddress) (a m : ℕ) → IsKept w.k
 withheld_left w r a m kept has is withheld =
     left_by_withheld w.course.way w r a refl kept has (ap (is_withheld w a) (sym is) ∙ withheld)
 
-given_surveyed : (w : Machine) (r : SearchAddress) (a : ℕ) → IsKept w.kept → Has w.kept.reserved (a, value_of r)
-    → is_withheld w a (value_of r) ≡ false → AfterMaskSurveyed w r (Put LATER (frame_of (Program (Some a))))
-given_surveyed w r a kept has given =
-    let o : Order = Put LATER (frame_of (Program (Some a))) in
-    let here : AfterReserved w a (is_withheld w a (value_of r)) o =
-    subst (λ b. AfterReserved w a b o) (sym given) refl in
-    subst (λ x. AfterMaskBy w r x (least_open w.kept w.heard) o) (reserved_for w.kept (value_of r) a kept has) here
-
 given_masked : (y : Way) (w : Machine) (r : SearchAddress) (a : ℕ) → IsKept w.kept → Has w.kept.reserved (a, value_of r)
     → is_withheld w a (value_of r) ≡ false → AfterMaskOn y w w.course r (Put LATER (frame_of (Program (Some a))))
 given_masked Fresh w r a kept has given = inl (a, has, refl, refl)
-given_masked Surveying w r a kept has given = given_surveyed w r a kept has given
-
-same_unnamed : (r q : SearchAddress) → Unnamed r ≡ Unnamed q → r ≡ q
-same_unnamed r q e = cc
+given_masked Surveying w r a kept has given =
+    let o : Order = Put LATER (frame_of (Program (Some a))) in
+    let here : AfterReserved w a (is_withheld w a (value_of r)) o = subst (λ b. AfterReserved w a b o) (sym given) refl in
+    subst (λ x. AfterMaskBy w r x (least_open w.kept w.heard) o) (reserved_for w.kept (value_of r) a kept has) here
 
 pub gives_masked : (w : Machine) (r : SearchAddress) (a m : ℕ) → IsHeard w (Unnamed r) → IsKept w.kept → Has w.kept.reserved (a, value_of r) → m ≡ value_of r
     → is_withheld w a m ≡ false → IsMasked w (Put LATER (frame_of (Program (Some a))))
 gives_masked w r a m h kept has is given q stage =
-    subst (λ x. AfterMaskOn w.course.way w w.course x (Put LATER (frame_of (Program (Some a)))))
-    (same_unnamed r q (sym h.stage ∙ stage)) (given_masked w.course.way w r a kept has (ap (is_withheld w a) (sym is) ∙ given))
+    let same : r ≡ q = cc (sym h.stage ∙ stage) in
+    subst (λ x. AfterMaskOn w.course.way w w.course x (Put LATER (frame_of (Program (Some a))))) same
+    (given_masked w.course.way w r a kept has (ap (is_withheld w a) (sym is) ∙ given))
 
 -- gear that answered MASK and for whose number nothing is reserved is found by a search
 pub free_searching : (w : Machine) (r : SearchAddress) → IsHeard w (Unnamed r) → (HasRandom w.kept.reserved (value_of r) → ⊥) → w.course.opened ≡ true
 free_searching w r h free =
-    let visiting : Knows w.course.way w.kept w.course.number w.course.search w.course.ascent w.course.opened Visiting =
-    subst (Knows w.course.way w.kept w.course.number w.course.search w.course.ascent w.course.opened) h.arrived.0 h.knows in
+    let visiting : KnowsFor w Visiting = subst (KnowsFor w) h.arrived.0 h.knows in
     go w.course.way w.course.opened (subst (λ q. IsVisitedOn w.course.way w.kept (value_of q) w.course.opened) (sym h.arrived.1) visiting.1) where
       go : (y : Way) (o : Bool) → IsVisitedOn y w.kept (value_of r) o → o ≡ true
       go Fresh true may = refl
@@ -87,16 +79,12 @@ unfree_left Surveying w r map free is =
     ap (λ o. is_left_by w (value_of r) o (least_open w.kept w.heard)) (sym (none_reserved_for w.kept (value_of r) map free))
     ∙ ap (λ o. not (is_some o)) (sym is)
 
-reserved_surveyed : (w : Machine) (r : SearchAddress) (a m : ℕ) → IsMap w.kept.reserved → (HasRandom w.kept.reserved (value_of r) → ⊥)
-    → Some a ≡ least_open w.kept w.heard → m ≡ value_of r → AfterMaskSurveyed w r (Commit (Reserve a m))
-reserved_surveyed w r a m map free is same =
-    subst (λ x. AfterMaskBy w r x (least_open w.kept w.heard) (Commit (Reserve a m))) (none_reserved_for w.kept (value_of r) map free)
-    (subst (λ x. AfterMaskBy w r None x (Commit (Reserve a m))) is (ap (λ n. Commit (Reserve a n)) same))
-
 reserved_masked : (y : Way) (w : Machine) (c : Course) (r : SearchAddress) (a m : ℕ) → IsMap w.kept.reserved → (HasRandom w.kept.reserved (value_of r) → ⊥)
     → IsFirstFree y w.kept w.heard (Some a) → m ≡ value_of r → AfterMaskOn y w c r (Commit (Reserve a m))
 reserved_masked Fresh w c r a m map free is same = (sym same, subst (λ n. HasRandom w.kept.reserved n → ⊥) (sym same) free, is)
-reserved_masked Surveying w c r a m map free is same = reserved_surveyed w r a m map free is same
+reserved_masked Surveying w c r a m map free is same =
+    subst (λ x. AfterMaskBy w r x (least_open w.kept w.heard) (Commit (Reserve a m))) (none_reserved_for w.kept (value_of r) map free)
+    (subst (λ x. AfterMaskBy w r None x (Commit (Reserve a m))) is (ap (λ n. Commit (Reserve a n)) same))
 
 -- what may be reserved for gear that answered MASK
 pub record IsReservable (w : Machine) (a m : ℕ) : Type 0 where
@@ -106,8 +94,7 @@ pub record IsReservable (w : Machine) (a m : ℕ) : Type 0 where
 pub reservable : (w : Machine) (r : SearchAddress) (a m : ℕ) → IsHeard w (Unnamed r) → (HasRandom w.kept.reserved (value_of r) → ⊥)
     → IsFirstFree w.course.way w.kept w.heard (Some a) → m ≡ value_of r → IsReservable w a m
 reservable w r a m h free is same =
-    let visiting : Knows w.course.way w.kept w.course.number w.course.search w.course.ascent w.course.opened Visiting =
-    subst (Knows w.course.way w.kept w.course.number w.course.search w.course.ascent w.course.opened) h.arrived.0 h.knows in
+    let visiting : KnowsFor w Visiting = subst (KnowsFor w) h.arrived.0 h.knows in
     let x = free_within w.course.way w.kept w.heard a is in
     let drawn : value_of r < MASK24 = subst (λ q. value_of q < MASK24) (sym h.arrived.1) visiting.0 in
     record {
@@ -130,7 +117,7 @@ reserves_at w c r a m map h free is same =
       caused = going;
       given_up = λ e. absurd (omega arith);
       silent = λ e. absurd (omega arith);
-      unnamed = λ q e. subst (λ x. AfterMaskOn w.course.way w c x (Commit (Reserve a m))) (same_unnamed r q (sym stage ∙ e))
+      unnamed = λ q e. let one : r ≡ q = cc (sym stage ∙ e) in subst (λ x. AfterMaskOn w.course.way w c x (Commit (Reserve a m))) one
           (reserved_masked w.course.way w c r a m map free is same);
       found = λ q b e. absurd (cc);
     }
@@ -139,6 +126,6 @@ pub reserves : (w : Machine) (r : SearchAddress) (a m : ℕ) (o : Order) (new : 
     → (HasRandom w.kept.reserved (value_of r) → ⊥) → IsFirstFree w.course.way w.kept w.heard (Some a) → m ≡ value_of r
     → o ≡ Commit (Reserve a m) → new ≡ machine_ordered w o → IsNext w o new
 reserves w r a m o new map h free is same order state = record {
-  order = subst (IsOrderedTo w new.course) (sym order) (reserves_at w new.course r a m map h free is same);
+  order = rw order (reserves_at w new.course r a m map h free is same);
   state = ordered_on w o new state;
 }

@@ -36,10 +36,8 @@ counts_silences (leg.Hunting v) k n p s h knows = sym (unasked p s h 0 (λ a e.
 
 counted_on : (s : State) (k : Kept) (l : Leg) (count n : ℕ) → silences_on (with_silences l count) ≡ n
     → machine_with (on_leg s (with_silences l count)) k ≡ record (machine_with (on_leg s l) k) { asked = n }
-counted_on s k (leg.Revisiting from) count n is = ap (λ x. record (machine_with (on_leg s (leg.Revisiting from)) k) { asked = x }) is
-counted_on s k (leg.Asking from silences) count n is = ap (λ x. record (machine_with (on_leg s (leg.Asking from silences)) k) { asked = x }) is
-counted_on s k (leg.Searching x) count n is = ap (λ y. record (machine_with (on_leg s (leg.Searching x)) k) { asked = y }) is
-counted_on s k (leg.Hunting a) count n is = ap (λ x. record (machine_with (on_leg s (leg.Hunting a)) k) { asked = x }) is
+counted_on s k (leg.Revisiting from) count n is = rw (← is)
+counted_on s k _ count n is = rw (← is)
 
 -- the state that has heard a frame
 told_state : (s : State) (k : Kept) (f : Forward) (h : Answer) (t : List Entry) (found : Option Finding) (n i : ℕ) (shorts : Shorts) (count : ℕ)
@@ -71,16 +69,12 @@ told_is w f h put = rw put refl
 -- no silence is counted if gear are searched
 pub counted_leg : (l : Leg) → silences_on l ≡ asked_by (is_searching l) (silences_on l)
 counted_leg (leg.Revisiting from) = refl
-counted_leg (leg.Asking from silences) = refl
-counted_leg (leg.Searching x) = refl
-counted_leg (leg.Hunting a) = refl
+counted_leg _ = refl
 
 -- a machine that has not begun
 first_leg : (l : Leg) → is_searching l ≡ false → way_on l ≡ Fresh → from_on l ≡ 0 → l ≡ leg.Revisiting 0
 first_leg (leg.Revisiting from) early fresh first = ap leg.Revisiting first
-first_leg (leg.Asking from silences) early fresh first = absurd (cc)
-first_leg (leg.Searching x) early fresh first = absurd (cc)
-first_leg (leg.Hunting a) early fresh first = absurd (cc)
+first_leg _ early fresh first = absurd (cc)
 
 pub unstarted_leg : (s : State) (k : Kept) → IsWhole (machine_with s k) → s.last ≡ None → s.leg ≡ leg.Revisiting 0
 unstarted_leg s k whole none =

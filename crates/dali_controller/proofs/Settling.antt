@@ -4,18 +4,12 @@ use Rattle.dali_script.specs.{Records.{HasAddress, Assignment, Has, HasRandom}, 
 use Rattle.dali_script.specs.declared.{orders.Order.{Order, TheVariants.{Commit, Halt}}, records.Record.TheVariants.Enrol, stage.Stage.TheVariants.Withdrawn}
 use Rattle.dali_script.{specs.declared.stage.Stage.TheVariants.Spelled, proofs.Lists.has_map}
 use Rattle.dali_controller.specs.{Course.{Course, closing_of}, Machine.Machine, Moments.{Settles, IsBetween, IsHeard, IsNext}, Next.{begins_at, most_silent}}
-use Rattle.dali_controller.specs.{Orders.{Contradicts, IsOrderedTo, IsSought, MayEnrolOn, machine_ordered}, Whole.{Knows, IsReady}}
+use Rattle.dali_controller.specs.{Orders.{Contradicts, IsOrderedTo, IsSought, MayEnrolOn, machine_ordered}, Whole.IsReady}
 use Rattle.dali_controller.specs.declared.{purpose.Purpose.TheVariants.{Visiting, Resolving, Asking}, way.Way.{Way, TheVariants.{Fresh, Surveying}}}
-use Rattle.dali_controller.proofs.Steps.{calm_less, ordered_on}
+use Rattle.dali_controller.proofs.Steps.{calm_less, ordered_on, KnowsFor}
 use Rattle.dali_script.specs.declared.orders.Fault.TheVariants as fault
 
 -- TO SETTLE
-same_address : (r q : SearchAddress) (b d : ℕ) → Withdrawn r b ≡ Withdrawn q d → b ≡ d
-same_address r q b d e = cc
-
-same_number : (r q : SearchAddress) (b d : ℕ) → Withdrawn r b ≡ Withdrawn q d → r ≡ q
-same_number r q b d e = cc
-
 -- what was withdrawn, or has told its random address, may be enrolled
 may_queried : (y : Way) (reserved : List Assignment) (b r : ℕ) → MayEnrolOn y reserved (Queried b r) (b, r)
 may_queried Fresh reserved b r = refl
@@ -28,8 +22,7 @@ may_resolved Surveying reserved b n has = refl
 pub settles_withdrawn : (w : Machine) (r : SearchAddress) (b n : ℕ) → IsHeard w (Withdrawn r b) → n ≡ value_of r → Settles w b n
 settles_withdrawn w r b n h is =
     let stage : stage_of w.trace ≡ Withdrawn r b = h.stage in
-    let visiting : Knows w.course.way w.kept w.course.number w.course.search w.course.ascent w.course.opened Visiting =
-    subst (Knows w.course.way w.kept w.course.number w.course.search w.course.ascent w.course.opened) h.arrived.0 h.knows in
+    let visiting : KnowsFor w Visiting = subst (KnowsFor w) h.arrived.0 h.knows in
     subst (Settles w b) (sym is) (record {
       ready = record { tries = h.tries; calm = h.calm; knows = h.knows };
       going = ap closing_of h.arrived.0;
@@ -41,8 +34,7 @@ settles_withdrawn w r b n h is =
       trace_finding = h.trace_finding;
       next = ap (begins_at w) stage;
       unnamed = λ q e. absurd (cc);
-      withdrawn = λ q c e. let there : Withdrawn r b ≡ Withdrawn q c =
-          sym stage ∙ e in (same_address q r c b (sym there), ap value_of (same_number q r c b (sym there)));
+      withdrawn = λ q c e. let there : Withdrawn r b ≡ Withdrawn q c = sym stage ∙ e in (cc, let same : q ≡ r = cc in ap value_of same);
     })
 
 -- what the queries of a random address told, of a reservation or in a survey
@@ -54,8 +46,7 @@ record IsTold (w : Machine) (b n : ℕ) : Type 0 where
 told_by : (w : Machine) (b n : ℕ) → IsReady w → (w.course.purpose ≡ Resolving b) ⊎ (w.course.purpose ≡ Asking b) → IsSought w.course.purpose w.course.number n
     → IsTold w b n
 told_by w b n ready (inl is) sought =
-    let resolving : Knows w.course.way w.kept w.course.number w.course.search w.course.ascent w.course.opened (Resolving b) =
-    subst (Knows w.course.way w.kept w.course.number w.course.search w.course.ascent w.course.opened) is ready.knows in
+    let resolving : KnowsFor w (Resolving b) = subst (KnowsFor w) is ready.knows in
     let same : n ≡ value_of w.course.number = subst (λ p. IsSought p w.course.number n) is sought in
     record {
       going = ap closing_of is;
@@ -63,8 +54,7 @@ told_by w b n ready (inl is) sought =
       may = may_resolved w.course.way w.kept.reserved b n (subst (λ x. Has w.kept.reserved (b, x)) (sym same) resolving.3);
     }
 told_by w b n ready (inr is) sought =
-    let asking : Knows w.course.way w.kept w.course.number w.course.search w.course.ascent w.course.opened (Asking b) =
-    subst (Knows w.course.way w.kept w.course.number w.course.search w.course.ascent w.course.opened) is ready.knows in
+    let asking : KnowsFor w (Asking b) = subst (KnowsFor w) is ready.knows in
     record {
       going = ap closing_of is;
       drawn = subst (λ p. IsSought p w.course.number n) is sought;
@@ -122,19 +112,10 @@ halted_at w c b n h conflict =
           subst (λ m. Contradicts w.kept.enrolled d m) (sym there.1) (subst (λ a. Contradicts w.kept.enrolled a n) (sym there.0) conflict);
     }
 
-halted : (w : Machine) (b n : ℕ) (o : Order) (new : Machine) → Settles w b n → Contradicts w.kept.enrolled b n → o ≡ Halt fault.Conflict
-    → new ≡ machine_ordered w o → IsNext w o new
-halted w b n o new h conflict is state =
-    record {
-      order = subst (IsOrderedTo w new.course) (sym is) (halted_at w new.course b n h conflict);
-      state = ordered_on w o new state;
-    }
-
 -- the table has the address for another gear
-pub halts_by_address : (w : Machine) (b m n : ℕ) (o : Order) (new : Machine) → Settles w b n → Has w.kept.enrolled (b, m) → (m ≡ n → ⊥)
-    → o ≡ Halt fault.Conflict → new ≡ machine_ordered w o → IsNext w o new
-halts_by_address w b m n o new h has other order state =
-    halted w b n o new h (inl (m, has, other)) order state
+pub halts : (w : Machine) (b n : ℕ) (o : Order) (new : Machine) → Settles w b n → Contradicts w.kept.enrolled b n → o ≡ Halt fault.Conflict
+    → new ≡ machine_ordered w o → IsNext w o new
+halts w b n o new h conflict is state = record { order = rw is (halted_at w new.course b n h conflict); state = ordered_on w o new state }
 
 -- or the gear with another address
 pub contradicts_by_random : (w : Machine) (b a n : ℕ) → Settles w b n → (HasAddress w.kept.enrolled b → ⊥) → Has w.kept.enrolled (a, n)
@@ -144,10 +125,6 @@ contradicts_by_random w b a n h none has = inr (
   has,
   λ e. none (subst (HasAddress w.kept.enrolled) e (has_map (λ q. q.0) w.kept.enrolled (a, n) has)),
 )
-
-pub halts_by_random : (w : Machine) (b a n : ℕ) (o : Order) (new : Machine) → Settles w b n → (HasAddress w.kept.enrolled b → ⊥) → Has w.kept.enrolled (a, n)
-    → o ≡ Halt fault.Conflict → new ≡ machine_ordered w o → IsNext w o new
-halts_by_random w b a n o new h none has order state = halted w b n o new h (contradicts_by_random w b a n h none has) order state
 
 enrols_at : (w : Machine) (c : Course) (b n : ℕ) → Settles w b n → (HasAddress w.kept.enrolled b → ⊥) → (HasRandom w.kept.enrolled n → ⊥)
     → IsOrderedTo w c (Commit (Enrol b n))
@@ -168,8 +145,4 @@ enrols_at w c b n h none fresh =
 
 pub enrols : (w : Machine) (b n : ℕ) (o : Order) (new : Machine) → Settles w b n → (HasAddress w.kept.enrolled b → ⊥) → (HasRandom w.kept.enrolled n → ⊥)
     → o ≡ Commit (Enrol b n) → new ≡ machine_ordered w o → IsNext w o new
-enrols w b n o new h none fresh order state = record {
-  order = subst (IsOrderedTo w new.course) (sym order)
-      (enrols_at w new.course b n h none fresh);
-  state = ordered_on w o new state;
-}
+enrols w b n o new h none fresh order state = record { order = rw order (enrols_at w new.course b n h none fresh); state = ordered_on w o new state }

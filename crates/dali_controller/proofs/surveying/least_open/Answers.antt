@@ -1,7 +1,7 @@
-use Rattle.std.proofs.Common.{◌≡◌, ◌<◌, ◌+◌, ◌∙◌, arith, sym, ap, subst, refl, true, false, Some}
-use Rattle.dali_controller.{specs.Course.is_open, specs.Shorts.has_short, proofs.Asked.mark_at, proofs.Asked.open_tested, proofs.Asked.open_passed}
-use Rattle.dali_controller.proofs.{Asked.open_found, surveying.least_open.Goals.then-not-reserved-place+then-not-enrolled-place+in_ok-short+else-not-has}
-use Rattle.dali_controller.proofs.surveying.least_open.Goals.{else-not-reserved-place, else-not-reserved-place-via-else-not-reserved-place}
+use Rattle.std.proofs.Common.{◌≡◌, ◌<◌, ◌+◌, ◌∙◌, arith, sym, ap, subst, refl, true, false, Some, if◌then◌else◌}
+use Rattle.dali_controller.{specs.{Course.is_open, Shorts.has_short}, proofs.Asked.{mark_at, open_tested, open_more}}
+use Rattle.dali_controller.proofs.surveying.least_open.Goals.{then-not-reserved-place+then-not-enrolled-place+in_ok-short+else-not-has, else-not-reserved-place}
+use Rattle.dali_controller.proofs.surveying.least_open.Goals.{else-not-reserved-place-via-else-not-reserved-place}
 use Rattle.dali_controller.proofs.surveying.least_open.Goals.{else-not-reserved-place-via-then-not-reserved-place+else-not-enrolled-place}
 use Rattle.dali_controller.proofs.surveying.least_open.Goals as goal
 
@@ -30,7 +30,7 @@ loop-number-preserved c =
             tested true _ (has_short c.args.heard n) reserved enrolled small (mark_at _ _ n _ c.from-place.ensures v.if-not-reserved-place.false) refl refl
       ]
     ] in
-    c.loop-number.invariant ∙ open_passed k c.args.heard n k.block.last below shut
+    c.loop-number.invariant ∙ open_more k c.args.heard n k.block.last below ∙ rw shut
 
 pub returns-then-not-has : goal.returns-then-not-has
 returns-then-not-has c =
@@ -47,4 +47,4 @@ returns-then-not-has c =
     c.enrolled_marks-enrolled.ensures small (mark_at _ _ n _ c.from-place.ensures c.if-not-reserved-place.true)
     (mark_at _ _ n _ c.from-place.ensures c.if-not-enrolled-place.true)
     (subst (λ s. has_short c.args.heard s ≡ false) same (sym c.has.ensures ∙ c.if-not-has.true)) in
-    ap Some same ∙ sym (c.loop-number.invariant ∙ open_found k c.args.heard n k.block.last below free)
+    ap Some same ∙ sym (c.loop-number.invariant ∙ open_more k c.args.heard n k.block.last below ∙ rw free)

@@ -1,6 +1,6 @@
-use Rattle.std.proofs.Common.{◌≡◌, ◌<◌, ◌∙◌, arith, sym, ap, true, false, not, ◌||◌, slice_index_or}
-use Rattle.dali_controller.{specs.Course.is_asked, proofs.Asked.mark_at, proofs.Asked.asked_by, proofs.Asked.asked_passed}
-use Rattle.dali_controller.proofs.{Asked.asked_found, Asked.short_some, surveying.next_asked.Goals.then-not-enrolled-from-via-then-not-enrolled-from}
+use Rattle.std.proofs.Common.{◌≡◌, ◌<◌, ◌∙◌, arith, sym, ap, true, false, not, ◌||◌, slice_index_or, if◌then◌else◌}
+use Rattle.dali_controller.{specs.Course.is_asked, proofs.Asked.{mark_at, asked_by, short_some, asked_more}}
+use Rattle.dali_controller.proofs.surveying.next_asked.Goals.{then-not-enrolled-from-via-then-not-enrolled-from}
 use Rattle.dali_controller.proofs.surveying.next_asked.Goals.{then-not-enrolled-from-via-else-not-enrolled-from+then-reserved-from}
 use Rattle.dali_controller.proofs.surveying.next_asked.Goals as goal
 
@@ -13,7 +13,7 @@ loop-address-preserved c =
     c.enrolled_marks-enrolled.ensures small
     ∙ ap (λ b. not b || slice_index_or reserved c.loop-address.address false) (mark_at _ _ _ _ c.from.ensures c.if-not-enrolled-from.false)
     ∙ mark_at _ _ _ _ c.from-else-not-enrolled-from.ensures c.if-reserved-from.false in
-    c.loop-address.invariant ∙ asked_passed c.args.kept.now c.loop-address.address small none
+    c.loop-address.invariant ∙ asked_more c.args.kept.now c.loop-address.address small ∙ rw none
 
 pub returns-then-not-enrolled-from-clause-next : goal.returns-then-not-enrolled-from-clause-next
 returns-then-not-enrolled-from-clause-next c =
@@ -29,4 +29,4 @@ returns-then-not-enrolled-from-clause-next c =
           tests ∙ ap (λ b. not b || slice_index_or reserved a false) (mark_at _ _ _ _ c.from.ensures w.if-not-enrolled-from.false)
           ∙ mark_at _ _ _ _ w.from-else-not-enrolled-from.ensures w.if-reserved-from.true
     ] in
-    short_some c.of.result a c.of.ensures.range c.of.ensures.value small ∙ sym (c.loop-address.invariant ∙ asked_found c.args.kept.now a small asked)
+    short_some c.of.result a c.of.ensures.range c.of.ensures.value small ∙ sym (c.loop-address.invariant ∙ asked_more c.args.kept.now a small ∙ rw asked)

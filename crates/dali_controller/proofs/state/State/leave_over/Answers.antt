@@ -1,20 +1,17 @@
 use Rattle.std.proofs.Common.{None, sym, ◌∙◌, subst}
-use Rattle.dali_controller.specs.{Moments.Begun, Moments.IsFirstFree, Next.ungiven, States.machine_with}
+use Rattle.dali_controller.specs.{Moments.IsFirstFree, Next.ungiven, States.machine_with, declared.way.Way.TheVariants.{Fresh, Surveying}}
 use Rattle.dali_controller.proofs.Beginnings.{ungiven_moment, ungiven_full, none_drawn}
 use Rattle.dali_controller.proofs.state.State.leave_over.Goals as goal
 
 pub returns-in-Fresh : goal.returns-in-Fresh
 returns-in-Fresh c =
-    let w = machine_with c.args.self.now c.args.kept.now in
-    ungiven_moment w c.args.number _ _ c.requires.heard c.requires.ungiven
-    (subst (λ y. Begun w (ungiven w y) c.close.result (machine_with c.close.new.self c.args.kept.now))
-    (sym (sym c.way.ensures ∙ c.in-Fresh.is)) c.close.ensures)
+    ungiven_moment (machine_with c.args.self.now c.args.kept.now) c.args.number Fresh _ _ c.requires.heard c.requires.ungiven
+    (sym c.way.ensures ∙ c.in-Fresh.is) c.close.ensures
 
 pub returns-in-Surveying : goal.returns-in-Surveying
 returns-in-Surveying c =
     let w = machine_with c.args.self.now c.args.kept.now in
     let surveying = sym c.way.ensures ∙ c.in-Surveying.is in
     let none = subst (λ y. IsFirstFree y c.args.kept.now c.args.self.now.heard None) surveying c.requires.none in
-    ungiven_moment w c.args.number _ _ c.requires.heard c.requires.ungiven
-    (subst (λ y. Begun w (ungiven w y) c.full.result (machine_with c.full.new.self c.args.kept.now)) (sym surveying)
-    (ungiven_full w _ _ (none_drawn w none) c.full.ensures))
+    ungiven_moment w c.args.number Surveying _ _ c.requires.heard c.requires.ungiven surveying
+    (ungiven_full w _ _ (none_drawn w none) c.full.ensures)
