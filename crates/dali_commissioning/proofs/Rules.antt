@@ -10,6 +10,7 @@ use Rattle.dali_script.specs.declared.records.Record.TheVariants as record_of
 use Rattle.dali_reserve.specs.Store.{replay_of, IsReplay}
 use Rattle.dali_statement.specs.Own.{Own, Act, Puts, Loses, Begins, Keeps, told_more, own_after, own_all, IsOwn, AreOwn}
 use Rattle.dali_controller.specs.Machine.{Machine, at_first}
+use Rattle.dali_controller.proofs.Acts.{own_both}
 use Rattle.dali_commissioning.specs.{Acts.acts_by, Acts.records_of, Acts.sender_of, Acts.KeepsRules, Acts.acts_of_runs, Acts.RunsKeepRules}
 use Rattle.dali_commissioning.specs.{Acts.outstanding, Acts.IsLeftRun, Acts.RunsLeaveRules, Steps.last_order}
 use Rattle.dali_commissioning.specs.{Acts.LeavesRules, Acts.HasWritten, Acts.IsLast, Acts.MayCommitLast, Steps.order_line, Steps.open_after}
@@ -17,7 +18,7 @@ use Rattle.dali_commissioning.specs.declared.{conducting.PassEnd.PassEnd, fault.
 use Rattle.dali_commissioning.specs.declared.fault.CommissionFault.TheVariants.{RunsSpent}
 use Rattle.dali_commissioning.specs.Conducted.{Conducted, Commits, Stays, IsAt}
 use Rattle.dali_commissioning.specs.{Drivers.Talk, Runs.Run, Runs.IsRun, Runs.AreRuns, Steps.Step, Steps.committed_by}
-use Rattle.dali_commissioning.proofs.Outstanding.{own_both, outstanding_own}
+use Rattle.dali_commissioning.proofs.Outstanding.{outstanding_own}
 use Rattle.dali_commissioning.proofs.{Acts.keeps_to_scripts, Acts.records_are_kept, Acts.records_both, Ran.HasRun, Ran.OneRun, Steps.stays_further}
 
 -- WHAT IS CONDUCTED KEEPS THE RULES, by the records of its store.
