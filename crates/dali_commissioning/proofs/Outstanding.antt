@@ -39,5 +39,4 @@ pub outstanding_own : (m n : Machine) (steps : List Step) → m.last ≡ None �
 outstanding_own m n steps unstarted idle are =
     let last = steps_stand m n (own_of m) steps unstarted (stands_first m unstarted idle) are in
     own_both (own_of m) (acts_by steps) (outstanding (last_order steps)) (keeps_to_scripts m n steps unstarted idle are)
-    (pends_own (last_order steps) (own_all (own_of m) (acts_by steps))
-    (subst (λ o. Pends o (own_all (own_of m) (acts_by steps))) last.1 last.0.pends))
+    (pends_own (last_order steps) (own_all (own_of m) (acts_by steps)) (subst (λ o. Pends o (own_all (own_of m) (acts_by steps))) last.1 last.0.pends))

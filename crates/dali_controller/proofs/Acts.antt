@@ -83,8 +83,7 @@ module _ (m : Machine) (v : Own) (stands : Stands m v) where
     enrolled = enrols x is own;
   }
 
-  pub told_step : (i : Input) → accepts (due_after m.last) i ≡ true
-      → AreOwn v (acts_told m.last i) × Told (machine_told m i) (own_all v (acts_told m.last i))
+  pub told_step : (i : Input) → accepts (due_after m.last) i ≡ true → AreOwn v (acts_told m.last i) × Told (machine_told m i) (own_all v (acts_told m.last i))
   told_step i accepted = go m.last refl i stands.pends accepted where
     go : (last : Option Order) → m.last ≡ last → (i : Input) → Pends last v → accepts (due_after last) i ≡ true
         → AreOwn v (acts_told last i) × Told (machine_told m i) (own_all v (acts_told last i))

@@ -58,8 +58,7 @@ anothers_none k heard a r is = ap (λ o. has_short heard a || is_another r o) (s
   or_false true = refl
   or_false false = refl
 
-pub anothers_some : (k : Kept) (heard : Shorts) (a r n : ℕ) → Some n ≡ number_at k.enrolled a
-    → is_anothers k heard a r ≡ (has_short heard a || not (n == r))
+pub anothers_some : (k : Kept) (heard : Shorts) (a r n : ℕ) → Some n ≡ number_at k.enrolled a → is_anothers k heard a r ≡ (has_short heard a || not (n == r))
 anothers_some k heard a r n is = ap (λ o. has_short heard a || is_another r o) (sym is)
 
 -- ---------------------------------------------------------------- what the least open one is

@@ -53,8 +53,7 @@ hunted_moment t r h left o new heard hunting asks =
       less : (n m : ℕ) → nat_lt n m ≡ true → n < m
       less n m e = grind (arith, nat_tests)
 
-      go : (b : Bool) → has_room c r left ≡ b
-          → IsMoment t (if b then Put LATER (frame_of (byte_to_send c.number r)) else beginning c)
+      go : (b : Bool) → has_room c r left ≡ b → IsMoment t (if b then Put LATER (frame_of (byte_to_send c.number r)) else beginning c)
           (machine_ordered_on t c (if b then Put LATER (frame_of (byte_to_send c.number r)) else beginning c))
       go true room =
           let x = has_room_is c.purpose (nat_lt (bytes_to_send c.number r) left) room in

@@ -149,8 +149,7 @@ full_shut t c way survey ungivable = go (asks_again t) refl where
 
 undrawn_shut : (t : Machine) (c : Course) → c.way ≡ t.course.way → t.course.way ≡ Surveying → c.tally ≡ t.course.tally → IsUndrawn t → IsShut t (undrawn t c)
 undrawn_shut t c way survey same undrawn = go (has_open t) refl (nat_lt c.tally.draws 3) refl where
-  go : (b : Bool) → has_open t ≡ b → (d : Bool) → nat_lt c.tally.draws 3 ≡ d
-      → IsShut t (if b then (if d then drawing c else closing c GaveUp) else full t c)
+  go : (b : Bool) → has_open t ≡ b → (d : Bool) → nat_lt c.tally.draws 3 ≡ d → IsShut t (if b then (if d then drawing c else closing c GaveUp) else full t c)
   go true unclosed true few = opens t _ way refl
   go true unclosed false few =
       let spent : nat_lt t.course.tally.draws 3 ≡ false = ap (λ (y : Tally). nat_lt y.draws 3) (sym same) ∙ few in
@@ -236,8 +235,7 @@ called_shut t r h left x is opened mask false e = go t.course.tally.is_silent re
   )
   go false before = opens t _ refl refl
 called_shut t r h left x is opened mask true e = go (is_blocked t.course.tally) refl where
-  go : (b : Bool) → is_blocked t.course.tally ≡ b
-      → IsShut t (if b then blocked t else hunting_first (record t.course { tally = heard_call t.course.tally }))
+  go : (b : Bool) → is_blocked t.course.tally ≡ b → IsShut t (if b then blocked t else hunting_first (record t.course { tally = heard_call t.course.tally }))
   go true passed = blocked_shut t r h left x is e passed
   go false passed = opens t _ refl refl
 
@@ -322,8 +320,7 @@ pub resolved_moment : (t : Machine) (r : SearchAddress) (a : ℕ) (o : Order) (n
 resolved_moment t r a o new h early reserved begun =
     let next : next_course t ≡ resolving t.course a r =
     ap (begins_at t) h.stage ∙ ap (λ o. unanswered t r o (address_for t.kept.reserved (value_of r))) early ∙ ap (unanswered t r false) reserved in
-    let calm : IsWithinSilence t.course.way t.course.purpose t.silent =
-    rw h.arrived.0 (early_calm t.course.way t.course.opened t.silent early h.calm) in
+    let calm : IsWithinSilence t.course.way t.course.purpose t.silent = rw h.arrived.0 (early_calm t.course.way t.course.opened t.silent early h.calm) in
     begun_moment t (resolving t.course a r) o new (sym next)
     (between_begins t _ (heard_between t (Unanswered r) h (ap closing_of h.arrived.0) calm (λ q e. cc) (λ q b e. cc)) refl refl) begun
 
@@ -486,12 +483,7 @@ left_on : (s : State) (k : Kept) (l : Leg) (a b : Ascent) (h : Answer) (sent : S
     → Begun (machine_with (hunting_state s b) k) (nobody_left (machine_with (hunting_state s b) k) (course_of (hunting_state s b))) o new
     → AsksNext (machine_with (record s { leg = l }) k) (hunted_in (machine_with (record s { leg = l }) k) h) sent left o new
 left_on s k l a b h sent left o new is told nobody begun =
-    subst (λ x. AsksNext (machine_with (record s { leg = x }) k) (hunted_in (machine_with (record s { leg = x }) k) h) sent left o new) (sym is)
-    (subst (λ z. AsksNext w (hunted_to w z (hunted w.course h)) sent left o new) (sym (ap leads_to (sym told) ∙ nobody))
-    (go
-    (subst
-    (λ x. Begun (machine_with (hunting_state s x) k)
-    (nobody_left (machine_with (hunting_state s x) k) (course_of (hunting_state s x))) o new) told begun))) where
+    rw is (subst (λ z. AsksNext w (hunted_to w z (hunted w.course h)) sent left o new) (sym (ap leads_to (sym told) ∙ nobody)) (go (rw told at begun))) where
       w : Machine
       w = machine_with (hunting_state s a) k
 
@@ -514,8 +506,7 @@ searched_on : (s : State) (k : Kept) (l : Leg) (x y : Search) (step : Step) (o :
     → Begun (machine_with (record s { leg = leg.Searching y }) k) (after_step step (course_of (record s { leg = leg.Searching y }))) o new
     → Begun (machine_with (record s { leg = l }) k) (after_step step (record (course_of (record s { leg = l })) { search = y })) o new
 searched_on s k l x y step o new is begun =
-    subst (λ z. Begun (machine_with (record s { leg = z }) k) (after_step step (record (course_of (record s { leg = z })) { search = y })) o new) (sym is)
-    (go step begun) where
+    rw is (go step begun) where
       go : (step : Step) → Begun (machine_with (record s { leg = leg.Searching y }) k) (after_step step (course_of (record s { leg = leg.Searching y }))) o new
           → Begun (machine_with (record s { leg = leg.Searching x }) k)
           (after_step step (record (course_of (record s { leg = leg.Searching x })) { search = y })) o new
@@ -535,8 +526,7 @@ pub probed_state : (s : State) (k : Kept) (x y : Search) (r : SearchAddress) (h 
     → IsMoment (machine_with s k) o new
 probed_state s k x y r h said step o new heard is says told leads nobody begun =
     probed_moment t r h y step o new heard (told running ∙ ap (λ (z : Search). answered z said) (sym here) ∙ ap (answered t.course.search) says) leads
-    (λ e. let n = nobody running e in (sym says ∙ n.0, ap (λ (z : Search). z.probe) here ∙ n.1))
-    (searched_begun s k x y step o new is begun) where
+    (λ e. let n = nobody running e in (sym says ∙ n.0, ap (λ (z : Search). z.probe) here ∙ n.1)) (searched_begun s k x y step o new is begun) where
       t : Machine
       t = machine_with s k
 

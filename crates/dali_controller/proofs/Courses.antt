@@ -11,7 +11,7 @@ use Rattle.dali_search.specs.{Ascending.{leads_to, ascent_at_first}, Least.{Sear
 use Rattle.dali_search.specs.declared.step.Step.TheVariants.{Again, Found, Nobody}
 use Rattle.dali_controller.specs.Course.{Course, turn_of, call_turn, is_yes, after_step, number_at, address_for, unless_enrolled, unfinished_at}
 use Rattle.dali_controller.specs.Course.{unfinished_among, hunted, searching_on, searching_first, here_or_later, going_on, ask_or_call, next_asked}
-use Rattle.dali_controller.specs.Course.{going_on_early, visit_or_opening, next_unfinished, calling, searching_anew, visiting, asking, hunting_on, opening}
+use Rattle.dali_controller.specs.Course.{going_on_early, visit_or_opening, next_unfinished, searching_anew, visiting, asking, hunting_on, opening}
 use Rattle.dali_controller.specs.{Course.{calling_first, asking_again}, Machine.{Machine, machine_lost, machine_told}, Moments.{IsMoment, IsNext}}
 use Rattle.dali_controller.specs.Next.{begins_at, course_by, course_on, asked_on, next_course, beginning, full, asks_again, undrawn, has_open, BeginsWith}
 use Rattle.dali_controller.specs.Next.{silenced, silenced_on, missed_again, is_failed, most_silent, goes_on_to, hunted_to, compared_in, called_to, is_blocked}
@@ -26,8 +26,7 @@ use Rattle.dali_script.specs.declared.orders.Input.TheVariants as input
 -- an order that leaves the course is a moment
 pub stays_moment : (t : Machine) (o : Order) (new : Machine) → BeginsWith new.course o → new ≡ machine_ordered t o → IsNext t o new → IsWhole new
     → IsMoment t o new
-stays_moment t o new begins state next whole =
-    record { begins = begins; course = ap (λ (m : Machine). m.course) state; next = next; whole = whole }
+stays_moment t o new begins state next whole = record { begins = begins; course = ap (λ (m : Machine). m.course) state; next = next; whole = whole }
 
 -- a transaction that goes on by its turn leaves the course
 course_stays : (t : Machine) (s : Stage) (c : Command) → turn_of t.course.purpose t.course.number s ≡ Some c → course_on t s ≡ t.course
@@ -62,9 +61,7 @@ pub answered_is : (old new : Search) (said : Bool) (s : Step) → old.step ≡ A
 answered_is old new said s running asked step next last kept =
     let answers : new.answers ≡ old.answers ++ (old.probe, said) ∷ [] = asked running in
     let after : s ≡ step_after (old.answers ++ (old.probe, said) ∷ []) = step running ∙ ap step_after answers in
-    whole new _ _ _ answers
-    (probe_is s _ old.probe _ new.probe after (λ e. next e ∙ ap probe_after answers) last)
-    (kept ∙ after)
+    whole new _ _ _ answers (probe_is s _ old.probe _ new.probe after (λ e. next e ∙ ap probe_after answers) last) (kept ∙ after)
 
 -- ---------------------------------------------------------------- what is reserved, and what is enrolled
 
@@ -117,8 +114,7 @@ none_reserved k a is = ap (unless_enrolled k.enrolled) (sym is)
 
 pub unfinished_is : (k : Kept) (a r : ℕ) (o : Option ℕ) → Some r ≡ number_at k.reserved a → o ≡ address_for k.enrolled r
     → unfinished_at k a ≡ (if is_some o then None else Some r)
-unfinished_is k a r o reserved enrolled =
-    ap (unless_enrolled k.enrolled) (sym reserved) ∙ ap (λ x. if is_some x then None else Some r) (sym enrolled)
+unfinished_is k a r o reserved enrolled = ap (unless_enrolled k.enrolled) (sym reserved) ∙ ap (λ x. if is_some x then None else Some r) (sym enrolled)
 
 -- one whose number is surely enrolled is finished
 pub surely_finished : (k : Kept) (a : ℕ) → ((r : ℕ) → Has k.reserved (a, r) → HasRandom k.enrolled r) → unfinished_at k a ≡ None
@@ -133,8 +129,7 @@ surely_finished k a sure = go (number_at k.reserved a) (found_number k.reserved 
   go (Some r) there = is_enrolled r (address_for k.enrolled r) (found_address k.enrolled r) (sure r there)
 
 -- the next one is looked for one address after the other
-pub one_more : (k : Kept) (a : ℕ) → a < 64
-    → unfinished_among k (64 - a) a ≡ here_or_later a (unfinished_at k a) (unfinished_among k (64 - (a + 1)) (a + 1))
+pub one_more : (k : Kept) (a : ℕ) → a < 64 → unfinished_among k (64 - a) a ≡ here_or_later a (unfinished_at k a) (unfinished_among k (64 - (a + 1)) (a + 1))
 one_more k a small = let more : 64 - a ≡ suc (64 - (a + 1)) = omega arith in ap (λ n. unfinished_among k n a) more
 
 -- ---------------------------------------------------------------- what follows
@@ -170,8 +165,7 @@ heard_last : (m : Machine) (f : Forward) (h : Answer) → frame_put m.last ≡ S
 heard_last m f h put = rw put refl
 
 -- a frame that was heard follows no enrolment
-pub followed_heard : (w mid : Machine) (o : Order) (f : Forward) (h : Answer) → frame_put w.last ≡ Some f
-    → mid ≡ machine_told w (input.Heard h)
+pub followed_heard : (w mid : Machine) (o : Order) (f : Forward) (h : Answer) → frame_put w.last ≡ Some f → mid ≡ machine_told w (input.Heard h)
     → ((c : Command) → turn_of mid.course.purpose mid.course.number (stage_of mid.trace) ≡ Some c → o ≡ Put LATER (frame_of c))
     → ((b n : ℕ) → stage_of mid.trace ≡ Spelled b (Some n) → IsSought mid.course.purpose mid.course.number n → AfterFinding mid b n o)
     → ((b n : ℕ) → stage_of mid.trace ≡ Spelled b (Some n) → (IsSought mid.course.purpose mid.course.number n → ⊥) → o ≡ beginning (next_course mid))
@@ -179,8 +173,7 @@ pub followed_heard : (w mid : Machine) (o : Order) (f : Forward) (h : Answer) �
     → ((r : SearchAddress) (g : Answer) (left : ℕ) → stage_of mid.trace ≡ Hunted r (Some g) left → mid.course.purpose ≡ Hunting
     → o ≡ question (next_course mid) r left)
     → ((r : SearchAddress) (g : Answer) (left : ℕ) → stage_of mid.trace ≡ Hunted r (Some g) left → mid.course.purpose ≡ Calling
-    → call_turn (Some g) left ≡ None → o ≡ beginning (next_course mid))
-    → IsFollowed (machine_told w (input.Heard h)) o
+    → call_turn (Some g) left ≡ None → o ≡ beginning (next_course mid)) → IsFollowed (machine_told w (input.Heard h)) o
 followed_heard w mid o f h put is sent told another unconfirmed hunted called = subst (λ t. IsFollowed t o) is (record {
   sent = sent;
   told = told;
@@ -245,8 +238,7 @@ full_keeps : (t : Machine) (c : Course) → Keeps c (full t c)
 full_keeps t c = either (Keeps c) (asks_again t) (asks_again_with (Keeps c) t.kept c (stays refl refl) (λ a. stays refl refl)) (stays refl refl)
 
 undrawn_keeps : (t : Machine) (c : Course) → Keeps c (undrawn t c)
-undrawn_keeps t c =
-    either (Keeps c) (has_open t) (either (Keeps c) (nat_lt c.tally.draws 3) (stays refl refl) (stays refl refl)) (full_keeps t c)
+undrawn_keeps t c = either (Keeps c) (has_open t) (either (Keeps c) (nat_lt c.tally.draws 3) (stays refl refl) (stays refl refl)) (full_keeps t c)
 
 hunts_keep : (t : Machine) (s : Step) (c : Course) → Keeps c (hunted_to t s c)
 hunts_keep t Nobody c = either (Keeps c) (c.ascent.found == 0) (undrawn_keeps t c) (stays refl refl)
@@ -291,8 +283,7 @@ keeps t (Hunted r (Some h) left) = go t.course.purpose refl h where
   ends = either (λ d. d.way ≡ t.course.way) t.course.tally.is_silent refl refl
 
   go : (p : Purpose) → t.course.purpose ≡ p → (h : Answer) → Keeps t.course (compared_in t p h) ⊎ IsSilentAt t (Hunted r (Some h) left)
-  go Calling is Silence =
-      inr (record { number = r; left = left; stage = refl; calling = is; way = ap (λ p. (compared_in t p Silence).way) is ∙ ends })
+  go Calling is Silence = inr (record { number = r; left = left; stage = refl; calling = is; way = ap (λ p. (compared_in t p Silence).way) is ∙ ends })
   go Calling is _ = inl (heard_keeps t)
   go _ is h = inl (hunted_keeps t h)
 keeps t Free = inl (go t.last) where

@@ -46,8 +46,7 @@ given_followed (Ok o) m i given = given.followed
 given_followed (Err e) m i given = tt
 
 pub given_begins : {E : Type 0} (r : Result Order E) (m : Machine) (i : Input) (c : Course) (new : Machine) → IfOk r (λ o. IsGiven m i o)
-    → IfOk r (λ o. new ≡ machine_after m i o) → new.course ≡ c
-    → IfOk r (BeginsWith c)
+    → IfOk r (λ o. new ≡ machine_after m i o) → new.course ≡ c → IfOk r (BeginsWith c)
 given_begins (Ok o) m i c new given state is = subst (λ d. BeginsWith d o) (sym (ap (λ (n : Machine). n.course) state) ∙ is) given.begins
 given_begins (Err e) m i c new given state is = tt
 

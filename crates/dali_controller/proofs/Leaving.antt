@@ -36,8 +36,7 @@ left_by_withheld Surveying w r a way kept has withheld =
 
 pub withheld_left : (w : Machine) (r : SearchAddress) (a m : ℕ) → IsKept w.kept → Has w.kept.reserved (a, value_of r) → m ≡ value_of r
     → is_withheld w a m ≡ true → IsUngiven w.course.way w r
-withheld_left w r a m kept has is withheld =
-    left_by_withheld w.course.way w r a refl kept has (ap (is_withheld w a) (sym is) ∙ withheld)
+withheld_left w r a m kept has is withheld = left_by_withheld w.course.way w r a refl kept has (ap (is_withheld w a) (sym is) ∙ withheld)
 
 given_masked : (y : Way) (w : Machine) (r : SearchAddress) (a : ℕ) → IsKept w.kept → Has w.kept.reserved (a, value_of r)
     → is_withheld w a (value_of r) ≡ false → AfterMaskOn y w w.course r (Put LATER (frame_of (Program (Some a))))
@@ -103,8 +102,7 @@ reservable w r a m h free is same =
     }
 
 reserves_at : (w : Machine) (c : Course) (r : SearchAddress) (a m : ℕ) → IsMap w.kept.reserved → IsHeard w (Unnamed r)
-    → (HasRandom w.kept.reserved (value_of r) → ⊥) → IsFirstFree w.course.way w.kept w.heard (Some a) → m ≡ value_of r
-    → IsOrderedTo w c (Commit (Reserve a m))
+    → (HasRandom w.kept.reserved (value_of r) → ⊥) → IsFirstFree w.course.way w.kept w.heard (Some a) → m ≡ value_of r → IsOrderedTo w c (Commit (Reserve a m))
 reserves_at w c r a m map h free is same =
     let tries : w.tries < 8 = h.tries in
     let going : closing_of w.course.purpose ≡ None = ap closing_of h.arrived.0 in

@@ -54,8 +54,7 @@ pub hears_told : (s noted : State) (k : Kept) (f : Forward) (h : Answer) (t : Li
     → noted ≡ record s { trace = t; finding = later s.finding (finding_of t) }
     → n ≡ tries_after (is_complete k (closing_of noted.purpose) (stage_of noted.trace) || is_ended noted.purpose noted.number (stage_of noted.trace)
     || is_passed_by (machine_with noted k) (stage_of noted.trace)) noted.tries
-    → i ≡ silent_after (stage_of noted.trace) (is_searching noted.leg) noted.silent
-    → shorts ≡ heard_after noted.purpose (stage_of noted.trace) h noted.heard
+    → i ≡ silent_after (stage_of noted.trace) (is_searching noted.leg) noted.silent → shorts ≡ heard_after noted.purpose (stage_of noted.trace) h noted.heard
     → count ≡ asked_after noted.purpose (stage_of noted.trace) h (silences_on noted.leg) → l ≡ with_silences noted.leg count
     → machine_with (record noted { tries = n; silent = i; heard = shorts; leg = l }) k ≡ heard_by (machine_with s k) f h
 hears_told s noted k f h t n i shorts count l whole put trace is tries silent marks counts leg =

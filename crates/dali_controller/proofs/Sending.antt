@@ -33,9 +33,7 @@ given_small k a n map has = map.short a (has_map (λ q. q.0) k.reserved (a, n) h
 
 -- and what it has chosen, if it may be sent, it sends
 pub chosen_sends : (y : Way) (k : Kept) (n : SearchAddress) (x : Search) (v : Ascent) (o : Bool) (p : Purpose) (s : Stage) (c : Command) → IsMap k.reserved
-    → Knows y k n x v o p
-    → Follows k.block k.reserved s c → IsChosen n p s c
-    → Sends k n p s c
+    → Knows y k n x v o p → Follows k.block k.reserved s c → IsChosen n p s c → Sends k n p s c
 chosen_sends y k n x v o p Free c map knows follows e = (e, subst IsSpelled (sym e) (first_spelled y k n x v o p knows))
 chosen_sends y k n x v o p (Unnamed r) c map knows follows e =
     let program = programs r c follows.leads_on in
@@ -61,8 +59,7 @@ reserved_none xs a n none = (λ e. absurd (cc), λ h. absurd (none (has_map (λ 
 
 -- so whether it sends a frame is told by whether the frame may be sent, and whether it has chosen it
 pub sends_allowed : (y : Way) (k : Kept) (n : SearchAddress) (x : Search) (v : Ascent) (o : Bool) (p : Purpose) (t : List Entry) (f : Forward) (chosen : Bool)
-    → IsMap k.reserved
-    → Knows y k n x v o p → Lawful k.block k.reserved t f
+    → IsMap k.reserved → Knows y k n x v o p → Lawful k.block k.reserved t f
     → ((chosen ≡ true) ↔ IsChosen n p (stage_of t) (command_of f)) → (chosen ≡ true) ↔ Sends k n p (stage_of t) (command_of f)
 sends_allowed y k n x v o p t f chosen map knows lawful test = (
   λ e. chosen_sends y k n x v o p (stage_of t) (command_of f) map knows (follows_lawful k.block k.reserved t f lawful) (test.0 e),

@@ -137,10 +137,8 @@ goes_hunted k n r last left room = go (r.high == n.high) refl (r.low == n.low) r
 
   go : (b : Bool) → (r.high == n.high) ≡ b → (d : Bool) → (r.low == n.low) ≡ d → (e : Bool) → (r.middle == n.middle) ≡ e
       → Goes k n Hunting (Hunted r last left) (if b then (if d then (if e then Compare else SearchMiddle n.middle) else SearchLow n.low) else SearchHigh n.high)
-  go false one d two e three =
-      asks (SearchHigh n.high) refl (λ h. byte (record r { high = n.high }) (rw (one, self n.high) (omega arith))) tt (λ g x. cc)
-  go true one false two e three =
-      asks (SearchLow n.low) refl (λ h. byte (record r { low = n.low }) (rw (two, self n.low) (omega arith))) tt (λ g x. cc)
+  go false one d two e three = asks (SearchHigh n.high) refl (λ h. byte (record r { high = n.high }) (rw (one, self n.high) (omega arith))) tt (λ g x. cc)
+  go true one false two e three = asks (SearchLow n.low) refl (λ h. byte (record r { low = n.low }) (rw (two, self n.low) (omega arith))) tt (λ g x. cc)
   go true one true two false three =
       asks (SearchMiddle n.middle) refl (λ h. byte (record r { middle = n.middle }) (rw (three, self n.middle) (omega arith))) tt (λ g x. cc)
   go true one true two true three =
@@ -359,8 +357,7 @@ left_follows t r None None o left is = is
 masked_first : (y : Way) (w : Machine) (c : Course) (r : SearchAddress) → IsUngiven y w r → IsNextTo y w c.purpose c.number
     → AfterMaskOn y w c r (Put FIRST (frame_of (first_of c.purpose c.number)))
 masked_first Fresh w c r ungiven next = inr (ungiven.0, ungiven.1, next)
-masked_first Surveying w c r ungiven next =
-    left_follows w r (address_for w.kept.reserved (value_of r)) (least_open w.kept w.heard) _ ungiven next
+masked_first Surveying w c r ungiven next = left_follows w r (address_for w.kept.reserved (value_of r)) (least_open w.kept w.heard) _ ungiven next
 
 abbrev IsKnown : Machine → Course → Type 0
 IsKnown t c = Knows c.way t.kept c.number c.search c.ascent c.opened c.purpose
@@ -400,8 +397,7 @@ begin_moment t c is b knows =
 
 -- a transaction that begins with the next course, if it may begin, is a moment
 pub begun_moment : (t : Machine) (c : Course) (o : Order) (new : Machine) → c ≡ next_course t → Begins t c → Begun t c o new → IsMoment t o new
-begun_moment t c o new is b begun =
-    rw (begun.state, begun.order) (begin_moment t c is b begun.knows)
+begun_moment t c o new is b begun = rw (begun.state, begun.order) (begin_moment t c is b begun.knows)
 
 -- what begins a transaction
 pub begun_by : (t : Machine) (c : Course) (u : List Entry) (q : ℕ) (f : Forward) (asked : ℕ) → IsKnown t c → u ≡ [] → q ≡ FIRST

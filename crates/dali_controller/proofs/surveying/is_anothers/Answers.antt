@@ -6,8 +6,7 @@ pub returns-else-has : goal.returns-else-has
 returns-else-has c =
     let k = c.args.kept.now in
     let is = number_is k.enrolled c.args.address (Some c.in-Some.enrolled) c.in-Some.ensures.kept.enrolled.address_once c.in-Some.ensures.value in
-    c.ne.ensures
-    ∙ sym (anothers_some k c.args.heard c.args.address c.args.random c.in-Some.enrolled is
+    c.ne.ensures ∙ sym (anothers_some k c.args.heard c.args.address c.args.random c.in-Some.enrolled is
     ∙ ap (λ b. b || not (c.in-Some.enrolled == c.args.random)) (sym c.has.ensures ∙ c.if-has.false))
 
 pub returns-in-None : goal.returns-in-None

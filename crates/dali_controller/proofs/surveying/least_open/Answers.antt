@@ -1,4 +1,4 @@
-use Rattle.std.proofs.Common.{◌≡◌, ◌<◌, ◌+◌, ◌∙◌, arith, sym, ap, subst, refl, true, false, Some, if◌then◌else◌}
+use Rattle.std.proofs.Common.{◌≡◌, ◌<◌, ◌+◌, ◌∙◌, arith, sym, ap, subst, refl, true, false, Some}
 use Rattle.dali_controller.{specs.{Course.is_open, Shorts.has_short}, proofs.Asked.{mark_at, open_tested, open_more}}
 use Rattle.dali_controller.proofs.surveying.least_open.Goals.{then-not-reserved-place+then-not-enrolled-place+in_ok-short+else-not-has, else-not-reserved-place}
 use Rattle.dali_controller.proofs.surveying.least_open.Goals.{else-not-reserved-place-via-else-not-reserved-place}

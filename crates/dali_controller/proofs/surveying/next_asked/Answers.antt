@@ -1,4 +1,4 @@
-use Rattle.std.proofs.Common.{◌≡◌, ◌<◌, ◌∙◌, arith, sym, ap, true, false, not, ◌||◌, slice_index_or, if◌then◌else◌}
+use Rattle.std.proofs.Common.{◌≡◌, ◌<◌, ◌∙◌, arith, sym, ap, true, false, not, ◌||◌, slice_index_or}
 use Rattle.dali_controller.{specs.Course.is_asked, proofs.Asked.{mark_at, asked_by, short_some, asked_more}}
 use Rattle.dali_controller.proofs.surveying.next_asked.Goals.{then-not-enrolled-from-via-then-not-enrolled-from}
 use Rattle.dali_controller.proofs.surveying.next_asked.Goals.{then-not-enrolled-from-via-else-not-enrolled-from+then-reserved-from}

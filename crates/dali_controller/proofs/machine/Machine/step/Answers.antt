@@ -26,8 +26,7 @@ returns-clause-state c = rw (← c.self.view_is, ← c.view.ensures.value) (c.st
 pub returns-clause-begins : goal.returns-clause-begins
 returns-clause-begins c =
     given_begins c.step.result (machine_with c.self.inside.state c.self.inside.kept) c.args.input _ (machine_with c.step.new.self c.view.result)
-    (c.step.ensures.given c.self.inside.kept (before c))
-    (c.step.ensures.state c.self.inside.kept (before c)) refl
+    (c.step.ensures.given c.self.inside.kept (before c)) (c.step.ensures.state c.self.inside.kept (before c)) refl
 
 pub returns-clause-followed : goal.returns-clause-followed
 returns-clause-followed c =

@@ -7,8 +7,7 @@ use Rattle.dali_controller.proofs.state.State.ask_on.Goals as goal
 
 pub returns-clause-state : goal.returns-clause-state
 returns-clause-state c =
-    ap₂ (λ (p : Purpose) (a : ℕ).
-    record
+    ap₂ (λ (p : Purpose) (a : ℕ). record
     (machine_ordered_on (machine_with c.args.self.now c.args.kept.now) (taking (course_of c.args.self.now) Hunting c.args.number)
     (Put LATER c.write-frame.result)) {
       course = record (course_of c.args.self.now) { purpose = p; number = c.args.number };

@@ -20,5 +20,4 @@ returns-in_default-clause-enrolled c =
     ])
 
 pub returns-in_default-clause-moment : goal.returns-in_default-clause-moment
-returns-in_default-clause-moment c =
-    enrolled_moment (machine_with c.args.self.now c.args.kept.now) c.args.short c.args.random _ _ c.requires c.go_on.ensures
+returns-in_default-clause-moment c = enrolled_moment (machine_with c.args.self.now c.args.kept.now) c.args.short c.args.random _ _ c.requires c.go_on.ensures

@@ -21,5 +21,4 @@ put-requires-clause-sends c =
 pub put-requires-clause-masked : goal.put-requires-clause-masked
 put-requires-clause-masked c =
     gives_masked (machine_with c.args.self.now c.args.kept.now) c.args.number c.args.short c.value.result c.requires.heard c.requires.kept c.requires.reserved
-    c.value.ensures
-    (sym c.is_withheld.ensures ∙ c.if-is_withheld.false)
+    c.value.ensures (sym c.is_withheld.ensures ∙ c.if-is_withheld.false)

@@ -1,5 +1,5 @@
 use Rattle.std.proofs.Common.{sym, ◌∙◌}
-use Rattle.dali_controller.{specs.{Next.ungiven, States.machine_with, declared.way.Way.TheVariants.{Fresh, Surveying}}, proofs.Beginnings.ungiven_moment}
+use Rattle.dali_controller.{specs.{States.machine_with, declared.way.Way.TheVariants.{Fresh, Surveying}}, proofs.Beginnings.ungiven_moment}
 use Rattle.dali_controller.proofs.state.State.leave.Goals as goal
 
 pub returns-in-Fresh : goal.returns-in-Fresh
