@@ -8,13 +8,13 @@ use Rattle.dali_script.specs.declared.stage.Stage.TheVariants.{PassedOver, Middl
 use Rattle.dali_search.specs.{Ascending.{Ascent, leads_to, ascended}, Least.{Search, answered}, declared.step.Step.{Step, TheVariants.{Again, Found, Nobody}}}
 use Rattle.dali_controller.specs.Course.{Course, least_open, closing_of, after_step, address_for, is_yes, hunted, closing, resolving, searching_first}
 use Rattle.dali_controller.specs.Course.{opening_anew, opening_at_last, drawing, calling, hunting_first, hunting_above, ask_or_call, next_asked, visiting}
-use Rattle.dali_controller.specs.{Course.asking_again, Legs.{ascent_on, search_on, way_on, is_searching}, Machine.{Machine, machine_surveying}}
-use Rattle.dali_controller.specs.{Moments.{AsksNext, Begins, Begun, Enrolled, IsBetween, IsHeard, IsMoment, IsUngiven, IsNextTo}, Next.{next_course, beginning}}
-use Rattle.dali_controller.specs.Next.{at_rest, compared_in, begins_at, goes_on_to, silenced, silenced_on, missed_again, is_failed, most_silent, unanswered}
-use Rattle.dali_controller.specs.Next.{has_open, may_draw, asks_again, full, ungiven, undrawn, nobody_left, hunted_to, hunted_in, blocked, is_blocked}
-use Rattle.dali_controller.specs.{Next.{called_to, called_in, asked_once, is_hunting, question}, Orders.{Cause, IsBegun, AllAreFound, IsUndrawn, IsUngivable}}
-use Rattle.dali_controller.specs.{Orders.{IsBlockFull, IsStuck, IsOrdered, IsOrderedTo, machine_ordered, machine_ordered_on}, States.{machine_with, course_of}}
-use Rattle.dali_controller.specs.{Tally.{asked_again, silent_call, heard_call}, Whole.{Knows, IsSurvey, IsWithinSilence, IsWhole, IsUnstarted, Pending}}
+use Rattle.dali_controller.specs.{Course.asking_again, Legs.{ascent_on, search_on, way_on, is_searching}, Machine.Machine, Moments.{AsksNext, Begins, Begun}}
+use Rattle.dali_controller.specs.{Moments.{Enrolled, IsBetween, IsHeard, IsMoment, IsUngiven, IsNextTo}, Next.{next_course, beginning, at_rest, compared_in}}
+use Rattle.dali_controller.specs.Next.{begins_at, goes_on_to, silenced, silenced_on, missed_again, is_failed, most_silent, unanswered, has_open, may_draw}
+use Rattle.dali_controller.specs.Next.{asks_again, full, ungiven, undrawn, nobody_left, hunted_to, hunted_in, blocked, is_blocked, called_to, called_in}
+use Rattle.dali_controller.specs.{Next.{asked_once, is_hunting, question}, Orders.{Cause, IsBegun, AllAreFound, IsUndrawn, IsUngivable, IsBlockFull, IsStuck}}
+use Rattle.dali_controller.specs.{Orders.{IsOrdered, IsOrderedTo, machine_ordered, machine_ordered_on}, States.{machine_with, course_of}, Tally.asked_again}
+use Rattle.dali_controller.specs.{Tally.{silent_call, heard_call}, Whole.{Knows, IsSurvey, IsWithinSilence, IsWhole, IsUnstarted, Pending}}
 use Rattle.dali_controller.specs.declared.{leg.Leg.Leg, purpose.Purpose.{Purpose, TheVariants.{Opening, Probing, Visiting, Resolving, Closing, Asking}}}
 use Rattle.dali_controller.specs.declared.{purpose.Purpose.TheVariants.{Hunting, Calling, Drawing}, state.State.State, tally.Tally.Tally, way.Way.Way}
 use Rattle.dali_controller.{specs.declared.way.Way.TheVariants.{Fresh, Surveying}, proofs.Courses.{searches_first_keeps, either, asks_again_with}}
@@ -381,33 +381,24 @@ enrolled_moment t b n o new e begun = goes_on_moment t o new e.between (ap (begi
 
 -- ---------------------------------------------------------------- the start
 
-unstarted_between : (t : Machine) (w : Machine) → IsUnstarted w → t.tries ≡ w.tries → t.silent ≡ w.silent → t.trace ≡ w.trace
-    → t.course.purpose ≡ w.course.purpose → IsBetween t
-unstarted_between t w u tries silent trace purpose =
-    let few : w.tries < 8 = u.ready.tries in
+abbrev pub begun_as : Machine → Way → Tally → Machine
+begun_as w y u = record w { course = record w.course { way = y; tally = u } }
+
+pub unstarted_moment : (w : Machine) (y : Way) (x : Tally) (o : Order) (new : Machine) → IsWhole w → w.last ≡ None
+    → Begun (begun_as w y x) (goes_on_to (begun_as w y x)) o new → IsMoment (begun_as w y x) o new
+unstarted_moment w y x o new whole none begun =
+    let u : IsUnstarted w = subst (Pending w) none whole in
     let calm : w.silent < most_silent Fresh = rw u.fresh at (rw u.opening at u.ready.calm) in
-    record {
-      tries = omega arith;
-      silent = rw silent (most t.course.way calm);
-      going = ap closing_of (purpose ∙ u.opening);
-      unnamed = λ r e. cc (sym u.free ∙ ap stage_of (sym trace) ∙ e);
-      found = λ r b e. absurd (cc (sym u.free ∙ ap stage_of (sym trace) ∙ e));
-    } where
+    goes_on_moment (begun_as w y x) o new (record {
+      tries = u.ready.tries;
+      silent = most y calm;
+      going = ap closing_of u.opening;
+      unnamed = λ r e. cc (sym u.free ∙ e);
+      found = λ r b e. absurd (cc (sym u.free ∙ e));
+    }) (ap (begins_at (begun_as w y x)) u.free ∙ ap (at_rest (begun_as w y x)) none) begun where
       most : (y : Way) → w.silent < most_silent Fresh → w.silent < most_silent y
       most Fresh less = less
       most Surveying less = omega arith
-
-pub start_moment : (w : Machine) (o : Order) (new : Machine) → IsWhole w → w.last ≡ None → Begun w (goes_on_to w) o new → IsMoment w o new
-start_moment w o new whole none begun =
-    let u : IsUnstarted w = subst (Pending w) none whole in
-    goes_on_moment w o new (unstarted_between w w u refl refl refl refl) (ap (begins_at w) u.free ∙ ap (at_rest w) none) begun
-
-pub survey_moment : (w : Machine) (o : Order) (new : Machine) → IsWhole w → w.last ≡ None
-    → Begun (machine_surveying w) (goes_on_to (machine_surveying w)) o new → IsMoment (machine_surveying w) o new
-survey_moment w o new whole none begun =
-    let t : Machine = machine_surveying w in
-    let u : IsUnstarted w = subst (Pending w) none whole in
-    goes_on_moment t o new (unstarted_between t w u refl refl refl refl) (ap (begins_at t) u.free ∙ ap (at_rest t) none) begun
 
 -- ---------------------------------------------------------------- what a moment gives
 
@@ -419,24 +410,12 @@ moment_state t o new m = m.next.state ∙ ap (λ c. machine_ordered_on t c o) m.
 
 -- ---------------------------------------------------------------- what begins by a test
 
-pub undrawn_full : (t : Machine) (c : Course) (o : Order) (new : Machine) → has_open t ≡ false → Begun t (full t c) o new → Begun t (undrawn t c) o new
-undrawn_full t c o new is begun = rw is begun
-
 -- gear do not draw if no address is open
 pub none_drawn : (t : Machine) → None ≡ least_open t.kept t.heard → may_draw t ≡ false
 none_drawn t none = rw (← none) (go (nat_lt t.course.tally.draws 3)) where
   go : (b : Bool) → (b && false) ≡ false
   go true = refl
   go false = refl
-
-pub ungiven_full : (t : Machine) (o : Order) (new : Machine) → may_draw t ≡ false → Begun t (full t t.course) o new → Begun t (ungiven t Surveying) o new
-ungiven_full t o new is begun = rw is begun
-
-pub left_undrawn : (t : Machine) (c : Course) (o : Order) (new : Machine) → c.ascent.found ≡ 0 → Begun t (undrawn t c) o new → Begun t (nobody_left t c) o new
-left_undrawn t c o new is begun = let none : (c.ascent.found == 0) ≡ true = ap (λ n. n == 0) is in rw none begun
-
-pub full_closes : (t : Machine) (c : Course) (o : Order) (new : Machine) → asks_again t ≡ false → Begun t (closing c BlockFull) o new → Begun t (full t c) o new
-full_closes t c o new is begun = rw is begun
 
 -- short addresses are asked again: gear are searched no longer
 abbrev asking_state : State → Tally → State

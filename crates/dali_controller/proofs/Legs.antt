@@ -1,13 +1,13 @@
-use Rattle.std.proofs.Common.{◌≡◌, ℕ, true, false, List, [], ◌∷◌, ◌++◌, refl, sym, ap, subst, ◌∙◌, Option, Some, None, ◌||◌}
+use Rattle.std.proofs.Common.{◌≡◌, ℕ, true, false, List, [], ◌∷◌, ◌++◌, refl, sym, ap, subst, ◌∙◌, Option, Some, None, ◌||◌, lit<}
 use Rattle.dali_frame.specs.declared.{frames.{Answer.Answer, Forward.Forward}, numbers.SearchAddress.SearchAddress}
 use Rattle.dali_script.specs.{Due.frame_put, Findings.{later, finding_of}, Records.Kept, Stages.stage_of, declared.{finding.Finding.Finding, stage.Stage.Stage}}
-use Rattle.dali_script.specs.declared.trace.Entry.{Entry}
+use Rattle.dali_script.{specs.declared.trace.Entry.Entry, proofs.Transactions.stage_none}
 use Rattle.dali_search.specs.{Ascending.ascent_at_first, Least.at_first}
 use Rattle.dali_controller.specs.{Course.closing_of, Legs.{way_on, is_searching, from_on, silences_on, search_on, ascent_on, with_silences}, Machine.Machine}
 use Rattle.dali_controller.specs.Machine.{machine_told, asked_after, heard_after, is_complete, is_ended, is_passed_by, silent_after, tries_after}
 use Rattle.dali_controller.specs.{Orders.asked_by, States.machine_with, Whole.{IsOpenedOn, IsUnstarted, IsWhole, Knows, Pending}, declared.leg.Leg.Leg}
 use Rattle.dali_controller.specs.declared.{purpose.Purpose.{Purpose, TheVariants.{Opening, Asking}}, shorts.Shorts.Shorts, state.State.State}
-use Rattle.dali_controller.{specs.declared.way.Way.TheVariants.{Fresh, Surveying}, proofs.Steps.{heard_by, sending, whole_at_first}}
+use Rattle.dali_controller.{specs.declared.way.Way.TheVariants.{Fresh, Surveying}, proofs.Steps.{heard_by, sending}}
 use Rattle.dali_script.specs.declared.orders.Input.TheVariants as input
 use Rattle.dali_controller.specs.declared.leg.Leg.TheVariants as leg
 
@@ -84,5 +84,10 @@ unstarted_leg s k whole none =
 
 pub whole_unstarted : (s : State) (k : Kept) → s.trace ≡ [] → s.last ≡ None → s.tries ≡ 0 → s.silent ≡ 0 → s.purpose ≡ Opening → s.leg ≡ leg.Revisiting 0
     → IsWhole (machine_with s k)
-whole_unstarted s k trace last tries silent opening begins =
-    whole_at_first (machine_with s k) trace last tries silent (ap is_searching begins) opening (ap way_on begins) (ap from_on begins)
+whole_unstarted s k trace last tries silent opening begins = rw last (record {
+  ready = record { tries = rw tries (lit< tt); calm = rw (opening, silent, begins) (lit< tt); knows = rw (opening, begins) refl };
+  free = ap stage_of trace ∙ stage_none;
+  opening = opening;
+  fresh = ap way_on begins;
+  first = ap from_on begins;
+})

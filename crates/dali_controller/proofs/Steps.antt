@@ -518,18 +518,3 @@ pub sends_program : (k : Kept) (n r : SearchAddress) (p : Purpose) (a m : ℕ) �
 sends_program k n r p a m kept visiting is h =
     let there : Has k.reserved (a, value_of r) = subst (λ v. Has k.reserved (a, v)) is h in
     (visiting.0, visiting.1, (a, kept.reserved.short a (has_map (λ q. q.0) k.reserved (a, value_of r) there), may_give k r a kept there, refl))
-
--- before the start
-pub whole_at_first : (w : Machine) → w.trace ≡ [] → w.last ≡ None → w.tries ≡ 0 → w.silent ≡ 0 → w.course.opened ≡ false → w.course.purpose ≡ Opening
-    → w.course.way ≡ Fresh → w.course.from ≡ 0 → IsWhole w
-whole_at_first w trace last tries silent opened opening fresh first = rw last (record {
-  ready = record {
-    tries = rw tries (lit< tt);
-    calm = rw (opening, silent, fresh) (lit< tt);
-    knows = rw (opening, opened, fresh) refl;
-  };
-  free = free_of w.trace trace;
-  opening = opening;
-  fresh = fresh;
-  first = first;
-})

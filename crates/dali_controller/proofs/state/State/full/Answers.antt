@@ -1,5 +1,5 @@
 use Rattle.std.proofs.Common.{sym, ◌∙◌}
-use Rattle.dali_controller.{proofs.Beginnings.{full_asks, full_closes}, specs.States.course_of}
+use Rattle.dali_controller.proofs.Beginnings.{full_asks}
 use Rattle.dali_controller.proofs.state.State.full.Goals as goal
 
 pub returns-then-asks_again : goal.returns-then-asks_again
@@ -8,4 +8,4 @@ returns-then-asks_again c =
     (sym c.asks_again.ensures ∙ c.if-asks_again.true) c.note_asking.ensures c.ask_or_call.ensures
 
 pub returns-else-asks_again : goal.returns-else-asks_again
-returns-else-asks_again c = full_closes _ (course_of c.args.self.now) _ _ (sym c.asks_again.ensures ∙ c.if-asks_again.false) c.close.ensures
+returns-else-asks_again c = rw (sym c.asks_again.ensures ∙ c.if-asks_again.false) c.close.ensures

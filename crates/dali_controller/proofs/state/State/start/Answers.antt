@@ -1,18 +1,13 @@
-use Rattle.dali_controller.specs.{Moments.IsMoment, States.machine_with}
-use Rattle.dali_controller.proofs.{Beginnings.start_moment, Beginnings.moment_ordered, Beginnings.moment_state, Courses.followed_start}
+use Rattle.dali_controller.{specs.States.machine_with, proofs.{Beginnings.{unstarted_moment, moment_ordered, moment_state}, Courses.followed_start}}
 use Rattle.dali_controller.proofs.state.State.start.Goals as goal
 
-moment : (c : goal.After-go_on) → IsMoment (machine_with c.args.self.now c.args.kept.now) c.go_on.result (machine_with c.go_on.new.self c.args.kept.now)
-moment c = start_moment (machine_with c.args.self.now c.args.kept.now) _ _ c.requires.whole c.requires.unstarted c.go_on.ensures
-
-pub returns-clause-followed : goal.returns-clause-followed
-returns-clause-followed c = followed_start (machine_with c.args.self.now c.args.kept.now) c.go_on.result c.requires.whole c.requires.unstarted
-
-pub returns-clause-begins : goal.returns-clause-begins
-returns-clause-begins c = (moment c).begins
-
-pub returns-clause-step : goal.returns-clause-step
-returns-clause-step c = record { order = moment_ordered _ _ _ (moment c); state = moment_state _ _ _ (moment c) }
-
-pub returns-clause-whole : goal.returns-clause-whole
-returns-clause-whole c = (moment c).whole
+pub returns : goal.returns
+returns c =
+    let w = machine_with c.args.self.now c.args.kept.now in
+    let m = unstarted_moment w _ _ _ _ c.requires.whole c.requires.unstarted c.go_on.ensures in
+    record {
+      followed = followed_start w c.go_on.result c.requires.whole c.requires.unstarted;
+      begins = m.begins;
+      step = record { order = moment_ordered _ _ _ m; state = moment_state _ _ _ m };
+      whole = m.whole;
+    }
