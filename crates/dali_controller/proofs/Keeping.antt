@@ -2,10 +2,10 @@ use Rattle.std.proofs.Common.{◌≡◌, ℕ, ◌<◌, Option, Some, Result, Ok,
 use Rattle.dali_frame.specs.Random.{value_of, MASK24}
 use Rattle.dali_script.specs.{Records.{Kept, HasRandom, Fits, MayAdd, with_record}, declared.orders.{Input.Input, Order.{Order, TheVariants.Commit}}}
 use Rattle.dali_script.{specs.declared.records.Record.{Record, TheVariants.Reserve}, proofs.Lists.{has_last, has_map}}
-use Rattle.dali_controller.specs.{Course.Course, Legs.{way_on, is_searching, search_on, ascent_on}, Machine.Machine, Next.BeginsWith, Orders.IsGiven}
-use Rattle.dali_controller.specs.{Orders.{IsAnswered, IsFollowedAt, machine_after}, States.machine_with, Steps.{IsBefore, with_some, kept_by}, Whole.IsWhole}
-use Rattle.dali_controller.specs.{Whole.{IsStoring, IsVisitedOn, Knows, Pending}, declared.{purpose.Purpose.TheVariants.Visiting, state.State.State}}
-use Rattle.dali_controller.specs.declared.way.Way.{Way, TheVariants.{Fresh, Surveying}}
+use Rattle.dali_controller.specs.{Course.Course, Legs.{way_on, is_searching}, Machine.Machine, Next.BeginsWith, Orders.{IsGiven, IsAnswered, IsFollowedAt}}
+use Rattle.dali_controller.specs.{Orders.machine_after, States.machine_with, Steps.{IsBefore, with_some, kept_by}, Whole.{IsWhole, IsStoring, IsVisitedOn}}
+use Rattle.dali_controller.specs.{Whole.Pending, declared.{purpose.Purpose.TheVariants.Visiting, state.State.State, way.Way.{Way, TheVariants.Fresh}}}
+use Rattle.dali_controller.{specs.declared.way.Way.TheVariants.Surveying, proofs.Steps.KnowsFor}
 use Rattle.dali_script.specs.declared.orders.Input.TheVariants as input
 
 -- WHAT IS RESERVED FROM NOW ON was drawn.
@@ -21,8 +21,7 @@ pub visited_now : (s : State) (k new : Kept) (a n : ℕ) → IsBefore s k input.
     → (n < MASK24) × IsVisitedOn (way_on s.leg) new n (is_searching s.leg)
 visited_now s k new a n before last =
     let stored : IsStoring (machine_with s k) (Reserve a n) = subst (Pending (machine_with s k)) last before.whole in
-    let visiting : Knows (way_on s.leg) k s.number (search_on s.leg) (ascent_on s.leg) (is_searching s.leg) Visiting =
-    subst (Knows (way_on s.leg) k s.number (search_on s.leg) (ascent_on s.leg) (is_searching s.leg)) stored.stored stored.ready.knows in
+    let visiting : KnowsFor (machine_with s k) Visiting = subst (KnowsFor (machine_with s k)) stored.stored stored.ready.knows in
     let there = reserved_now s k new a n before last in
     (there.0, go (way_on s.leg) there.1 visiting.1) where
       go : (y : Way) → HasRandom new.reserved n → IsVisitedOn y k (value_of s.number) (is_searching s.leg) → IsVisitedOn y new n (is_searching s.leg)

@@ -29,8 +29,7 @@ withheld_searching w a m e = withheld_by w.course.way w a m e
 left_by_withheld : (y : Way) (w : Machine) (r : SearchAddress) (a : ℕ) → w.course.way ≡ y → IsKept w.kept → Has w.kept.reserved (a, value_of r)
     → is_withheld w a (value_of r) ≡ true → IsUngiven y w r
 left_by_withheld Fresh w r a way kept has withheld =
-    absurd (let no : is_withheld_by w Fresh a (value_of r) ≡ true =
-    subst (λ y. is_withheld_by w y a (value_of r) ≡ true) way withheld in cc)
+    absurd (let no : is_withheld_by w Fresh a (value_of r) ≡ true = rw way at withheld in cc)
 left_by_withheld Surveying w r a way kept has withheld =
     ap (λ o. is_left_by w (value_of r) o (least_open w.kept w.heard)) (sym (reserved_for w.kept (value_of r) a kept has)) ∙ withheld
 
@@ -97,8 +96,8 @@ reservable w r a m h free is same =
     let x = free_within w.course.way w.kept w.heard a is in
     let drawn : value_of r < MASK24 = subst (λ q. value_of q < MASK24) (sym h.arrived.1) visiting.0 in
     record {
-      fits = (x.0, subst (λ n. n < MASK24) (sym same) drawn);
-      may = (x.1, subst (λ n. HasRandom w.kept.reserved n → ⊥) (sym same) free);
+      fits = (x.0, rw same drawn);
+      may = (x.1, rw same free);
     }
 
 reserves_at : (w : Machine) (c : Course) (r : SearchAddress) (a m : ℕ) → IsMap w.kept.reserved → IsHeard w (Unnamed r)

@@ -7,7 +7,7 @@ use Rattle.dali_controller.specs.{Course.closing_of, Legs.{way_on, is_searching,
 use Rattle.dali_controller.specs.Machine.{machine_told, asked_after, heard_after, is_complete, is_ended, is_passed_by, silent_after, tries_after}
 use Rattle.dali_controller.specs.{Orders.asked_by, States.machine_with, Whole.{IsOpenedOn, IsUnstarted, IsWhole, Knows, Pending}, declared.leg.Leg.Leg}
 use Rattle.dali_controller.specs.declared.{purpose.Purpose.{Purpose, TheVariants.{Opening, Asking}}, shorts.Shorts.Shorts, state.State.State}
-use Rattle.dali_controller.{specs.declared.way.Way.TheVariants.{Fresh, Surveying}, proofs.Steps.{heard_by, sending}}
+use Rattle.dali_controller.{specs.declared.way.Way.TheVariants.{Fresh, Surveying}, proofs.Steps.{heard_by, sending, KnowsFor}}
 use Rattle.dali_script.specs.declared.orders.Input.TheVariants as input
 use Rattle.dali_controller.specs.declared.leg.Leg.TheVariants as leg
 
@@ -78,8 +78,7 @@ first_leg _ early fresh first = absurd (cc)
 pub unstarted_leg : (s : State) (k : Kept) → IsWhole (machine_with s k) → s.last ≡ None → s.leg ≡ leg.Revisiting 0
 unstarted_leg s k whole none =
     let u : IsUnstarted (machine_with s k) = subst (Pending (machine_with s k)) none whole in
-    let early = subst (λ y. IsOpenedOn y (is_searching s.leg)) u.fresh
-    (subst (λ p. Knows (way_on s.leg) k s.number (search_on s.leg) (ascent_on s.leg) (is_searching s.leg) p) u.opening u.ready.knows) in
+    let early = subst (λ y. IsOpenedOn y (is_searching s.leg)) u.fresh (subst (KnowsFor (machine_with s k)) u.opening u.ready.knows) in
     first_leg s.leg early u.fresh u.first
 
 pub whole_unstarted : (s : State) (k : Kept) → s.trace ≡ [] → s.last ≡ None → s.tries ≡ 0 → s.silent ≡ 0 → s.purpose ≡ Opening → s.leg ≡ leg.Revisiting 0
