@@ -1,4 +1,4 @@
-use Rattle.std.proofs.Common.{◌≡◌, true, refl, sym, ap, subst, ◌∙◌, List, [], ◌∷◌, ◌++◌, Option, Some, None}
+use Rattle.std.proofs.Common.{◌≡◌, refl, sym, ap, subst, ◌∙◌, List, [], ◌∷◌, ◌++◌, Option, Some, None}
 use Rattle.dali_script.specs.declared.orders.Order.{Order, TheVariants.Put, TheVariants.Commit}
 use Rattle.dali_statement.specs.Own.{Own, Act, own_after, own_all, AreOwn}
 use Rattle.dali_controller.specs.{Machine.Machine, Machine.machine_told, Orders.machine_after, Acts.acts_told, Acts.acts_ordered, Acts.own_of}

@@ -1,6 +1,6 @@
 use Rattle.std.proofs.Common.{◌≡◌, ◌⊎◌, inl, inr, ℕ, Bool, false, refl, sym, ap, subst, ◌∙◌, List, [], ◌∷◌, ◌++◌, Option, Some, None}
 use Rattle.std.proofs.{KnownBytes.Appends-nil, lemmas.List.append_assoc, lemmas.List.append-nil}
-use Rattle.dali_frame.specs.declared.frames.{Answer.Answer, Forward.Forward}
+use Rattle.dali_frame.specs.declared.frames.{Forward.Forward}
 use Rattle.dali_special.specs.Command.{command_of}
 use Rattle.dali_script.specs.Findings.{search_of, asked_of, found_by, assigned}
 use Rattle.dali_script.specs.{Due.record_ordered, Records.Assignment, Records.Has, Records.Kept, Records.with_record, Records.without_records}
@@ -8,7 +8,7 @@ use Rattle.dali_script.specs.declared.block.Block.{Block}
 use Rattle.dali_script.specs.declared.{finding.Finding.Finding, orders.Input.Input, orders.Order.Order, records.Record.Record, trace.Entry.Entry}
 use Rattle.dali_script.specs.declared.records.Record.TheVariants as record_of
 use Rattle.dali_reserve.specs.Store.{replay_of, IsReplay}
-use Rattle.dali_statement.specs.Own.{Own, Act, Puts, Loses, Begins, Keeps, told_more, own_after, own_all, IsOwn, AreOwn}
+use Rattle.dali_statement.specs.Own.{Own, Act, Puts, Loses, Begins, Keeps, told_more, own_after, own_all, AreOwn}
 use Rattle.dali_controller.specs.Machine.{Machine, at_first}
 use Rattle.dali_controller.proofs.Acts.{own_both}
 use Rattle.dali_commissioning.specs.{Acts.acts_by, Acts.records_of, Acts.sender_of, Acts.KeepsRules, Acts.acts_of_runs, Acts.RunsKeepRules}
@@ -16,8 +16,8 @@ use Rattle.dali_commissioning.specs.{Acts.outstanding, Acts.IsLeftRun, Acts.Runs
 use Rattle.dali_commissioning.specs.{Acts.LeavesRules, Acts.HasWritten, Acts.IsLast, Acts.MayCommitLast, Steps.order_line, Steps.open_after}
 use Rattle.dali_commissioning.specs.declared.{conducting.PassEnd.PassEnd, fault.CommissionFault.CommissionFault, fault.CommissionFault.TheVariants.StepsSpent}
 use Rattle.dali_commissioning.specs.declared.fault.CommissionFault.TheVariants.{RunsSpent}
-use Rattle.dali_commissioning.specs.Conducted.{Conducted, Commits, Stays, IsAt}
-use Rattle.dali_commissioning.specs.{Drivers.Talk, Runs.Run, Runs.IsRun, Runs.AreRuns, Steps.Step, Steps.committed_by}
+use Rattle.dali_commissioning.specs.Conducted.{Commits, Stays, IsAt}
+use Rattle.dali_commissioning.specs.{Drivers.Talk, Runs.Run, Runs.AreRuns, Steps.committed_by}
 use Rattle.dali_commissioning.proofs.Outstanding.{outstanding_own}
 use Rattle.dali_commissioning.proofs.{Acts.keeps_to_scripts, Acts.records_are_kept, Acts.records_both, Ran.HasRun, Ran.OneRun, Steps.stays_further}
 
