@@ -112,19 +112,14 @@ halted_at w c b n h conflict =
           subst (λ m. Contradicts w.kept.enrolled d m) (sym there.1) (subst (λ a. Contradicts w.kept.enrolled a n) (sym there.0) conflict);
     }
 
--- the table has the address for another gear
+-- the table contradicts it
 pub halts : (w : Machine) (b n : ℕ) (o : Order) (new : Machine) → Settles w b n → Contradicts w.kept.enrolled b n → o ≡ Halt fault.Conflict
     → new ≡ machine_ordered w o → IsNext w o new
 halts w b n o new h conflict is state = record { order = rw is (halted_at w new.course b n h conflict); state = ordered_on w o new state }
 
--- or the gear with another address
-pub contradicts_by_random : (w : Machine) (b a n : ℕ) → Settles w b n → (HasAddress w.kept.enrolled b → ⊥) → Has w.kept.enrolled (a, n)
-    → Contradicts w.kept.enrolled b n
-contradicts_by_random w b a n h none has = inr (
-  a,
-  has,
-  λ e. none (subst (HasAddress w.kept.enrolled) e (has_map (λ q. q.0) w.kept.enrolled (a, n) has)),
-)
+-- the table has the gear with another address
+pub contradicts_by_random : (xs : List Assignment) (b a n : ℕ) → (HasAddress xs b → ⊥) → Has xs (a, n) → Contradicts xs b n
+contradicts_by_random xs b a n none has = inr (a, has, λ e. none (subst (HasAddress xs) e (has_map (λ q. q.0) xs (a, n) has)))
 
 enrols_at : (w : Machine) (c : Course) (b n : ℕ) → Settles w b n → (HasAddress w.kept.enrolled b → ⊥) → (HasRandom w.kept.enrolled n → ⊥)
     → IsOrderedTo w c (Commit (Enrol b n))

@@ -21,7 +21,7 @@ pub returns-in-Some-enrolled_for-clause-moment : goal.returns-in-Some-enrolled_f
 returns-in-Some-enrolled_for-clause-moment c =
     let w = machine_with c.args.self.now c.args.kept.now in
     let halt = c.halt-in-Some-enrolled_for.ensures in
-    let conflict = contradicts_by_random w c.args.short _ c.args.random c.requires c.in-None.ensures.value c.in-Some-enrolled_for.ensures.value in
+    let conflict = contradicts_by_random w.kept.enrolled c.args.short _ c.args.random c.in-None.ensures.value c.in-Some-enrolled_for.ensures.value in
     stays_moment _ _ _ (rw halt.order tt) halt.state (halts w c.args.short c.args.random _ _ c.requires conflict halt.order halt.state) halt.whole
 
 pub returns-in-None-enrolled_for-clause-moment : goal.returns-in-None-enrolled_for-clause-moment
@@ -32,5 +32,5 @@ returns-in-None-enrolled_for-clause-moment c =
 
 pub returns-in-Some-enrolled_for-clause-found : goal.returns-in-Some-enrolled_for-clause-found
 returns-in-Some-enrolled_for-clause-found c =
-    rw c.halt-in-Some-enrolled_for.ensures.order (contradicts_by_random (machine_with c.args.self.now c.args.kept.now)
-    c.args.short _ c.args.random c.requires c.in-None.ensures.value c.in-Some-enrolled_for.ensures.value)
+    rw c.halt-in-Some-enrolled_for.ensures.order
+    (contradicts_by_random c.args.kept.now.enrolled c.args.short _ c.args.random c.in-None.ensures.value c.in-Some-enrolled_for.ensures.value)
