@@ -57,8 +57,7 @@ stored_by c f k [] foreign = refl
 stored_by c f k (g ∷ gs) foreign =
     ap (λ s. stored_one k s (stored_of Everyone c (k + 1) gs)) (not_stored (takes Everyone k g) c f g foreign) ∙ stored_by c f (k + 1) gs foreign
 
-pub row : (f : Forward) (gs : List Gear) (left : List ℕ) → is_foreign f ≡ true
-    → row_after Everyone (command_of f) 0 gs left ≡ map gear_interrupted gs
+pub row : (f : Forward) (gs : List Gear) (left : List ℕ) → is_foreign f ≡ true → row_after Everyone (command_of f) 0 gs left ≡ map gear_interrupted gs
 row f gs left foreign = row_by (command_of f) f 0 gs left foreign
 
 pub draws : (f : Forward) (gs : List Gear) → is_foreign f ≡ true → draws_needed Everyone (command_of f) 0 gs ≡ 0

@@ -51,8 +51,7 @@ pub no_pair_at : {A : Type 0} (test : A → A → Bool) (xs : List A) (i j : ℕ
     → test (get_or xs i d) (get_or xs j d) ≡ false
 no_pair_at test [] i j d none order here = absurd (omega arith)
 no_pair_at test (x ∷ xs) i zero d none order here = absurd (omega arith)
-no_pair_at test (x ∷ xs) zero (suc j) d none order here =
-    none_at (test x) xs j d (or_false_left (list_any (test x) xs) (any_pair test xs) none) (omega arith)
+no_pair_at test (x ∷ xs) zero (suc j) d none order here = none_at (test x) xs j d (or_false_left (list_any (test x) xs) (any_pair test xs) none) (omega arith)
 no_pair_at test (x ∷ xs) (suc i) (suc j) d none order here =
     no_pair_at test xs i j d (or_false_right (list_any (test x) xs) (any_pair test xs) none) (omega arith) (omega arith)
 
@@ -115,8 +114,7 @@ draws_below [] r none has = absurd has
 draws_below (draw ∷ draws) r none (inl same) =
     let no : nat_lt 0xFFFFFE draw ≡ false = or_false_left (nat_lt 0xFFFFFE draw) (list_any (λ d. nat_lt 0xFFFFFE d) draws) none in
     grind (arith, nat_tests)
-draws_below (draw ∷ draws) r none (inr has) =
-    draws_below draws r (or_false_right (nat_lt 0xFFFFFE draw) (list_any (λ d. nat_lt 0xFFFFFE d) draws) none) has
+draws_below (draw ∷ draws) r none (inr has) = draws_below draws r (or_false_right (nat_lt 0xFFFFFE draw) (list_any (λ d. nat_lt 0xFFFFFE d) draws) none) has
 
 short_block : (b : ℕ × ℕ) (a : ℕ) → is_misordered b ≡ false → InBlock (block_of b) a → a < 64
 short_block b a ordered within =

@@ -430,8 +430,7 @@ told_allowed w hs c f set here = record {
 damaged_alike : (b : Bool) (t : List Entry) (f : Forward) (gs hs : List Gear) → is_question (command_of f) ≡ true → Alike false gs hs
     → Alike (is_paired_at (stage_of (if b then t ++ entry f Damaged ∷ [] else []))) gs hs
 damaged_alike false t f gs hs asks near = free_alike gs hs near
-damaged_alike true t f gs hs asks near =
-    rw (stage_more t (entry f Damaged), unpaired_asked (stage_of t) (command_of f) asks) near
+damaged_alike true t f gs hs asks near = rw (stage_more t (entry f Damaged), unpaired_asked (stage_of t) (command_of f) asks) near
 
 told_led : (w : World) (hs : List Gear) (c : ℕ) (f : Forward) (set : GearSet) → is_question (command_of f) ≡ true → Matches w hs
     → IsLed (happened (with_gear w hs) (as_damaged c f set)) (happens w (event.Sent c f Damaged))
@@ -450,8 +449,7 @@ allowed_told : (w : World) (hs : List Gear) (x : Happening) → MayHappen (with_
 allowed_told w hs (rightly e) here near = allowed_same w hs e near here
 allowed_told w hs (as_damaged c f set) here near = told_allowed w hs c f set here
 
-led : (w : World) (hs : List Gear) (x : Happening) → MayHappen (with_gear w hs) x → Matches w hs
-    → IsLed (happened (with_gear w hs) x) (happens w (as_told x))
+led : (w : World) (hs : List Gear) (x : Happening) → MayHappen (with_gear w hs) x → Matches w hs → IsLed (happened (with_gear w hs) x) (happens w (as_told x))
 led w hs (rightly e) here near = event_led w hs e (allowed_same w hs e near here) near
 led w hs (as_damaged c f set) here near = told_led w hs c f set here.1 near
 
@@ -470,8 +468,7 @@ from_start : (p : Plan) (capacity : ℕ) (xs : List Happening) → IsHistory p c
 from_start p capacity xs history = all_led (start p capacity) (start p capacity).gear xs history.may (alike_self _ (start p capacity).gear)
 
 pub told_is_run : (p : Plan) (capacity : ℕ) (xs : List Happening) → IsHistory p capacity xs → IsRun p capacity (all_told xs)
-told_is_run p capacity xs history =
-    record { plan = history.plan; allowed = (from_start p capacity xs history).0; leaves = history.leaves }
+told_is_run p capacity xs history = record { plan = history.plan; allowed = (from_start p capacity xs history).0; leaves = history.leaves }
 
 pub told_world : (p : Plan) (capacity : ℕ) (xs : List Happening) → IsHistory p capacity xs
     → after_quiet (after_happened p capacity xs) ≡ after_quiet (after p capacity (all_told xs))

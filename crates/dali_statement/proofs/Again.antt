@@ -21,8 +21,7 @@ ends_as_plan p ms history = record {
     within.0,
     within.1,
     within.2,
-    all_by (λ g. not (holds a g.short) || (g.random == r)) gs
-        (λ i x at. for_number a r x (λ is. safe.sound.for_gear c a r i x e at is)),
+    all_by (λ g. not (holds a g.short) || (g.random == r)) gs (λ i x at. for_number a r x (λ is. safe.sound.for_gear c a r i x e at is)),
   );
   enrolled = λ c a r e. let of = safe.sound.tables c a r e in
       any_by (λ g. holds a g.short && (g.random == r)) gs of.0 of.1 of.2 (both (holds_by a of.1.short of.3) (equals of.1.random r of.4));

@@ -22,8 +22,7 @@ equal_gear x y live random search short =
     ∙ (ap (λ f. made y.live y.random f x.short) (fun_ext search) ∙ ap (λ v. made y.live y.random y.search v) short))
 
 abbrev real : Bool → InitialisationState → ℕ → SearchAddress → Option ℕ → Option Read → Real
-real powered state random search short half =
-    record { powered = powered; state = state; random = random; search = search; short = short; half = half }
+real powered state random search short half = record { powered = powered; state = state; random = random; search = search; short = short; half = half }
 
 -- ---------------------------------------------------------------- frames that are no pair
 

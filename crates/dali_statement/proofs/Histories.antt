@@ -43,36 +43,16 @@ none_enrolled : false ≡ true → ⊥
 none_enrolled e = absurd (cc)
 
 is_plan : IsPlan plan
-is_plan = record {
-  shorts = refl;
-  short = refl;
-  reserved = λ c a r e. absurd (none_reserved r e);
-  enrolled = λ c a r e. absurd (none_enrolled e);
-}
+is_plan = record { shorts = refl; short = refl; reserved = λ c a r e. absurd (none_reserved r e); enrolled = λ c a r e. absurd (none_enrolled e) }
 
 is_used_plan : IsPlan used_plan
-is_used_plan = record {
-  shorts = refl;
-  short = refl;
-  reserved = λ c a r e. absurd (none_reserved r e);
-  enrolled = λ c a r e. absurd (none_enrolled e);
-}
+is_used_plan = record { shorts = refl; short = refl; reserved = λ c a r e. absurd (none_reserved r e); enrolled = λ c a r e. absurd (none_enrolled e) }
 
 is_elder_plan : IsPlan elder_plan
-is_elder_plan = record {
-  shorts = refl;
-  short = refl;
-  reserved = λ c a r e. absurd (none_reserved r e);
-  enrolled = λ c a r e. absurd (none_enrolled e);
-}
+is_elder_plan = record { shorts = refl; short = refl; reserved = λ c a r e. absurd (none_reserved r e); enrolled = λ c a r e. absurd (none_enrolled e) }
 
 is_empty_plan : IsPlan (planned [])
-is_empty_plan = record {
-  shorts = refl;
-  short = refl;
-  reserved = λ c a r e. absurd (none_reserved r e);
-  enrolled = λ c a r e. absurd (none_enrolled e);
-}
+is_empty_plan = record { shorts = refl; short = refl; reserved = λ c a r e. absurd (none_reserved r e); enrolled = λ c a r e. absurd (none_enrolled e) }
 
 -- ---------------------------------------------------------------- what breaks the promise
 
@@ -109,8 +89,7 @@ module _ (rules : Rules) (change : Changes) (IsOne : Plan → Type 0) (p : Plan)
       → Break IsOne rules change
   short_lost a r o held is other = (p, earlier, later, plan, kept, λ now since. other_short end 0 a r o is other (since 0 a r held))
 
-  random_lost : (a r q : ℕ) → Holds (after_by change (start p) earlier) 0 a r → random_of (slice_get end.gear 0) ≡ q → (q ≡ r → ⊥)
-      → Break IsOne rules change
+  random_lost : (a r q : ℕ) → Holds (after_by change (start p) earlier) 0 a r → random_of (slice_get end.gear 0) ≡ q → (q ≡ r → ⊥) → Break IsOne rules change
   random_lost a r q held is other = (p, earlier, later, plan, kept, λ now since. other_random end 0 a r q is other (since 0 a r held))
 
   -- a table names no gear

@@ -42,10 +42,7 @@ asked_next old new said (read.RandomByte a asked.Middle) (answer.Byte v) (two_by
 asked_next old new said (read.RandomByte a asked.Middle) (answer.Byte v) (high_byte b high) more tell was = go (b == a) refl where
   go : (t : Bool) → (b == a) ≡ t → AskedSo new (if t then two_bytes a high v else nothing)
   go false e = tt
-  go true e = (
-    more High a high (ap (λ d. old High d high) (sym (equal b a e)) ∙ was),
-    tell Middle a v (both (equals a a refl) (equals v v refl)),
-  )
+  go true e = (more High a high (ap (λ d. old High d high) (sym (equal b a e)) ∙ was), tell Middle a v (both (equals a a refl) (equals v v refl)))
 asked_next old new said _ _ q more tell was = tt
 
 -- ---------------------------------------------------------------- a sender on the page
@@ -88,9 +85,7 @@ heard_in test c [] h e is = absurd (cc)
 heard_in test c (w ∷ ws) h e is = go (w.0 == c) refl e (λ later. heard_in test c ws h later is) where
   go : (t : Bool) → (w.0 == c) ≡ t → (if t then Some w.1 else heard_by c ws) ≡ Some h → (heard_by c ws ≡ Some h → list_any test ws ≡ true)
       → (test w || list_any test ws) ≡ true
-  go true same here later =
-      first_of_either (test w) (list_any test ws)
-      (ap (λ k. test (k, w.1)) (equal w.0 c same) ∙ ap (λ k. test (c, k)) (some_is here) ∙ is)
+  go true same here later = first_of_either (test w) (list_any test ws) (ap (λ k. test (k, w.1)) (equal w.0 c same) ∙ ap (λ k. test (c, k)) (some_is here) ∙ is)
   go false other here later = second_of_either (test w) (later here)
 
 said_more : (said : List (Command × Heard)) (t : List Entry) (e : Entry) → said_on said (t ++ e ∷ []) ≡ entry_seen e ∷ said_on said t
@@ -107,8 +102,7 @@ module _ (p : Plan) (s : Site) (c : ℕ) (v : Own) (sees : Sees s c v) (safe : S
   more q a b e = first_of_either (s.told q a b) _ e
 
   tell : (q : Part) (a b : ℕ) → tells (command_seen (command_of f)) (heard_seen h) (s.said c) q a b ≡ true → next.told q a b ≡ true
-  tell q a b e = second_of_either (s.told q a b)
-      (heard_in (λ w. tells (command_seen (command_of f)) w.1 (s.said w.0) q a b) c ws (heard_seen h) own e)
+  tell q a b e = second_of_either (s.told q a b) (heard_in (λ w. tells (command_seen (command_of f)) w.1 (s.said w.0) q a b) c ws (heard_seen h) own e)
 
   -- what a finding says was told
   found_told : (x : Read) → command_of f ≡ x → (g : Answer) → h ≡ g → (y : Finding) → found_by (search_of v.trace) (asked_of v.trace) x g ≡ Some y
@@ -215,8 +209,7 @@ module _ (p : Plan) (s : Site) (c : ℕ) (v : Own) (sees : Sees s c v) where
       go : (t : Bool) → ((c == c) && (b == a)) ≡ t → (if t then Some r else s.reserved c b) ≡ Some n
       go true e = absurd (fresh (subst (HasAddress v.kept.reserved) (equal b a (second_of_both _ _ e)) (has_map (λ y. y.0) v.kept.reserved (b, n) old)))
       go false e = sees.to b n old
-    to b n (inr (inl same)) =
-        ap (λ t. if t then Some r else s.reserved c b) (both self (equals b a (sym (ap (λ y. y.0) same)))) ∙ ap (λ y. Some y.1) same
+    to b n (inr (inl same)) = ap (λ t. if t then Some r else s.reserved c b) (both self (equals b a (sym (ap (λ y. y.0) same)))) ∙ ap (λ y. Some y.1) same
     to b n (inr (inr h)) = elim h [ ]
 
     from : (b n : ℕ) (t : Bool) → ((c == c) && (b == a)) ≡ t → (if t then Some r else s.reserved c b) ≡ Some n → HasPair (v.kept.reserved ++ (a, r) ∷ []) b n

@@ -12,8 +12,7 @@ use Rattle.dali_special.specs.declared.command.Command.TheVariants as read
 -- ---------------------------------------------------------------- frames
 
 -- whom a frame reaches that has power takes it
-taken_by_all : (b : Bool) (c : Read) (left : List ℕ) (g : Real)
-    → one_after (b && true) c left g ≡ (if b then gear_taken c (next_draw g left) g else g)
+taken_by_all : (b : Bool) (c : Read) (left : List ℕ) (g : Real) → one_after (b && true) c left g ≡ (if b then gear_taken c (next_draw g left) g else g)
 taken_by_all true c left g = refl
 taken_by_all false c left g = refl
 
@@ -105,8 +104,7 @@ some_answer c m v seen k (g ∷ gs) some same =
     go : (rest : List ℕ) (o : Option ℕ) → o ≡ answer_to c g → (option_cons o rest ≢ []) → Same v (option_cons o rest)
         → ((rest ≢ []) → Same v rest → is_some_answer m v gs ≡ true) → (holds v (answer m (gear_seen g)) || is_some_answer m v gs) ≡ true
     go rest None is some same later = second (holds v (answer m (gear_seen g))) (later some same)
-    go rest (Some u) is some same later =
-        ap (λ a. a || is_some_answer m v gs) (ap (holds v) (seen g (sym is ∙ ap (λ n. Some n) same.0)) ∙ equals v v refl)
+    go rest (Some u) is some same later = ap (λ a. a || is_some_answer m v gs) (ap (holds v) (seen g (sym is ∙ ap (λ n. Some n) same.0)) ∙ equals v v refl)
 
 pub heard : (c : Read) (v : ℕ) (gs : List Real) → (answers_of Everyone c 0 gs ≢ []) → Same v (answers_of Everyone c 0 gs)
     → hears (command_seen c) (Byte v) (map gear_seen gs) ≡ true

@@ -15,13 +15,7 @@ use Rattle.dali_special.specs.declared.command.Command.TheVariants as read
 
 -- a site of which only this is looked at
 abbrev sent_so : (ℕ → Option ℕ) → List (Command × Heard) → Site
-sent_so reserved said = record {
-  gear = [];
-  said = λ c. said;
-  told = λ q a v. false;
-  reserved = λ c a. reserved a;
-  enrolled = λ c a r. false;
-}
+sent_so reserved said = record { gear = []; said = λ c. said; told = λ q a v. false; reserved = λ c a. reserved a; enrolled = λ c a r. false }
 
 abbrev may : (ℕ → Option ℕ) → List (Command × Heard) → Read → Bool
 may reserved said c = may_send (sent_so reserved said) 0 (command_seen c)
@@ -100,28 +94,7 @@ module _ (b : Block) (records : List Assignment) (reserved : ℕ → Option ℕ)
   each_script (Call r cs) may = (
     refl,
     never,
-    λ h w. (
-      refl,
-      never,
-      λ h w. (
-        refl,
-        never,
-        λ h w. (
-          refl,
-          never,
-          λ h w. (
-            refl,
-            never,
-            λ h w. (
-              refl,
-              never,
-              λ h w.
-                  all_asking reserved _ _ cs may.0,
-            ),
-          ),
-        ),
-      ),
-    ),
+    λ h w. (refl, never, λ h w. (refl, never, λ h w. (refl, never, λ h w. (refl, never, λ h w. (refl, never, λ h w. all_asking reserved _ _ cs may.0))))),
   )
   each_script (Draw high middle) may = (
     refl,
@@ -129,20 +102,7 @@ module _ (b : Block) (records : List Assignment) (reserved : ℕ → Option ℕ)
     λ h w. (
       refl,
       never,
-      λ h w. (
-        refl,
-        never,
-        λ h w. (
-          refl,
-          never,
-          λ h w. (
-            refl,
-            never,
-            λ h w.
-                (refl, never, λ h w. (refl, never, λ h w. (refl, never, λ h w. tt))),
-          ),
-        ),
-      ),
+      λ h w. (refl, never, λ h w. (refl, never, λ h w. (refl, never, λ h w. (refl, never, λ h w. (refl, never, λ h w. (refl, never, λ h w. tt)))))),
     ),
   )
   each_script (Probe r) may = (refl, never, λ h w. (refl, never, λ h w. (refl, never, λ h w. (refl, never, λ h w. tt))))

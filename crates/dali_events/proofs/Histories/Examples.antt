@@ -236,8 +236,7 @@ release_is_allowed = (
           record {
             up = record { known = lit< tt; up = refl };
             due = refl;
-            order =
-                (refl, (inl refl, (Queried 4 0x123456, refl, 4, refl, λ e. apart 4 0 refl refl e)));
+            order = (refl, (inl refl, (Queried 4 0x123456, refl, 4, refl, λ e. apart 4 0 refl refl e)));
           },
           tt,
         ),

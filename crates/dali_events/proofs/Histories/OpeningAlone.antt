@@ -71,8 +71,7 @@ AllAllowedOrAlone w es = EachIs AllowedOrAlone happens_or_alone w es
 -- what the rules allow it allows
 sends_too : (w : World) (c : ℕ) (f : Forward) → MaySend w c f → MaySendOrAlone w c f
 sends_too w c f (inl owner) = inl (owner.0, inl owner.1)
-sends_too w c f (inr free) =
-    inr (free.0, inl (first_for_all (controller_at w c).records.block (controller_at w c).records.reserved f free.1))
+sends_too w c f (inr free) = inr (free.0, inl (first_for_all (controller_at w c).records.block (controller_at w c).records.reserved f free.1))
 
 allowed_too : (w : World) (e : Event) → Allowed w e → AllowedOrAlone w e
 allowed_too w (event.Sent c f h) here = record { up = here.up; may = sends_too w c f here.may; draws = here.draws; heard = here.heard }
@@ -93,8 +92,7 @@ drawing_again = silent 0 0xA5 0xFF ∷ silent 0 0xA5 0xFF ∷ silent 0 0xA7 0 �
 
 given_by_rules : AllAllowedOrAlone (start plan 8) giving
 unfolding command_of stage_of
-given_by_rules =
-    each_is_by AllowedOrAlone is_allowed happens_or_alone (λ w e pass. allowed_too w e (allowed_by w e pass)) (start plan 8) giving refl
+given_by_rules = each_is_by AllowedOrAlone is_allowed happens_or_alone (λ w e pass. allowed_too w e (allowed_by w e pass)) (start plan 8) giving refl
 
 allowed : AllAllowedOrAlone (start plan 8) (giving ++ drawing_again)
 unfolding command_of stage_of

@@ -225,8 +225,7 @@ is_allowed w (event.Up c kept) = is_down w c && not kept
 is_allowed w _ = false
 
 sender_by : (w : World) (c : ℕ) (f : Forward) → is_sent w c f ≡ true → IsUp w c × MaySend w c f
-sender_by w c f e =
-    (up_by w c (first_of_both _ _ e), may_send_by w.bus.owner (controller_at w c).records w.trace c f (second_of_both _ _ e))
+sender_by w c f e = (up_by w c (first_of_both _ _ e), may_send_by w.bus.owner (controller_at w c).records w.trace c f (second_of_both _ _ e))
 
 pub allowed_by : (w : World) (e : Event) → is_allowed w e ≡ true → Allowed w e
 allowed_by w (event.Acted c i o) e =
@@ -273,8 +272,7 @@ each_passes test moves s (e ∷ es) = test s e && each_passes test moves (moves 
 pub each_is_by : {S : Type 0} (P : S → Event → Type 0) (test : S → Event → Bool) (moves : S → Event → S) → ((s : S) (e : Event) → test s e ≡ true → P s e)
     → (s : S) (es : List Event) → each_passes test moves s es ≡ true → EachIs P moves s es
 each_is_by P test moves by s [] passes = tt
-each_is_by P test moves by s (e ∷ es) passes =
-    (by s e (first_of_both _ _ passes), each_is_by P test moves by (moves s e) es (second_of_both _ _ passes))
+each_is_by P test moves by s (e ∷ es) passes = (by s e (first_of_both _ _ passes), each_is_by P test moves by (moves s e) es (second_of_both _ _ passes))
 
 -- one history after another
 pub each_is_after : {S : Type 0} (P : S → Event → Type 0) (moves : S → Event → S) (s : S) (es fs : List Event) → EachIs P moves s es

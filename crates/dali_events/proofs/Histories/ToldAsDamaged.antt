@@ -45,12 +45,7 @@ two_controllers = record { gear = 1; blocks = first_block ∷ second_block ∷ [
 -- controller 0 goes down between the two INITIALISE; controller 1 asks short address 0 for its random address, the question is
 -- destroyed, no gear takes it, and its answer is told as damaged
 abbrev asking : List Happening
-asking =
-    rightly (silent 0 0xA1 0) ∷
-    rightly (silent 0 0xA5 0xFF) ∷
-    rightly (event.Down 0) ∷
-    as_damaged 1 (frame 0x01 0xC2) 0 ∷
-    []
+asking = rightly (silent 0 0xA1 0) ∷ rightly (silent 0 0xA5 0xFF) ∷ rightly (event.Down 0) ∷ as_damaged 1 (frame 0x01 0xC2) 0 ∷ []
 
 may_happen : AllMayHappen (start two_controllers 8) asking
 unfolding command_of stage_of
@@ -83,13 +78,7 @@ reserving =
 
 -- SEARCHADDRM is destroyed, and gear 0 alone takes it: both gear are searched then, and both store the address
 abbrev giving_both : List Happening
-giving_both =
-    reserving ++
-    (as_damaged 0 (frame 0xB3 0x34) 1 ∷
-    rightly (silent 0 0xB5 0x56) ∷
-    rightly (query 0 0xFF) ∷
-    rightly (silent 0 0xB7 0x01) ∷
-    [])
+giving_both = reserving ++ (as_damaged 0 (frame 0xB3 0x34) 1 ∷ rightly (silent 0 0xB5 0x56) ∷ rightly (query 0 0xFF) ∷ rightly (silent 0 0xB7 0x01) ∷ [])
 
 search_byte_told : AllMayBeTold (start two_gear_alone 8) giving_both
 unfolding command_of stage_of
@@ -111,13 +100,7 @@ one_gear_alone = record { gear = 1; blocks = first_block ∷ []; draws = 0x12345
 
 -- it is destroyed, and no gear takes it
 abbrev programming : List Happening
-programming =
-    reserving ++
-    (rightly (silent 0 0xB3 0x34) ∷
-    rightly (silent 0 0xB5 0x56) ∷
-    rightly (query 0 0xFF) ∷
-    as_damaged 0 (frame 0xB7 0x01) 0 ∷
-    [])
+programming = reserving ++ (rightly (silent 0 0xB3 0x34) ∷ rightly (silent 0 0xB5 0x56) ∷ rightly (query 0 0xFF) ∷ as_damaged 0 (frame 0xB7 0x01) 0 ∷ [])
 
 program_told : AllMayBeTold (start one_gear_alone 8) (programming ++ rightly (query 0 0xFF) ∷ [])
 unfolding command_of stage_of

@@ -13,12 +13,7 @@ use Rattle.dali_events.specs.declared.event.Event.TheVariants as event
 
 -- gear 0 comes with the address 0; gear 1 comes from the factory
 abbrev one_used : Plan
-one_used = record {
-  gear = 2;
-  blocks = first_block ∷ [];
-  draws = 0x123456 ∷ [];
-  used = record { gear = 0; short = 0; random = 0x0ABCDE } ∷ [];
-}
+one_used = record { gear = 2; blocks = first_block ∷ []; draws = 0x123456 ∷ []; used = record { gear = 0; short = 0; random = 0x0ABCDE } ∷ [] }
 
 -- QUERY RANDOM ADDRESS (H) to the address 0
 abbrev asks : Forward

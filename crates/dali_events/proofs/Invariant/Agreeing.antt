@@ -121,8 +121,7 @@ findings_agree_in p capacity front rest run =
 
 -- RECORDS ARE KEPT
 pub records_kept : (p : Plan) (capacity : ℕ) (front rest : List Event) → IsRun p capacity (front ++ rest) → KeepsRecords p (after p capacity front)
-records_kept p capacity front rest run =
-    records_of p (after p capacity front) (holds_after p capacity front (run_front p capacity front rest run)).keeps
+records_kept p capacity front rest run = records_of p (after p capacity front) (holds_after p capacity front (run_front p capacity front rest run)).keeps
 
 -- A RANDOM ADDRESS IS TOLD BY ITS GEAR
 self : (n : ℕ) → (n == n) ≡ true

@@ -88,8 +88,7 @@ knows_queried r (Byte v) g x small agrees k = go (short_of v) (v == MASK) refl w
       (k active, λ random. some_of_code g.short v b small short (agrees v (program_data g.short) refl (query_answer g active (found_at g r (k active) random))))
   go None true short = λ active. (
     k active,
-    λ random. none_of_code g.short v small short
-        (agrees v (program_data g.short) refl (query_answer g active (found_at g r (k active) random))),
+    λ random. none_of_code g.short v small short (agrees v (program_data g.short) refl (query_answer g active (found_at g r (k active) random))),
   )
   go None false short = tt
 

@@ -45,8 +45,7 @@ module _ (p : Plan) (plan : IsPlan p) (w : World) (k : Holds p w) where
   safe_page = safe_so p w k.moments plan k.page
 
   seen_named : (a r : ℕ) → (g : ℕ) × (x : PageGear) × At site_of.gear g x × (x.short ≡ Some a) × (x.random ≡ r) → Names w (a, r)
-  seen_named a r who =
-      let held = from_page w site_of.gear k.page.seen.gear who.0 a r who.1 who.2 who.3 who.4 in names_holder p w k who.0 a r held.0 held.1
+  seen_named a r who = let held = from_page w site_of.gear k.page.seen.gear who.0 a r who.1 who.2 who.3 who.4 in names_holder p w k who.0 a r held.0 held.1
 
   -- what a table says, and a finding
   pub table_named : (c : ℕ) (x : Assignment) → c < length w.controllers → Has (controller_at w c).records.enrolled x → Names w x
@@ -58,8 +57,7 @@ module _ (p : Plan) (plan : IsPlan p) (w : World) (k : Holds p w) where
       (found_told (k.page.seen.each c there) x is))
 
   -- a gear that holds an address that is reserved has the number
-  pub reserved_number : (c a r g : ℕ) → c < length w.controllers → Has (controller_at w c).records.reserved (a, r) → HoldsShort w g a
-      → (gear_at w g).random ≡ r
+  pub reserved_number : (c a r g : ℕ) → c < length w.controllers → Has (controller_at w c).records.reserved (a, r) → HoldsShort w g a → (gear_at w g).random ≡ r
   reserved_number c a r g there has held =
       safe_page.sound.for_gear c a r g (gear_seen (gear_at w g)) ((k.page.seen.each c there).sees.to a r has)
       (to_page w site_of.gear k.page.seen.gear g held.0) held.1
@@ -226,8 +224,7 @@ module _ (p : Plan) (plan : IsPlan p) (w : World) (e : Event) (here : Allowed w 
 pub holds_all : (p : Plan) → IsPlan p → (w : World) (es : List Event) → AllAllowed w es
     → AllByRecursion (LeavesUsed p.used) es → Holds p w → Holds p (after_all w es)
 holds_all p plan w [] all leave k = k
-holds_all p plan w (e ∷ es) all leave k =
-    holds_all p plan (happens w e) es all.1 leave.1 (holds_step p plan w e all.0 leave.0 k)
+holds_all p plan w (e ∷ es) all leave k = holds_all p plan (happens w e) es all.1 leave.1 (holds_step p plan w e all.0 leave.0 k)
 
 keeps_all : (p : Plan) → IsPlan p → (w : World) (es : List Event) → AllAllowed w es
     → AllByRecursion (LeavesUsed p.used) es → Holds p w → KeepsGifts w (after_all w es)
@@ -279,8 +276,7 @@ module _ (p : Plan) (plan : IsPlan p) (w : World) (first : Holds p w) where
   pub safe_from : (log : List Event) → AllAllowed w log → AllByRecursion (LeavesUsed p.used) log → IsSafeFrom w log
   safe_from log all leave = record {
     always = λ earlier more e. safe p plan (after_all w earlier) (front_holds earlier more log e all leave);
-    ever_after = λ earlier later rest e.
-        since earlier later rest (subst (AllAllowed w) (sym e) all) (subst (AllByRecursion (LeavesUsed p.used)) (sym e) leave);
+    ever_after = λ earlier later rest e. since earlier later rest (subst (AllAllowed w) (sym e) all) (subst (AllByRecursion (LeavesUsed p.used)) (sym e) leave);
   }
 
 -- THE PROMISE, BY GEAR AND TABLES ALONE

@@ -54,8 +54,7 @@ SameBus w v = ((v.bus.owner ≡ w.bus.owner) × (v.trace ≡ w.trace)) ⊎ (v.bu
 
 same_bus : (w v : World) → SameBus w v → (us : List Used) (s : Site) (c : ℕ) (k : Controller) → SeenBy us s w.bus.owner w.trace c k
     → SeenBy us s v.bus.owner v.trace c k
-same_bus w v (inl same) us s c k one =
-    subst (λ t. SeenBy us s v.bus.owner t c k) (sym same.1) (subst (λ o. SeenBy us s o w.trace c k) (sym same.0) one)
+same_bus w v (inl same) us s c k one = subst (λ t. SeenBy us s v.bus.owner t c k) (sym same.1) (subst (λ o. SeenBy us s o w.trace c k) (sym same.0) one)
 same_bus w v (inr over) us s c k one = subst (λ o. SeenBy us s o v.trace c k) (sym over) (ends one)
 
 owner_then : (p : SitePlan) (w v : World) (s : Site) → Seen p w s → length v.controllers ≡ length w.controllers → SameBus w v
@@ -142,8 +141,7 @@ module _ (p : SitePlan) (plan : IsSitePlan p) (w : World) (s : Site) (seen : See
   -- ---------------------------------------------------------------- what is kept
 
   module _ (records : KeepsRecords p w) (numbers : are_apart (map gear_seen w.gear) ≡ true) (c : ℕ) (there : c < length w.controllers) where
-    outstanding_kept : (o : Option Record) → (controller_at w c).outstanding ≡ o
-        → Informed p w s c o (with_outstanding (controller_at w c).records o) None
+    outstanding_kept : (o : Option Record) → (controller_at w c).outstanding ≡ o → Informed p w s c o (with_outstanding (controller_at w c).records o) None
     outstanding_kept (Some x) is = informed p plan w s c seen records there numbers x is
     outstanding_kept None is = let none = uninformed p w s c seen there in record {
       moments = none.moments;
@@ -207,8 +205,7 @@ module _ (p : SitePlan) (plan : IsSitePlan p) (w : World) (s : Site) (seen : See
         → MayCommit (controller_informed (controller_at w c) i) x → LeavesUsed p.used (event.Acted c i (Commit x)) → Ordered p.used told x
     committed told i (record_of.Reserve a r) found may leaves = leaves c i a r refl
     committed told i (record_of.Enrol a r) found may leaves = subst (Has told) may.0.2 (found may.0.0 may.0.1)
-    committed told i (record_of.Release a r) found may leaves =
-        let other = may.1 in (other.2, subst (Has told) other.3 (found other.0 other.1), other.4)
+    committed told i (record_of.Release a r) found may leaves = let other = may.1 in (other.2, subst (Has told) other.3 (found other.0 other.1), other.4)
 
     ordered : (told : List Assignment) (i : Input) (o : Order) (was : Option Record) → ((y : Finding) → (controller_at w c).finding ≡ Some y
         → Has told (assigned y)) → ((x : Record) → was ≡ Some x → Ordered p.used told x)

@@ -225,8 +225,7 @@ module _ (p : SitePlan) (w : World) (s : Site) (seen : Seen p w s) (safe : Safe 
           (controller_at w d).finding) (sym (another d c away)) (other d here away))
           (λ there. subst (λ t. By p.used next c (if t then trace_now else []) (controller_at w c).records (controller_at w c).outstanding
           (later (controller_at w c).finding found_here)) (sym own) sender)
-      each_now false = each_of (SeenBy p.used next None []) w.controllers c (told_sent (trace_running w c) f h (controller_at w c)) other
-          (λ there. ends sender)
+      each_now false = each_of (SeenBy p.used next None []) w.controllers c (told_sent (trace_running w c) f h (controller_at w c)) other (λ there. ends sender)
 
       count_now : length (controllers_changed w.controllers c (told_sent (trace_running w c) f h)) ≡ length w.controllers
       count_now = length-set w.controllers c (told_sent (trace_running w c) f h (controller_at w c))

@@ -81,8 +81,7 @@ opens_event w _ here calm unbroken opens = absurd calm
 opens_all : (w : World) (es : List Event) → AllAllowed w es → AreCalm es → BreakNoPair w es → OpensAll (stage_of w.trace) w.gear
     → OpensAll (stage_of (after_all w es).trace) (after_all w es).gear
 opens_all w [] all calm unbroken opens = opens
-opens_all w (e ∷ es) all calm unbroken opens =
-    opens_all (happens w e) es all.1 calm.1 unbroken.1 (opens_event w e all.0 calm.0 unbroken.0 opens)
+opens_all w (e ∷ es) all calm unbroken opens = opens_all (happens w e) es all.1 calm.1 unbroken.1 (opens_event w e all.0 calm.0 unbroken.0 opens)
 
 -- TERMINATE begins it
 opens_first : (w : World) (c : ℕ) (f : Forward) (h : Answer) → Allowed w (event.Sent c f h) → command_of f ≡ Terminate

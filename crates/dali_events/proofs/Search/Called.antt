@@ -206,8 +206,7 @@ is_unless false w g some is = (is.woken, is.at)
 
 is_step : (w : World) (e : Event) (c g : ℕ) → Allowed w e → Runs w c → Keeps g w e → Is w g → Runs (happens w e) c → Is (happens w e) g
 is_step w (event.Sent d f h) c g here runs keeps is next = is_sent w c d f h g here runs is next
-is_step w (event.Acted d i o) c g here runs keeps is next =
-    let k = is_unless (gives_up w.bus d o) w g next.begun is in record { woken = k.0; at = k.1 }
+is_step w (event.Acted d i o) c g here runs keeps is next = let k = is_unless (gives_up w.bus d o) w g next.begun is in record { woken = k.0; at = k.1 }
 is_step w (event.Offered d f) c g here runs keeps is next = record { woken = is.woken; at = is.at }
 is_step w event.Quiet c g here runs keeps is next = record {
   woken = is.woken;
@@ -217,10 +216,7 @@ is_step w event.Quiet c g here runs keeps is next = record {
 is_step w (event.Foreign f) c g here runs keeps is next = record {
   woken = is.woken;
   at = each_map fresh (There (stage_of w.trace) g) gear_interrupted w.gear
-      (λ k x one same. (
-        (one same).0,
-        λ none. waked_halved (stage_of w.trace) x (if x.powered then None else x.half) keeps ((one same).1 none),
-      )) is.at;
+      (λ k x one same. ((one same).0, λ none. waked_halved (stage_of w.trace) x (if x.powered then None else x.half) keeps ((one same).1 none))) is.at;
 }
 is_step w (event.Power h on) c g here runs keeps is next = record {
   woken = is.woken;
@@ -260,8 +256,7 @@ is_first : (w : World) (c g : ℕ) (f : Forward) (h : Answer) → Allowed w (eve
     → (gear_at w g).powered ≡ true → Runs (happens w (event.Sent c f h)) c → Is (happens w (event.Sent c f h)) g
 is_first w c g f h here begun initialises powered next = on (goes_on w c (trace_running w c ++ entry f h ∷ [])) refl where
   stage_so : stage_of (trace_running w c ++ entry f h ∷ []) ≡ stage.InitialisedOnce
-  stage_so = stage_more (trace_running w c) (entry f h) ∙ ap (λ s. next_stage s (command_of f) h) begun
-      ∙ ap (λ d. next_stage stage.Terminated d h) initialises
+  stage_so = stage_more (trace_running w c) (entry f h) ∙ ap (λ s. next_stage s (command_of f) h) begun ∙ ap (λ d. next_stage stage.Terminated d h) initialises
 
   row : Each fresh (There stage.InitialisedOnce g) (row_after Everyone (command_of f) 0 w.gear w.left)
   row i in_row =

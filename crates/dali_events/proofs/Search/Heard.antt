@@ -144,8 +144,7 @@ opened_apart w drawn opened = drawn_apart w drawn opened.drawn
 same_short : (a : ℕ) → (a == a) ≡ true
 same_short a = grind (arith, nat_tests)
 
-pub nobody_answers : (w : World) (a : ℕ) (part : Part) → answers_of Everyone (RandomByte a part) 0 w.gear ≡ []
-    → EachPowered w (λ g. g.short ≡ Some a → ⊥)
+pub nobody_answers : (w : World) (a : ℕ) (part : Part) → answers_of Everyone (RandomByte a part) 0 w.gear ≡ [] → EachPowered w (λ g. g.short ≡ Some a → ⊥)
 nobody_answers w a part none g there on short =
     let tells : answer (RandomByte a part) (gear_at w g) ≡ Some (byte_at part (gear_at w g).random) = rw (short, same_short a) refl in
     subst (λ xs. Has xs (byte_at part (gear_at w g).random)) none

@@ -21,13 +21,8 @@ record DrawsNumber (reach : Reach) (c : Command) (k : ℕ) (gs : List Gear) (lef
 
 draws_here : (reach : Reach) (c : Command) (k : ℕ) (g : Gear) (gs : List Gear) (left : List ℕ) → takes reach k g ≡ true → draws_a_number c g ≡ true
     → draws_needed reach c k (g ∷ gs) ≤ length left → DrawsNumber reach c k (g ∷ gs) left 0
-draws_here reach c k g gs [] t w enough =
-    absurd (let more : 1 + draws_needed reach c (k + 1) gs ≤ 0 = rw (t, w) at enough in omega arith)
-draws_here reach c k g gs (r ∷ left) t w enough = record {
-  number = r;
-  drawn = rw (t, w, add-zero) (inl refl);
-  moved = rw t refl;
-}
+draws_here reach c k g gs [] t w enough = absurd (let more : 1 + draws_needed reach c (k + 1) gs ≤ 0 = rw (t, w) at enough in omega arith)
+draws_here reach c k g gs (r ∷ left) t w enough = record { number = r; drawn = rw (t, w, add-zero) (inl refl); moved = rw t refl }
 
 has_drawn_one : (b : Bool) (k : ℕ) (left : List ℕ) (more : List (ℕ × ℕ)) (x : ℕ × ℕ) → Has more x → Has (drawn_one b k left more) x
 has_drawn_one false k left more x h = h

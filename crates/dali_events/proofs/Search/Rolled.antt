@@ -90,8 +90,7 @@ whole_call n [] x k s = absurd (not_yet _ _ s (stage_1 x k) (λ r left e. absurd
 whole_call n (a ∷ []) x k s = absurd (not_yet _ _ s (stage_2 a x k.0 k.2) (λ r left e. absurd (cc)))
 whole_call n (a ∷ b ∷ []) x k s = absurd (not_yet _ _ s (stage_3 a b x k.0 k.2.0 k.2.2) (λ r left e. absurd (cc)))
 whole_call n (a ∷ b ∷ c ∷ []) x k s = absurd (not_yet _ _ s (stage_4 n a b c x k.0 k.2.0 k.2.2.0 k.2.2.2) (λ r left e. absurd (cc)))
-whole_call n (a ∷ b ∷ c ∷ d ∷ []) x k s =
-    absurd (not_yet _ _ s (stage_5 n a b c d k.0 k.2.0 k.2.2.0 k.2.2.2.0 x k.2.2.2.2) (λ r left e. absurd (cc)))
+whole_call n (a ∷ b ∷ c ∷ d ∷ []) x k s = absurd (not_yet _ _ s (stage_5 n a b c d k.0 k.2.0 k.2.2.0 k.2.2.2.0 x k.2.2.2.2) (λ r left e. absurd (cc)))
 whole_call n (a ∷ b ∷ c ∷ d ∷ e ∷ []) x k s =
     absurd (not_yet _ _ s (stage_6 n a b c d k.0 k.2.0 k.2.2.0 k.2.2.2.0 e x k.2.2.2.2.0 k.2.2.2.2.2) (λ r left e. absurd (cc)))
 whole_call n (a ∷ b ∷ c ∷ d ∷ e ∷ f ∷ []) x k s =
@@ -216,8 +215,7 @@ module _ (p : Plan) (capacity : ℕ) (P : Order → Type 0) (c : ℕ) (n : Searc
           n,
           None,
           2,
-          runs_at (after p capacity (front ++ first ∷ es)) c (whole.terminate ∷ []) whole.first whole.search (Hunted n None 2)
-              running_then whole.searched,
+          runs_at (after p capacity (front ++ first ∷ es)) c (whole.terminate ∷ []) whole.first whole.search (Hunted n None 2) running_then whole.searched,
           all,
         );
         compares = whole.compares;
@@ -379,8 +377,7 @@ stands_in (x ∷ es) fs (y ∷ front) e rest is =
     let tail : es ++ fs ≡ front ++ e ∷ rest = cc in
     go (stands_in es fs front e rest tail) head
   where
-    go : IsBehind es fs front e rest ⊎ IsWithin es fs front e rest → x ≡ y
-        → IsBehind (x ∷ es) fs (y ∷ front) e rest ⊎ IsWithin (x ∷ es) fs (y ∷ front) e rest
+    go : IsBehind es fs front e rest ⊎ IsWithin es fs front e rest → x ≡ y → IsBehind (x ∷ es) fs (y ∷ front) e rest ⊎ IsWithin (x ∷ es) fs (y ∷ front) e rest
     go (inl k) same = inl (k.0, ap (λ z. z ∷ front) (sym same) ∙ ap (λ l. x ∷ l) k.1, k.2)
     go (inr k) same = inr (k.0, ap (λ z. z ∷ es) same ∙ ap (λ l. y ∷ l) k.1, k.2)
 
@@ -393,8 +390,7 @@ last_of : (P : Event → Type 0) (es : List Event) (e : Event) (front : List Eve
 last_of P [] e [] x rest is all = inl (cc)
 last_of P [] e (y ∷ front) x rest is all = absurd (no_more front x rest cc)
 last_of P (z ∷ es) e [] x rest is all = inr (all_last P es e (subst (λ l. AllByRecursion P l) (let tail : rest ≡ es ++ e ∷ [] = cc in tail) all))
-last_of P (z ∷ es) e (y ∷ front) x rest is all =
-    let tail : es ++ e ∷ [] ≡ front ++ x ∷ rest = cc in last_of P es e front x rest tail all
+last_of P (z ∷ es) e (y ∷ front) x rest is all = let tail : es ++ e ∷ [] ≡ front ++ x ∷ rest = cc in last_of P es e front x rest tail all
 
 all_front : (P : Event → Type 0) (es fs : List Event) → AllByRecursion P (es ++ fs) → AllByRecursion P es
 all_front P [] fs all = tt

@@ -135,13 +135,7 @@ found_in w c (e ∷ es) x pre is = go (found_in (happens w e) c es x pre is) whe
   here (inr earlier) runs = inr (earlier, (runs_part w c x pre earlier, runs))
 
   go : IsFoundIn (happens w e) c es x pre → IsFoundIn w c (e ∷ es) x pre
-  go (inl is) = inl (record {
-    front = e ∷ is.front;
-    rest = is.rest;
-    log = ap (λ l. e ∷ l) is.log;
-    running = is.running;
-    runs = is.runs;
-  })
+  go (inl is) = inl (record { front = e ∷ is.front; rest = is.rest; log = ap (λ l. e ∷ l) is.log; running = is.running; runs = is.runs })
   go (inr is) = here (before w c e x pre is.0) is.1
 
 -- from a world on in which none of its transactions runs
