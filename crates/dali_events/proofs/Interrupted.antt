@@ -12,14 +12,12 @@ taken_one (Other h) f r g foreign = refl
 taken_one _ f r g foreign = absurd (cc)
 
 no_draw : (t : Bool) (c : Command) (f : Forward) (g : Gear) → is_foreign_as c f ≡ true → (t && draws_a_number c g) ≡ false
-no_draw false c f g foreign = refl
 no_draw true Randomise f g foreign = absurd (cc)
-no_draw true _ f g foreign = refl
+no_draw _ _ f g foreign = refl
 
 not_stored : (t : Bool) (c : Command) (f : Forward) (g : Gear) → is_foreign_as c f ≡ true → (if t then stored_short c g else None) ≡ None
-not_stored false c f g foreign = refl
 not_stored true (Program short) f g foreign = absurd (cc)
-not_stored true _ f g foreign = refl
+not_stored _ _ f g foreign = refl
 
 one_interrupted : (c : Command) (f : Forward) (k : ℕ) (g : Gear) (left : List ℕ) → is_foreign_as c f ≡ true
     → one_after (takes Everyone k g) c left g ≡ gear_interrupted g

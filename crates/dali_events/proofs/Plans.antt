@@ -19,13 +19,8 @@ no_cause : (a b c d e f : Bool)
     → (if a then Some GearCount else if b then Some ControllerCount else if c then Some BlockOrder else if d then Some BlockOverlap
     else if e then Some DrawTooLarge else if f then Some DrawTwice else None) ≡ None
     → (a ≡ false) × (b ≡ false) × (c ≡ false) × (d ≡ false) × (e ≡ false) × (f ≡ false)
-no_cause true b c d e f is = absurd (cc)
-no_cause false true c d e f is = absurd (cc)
-no_cause false false true d e f is = absurd (cc)
-no_cause false false false true e f is = absurd (cc)
-no_cause false false false false true f is = absurd (cc)
-no_cause false false false false false true is = absurd (cc)
 no_cause false false false false false false is = (refl, refl, refl, refl, refl, refl)
+no_cause _ _ _ _ _ _ is = absurd (cc)
 
 pub accepted : (gear : ℕ) (blocks : List (ℕ × ℕ)) (draws : List ℕ) → refusal_of gear blocks draws ≡ None → IsAccepted gear blocks draws
 accepted gear blocks draws is =
@@ -49,20 +44,18 @@ none_at test (x ∷ xs) (suc i) d none here = none_at test xs i d (or_false_righ
 
 pub no_pair_at : {A : Type 0} (test : A → A → Bool) (xs : List A) (i j : ℕ) (d : A) → any_pair test xs ≡ false → i < j → j < length xs
     → test (get_or xs i d) (get_or xs j d) ≡ false
-no_pair_at test [] i j d none order here = absurd (omega arith)
-no_pair_at test (x ∷ xs) i zero d none order here = absurd (omega arith)
 no_pair_at test (x ∷ xs) zero (suc j) d none order here = none_at (test x) xs j d (or_false_left (list_any (test x) xs) (any_pair test xs) none) (omega arith)
 no_pair_at test (x ∷ xs) (suc i) (suc j) d none order here =
     no_pair_at test xs i j d (or_false_right (list_any (test x) xs) (any_pair test xs) none) (omega arith) (omega arith)
+no_pair_at test _ i _ d none order here = absurd (omega arith)
 
 -- the blocks of a plan, by their bounds
 abbrev no_bounds : ℕ × ℕ
 no_bounds = (1, 0)
 
 block_is : (blocks : List (ℕ × ℕ)) (c : ℕ) → get_or (map block_of blocks) c no_block ≡ block_of (get_or blocks c no_bounds)
-block_is [] c = refl
-block_is (b ∷ blocks) zero = refl
 block_is (b ∷ blocks) (suc c) = block_is blocks c
+block_is _ _ = refl
 
 length_blocks : (blocks : List (ℕ × ℕ)) → length (map block_of blocks) ≡ length blocks
 length_blocks [] = refl
@@ -187,13 +180,8 @@ no_used_cause : (a b c d e f : Bool)
     → (if a then Some UnknownGear else if b then Some GearTwice else if c then Some ShortTwice else if d then Some RandomTooLarge
     else if e then Some RandomTwice else if f then Some RandomTwice else None) ≡ None
     → (a ≡ false) × (b ≡ false) × (c ≡ false) × (d ≡ false) × (e ≡ false) × (f ≡ false)
-no_used_cause true b c d e f is = absurd (cc)
-no_used_cause false true c d e f is = absurd (cc)
-no_used_cause false false true d e f is = absurd (cc)
-no_used_cause false false false true e f is = absurd (cc)
-no_used_cause false false false false true f is = absurd (cc)
-no_used_cause false false false false false true is = absurd (cc)
 no_used_cause false false false false false false is = (refl, refl, refl, refl, refl, refl)
+no_used_cause _ _ _ _ _ _ is = absurd (cc)
 
 -- numbers of used gear that are in no other's stand once
 not_of : (f : Used → ℕ) (n : ℕ) (us : List Used) → list_any (λ v. n == f v) us ≡ false → Has (map f us) n → ⊥

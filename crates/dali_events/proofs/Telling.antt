@@ -24,14 +24,12 @@ use Rattle.dali_events.specs.declared.event.Event.TheVariants as event
 
 -- QUESTIONS: what they leave of gear, whichever gear they reach
 no_draw : (t : Bool) (c : Command) (g : Gear) → is_question c ≡ true → (t && draws_a_number c g) ≡ false
-no_draw false c g asks = refl
 no_draw true Randomise g asks = absurd (cc)
-no_draw true _ g asks = refl
+no_draw _ _ g asks = refl
 
 not_stored : (t : Bool) (c : Command) (g : Gear) → is_question c ≡ true → (if t then stored_short c g else None) ≡ None
-not_stored false c g asks = refl
 not_stored true (Program short) g asks = absurd (cc)
-not_stored true _ g asks = refl
+not_stored _ _ g asks = refl
 
 -- a gear that takes one loses its half pair, and nothing else
 asked_gear : (c : Command) (r : ℕ) (g : Gear) → is_question c ≡ true → gear_taken c r g ≡ record g { half = None }
@@ -138,9 +136,8 @@ one_alike out true c left g x gs hs same takes rest = go (is_send_twice c) refl 
 
 draws_alike : (t : Bool) (c : Command) (g : Gear) (x : Option Command) → (is_send_twice c ≡ true → t ≡ true → x ≡ g.half)
     → (t && draws_a_number c (record g { half = x })) ≡ (t && draws_a_number c g)
-draws_alike false c g x same = refl
 draws_alike true Randomise g x same = ap (λ h. is_second Randomise h && is_active g.state) (same refl refl)
-draws_alike true _ g x same = refl
+draws_alike _ _ g x same = refl
 
 stored_alike : (c : Command) (g : Gear) (x : Option Command) → stored_short c (record g { half = x }) ≡ stored_short c g
 stored_alike (Program short) g x = refl
@@ -148,9 +145,6 @@ stored_alike _ g x = refl
 
 answer_alike : (c : Command) (g : Gear) (x : Option Command) → answer c (record g { half = x }) ≡ answer c g
 answer_alike Compare g x = refl
-answer_alike (Verify a) g x = refl
-answer_alike QueryShort g x = refl
-answer_alike (RandomByte a part) g x = refl
 answer_alike _ g x = refl
 
 -- WHAT A FRAME LEAVES of both. A frame of a pair finds the same half pairs.
@@ -346,9 +340,7 @@ taken_in out reach w hs c f may near all =
 -- WHAT IS ALLOWED of what there is, is allowed in the run
 order_same : (w : World) (hs : List Gear) (c : ℕ) (k : Controller) (o : Order) → MayOrder (with_gear w hs) c k o → MayOrder w c k o
 order_same w hs c k (Put p f) may = may
-order_same w hs c k (Commit x) may = may
-order_same w hs c k (Done e) may = may
-order_same w hs c k (Halt why) may = may
+order_same w hs c k _ may = may
 
 up_same : (w : World) (hs : List Gear) (c : ℕ) → IsUp (with_gear w hs) c → IsUp w c
 up_same w hs c here = record { known = here.known; up = here.up }
@@ -391,7 +383,6 @@ sent_alike b t gs hs near = wholly (is_paired_at (stage_of (if b then t else [])
 
 event_led : (w : World) (hs : List Gear) (e : Event) → Allowed w e → Matches w hs → IsLed (happens (with_gear w hs) e) (happens w e)
 event_led w hs (event.Acted c i o) here near = (hs, refl, unless_alike (gives_up w.bus c o) w.trace w.gear hs near)
-event_led w hs (event.Offered c f) here near = (hs, refl, near)
 event_led w hs (event.Sent c f h) here near =
     let taken : TakenAlike true Everyone (command_of f) 0 w.gear hs w.left = taken_in true Everyone w hs c f here.may near (λ o. refl) in (
       row_after Everyone (command_of f) 0 hs w.left,
@@ -415,7 +406,7 @@ event_led w hs (event.Power g on) here near =
 event_led w hs (event.Expired g) here near =
     (set hs g (gear_expired (get_or hs g fresh)), refl, changed_alike _ gear_expired (expired_alike _) w.gear hs g near)
 event_led w hs (event.Down c) here near = (hs, refl, unless_alike (owns w.bus.owner c) w.trace w.gear hs near)
-event_led w hs (event.Up c kept) here near = (hs, refl, near)
+event_led w hs _ here near = (hs, refl, near)
 
 -- A QUESTION THAT WAS DESTROYED and told as damaged: the run has it as sent
 told_allowed : (w : World) (hs : List Gear) (c : ℕ) (f : Forward) (set : GearSet) → MayHappen (with_gear w hs) (as_damaged c f set)
@@ -551,10 +542,7 @@ told_ever_after p capacity earlier later history =
 
 -- A SENDER THAT GIVES ITS TRANSACTION UP: nothing is otherwise than where it was told that its question was destroyed
 nothing_found : (r : SearchAddress) (q : Asked) (c : Command) → found_by r q c Damaged ≡ None
-nothing_found r q QueryShort = refl
 nothing_found r q (RandomByte a High) = refl
-nothing_found r q (RandomByte a Middle) = refl
-nothing_found r q (RandomByte a Low) = refl
 nothing_found r q _ = refl
 
 changed_twice : (cs : List Controller) (c : ℕ) (f g : Controller → Controller) → c < length cs

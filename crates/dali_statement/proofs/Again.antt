@@ -42,19 +42,17 @@ ends_as_plan p ms history = record {
 set_at : (gs : List Gear) (g : ℕ) (y : Gear) (i : ℕ) (z : Gear) → At (slice_set gs g y) i z → ((i ≡ g) × (z ≡ y)) ⊎ ((i ≡ g → ⊥) × At gs i z)
 set_at [] g y i z at = absurd (cc)
 set_at (x ∷ xs) zero y zero z at = inl (refl, sym (some_is at))
-set_at (x ∷ xs) zero y (suc i) z at = inr (λ e. absurd (cc), at)
-set_at (x ∷ xs) (suc g) y zero z at = inr (λ e. absurd (cc), at)
 set_at (x ∷ xs) (suc g) y (suc i) z at = go (set_at xs g y i z at) where
   go : ((i ≡ g) × (z ≡ y)) ⊎ ((i ≡ g → ⊥) × At xs i z) → ((suc i ≡ suc g) × (z ≡ y)) ⊎ ((suc i ≡ suc g → ⊥) × At (x ∷ xs) (suc i) z)
   go (inl new) = inl (ap suc new.0, new.1)
   go (inr old) = inr (λ e. old.0 (let same : i ≡ g = cc in same), old.1)
+set_at (x ∷ xs) _ y _ z at = inr (λ e. absurd (cc), at)
 
 set_other : (gs : List Gear) (g : ℕ) (y : Gear) (i : ℕ) (z : Gear) → (i ≡ g → ⊥) → At gs i z → At (slice_set gs g y) i z
 set_other [] g y i z other at = absurd (cc)
 set_other (x ∷ xs) zero y zero z other at = absurd (other refl)
-set_other (x ∷ xs) zero y (suc i) z other at = at
-set_other (x ∷ xs) (suc g) y zero z other at = at
 set_other (x ∷ xs) (suc g) y (suc i) z other at = set_other xs g y i z (λ e. other (ap suc e)) at
+set_other (x ∷ xs) _ y _ z other at = at
 
 module _ (p q : Plan) (g a : ℕ) (x y : Gear) (plan : IsPlan p) (is : IsReplaced p g x y a q) where
   bare : {b : ℕ} (z : Gear) → z ≡ y → z.short ≡ Some b → ⊥

@@ -28,23 +28,17 @@ real powered state random search short half = record { powered = powered; state 
 
 high_set : (t : Bool) (a : SearchAddress) (v : ℕ) (p : Part)
     → byte_in (if t then record a { high = v } else a) p ≡ (if t && same p High then v else byte_in a p)
-high_set false a v p = refl
 high_set true a v High = refl
-high_set true a v Middle = refl
-high_set true a v Low = refl
+high_set _ a v _ = refl
 
 middle_set : (t : Bool) (a : SearchAddress) (v : ℕ) (p : Part)
     → byte_in (if t then record a { middle = v } else a) p ≡ (if t && same p Middle then v else byte_in a p)
-middle_set false a v p = refl
 middle_set true a v High = refl
-middle_set true a v Middle = refl
-middle_set true a v Low = refl
+middle_set _ a v _ = refl
 
 low_set : (t : Bool) (a : SearchAddress) (v : ℕ) (p : Part) → byte_in (if t then record a { low = v } else a) p ≡ (if t && same p Low then v else byte_in a p)
-low_set false a v p = refl
 low_set true a v High = refl
-low_set true a v Middle = refl
-low_set true a v Low = refl
+low_set _ a v _ = refl
 
 active : (t : Bool) → is_active (if t then Withdrawn else Enabled) ≡ true
 active true = refl
@@ -54,33 +48,20 @@ active false = refl
 step_of : (c : Read) (draw n : ℕ) (b : Bool) (st : InitialisationState) (r : ℕ) (a : SearchAddress) (sh : Option ℕ) (hf : Option Read)
     → is_send_twice c ≡ false → gear_seen (after_frame c draw (real b st r a sh hf)) ≡ takes (command_seen c) n (gear_seen (real b st r a sh hf))
 step_of read.Terminate draw n false st r a sh hf e = refl
-step_of read.Terminate draw n true st r a sh hf e = refl
 step_of (read.Initialise t) draw n b st r a sh hf e = absurd (cc)
 step_of read.Randomise draw n b st r a sh hf e = absurd (cc)
 step_of read.Compare draw n false st r a sh hf e = refl
-step_of read.Compare draw n true st r a sh hf e = refl
-step_of read.Withdraw draw n false st r a sh hf e = refl
-step_of read.Withdraw draw n true Disabled r a sh hf e = refl
-step_of read.Withdraw draw n true Withdrawn r a sh hf e = refl
 step_of read.Withdraw draw n true Enabled r a sh hf e = ap (λ l. made l r (λ p. byte_in a p) sh) (active (r == value_of a))
-step_of (read.SearchHigh v) draw n false st r a sh hf e = refl
 step_of (read.SearchHigh v) draw n true st r a sh hf e = equal_gear _ _ refl refl (high_set (is_active st) a v) refl
-step_of (read.SearchMiddle v) draw n false st r a sh hf e = refl
 step_of (read.SearchMiddle v) draw n true st r a sh hf e = equal_gear _ _ refl refl (middle_set (is_active st) a v) refl
-step_of (read.SearchLow v) draw n false st r a sh hf e = refl
 step_of (read.SearchLow v) draw n true st r a sh hf e = equal_gear _ _ refl refl (low_set (is_active st) a v) refl
 step_of (read.Program s) draw n false st r a sh hf e = refl
-step_of (read.Program s) draw n true st r a sh hf e = refl
 step_of (read.Verify s) draw n false st r a sh hf e = refl
-step_of (read.Verify s) draw n true st r a sh hf e = refl
 step_of read.QueryShort draw n false st r a sh hf e = refl
-step_of read.QueryShort draw n true st r a sh hf e = refl
 step_of (read.RandomByte s q) draw n false st r a sh hf e = refl
-step_of (read.RandomByte s q) draw n true st r a sh hf e = refl
 step_of (read.Arc f) draw n false st r a sh hf e = refl
-step_of (read.Arc f) draw n true st r a sh hf e = refl
 step_of (read.Other f) draw n false st r a sh hf e = refl
-step_of (read.Other f) draw n true st r a sh hf e = refl
+step_of _ draw n _ _ r a sh hf e = refl
 
 pub step : (c : Read) (draw n : ℕ) (g : Real) → is_send_twice c ≡ false → gear_seen (after_frame c draw g) ≡ takes (command_seen c) n (gear_seen g)
 step c draw n g e = step_of c draw n g.powered g.state g.random g.search g.short g.half e
@@ -114,19 +95,15 @@ mask_is_not b small = go (0xFF == 2 * b + 1) refl where
 
 concerned : (t : Target) (sh : Option ℕ) → IsSpelled (read.Initialise t) → IfSome sh (λ a. a < 64)
     → concerns t sh ≡ ((target_data t == 0) || (target_data t == code sh))
-concerned All sh small short = refl
 concerned (Addressed a) (Some b) small short = one_code a b
 concerned (Addressed a) None small short = no_mask a small
 concerned Unaddressed (Some b) small short = mask_is_not b short
-concerned Unaddressed None small short = refl
+concerned _ _ small short = refl
 
 wakes : (k : Bool) (st : InitialisationState) → is_active (if k then Enabled else st) ≡ (is_active st || k)
 wakes true Disabled = refl
-wakes true Enabled = refl
-wakes true Withdrawn = refl
 wakes false Disabled = refl
-wakes false Enabled = refl
-wakes false Withdrawn = refl
+wakes _ _ = refl
 
 pair_of : (c : Read) (draw : ℕ) (b : Bool) (st : InitialisationState) (r : ℕ) (a : SearchAddress) (sh : Option ℕ) (hf : Option Read)
     → is_send_twice c ≡ true → IsSpelled c → IfSome sh (λ n. n < 64)
@@ -156,12 +133,8 @@ pair c draw g e spelled short = pair_of c draw g.powered g.state g.random g.sear
 
 query_of : (b : Bool) (st : InitialisationState) (r : ℕ) (a : SearchAddress) (sh : Option ℕ) (hf : Option Read)
     → answer_to read.QueryShort (real b st r a sh hf) ≡ answer QueryShort (gear_seen (real b st r a sh hf))
-query_of false st r a sh hf = refl
-query_of true Disabled r a sh hf = refl
 query_of true Enabled r a None hf = refl
-query_of true Enabled r a (Some s) hf = refl
-query_of true Withdrawn r a None hf = refl
-query_of true Withdrawn r a (Some s) hf = refl
+query_of _ _ r a _ hf = refl
 
 pub query : (g : Real) → answer_to read.QueryShort g ≡ answer QueryShort (gear_seen g)
 query g = query_of g.powered g.state g.random g.search g.short g.half
@@ -182,8 +155,7 @@ random_of : (s v : ℕ) (q : AskedPart) (b : Bool) (st : InitialisationState) (r
 random_of s v q false st r a sh hf e = absurd (cc)
 random_of s v q true st r a None hf e = e
 random_of s v asked.High true st r a (Some n) hf e = same_test _ v (s == n) (n == s) (turned s n) e
-random_of s v asked.Middle true st r a (Some n) hf e = same_test _ v (s == n) (n == s) (turned s n) e
-random_of s v asked.Low true st r a (Some n) hf e = same_test _ v (s == n) (n == s) (turned s n) e
+random_of s v _ true st r a (Some n) hf e = same_test _ v (s == n) (n == s) (turned s n) e
 
 pub random : (s v : ℕ) (q : AskedPart) (g : Real) → answer_to (read.RandomByte s q) g ≡ Some v → answer (QueryRandom s (part_seen q)) (gear_seen g) ≡ Some v
 random s v q g e = random_of s v q g.powered g.state g.random g.search g.short g.half e

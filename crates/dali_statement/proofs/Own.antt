@@ -37,13 +37,11 @@ AskedSo told (two_bytes a high middle) = (told High a high ≡ true) × (told Mi
 asked_next : (old new : Told) (said : List (Command × Heard)) (x : Read) (h : Answer) (q : Asked) → More old new
     → ((r : Part) (a v : ℕ) → tells (command_seen x) (heard_seen h) said r a v ≡ true → new r a v ≡ true) → AskedSo old q → AskedSo new (asked_after x h q)
 asked_next old new said (read.RandomByte a asked.High) (answer.Byte v) q more tell was = tell High a v (both (equals a a refl) (equals v v refl))
-asked_next old new said (read.RandomByte a asked.Middle) (answer.Byte v) nothing more tell was = tt
-asked_next old new said (read.RandomByte a asked.Middle) (answer.Byte v) (two_bytes b high middle) more tell was = tt
 asked_next old new said (read.RandomByte a asked.Middle) (answer.Byte v) (high_byte b high) more tell was = go (b == a) refl where
   go : (t : Bool) → (b == a) ≡ t → AskedSo new (if t then two_bytes a high v else nothing)
   go false e = tt
   go true e = (more High a high (ap (λ d. old High d high) (sym (equal b a e)) ∙ was), tell Middle a v (both (equals a a refl) (equals v v refl)))
-asked_next old new said _ _ q more tell was = tt
+asked_next old new said _ _ _ more tell was = tt
 
 -- ---------------------------------------------------------------- a sender on the page
 

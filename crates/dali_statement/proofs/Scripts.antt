@@ -21,21 +21,8 @@ abbrev may : (ℕ → Option ℕ) → List (Command × Heard) → Read → Bool
 may reserved said c = may_send (sent_so reserved said) 0 (command_seen c)
 
 may_at : (s : Site) (c : ℕ) (x : Read) → may_send s c (command_seen x) ≡ may (s.reserved c) (s.said c) x
-may_at s c read.Terminate = refl
-may_at s c (read.Initialise t) = refl
-may_at s c read.Randomise = refl
 may_at s c (read.Program None) = refl
-may_at s c (read.Program (Some a)) = refl
-may_at s c read.Compare = refl
-may_at s c read.Withdraw = refl
-may_at s c (read.SearchHigh v) = refl
-may_at s c (read.SearchMiddle v) = refl
-may_at s c (read.SearchLow v) = refl
-may_at s c (read.Verify a) = refl
-may_at s c read.QueryShort = refl
-may_at s c (read.RandomByte a q) = refl
-may_at s c (read.Arc f) = refl
-may_at s c (read.Other f) = refl
+may_at s c _ = refl
 
 abbrev asks : Read → Bool
 asks read.QueryShort = true
@@ -131,8 +118,7 @@ module _ (b : Block) (records : List Assignment) (reserved : ℕ → Option ℕ)
   )
   each_script (PassOver r) may = (refl, never, λ h w. (refl, never, λ h w. (refl, never, λ h w. (refl, never, λ h w. tt))))
   each_script (Resolve a) may = (refl, never, λ h w. (refl, never, λ h w. (refl, never, λ h w. tt)))
-  each_script Close may = (refl, never, λ h w. tt)
-  each_script (ArcPower f) may = (refl, never, λ h w. tt)
+  each_script _ may = (refl, never, λ h w. tt)
 
 -- ---------------------------------------------------------------- the laws
 

@@ -28,11 +28,10 @@ is_randomise _ = false
 
 -- some of it was sent, and more of it may follow
 abbrev goes_on_alone : List Entry → Bool
-goes_on_alone [] = false
 goes_on_alone (a ∷ []) = is_initialise (command_of a.frame)
 goes_on_alone (a ∷ b ∷ []) = is_initialise (command_of a.frame) && is_initialise (command_of b.frame)
 goes_on_alone (a ∷ b ∷ c ∷ []) = is_initialise (command_of a.frame) && is_initialise (command_of b.frame) && is_randomise (command_of c.frame)
-goes_on_alone (a ∷ b ∷ c ∷ d ∷ t) = false
+goes_on_alone _ = false
 
 abbrev sent_or_alone : World → ℕ → Forward → Answer → List Entry → Bool → World
 sent_or_alone w c f h t more = record (taken_by w Everyone (command_of f)) {

@@ -85,31 +85,21 @@ heard_by v [] e = absurd (cc)
 heard_by v (u ∷ us) e = (λ same. cc, each_by v (u ∷ us) e)
 
 abbrev pub may_hear : List ℕ → Answer → Bool
-may_hear answers Silence = true
-may_hear answers Damaged = true
 may_hear answers (Byte v) = heard_as v answers
+may_hear answers _ = true
 
 hears_by : (answers : List ℕ) (h : Answer) → may_hear answers h ≡ true → Hears answers h
-hears_by answers Silence e = tt
-hears_by answers Damaged e = tt
 hears_by answers (Byte v) e = heard_by v answers e
+hears_by answers _ e = tt
 
 -- ---------------------------------------------------------------- a controller acts
 
 abbrev pub same_input : Input → Input → Bool
 same_input input.Start input.Start = true
-same_input input.Start _ = false
-same_input input.Survey _ = false
 same_input (input.Heard Silence) (input.Heard Silence) = true
-same_input (input.Heard Silence) _ = false
 same_input (input.Heard (Byte u)) (input.Heard (Byte v)) = u == v
-same_input (input.Heard (Byte u)) _ = false
-same_input (input.Heard Damaged) _ = false
 same_input input.Destroyed input.Destroyed = true
-same_input input.Destroyed _ = false
-same_input input.Lapsed _ = false
-same_input input.Committed _ = false
-same_input input.CommitFailed _ = false
+same_input _ _ = false
 
 same_by : (i j : Input) → same_input i j ≡ true → i ≡ j
 same_by input.Start input.Start e = refl

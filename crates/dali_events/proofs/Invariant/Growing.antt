@@ -65,6 +65,5 @@ last_allowed p capacity log e run = (allowed_rest (start p capacity) log (e ∷ 
 
 -- hearing
 pub plain_hearing : (answers : List ℕ) → Hears answers (heard_of answers)
-plain_hearing [] = tt
 plain_hearing (v ∷ []) = (λ e. (cc), (refl, tt))
-plain_hearing (v ∷ u ∷ more) = tt
+plain_hearing _ = tt

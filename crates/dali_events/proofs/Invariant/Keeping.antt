@@ -64,8 +64,7 @@ order_keeps p plan w c there k (Commit x) may found = λ h. record {
   new = one_new k.records x (commits k x may.1 h.kept_so (λ a within. plan.short c a there (subst (λ b. InBlock b a) h.block within)) found);
 }
 order_keeps p plan w c there k (Put q f) may found = tt
-order_keeps p plan w c there k (Done end) may found = tt
-order_keeps p plan w c there k (Halt fault) may found = tt
+order_keeps p plan w c there k _ may found = tt
 
 keeps_add : (p : Plan) → IsPlan p → (w : World) (e : Event) → Allowed w e → AreShort w → length w.controllers ≡ length p.blocks → Adds (KeepsAs p) w e
 keeps_add p plan w (event.Acted c i o) here short count =

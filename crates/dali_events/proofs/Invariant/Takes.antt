@@ -20,9 +20,8 @@ moved_more reach c ds es k g _ more (goes r e drew) = goes r e (λ w. go (drew w
   go (inr h) = inr (more (k, r) h)
 
 drawn_before : (b : Bool) (k : ℕ) (left : List ℕ) (more : List (ℕ × ℕ)) (x : ℕ × ℕ) → Has more x → Has (drawn_one b k left more) x
-drawn_before false k left more x h = h
-drawn_before true k [] more x h = h
 drawn_before true k (r ∷ left) more x h = inr h
+drawn_before _ k _ more x h = h
 
 moves_here : (reach : Reach) (c : Command) (k : ℕ) (g : Gear) (left : List ℕ) (more : List (ℕ × ℕ)) (t : Bool) → takes reach k g ≡ t
     → Moved reach c (drawn_one (t && draws_a_number c g) k left more) k g (one_after t c left g)

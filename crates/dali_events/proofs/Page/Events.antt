@@ -186,19 +186,12 @@ module _ (p : SitePlan) (plan : IsSitePlan p) (w : World) (s : Site) (seen : See
 
     put_owner : (b : Arbiter) (o : Order) → (put_after b c o).owner ≡ b.owner
     put_owner b (Put n f) = refl
-    put_owner b (Commit x) = refl
-    put_owner b (Done e) = refl
-    put_owner b (Halt e) = refl
+    put_owner b _ = refl
 
     input_kept : (i : Input)
         → Informed p w s c (kept_by (controller_at w c) i) (kept_after (controller_at w c) i) (outstanding_told (controller_at w c).outstanding i)
     input_kept input.Committed = outstanding_kept (controller_at w c).outstanding refl
-    input_kept input.Start = uninformed p w s c seen there
-    input_kept input.Survey = uninformed p w s c seen there
-    input_kept (input.Heard h) = uninformed p w s c seen there
-    input_kept input.Destroyed = uninformed p w s c seen there
-    input_kept input.Lapsed = uninformed p w s c seen there
-    input_kept input.CommitFailed = uninformed p w s c seen there
+    input_kept _ = uninformed p w s c seen there
 
     -- what is ordered to be kept
     committed : (told : List Assignment) (i : Input) (x : Record) → ((y : Finding) → (controller_at w c).finding ≡ Some y → Has told (assigned y))
@@ -211,10 +204,8 @@ module _ (p : SitePlan) (plan : IsSitePlan p) (w : World) (s : Site) (seen : See
         → Has told (assigned y)) → ((x : Record) → was ≡ Some x → Ordered p.used told x)
         → MayOrder w c (controller_informed (controller_at w c) i) o → LeavesUsed p.used (event.Acted c i o)
         → (x : Record) → outstanding_after was o ≡ Some x → Ordered p.used told x
-    ordered told i (Put n f) was found old may leaves x is = old x is
     ordered told i (Commit y) was found old may leaves x is = subst (Ordered p.used told) (some_is is) (committed told i y found may.1 leaves)
-    ordered told i (Done e) was found old may leaves x is = old x is
-    ordered told i (Halt e) was found old may leaves x is = old x is
+    ordered told i _ was found old may leaves x is = old x is
 
     pub acted : (i : Input) (o : Order) → MayOrder w c (controller_informed (controller_at w c) i) o → LeavesUsed p.used (event.Acted c i o)
         → Next p (site_after w (event.Acted c i o)) s (IsKeeping c (kept_by (controller_at w c) i))

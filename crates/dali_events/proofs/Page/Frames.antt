@@ -28,23 +28,15 @@ use Rattle.dali_events.specs.declared.event.Event.TheVariants as event
 
 seen_miss : (x : Read) → may_miss (command_seen x) ≡ is_send_twice x
 seen_miss (read.Initialise t) = refl
-seen_miss read.Randomise = refl
 seen_miss _ = refl
 
 hears_nothing : (m : Command) (gs : List Gear) → hears m Nothing gs ≡ true
 hears_nothing Terminate gs = refl
-hears_nothing (Initialise d) gs = refl
-hears_nothing Randomise gs = refl
-hears_nothing (Search q v) gs = refl
-hears_nothing (Program a) gs = refl
-hears_nothing QueryShort gs = refl
-hears_nothing (QueryRandom a q) gs = refl
-hears_nothing Other gs = refl
+hears_nothing _ gs = refl
 
 hears_seen : (x : Read) (h : Answer) (gs : List Real) → Hears (answers_of Everyone x 0 gs) h → hears (command_seen x) (heard_seen h) (map gear_seen gs) ≡ true
-hears_seen x answer.Silence gs is = hears_nothing (command_seen x) (map gear_seen gs)
-hears_seen x answer.Damaged gs is = hears_nothing (command_seen x) (map gear_seen gs)
 hears_seen x (answer.Byte v) gs is = heard x v gs is.0 is.1
+hears_seen x _ gs is = hears_nothing (command_seen x) (map gear_seen gs)
 
 shorts_of : (gs : List Real) → ((g : ℕ) (x : Gear) → At (map gear_seen gs) g x → IsShort x) → AllByRecursion HasShort gs
 shorts_of [] each = tt

@@ -94,12 +94,8 @@ opens_first w c f h here is =
 -- and its last frame is the second RANDOMISE
 opening_last : (t : List Entry) (f : Forward) → IsFront t f (steps Open) → length t ≡ 4 → (stage_of t ≡ stage.RandomisedOnce) × (command_of f ≡ Randomise)
 unfolding stage_of
-opening_last [] f front four = absurd (omega arith)
-opening_last (a ∷ []) f front four = absurd (omega arith)
-opening_last (a ∷ b ∷ []) f front four = absurd (omega arith)
-opening_last (a ∷ b ∷ c ∷ []) f front four = absurd (omega arith)
 opening_last (a ∷ b ∷ c ∷ d ∷ []) f front four = (rw (front.0, front.2.0, front.2.2.0, front.2.2.2.0) refl, front.2.2.2.2)
-opening_last (a ∷ b ∷ c ∷ d ∷ e ∷ t) f front four = absurd (omega arith)
+opening_last _ f front four = absurd (omega arith)
 
 -- READY GEAR
 abbrev ReadyAll : List Gear → Type 0

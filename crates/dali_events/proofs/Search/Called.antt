@@ -41,8 +41,7 @@ IsWoken s = is_woken s ≡ true
 woken_doubted : (h : Answer) → IsWoken (doubted h)
 unfolding is_woken
 woken_doubted Silence = refl
-woken_doubted (Byte v) = refl
-woken_doubted Damaged = refl
+woken_doubted _ = refl
 
 woken_hunted : (r : SearchAddress) (last : Option Answer) (left : ℕ) (c : Command) (h : Answer) → IsWoken (next_stage (stage.Hunted r last left) c h)
 unfolding is_woken
@@ -95,8 +94,7 @@ first_half x none = go (is_second (Initialise Unaddressed) x.half) refl where
 
 waked_doubted : (h : Answer) (x : Gear) → x.state ≡ Enabled → Waked (doubted h) x
 waked_doubted Silence x k = k
-waked_doubted (Byte v) x k = k
-waked_doubted Damaged x k = k
+waked_doubted _ x k = k
 
 waked_asked : (r : SearchAddress) (left : ℕ) (c : Command) (h : Answer) (x : Gear) (n : ℕ) → is_asking c ≡ true → x.state ≡ Enabled
     → Waked (unwrap_or (hunted r left c h) stage.Over) (gear_taken c n x)

@@ -61,9 +61,7 @@ nothing_runs o t c x pre none is = (runs_with o t c x pre is).1 none
 
 owner_acted : (b : Arbiter) (c : ℕ) (o : Order) → gives_up b c o ≡ false → (bus_acted b c o).owner ≡ b.owner
 owner_acted b c (Put p f) e = ap (λ x. (if x then bus_lapsed b else b).owner) e
-owner_acted b c (Commit x) e = ap (λ y. (if y then bus_lapsed b else b).owner) e
-owner_acted b c (Done x) e = ap (λ y. (if y then bus_lapsed b else b).owner) e
-owner_acted b c (Halt x) e = ap (λ y. (if y then bus_lapsed b else b).owner) e
+owner_acted b c _ e = ap (λ y. (if y then bus_lapsed b else b).owner) e
 
 before_acted : (w : World) (c d : ℕ) (i : Input) (o : Order) (x : Entry) (pre : List Entry)
     → IsPart (trace_running (happens w (event.Acted d i o)) c) x pre → IsPart (trace_running w c) x pre
