@@ -9,7 +9,7 @@ use Rattle.dali_gear.specs.Row.{next_draw, one_after, left_after, row_after, row
 use Rattle.dali_gear.specs.{Row.{stored_one, stored_of}, declared.{gear_set.GearSet.GearSet, row.Reach.{Reach, TheVariants.{Everyone, Only}}}}
 use Rattle.dali_arbiter.specs.Arbiter.{Arbiter, owns, bus_destroyed}
 use Rattle.dali_script.specs.{Findings.{Asked, search_of, asked_of, found_by}, Records.Assignment, Stages.{Follows, next_stage, stage_of}}
-use Rattle.dali_script.specs.declared.{block.Block.Block, orders.Order.{Order, TheVariants.{Put, Commit, Done, Halt}}, stage.Stage.Stage}
+use Rattle.dali_script.specs.declared.{block.Block.Block, orders.Order.{Order, TheVariants.{Put}}, stage.Stage.Stage}
 use Rattle.dali_script.specs.declared.stage.Stage.TheVariants.{Terminated, InitialisedOnce, Initialised, RandomisedOnce, DrawFree, Hunted, HighAsked}
 use Rattle.dali_script.{specs.declared.{stage.Stage.TheVariants.{MiddleAsked, Over}, trace.Entry.Entry}, proofs.Transactions.{stage_none, stage_more, self}}
 use Rattle.dali_events.specs.{Allowed.{Allowed, Hears, IsUp, IsDestroyed, MaySend, MayOrder}, Happens.{happens, trace_running, entry, goes_on, taken_by}}

@@ -1,10 +1,10 @@
 use Rattle.std.proofs.Common.{◌≡◌, ◌⊎◌, inl, inr, ℕ, true, false, sym, ap, subst, List, [], ◌∷◌, ◌++◌, map, Some}
 use Rattle.dali_frame.specs.{Random.value_of, declared.frames.{Answer.Answer, Forward.Forward}}
 use Rattle.dali_special.specs.{Command.command_of, declared.command.Command.Command as Read}
-use Rattle.dali_script.specs.Scripts.{Step, sends, is_asking, AreAsking, Script, Open, Call, Draw, Probe, Hunt, Look, Give, PassOver, Resolve, Close, ArcPower}
+use Rattle.dali_script.specs.Scripts.{Step, sends, is_asking, AreAsking, Script, Call, Draw, Probe, Hunt, Give, PassOver, Resolve, Close, ArcPower}
 use Rattle.dali_script.specs.{Scripts.{steps, MaySend, IsFront, Lawful}, Records.{Assignment, Has}, declared.{block.Block.Block, trace.Entry.Entry}}
 use Rattle.dali_script.proofs.Members.{has_either}
-use Rattle.dali_statement.{specs.Own.{Own, Act, Puts, Loses, Begins, Keeps, own_after, own_all, AreOwn}, proofs.Own.filtered}
+use Rattle.dali_statement.{specs.Own.{Own, Act, Puts, Loses, Keeps, own_after, own_all, AreOwn}, proofs.Own.filtered}
 use Rattle.dali_special.specs.declared.command.Command.TheVariants as read
 use Rattle.dali_script.specs.declared.records.Record.TheVariants as record_of
 

@@ -2,7 +2,7 @@ use Rattle.std.proofs.Common.{◌≡◌, ◌⊎◌, inl, inr, ℕ, ◌<◌, ◌+
 use Rattle.std.proofs.Common.{if◌then◌else◌, IfSome}
 use Rattle.dali_frame.specs.{Random.value_of, declared.numbers.SearchAddress.SearchAddress}
 use Rattle.dali_special.specs.{Command.{target_data, is_send_twice, IsSpelled}, declared.command.{Command.Command as Read, Part.Part as AskedPart}}
-use Rattle.dali_special.specs.declared.command.Target.{Target, TheVariants.{All, Addressed, Unaddressed}}
+use Rattle.dali_special.specs.declared.command.Target.{Target, TheVariants.{Addressed, Unaddressed}}
 use Rattle.dali_gear.specs.Gear.{Gear as Real, is_active, is_second, concerns, after_frame, answer_to, with_power, without_power, gear_expired, gear_quieted}
 use Rattle.dali_gear.specs.declared.state.InitialisationState.{InitialisationState, TheVariants.{Disabled, Enabled, Withdrawn}}
 use Rattle.dali_statement.specs.{Gear.{part_seen, command_seen, byte_in, gear_seen, HasShort}, Page.{Part, High, Middle, Low, same, Gear, is_found, code}}

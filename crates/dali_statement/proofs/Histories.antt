@@ -2,7 +2,7 @@ use Rattle.std.proofs.Common.{◌≡◌, ℕ, true, false, List, [], ◌∷◌, 
 use Rattle.std.{proofs.Common.{if◌then◌else◌, slice_get, not, ◌==◌, ◌&&◌, ◌||◌}, specs.{Prelude.unwrap_or, List.list_all}}
 use Rattle.dali_statement.specs.Page.{High, Middle, Low, Command, Terminate, Initialise, Randomise, Search, Program, QueryShort, QueryRandom, Gear, Heard, Byte}
 use Rattle.dali_statement.specs.Page.{Nothing, Moment, Sent, Destroyed, Reserves, Enrols, Releases, Plan, Site, start, holds, is_told, happens, allowed, differ}
-use Rattle.dali_statement.specs.{Page.{IsPlan, after, Holds}, Weaker.{Rules, Changes, after_by, all_by, Break, drawing, BreakUnder, BreakIf, BreakFrom}}
+use Rattle.dali_statement.specs.{Page.{IsPlan, Holds}, Weaker.{Rules, Changes, after_by, all_by, Break, drawing, BreakUnder, BreakIf, BreakFrom}}
 use Rattle.dali_statement.specs.Weaker.{with_program, unnumbered, initialised_since, unqueried, unanswered, searched_since, programmed_since, unreserved}
 use Rattle.dali_statement.specs.Weaker.{erasing, initialising_all, with_randomise, none_programmed, is_terminated, unsent, destroying_any, enrolling}
 use Rattle.dali_statement.specs.Weaker.{enrolling_beyond, with_reserve, twice, elsewhere, used, beyond, undrawn, with_release, mishearing, mishearing_bytes}

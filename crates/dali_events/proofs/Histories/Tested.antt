@@ -1,6 +1,6 @@
 use Rattle.std.proofs.Common.{◌≡◌, ◌⊎◌, inl, inr, ℕ, ◌<◌, ◌≤◌, Bool, true, false, List, [], ◌∷◌, ◌++◌, length, Option, Some, None, is_none, refl, ap, arith}
 use Rattle.std.{proofs.{Common.{◌==◌, ◌&&◌, not, if◌then◌else◌, nat_lt, nat_le}, lemmas.Bool.Decides.nat_tests}, specs.List.AllByRecursion}
-use Rattle.dali_frame.specs.{Priority.{FIRST, LATER}, Random.MASK24, declared.frames.{Answer.{Answer, TheVariants.{Silence, Byte, Damaged}}, Forward.Forward}}
+use Rattle.dali_frame.specs.{Priority.{FIRST, LATER}, Random.MASK24, declared.frames.{Answer.{Answer, TheVariants.{Silence, Byte}}, Forward.Forward}}
 use Rattle.dali_special.specs.Command.{command_of}
 use Rattle.dali_gear.specs.{Row.{draws_needed, answers_of}, declared.row.Reach.{Reach, TheVariants.{Everyone, Only}}}
 use Rattle.dali_arbiter.specs.Arbiter.{owns}

@@ -1,6 +1,6 @@
 use Rattle.std.proofs.{Common.{◌≡◌, ℕ, ◌<◌, List, refl, subst, ◌∙◌, length, Option, Some, None}, lemmas.List.{get_or-map, length-map}}
 use Rattle.dali_script.specs.{Findings.assigned, Records.{Assignment, Kept, InBlock, IsKept, MayAdd, Fits, address_of}, declared.block.Block.Block}
-use Rattle.dali_script.specs.declared.{finding.Finding.Finding, orders.Order.{Order, TheVariants.{Put, Commit, Done, Halt}}, records.Record.Record}
+use Rattle.dali_script.specs.declared.{finding.Finding.Finding, orders.Order.{Order, TheVariants.{Put, Commit}}, records.Record.Record}
 use Rattle.dali_script.{specs.declared.records.Record.TheVariants.{Reserve, Enrol, Release}, proofs.Lists.{has_map, kept_none, kept_more, block_stays}}
 use Rattle.dali_script.proofs.{Lists.reserved_fits, Members.Each}
 use Rattle.dali_events.specs.{Allowed.{Allowed, MayOrder, MayCommit}, Happens.{happens, with_outstanding, controller_informed}, Laws.KeepsRecords, Plan.Plan}

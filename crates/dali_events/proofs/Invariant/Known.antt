@@ -1,6 +1,6 @@
 use Rattle.std.proofs.Common.{◌≡◌, ℕ, ◌<◌, ◌⊎◌, inl, inr, Bool, true, false, List, refl, sym, ap, subst, ◌∙◌, arith, Option, Some, None, ◌-◌, ◌&&◌, ◌==◌}
 use Rattle.std.{proofs.{Common.if◌then◌else◌, lemmas.Bool.Decides.nat_tests}, specs.Prelude.unwrap_or}
-use Rattle.dali_frame.specs.{Random.value_of, Short.{code_of, short_of}, declared.frames.Answer.{Answer, TheVariants.{Silence, Byte, Damaged}}}
+use Rattle.dali_frame.specs.{Random.value_of, Short.{code_of, short_of}, declared.frames.Answer.{Answer, TheVariants.{Silence, Byte}}}
 use Rattle.dali_frame.specs.declared.numbers.SearchAddress.{SearchAddress}
 use Rattle.dali_special.specs.{Command.{MASK, program_data, IsSpelled}, declared.command.Command.{Command, TheVariants.{Terminate, Initialise, Randomise}}}
 use Rattle.dali_special.specs.declared.command.Command.TheVariants.{Withdraw, SearchHigh, SearchMiddle, SearchLow, Program, QueryShort, Compare, RandomByte}

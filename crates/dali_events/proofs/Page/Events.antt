@@ -1,11 +1,11 @@
 use Rattle.std.proofs.Common.{◌≡◌, ◌⊎◌, inl, inr, ℕ, zero, suc, ◌<◌, Bool, true, false, refl, sym, ap, subst, ◌∙◌, List, [], ◌∷◌, map, Option, Some, None}
-use Rattle.std.proofs.Common.{length, get_or, set, length-set, ◌&&◌, if◌then◌else◌}
+use Rattle.std.proofs.Common.{length, get_or, set, length-set, if◌then◌else◌}
 use Rattle.dali_frame.specs.declared.frames.Forward.{Forward}
 use Rattle.dali_special.specs.Command.{command_of}
 use Rattle.dali_gear.specs.Gear.{Gear as Real, fresh, with_power, without_power, gear_expired, gear_quieted}
 use Rattle.dali_arbiter.specs.Arbiter.{Arbiter, owns, bus_freed, bus_muted, bus_lapsed}
 use Rattle.dali_script.specs.{Findings.assigned, Records.{Assignment, Has, Kept}, declared.{finding.Finding.Finding, orders.{Input.Input, Order.Order}}}
-use Rattle.dali_script.specs.{declared.{orders.Order.TheVariants.{Put, Commit, Done, Halt}, records.Record.Record}, Scripts.IsFirst}
+use Rattle.dali_script.specs.{declared.{orders.Order.TheVariants.{Put, Commit}, records.Record.Record}, Scripts.IsFirst}
 use Rattle.dali_script.proofs.{Firsts.first_for_all, Members.{Each, each_changed}}
 use Rattle.dali_statement.{proofs.{Tests.{both, some_is}, Gear.{power_on, expired}, Own.may_put}, specs.{Gear.{command_seen, gear_seen}, Page.{Gear, Command}}}
 use Rattle.dali_statement.specs.Page.{Moment, Destroyed, Power, Expires, Site, allowed, may_send, befalls, are_apart, after, happens}

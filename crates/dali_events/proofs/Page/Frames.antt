@@ -7,10 +7,10 @@ use Rattle.dali_gear.specs.declared.row.Reach.TheVariants.{Everyone, Only}
 use Rattle.dali_arbiter.specs.Arbiter.{bus_sent}
 use Rattle.dali_script.specs.{Findings.{asked_of, search_of, found_by, assigned, later}, Records.{Assignment, Has}, declared.finding.Finding.Finding}
 use Rattle.dali_script.{specs.declared.{records.Record.Record, trace.Entry.Entry}, proofs.Members.{Each, each_changed}}
-use Rattle.dali_statement.proofs.{Own.{another, Sees, may_put, forgets, emptied, puts}, Tests.{both, placed, either, first_of_either, equal, equals, some_is}}
+use Rattle.dali_statement.proofs.{Own.{another, Sees, may_put, forgets, emptied, puts}, Tests.{both, placed, either, first_of_either, equals, some_is}}
 use Rattle.dali_statement.proofs.{Gear.found, Moved.At, One.{IsShort, vacant_by}, Rows.{sent_to_all, reached, heard, of_one, destroyed_one}, Steps.Safe}
 use Rattle.dali_statement.{proofs.Steps.{told_so, IsTrue, told_by, told_true}, specs.{Gear.{command_seen, gear_seen, HasShort}, Own.{Own, told_more}}}
-use Rattle.dali_statement.specs.Page.{byte, Command, Terminate, Initialise, Randomise, Search, Program, QueryShort, QueryRandom, Other, Gear, takes, Nothing}
+use Rattle.dali_statement.specs.Page.{byte, Command, Terminate, Gear, takes, Nothing}
 use Rattle.dali_statement.specs.Page.{Destroyed, Moment, Sent, Site, allowed, befalls, gear_after, may_miss, may_send, hears, are_apart, tells, happens}
 use Rattle.dali_statement.specs.Scripts.{heard_seen}
 use Rattle.dali_events.specs.{Allowed.{IsUp, MaySend, Hears}, Happens.{happens as site_after, trace_running, entry, goes_on, taken_by, told_sent}}

@@ -1,5 +1,5 @@
-use Rattle.std.proofs.Common.{◌≡◌, ℕ, ◌<◌, Bool, true, refl, sym, subst, List, [], ◌∷◌, ◌++◌, append_assoc, map, get_or, length, ap, ◌∙◌, Option, None, Some}
-use Rattle.std.proofs.{Common.{◌&&◌, if◌then◌else◌, slice_get}, lemmas.List.{length-map, get_or-map}}
+use Rattle.std.proofs.Common.{◌≡◌, ℕ, ◌<◌, true, refl, sym, subst, List, [], ◌∷◌, ◌++◌, append_assoc, map, get_or, length, ap, ◌∙◌, Option, None, Some}
+use Rattle.std.proofs.{Common.{if◌then◌else◌, slice_get}, lemmas.List.{length-map, get_or-map}}
 use Rattle.dali_gear.specs.Gear.{fresh}
 use Rattle.dali_arbiter.specs.Arbiter.{owns}
 use Rattle.dali_script.specs.declared.records.Record.{Record}

@@ -1,7 +1,7 @@
 use Rattle.std.proofs.Common.{◌≡◌, ℕ, ◌<◌, ◌≤◌, ◌⊎◌, inl, inr, Bool, true, false, List, [], ◌∷◌, ◌++◌, refl, sym, ap, subst, ◌∙◌, arith, length, get_or, Option}
 use Rattle.std.proofs.{Common.{Some, None, append_assoc, lit≤, nat_le, ◌&&◌, ◌-◌, ◌==◌, if◌then◌else◌}, lemmas.Bool.Decides.nat_tests}
 use Rattle.std.specs.Prelude.{unwrap_or}
-use Rattle.dali_frame.specs.{Random.{value_of, MASK24}, declared.frames.{Answer.{Answer, TheVariants.{Silence, Byte, Damaged}}, Forward.Forward}}
+use Rattle.dali_frame.specs.{Random.{value_of, MASK24}, declared.frames.{Answer.{Answer, TheVariants.{Silence}}, Forward.Forward}}
 use Rattle.dali_frame.specs.declared.numbers.SearchAddress.{SearchAddress}
 use Rattle.dali_special.specs.{Command.command_of, declared.command.Command.{Command, TheVariants.{Initialise, Randomise, Compare, SearchHigh, SearchMiddle}}}
 use Rattle.dali_special.specs.declared.command.{Command.TheVariants.SearchLow, Target.TheVariants.Unaddressed}

@@ -1,6 +1,6 @@
 use Rattle.std.proofs.Common.{◌≡◌, ℕ, ◌+◌, ◌<◌, ◌≤◌, ◌⊎◌, inl, inr, Bool, true, false, zero, suc, List, [], ◌∷◌, refl, sym, subst, arith, length, get_or}
 use Rattle.std.{proofs.Common.{Option, Some, None, add-zero, zero-add, ◌-◌, ◌&&◌, ◌==◌, if◌then◌else◌}, specs.Prelude.unwrap_or}
-use Rattle.dali_frame.specs.{Random.{value_of, MASK24}, Short.short_of, declared.frames.Answer.{Answer, TheVariants.{Silence, Byte, Damaged}}}
+use Rattle.dali_frame.specs.{Random.{value_of, MASK24}, Short.short_of, declared.frames.Answer.{Answer, TheVariants.{Silence, Byte}}}
 use Rattle.dali_frame.specs.declared.numbers.SearchAddress.{SearchAddress}
 use Rattle.dali_special.specs.{Command.MASK, declared.command.Command.{Command, TheVariants.{Terminate, Initialise, Randomise, Withdraw, SearchHigh}}}
 use Rattle.dali_special.specs.declared.command.{Command.TheVariants.{SearchMiddle, SearchLow, Program, QueryShort, Compare, RandomByte}, Part.TheVariants.High}

@@ -2,7 +2,7 @@ use Rattle.std.proofs.Common.{◌≡◌, ℕ, ◌⊎◌, inl, inr, Bool, true, f
 use Rattle.std.proofs.{Common.if◌then◌else◌, lemmas.Bool.Decides.nat_tests}
 use Rattle.dali_frame.specs.declared.frames.{Answer.Answer, Forward.Forward}
 use Rattle.dali_arbiter.specs.Arbiter.{Arbiter, owns, bus_lapsed, bus_freed, bus_muted}
-use Rattle.dali_script.specs.declared.{orders.{Input.Input, Order.{Order, TheVariants.{Put, Commit, Done, Halt}}}, trace.Entry.Entry}
+use Rattle.dali_script.specs.declared.{orders.{Input.Input, Order.{Order, TheVariants.{Put}}}, trace.Entry.Entry}
 use Rattle.dali_events.specs.{Calling.{Runs, RunsOn}, Happens.{happens, trace_running, entry, goes_on, gives_up, bus_acted}, Runs.after_all}
 use Rattle.dali_events.specs.{Searching.sent_event, World.World, declared.event.Event.Event}
 use Rattle.dali_events.specs.declared.event.Event.TheVariants as event

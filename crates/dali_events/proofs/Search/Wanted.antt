@@ -4,7 +4,7 @@ use Rattle.std.specs.List.{list_any, count_by}
 use Rattle.dali_frame.specs.Random.{MASK24}
 use Rattle.dali_special.specs.declared.command.Command.{Command}
 use Rattle.dali_gear.specs.{Gear.{Gear, fresh, is_enabled, is_active, gear_taken}, Row.{takes, row_after, drawn_of}, declared.row.Reach.TheVariants.Everyone}
-use Rattle.dali_gear.specs.declared.state.InitialisationState.{InitialisationState, TheVariants.{Disabled, Enabled, Withdrawn}}
+use Rattle.dali_gear.specs.declared.state.InitialisationState.{InitialisationState, TheVariants.{Enabled}}
 use Rattle.dali_events.{specs.Wanted.{is_wanted, wants, is_bare, gear_of, OfPowered, IsOpened, NoneNamed}, proofs.Invariant.Sending.powered_takes}
 use Rattle.dali_events.proofs.Invariant.{Sending.takes_powered, Takes.{Moved, stays, goes, moves_at}}
 
