@@ -72,13 +72,12 @@ one_code : (a b : ℕ) → (a == b) ≡ ((2 * a + 1 == 0) || (2 * a + 1 == 2 * b
 one_code a b = go (a == b) (2 * a + 1 == 0) (2 * a + 1 == 2 * b + 1) refl refl refl where
   go : (t u v : Bool) → (a == b) ≡ t → (2 * a + 1 == 0) ≡ u → (2 * a + 1 == 2 * b + 1) ≡ v → t ≡ (u || v)
   go t true v same zero code = absurd (let e : 2 * a + 1 ≡ 0 = equal (2 * a + 1) 0 zero in omega arith)
-  go true false true same zero code = refl
-  go false false false same zero code = refl
   go true false false same zero code =
       absurd (let e : a ≡ b = equal a b same in let f : true ≡ false = sym (equals (2 * a + 1) (2 * b + 1) (ap (λ k. 2 * k + 1) e)) ∙ code in cc)
   go false false true same zero code =
       absurd (let e : 2 * a + 1 ≡ 2 * b + 1 = equal (2 * a + 1) (2 * b + 1) code in
       let d : a ≡ b = omega arith in let f : true ≡ false = sym (equals a b d) ∙ same in cc)
+  go _ false _ same zero code = refl
 
 no_mask : (a : ℕ) → a < 64 → false ≡ ((2 * a + 1 == 0) || (2 * a + 1 == 0xFF))
 no_mask a small = go (2 * a + 1 == 0) (2 * a + 1 == 0xFF) refl refl where
@@ -142,10 +141,9 @@ query g = query_of g.powered g.state g.random g.search g.short g.half
 turned : (s n : ℕ) → (s == n) ≡ (n == s)
 turned s n = go (s == n) (n == s) refl refl where
   go : (t u : Bool) → (s == n) ≡ t → (n == s) ≡ u → t ≡ u
-  go true true e f = refl
-  go false false e f = refl
   go true false e f = absurd (let is : true ≡ false = sym (equals n s (sym (equal s n e))) ∙ f in cc)
   go false true e f = absurd (let is : true ≡ false = sym (equals s n (sym (equal n s f))) ∙ e in cc)
+  go _ _ e f = refl
 
 same_test : (x v : ℕ) (t u : Bool) → t ≡ u → (if t then Some x else None) ≡ Some v → (if u then Some x else None) ≡ Some v
 same_test x v t u is e = ap (λ k. if k then Some x else None) (sym is) ∙ e
@@ -178,8 +176,7 @@ power_on_of true st r a sh hf = refl
 power_on_of false st r a sh hf = equal_gear _ _ refl refl each refl where
   each : (p : Part) → byte_in (record { high = 0xFF; middle = 0xFF; low = 0xFF }) p ≡ 0xFF
   each High = refl
-  each Middle = refl
-  each Low = refl
+  each _ = refl
 
 pub power_on : (g : Real) → gear_seen (with_power g) ≡ gear_seen g
 power_on g = power_on_of g.powered g.state g.random g.search g.short g.half

@@ -229,9 +229,7 @@ number_longer said older r e =
           → number_sent (said ++ older) ≡ Some r
       go (Some h) high (Some m) middle (Some l) low e =
           rw (byte_longer High h said older high, byte_longer Middle m said older middle, byte_longer Low l said older low) e
-      go (Some h) high (Some m) middle None low e = absurd (none_is e)
-      go (Some h) high None middle l low e = absurd (none_is e)
-      go None high m middle l low e = absurd (none_is e)
+      go _ high _ middle _ low e = absurd (none_is e)
 
 -- what the rest allows, and tells
 pub may_longer : (s : Site) (c : ℕ) (newest older : List (Command × Heard)) (m : Command) → s.said c ≡ newest ++ older

@@ -125,8 +125,6 @@ module _ (p : Plan) (s : Site) (c : ℕ) (v : Own) (sees : Sees s c v) (safe : S
         (subst (λ g. tells (QueryRandom a Low) (heard_seen g) (s.said c) Low a b ≡ true) (sym heard_is) (both (equals a a refl) (equals b b refl))))
 
     go : (q : Asked) → AskedSo s.told q → spelled_by a b q ≡ Some y → told_so next.told (assigned y).0 (assigned y).1 ≡ true
-    go nothing old e = absurd (cc)
-    go (high_byte d high) old e = absurd (cc)
     go (two_bytes d high middle) old e = by (d == a) refl e where
       by : (t : Bool) → (d == a) ≡ t → (if t then Some (Resolved a (number_of high middle b)) else None) ≡ Some y
           → told_so next.told (assigned y).0 (assigned y).1 ≡ true
@@ -135,6 +133,7 @@ module _ (p : Plan) (s : Site) (c : ℕ) (v : Own) (sees : Sees s c v) (safe : S
           (bytes_tell p next (goes p s (Sent (command_seen (command_of f)) ws reach) safe allow).safe a high middle b small
           (more High a high (ap (λ k. s.told High k high) (sym (equal d a same)) ∙ old.0))
           (more Middle a middle (ap (λ k. s.told Middle k middle) (sym (equal d a same)) ∙ old.1)) low)
+    go _ old e = absurd (cc)
   found_told _ is _ heard_is y e = absurd (cc)
 
   abbrev entry : Entry

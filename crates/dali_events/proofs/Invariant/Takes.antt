@@ -67,6 +67,5 @@ numbers_stay reach c k (g ∷ gs) left =
     (numbers_stay reach c (k + 1) gs (left_after (takes reach k g && draws_a_number c g) left)) where
       go : (b : Bool) (xs : List ℕ) (more : List (ℕ × ℕ)) (rest : List ℕ) → map (λ draw. draw.1) more ++ rest ≡ left_after b xs
           → map (λ draw. draw.1) (drawn_one b k xs more) ++ rest ≡ xs
-      go false xs more rest e = e
-      go true [] more rest e = e
       go true (r ∷ xs) more rest e = ap (λ ys. r ∷ ys) e
+      go _ _ more rest e = e

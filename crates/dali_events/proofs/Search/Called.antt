@@ -48,9 +48,6 @@ unfolding is_woken
 woken_hunted r last left c h = go (left == 0) where
   asked : (c : Command) → IsWoken (unwrap_or (hunted r (left - 1) c h) stage.Over)
   asked (SearchHigh high) = refl
-  asked (SearchMiddle middle) = refl
-  asked (SearchLow low) = refl
-  asked Compare = refl
   asked _ = refl
 
   go : (t : Bool) → IsWoken (unwrap_or (if t then None else hunted r (left - 1) c h) stage.Over)

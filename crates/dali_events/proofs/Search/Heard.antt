@@ -23,8 +23,7 @@ yes_compared g v e = go (is_enabled g.state) (nat_le g.random (value_of g.search
   go : (a b : Bool) → is_enabled g.state ≡ a → nat_le g.random (value_of g.search) ≡ b → (if a && b then Some YES else None) ≡ Some v
       → (g.state ≡ Enabled) × (g.random ≤ value_of g.search)
   go true true enabled below e = (enabled_is g.state enabled, test g.random (value_of g.search) below)
-  go true false enabled below e = absurd (cc)
-  go false b enabled below e = absurd (cc)
+  go _ _ enabled below e = absurd (cc)
 
 silent_none : (bytes : List ℕ) → heard_of bytes ≡ Silence → bytes ≡ []
 silent_none [] e = refl

@@ -76,9 +76,8 @@ opens_doubted _ g k = tt
 opens_queried : (r : SearchAddress) (h : Answer) (g : Gear) → Opens (queried r h) g
 opens_queried r (Byte v) g = go (short_of v) (v == MASK) where
   go : (o : Option ℕ) (m : Bool) → Opens (named r o m) g
-  go (Some b) m = tt
   go None true = tt
-  go None false = tt
+  go _ _ = tt
 opens_queried r _ g = tt
 
 opens_verified : (r : SearchAddress) (a : ℕ) (h : Answer) (g : Gear) → Opens (verified r a h) g
@@ -118,9 +117,6 @@ opens_hunted : (r : SearchAddress) (last : Option Answer) (left : ℕ) (c : Comm
 opens_hunted r last left c h g = go (left == 0) where
   asked : (c : Command) → Opens (unwrap_or (hunted r (left - 1) c h) stage.Over) g
   asked (SearchHigh high) = tt
-  asked (SearchMiddle middle) = tt
-  asked (SearchLow low) = tt
-  asked Compare = tt
   asked _ = tt
 
   go : (t : Bool) → Opens (unwrap_or (if t then None else hunted r (left - 1) c h) stage.Over) g

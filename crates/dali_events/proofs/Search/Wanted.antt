@@ -59,8 +59,7 @@ pub bare_is : (g : Gear) → is_bare g ≡ true → (g.powered ≡ true) × (g.s
 bare_is g e = go g.powered g.short refl refl e where
   go : (b : Bool) (o : Option ℕ) → g.powered ≡ b → g.short ≡ o → (b && not (is_some o)) ≡ true → (g.powered ≡ true) × (g.short ≡ None)
   go true None on short e = (on, short)
-  go true (Some a) on short e = absurd (cc)
-  go false o on short e = absurd (cc)
+  go _ _ on short e = absurd (cc)
 
 pub is_bare_by : (g : Gear) → g.powered ≡ true → g.short ≡ None → is_bare g ≡ true
 is_bare_by g on none = rw (on, none) refl
