@@ -34,10 +34,7 @@ not_stored _ _ g asks = refl
 -- a gear that takes one loses its half pair, and nothing else
 asked_gear : (c : Command) (r : ℕ) (g : Gear) → is_question c ≡ true → gear_taken c r g ≡ record g { half = None }
 asked_gear Compare r g asks = refl
-asked_gear (Verify a) r g asks = refl
-asked_gear QueryShort r g asks = refl
-asked_gear (RandomByte a part) r g asks = refl
-asked_gear _ r g asks = absurd (cc)
+asked_gear _ r g asks = cc
 
 asked_left : (reach : Reach) (c : Command) (k : ℕ) (gs : List Gear) (left : List ℕ) → is_question c ≡ true → row_left reach c k gs left ≡ left
 asked_left reach c k [] left asks = refl
@@ -268,16 +265,10 @@ leads_or true o none on = cc
 leads_or false o none on = cc
 
 paired_follows : (b : Block) (xs : List Assignment) (s : Stage) (c : Command) → Follows b xs s c → is_send_twice c ≡ true → is_paired_at s ≡ true
-paired_follows b xs Terminated c on two = refl
-paired_follows b xs InitialisedOnce c on two = refl
-paired_follows b xs Initialised c on two = refl
-paired_follows b xs DrawFree c on two = refl
-paired_follows b xs RandomisedOnce c on two = refl
 paired_follows b xs (Hunted r last left) (Initialise target) on two = absurd (leads_or (left == 0) None refl on.leads_on)
 paired_follows b xs (Hunted r last left) Randomise on two = absurd (leads_or (left == 0) None refl on.leads_on)
-paired_follows b xs _ (Initialise target) on two = absurd (let none = on.leads_on in cc)
-paired_follows b xs _ Randomise on two = absurd (let none = on.leads_on in cc)
-paired_follows b xs _ _ on two = absurd (cc)
+paired_follows b xs _ Randomise on two = let leads = on.leads_on in cc
+paired_follows b xs _ _ on two = let leads = on.leads_on in cc
 
 unpaired_or : (t : Bool) (o : Option Stage) → is_paired_at (unwrap_or o Over) ≡ false → is_paired_at (unwrap_or (if t then None else o) Over) ≡ false
 unpaired_or true o loose = refl
@@ -296,12 +287,7 @@ unpaired_asked (Hunted r last left) (RandomByte a part) asks = unpaired_or (left
 unpaired_asked (HighAsked d high) (RandomByte a Middle) asks = unpaired_if (a == d) _ refl
 unpaired_asked (MiddleAsked d bytes) (RandomByte a Low) asks = unpaired_if (a == d) _ refl
 unpaired_asked _ (RandomByte a High) asks = refl
-unpaired_asked _ (RandomByte a Middle) asks = refl
-unpaired_asked _ (RandomByte a Low) asks = refl
-unpaired_asked _ Compare asks = refl
-unpaired_asked _ (Verify a) asks = refl
-unpaired_asked _ QueryShort asks = refl
-unpaired_asked _ _ asks = absurd (cc)
+unpaired_asked _ _ asks = cc
 
 -- THE WORLD of a run with the gear that there are
 abbrev with_gear : World → List Gear → World

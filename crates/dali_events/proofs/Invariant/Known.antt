@@ -1,5 +1,5 @@
 use Rattle.std.proofs.Common.{◌≡◌, ℕ, ◌<◌, ◌⊎◌, inl, inr, Bool, true, false, List, refl, sym, ap, subst, ◌∙◌, arith, Option, Some, None, ◌-◌, ◌&&◌, ◌==◌}
-use Rattle.std.{proofs.{Common.if◌then◌else◌, lemmas.Bool.Decides.nat_tests}, specs.Prelude.unwrap_or}
+use Rattle.std.{proofs.{Common.{if◌then◌else◌, rules}, lemmas.Bool.Decides.nat_tests}, specs.Prelude.unwrap_or}
 use Rattle.dali_frame.specs.{Random.value_of, Short.{code_of, short_of}, declared.frames.Answer.{Answer, TheVariants.{Silence, Byte}}}
 use Rattle.dali_frame.specs.declared.numbers.SearchAddress.{SearchAddress}
 use Rattle.dali_special.specs.{Command.{MASK, program_data, IsSpelled}, declared.command.Command.{Command, TheVariants.{Terminate, Initialise, Randomise}}}
@@ -188,23 +188,7 @@ knows_step b xs _ _ h g x on small agrees k = tt
 -- of a gear that takes no part a stage says nothing
 pub knows_inactive : (s : Stage) (g : Gear) → is_active g.state ≡ false → Knows s g
 knows_inactive stage.Terminated g off = λ active. absurd (cc)
-knows_inactive stage.InitialisedOnce g off = λ active. absurd (cc)
-knows_inactive stage.Initialised g off = λ active. absurd (cc)
-knows_inactive (stage.WokenHigh high) g off = λ active. absurd (cc)
-knows_inactive (stage.WokenLow high low) g off = λ active. absurd (cc)
-knows_inactive (stage.WokenMiddle high middle) g off = λ active. absurd (cc)
-knows_inactive stage.DrawFree g off = λ active. absurd (cc)
-knows_inactive stage.RandomisedOnce g off = λ active. absurd (cc)
-knows_inactive (stage.HighSent high) g off = λ active. absurd (cc)
-knows_inactive (stage.MiddleSent high middle) g off = λ active. absurd (cc)
-knows_inactive (stage.NumberSent r) g off = λ active. absurd (cc)
-knows_inactive (stage.LowSent high low) g off = λ active. absurd (cc)
-knows_inactive (stage.Hunted r last left) g off = λ active. absurd (cc)
-knows_inactive (stage.Found r a) g off = λ active. absurd (cc)
-knows_inactive (stage.Unnamed r) g off = λ active. absurd (cc)
-knows_inactive (stage.Programmed r a) g off = λ active. absurd (cc)
-knows_inactive (stage.Confirmed r a) g off = λ active. absurd (cc)
-knows_inactive _ g off = tt
+knows_inactive _ g off = search rules
 
 -- a stage says nothing of half pairs here
 pub knows_halved : (s : Stage) (g : Gear) (half : Option Command) → Knows s g → Knows s (record g { half = half })

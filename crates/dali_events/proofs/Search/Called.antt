@@ -58,15 +58,13 @@ woken_next : (b : Block) (xs : List Assignment) (s : Stage) (c : Command) (h : A
 unfolding is_woken
 woken_next b xs stage.InitialisedOnce (Initialise Unaddressed) h on woken = refl
 woken_next b xs stage.Initialised Randomise h on woken = refl
-woken_next b xs stage.Initialised (SearchHigh high) h on woken = refl
 woken_next b xs (stage.WokenHigh high) (SearchLow low) h on woken = refl
-woken_next b xs (stage.WokenHigh high) (SearchMiddle middle) h on woken = refl
 woken_next b xs (stage.WokenLow high low) (SearchMiddle middle) h on woken = refl
 woken_next b xs (stage.WokenMiddle high middle) Compare h on woken = woken_doubted h
 woken_next b xs stage.DrawFree Randomise h on woken = refl
 woken_next b xs stage.RandomisedOnce Randomise h on woken = refl
 woken_next b xs (stage.Hunted r last left) c h on woken = woken_hunted r last left c h
-woken_next b xs _ _ h on woken = absurd (let none = on.leads_on in let no = woken in cc)
+woken_next b xs _ _ h on woken = let leads = on.leads_on in let before = woken in cc
 
 -- between the two INITIALISE it has half a pair, or had one before and is ENABLED; then it is ENABLED
 abbrev Waked : Stage → Gear → Type 0
@@ -95,18 +93,12 @@ waked_doubted _ x k = k
 
 waked_asked : (r : SearchAddress) (left : ℕ) (c : Command) (h : Answer) (x : Gear) (n : ℕ) → is_asking c ≡ true → x.state ≡ Enabled
     → Waked (unwrap_or (hunted r left c h) stage.Over) (gear_taken c n x)
-waked_asked r left (SearchHigh high) h x n asks k = k
-waked_asked r left (SearchMiddle middle) h x n asks k = k
-waked_asked r left (SearchLow low) h x n asks k = k
 waked_asked r left Compare h x n asks k = k
-waked_asked r left _ h x n asks k = absurd (cc)
+waked_asked r left _ h x n asks k = cc
 
 asked_short : (c : Command) (x : Gear) (n : ℕ) → is_asking c ≡ true → (gear_taken c n x).short ≡ None → x.short ≡ None
-asked_short (SearchHigh high) x n asks e = e
-asked_short (SearchMiddle middle) x n asks e = e
-asked_short (SearchLow low) x n asks e = e
 asked_short Compare x n asks e = e
-asked_short _ x n asks e = absurd (cc)
+asked_short _ x n asks e = cc
 
 waked_hunted : (r : SearchAddress) (last : Option Answer) (left : ℕ) (c : Command) (h : Answer) (x : Gear) (n : ℕ) → 0 < left → is_asking c ≡ true
     → x.state ≡ Enabled → Waked (next_stage (stage.Hunted r last left) c h) (gear_taken c n x)
