@@ -255,7 +255,8 @@ second_opens more = send 0 Terminate ∷ Sent (Initialise 0xFF) ((0, Nothing) �
 
 pub unused_is_needed : BreakUnder (with_reserve used)
 unused_is_needed =
-    two_hold (drawing (with_reserve used)) happens IsPlan (planned (addressed ∷ fresh ∷ [])) (is_planned _ refl refl) [] (second_opens (second_gets 0 0)) refl 0 refl refl
+    two_hold (drawing (with_reserve used)) happens IsPlan (planned (addressed ∷ fresh ∷ [])) (is_planned _ refl refl) []
+        (second_opens (second_gets 0 0)) refl 0 refl refl
 
 -- the code of 127 is FF
 abbrev after_short : List Moment
@@ -293,8 +294,8 @@ asks more = Sent (QueryRandom 9 High) ((0, Byte 0x22) ∷ []) [] ∷ Sent (Query
 
 pub its_number_is_needed : BreakUnder (with_release (λ s c a r b. is_told s b r && not (a == b)))
 its_number_is_needed =
-    two_hold (drawing (with_release (λ s c a r b. is_told s b r && not (a == b)))) happens IsPlan (planned (fresh ∷ fresh ∷ elder ∷ [])) (is_planned _ refl refl) given
-    (asks (Releases 0 0 0x222222 9 ∷ second_gets 0 0)) refl 0 refl refl
+    two_hold (drawing (with_release (λ s c a r b. is_told s b r && not (a == b)))) happens IsPlan (planned (fresh ∷ fresh ∷ elder ∷ []))
+    (is_planned _ refl refl) given (asks (Releases 0 0 0x222222 9 ∷ second_gets 0 0)) refl 0 refl refl
 
 -- ---------------------------------------------------------------- the premises
 

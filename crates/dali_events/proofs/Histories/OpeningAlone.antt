@@ -111,13 +111,10 @@ allowed =
     )
 
 -- the gear was given address 0 at 123456, and then has another random address
-given : (after_or_alone (start plan 8) giving).gifts ≡ (0, 0) ∷ []
+given : ((after_or_alone (start plan 8) giving).gifts ≡ (0, 0) ∷ [])
+    × ((after_or_alone (start plan 8) (giving ++ drawing_again)).drawn ≡ (0, 0x123456) ∷ (0, 0x0ABCDE) ∷ [])
 unfolding command_of stage_of
-given = refl
-
-drew : (after_or_alone (start plan 8) (giving ++ drawing_again)).drawn ≡ (0, 0x123456) ∷ (0, 0x0ABCDE) ∷ []
-unfolding command_of stage_of
-drew = refl
+given = (refl, refl)
 
 random_changes : KeepsGifts (after_or_alone (start plan 8) giving) (after_or_alone (start plan 8) (giving ++ drawing_again)) → ⊥
 unfolding command_of stage_of

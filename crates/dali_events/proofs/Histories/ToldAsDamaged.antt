@@ -5,7 +5,8 @@ use Rattle.dali_script.specs.{Stages.stage_of, declared.{orders.Order.TheVariant
 use Rattle.dali_script.proofs.Giving.{first_of_both, second_of_both}
 use Rattle.dali_events.specs.{Allowed.{Allowed, IsDestroyed}, Plan.Plan, Promise.KeepsPromiseNow, Runs.after, Telling.{Happening, rightly, as_damaged}}
 use Rattle.dali_events.specs.{Telling.{happened, AllMayHappen, after_happened, all_told}, World.{World, gear_at, start}}
-use Rattle.dali_events.proofs.Histories.{Openings.{first_block, second_block, at_123456, silent, query, opening, two_gear}, Tested.{is_allowed, allowed_by}}
+use Rattle.dali_events.proofs.Histories.Openings.{first_block, second_block, at_123456, silent, query, opening, BothHold, breaks}
+use Rattle.dali_events.proofs.Histories.Tested.{is_allowed, allowed_by}
 use Rattle.dali_script.specs.declared.orders.Input.TheVariants as input
 use Rattle.dali_events.specs.declared.event.Event.TheVariants as event
 
@@ -54,13 +55,10 @@ may_happen =
     (each.0, (each.1.0, (each.1.1.0, ((each.1.1.1.0, refl), tt))))
 
 -- the gear has its half pair still, and in the run of what was told it has none
-half_is_left : (gear_at (after_happened two_controllers 8 asking) 0).half ≡ Some (Initialise Unaddressed)
+half_is_left : ((gear_at (after_happened two_controllers 8 asking) 0).half ≡ Some (Initialise Unaddressed))
+    × ((gear_at (after two_controllers 8 (all_told asking)) 0).half ≡ None)
 unfolding command_of stage_of
-half_is_left = refl
-
-half_is_gone : (gear_at (after two_controllers 8 (all_told asking)) 0).half ≡ None
-unfolding command_of stage_of
-half_is_gone = refl
+half_is_left = (refl, refl)
 
 -- ---------------------------------------------------------------- a search byte
 
@@ -84,14 +82,12 @@ search_byte_told : AllMayBeTold (start two_gear_alone 8) giving_both
 unfolding command_of stage_of
 search_byte_told = all_told_by (start two_gear_alone 8) giving_both refl
 
-both_hold : ((gear_at (after_happened two_gear_alone 8 giving_both) 0).short ≡ Some 0)
-    × ((gear_at (after_happened two_gear_alone 8 giving_both) 1).short ≡ Some 0)
+both_hold : BothHold (after_happened two_gear_alone 8 giving_both)
 unfolding command_of stage_of
-both_hold = (refl, refl)
+both_hold = (lit< tt, refl, refl)
 
 breaks_promise : KeepsPromiseNow (after_happened two_gear_alone 8 giving_both) → ⊥
-unfolding command_of stage_of
-breaks_promise kept = two_gear 0 1 refl refl (kept.one_gear 0 1 0 (lit< tt, refl) (lit< tt, refl))
+breaks_promise = breaks (after_happened two_gear_alone 8 giving_both) both_hold
 
 -- ---------------------------------------------------------------- PROGRAM SHORT ADDRESS
 
@@ -107,13 +103,10 @@ unfolding command_of stage_of
 program_told = all_told_by (start one_gear_alone 8) (programming ++ rightly (query 0 0xFF) ∷ []) refl
 
 -- the gear has no short address, and in the world of what was told it holds one
-holds_none : (gear_at (after_happened one_gear_alone 8 programming) 0).short ≡ None
+holds_none : ((gear_at (after_happened one_gear_alone 8 programming) 0).short ≡ None)
+    × ((gear_at (after one_gear_alone 8 (all_told programming)) 0).short ≡ Some 0)
 unfolding command_of stage_of
-holds_none = refl
-
-told_of_one : (gear_at (after one_gear_alone 8 (all_told programming)) 0).short ≡ Some 0
-unfolding command_of stage_of
-told_of_one = refl
+holds_none = (refl, refl)
 
 -- so what was told is no run: the gear of that world answers 01 to the next QUERY SHORT ADDRESS, and FF is heard
 is_no_run : Allowed (after one_gear_alone 8 (all_told programming)) (query 0 0xFF) → ⊥

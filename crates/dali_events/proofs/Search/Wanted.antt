@@ -1,4 +1,4 @@
-use Rattle.std.proofs.Common.{◌≡◌, ◌≢◌, ℕ, ◌+◌, ◌<◌, ◌≤◌, Bool, true, false, zero, suc, List, [], ◌∷◌, refl, sym, subst, ◌∙◌, arith, length, Option, Some, None}
+use Rattle.std.proofs.Common.{◌≡◌, ◌≢◌, ℕ, ◌+◌, ◌<◌, ◌≤◌, Bool, true, false, zero, suc, List, [], ◌∷◌, refl, sym, subst, ◌∙◌, arith, length, Option, None}
 use Rattle.std.proofs.{Common.{◌&&◌, ◌||◌, ◌==◌, not, is_some, if◌then◌else◌}, lemmas.{Bool.Decides.nat_tests, List.{Folds.list_any_at, Sums.sum_by-cons}}}
 use Rattle.std.specs.List.{list_any, count_by}
 use Rattle.dali_frame.specs.Random.{MASK24}
